@@ -1,0 +1,2 @@
+pub mod KeyId
+pub mod Suite

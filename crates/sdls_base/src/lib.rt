@@ -1,0 +1,36 @@
+//! The plain types of a space link security unit (CCSDS 355.0-B and 355.1-B): names, states, frame layouts, changes
+//! and the entries of a history.
+//!
+//! No cipher, no table and no store stands here. The names (`Spi`, `KeyId`, `ChannelId`) are seen by contracts as
+//! their number, and the lists (`Octets`, `KeyList`, ..) as the list of their items. No call takes memory but `clone`.
+#![tactic(auto)]
+
+mod change;
+mod channel_id;
+mod entry;
+mod key_id;
+mod key_item;
+mod layout;
+mod lists;
+mod no_memory;
+mod octets;
+mod spi;
+mod states;
+
+pub use change::{Change, NewSa};
+pub use channel_id::ChannelId;
+pub use entry::{Entry, Logged, Seen};
+pub use key_id::{KeyClass, KeyId};
+pub use key_item::KeyItem;
+pub use layout::{AosLayout, FrameFault, TcLayout, TmLayout};
+pub use lists::{ChannelList, KeyItems, KeyList, KeyRows};
+pub use no_memory::NoMemory;
+pub use octets::Octets;
+pub use spi::Spi;
+pub use states::{Direction, KeyState, SaState, Suite};
+
+/// The most keys that a unit loads in its life (profile).
+pub const MOST_KEYS: usize = 512;
+
+/// The most security associations that a unit has at one time (profile).
+pub const MOST_ASSOCIATIONS: usize = 64;
