@@ -1,0 +1,97 @@
+ghost use Rattle.std.specs.Prelude.{◌≡◌, ◌+◌, ◌-◌, ◌<◌, ◌≤◌, ◌∷◌, ◌++◌, length, take, drop, replicate};
+ghost use Rattle.aes_block.specs.Aes.{encrypted};
+ghost use Rattle.cmac.specs.Cmac.{doubled, last_block, mac, subkey1, subkey2, xored};
+
+use aes_block::Schedule;
+use std::simd::u8x16;
+
+fn xor(a: [u8; 16], b: [u8; 16]) -> [u8; 16]
+    ensures { result ≡ xored a b }
+{
+    (u8x16::from_array(a) ^ u8x16::from_array(b)).to_array()
+}
+
+// The block of `text` from octet `at` on, xored into `chained`.
+fn xor_block(chained: [u8; 16], text: &[u8], at: usize) -> [u8; 16]
+    requires { at + 16 ≤ length text.now }
+    ensures { result ≡ xored chained (take 16 (drop at text.now)) }
+{
+    (u8x16::from_array(chained) ^ u8x16::from_slice(&text[at..])).to_array()
+}
+
+fn doubled(block: [u8; 16]) -> [u8; 16]
+    ensures { result ≡ doubled block }
+{
+    let n = u128::from_be_bytes(block);
+    ((n << 1) ^ ((n >> 127) * 0x87)).to_be_bytes()
+}
+
+fn subkey1(key: &Schedule) -> [u8; 16]
+    ensures { result ≡ subkey1 key.now }
+{
+    doubled(key.encrypt([0; 16]))
+}
+
+fn subkey2(key: &Schedule) -> [u8; 16]
+    ensures { result ≡ subkey2 key.now }
+{
+    doubled(subkey1(key))
+}
+
+// A short block, filled up by a bit 1 and zeros.
+fn padded(rest: &[u8]) -> [u8; 16]
+    requires { length rest.now < 16 }
+    ensures { result ≡ rest.now ++ 0x80 ∷ replicate (15 - length rest.now) 0 }
+{
+    let mut out = [0u8; 16];
+    out[..rest.len()].copy_from_slice(rest);
+    out[rest.len()] = 0x80;
+    out
+}
+
+fn whole(rest: &[u8]) -> [u8; 16]
+    requires { length rest.now ≡ 16 }
+    ensures { result ≡ rest.now }
+{
+    u8x16::from_slice(rest).to_array()
+}
+
+fn last_block(key: &Schedule, rest: &[u8]) -> [u8; 16]
+    requires { length rest.now ≤ 16 }
+    ensures { result ≡ last_block key.now rest.now }
+{
+    if rest.len() == 16 {
+        xor(subkey1(key), whole(rest))
+    } else {
+        xor(subkey2(key), padded(rest))
+    }
+}
+
+// The MAC of a text whose last block is `rest`, from the chain over the blocks before it.
+pub fn closed(key: &Schedule, chained: [u8; 16], rest: &[u8]) -> [u8; 16]
+    requires { length rest.now ≤ 16 }
+    ensures { result ≡ encrypted key.now (xored chained (last_block key.now rest.now)) }
+{
+    key.encrypt(xor(chained, last_block(key, rest)))
+}
+
+// One more block in the chain.
+pub fn chained_on(key: &Schedule, chained: [u8; 16], text: &[u8], at: usize) -> [u8; 16]
+    requires { at + 16 ≤ length text.now }
+    ensures { result ≡ encrypted key.now (xored chained (take 16 (drop at text.now))) }
+{
+    key.encrypt(xor_block(chained, text, at))
+}
+
+/// The MAC of a text, of 16 octets.
+pub fn mac(key: &Schedule, text: &[u8]) -> [u8; 16]
+    ensures { result ≡ mac key.now text.now }
+{
+    let before_last = text.len().saturating_sub(1) / 16;
+    let mut chained = [0u8; 16];
+    'blocks: for i in 0..before_last {
+        let next = chained_on(key, chained, text, 16 * i);
+        chained = next;
+    }
+    closed(key, chained, &text[16 * before_last..])
+}
