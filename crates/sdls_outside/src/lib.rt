@@ -1,0 +1,18 @@
+//! The outside of the unit, as two traits: where its input comes from (`Source`), and the disk and
+//! the sink that it writes to (`Site`), with what a crash at any moment may leave.
+//!
+//! A site is stated by its trace: what its disk and sink hold now, and what they held before each
+//! call that changed something. What a crash may leave is read off that list (`specs/Moments.antt`),
+//! so a clause can speak of each moment inside a call.
+#![tactic(auto)]
+
+mod calls;
+mod mem_source;
+mod site;
+mod source;
+mod sources;
+
+pub use mem_source::MemSource;
+pub use site::Site;
+pub use source::{Failed, Source};
+pub use sources::SureSource;

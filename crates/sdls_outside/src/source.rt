@@ -1,0 +1,36 @@
+// Where input comes from.
+ghost use Rattle.std.specs.Prelude.{◌≡◌, ℕ, List, Bool, IsTrue, IfOk, OnErr};
+ghost use Rattle.sdls_outside.specs.Faults.{HasCause};
+ghost use Rattle.sdls_outside.specs.Source.{FillsFront, Takes};
+
+/// A device has failed. Its count of faults rose in the call that says so.
+#[derive(Clone, Copy, Debug, PartialEq, Eq)]
+pub struct Failed;
+
+/// A source of octets, taken from the front. A clause speaks of the octets that are left only
+/// where the source tells them.
+pub trait Source {
+    /// Whether it tells what is left.
+    ghost told: { Bool };
+
+    /// The octets that are left.
+    ghost left: { Self → List ℕ };
+
+    /// How often it has failed.
+    ghost faults: { Self → ℕ };
+
+    /// Moves octets from the front of what is left into the front of `into`, and answers how many.
+    /// For a piece that is not empty 0 is the end of the input. After `Failed` nothing has moved:
+    /// what is left and `into` are as they were.
+    fn take(&mut self, into: &mut [u8]) -> Result<usize, Failed>
+        ensures filled { IfOk result (FillsFront into.old into.new) }
+        ensures taken { IsTrue told → IfOk result (Takes (left self.old) (left self.new) into.new) }
+
+        ensures unfilled { OnErr result (into.new ≡ into.old) }
+        ensures untaken { IsTrue told → OnErr result (left self.new ≡ left self.old) }
+        ensures cause { HasCause (faults self.old) (faults self.new) result };
+
+    /// The count of faults.
+    fn faults(&self) -> u64
+        ensures { result ≡ faults self.now };
+}
