@@ -13,8 +13,8 @@ chain-append key m more zero le = refl
 chain-append key m more (suc n) le =
     let before : chain key (m ++ more) n ≡ chain key m n = chain-append key m more n (omega arith) in
     let block : take 16 (drop (16 * n) (m ++ more)) ≡ take 16 (drop (16 * n) m) =
-        ap (take 16) (drop-append-le (16 * n) m more (omega arith))
-        ∙ take-append-le 16 (drop (16 * n) m) more (omega (arith, length-drop (16 * n) m)) in
+    ap (take 16) (drop-append-le (16 * n) m more (omega arith))
+    ∙ take-append-le 16 (drop (16 * n) m) more (omega (arith, length-drop (16 * n) m)) in
     ap (λ (c : List ℕ). encrypted key (xored c (take 16 (drop (16 * n) (m ++ more))))) before
     ∙ ap (λ (b : List ℕ). encrypted key (xored (chain key m n) b)) block
 
@@ -37,7 +37,7 @@ push_room key chained held m used x long room holds =
       chained = holds.chained ∙ sym (chain-append key m (x ∷ []) b (omega arith)) ∙ sym (ap (chain key (m ++ x ∷ [])) same);
       rest = take_more_set held used x (omega arith) ∙ ap (λ (l : List ℕ). l ++ x ∷ []) holds.rest
           ∙ sym (drop-append-le (16 * b) m (x ∷ []) (omega arith))
-          ∙ sym (ap (λ (n : ℕ). drop (16 * n) (m ++ x ∷ [])) same)
+          ∙ sym (ap (λ (n : ℕ). drop (16 * n) (m ++ x ∷ [])) same);
     }
 
 -- where a whole block is held back, the octet sends it into the chain
@@ -53,8 +53,8 @@ push_full key chained held next m used x long full is holds =
     let longer : length (m ++ x ∷ []) ≡ length m + 1 = length-append m (x ∷ []) in
     let same : before_last (length (m ++ x ∷ [])) ≡ suc b = omega arith in
     let block : take 16 held ≡ take 16 (drop (16 * b) m) =
-        sym (ap (λ (n : ℕ). take n held) full) ∙ holds.rest
-        ∙ sym (take_all 16 (drop (16 * b) m) (omega (arith, length-drop (16 * b) m))) in
+    sym (ap (λ (n : ℕ). take n held) full) ∙ holds.rest
+    ∙ sym (take_all 16 (drop (16 * b) m) (omega (arith, length-drop (16 * b) m))) in
     record {
       chained =
           is ∙ ap (λ (c : List ℕ). encrypted key (xored c (take 16 held))) holds.chained
@@ -62,7 +62,7 @@ push_full key chained held next m used x long full is holds =
           ∙ sym (chain-append key m (x ∷ []) (suc b) (omega arith))
           ∙ sym (ap (chain key (m ++ x ∷ [])) same);
       rest = take_more_set held 0 x (omega arith) ∙ sym (drop_at m (x ∷ []) (16 * suc b) whole)
-          ∙ sym (ap (λ (n : ℕ). drop (16 * n) (m ++ x ∷ [])) same)
+          ∙ sym (ap (λ (n : ℕ). drop (16 * n) (m ++ x ∷ [])) same);
     }
 
 pub holds_nothing : (key chained held : List ℕ) → chained ≡ zero_block

@@ -29,5 +29,5 @@ returns c =
     c.closed.ensures
     ∙ ap (λ (r : List ℕ). encrypted key (xored c.blocks-2.chained (last_block key r))) (take_rest text (16 * n))
     ∙ ap (λ (l : List ℕ). encrypted key (xored l (last_block key (drop (16 * n) text))))
-        (c.blocks-2.invariant ∙ ap (chain key text) all)
+    (c.blocks-2.invariant ∙ ap (chain key text) all)
     ∙ ap (λ (k : ℕ). encrypted key (xored (chain key text k) (last_block key (drop (16 * k) text)))) last

@@ -5,5 +5,5 @@ use Rattle.cmac.proofs.running.Running.update.Given as goal
 abbrev pub invariant-octets : goal.invariant-octets
 invariant-octets l = record {
   key : l.self.key ≡ l.fn.self.key;
-  more : (m : List ℕ) → Holds l.fn.self m → Holds l.self (m ++ take l.octet-index l.piece)
+  more : (m : List ℕ) → Holds l.fn.self m → Holds l.self (m ++ take l.octet-index l.piece);
 }
