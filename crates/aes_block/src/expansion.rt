@@ -6,9 +6,8 @@ ghost use Rattle.aes_block.specs.Schedule.{IsKeyWords, IsSchedule};
 
 use crate::octet::sub_byte;
 
-// `Rcon`, from place 1 on.
-const RCON: [u32; 11] = [
-    0,
+// `Rcon`, whose first is that of 1.
+const RCON: [u32; 10] = [
     0x0100_0000,
     0x0200_0000,
     0x0400_0000,
@@ -23,10 +22,10 @@ const RCON: [u32; 11] = [
 
 fn rcon(k: usize) -> u32
     requires some { 0 < k }
-    requires within { k < 11 }
+    requires within { k ≤ 10 }
     ensures { result ≡ rcon k }
 {
-    RCON[k]
+    RCON[k - 1]
 }
 
 fn sub_word(word: u32) -> u32

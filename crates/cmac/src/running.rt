@@ -69,7 +69,7 @@ impl<'a> Running<'a> {
 
     /// The MAC of the text: [`mac`](crate::mac) of all pieces, one after another.
     pub fn finish(self) -> [u8; 16]
-        ensures { (m : List ℕ) → Holds self m → result ≡ mac self.key m }
+        ensures { (m : List ℕ) → Holds self.entry m → result ≡ mac self.entry.key m }
     {
         closed(self.key, self.chained, &self.held[..self.used])
     }

@@ -1,0 +1,3 @@
+mod OctetFacts
+mod CipherFacts
+mod ScheduleFacts
