@@ -5,3 +5,7 @@ pub mod Site
 pub mod Source
 pub mod Calls
 pub mod Sources
+pub mod Held
+pub mod History
+pub mod Crash
+pub mod MemSite

@@ -7,11 +7,17 @@
 #![tactic(auto)]
 
 mod calls;
+mod crash;
+mod held;
+mod history;
+mod mem_site;
 mod mem_source;
 mod site;
 mod source;
 mod sources;
 
+pub use crash::Crash;
+pub use mem_site::MemSite;
 pub use mem_source::MemSource;
 pub use site::Site;
 pub use source::{Failed, Source};
