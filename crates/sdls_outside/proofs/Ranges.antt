@@ -46,20 +46,25 @@ pub record IsFilledBelow (n octet : ℕ) (ranges : List (ℕ × ℕ)) (old new :
 pub fills : (n octet : ℕ) (ranges : List (ℕ × ℕ)) (old new : List ℕ) → IsFilledBelow n octet ranges old new
     → n < length new → Inside ranges n → IsFilledBelow (n + 1) octet ranges old (slice_set new n octet)
 fills n octet ranges old new so_far within here = record {
-    inside = λ i below inside. elim (cases_eq i n) [
-        inl same ↦ rw same (rw get_or-set_same refl)
-        | inr other ↦ let lower : i < n = omega arith in rw get_or-set_other (so_far.inside i lower inside) ];
-    outside = λ i outside. elim (cases_eq i n) [
-        inl same ↦ absurd (apart ranges n here (subst (λ (k : ℕ). Outside ranges k) same outside))
-        | inr other ↦ rw get_or-set_other (so_far.outside i outside) ];
-    behind = λ i high. let other : i ≢ n = omega arith in let from : n ≤ i = omega arith in rw get_or-set_other (so_far.behind i from) }
+  inside = λ i below inside. elim (cases_eq i n) [
+    | inl same ↦ rw same (rw get_or-set_same refl)
+    | inr other ↦ let lower : i < n = omega arith in rw get_or-set_other (so_far.inside i lower inside)
+  ];
+  outside = λ i outside. elim (cases_eq i n) [
+    | inl same ↦ absurd (apart ranges n here (subst (λ (k : ℕ). Outside ranges k) same outside))
+    | inr other ↦ rw get_or-set_other (so_far.outside i outside)
+  ];
+  behind = λ i high. let other : i ≢ n = omega arith in let from : n ≤ i = omega arith in rw get_or-set_other (so_far.behind i from);
+}
 
 -- it lies in none
 pub leaves : (n octet : ℕ) (ranges : List (ℕ × ℕ)) (old new : List ℕ) → IsFilledBelow n octet ranges old new
     → Outside ranges n → IsFilledBelow (n + 1) octet ranges old new
 leaves n octet ranges old new so_far here = record {
-    inside = λ i below inside. elim (cases_eq i n) [
-        inl same ↦ absurd (apart ranges n (subst (λ (k : ℕ). Inside ranges k) same inside) here)
-        | inr other ↦ let lower : i < n = omega arith in so_far.inside i lower inside ];
-    outside = so_far.outside;
-    behind = λ i high. let from : n ≤ i = omega arith in so_far.behind i from }
+  inside = λ i below inside. elim (cases_eq i n) [
+    | inl same ↦ absurd (apart ranges n (subst (λ (k : ℕ). Inside ranges k) same inside) here)
+    | inr other ↦ let lower : i < n = omega arith in so_far.inside i lower inside
+  ];
+  outside = so_far.outside;
+  behind = λ i high. let from : n ≤ i = omega arith in so_far.behind i from;
+}

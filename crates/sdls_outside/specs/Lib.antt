@@ -9,3 +9,4 @@ pub mod Held
 pub mod History
 pub mod Crash
 pub mod MemSite
+pub mod Edge

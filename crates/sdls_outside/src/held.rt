@@ -42,8 +42,9 @@ impl Held {
     pub fn write(&mut self, alloc: Global, at: u64, octets: &[u8]) -> Result<(), AllocError>
         requires { at ≤ length (disk_of self.old).image }
         ensures ok { OnOk result (disk_of self.new ≡ record (disk_of self.old) {
-            image = overwritten (disk_of self.old).image at octets.now;
-            ranges = (at, length octets.now) ∷ (disk_of self.old).ranges }) }
+          image = overwritten (disk_of self.old).image at octets.now;
+          ranges = (at, length octets.now) ∷ (disk_of self.old).ranges;
+        }) }
         ensures err { OnErr result (disk_of self.new ≡ disk_of self.old) }
     {
         let next = with_octets(alloc, &self.image, at as usize, octets)?;
@@ -56,7 +57,9 @@ impl Held {
     // Makes the image as it reads what a crash leaves.
     pub fn sync(&mut self)
         ensures { disk_of self.new ≡ record (disk_of self.old) {
-            synced = (disk_of self.old).image; ranges = [] } }
+          synced = (disk_of self.old).image;
+          ranges = [];
+        } }
     {
         self.kept = None;
         self.ranges.clear();
@@ -122,5 +125,7 @@ fn fill(image: &mut [u8], ranges: &[(u64, u64)], octet: u8)
 fn is_inside(ranges: &[(u64, u64)], i: u64) -> bool
     ensures { result ≡ list_any (covers i) ranges.now }
 {
-    ranges.iter().any(|range| range.0 <= i && i - range.0 < range.1)
+    ranges
+        .iter()
+        .any(|range| range.0 <= i && i - range.0 < range.1)
 }

@@ -22,7 +22,8 @@ loop-i-preserved c =
     let within : i < length c.loop-i.image = omega arith in
     let P : List ℕ → Type 0 = λ image. IsFilledBelow (i + 1) c.args.octet ranges c.args.image.now image in
     elim c.if-is_inside.branch [
-        then-is_inside w ↦ subst P (sym w.image-is)
-            (fills i c.args.octet ranges c.args.image.now c.loop-i.image kept within (at ranges i true w.if-is_inside.ensures))
-        | else-is_inside w ↦ subst P (sym (w.image-is ∙ set-get_or c.loop-i.image i 0))
-            (leaves i c.args.octet ranges c.args.image.now c.loop-i.image kept (at ranges i false w.if-is_inside.ensures)) ]
+      | then-is_inside w ↦ subst P (sym w.image-is)
+          (fills i c.args.octet ranges c.args.image.now c.loop-i.image kept within (at ranges i true w.if-is_inside.ensures))
+      | else-is_inside w ↦ subst P (sym (w.image-is ∙ set-get_or c.loop-i.image i 0))
+          (leaves i c.args.octet ranges c.args.image.now c.loop-i.image kept (at ranges i false w.if-is_inside.ensures))
+    ]

@@ -16,6 +16,12 @@ rest image octets at =
 pub returns : goal.returns
 returns c =
     let front = take c.args.at c.args.image.now ++ c.args.octets.now in
-    rw (c.in_ok-extend_from_slice-2.ensures.items, c.in_ok-extend_from_slice.ensures.items, c.in_ok-next.ensures.items,
-        c.min.ensures, c.split_at.ensures.front, c.split_at.ensures.back)
+    rw (
+      c.in_ok-extend_from_slice-2.ensures.items,
+      c.in_ok-extend_from_slice.ensures.items,
+      c.in_ok-next.ensures.items,
+      c.min.ensures,
+      c.split_at.ensures.front,
+      c.split_at.ensures.back,
+    )
     (ap (λ (behind : List ℕ). front ++ behind) (rest c.args.image.now c.args.octets.now c.args.at))
