@@ -20,7 +20,7 @@ pub record Leaves (disk : Disk) (image : List ℕ) : Type 0 where
   pub no_shorter : length disk.synced ≤ length image
   pub no_longer : length image ≤ length disk.image
   pub outside : (i : ℕ) → i < length disk.synced → Outside disk.ranges i
-    → slice_index image i ≡ slice_index disk.synced i
+      → slice_index image i ≡ slice_index disk.synced i
 
 -- nothing was written since the last sync
 abbrev pub IsSynced : Disk → Type 0

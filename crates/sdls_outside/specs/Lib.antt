@@ -5,3 +5,8 @@ pub mod Site
 pub mod Source
 pub mod Calls
 pub mod Sources
+pub mod Held
+pub mod History
+pub mod Crash
+pub mod MemSite
+pub mod Edge

@@ -39,7 +39,7 @@ pub record EachMoment (old new : Trace) (P : List ℕ → List ℕ → Type 0) :
   pub later : clock old ≤ clock new
   pub each : (image sunk : List ℕ) → MomentSince (clock old) new image sunk → P image sunk
   pub before : (time : ℕ) (image sunk : List ℕ) → time ≤ clock old
-    → MomentSince time new image sunk → MomentSince time old image sunk ⊎ P image sunk
+      → MomentSince time new image sunk → MomentSince time old image sunk ⊎ P image sunk
 
 -- what stood, from the beginning to now
 abbrev pub states : Trace → List Disk

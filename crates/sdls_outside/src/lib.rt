@@ -7,12 +7,24 @@
 #![tactic(auto)]
 
 mod calls;
+mod crash;
+mod edge;
+mod file_site;
+mod held;
+mod history;
+mod image_file;
+mod mem_site;
 mod mem_source;
 mod site;
 mod source;
 mod sources;
+mod std_source;
 
+pub use crash::Crash;
+pub use file_site::FileSite;
+pub use mem_site::MemSite;
 pub use mem_source::MemSource;
 pub use site::Site;
 pub use source::{Failed, Source};
 pub use sources::SureSource;
+pub use std_source::StdSource;

@@ -1,8 +1,7 @@
 // A source in memory that gives pieces, and fails where it is told to.
-ghost use Rattle.std.specs.Prelude.{◌≡◌, ℕ, ◌<◌, ◌≤◌, min, true, is_err, IfOk, OnErr, IsTrue, None, length};
+ghost use Rattle.std.specs.Prelude.{◌≡◌, ◌<◌, min, true, None, IfOk, OnErr, length};
 ghost use Rattle.sdls_outside.specs.Source.{FillsFront, Takes};
 ghost use Rattle.sdls_outside.specs.Faults.{HasCause};
-ghost use Rattle.sdls_outside.specs.Calls.{fails_at};
 
 use crate::calls::Calls;
 use crate::{Failed, Source, SureSource};
@@ -17,15 +16,16 @@ pub struct MemSource {
 }
 
 impl MemSource {
-    ghost use Rattle.sdls_outside.specs.Sources.{pieces_left};
+    ghost use Rattle.sdls_outside.specs.Calls.{planned};
+    ghost use Rattle.sdls_outside.specs.Sources.{pieces_left, piece_of, source_plan};
 
     /// A source with these octets left, that gives at most `piece` of them a call. `failing` lists
     /// the calls of `take` that fail, counted from 0.
     pub fn new(octets: Vec<u8>, piece: usize, failing: Vec<u64>) -> Self
         requires { 0 < piece }
         ensures left { pieces_left result ≡ octets.items }
-        ensures piece { result.piece ≡ piece }
-        ensures calls { result.calls ≡ record { failing = failing; dead_from = None; made = 0; faults = 0 } }
+        ensures piece { piece_of result ≡ piece }
+        ensures plan { source_plan result ≡ planned failing.items None }
     {
         MemSource {
             source: SureSource::new(octets),
@@ -36,7 +36,8 @@ impl MemSource {
 }
 
 impl Source for MemSource {
-    ghost use Rattle.sdls_outside.specs.Sources.{pieces_left};
+    ghost use Rattle.sdls_outside.specs.Calls.{Enters};
+    ghost use Rattle.sdls_outside.specs.Sources.{pieces_left, piece_of, source_plan};
 
     ghost told = { true };
 
@@ -44,7 +45,20 @@ impl Source for MemSource {
 
     ghost faults = { λ source. source.calls.faults };
 
-    fn take(&mut self, into: &mut [u8]) -> Result<usize, Failed> {
+    /// It fails at the calls listed, and at no other; else it gives all that there is and fits,
+    /// up to a piece.
+    fn take(&mut self, into: &mut [u8]) -> Result<usize, Failed>
+        ensures enters { Enters (source_plan self.old) (source_plan self.new) result }
+        ensures count { IfOk result (λ count. count
+            ≡ min (piece_of self.old) (min (length into.old) (length (pieces_left self.old)))) }
+        ensures filled { IfOk result (FillsFront into.old into.new) }
+        ensures taken { IfOk result (Takes (pieces_left self.old) (pieces_left self.new) into.new) }
+
+        ensures unfilled { OnErr result (into.new ≡ into.old) }
+        ensures untaken { OnErr result (pieces_left self.new ≡ pieces_left self.old) }
+        ensures same_piece { piece_of self.new ≡ piece_of self.old }
+        ensures cause { HasCause self.old.calls.faults self.new.calls.faults result }
+    {
         self.calls.enter()?;
         Ok(self.source.move_front(into, self.piece))
     }

@@ -1,6 +1,6 @@
 // A source in memory that never fails.
-ghost use Rattle.std.specs.Prelude.{◌≡◌, ℕ, ◌<◌, ◌≤◌, ◌++◌, min, true, length, take, drop};
-ghost use Rattle.sdls_outside.specs.Source.{FillsFront};
+ghost use Rattle.std.specs.Prelude.{◌≡◌, ℕ, ◌<◌, ◌≤◌, ◌++◌, min, true, Ok, IfOk, length, take, drop};
+ghost use Rattle.sdls_outside.specs.Source.{FillsFront, Takes};
 
 use crate::{Failed, Source};
 
@@ -45,7 +45,12 @@ impl Source for SureSource {
 
     ghost faults = { λ _. 0 };
 
-    fn take(&mut self, into: &mut [u8]) -> Result<usize, Failed> {
+    /// It gives all that there is and fits.
+    fn take(&mut self, into: &mut [u8]) -> Result<usize, Failed>
+        ensures sure { result ≡ Ok (min (length into.old) (length (octets_left self.old))) }
+        ensures filled { IfOk result (FillsFront into.old into.new) }
+        ensures taken { IfOk result (Takes (octets_left self.old) (octets_left self.new) into.new) }
+    {
         Ok(self.move_front(into, usize::MAX))
     }
 

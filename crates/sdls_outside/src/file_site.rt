@@ -1,0 +1,88 @@
+// The file of the image, and standard output.
+ghost use Rattle.std.specs.Prelude.{◌≡◌, [], false};
+ghost use Rattle.std.proofs.Common.{rules};
+ghost use Rattle.sdls_outside.specs.Crash.{fresh};
+
+use crate::edge::counted;
+use crate::image_file::ImageFile;
+use crate::{Failed, Site};
+use std::io;
+use std::io::{Stdout, Write};
+
+/// The image in a file, and standard output as the sink. It tells nothing of content. Its count of
+/// faults rises at each error of the system.
+#[derive(Drop)]
+pub struct FileSite {
+    image: ImageFile,
+    stdout: Stdout,
+    faults: u64,
+}
+
+impl FileSite {
+    ghost use Rattle.sdls_outside.specs.Edge.{output_faults};
+
+    /// The file `unit.img` in the folder that the program runs in, with no fault so far.
+    pub fn new(rt: HostRuntime) -> Self
+        ensures { output_faults result ≡ 0 }
+    {
+        FileSite::at(rt, "unit.img")
+    }
+
+    /// The file at this path. It is opened at the first `begin` that finds it, and made at the
+    /// first `write_at` where none was found.
+    pub fn at(rt: HostRuntime, path: &'static str) -> Self
+        ensures { output_faults result ≡ 0 }
+    {
+        FileSite {
+            image: ImageFile::new(rt, path),
+            stdout: rt.stdout(),
+            faults: 0,
+        }
+    }
+}
+
+impl Site for FileSite {
+    ghost use Rattle.sdls_outside.specs.Edge.{output_faults};
+
+    ghost told = { false };
+
+    ghost trace = { λ _. fresh [] };
+
+    ghost faults = { λ site. output_faults site };
+
+    ghost image_may_stay = { Prim.search rules };
+
+    fn begin(&mut self) -> Result<u64, Failed> {
+        let length = self.image.find();
+        counted(length, &mut self.faults)
+    }
+
+    fn read_at(&mut self, at: u64, into: &mut [u8]) -> Result<(), Failed> {
+        let read = self.image.read_at(at, into);
+        counted(read, &mut self.faults)
+    }
+
+    fn write_at(&mut self, at: u64, octets: &[u8]) -> Result<(), Failed> {
+        let written = self.image.write_at(at, octets);
+        counted(written, &mut self.faults)
+    }
+
+    fn sync(&mut self) -> Result<(), Failed> {
+        let synced = self.image.sync();
+        counted(synced, &mut self.faults)
+    }
+
+    fn put(&mut self, octets: &[u8]) -> Result<(), Failed> {
+        let put = print(&mut self.stdout, octets);
+        counted(put, &mut self.faults)
+    }
+
+    fn faults(&self) -> u64 {
+        self.faults
+    }
+}
+
+fn print(stdout: &mut Stdout, octets: &[u8]) -> io::Result<()> {
+    stdout.write_all(octets)?;
+    stdout.flush()
+}

@@ -1,0 +1,131 @@
+// What a site in memory holds.
+ghost use Rattle.std.specs.Prelude.{◌≡◌, ℕ, ◌<◌, ◌≤◌, List, [], ◌∷◌, None, IfOk, OnOk, OnErr, length, slice_index};
+ghost use Rattle.std.specs.List.{list_any};
+ghost use Rattle.std.specs.Option.{option_map_or};
+ghost use Rattle.sdls_outside.specs.Disk.{Leaves, Outside};
+ghost use Rattle.sdls_outside.specs.Site.{overwritten};
+ghost use Rattle.sdls_outside.specs.Crash.{Inside, LeftBy, covers};
+ghost use Rattle.sdls_outside.specs.Held.{disk_from};
+
+use crate::Crash;
+use std::alloc::{AllocError, Global};
+use std::mem;
+
+// The image and the sink. `kept` is the image as the last sync left it, where it is not the image
+// as it reads; `ranges` are those that were written since, the newest first.
+#[derive(Drop)]
+pub struct Held {
+    pub image: Vec<u8>,
+    pub kept: Option<Vec<u8>>,
+    pub ranges: Vec<(u64, u64)>,
+    pub sunk: Vec<u8>,
+    ghost stays: { Leaves (disk_from image.items (option_map_or (λ kept. kept.items) kept image.items)
+        ranges.items sunk.items) image.items },
+}
+
+impl Held {
+    ghost use Rattle.sdls_outside.specs.History.{disk_of};
+
+    // A disk that holds this image, all of it synced, and an empty sink.
+    pub fn new(alloc: Global, image: Vec<u8>) -> Self
+        ensures { disk_of result ≡ record { image = image.items; synced = image.items; ranges = []; sunk = [] } }
+    {
+        Held {
+            image,
+            kept: None,
+            ranges: Vec::new(alloc),
+            sunk: Vec::new(alloc),
+        }
+    }
+
+    // Writes octets over the image and past its end. At an error nothing has changed.
+    pub fn write(&mut self, alloc: Global, at: u64, octets: &[u8]) -> Result<(), AllocError>
+        requires { at ≤ length (disk_of self.old).image }
+        ensures ok { OnOk result (disk_of self.new ≡ record (disk_of self.old) {
+          image = overwritten (disk_of self.old).image at octets.now;
+          ranges = (at, length octets.now) ∷ (disk_of self.old).ranges;
+        }) }
+        ensures err { OnErr result (disk_of self.new ≡ disk_of self.old) }
+    {
+        let next = with_octets(alloc, &self.image, at as usize, octets)?;
+        self.ranges.insert(0, (at, octets.len() as u64))?;
+        let before = mem::replace(&mut self.image, next);
+        keep(&mut self.kept, before);
+        Ok(())
+    }
+
+    // Makes the image as it reads what a crash leaves.
+    pub fn sync(&mut self)
+        ensures { disk_of self.new ≡ record (disk_of self.old) {
+          synced = (disk_of self.old).image;
+          ranges = [];
+        } }
+    {
+        self.kept = None;
+        self.ranges.clear();
+    }
+
+    // The image that a crash of this kind leaves.
+    pub fn crashed(self, how: Crash) -> Vec<u8>
+        ensures leaves { Leaves (disk_of self) result.items }
+        ensures kind { LeftBy how (disk_of self) result.items }
+    {
+        let Held {
+            mut image,
+            kept,
+            ranges,
+            sunk: _,
+        } = self;
+        match how {
+            Crash::Kept => image,
+            Crash::Lost => kept.unwrap_or(image),
+            Crash::Filled(octet) => {
+                fill(&mut image, &ranges, octet);
+                image
+            }
+        }
+    }
+}
+
+// The image with these octets at this place, over what was there and past its end.
+fn with_octets(alloc: Global, image: &[u8], at: usize, octets: &[u8]) -> Result<Vec<u8>, AllocError>
+    requires { at ≤ length image.now }
+    ensures { IfOk result (λ next. next.items ≡ overwritten image.now at octets.now) }
+{
+    let (before, over) = image.split_at(at);
+    let mut next = Vec::from_slice(alloc, before)?;
+    next.extend_from_slice(octets)?;
+    next.extend_from_slice(&over[octets.len().min(over.len())..])?;
+    Ok(next)
+}
+
+// Keeps this image as what was synced, unless one is kept already.
+fn keep(kept: &mut Option<Vec<u8>>, image: Vec<u8>)
+    ensures { (other : List ℕ) → option_map_or (λ kept. kept.items) kept.new other
+        ≡ option_map_or (λ kept. kept.items) kept.old image.items }
+{
+    if kept.is_none() {
+        *kept = Some(image);
+    }
+}
+
+// Puts the octet everywhere in the ranges.
+fn fill(image: &mut [u8], ranges: &[(u64, u64)], octet: u8)
+    ensures inside { (i : ℕ) → i < length image.old → Inside ranges.now i → slice_index image.new i ≡ octet }
+    ensures outside { (i : ℕ) → Outside ranges.now i → slice_index image.new i ≡ slice_index image.old i }
+{
+    for (i, here) in image.iter_mut().enumerate() {
+        if is_inside(ranges, i as u64) {
+            *here = octet;
+        }
+    }
+}
+
+// Whether an octet lies in one of the ranges.
+fn is_inside(ranges: &[(u64, u64)], i: u64) -> bool
+    ensures { result ≡ list_any (covers i) ranges.now }
+{
+    ranges
+        .iter()
+        .any(|range| range.0 <= i && i - range.0 < range.1)
+}

@@ -1,0 +1,104 @@
+// The image in a file of the system.
+use std::fs::File;
+use std::io;
+use std::io::ErrorKind;
+use std::os::fd::AsRawFd;
+use std::os::unix::fs::FileExt;
+use std::path::Path;
+
+// A file that is opened when it is found, and made at the first write where there was none.
+#[derive(Drop)]
+pub struct ImageFile {
+    rt: HostRuntime,
+    path: &'static str,
+    file: Option<File>,
+    is_new: bool,
+    is_suspect: bool,
+}
+
+impl ImageFile {
+    pub fn new(rt: HostRuntime, path: &'static str) -> Self {
+        ImageFile {
+            rt,
+            path,
+            file: None,
+            is_new: false,
+            is_suspect: false,
+        }
+    }
+
+    // Opens the file if it is there, and answers its length, 0 where there is none.
+    pub fn find(&mut self) -> io::Result<u64> {
+        if self.file.is_none() {
+            match File::options()
+                .read(true)
+                .write(true)
+                .open(&self.rt, self.path)
+            {
+                Ok(file) => self.file = Some(beside_the_streams(file)?),
+                Err(error) if error.kind() == ErrorKind::NotFound => return Ok(0),
+                Err(error) => return Err(error),
+            }
+        }
+        match &self.file {
+            Some(file) => Ok(file.metadata()?.len()),
+            None => Ok(0),
+        }
+    }
+
+    pub fn read_at(&self, at: u64, into: &mut [u8]) -> io::Result<()> {
+        match &self.file {
+            Some(file) => file.read_exact_at(into, at),
+            None if into.is_empty() => Ok(()),
+            None => Err(ErrorKind::NotFound.into()),
+        }
+    }
+
+    pub fn write_at(&mut self, at: u64, octets: &[u8]) -> io::Result<()> {
+        if self.file.is_none() {
+            let file = File::create_new(&self.rt, self.path)?;
+            self.file = Some(beside_the_streams(file)?);
+            self.is_new = true;
+        }
+        match &self.file {
+            Some(file) => file.write_all_at(octets, at),
+            None => Ok(()),
+        }
+    }
+
+    // Brings the file's data and length to the disk, and its entry in the folder where it was
+    // made. Once that has failed it is never Ok again: the system may have dropped what was
+    // pending, and would answer Ok to the next try.
+    pub fn sync(&mut self) -> io::Result<()> {
+        if self.is_suspect {
+            return Err(ErrorKind::Other.into());
+        }
+        self.is_suspect = true;
+        if let Some(file) = &self.file {
+            file.sync_all()?;
+        }
+        if self.is_new {
+            File::open(&self.rt, folder_of(self.path))?.sync_all()?;
+            self.is_new = false;
+        }
+        self.is_suspect = false;
+        Ok(())
+    }
+}
+
+// The folder that a file lies in.
+fn folder_of(path: &str) -> &str {
+    match Path::new(path).parent() {
+        Some(folder) if !folder.as_str().is_empty() => folder.as_str(),
+        _ => ".",
+    }
+}
+
+// Refuses a file that was given the number of a standard stream which is closed: what is put
+// would be written over the image.
+fn beside_the_streams(file: File) -> io::Result<File> {
+    if file.as_raw_fd() <= 2 {
+        return Err(ErrorKind::Other.into());
+    }
+    Ok(file)
+}
