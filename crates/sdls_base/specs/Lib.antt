@@ -1,2 +1,3 @@
 pub mod KeyId
 pub mod Suite
+pub mod ErrorControl

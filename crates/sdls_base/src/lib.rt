@@ -8,6 +8,7 @@
 mod change;
 mod channel_id;
 mod entry;
+mod error_control;
 mod key_id;
 mod key_item;
 mod layout;
@@ -20,6 +21,7 @@ mod states;
 pub use change::{Change, NewSa};
 pub use channel_id::ChannelId;
 pub use entry::{Entry, Logged, Seen};
+pub use error_control::fecf;
 pub use key_id::{KeyClass, KeyId};
 pub use key_item::KeyItem;
 pub use layout::{AosLayout, FrameFault, TcLayout, TmLayout};
