@@ -1,0 +1,46 @@
+//! The program `sdls`: the words after its name, standard input and standard output, and the file
+//! `unit.img` in the folder that it runs in. What it does is the top call's matter (`sdls_run`).
+#![tactic(auto)]
+
+use sdls_outside::{FileSite, StdSource};
+use sdls_run::{Gate, Outcome, run, status};
+use std::alloc::AllocError;
+use std::process::ExitCode;
+use std::rt::Env;
+use std::{env, io};
+
+/// A gate that does nothing.
+struct Open;
+
+impl Gate for Open {
+    fn pass(&self, _lane: u8, _index: u64) {}
+
+    fn done(&self, _lane: u8, _index: u64) {}
+}
+
+/// The words after the program's name. Words that are not text are no command, so they are read as
+/// no words.
+fn words<R: Env + AllocGlobal>(rt: &R) -> Result<Vec<String>, AllocError> {
+    match env::args(rt) {
+        Ok(args) => args.skip(1).collect(rt.alloc()),
+        Err(error) if error.kind() == io::ErrorKind::InvalidData => Ok(Vec::new(rt.alloc())),
+        Err(_) => Err(AllocError),
+    }
+}
+
+fn main(rt: HostRuntime) -> ExitCode {
+    let Ok(words) = words(&rt) else {
+        return ExitCode::from(status::NO_MEMORY);
+    };
+    let mut source = StdSource::new(rt.stdin());
+    let site = FileSite::new(rt);
+    let Outcome { status, site: _ } = run(
+        &rt,
+        rt.alloc(),
+        words.as_slice(),
+        &mut source,
+        site,
+        &Open,
+    );
+    ExitCode::from(status)
+}

@@ -1,0 +1,5 @@
+pub mod CheckWords
+pub mod Collecting
+pub mod Delivering
+pub mod Judging
+pub mod Spelling

@@ -1,0 +1,5 @@
+pub mod Answer
+pub mod Check
+pub mod Intake
+pub mod Output
+pub mod Words

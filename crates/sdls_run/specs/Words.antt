@@ -1,0 +1,16 @@
+-- The words after the program's name.
+use Rattle.std.specs.Prelude.{◌≡◌, ℕ, List, [], ◌∷◌, length, codes, Ok, map, String, string_bytes}
+use Rattle.std.specs.declared.alloc.Global.{Global}
+use Rattle.hex.specs.Hex.{decode_of}
+use Rattle.aes_block.specs.Aes.{IsKeyLength}
+
+-- the digits are the hexadecimal spelling of this key, in either case
+pub record IsKey (digits key : List ℕ) : Type 0 where
+  pub spelled : decode_of digits ≡ Ok key
+  pub key_length : IsKeyLength (length key)
+
+-- the words are `check KEY`, for this key
+pub record IsCheck (words : List (String Global)) (key : List ℕ) : Type 0 where
+  pub digits : List ℕ
+  pub words_are : map string_bytes words ≡ codes "check" ∷ digits ∷ []
+  pub spells : IsKey digits key

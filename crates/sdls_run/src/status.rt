@@ -1,0 +1,19 @@
+//! The exit statuses of a run.
+
+/// The whole input was read and handled.
+pub const DONE: u8 = 0;
+
+/// The frame is refused.
+pub const REFUSED: u8 = 1;
+
+/// The words are no command.
+pub const USAGE: u8 = 2;
+
+/// The source failed.
+pub const SOURCE_FAULT: u8 = 4;
+
+/// The site failed.
+pub const SITE_FAULT: u8 = 5;
+
+/// Memory is wanting.
+pub const NO_MEMORY: u8 = 6;

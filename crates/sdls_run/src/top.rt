@@ -1,0 +1,105 @@
+ghost use Rattle.std.specs.Prelude.{◌≡◌, ℕ, ◌+◌, ◌≤◌, List, IsTrue};
+ghost use Rattle.sdls_outside.specs.Faults.{Rose};
+ghost use Rattle.sdls_run.specs.Answer.{Ends, EndsCheck, usage_text};
+ghost use Rattle.sdls_run.specs.Intake.{TakesAtMost};
+ghost use Rattle.sdls_run.specs.Words.{IsCheck};
+
+use crate::check::put_check;
+use crate::frame_check::GREATEST_LENGTH;
+use crate::gate::Gate;
+use crate::outcome::Outcome;
+use crate::output::put_text;
+use crate::status::{SITE_FAULT, USAGE};
+use crate::words::check_key;
+use aes_block::Schedule;
+use sdls_outside::{Failed, Site, Source};
+use std::alloc::Global;
+use std::sync::Wait;
+use std::thread::Threads;
+
+const USAGE_TEXT: &[u8] = b"usage: sdls check KEY, init, run, stat, drill N\n";
+
+/// Runs `check KEY`.
+fn run_check<S: Source, O: Site>(key: &Schedule, source: &mut S, mut site: O) -> Outcome<O>
+    ensures due { EndsCheck key.now
+        (λ input. IsTrue S.told → input ≡ S.left source.old) (Rose (S.faults source.old) (S.faults source.new))
+        O.told (O.trace site) (O.trace result.site) (Rose (O.faults site) (O.faults result.site)) result.status }
+    ensures taken { IsTrue S.told → TakesAtMost (GREATEST_LENGTH + 1) (S.left source.old) (S.left source.new) }
+{
+    match put_check(key, source, &mut site) {
+        Ok(status) => Outcome { status, site },
+        Err(Failed) => Outcome {
+            status: SITE_FAULT,
+            site,
+        },
+    }
+}
+
+/// Answers words that are no command.
+fn run_usage<O: Site>(mut site: O) -> Outcome<O>
+    ensures { Ends O.told (O.trace site) (O.trace result.site) (Rose (O.faults site) (O.faults result.site))
+        usage_text USAGE result.status }
+{
+    match put_text(&mut site, USAGE_TEXT) {
+        Ok(()) => Outcome {
+            status: USAGE,
+            site,
+        },
+        Err(Failed) => Outcome {
+            status: SITE_FAULT,
+            site,
+        },
+    }
+}
+
+/// Serves the words that need no threads. Today that is `check KEY`; other words are answered with
+/// the usage line.
+///
+/// `check KEY` reads one AOS transfer frame from the source and puts `ok` with its data field in
+/// hexadecimal digits, or `refused` with the first check that fails. Nothing is put after a failed
+/// put. No memory is taken.
+pub fn run_plain<S: Source, O: Site>(
+    _alloc: Global,
+    words: &[String],
+    source: &mut S,
+    site: O,
+) -> Outcome<O>
+    ensures check { (key : List ℕ) → IsCheck words.now key → EndsCheck key
+        (λ input. IsTrue S.told → input ≡ S.left source.old) (Rose (S.faults source.old) (S.faults source.new))
+        O.told (O.trace site) (O.trace result.site) (Rose (O.faults site) (O.faults result.site)) result.status }
+    ensures taken { IsTrue S.told → TakesAtMost (GREATEST_LENGTH + 1) (S.left source.old) (S.left source.new) }
+
+    ensures usage { ((key : List ℕ) → ¬ IsCheck words.now key)
+        → Ends O.told (O.trace site) (O.trace result.site) (Rose (O.faults site) (O.faults result.site))
+        usage_text USAGE result.status }
+    ensures untouched { ((key : List ℕ) → ¬ IsCheck words.now key) → source.new ≡ source.old }
+{
+    match check_key(words) {
+        Some(key) => run_check(&key, source, site),
+        None => run_usage(site),
+    }
+}
+
+/// Serves the words after the program's name, and answers the status and the site.
+///
+/// It hands all words to [`run_plain`], whose clauses are its own.
+pub fn run<R: Threads + Wait + Sync, S: Source, O: Site + Send, G: Gate + Sync>(
+    _rt: &R,
+    alloc: Global,
+    words: &[String],
+    source: &mut S,
+    site: O,
+    _gate: &G,
+) -> Outcome<O>
+    ensures check { (key : List ℕ) → IsCheck words.now key → EndsCheck key
+        (λ input. IsTrue S.told → input ≡ S.left source.old) (Rose (S.faults source.old) (S.faults source.new))
+        O.told (O.trace site) (O.trace result.site) (Rose (O.faults site) (O.faults result.site)) result.status }
+    ensures taken { IsTrue S.told → TakesAtMost (GREATEST_LENGTH + 1) (S.left source.old) (S.left source.new) }
+
+    ensures usage { ((key : List ℕ) → ¬ IsCheck words.now key)
+        → Ends O.told (O.trace site) (O.trace result.site) (Rose (O.faults site) (O.faults result.site))
+        usage_text USAGE result.status }
+    ensures untouched { ((key : List ℕ) → ¬ IsCheck words.now key) → source.new ≡ source.old }
+{
+    run_plain(alloc, words, source, site)
+}

@@ -1,0 +1,33 @@
+ghost use Rattle.std.specs.Prelude.{◌≡◌, ℕ, List, MatchOption};
+ghost use Rattle.sdls_run.specs.Words.{IsCheck, IsKey};
+
+use aes_block::Schedule;
+
+/// The most octets of a key.
+const LONGEST_KEY: usize = 32;
+
+/// The key that these hexadecimal digits spell, in either case, or nothing where they spell none.
+fn key_of(digits: &str) -> Option<Schedule>
+    ensures { MatchOption result ((key : List ℕ) → ¬ IsKey digits.now key) (IsKey digits.now) }
+{
+    let count = digits.len() / 2;
+    if count > LONGEST_KEY {
+        return None;
+    }
+    let mut octets = [0; LONGEST_KEY];
+    let key = &mut octets[..count];
+    match hex::decode_to_slice(digits, key) {
+        Ok(()) => Schedule::new(key).ok(),
+        Err(_) => None,
+    }
+}
+
+/// The key of the words `check KEY`, or nothing where these are not the words.
+pub(crate) fn check_key(words: &[String]) -> Option<Schedule>
+    ensures { MatchOption result ((key : List ℕ) → ¬ IsCheck words.now key) (IsCheck words.now) }
+{
+    match words {
+        [command, digits] if command.as_str() == "check" => key_of(digits.as_str()),
+        _ => None,
+    }
+}
