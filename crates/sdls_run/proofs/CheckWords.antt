@@ -1,4 +1,4 @@
-use Rattle.std.proofs.Common.{◌≡◌, ℕ, ◌<◌, ◌≤◌, List, [], ◌∷◌, length, get_or, map, MatchOption, Option, Some, None, codes, String, string_bytes, refl, sym, ◌∙◌, ap, ap₂, arith, subst}
+use Rattle.std.proofs.Common.{◌≡◌, ℕ, ◌<◌, ◌≤◌, List, [], ◌∷◌, length, get_or, map, MatchOption, Option, Some, None, codes, String, string_bytes, sym, ◌∙◌, ap, arith, subst}
 use Rattle.std.specs.declared.alloc.Global.{Global}
 use Rattle.sdls_run.specs.Words.{IsCheck, IsKey}
 

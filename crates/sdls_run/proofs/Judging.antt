@@ -1,10 +1,10 @@
-use Rattle.std.proofs.Common.{◌≡◌, ℕ, ◌+◌, ◌<◌, ◌≤◌, Bool, true, false, IsTrue, List, [], ◌++◌, length, take, refl, ap, sym, ◌∙◌, subst, arith, inl, inr, append-nil, ◌⊎◌, Result, Ok, Err, MatchResult, Bor}
+use Rattle.std.proofs.Common.{◌≡◌, ℕ, ◌+◌, ◌<◌, ◌≤◌, Bool, true, false, IsTrue, List, [], ◌++◌, length, take, refl, ap, sym, ◌∙◌, subst, arith, inl, inr, append-nil, Result, Ok, Err, MatchResult, Bor}
 use Rattle.std.proofs.lemmas.Bool.{cases_lt, false≢true}
-use Rattle.std.proofs.lemmas.List.{take_all, length-take-le, length-append}
+use Rattle.std.proofs.lemmas.List.{length-take-le, length-append}
 use Rattle.sdls_run.specs.declared.refusal.Refusal.{Refusal}
 use Rattle.sdls_run.specs.declared.refusal.Refusal.TheVariants.{Short, Long, Version, Spare, Spi, Mac}
 use Rattle.sdls_run.specs.declared.status.TheConstants.{DONE, REFUSED}
-use Rattle.sdls_run.specs.Check.{Passes, Fails, IsFirstFault, place, data_field}
+use Rattle.sdls_run.specs.Check.{Passes, IsFirstFault, data_field}
 use Rattle.sdls_run.specs.Intake.{Collects}
 use Rattle.std.specs.Result.{IfOk, IfErr}
 use Rattle.sdls_outside.specs.Moments.{Trace}

@@ -1,6 +1,6 @@
 -- One AOS transfer frame of the CMAC suite, judged under a key.
 -- CCSDS 732.0-B, Transfer Frame Primary Header; CCSDS 355.0-B, Security Header and Security Trailer.
-use Rattle.std.specs.Prelude.{◌≡◌, ◌≢◌, ℕ, ◌+◌, ◌-◌, ◌*◌, ◌/◌, ◌%◌, ◌<◌, ◌⊎◌, List, [], ◌∷◌, length, take, drop, slice_index}
+use Rattle.std.specs.Prelude.{◌≡◌, ◌≢◌, ℕ, ◌+◌, ◌-◌, ◌*◌, ◌/◌, ◌%◌, ◌<◌, ◌⊎◌, List, length, take, drop, slice_index}
 use Rattle.cmac.specs.Cmac.{mac}
 use Rattle.sdls_run.specs.declared.refusal.Refusal.{Refusal}
 use Rattle.sdls_run.specs.declared.refusal.Refusal.TheVariants.{Short, Long, Version, Spare, Spi, Mac}

@@ -1,7 +1,6 @@
-use Rattle.std.proofs.Common.{◌≡◌, ℕ, List, length, IsTrue, Err, refl, inl, inr, rules, arith, sym, ◌∙◌}
-use Rattle.std.specs.Result.{IfOk, IfErr}
+use Rattle.std.proofs.Common.{refl, inr, rules}
 use Rattle.std.proofs.lemmas.Result.{err_from_is_err_and}
-use Rattle.sdls_run.specs.Answer.{Answers, source_fault_text}
+use Rattle.sdls_run.specs.Answer.{source_fault_text}
 use Rattle.sdls_run.proofs.Judging.{judged}
 use Rattle.sdls_run.proofs.check.put_check.Goals as goal
 

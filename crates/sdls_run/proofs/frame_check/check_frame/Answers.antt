@@ -1,6 +1,4 @@
-use Rattle.std.proofs.Common.{rules}
 use Rattle.std.proofs.lemmas.Result.{err_from_is_err_and}
-use Rattle.sdls_run.specs.Check.{IsFirstFault}
 use Rattle.sdls_run.proofs.frame_check.check_frame.Goals as goal
 
 pub returns-in_err-check_headers-clause-refused : goal.returns-in_err-check_headers-clause-refused

@@ -1,4 +1,4 @@
-use Rattle.std.proofs.Common.{◌≡◌, ℕ, ◌<◌, ◌≤◌, ◌-◌, ◌+◌, ◌++◌, length, take, IsTrue, arith, rules, append_assoc, refl}
+use Rattle.std.proofs.Common.{◌≡◌, ◌≤◌, ◌-◌, length, arith, rules}
 use Rattle.sdls_run.proofs.Collecting.{collected_more}
 use Rattle.sdls_run.proofs.intake.collect.Goals as goal
 

@@ -1,7 +1,6 @@
-use Rattle.std.proofs.Common.{◌≡◌, ℕ, List, [], ◌++◌, IsTrue, Err, refl, arith, rules, subst, sym}
+use Rattle.std.proofs.Common.{[], ◌++◌, refl, arith}
 use Rattle.std.proofs.lemmas.Result.{err_from_is_err_and}
-use Rattle.hex.specs.Hex.{encode_lower, encode_with}
-use Rattle.sdls_run.specs.Output.{Sinks, SinksFront, Delivers}
+use Rattle.hex.specs.Hex.{encode_with}
 use Rattle.sdls_run.proofs.Delivering.{sinks_none}
 use Rattle.sdls_run.proofs.Spelling.{parts_of, spelled_more, spelled_cut}
 use Rattle.sdls_run.proofs.output.put_hexadecimal.Goals as goal

@@ -1,4 +1,4 @@
-use Rattle.std.proofs.Common.{inr, refl, rules}
+use Rattle.std.proofs.Common.{inr, refl}
 use Rattle.sdls_run.proofs.top.run_check.Goals as goal
 
 pub returns-in-Err-clause-due : goal.returns-in-Err-clause-due

@@ -1,4 +1,4 @@
-use Rattle.std.proofs.Common.{ℕ, List, subst, ◌≡◌}
+use Rattle.std.proofs.Common.{◌≡◌}
 use Rattle.sdls_run.proofs.CheckWords.{one_key}
 use Rattle.sdls_run.proofs.top.run_plain.Goals as goal
 

@@ -1,4 +1,4 @@
-use Rattle.std.proofs.Common.{◌≡◌, ℕ, List, codes, string_bytes, rules, arith}
+use Rattle.std.proofs.Common.{◌≡◌, codes, string_bytes, rules}
 use Rattle.sdls_run.proofs.CheckWords.{two_words, check_from_key}
 use Rattle.sdls_run.proofs.words.check_key.Goals as goal
 
