@@ -1,0 +1,5 @@
+mod FieldFacts
+mod FoldFacts
+mod BlockFacts
+mod CounterFacts
+mod SealFacts

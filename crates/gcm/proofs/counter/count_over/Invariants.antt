@@ -1,0 +1,6 @@
+use Rattle.std.proofs.Common.{◌*◌}
+use Rattle.gcm.specs.Counter.{IsCounted}
+use Rattle.gcm.proofs.counter.count_over.Given as goal
+
+abbrev pub invariant-blocks-2 : goal.invariant-blocks-2
+invariant-blocks-2 l = IsCounted l.key l.iv l.fn.text l.text (16 * l.i)

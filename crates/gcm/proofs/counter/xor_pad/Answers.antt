@@ -1,0 +1,15 @@
+use Rattle.std.proofs.Common.{refl, arith}
+use Rattle.gcm.proofs.CounterFacts.{xors_none, xors_more, xors_all}
+use Rattle.gcm.proofs.counter.xor_pad.Goals as goal
+
+pub octets-init : goal.octets-init
+octets-init c = xors_none c.args.start c.args.pad c.args.text.now
+
+pub octets-preserved : goal.octets-preserved
+octets-preserved c =
+    xors_more c.args.start c.octets.k _ c.args.pad c.args.text.now c.octets.text (omega arith) (omega arith) c.octets.invariant refl
+
+pub returns : goal.returns
+returns c =
+    xors_all c.args.start c.octets.k c.min-end.result c.args.pad c.args.text.now c.octets.text c.octets.invariant
+    c.min-end.ensures (omega arith) (omega arith)

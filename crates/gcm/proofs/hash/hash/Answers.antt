@@ -1,0 +1,15 @@
+use Rattle.std.proofs.Common.{ℕ, bit_xor, ap, ◌∙◌}
+use Rattle.gcm.specs.Field.{times}
+use Rattle.gcm.specs.Folded.{folded}
+use Rattle.gcm.specs.Gcm.{blocks, padded}
+use Rattle.gcm.proofs.BlockFacts.{hash_is}
+use Rattle.gcm.proofs.hash.hash.Goals as goal
+
+pub returns : goal.returns
+returns c =
+    let h : ℕ = c.args.h in
+    let y : ℕ = c.fold_padded-y.result in
+    c.times.ensures
+    ∙ ap (λ (x : ℕ). times (bit_xor y x) h) c.lengths.ensures
+    ∙ hash_is h y c.args.aad.now c.args.text.now c.ranges.h.fits
+    (c.fold_padded-y.ensures ∙ ap (λ (s : ℕ). folded h s (blocks (padded c.args.text.now))) c.fold_padded.ensures)

@@ -1,0 +1,15 @@
+use Rattle.std.proofs.Common.{ap, ◌∙◌}
+use Rattle.std.specs.Int.{w128, from_be_bytes}
+use Rattle.aes_block.specs.Aes.{encrypted}
+use Rattle.gcm.proofs.SealFacts.{tag_is}
+use Rattle.gcm.proofs.seal.tag_of.Goals as goal
+
+pub returns : goal.returns
+returns c =
+    c.to_be_bytes.ensures
+    ∙ tag_is c.args.key.now c.args.iv.now c.args.aad.now c.args.text.now c.from_be_bytes-h.result
+    c.from_be_bytes-mask.result c.hash.result
+    (c.from_be_bytes-h.ensures ∙ ap (from_be_bytes w128) c.encrypt.ensures)
+    (c.from_be_bytes-mask.ensures
+    ∙ ap (from_be_bytes w128) (c.encrypt-2.ensures ∙ ap (encrypted c.args.key.now) c.counter_block.ensures))
+    c.hash.ensures

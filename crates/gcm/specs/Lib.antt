@@ -1,0 +1,4 @@
+pub mod Counter
+pub mod Field
+pub mod Folded
+pub mod Gcm

@@ -1,0 +1,68 @@
+ghost use Rattle.std.specs.Prelude.{◌≡◌, ℕ, ◌≤◌, ◌↔◌, List, length, Some, None, IsErr, OnOk, OnErr};
+ghost use Rattle.gcm.specs.Gcm.{gcm_open, gcm_seal, tag_of};
+
+use crate::counter::{count_over, counter_block};
+use crate::hash::hash;
+use aes_block::Schedule;
+use std::fmt;
+
+/// The tag is not the ciphertext's.
+#[derive(Clone, Copy, Debug, PartialEq, Eq)]
+pub struct BadTag;
+
+impl fmt::Display for BadTag {
+    fn fmt<W: fmt::Write>(&self, f: &mut fmt::Formatter<W>) -> fmt::Result {
+        write!(f, "the tag is not the ciphertext's")
+    }
+}
+
+impl std::error::Error for BadTag {}
+
+/// Law: what was sealed opens to what was sealed, and nothing else opens.
+pub fn opens_what_was_sealed()
+    ensures { (key iv aad clear text tag : List ℕ)
+        → (gcm_open key iv aad text tag ≡ Some clear) ↔ (gcm_seal key iv aad clear ≡ (text, tag)) }
+{}
+
+fn tag_of(key: &Schedule, iv: &[u8; 12], aad: &[u8], text: &[u8]) -> [u8; 16]
+    requires aad { length aad.now ≤ 65536 }
+    requires text { length text.now ≤ 65536 }
+    ensures { result ≡ tag_of key.now iv.now aad.now text.now }
+{
+    let h = u128::from_be_bytes(key.encrypt([0; 16]));
+    let mask = u128::from_be_bytes(key.encrypt(counter_block(iv, 0)));
+    (hash(h, aad, text) ^ mask).to_be_bytes()
+}
+
+/// Enciphers the text where it lies, and gives the tag of the ciphertext and the additional data.
+/// Each has at most 65,536 octets.
+pub fn seal_in_place(key: &Schedule, iv: &[u8; 12], aad: &[u8], text: &mut [u8]) -> [u8; 16]
+    requires aad { length aad.now ≤ 65536 }
+    requires text { length text.old ≤ 65536 }
+    ensures { (text.new, result) ≡ gcm_seal key.now iv.now aad.now text.old }
+{
+    count_over(key, iv, text);
+    tag_of(key, iv, aad, text)
+}
+
+/// Deciphers the text where it lies, if `tag` is the tag of the ciphertext and the additional
+/// data. Each has at most 65,536 octets.
+pub fn open_in_place(
+    key: &Schedule,
+    iv: &[u8; 12],
+    aad: &[u8],
+    text: &mut [u8],
+    tag: &[u8; 16],
+) -> Result<(), BadTag>
+    requires aad { length aad.now ≤ 65536 }
+    requires text { length text.old ≤ 65536 }
+    ensures opened { OnOk result (gcm_open key.now iv.now aad.now text.old tag.now ≡ Some text.new) }
+    ensures refused { IsErr result ↔ (gcm_open key.now iv.now aad.now text.old tag.now ≡ None) }
+    ensures unchanged { OnErr result (text.new ≡ text.old) }
+{
+    if tag_of(key, iv, aad, text) != *tag {
+        return Err(BadTag);
+    }
+    count_over(key, iv, text);
+    Ok(())
+}
