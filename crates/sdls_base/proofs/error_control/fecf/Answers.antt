@@ -10,7 +10,7 @@ returns-clause-register c = search rules
 pub returns-clause-remainder : goal.returns-clause-remainder
 returns-clause-remainder c =
     subst (λ r. IsRemainder (dividend c.args.octets.now) r) (sym (returns-clause-register c))
-      (frame_error_control-remainder c.args.octets.now (λ i. omega (arith, c.type_inv.octets i)))
+    (frame_error_control-remainder c.args.octets.now (λ i. omega (arith, c.type_inv.octets i)))
 
 pub returns-clause-only : goal.returns-clause-only
 returns-clause-only c = λ r is. one_remainder (dividend c.args.octets.now) r c.fold.result is (returns-clause-remainder c)
