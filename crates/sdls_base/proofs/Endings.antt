@@ -1,11 +1,10 @@
 -- The end of a frame, with or without a frame error control field.
-use Rattle.std.proofs.Common.{◌≡◌, ℕ, ◌+◌, ◌-◌, ◌≤◌, ◌<◌, Bool, true, false, List, [], ◌∷◌, ◌++◌, length, take, drop, get_or, refl, sym, ◌∙◌, ap, arith, length-append, length-take, length-drop}
-use Rattle.std.specs.Prelude.{not, ◌&&◌}
+use Rattle.std.proofs.Common.{◌≡◌, ℕ, ◌+◌, ◌-◌, Bool, true, false, List, ◌++◌, length, take, drop, refl, sym, ap, arith, length-append}
+use Rattle.std.specs.Prelude.{not}
 use Rattle.std.specs.Str.{bytes_eq}
-use Rattle.std.specs.Int.{w16, to_be_bytes}
 use Rattle.std.proofs.lemmas.Grind.{common_steps}
 use Rattle.std.proofs.lemmas.Slice.Eq.{bytes_eq-Decides}
-use Rattle.sdls_base.specs.ErrorControl.{frame_error_control, error_control, with_error_control, error_control_length, before_error_control, fails_error_control}
+use Rattle.sdls_base.specs.ErrorControl.{error_control, with_error_control, error_control_length, before_error_control, fails_error_control}
 
 pub length-error_control : (octets : List ℕ) → length (error_control octets) ≡ 2
 length-error_control octets = refl

@@ -1,5 +1,5 @@
 -- Remainders by the generator of the frame error control field.
-use Rattle.std.proofs.Common.{◌≡◌, ℕ, zero, suc, ◌+◌, ◌-◌, ◌*◌, ◌/◌, ◌%◌, ◌^◌, ◌<◌, ◌≤◌, List, [], ◌∷◌, ◌++◌, length, get_or, refl, sym, ◌∙◌, ap, subst, arith, add-zero, zero-mul, zero-add, pow-suc, inl, inr, append_assoc, append-nil, length-append, Bool, true, false, lit<}
+use Rattle.std.proofs.Common.{◌≡◌, ℕ, zero, suc, ◌+◌, ◌-◌, ◌*◌, ◌%◌, ◌^◌, ◌<◌, ◌≤◌, List, [], ◌∷◌, ◌++◌, length, get_or, refl, sym, ◌∙◌, ap, subst, arith, add-zero, zero-add, pow-suc, append_assoc, append-nil, length-append, Bool, true, false, lit<}
 use Rattle.std.specs.Prelude.{bit_xor, fold, nat_lt}
 use Rattle.std.proofs.lemmas.Bool.{ltb-true, le-ltb, ltb-false}
 use Rattle.std.proofs.lemmas.Nat.{xor_comm, xor_lt, xor_block, pow_pos, pow-add, leading_top}

@@ -1,4 +1,4 @@
-use Rattle.std.proofs.Common.{◌<◌, arith, rules, ℕ, sym, subst, get_or}
+use Rattle.std.proofs.Common.{arith, rules, sym, subst}
 use Rattle.sdls_base.specs.ErrorControl.{frame_error_control, dividend, IsRemainder}
 use Rattle.sdls_base.proofs.Remainders.{frame_error_control-remainder, one_remainder}
 use Rattle.sdls_base.proofs.error_control.fecf.Goals as goal
