@@ -1,5 +1,5 @@
 -- Remainders by the generator of the frame error control field.
-use Rattle.std.proofs.Common.{◌≡◌, ℕ, zero, suc, ◌+◌, ◌-◌, ◌*◌, ◌/◌, ◌%◌, ◌^◌, ◌<◌, ◌≤◌, List, [], ◌∷◌, ◌++◌, length, get_or, refl, sym, ◌∙◌, ap, subst, arith, add-zero, zero-mul, zero-add, pow-suc, inl, inr, append_assoc, append-nil, length-append, Bool, true, false, lit<}
+use Rattle.std.proofs.Common.{◌≡◌, ℕ, zero, suc, ◌+◌, ◌-◌, ◌*◌, ◌%◌, ◌^◌, ◌<◌, ◌≤◌, List, [], ◌∷◌, ◌++◌, length, get_or, refl, sym, ◌∙◌, ap, subst, arith, add-zero, zero-add, pow-suc, append_assoc, append-nil, length-append, Bool, true, false, lit<}
 use Rattle.std.specs.Prelude.{bit_xor, fold, nat_lt}
 use Rattle.std.proofs.lemmas.Bool.{ltb-true, le-ltb, ltb-false}
 use Rattle.std.proofs.lemmas.Nat.{xor_comm, xor_lt, xor_block, pow_pos, pow-add, leading_top}
@@ -66,8 +66,8 @@ by_step r high false e =
     let g : bit_xor (2 * r) (2 ^ 16 + 0x1021) ≡ bit_xor (2 * (r - 2 ^ 15)) 0x1021 = ap (λ n. bit_xor (2 * n) (2 ^ 16 + 0x1021)) (sym f) ∙ over (r - 2 ^ 15) (omega arith) in
     let small : bit_xor (2 * (r - 2 ^ 15)) 0x1021 < 2 ^ 16 = xor_lt 16 (2 * (r - 2 ^ 15)) 0x1021 (omega arith) (omega arith) in
     let back : r * 2 ^ 1 ≡ bit_xor (2 ^ 16 + 0x1021) (bit_xor (2 * r) (2 ^ 16 + 0x1021)) =
-        (omega arith) ∙ sym (xor_zero_r (2 * r)) ∙ ap (λ n. bit_xor (2 * r) n) (sym (xor_self (2 ^ 16 + 0x1021)))
-        ∙ sym (xor_assoc (2 * r) (2 ^ 16 + 0x1021) (2 ^ 16 + 0x1021)) ∙ xor_comm (bit_xor (2 * r) (2 ^ 16 + 0x1021)) (2 ^ 16 + 0x1021) in
+    (omega arith) ∙ sym (xor_zero_r (2 * r)) ∙ ap (λ n. bit_xor (2 * r) n) (sym (xor_self (2 ^ 16 + 0x1021)))
+    ∙ sym (xor_assoc (2 * r) (2 ^ 16 + 0x1021) (2 ^ 16 + 0x1021)) ∙ xor_comm (bit_xor (2 * r) (2 ^ 16 + 0x1021)) (2 ^ 16 + 0x1021) in
     rw e (record { degree = rw g small; quotient = (1, back) })
 
 -- a step of the register takes remainder to remainder
@@ -81,20 +81,22 @@ remainder_double p r is =
     let q' : ℕ = one.quotient.0 in
     record {
       degree = one.degree;
-      quotient = (bit_xor (q * 2 ^ 1) q',
+      quotient = (
+        bit_xor (q * 2 ^ 1) q',
         ap (λ n. n * 2 ^ 1) is.quotient.1
-        ∙ shift_sum (times_generator q) r 1
-        ∙ ap (λ n. bit_xor n (r * 2 ^ 1)) (sym (times_generator_double q))
-        ∙ ap (λ n. bit_xor (times_generator (q * 2 ^ 1)) n) one.quotient.1
-        ∙ sym (xor_assoc (times_generator (q * 2 ^ 1)) (times_generator q') (times_x r))
-        ∙ ap (λ n. bit_xor n (times_x r)) (sym (times_generator_sum (q * 2 ^ 1) q')));
+            ∙ shift_sum (times_generator q) r 1
+            ∙ ap (λ n. bit_xor n (r * 2 ^ 1)) (sym (times_generator_double q))
+            ∙ ap (λ n. bit_xor (times_generator (q * 2 ^ 1)) n) one.quotient.1
+            ∙ sym (xor_assoc (times_generator (q * 2 ^ 1)) (times_generator q') (times_x r))
+            ∙ ap (λ n. bit_xor n (times_x r)) (sym (times_generator_sum (q * 2 ^ 1) q')),
+      );
     }
 
 pub remainder_sum : (p r s : ℕ) → s < 2 ^ 16 → IsRemainder p r → IsRemainder (bit_xor p s) (bit_xor r s)
 remainder_sum p r s small is = record {
-      degree = xor_lt 16 r s is.degree small;
-      quotient = (is.quotient.0, ap (λ n. bit_xor n s) is.quotient.1 ∙ xor_assoc (times_generator is.quotient.0) r s);
-    }
+  degree = xor_lt 16 r s is.degree small;
+  quotient = (is.quotient.0, ap (λ n. bit_xor n s) is.quotient.1 ∙ xor_assoc (times_generator is.quotient.0) r s);
+}
 
 eight_doubles : (n : ℕ) → ((((((((n * 2 ^ 1) * 2 ^ 1) * 2 ^ 1) * 2 ^ 1) * 2 ^ 1) * 2 ^ 1) * 2 ^ 1) * 2 ^ 1) ≡ n * 2 ^ 8
 eight_doubles n = omega arith
@@ -162,9 +164,9 @@ fold-remainder [] ys r octets is = subst (λ zs. IsRemainder (dividend zs) r) (s
 fold-remainder (x ∷ xs) ys r octets is =
     let small : x < 256 = octets 0 in
     let next : IsRemainder (dividend (ys ++ x ∷ [])) (after_octet r x) =
-        subst (λ n. IsRemainder n (after_octet r x)) (sym (dividend_push ys x small)) (remainder_octet (dividend ys) r x small is) in
+    subst (λ n. IsRemainder n (after_octet r x)) (sym (dividend_push ys x small)) (remainder_octet (dividend ys) r x small is) in
     subst (λ zs. IsRemainder (dividend zs) (fold after_octet (after_octet r x) xs)) (append_assoc ys (x ∷ []) xs)
-      (fold-remainder xs (ys ++ x ∷ []) (after_octet r x) (λ i. octets (suc i)) next)
+    (fold-remainder xs (ys ++ x ∷ []) (after_octet r x) (λ i. octets (suc i)) next)
 
 pub frame_error_control-remainder : (xs : List ℕ) → ((i : ℕ) → get_or xs i 0 < 256) → IsRemainder (dividend xs) (frame_error_control xs)
 unfolding frame_error_control
@@ -184,8 +186,8 @@ times_generator_high q N low high j is small =
     let one : 0 < N = rw is (pow_pos j) in
     let e : 2 ^ (j + 16) ≡ N * 2 ^ 16 = pow-add 2 j 16 ∙ ap (λ n. n * 2 ^ 16) (sym is) in
     let top : q * 2 ^ 16 ≡ bit_xor (bit_xor (times_generator q) w) (q * 2 ^ 12) =
-        sym (ap (λ n. bit_xor n (q * 2 ^ 12)) (xor_assoc (bit_xor (q * 2 ^ 16) (q * 2 ^ 12)) w w ∙ ap (λ n. bit_xor (bit_xor (q * 2 ^ 16) (q * 2 ^ 12)) n) (xor_self w) ∙ xor_zero_r (bit_xor (q * 2 ^ 16) (q * 2 ^ 12)))
-          ∙ xor_assoc (q * 2 ^ 16) (q * 2 ^ 12) (q * 2 ^ 12) ∙ ap (λ n. bit_xor (q * 2 ^ 16) n) (xor_self (q * 2 ^ 12)) ∙ xor_zero_r (q * 2 ^ 16)) in
+    sym (ap (λ n. bit_xor n (q * 2 ^ 12)) (xor_assoc (bit_xor (q * 2 ^ 16) (q * 2 ^ 12)) w w ∙ ap (λ n. bit_xor (bit_xor (q * 2 ^ 16) (q * 2 ^ 12)) n) (xor_self w) ∙ xor_zero_r (bit_xor (q * 2 ^ 16) (q * 2 ^ 12)))
+    ∙ xor_assoc (q * 2 ^ 16) (q * 2 ^ 12) (q * 2 ^ 12) ∙ ap (λ n. bit_xor (q * 2 ^ 16) n) (xor_self (q * 2 ^ 12)) ∙ xor_zero_r (q * 2 ^ 16)) in
     let b12 : q * 2 ^ 12 < 2 ^ (j + 16) = rw e (omega arith) in
     let b5 : q * 2 ^ 5 < 2 ^ (j + 16) = rw e (omega arith) in
     let b0 : q < 2 ^ (j + 16) = rw e (omega arith) in
@@ -213,7 +215,7 @@ one_remainder p r s a b =
     let Y : ℕ = times_generator b.quotient.0 in
     let q : ℕ = bit_xor a.quotient.0 b.quotient.0 in
     let e : bit_xor (bit_xor X Y) (bit_xor r s) ≡ 0 =
-        sym (sum_four X r Y s) ∙ ap (λ n. bit_xor n (bit_xor Y s)) (sym a.quotient.1 ∙ b.quotient.1) ∙ xor_self (bit_xor Y s) in
+    sym (sum_four X r Y s) ∙ ap (λ n. bit_xor n (bit_xor Y s)) (sym a.quotient.1 ∙ b.quotient.1) ∙ xor_self (bit_xor Y s) in
     let f : times_generator q ≡ bit_xor r s = times_generator_sum a.quotient.0 b.quotient.0 ∙ same_from_sum (bit_xor X Y) (bit_xor r s) e in
     let z : q ≡ 0 = factor_zero q (subst (λ n. n < 2 ^ 16) (sym f) (xor_lt 16 r s a.degree b.degree)) in
     same_from_sum r s (sym f ∙ ap times_generator z)

@@ -1,7 +1,8 @@
 -- The frame error control field (CCSDS 232.0-B, 132.0-B and 732.0-B, Frame Error Control Field).
 -- A polynomial over GF(2) is seen as the number whose bit i is the coefficient of x^i: bit_xor adds, and * 2 ^ k
 -- multiplies by x^k.
-use Rattle.std.specs.Prelude.{◌≡◌, ℕ, ◌+◌, ◌-◌, ◌*◌, ◌^◌, ◌<◌, nat_lt, if◌then◌else◌, List, [], ◌∷◌, ◌++◌, length, fold, bit_xor}
+use Rattle.std.specs.Prelude.{◌≡◌, ℕ, ◌+◌, ◌-◌, ◌*◌, ◌^◌, ◌<◌, nat_lt, if◌then◌else◌, Bool, true, false, not, ◌&&◌, List, [], ◌∷◌, ◌++◌, length, take, drop, fold, bit_xor}
+use Rattle.std.specs.Str.{bytes_eq}
 use Rattle.std.specs.Int.{w16, to_be_bytes}
 
 -- q times the generator x^16 + x^12 + x^5 + 1
@@ -37,3 +38,22 @@ frame_error_control octets = fold after_octet (2 ^ 16 - 1) octets
 -- the field as it stands in a frame
 abbrev pub error_control : List ℕ → List ℕ
 error_control octets = to_be_bytes w16 (frame_error_control octets)
+
+-- the octets, with the field behind them where the layout has one
+abbrev pub with_error_control : Bool → List ℕ → List ℕ
+with_error_control false octets = octets
+with_error_control true octets = octets ++ error_control octets
+
+-- how many octets the field has
+abbrev pub error_control_length : Bool → ℕ
+error_control_length false = 0
+error_control_length true = 2
+
+-- the octets before the field
+abbrev pub before_error_control : Bool → List ℕ → List ℕ
+before_error_control fecf frame = take (length frame - error_control_length fecf) frame
+
+-- whether a layout has the field, and the last two octets are not that over the octets before them
+abbrev pub fails_error_control : Bool → List ℕ → Bool
+fails_error_control fecf frame =
+    fecf && not (bytes_eq (drop (length frame - 2) frame) (error_control (take (length frame - 2) frame)))

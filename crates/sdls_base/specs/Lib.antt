@@ -1,3 +1,5 @@
 pub mod KeyId
 pub mod Suite
 pub mod ErrorControl
+pub mod Fields
+pub mod FrameFault

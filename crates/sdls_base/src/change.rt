@@ -20,23 +20,48 @@ pub struct NewSa {
 #[derive(Clone, Debug, PartialEq, Eq, Drop)]
 pub enum Change {
     /// A key's mark and floor become these.
-    Marks { key: KeyId, mark: u64, floor: u64 },
+    Marks {
+        key: KeyId,
+        mark: u64,
+        floor: u64,
+    },
     /// These keys are loaded, pre-active.
     Load(KeyItems),
     /// These keys take a state.
-    KeyStates { ids: KeyList, to: KeyState },
+    KeyStates {
+        ids: KeyList,
+        to: KeyState,
+    },
     /// An association is created, unkeyed.
     Create(NewSa),
     /// An unkeyed association takes a key, with the first number that it may use or accept.
-    Rekey { spi: Spi, key: KeyId, number: u64 },
+    Rekey {
+        spi: Spi,
+        key: KeyId,
+        number: u64,
+    },
     /// An association takes a state. `None` is deletion.
-    SaTo { spi: Spi, to: Option<SaState> },
+    SaTo {
+        spi: Spi,
+        to: Option<SaState>,
+    },
     /// The next number of an association is set.
-    SetNumber { spi: Spi, number: u64 },
+    SetNumber {
+        spi: Spi,
+        number: u64,
+    },
     /// The width of an association's anti-replay window is set.
-    SetWindow { spi: Spi, window: u64 },
+    SetWindow {
+        spi: Spi,
+        window: u64,
+    },
     /// A frame was accepted: the highest number of the association becomes `number`, and the key's floor is `floor`.
-    Accepted { spi: Spi, key: KeyId, number: u64, floor: u64 },
+    Accepted {
+        spi: Spi,
+        key: KeyId,
+        number: u64,
+        floor: u64,
+    },
     /// Nothing changes.
     Nothing,
 }

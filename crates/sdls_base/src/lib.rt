@@ -17,6 +17,7 @@ mod no_memory;
 mod octets;
 mod spi;
 mod states;
+mod writing;
 
 pub use change::{Change, NewSa};
 pub use channel_id::ChannelId;
@@ -30,9 +31,13 @@ pub use no_memory::NoMemory;
 pub use octets::Octets;
 pub use spi::Spi;
 pub use states::{Direction, KeyState, SaState, Suite};
+pub use writing::{before_fecf, fecf_fails, flag, put, put_fecf};
 
 /// The most keys that a unit loads in its life (profile).
 pub const MOST_KEYS: usize = 512;
 
 /// The most security associations that a unit has at one time (profile).
 pub const MOST_ASSOCIATIONS: usize = 64;
+
+#[cfg(test)]
+mod tests;

@@ -1,4 +1,4 @@
-use Rattle.std.proofs.Common.{◌<◌, arith, rules, ℕ, sym, subst, get_or}
+use Rattle.std.proofs.Common.{arith, rules, sym, subst}
 use Rattle.sdls_base.specs.ErrorControl.{frame_error_control, dividend, IsRemainder}
 use Rattle.sdls_base.proofs.Remainders.{frame_error_control-remainder, one_remainder}
 use Rattle.sdls_base.proofs.error_control.fecf.Goals as goal
@@ -10,7 +10,7 @@ returns-clause-register c = search rules
 pub returns-clause-remainder : goal.returns-clause-remainder
 returns-clause-remainder c =
     subst (λ r. IsRemainder (dividend c.args.octets.now) r) (sym (returns-clause-register c))
-      (frame_error_control-remainder c.args.octets.now (λ i. omega (arith, c.type_inv.octets i)))
+    (frame_error_control-remainder c.args.octets.now (λ i. omega (arith, c.type_inv.octets i)))
 
 pub returns-clause-only : goal.returns-clause-only
 returns-clause-only c = λ r is. one_remainder (dividend c.args.octets.now) r c.fold.result is (returns-clause-remainder c)
