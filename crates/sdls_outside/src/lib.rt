@@ -33,3 +33,6 @@ pub use site::Site;
 pub use source::{Failed, Source};
 pub use sources::SureSource;
 pub use std_source::StdSource;
+
+#[cfg(test)]
+mod tests;
