@@ -41,10 +41,6 @@ pub record EachMoment (old new : Trace) (P : List ℕ → List ℕ → Type 0) :
   pub before : (time : ℕ) (image sunk : List ℕ) → time ≤ clock old
       → MomentSince time new image sunk → MomentSince time old image sunk ⊎ P image sunk
 
--- what stood, from the beginning to now
-abbrev pub states : Trace → List Disk
-states trace = trace.past ++ trace.now ∷ []
-
--- the new trace goes on from the old one
+-- the new trace is the old one, or goes on from it: what stood then is followed by what stood since
 abbrev pub Continues : Trace → Trace → Type 0
-Continues old new = (more : List Disk) × (states new ≡ states old ++ more)
+Continues old new = (new ≡ old) ⊎ ((since : List Disk) × (new.past ≡ old.past ++ old.now ∷ since))

@@ -13,6 +13,7 @@ mod file_site;
 mod held;
 mod history;
 mod image_file;
+mod laws;
 mod mem_site;
 mod mem_source;
 mod site;
@@ -22,9 +23,16 @@ mod std_source;
 
 pub use crash::Crash;
 pub use file_site::FileSite;
+pub use laws::{
+    crash_is_a_moment, moment_of_a_part, moment_of_now, moment_since_earlier, rose,
+    synced_until_written,
+};
 pub use mem_site::MemSite;
 pub use mem_source::MemSource;
 pub use site::Site;
 pub use source::{Failed, Source};
 pub use sources::SureSource;
 pub use std_source::StdSource;
+
+#[cfg(test)]
+mod tests;
