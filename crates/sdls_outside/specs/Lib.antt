@@ -4,9 +4,11 @@ pub mod Moments
 pub mod Site
 pub mod Source
 pub mod Calls
-pub mod Sources
+pub mod SureSource
+pub mod MemSource
 pub mod Held
 pub mod History
 pub mod Crash
 pub mod MemSite
-pub mod Edge
+pub mod StdSource
+pub mod FileSite

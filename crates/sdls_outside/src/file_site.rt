@@ -1,5 +1,5 @@
 // The file of the image, and standard output.
-ghost use Rattle.std.specs.Prelude.{◌≡◌, [], false};
+ghost use Rattle.std.specs.Prelude.{◌≡◌, [], false, codes};
 ghost use Rattle.std.proofs.Common.{rules};
 ghost use Rattle.sdls_outside.specs.Crash.{fresh};
 
@@ -7,23 +7,25 @@ use crate::edge::counted;
 use crate::image_file::ImageFile;
 use crate::{Failed, Site};
 use std::io;
-use std::io::{Stdout, Write};
+use std::io::Write;
 
 /// The image in a file, and standard output as the sink. It tells nothing of content. Its count of
 /// faults rises at each error of the system.
 #[derive(Drop)]
 pub struct FileSite {
+    rt: HostRuntime,
+    path: &'static str,
     image: ImageFile,
-    stdout: Stdout,
     faults: u64,
 }
 
 impl FileSite {
-    ghost use Rattle.sdls_outside.specs.Edge.{output_faults};
+    ghost use Rattle.sdls_outside.specs.FileSite.{image_path, output_faults};
 
     /// The file `unit.img` in the folder that the program runs in, with no fault so far.
     pub fn new(rt: HostRuntime) -> Self
-        ensures { output_faults result ≡ 0 }
+        ensures path { image_path result ≡ codes "unit.img" }
+        ensures faults { output_faults result ≡ 0 }
     {
         FileSite::at(rt, "unit.img")
     }
@@ -31,18 +33,20 @@ impl FileSite {
     /// The file at this path. It is opened at the first `begin` that finds it, and made at the
     /// first `write_at` where none was found.
     pub fn at(rt: HostRuntime, path: &'static str) -> Self
-        ensures { output_faults result ≡ 0 }
+        ensures path { image_path result ≡ path.now }
+        ensures faults { output_faults result ≡ 0 }
     {
         FileSite {
-            image: ImageFile::new(rt, path),
-            stdout: rt.stdout(),
+            rt,
+            path,
+            image: ImageFile::new(),
             faults: 0,
         }
     }
 }
 
 impl Site for FileSite {
-    ghost use Rattle.sdls_outside.specs.Edge.{output_faults};
+    ghost use Rattle.sdls_outside.specs.FileSite.{output_faults};
 
     ghost told = { false };
 
@@ -53,7 +57,7 @@ impl Site for FileSite {
     ghost image_may_stay = { Prim.search rules };
 
     fn begin(&mut self) -> Result<u64, Failed> {
-        let length = self.image.find();
+        let length = self.image.find(&self.rt, self.path);
         counted(length, &mut self.faults)
     }
 
@@ -63,17 +67,17 @@ impl Site for FileSite {
     }
 
     fn write_at(&mut self, at: u64, octets: &[u8]) -> Result<(), Failed> {
-        let written = self.image.write_at(at, octets);
+        let written = self.image.write_at(&self.rt, self.path, at, octets);
         counted(written, &mut self.faults)
     }
 
     fn sync(&mut self) -> Result<(), Failed> {
-        let synced = self.image.sync();
+        let synced = self.image.sync(&self.rt, self.path);
         counted(synced, &mut self.faults)
     }
 
     fn put(&mut self, octets: &[u8]) -> Result<(), Failed> {
-        let put = print(&mut self.stdout, octets);
+        let put = print(&self.rt, octets);
         counted(put, &mut self.faults)
     }
 
@@ -82,7 +86,8 @@ impl Site for FileSite {
     }
 }
 
-fn print(stdout: &mut Stdout, octets: &[u8]) -> io::Result<()> {
+fn print(rt: &impl Print, octets: &[u8]) -> io::Result<()> {
+    let mut stdout = io::writer(rt);
     stdout.write_all(octets)?;
     stdout.flush()
 }

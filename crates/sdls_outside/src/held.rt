@@ -88,6 +88,7 @@ impl Held {
 }
 
 // The image with these octets at this place, over what was there and past its end.
+#[tactic(auto, using(crate::proofs::Octets::octet_lemmas))]
 fn with_octets(alloc: Global, image: &[u8], at: usize, octets: &[u8]) -> Result<Vec<u8>, AllocError>
     requires { at ≤ length image.now }
     ensures { IfOk result (λ next. next.items ≡ overwritten image.now at octets.now) }

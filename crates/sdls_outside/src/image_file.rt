@@ -9,18 +9,14 @@ use std::path::Path;
 // A file that is opened when it is found, and made at the first write where there was none.
 #[derive(Drop)]
 pub struct ImageFile {
-    rt: HostRuntime,
-    path: &'static str,
     file: Option<File>,
     is_new: bool,
     is_suspect: bool,
 }
 
 impl ImageFile {
-    pub fn new(rt: HostRuntime, path: &'static str) -> Self {
+    pub fn new() -> Self {
         ImageFile {
-            rt,
-            path,
             file: None,
             is_new: false,
             is_suspect: false,
@@ -28,13 +24,9 @@ impl ImageFile {
     }
 
     // Opens the file if it is there, and answers its length, 0 where there is none.
-    pub fn find(&mut self) -> io::Result<u64> {
+    pub fn find(&mut self, files: &HostRuntime, path: &str) -> io::Result<u64> {
         if self.file.is_none() {
-            match File::options()
-                .read(true)
-                .write(true)
-                .open(&self.rt, self.path)
-            {
+            match File::options().read(true).write(true).open(files, path) {
                 Ok(file) => self.file = Some(beside_the_streams(file)?),
                 Err(error) if error.kind() == ErrorKind::NotFound => return Ok(0),
                 Err(error) => return Err(error),
@@ -54,9 +46,15 @@ impl ImageFile {
         }
     }
 
-    pub fn write_at(&mut self, at: u64, octets: &[u8]) -> io::Result<()> {
+    pub fn write_at(
+        &mut self,
+        files: &HostRuntime,
+        path: &str,
+        at: u64,
+        octets: &[u8],
+    ) -> io::Result<()> {
         if self.file.is_none() {
-            let file = File::create_new(&self.rt, self.path)?;
+            let file = File::create_new(files, path)?;
             self.file = Some(beside_the_streams(file)?);
             self.is_new = true;
         }
@@ -69,7 +67,7 @@ impl ImageFile {
     // Brings the file's data and length to the disk, and its entry in the folder where it was
     // made. Once that has failed it is never Ok again: the system may have dropped what was
     // pending, and would answer Ok to the next try.
-    pub fn sync(&mut self) -> io::Result<()> {
+    pub fn sync(&mut self, files: &HostRuntime, path: &str) -> io::Result<()> {
         if self.is_suspect {
             return Err(ErrorKind::Other.into());
         }
@@ -78,7 +76,7 @@ impl ImageFile {
             file.sync_all()?;
         }
         if self.is_new {
-            File::open(&self.rt, folder_of(self.path))?.sync_all()?;
+            File::open(files, folder_of(path))?.sync_all()?;
             self.is_new = false;
         }
         self.is_suspect = false;

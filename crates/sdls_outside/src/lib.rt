@@ -18,8 +18,8 @@ mod mem_site;
 mod mem_source;
 mod site;
 mod source;
-mod sources;
 mod std_source;
+mod sure_source;
 
 pub use crash::Crash;
 pub use file_site::FileSite;
@@ -31,8 +31,8 @@ pub use mem_site::MemSite;
 pub use mem_source::MemSource;
 pub use site::Site;
 pub use source::{Failed, Source};
-pub use sources::SureSource;
 pub use std_source::StdSource;
+pub use sure_source::SureSource;
 
 #[cfg(test)]
 mod tests;

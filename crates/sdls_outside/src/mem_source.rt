@@ -17,7 +17,7 @@ pub struct MemSource {
 
 impl MemSource {
     ghost use Rattle.sdls_outside.specs.Calls.{planned};
-    ghost use Rattle.sdls_outside.specs.Sources.{pieces_left, piece_of, source_plan};
+    ghost use Rattle.sdls_outside.specs.MemSource.{pieces_left, piece_of, source_plan, source_faults};
 
     /// A source with these octets left, that gives at most `piece` of them a call. `failing` lists
     /// the calls of `take` that fail, counted from 0.
@@ -26,6 +26,7 @@ impl MemSource {
         ensures left { pieces_left result ≡ octets.items }
         ensures piece { piece_of result ≡ piece }
         ensures plan { source_plan result ≡ planned failing.items None }
+        ensures faults { source_faults result ≡ 0 }
     {
         MemSource {
             source: SureSource::new(octets),
@@ -37,13 +38,13 @@ impl MemSource {
 
 impl Source for MemSource {
     ghost use Rattle.sdls_outside.specs.Calls.{Enters};
-    ghost use Rattle.sdls_outside.specs.Sources.{pieces_left, piece_of, source_plan};
+    ghost use Rattle.sdls_outside.specs.MemSource.{pieces_left, piece_of, source_plan, source_faults};
 
     ghost told = { true };
 
     ghost left = { λ source. pieces_left source };
 
-    ghost faults = { λ source. source.calls.faults };
+    ghost faults = { λ source. source_faults source };
 
     /// It fails at the calls listed, and at no other; else it gives all that there is and fits,
     /// up to a piece.
@@ -57,7 +58,7 @@ impl Source for MemSource {
         ensures unfilled { OnErr result (into.new ≡ into.old) }
         ensures untaken { OnErr result (pieces_left self.new ≡ pieces_left self.old) }
         ensures same_piece { piece_of self.new ≡ piece_of self.old }
-        ensures cause { HasCause self.old.calls.faults self.new.calls.faults result }
+        ensures cause { HasCause (source_faults self.old) (source_faults self.new) result }
     {
         self.calls.enter()?;
         Ok(self.source.move_front(into, self.piece))

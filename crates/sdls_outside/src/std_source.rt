@@ -17,7 +17,7 @@ pub struct StdSource {
 }
 
 impl StdSource {
-    ghost use Rattle.sdls_outside.specs.Edge.{input_faults};
+    ghost use Rattle.sdls_outside.specs.StdSource.{input_faults};
 
     /// Standard input, as `rt.stdin()` gives it, with no fault so far.
     pub fn new(stdin: Stdin) -> Self
@@ -28,7 +28,7 @@ impl StdSource {
 }
 
 impl Source for StdSource {
-    ghost use Rattle.sdls_outside.specs.Edge.{input_faults};
+    ghost use Rattle.sdls_outside.specs.StdSource.{input_faults};
 
     ghost told = { false };
 

@@ -8,12 +8,12 @@ use crate::{Failed, Source};
 #[derive(Drop)]
 pub struct SureSource {
     octets: Vec<u8>,
-    taken: usize,
+    pub(crate) taken: usize,
     ghost within: { taken ≤ length octets.items },
 }
 
 impl SureSource {
-    ghost use Rattle.sdls_outside.specs.Sources.{octets_left};
+    ghost use Rattle.sdls_outside.specs.SureSource.{octets_left};
 
     /// A source with these octets left.
     pub fn new(octets: Vec<u8>) -> Self
@@ -37,7 +37,7 @@ impl SureSource {
 }
 
 impl Source for SureSource {
-    ghost use Rattle.sdls_outside.specs.Sources.{octets_left};
+    ghost use Rattle.sdls_outside.specs.SureSource.{octets_left};
 
     ghost told = { true };
 

@@ -2,7 +2,7 @@
 use Rattle.std.proofs.Common.{◌≡◌, ℕ, ◌+◌, ◌-◌, ◌≤◌, ◌++◌, length, take, drop, List, refl, sym, ◌∙◌, ap, arith, min}
 use Rattle.std.proofs.lemmas.List.{take-append-drop, take_at, drop-drop, take_rest}
 use Rattle.std.proofs.lemmas.Grind.{common_steps}
-use Rattle.sdls_outside.proofs.sources.SureSource.move_front.Goals as goal
+use Rattle.sdls_outside.proofs.sure_source.SureSource.move_front.Goals as goal
 
 -- a copied front, the rest of the piece behind it, and what is left after it
 front : (octets copied behind : List ℕ) (taken count : ℕ) → count + taken ≤ length octets
