@@ -2,9 +2,9 @@ use Rattle.std.proofs.Common.{◌≡◌, ℕ, ◌+◌, ◌-◌, List, [], ◌∷
 use Rattle.std.proofs.Math.Seq.{take-append-add}
 use Rattle.std.proofs.lemmas.List.{take-append-drop}
 use Rattle.sdls_outside.specs.Disk.{Disk}
-use Rattle.sdls_outside.specs.Moments.{Trace, Between, states}
+use Rattle.sdls_outside.specs.Moments.{Trace, Between}
 use Rattle.sdls_outside.specs.Site.{Sank, Puts}
-use Rattle.sdls_run.specs.Output.{SameDisk, AllSameDisk, OnlySinks, Sinks, SinksFront, Delivers}
+use Rattle.sdls_run.specs.Output.{states, SameDisk, AllSameDisk, OnlySinks, Sinks, SinksFront, Delivers}
 
 same_refl : (d : Disk) → SameDisk d d
 same_refl d = record { image = refl; synced = refl; ranges = refl }

@@ -1,7 +1,11 @@
 -- What was put on a site, in any number of pieces.
 use Rattle.std.specs.Prelude.{◌≡◌, ℕ, ⊤, List, [], ◌∷◌, ◌++◌, Result, MatchResult}
 use Rattle.sdls_outside.specs.Disk.{Disk}
-use Rattle.sdls_outside.specs.Moments.{Trace, states}
+use Rattle.sdls_outside.specs.Moments.{Trace}
+
+-- what stood outside, from the beginning to now
+abbrev pub states : Trace → List Disk
+states trace = trace.past ++ trace.now ∷ []
 
 -- the image, what is pending of it and what was synced are the same
 pub record SameDisk (old new : Disk) : Type 0 where
