@@ -1,13 +1,8 @@
 -- The operational control field at the end of a body.
 use Rattle.std.proofs.Common.{◌≡◌, ℕ, ◌+◌, ◌-◌, ◌≤◌, Bool, true, false, List, [], ◌++◌, length, take, drop, refl, sym, ◌∙◌, ap, arith, length-drop}
 use Rattle.std.specs.Prelude.{Option, Some, None, unwrap_or, if◌then◌else◌}
-use Rattle.std.specs.Option.{option_map}
 use Rattle.std.proofs.lemmas.List.{drop_all}
-use Rattle.sdls_base.specs.ControlField.{ocf_length, before_ocf, ocf_at}
-
--- the field is there, with 4 octets, or is not
-abbrev pub IsControlField : Bool → Option (List ℕ) → Type 0
-IsControlField ocf field = option_map length field ≡ (if ocf then Some 4 else None)
+use Rattle.sdls_base.specs.ControlField.{ocf_length, ocf_at, IsControlField}
 
 pub ocf_at-fits : (ocf : Bool) (body : List ℕ) → ocf_length ocf ≤ length body → IsControlField ocf (ocf_at ocf body)
 ocf_at-fits false body h = refl
