@@ -1,5 +1,6 @@
 -- The end of a frame, with or without a frame error control field.
-use Rattle.std.proofs.Common.{◌≡◌, ℕ, ◌+◌, ◌-◌, Bool, true, false, List, ◌++◌, length, take, drop, refl, sym, ap, arith, length-append}
+use Rattle.std.proofs.lemmas.List.{get_or_append_left}
+use Rattle.std.proofs.Common.{◌≡◌, ℕ, ◌+◌, ◌-◌, ◌<◌, Bool, true, false, List, ◌++◌, length, take, drop, get_or, refl, sym, ap, arith, length-append}
 use Rattle.std.specs.Prelude.{not}
 use Rattle.std.specs.Str.{bytes_eq}
 use Rattle.std.proofs.lemmas.Grind.{common_steps}
@@ -41,3 +42,8 @@ with-before_error_control true frame right =
     let same : drop (length frame - 2) frame ≡ error_control (take (length frame - 2) frame) =
     (bytes_eq-Decides (drop (length frame - 2) frame) (error_control (take (length frame - 2) frame))).0 (not_false (bytes_eq (drop (length frame - 2) frame) (error_control (take (length frame - 2) frame))) right) in
     rw (← same) (grind (arith, common_steps))
+
+-- an octet before the field
+pub get_or-with_error_control : (fecf : Bool) (octets : List ℕ) (i : ℕ) → i < length octets → get_or (with_error_control fecf octets) i 0 ≡ get_or octets i 0
+get_or-with_error_control false octets i h = refl
+get_or-with_error_control true octets i h = get_or_append_left octets (error_control octets) 0 i h

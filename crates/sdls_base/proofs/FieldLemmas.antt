@@ -1,5 +1,9 @@
 -- Octets of a header, one by one.
-use Rattle.std.proofs.Common.{◌≡◌, ℕ, ◌≤◌, ◌∷◌, List, [], ◌++◌, length, get_or, drop, refl, arith}
+use Rattle.std.proofs.Common.{◌≡◌, ℕ, zero, suc, ◌+◌, ◌*◌, ◌^◌, ◌<◌, ◌≤◌, Bool, true, false, ◌∷◌, List, [], ◌++◌, length, get_or, drop, refl, arith}
+use Rattle.std.specs.Prelude.{◌==◌}
+use Rattle.std.specs.Int.{w16, from_be_bytes}
+use mir.Val.{bool_byte}
+use Rattle.sdls_base.specs.Fields.{bit}
 
 pub cells_five : {a b c d e a' b' c' d' e' : ℕ} → a ≡ a' → b ≡ b' → c ≡ c' → d ≡ d' → e ≡ e' → (a ∷ b ∷ c ∷ d ∷ e ∷ []) ≡ (a' ∷ b' ∷ c' ∷ d' ∷ e' ∷ [])
 cells_five p q r s t = cc
@@ -24,3 +28,25 @@ front_six (a ∷ b ∷ c ∷ []) h = absurd (omega arith)
 front_six (a ∷ b ∷ c ∷ d ∷ []) h = absurd (omega arith)
 front_six (a ∷ b ∷ c ∷ d ∷ e ∷ []) h = absurd (omega arith)
 front_six (a ∷ b ∷ c ∷ d ∷ e ∷ f ∷ s) h = refl
+
+pub bit_small : (b : Bool) → bit b < 2
+bit_small false = omega arith
+bit_small true = omega arith
+
+-- a bit as it is read, and read again
+pub bit_of_digit : (m : ℕ) → m < 2 → bit (m == 1) ≡ m
+bit_of_digit zero h = refl
+bit_of_digit (suc zero) h = refl
+bit_of_digit (suc (suc m)) h = absurd (omega arith)
+
+pub digit_of_bit : (b : Bool) → (bit b == 1) ≡ b
+digit_of_bit false = refl
+digit_of_bit true = refl
+
+-- a bool as the code makes a number of it
+pub bool_byte_is : (b : Bool) → bool_byte b ≡ bit b
+bool_byte_is false = refl
+bool_byte_is true = refl
+
+pub word : (a b : ℕ) → from_be_bytes w16 (a ∷ b ∷ []) ≡ a * 2 ^ 8 + b
+word a b = omega arith

@@ -3,3 +3,4 @@ pub mod Suite
 pub mod ErrorControl
 pub mod Fields
 pub mod FrameFault
+pub mod ControlField

@@ -14,6 +14,7 @@ mod key_item;
 mod layout;
 mod lists;
 mod no_memory;
+mod ocf;
 mod octets;
 mod spi;
 mod states;
@@ -28,10 +29,11 @@ pub use key_item::KeyItem;
 pub use layout::{AosLayout, FrameFault, TcLayout, TmLayout};
 pub use lists::{ChannelList, KeyItems, KeyList, KeyRows};
 pub use no_memory::NoMemory;
+pub use ocf::cut_ocf;
 pub use octets::Octets;
 pub use spi::Spi;
 pub use states::{Direction, KeyState, SaState, Suite};
-pub use writing::{before_fecf, fecf_fails, flag, put, put_fecf};
+pub use writing::{before_fecf, fecf_fails, flag, put, put_fecf, put_optional};
 
 /// The most keys that a unit loads in its life (profile).
 pub const MOST_KEYS: usize = 512;

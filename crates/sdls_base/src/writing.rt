@@ -1,4 +1,4 @@
-ghost use Rattle.std.specs.Prelude.{◌≡◌, ◌+◌, ◌/◌, ◌%◌, ◌^◌, ◌<◌, ◌≤◌, ◌++◌, ◌==◌, length, take, drop};
+ghost use Rattle.std.specs.Prelude.{◌≡◌, ◌+◌, ◌/◌, ◌%◌, ◌^◌, ◌<◌, ◌≤◌, ◌++◌, ◌==◌, [], length, take, drop, unwrap_or, option_copied};
 ghost use Rattle.sdls_base.specs.ErrorControl.{with_error_control, before_error_control, error_control_length, fails_error_control};
 
 use crate::error_control::fecf;
@@ -62,4 +62,17 @@ pub fn flag(octet: u8, k: u32) -> bool
     ensures { result ≡ (octet / 2 ^ k % 2 == 1) }
 {
     (octet >> k) & 1 == 1
+}
+
+/// Writes a field that may be absent, as `put` does.
+pub fn put_optional(out: &mut [u8], at: usize, field: Option<&[u8]>) -> usize
+    requires { at + length (unwrap_or (option_copied field) []) ≤ length out.old }
+    ensures place { result ≡ at + length (unwrap_or (option_copied field.entry) []) }
+    ensures written { take result out.new ≡ take at out.old ++ unwrap_or (option_copied field.entry) [] }
+    ensures rest { drop result out.new ≡ drop result out.old }
+{
+    match field {
+        Some(octets) => put(out, at, octets),
+        None => at,
+    }
 }

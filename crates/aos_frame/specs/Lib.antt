@@ -1,0 +1,3 @@
+pub mod AosFrame
+pub mod FirstFault
+pub mod Reading
