@@ -1,17 +1,14 @@
 -- A frame without fault has the parts at its places, and a frame with parts has no fault.
-use Rattle.std.proofs.Common.{◌≡◌, ℕ, zero, suc, ◌+◌, ◌-◌, ◌*◌, ◌/◌, ◌%◌, ◌^◌, ◌≤◌, ◌<◌, Bool, true, false, List, [], ◌∷◌, ◌++◌, length, take, drop, get_or, refl, sym, ◌∙◌, ap, subst, arith, append_assoc, length-append, length-take-le, length-drop}
+use Rattle.std.proofs.Common.{◌≡◌, ℕ, ◌+◌, ◌-◌, ◌*◌, ◌/◌, ◌%◌, ◌^◌, ◌≤◌, ◌<◌, Bool, true, false, List, [], ◌∷◌, ◌++◌, length, take, drop, get_or, refl, sym, ◌∙◌, ap, arith, append_assoc, length-append, length-take-le, length-drop}
 use Rattle.std.proofs.lemmas.Bool.{le-ltb, ltb-false}
-use Rattle.std.specs.Prelude.{Option, Some, None, not, ◌==◌, nat_lt, unwrap_or, if◌then◌else◌}
-use Rattle.std.specs.Option.{option_map}
-use Rattle.std.proofs.lemmas.List.{take-append-drop, drop-drop, take-take, get_or-take}
-use Rattle.std.proofs.lemmas.Grind.{common_steps}
+use Rattle.std.specs.Prelude.{Some, None, not, ◌==◌, nat_lt, unwrap_or, if◌then◌else◌}
+use Rattle.std.proofs.lemmas.List.{get_or-take}
 use Rattle.sdls_base.specs.declared.layout.AosLayout.{AosLayout}
-use Rattle.sdls_base.specs.declared.layout.FrameFault.{FrameFault}
 use Rattle.sdls_base.specs.declared.layout.FrameFault.TheVariants.{Short, Long, Version, Spare, Fecf}
 use Rattle.sdls_base.specs.ErrorControl.{with_error_control, error_control_length, before_error_control, fails_error_control}
 use Rattle.sdls_base.specs.Fields.{bit, packed}
 use Rattle.sdls_base.proofs.Checks.{passes, passed, passed_later, same_if_passed, passed_if_same}
-use Rattle.sdls_base.proofs.Endings.{length-with_error_control, before_error_control-with, fails_error_control-with, with-before_error_control, take_front, drop_front, get_or-with_error_control}
+use Rattle.sdls_base.proofs.Endings.{before_error_control-with, fails_error_control-with, with-before_error_control, take_front, drop_front, get_or-with_error_control}
 use Rattle.sdls_base.proofs.FieldLemmas.{cells_six, front_six, bit_small, bit_of_digit, digit_of_bit}
 use Rattle.sdls_base.proofs.Pieces.{pieces_whole, get_or-take_small}
 use Rattle.sdls_base.proofs.ControlFields.{ocf_at-fits, ocf_at-octets, length-ocf, ocf_back}
@@ -48,10 +45,10 @@ faultless layout frame e =
 pub first_fault-none : (layout : AosLayout) (frame : List ℕ) → Faultless layout frame → first_fault layout frame ≡ None
 first_fault-none layout frame f =
     passes _ Short _ (le-ltb (length frame) layout.length (omega (arith, f.whole)))
-      (passes _ Long _ (le-ltb layout.length (length frame) (omega (arith, f.whole)))
-        (passes _ Version _ (passed_if_same (version_of frame) 1 f.version)
-          (passes _ Spare _ (passed_if_same (spare_of frame) 0 f.spare)
-            (passes _ Fecf _ f.error_control refl))))
+    (passes _ Long _ (le-ltb layout.length (length frame) (omega (arith, f.whole)))
+    (passes _ Version _ (passed_if_same (version_of frame) 1 f.version)
+    (passes _ Spare _ (passed_if_same (spare_of frame) 0 f.spare)
+    (passes _ Fecf _ f.error_control refl))))
 
 -- the primary header of the parts at their places is the first six octets
 header_at : (layout : AosLayout) (body : List ℕ) → ((i : ℕ) → get_or body i 0 < 256) → version_of body ≡ 1 → spare_of body ≡ 0
@@ -162,15 +159,15 @@ parts_in_cells layout p fits =
     let rb : bit p.replay < 2 = bit_small p.replay in
     let ub : bit p.cycle_use < 2 = bit_small p.cycle_use in
     same_parts
-      (omega (arith, fits.spacecraft, fits.channel))
-      (omega (arith, fits.spacecraft, fits.channel))
-      (omega (arith, fits.count))
-      (ap (λ n. n == 1) (replay_digit (bit p.replay) (bit p.cycle_use) p.cycle rb ub fits.cycle) ∙ digit_of_bit p.replay)
-      (ap (λ n. n == 1) (use_digit (bit p.replay) (bit p.cycle_use) p.cycle rb ub fits.cycle) ∙ digit_of_bit p.cycle_use)
-      (cycle_digits (bit p.replay) (bit p.cycle_use) p.cycle rb ub fits.cycle)
-      (ap (λ l. take layout.insert l) (append_assoc p.insert p.room tail) ∙ take_front p.insert (p.room ++ tail) layout.insert (sym fits.insert))
-      (ap (λ l. drop (6 + layout.insert) l) before ∙ drop_front (cells_of p ++ p.insert) p.room (6 + layout.insert) start)
-      (ap (λ l. if layout.ocf then Some l else None) after ∙ ocf_back layout.ocf p.ocf fits.ocf)
+    (omega (arith, fits.spacecraft, fits.channel))
+    (omega (arith, fits.spacecraft, fits.channel))
+    (omega (arith, fits.count))
+    (ap (λ n. n == 1) (replay_digit (bit p.replay) (bit p.cycle_use) p.cycle rb ub fits.cycle) ∙ digit_of_bit p.replay)
+    (ap (λ n. n == 1) (use_digit (bit p.replay) (bit p.cycle_use) p.cycle rb ub fits.cycle) ∙ digit_of_bit p.cycle_use)
+    (cycle_digits (bit p.replay) (bit p.cycle_use) p.cycle rb ub fits.cycle)
+    (ap (λ l. take layout.insert l) (append_assoc p.insert p.room tail) ∙ take_front p.insert (p.room ++ tail) layout.insert (sym fits.insert))
+    (ap (λ l. drop (6 + layout.insert) l) before ∙ drop_front (cells_of p ++ p.insert) p.room (6 + layout.insert) start)
+    (ap (λ l. if layout.ocf then Some l else None) after ∙ ocf_back layout.ocf p.ocf fits.ocf)
 
 -- a frame with parts has no fault, and the parts are at their places
 pub frame_parts : (layout : AosLayout) (p : AosParts) (frame : List ℕ) → AosFrame layout p frame
@@ -185,15 +182,16 @@ frame_parts layout p frame is =
     let first : get_or frame 0 0 ≡ 64 + p.spacecraft / 4 = ap (λ l. get_or l 0 0) spelled ∙ get_or-with_error_control layout.fecf (body_of_cells p) 0 (omega arith) in
     let sixth : get_or frame 5 0 ≡ bit p.replay * 2 ^ 7 + bit p.cycle_use * 2 ^ 6 + p.cycle = ap (λ l. get_or l 5 0) spelled ∙ get_or-with_error_control layout.fecf (body_of_cells p) 5 (omega arith) in
     let faultless : Faultless layout frame = record {
-        whole = ap length is.spelled ∙ fits.whole;
-        version = ap (λ n. n / 64) first ∙ omega (arith, fits.spacecraft);
-        spare = ap (λ n. n / 16 % 4) sixth ∙ spare_digits (bit p.replay) (bit p.cycle_use) p.cycle rb ub fits.cycle;
-        error_control = ap (λ l. fails_error_control layout.fecf l) spelled ∙ fails_error_control-with layout.fecf (body_of_cells p);
-      } in
-    (first_fault-none layout frame faultless,
+      whole = ap length is.spelled ∙ fits.whole;
+      version = ap (λ n. n / 64) first ∙ omega (arith, fits.spacecraft);
+      spare = ap (λ n. n / 16 % 4) sixth ∙ spare_digits (bit p.replay) (bit p.cycle_use) p.cycle rb ub fits.cycle;
+      error_control = ap (λ l. fails_error_control layout.fecf l) spelled ∙ fails_error_control-with layout.fecf (body_of_cells p);
+    } in (
+      first_fault-none layout frame faultless,
       ap (λ l. parts_in layout (before_error_control layout.fecf l)) spelled
-      ∙ ap (λ l. parts_in layout l) (before_error_control-with layout.fecf (body_of_cells p))
-      ∙ parts_in_cells layout p fits)
+          ∙ ap (λ l. parts_in layout l) (before_error_control-with layout.fecf (body_of_cells p))
+          ∙ parts_in_cells layout p fits,
+    )
 
 -- the prefix stands in front of the octets before the error control field
 pub prefix_at : (layout : AosLayout) (p : AosParts) (frame : List ℕ) → AosFrame layout p frame

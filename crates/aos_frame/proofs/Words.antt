@@ -1,6 +1,6 @@
 -- Parts that are the same, field by field, and numbers from octets.
-use Rattle.std.proofs.Common.{◌≡◌, ℕ, ◌+◌, ◌*◌, ◌/◌, ◌%◌, ◌^◌, ◌<◌, List, [], ◌∷◌, refl, arith, ◌∙◌, ap}
-use Rattle.std.specs.Prelude.{Bool, bit_or}
+use Rattle.std.proofs.Common.{◌≡◌, ℕ, ◌+◌, ◌*◌, ◌/◌, ◌%◌, ◌^◌, ◌<◌, [], ◌∷◌, arith, ◌∙◌, ap}
+use Rattle.std.specs.Prelude.{bit_or}
 use Rattle.std.proofs.lemmas.Nat.{or_shifted}
 use Rattle.std.specs.Int.{w32, from_be_bytes}
 use Rattle.sdls_base.specs.Fields.{bit, packed}
@@ -15,15 +15,15 @@ three a b c = omega arith
 
 cells : (sc ch cnt cy r u : ℕ) → sc < 2 ^ 8 → ch < 2 ^ 6 → cnt < 2 ^ 24 → cy < 2 ^ 4 → r < 2 → u < 2
     → packed ((2, 1) ∷ (8, sc) ∷ (6, ch) ∷ (24, cnt) ∷ (1, r) ∷ (1, u) ∷ (2, 0) ∷ (4, cy) ∷ [])
-      ≡ ((64 + sc / 4) ∷ (sc % 4 * 64 + ch) ∷ (cnt / 2 ^ 16) ∷ (cnt / 2 ^ 8 % 2 ^ 8) ∷ (cnt % 2 ^ 8) ∷ (r * 2 ^ 7 + u * 2 ^ 6 + cy) ∷ [])
+    ≡ ((64 + sc / 4) ∷ (sc % 4 * 64 + ch) ∷ (cnt / 2 ^ 16) ∷ (cnt / 2 ^ 8 % 2 ^ 8) ∷ (cnt % 2 ^ 8) ∷ (r * 2 ^ 7 + u * 2 ^ 6 + cy) ∷ [])
 unfolding packed
 cells sc ch cnt cy r u h0 h1 h2 h3 h4 h5 = cells_six (omega arith) (omega arith) (omega arith) (omega arith) (omega arith) (omega arith)
 
 -- the six octets of a primary header
 pub header_cells : (p : AosParts) → p.spacecraft < 2 ^ 8 → p.channel < 2 ^ 6 → p.count < 2 ^ 24 → p.cycle < 2 ^ 4
     → packed (primary_header p)
-      ≡ ((64 + p.spacecraft / 4) ∷ (p.spacecraft % 4 * 64 + p.channel) ∷ (p.count / 2 ^ 16) ∷ (p.count / 2 ^ 8 % 2 ^ 8) ∷ (p.count % 2 ^ 8)
-        ∷ (bit p.replay * 2 ^ 7 + bit p.cycle_use * 2 ^ 6 + p.cycle) ∷ [])
+    ≡ ((64 + p.spacecraft / 4) ∷ (p.spacecraft % 4 * 64 + p.channel) ∷ (p.count / 2 ^ 16) ∷ (p.count / 2 ^ 8 % 2 ^ 8) ∷ (p.count % 2 ^ 8)
+    ∷ (bit p.replay * 2 ^ 7 + bit p.cycle_use * 2 ^ 6 + p.cycle) ∷ [])
 header_cells p sc ch cnt cy = cells p.spacecraft p.channel p.count p.cycle (bit p.replay) (bit p.cycle_use) sc ch cnt cy (bit_small p.replay) (bit_small p.cycle_use)
 
 -- the words as the code puts them together

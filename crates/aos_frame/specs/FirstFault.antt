@@ -1,5 +1,5 @@
 -- The checks of an AOS transfer frame, in their order (profile; the layout is that of CCSDS 732.0-B).
-use Rattle.std.specs.Prelude.{ℕ, ◌/◌, ◌%◌, Bool, not, ◌==◌, nat_lt, List, [], ◌∷◌, length, slice_index, Option}
+use Rattle.std.specs.Prelude.{ℕ, ◌/◌, ◌%◌, not, ◌==◌, nat_lt, List, [], ◌∷◌, length, slice_index, Option}
 use Rattle.sdls_base.specs.declared.layout.AosLayout.{AosLayout}
 use Rattle.sdls_base.specs.declared.layout.FrameFault.{FrameFault}
 use Rattle.sdls_base.specs.declared.layout.FrameFault.TheVariants.{Short, Long, Version, Spare, Fecf}

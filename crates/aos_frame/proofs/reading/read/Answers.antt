@@ -1,9 +1,9 @@
-use Rattle.std.proofs.Common.{◌≡◌, ◌<◌, ℕ, List, ◌++◌, [], ap, sym, ◌∙◌, subst, arith, get_or, take, ◌+◌}
-use Rattle.std.specs.Prelude.{None, Some, unwrap_or}
-use Rattle.sdls_base.specs.ErrorControl.{with_error_control, before_error_control}
-use Rattle.aos_frame.specs.AosFrame.{AosParts, AosFrame, view, prefix_of}
+use Rattle.std.proofs.Common.{◌≡◌, ◌++◌, [], ap, sym, ◌∙◌, subst, arith, take, ◌+◌}
+use Rattle.std.specs.Prelude.{None, unwrap_or}
+use Rattle.sdls_base.specs.ErrorControl.{with_error_control}
+use Rattle.aos_frame.specs.AosFrame.{AosFrame, view}
 use Rattle.aos_frame.specs.FirstFault.{first_fault}
-use Rattle.aos_frame.specs.Reading.{parts_in, parts_at}
+use Rattle.aos_frame.specs.Reading.{parts_in}
 use Rattle.aos_frame.proofs.Frames.{frame_at, frame_parts, prefix_at}
 use Rattle.aos_frame.proofs.reading.read.Goals as goal
 
@@ -15,8 +15,8 @@ returns-in-Some-clause-only c = λ parts is.
 pub returns-in-None-clause-found : goal.returns-in-None-clause-found
 returns-in-None-clause-found c =
     subst (λ p. AosFrame c.args.layout.now p c.args.frame.now)
-      (sym (c.parts_of.ensures.parts ∙ ap (λ body. parts_in c.args.layout.now body) c.before_fecf.ensures))
-      (frame_at c.args.layout.now c.args.frame.now c.requires (λ i. omega (arith, c.type_inv.frame i)) (sym c.in-None.ensures))
+    (sym (c.parts_of.ensures.parts ∙ ap (λ body. parts_in c.args.layout.now body) c.before_fecf.ensures))
+    (frame_at c.args.layout.now c.args.frame.now c.requires (λ i. omega (arith, c.type_inv.frame i)) (sym c.in-None.ensures))
 
 pub returns-in-None-clause-prefix : goal.returns-in-None-clause-prefix
 returns-in-None-clause-prefix c =

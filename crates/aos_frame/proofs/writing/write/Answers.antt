@@ -1,7 +1,7 @@
-use Rattle.std.proofs.Common.{◌≡◌, ◌++◌, List, ℕ, [], ap, ◌∙◌, drop}
+use Rattle.std.proofs.Common.{◌++◌, [], ap, ◌∙◌, drop}
 use Rattle.std.specs.Prelude.{unwrap_or}
 use Rattle.sdls_base.specs.ErrorControl.{with_error_control}
-use Rattle.sdls_base.proofs.Pieces.{Written, written_none, written_more, written_error_control, written_whole}
+use Rattle.sdls_base.proofs.Pieces.{written_none, written_more, written_error_control, written_whole}
 use Rattle.aos_frame.specs.AosFrame.{view}
 use Rattle.aos_frame.proofs.writing.write.Goals as goal
 
