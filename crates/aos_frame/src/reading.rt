@@ -62,6 +62,7 @@ pub fn read<'a>(frame: &'a [u8], layout: &AosLayout) -> Result<Parts<'a>, FrameF
     // What is read is a frame with these parts, octet for octet.
     ensures found { IfOk result (λ parts. AosFrame layout.now (view parts) frame.now) }
     ensures prefix { IfOk result (λ parts. parts.prefix.now ≡ prefix_of (view parts)) }
+    ensures prefix_length { IfOk result (λ parts. length parts.prefix.now ≡ 6 + layout.now.insert) }
     ensures whole { IfOk result (λ parts. frame.now ≡ with_error_control layout.now.fecf
         (parts.prefix.now ++ parts.room.now ++ unwrap_or (view parts).ocf [])) }
 
