@@ -1,5 +1,10 @@
+ghost use Rattle.std.specs.Prelude.{◌≤◌};
+
+mod plain;
+
 use crate::{BadTag, open_in_place, seal_in_place};
-use aes_block::Schedule;
+use aes_block::{KeyLength, Schedule};
+use plain::plain_seal;
 use std::test::Fail;
 
 // Texts are written in blocks, and filled up with zeros past their lengths in octets.
@@ -145,6 +150,13 @@ fn octets_of(blocks: &[u128; 4]) -> [u8; 64] {
     octets
 }
 
+fn schedule_of(key: &[u128; 2], len: usize) -> Result<Schedule, KeyLength>
+    requires { len ≤ 32 }
+{
+    let octets = octets_of(&[key[0], key[1], 0, 0]);
+    Schedule::new(&octets[..len])
+}
+
 fn vector_of(iv: u128) -> [u8; 12] {
     let [_, _, _, _, a, b, c, d, e, f, g, h, i, j, k, l] = iv.to_be_bytes();
     [a, b, c, d, e, f, g, h, i, j, k, l]
@@ -155,8 +167,7 @@ fn seals_and_opens_the_published_cases(rt: HostRuntime) -> Result<(), Fail> {
     let aad = octets_of(&[AAD[0], AAD[1], 0, 0]);
     for case in &CASES {
         assert!(rt; case.key_len <= 32 && case.aad_len <= 20 && case.text_len <= 64);
-        let key = octets_of(&[case.key[0], case.key[1], 0, 0]);
-        let key = Schedule::new(&key[..case.key_len])?;
+        let key = schedule_of(&case.key, case.key_len)?;
         let iv = vector_of(case.iv);
         let aad = &aad[..case.aad_len];
         let clear = octets_of(&case.text);
@@ -181,6 +192,28 @@ fn seals_and_opens_the_published_cases(rt: HostRuntime) -> Result<(), Fail> {
             case.name
         );
         assert_eq!(rt; &*text, &clear[..case.text_len], "case {}", case.name);
+    }
+    Ok(())
+}
+
+#[test]
+fn equals_a_plain_gcm_at_each_pair_of_lengths(rt: HostRuntime) -> Result<(), Fail> {
+    let key = schedule_of(&[KEY, KEY], 32)?;
+    let iv = vector_of(IV);
+    let mut octets = [0u8; 65];
+    for i in 0..65 {
+        octets[i] = (i as u8).wrapping_mul(29);
+    }
+    for text_len in 0..66 {
+        for aad_len in 0..34 {
+            let mut text = octets;
+            let mut plain = octets;
+            let aad = &octets[..aad_len];
+            let tag = seal_in_place(&key, &iv, aad, &mut text[..text_len]);
+            let plain_tag = plain_seal(rt.alloc(), &key, &iv, aad, &mut plain[..text_len])?;
+            assert_eq!(rt; tag, plain_tag, "{text_len} and {aad_len}");
+            assert_eq!(rt; text, plain, "{text_len} and {aad_len}");
+        }
     }
     Ok(())
 }
