@@ -1,7 +1,7 @@
 -- What each kind of crash leaves is one of the images that a crash may leave.
 use Rattle.std.proofs.Common.{◌≡◌, ℕ, ◌≤◌, List, length, refl, sym, ◌∙◌, subst, arith}
 use Rattle.sdls_outside.specs.Disk.{Disk, Leaves}
-use Rattle.sdls_outside.specs.Crash.{LeftBy, IsFilled}
+use Rattle.sdls_outside.specs.Crash.{LeftBy}
 use Rattle.sdls_outside.specs.declared.crash.Crash.{Crash}
 use Rattle.sdls_outside.specs.declared.crash.Crash.TheVariants.{Kept, Lost, Filled}
 

@@ -1,10 +1,9 @@
 -- Moments of a run that goes on, for this crate's laws and the crates above.
 use Rattle.std.proofs.Common.{◌≡◌, ℕ, suc, zero, ◌<◌, ◌+◌, ◌-◌, ◌≤◌, ◌⊎◌, List, [], ◌∷◌, ◌++◌, length, get_or, min, take, drop, refl, sym, ◌∙◌, ap, subst, inl, inr, arith, Result, Ok, Err, length-append}
-use Rattle.std.specs.Result.{MatchResult}
 use Rattle.std.proofs.lemmas.List.{drop-append-le, drop_at, drop-drop, drop_all, take_all, take_at, take-take, length-take, ext_get_or}
 use Rattle.sdls_outside.specs.Disk.{Disk, Leaves, IsSynced, Outside}
 use Rattle.sdls_outside.specs.Moments.{Trace, clock, Between, sunk_next, Moments, MomentSince, EachMoment, Continues}
-use Rattle.sdls_outside.specs.Site.{Passes, Wrote, Writes, Synced, Syncs, Sank, Puts}
+use Rattle.sdls_outside.specs.Site.{Passes, Wrote, Writes, Syncs, Sank, Puts}
 
 -- all that was sunk before a call, and nothing of what it adds
 pub between-old : (old new : List ℕ) → take (length old) new ≡ old → Between old new old

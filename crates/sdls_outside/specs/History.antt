@@ -1,5 +1,5 @@
 -- The trace that a site in memory keeps (profile).
-use Rattle.std.specs.Prelude.{ℕ, List, map}
+use Rattle.std.specs.Prelude.{map}
 use Rattle.std.specs.Option.{option_map_or}
 use Rattle.sdls_outside.specs.Disk.{Disk}
 use Rattle.sdls_outside.specs.Moments.{Trace}

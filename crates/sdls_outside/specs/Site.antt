@@ -1,6 +1,6 @@
 -- What each call on a site does to its trace (profile).
 use Rattle.std.specs.Prelude.{◌≡◌, ℕ, ◌+◌, ◌≤◌, ◌⊎◌, List, [], ◌∷◌, ◌++◌, length, take, drop, max, Result, MatchResult}
-use Rattle.sdls_outside.specs.Disk.{Disk, IsSynced}
+use Rattle.sdls_outside.specs.Disk.{IsSynced}
 use Rattle.sdls_outside.specs.Moments.{Trace, Between}
 
 -- the image with these octets at this place, over what was there and past its end

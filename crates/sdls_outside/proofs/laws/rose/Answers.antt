@@ -1,4 +1,4 @@
-use Rattle.std.proofs.Common.{◌≡◌, ℕ, ◌+◌, ◌-◌, ◌^◌, ◌<◌, ◌≤◌, ◌⊎◌, min, inl, inr, arith}
+use Rattle.std.proofs.Common.{◌≡◌, ℕ, ◌-◌, ◌^◌, ◌<◌, ◌⊎◌, inl, inr, arith}
 use Rattle.sdls_outside.specs.Faults.{Rose}
 use Rattle.std.proofs.lemmas.Bool.{cases_lt}
 use Rattle.sdls_outside.proofs.laws.rose.Goals as goal

@@ -1,5 +1,5 @@
 -- What was copied is the front of what was left.
-use Rattle.std.proofs.Common.{◌≡◌, ℕ, ◌+◌, ◌-◌, ◌≤◌, ◌++◌, length, take, drop, List, refl, sym, ◌∙◌, ap, arith, min}
+use Rattle.std.proofs.Common.{◌≡◌, ℕ, ◌+◌, ◌-◌, ◌≤◌, ◌++◌, length, take, drop, List, sym, ◌∙◌, ap, arith, min}
 use Rattle.std.proofs.lemmas.List.{take-append-drop, take_at, drop-drop, take_rest}
 use Rattle.std.proofs.lemmas.Grind.{common_steps}
 use Rattle.sdls_outside.proofs.sure_source.SureSource.move_front.Goals as goal
