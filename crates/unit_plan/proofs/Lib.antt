@@ -1,0 +1,2 @@
+pub mod PartsFacts
+pub mod NumberFacts
