@@ -8,8 +8,10 @@
 mod lines;
 mod number;
 mod reading;
+mod telecommand;
 
 pub use lines::{Lines, Words};
+pub use telecommand::TelecommandPlan;
 
 /// The most octets of a plan.
 pub const MOST_OCTETS: usize = 65_536;

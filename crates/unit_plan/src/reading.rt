@@ -6,6 +6,7 @@ use crate::lines::Words;
 use crate::number::number_of;
 
 /// Passes over these words where they come next.
+#[tactic(auto, unfolding(crate::specs::Reading::past))]
 pub(crate) fn pass(words: &mut Words<'_>, expected: &[u8]) -> Option<()>
     ensures { Reads result (past (words_of expected.now) words.old) words.new }
 {
