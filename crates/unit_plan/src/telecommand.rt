@@ -129,3 +129,34 @@ fn association(lines: &mut Lines<'_>, key: KeyId) -> Option<(Spi, u64)>
     ended(&mut words)?;
     Some((Spi::new(spi as u16)?, first))
 }
+
+#[tactic(auto, unfolding(crate::specs::TelecommandReading::plan_at))]
+fn nine_lines(lines: &mut Lines<'_>) -> Option<TelecommandPlan>
+    ensures { result ≡ plan_at lines.old }
+{
+    version(lines)?;
+    let device = device(lines)?;
+    let slots = named_number(lines, b"slots", 16, 65_536)?;
+    let block = named_number(lines, b"block", 1, 65_536)?;
+    let accept = named_number(lines, b"accept", 1, 65_536)?;
+    link(lines)?;
+    let (spacecraft, channel, map) = channel(lines)?;
+    let (key, key_octets) = key(lines)?;
+    let (spi, number) = association(lines, key)?;
+    if lines.next().is_some() {
+        return None;
+    }
+    Some(TelecommandPlan {
+        device,
+        slots: slots as u32,
+        block,
+        accept,
+        spacecraft,
+        channel,
+        map,
+        key,
+        key_octets,
+        spi,
+        number,
+    })
+}
