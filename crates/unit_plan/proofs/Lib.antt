@@ -1,0 +1,4 @@
+pub mod PartsFacts
+pub mod NumberFacts
+pub mod ReadingFacts
+pub mod TelecommandLaws
