@@ -1,0 +1,2 @@
+pub mod Authenticated
+pub mod SecurityHeader

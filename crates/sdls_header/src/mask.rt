@@ -1,0 +1,15 @@
+ghost use Rattle.std.specs.Prelude.{◌≡◌, ℕ, ◌<◌, length, slice_index, bit_and};
+ghost use Rattle.sdls_header.specs.Authenticated.{masked_octets};
+
+/// Puts each octet of a frame's prefix under its octet of the mask (CCSDS 355.0-B, authentication bit mask) into `out`.
+/// Past the mask's end the mask is 00; what the mask has past the prefix is not looked at.
+pub fn masked(prefix: &[u8], mask: &[u8], out: &mut [u8])
+    requires { length prefix.now ≡ length out.old }
+    ensures octets { (i : ℕ) → i < length prefix.now
+        → slice_index out.new i ≡ bit_and (slice_index prefix.now i) (slice_index mask.now i) }
+    ensures text { out.new ≡ masked_octets prefix.now mask.now }
+{
+    for (i, octet) in prefix.iter().enumerate() {
+        out[i] = *octet & mask.get(i).copied().unwrap_or(0);
+    }
+}
