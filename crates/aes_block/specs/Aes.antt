@@ -1,4 +1,4 @@
--- The block cipher AES (FIPS 197), with keys of 128 and 256 bits. An octet is an element of GF(2^8):
+-- The block cipher AES (FIPS 197, 2023), with keys of 128 and 256 bits. An octet is an element of GF(2^8):
 -- a number whose bit i is the coefficient of x^i. A word is four octets, the first highest. The state
 -- is a list of 16 octets, column by column.
 use Rattle.std.specs.Prelude.{◌≡◌, ◌⊎◌, ℕ, zero, suc, ◌+◌, ◌-◌, ◌*◌, ◌/◌, ◌%◌, ◌^◌, ◌==◌, ◌&&◌, if◌then◌else◌, List, [], ◌∷◌, ◌++◌, map, length, slice_index, bit_xor}
@@ -7,7 +7,7 @@ use Rattle.std.specs.Int.{w32, bit_at, rotate_left, to_be_bytes, from_be_bytes}
 
 -- ---- the field GF(2^8), modulo x^8 + x^4 + x^3 + x + 1
 
--- x times a (4.2.1)
+-- x times a (4.2)
 abbrev pub doubled : ℕ → ℕ
 doubled a = bit_xor (2 * a) (a / 128 * 0x11b)
 

@@ -1,4 +1,4 @@
-ghost use Rattle.std.specs.Prelude.{◌≡◌, ◌↔◌, length, IfOk, IfErr, IsOk};
+ghost use Rattle.std.specs.Prelude.{◌≡◌, ◌↔◌, length, Some, codes, IfOk, IfErr, IsOk};
 ghost use Rattle.aes_block.specs.Aes.{IsKeyLength, encrypted};
 
 use crate::cipher::encrypt_words;
@@ -11,9 +11,10 @@ use std::marker::Model;
 pub struct KeyLength(pub usize);
 
 impl fmt::Display for KeyLength {
+    ghost output = { λ _. Some (codes "the key has neither 16 nor 32 octets") };
+
     fn fmt<W: fmt::Write>(&self, f: &mut fmt::Formatter<W>) -> fmt::Result {
-        let length = self.0;
-        write!(f, "a key of {length} octets, not of 16 or 32")
+        f.write_str("the key has neither 16 nor 32 octets")
     }
 }
 

@@ -7,7 +7,7 @@ use Rattle.std.proofs.lemmas.List.{length-set, get_or-set_same, get_or-set_other
 use Rattle.std.proofs.lemmas.List.FromFn.{fill_by_all, length-map-range_with_len, get_or-map-range_with_len}
 use Rattle.std.proofs.lemmas.Bool.{cases_lt, cases_eq}
 use Rattle.aes_block.specs.Aes.{encrypted}
-use Rattle.gcm.specs.Gcm.{counter_block, counted_octet, counted}
+use Rattle.gcm.specs.Gcm.{counter_block, gctr_octet, gctr}
 use Rattle.gcm.specs.Counter.{XorsPad, IsCounted}
 
 -- a list by its elements
@@ -97,29 +97,29 @@ counted_more key iv pad old now new i is counts xors = record {
 }
 
 pub counted_all : (key iv old new : List ℕ) (stop : ℕ) → length old ≤ stop → IsCounted key iv old new stop
-    → new ≡ counted key iv old
-unfolding counted
+    → new ≡ gctr key iv old
+unfolding gctr
 counted_all key iv old new stop le counts =
-    fill_by_all (counted_octet key iv old) new (length old) 0 counts.same_length
+    fill_by_all (gctr_octet key iv old) new (length old) 0 counts.same_length
     (λ k lt. counts.below k (omega arith) lt)
 
 -- ---- twice
 
-pub length-counted : (key iv text : List ℕ) → length (counted key iv text) ≡ length text
-unfolding counted
-length-counted key iv text = length-map-range_with_len (counted_octet key iv text) 0 (length text)
+pub length-gctr : (key iv text : List ℕ) → length (gctr key iv text) ≡ length text
+unfolding gctr
+length-gctr key iv text = length-map-range_with_len (gctr_octet key iv text) 0 (length text)
 
 xor_twice : (a b : ℕ) → bit_xor (bit_xor a b) b ≡ a
 xor_twice a b = xor_assoc a b b ∙ ap (bit_xor a) (xor_self b) ∙ xor_zero_r a
 
-pub counted_twice : (key iv text : List ℕ) → counted key iv (counted key iv text) ≡ text
-unfolding counted
+pub counted_twice : (key iv text : List ℕ) → gctr key iv (gctr key iv text) ≡ text
+unfolding gctr
 counted_twice key iv text =
-    let once : List ℕ = counted key iv text in
-    ap (λ (n : ℕ). map (counted_octet key iv once) (range_with_len 0 n)) (length-counted key iv text)
-    ∙ sym (fill_by_all (counted_octet key iv once) text (length text) 0 refl
+    let once : List ℕ = gctr key iv text in
+    ap (λ (n : ℕ). map (gctr_octet key iv once) (range_with_len 0 n)) (length-gctr key iv text)
+    ∙ sym (fill_by_all (gctr_octet key iv once) text (length text) 0 refl
     (λ k lt.
     let pad : ℕ = slice_index (encrypted key (counter_block iv (k / 16 + 1))) (k % 16) in
     sym (ap (λ (o : ℕ). bit_xor o pad)
-    (get_or-map-range_with_len (counted_octet key iv text) 0 (length text) k k 0 lt (omega arith))
+    (get_or-map-range_with_len (gctr_octet key iv text) 0 (length text) k k 0 lt (omega arith))
     ∙ xor_twice (slice_index text k) pad)))

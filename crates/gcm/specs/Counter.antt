@@ -1,6 +1,6 @@
 -- A pad xored into a text, and a text that is enciphered as far as some octet.
 use Rattle.std.specs.Prelude.{◌≡◌, ℕ, ◌-◌, ◌<◌, ◌≤◌, List, length, slice_index, bit_xor}
-use Rattle.gcm.specs.Gcm.{counted_octet}
+use Rattle.gcm.specs.Gcm.{gctr_octet}
 
 -- the octets from start up to stop are xored with the pad's, and the others stay
 pub record XorsPad (start stop : ℕ) (pad old new : List ℕ) : Type 0 where
@@ -13,5 +13,5 @@ pub record XorsPad (start stop : ℕ) (pad old new : List ℕ) : Type 0 where
 -- the octets below stop are enciphered, and the others are still to come
 pub record IsCounted (key iv old new : List ℕ) (stop : ℕ) : Type 0 where
   pub same_length : length new ≡ length old
-  pub below : (k : ℕ) → k < stop → k < length old → slice_index new k ≡ counted_octet key iv old k
+  pub below : (k : ℕ) → k < stop → k < length old → slice_index new k ≡ gctr_octet key iv old k
   pub above : (k : ℕ) → stop ≤ k → slice_index new k ≡ slice_index old k

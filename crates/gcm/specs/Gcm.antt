@@ -29,8 +29,8 @@ abbrev pub hashed : List ℕ → List ℕ → List ℕ
 hashed aad text = padded aad ++ padded text ++ lengths (length aad) (length text)
 
 -- the hash subkey H (7.1, step 1)
-abbrev pub hash_key : List ℕ → ℕ
-hash_key key = from_be_bytes w128 (encrypted key (replicate 16 0))
+abbrev pub hash_subkey : List ℕ → ℕ
+hash_subkey key = from_be_bytes w128 (encrypted key (replicate 16 0))
 
 -- ---- counter mode
 
@@ -39,28 +39,28 @@ abbrev pub counter_block : List ℕ → ℕ → List ℕ
 counter_block iv i = iv ++ to_be_bytes w32 ((1 + i) % 2 ^ 32)
 
 -- octet k of the text, xored with that of the enciphered counter blocks, which begin after J0 (6.5)
-abbrev pub counted_octet : List ℕ → List ℕ → List ℕ → ℕ → ℕ
-counted_octet key iv text k =
+abbrev pub gctr_octet : List ℕ → List ℕ → List ℕ → ℕ → ℕ
+gctr_octet key iv text k =
     bit_xor (slice_index text k) (slice_index (encrypted key (counter_block iv (k / 16 + 1))) (k % 16))
 
 -- the text, enciphered or deciphered
-unfoldable pub counted : List ℕ → List ℕ → List ℕ → List ℕ
-counted key iv text = map (counted_octet key iv text) (range_with_len 0 (length text))
+unfoldable pub gctr : List ℕ → List ℕ → List ℕ → List ℕ
+gctr key iv text = map (gctr_octet key iv text) (range_with_len 0 (length text))
 
 -- ---- sealing and opening
 
 -- the tag of a ciphertext (7.1, step 6)
 unfoldable pub tag_of : List ℕ → List ℕ → List ℕ → List ℕ → List ℕ
 tag_of key iv aad text =
-    let hash = ghash (hash_key key) (blocks (hashed aad text)) in
+    let hash = ghash (hash_subkey key) (blocks (hashed aad text)) in
     let mask = from_be_bytes w128 (encrypted key (counter_block iv 0)) in
     to_be_bytes w128 (bit_xor hash mask)
 
 -- the ciphertext of the data and its tag (7.1)
 abbrev pub gcm_seal : List ℕ → List ℕ → List ℕ → List ℕ → List ℕ × List ℕ
-gcm_seal key iv aad text = (counted key iv text, tag_of key iv aad (counted key iv text))
+gcm_seal key iv aad text = (gctr key iv text, tag_of key iv aad (gctr key iv text))
 
 -- the data of a ciphertext, where the tag is the right one (7.2)
 abbrev pub gcm_open : List ℕ → List ℕ → List ℕ → List ℕ → List ℕ → Option (List ℕ)
 gcm_open key iv aad text tag =
-    if bytes_eq tag (tag_of key iv aad text) then Some (counted key iv text) else None
+    if bytes_eq tag (tag_of key iv aad text) then Some (gctr key iv text) else None

@@ -1,7 +1,7 @@
 // Counter mode (SP 800-38D, 6.2 and 6.5).
 
 ghost use Rattle.std.specs.Prelude.{◌≡◌, ℕ, ◌+◌, ◌-◌, ◌*◌, ◌<◌, ◌≤◌, length};
-ghost use Rattle.gcm.specs.Gcm.{counted, counter_block};
+ghost use Rattle.gcm.specs.Gcm.{gctr, counter_block};
 ghost use Rattle.gcm.specs.Counter.{XorsPad};
 
 use aes_block::Schedule;
@@ -29,7 +29,7 @@ fn xor_pad(text: &mut [u8], start: usize, pad: [u8; 16])
 /// Enciphers the text where it lies; a second time deciphers it.
 pub fn count_over(key: &Schedule, iv: &[u8; 12], text: &mut [u8])
     requires { length text.old ≤ 65536 }
-    ensures { text.new ≡ counted key.now iv.now text.old }
+    ensures { text.new ≡ gctr key.now iv.now text.old }
 {
     'blocks: for i in 0..text.len().div_ceil(16) {
         let pad = key.encrypt(counter_block(iv, i as u32 + 1));

@@ -1,4 +1,4 @@
-ghost use Rattle.std.specs.Prelude.{◌≡◌, ℕ, ◌≤◌, ◌↔◌, List, length, Some, None, IsErr, OnOk, OnErr};
+ghost use Rattle.std.specs.Prelude.{◌≡◌, ℕ, ◌≤◌, ◌↔◌, List, length, Some, None, codes, IsErr, OnOk, OnErr};
 ghost use Rattle.gcm.specs.Gcm.{gcm_open, gcm_seal, tag_of};
 
 use crate::counter::{count_over, counter_block};
@@ -11,8 +11,10 @@ use std::fmt;
 pub struct BadTag;
 
 impl fmt::Display for BadTag {
+    ghost output = { λ _. Some (codes "the tag is not the ciphertext's") };
+
     fn fmt<W: fmt::Write>(&self, f: &mut fmt::Formatter<W>) -> fmt::Result {
-        write!(f, "the tag is not the ciphertext's")
+        f.write_str("the tag is not the ciphertext's")
     }
 }
 

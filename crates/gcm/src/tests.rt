@@ -4,7 +4,6 @@ mod plain;
 
 use crate::{BadTag, open_in_place, seal_in_place};
 use aes_block::{KeyLength, Schedule};
-use plain::plain_seal;
 use std::test::Fail;
 
 // Texts are written in blocks, and filled up with zeros past their lengths in octets.
@@ -192,28 +191,6 @@ fn seals_and_opens_the_published_cases(rt: HostRuntime) -> Result<(), Fail> {
             case.name
         );
         assert_eq!(rt; &*text, &clear[..case.text_len], "case {}", case.name);
-    }
-    Ok(())
-}
-
-#[test]
-fn equals_a_plain_gcm_at_each_pair_of_lengths(rt: HostRuntime) -> Result<(), Fail> {
-    let key = schedule_of(&[KEY, KEY], 32)?;
-    let iv = vector_of(IV);
-    let mut octets = [0u8; 65];
-    for i in 0..65 {
-        octets[i] = (i as u8).wrapping_mul(29);
-    }
-    for text_len in 0..66 {
-        for aad_len in 0..34 {
-            let mut text = octets;
-            let mut plain = octets;
-            let aad = &octets[..aad_len];
-            let tag = seal_in_place(&key, &iv, aad, &mut text[..text_len]);
-            let plain_tag = plain_seal(rt.alloc(), &key, &iv, aad, &mut plain[..text_len])?;
-            assert_eq!(rt; tag, plain_tag, "{text_len} and {aad_len}");
-            assert_eq!(rt; text, plain, "{text_len} and {aad_len}");
-        }
     }
     Ok(())
 }

@@ -1,9 +1,12 @@
-// GCM as SP 800-38D writes it, octet by octet and with no thought of speed.
+// A second GCM, octet by octet, with each power of the hash subkey made afresh.
 
 ghost use Rattle.std.specs.Prelude.{◌≤◌, length};
 
+use super::{IV, KEY, schedule_of, vector_of};
+use crate::seal_in_place;
 use aes_block::Schedule;
 use std::alloc::{AllocError, Global};
+use std::test::Fail;
 
 // Horner's rule, from the coefficient of x^127 down.
 fn times(a: u128, b: u128) -> u128 {
@@ -50,7 +53,7 @@ fn pad(key: &Schedule, iv: &[u8; 12], count: u32) -> [u8; 16] {
     key.encrypt(block)
 }
 
-pub fn plain_seal(
+fn plain_seal(
     alloc: Global,
     key: &Schedule,
     iv: &[u8; 12],
@@ -70,4 +73,26 @@ pub fn plain_seal(
     let h = u128::from_be_bytes(key.encrypt([0; 16]));
     let mask = u128::from_be_bytes(pad(key, iv, 0));
     Ok((ghash(h, &blocks) ^ mask).to_be_bytes())
+}
+
+#[test]
+fn equals_a_plain_gcm_at_each_pair_of_lengths(rt: HostRuntime) -> Result<(), Fail> {
+    let key = schedule_of(&[KEY, KEY], 32)?;
+    let iv = vector_of(IV);
+    let mut octets = [0u8; 65];
+    for i in 0..65 {
+        octets[i] = (i as u8).wrapping_mul(29);
+    }
+    for text_len in 0..66 {
+        for aad_len in 0..34 {
+            let mut text = octets;
+            let mut plain = octets;
+            let aad = &octets[..aad_len];
+            let tag = seal_in_place(&key, &iv, aad, &mut text[..text_len]);
+            let plain_tag = plain_seal(rt.alloc(), &key, &iv, aad, &mut plain[..text_len])?;
+            assert_eq!(rt; tag, plain_tag, "{text_len} and {aad_len}");
+            assert_eq!(rt; text, plain, "{text_len} and {aad_len}");
+        }
+    }
+    Ok(())
 }
