@@ -2,4 +2,5 @@ pub mod CheckWords
 pub mod Collecting
 pub mod Delivering
 pub mod Judging
+pub mod Rooms
 pub mod Spelling

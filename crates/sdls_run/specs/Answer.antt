@@ -21,10 +21,10 @@ source_fault_text = line (codes "source fault")
 -- the word for a refusal
 abbrev pub word : Refusal → List ℕ
 word Short = codes "short"
-word Long = codes "form"
-word Version = codes "form"
-word Spare = codes "form"
-word Spi = codes "form"
+word Long = codes "long"
+word Version = codes "version"
+word Spare = codes "spare"
+word Spi = codes "spi"
 word Mac = codes "mac"
 
 abbrev pub refused_text : Refusal → List ℕ

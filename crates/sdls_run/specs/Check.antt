@@ -1,6 +1,7 @@
 -- One AOS transfer frame of the CMAC suite, judged under a key.
 -- CCSDS 732.0-B, Transfer Frame Primary Header; CCSDS 355.0-B, Security Header and Security Trailer.
-use Rattle.std.specs.Prelude.{◌≡◌, ◌≢◌, ℕ, ◌+◌, ◌-◌, ◌*◌, ◌/◌, ◌%◌, ◌<◌, ◌⊎◌, List, length, take, drop, slice_index}
+use Rattle.std.specs.Prelude.{◌≡◌, ◌≢◌, ℕ, ◌-◌, ◌<◌, ◌⊎◌, List, [], ◌∷◌, length, take, drop}
+use Rattle.aos_frame.specs.FirstFault.{version_of, spare_of}
 use Rattle.cmac.specs.Cmac.{mac}
 use Rattle.sdls_run.specs.declared.refusal.Refusal.{Refusal}
 use Rattle.sdls_run.specs.declared.refusal.Refusal.TheVariants.{Short, Long, Version, Spare, Spi, Mac}
@@ -13,17 +14,13 @@ least_length = 28
 abbrev pub greatest_length : ℕ
 greatest_length = 2048
 
--- the transfer frame version number: the first two bits
-abbrev pub version : List ℕ → ℕ
-version frame = slice_index frame 0 / 64
+-- the octets of the security parameter index, after the primary header
+abbrev pub parameter_index : List ℕ → List ℕ
+parameter_index frame = take 2 (drop 6 frame)
 
--- the two spare bits of the signaling field
-abbrev pub spare : List ℕ → ℕ
-spare frame = slice_index frame 5 / 16 % 4
-
--- the security parameter index: the two octets after the primary header
-abbrev pub parameter_index : List ℕ → ℕ
-parameter_index frame = slice_index frame 6 * 256 + slice_index frame 7
+-- the index is 0 or 65535 (CCSDS 355.0-B, Security Parameter Index)
+abbrev pub IsReserved : List ℕ → Type 0
+IsReserved index = (index ≡ 0 ∷ 0 ∷ []) ⊎ (index ≡ 255 ∷ 255 ∷ [])
 
 -- the octets that the MAC covers: all before the trailer
 abbrev pub covered : List ℕ → List ℕ
@@ -41,9 +38,9 @@ data_field frame = drop 12 (covered frame)
 abbrev pub Fails : List ℕ → List ℕ → Refusal → Type 0
 Fails key frame Short = length frame < least_length
 Fails key frame Long = greatest_length < length frame
-Fails key frame Version = version frame ≢ 1
-Fails key frame Spare = spare frame ≢ 0
-Fails key frame Spi = (parameter_index frame ≡ 0) ⊎ (parameter_index frame ≡ 65535)
+Fails key frame Version = version_of frame ≢ 1
+Fails key frame Spare = spare_of frame ≢ 0
+Fails key frame Spi = IsReserved (parameter_index frame)
 Fails key frame Mac = mac key (covered frame) ≢ trailer frame
 
 -- the place of a check in the order in which they are made: profile
@@ -64,6 +61,6 @@ pub record IsFirstFault (key frame : List ℕ) (fault : Refusal) : Type 0 where
 abbrev pub Passes : List ℕ → List ℕ → Type 0
 Passes key frame = (check : Refusal) → ¬ Fails key frame check
 
--- no check before that of the MAC fails, whatever the key
-abbrev pub PassesHeaders : List ℕ → Type 0
-PassesHeaders frame = (key : List ℕ) (check : Refusal) → place check < 5 → ¬ Fails key frame check
+-- none of the first checks fails, so many of them, whatever the key
+abbrev pub PassesBefore : ℕ → List ℕ → Type 0
+PassesBefore n frame = (key : List ℕ) (check : Refusal) → place check < n → ¬ Fails key frame check

@@ -14,7 +14,10 @@ fn refusal_line(refusal: Refusal) -> &'static [u8]
 {
     match refusal {
         Refusal::Short => b"refused short\n",
-        Refusal::Long | Refusal::Version | Refusal::Spare | Refusal::Spi => b"refused form\n",
+        Refusal::Long => b"refused long\n",
+        Refusal::Version => b"refused version\n",
+        Refusal::Spare => b"refused spare\n",
+        Refusal::Spi => b"refused spi\n",
         Refusal::Mac => b"refused mac\n",
     }
 }

@@ -1,9 +1,10 @@
-ghost use Rattle.std.specs.Prelude.{◌≡◌, ◌↔◌, List, ℕ, IfOk, IfErr, IsTrue, OnOk};
+ghost use Rattle.std.specs.Prelude.{◌≡◌, ◌↔◌, ◌-◌, ◌≤◌, List, ℕ, length, drop, take, IfOk, IfErr, IsTrue};
 ghost use Rattle.cmac.specs.Cmac.{mac};
-ghost use Rattle.sdls_run.specs.Check.{Passes, PassesHeaders, IsFirstFault, covered, trailer, data_field};
+ghost use Rattle.sdls_run.specs.Check.{Passes, PassesBefore, IsFirstFault, IsReserved, data_field};
 
 use crate::refusal::Refusal;
 use aes_block::Schedule;
+use sdls_base::{AosLayout, FrameFault, Suite};
 
 const LEAST_LENGTH: usize = 28;
 
@@ -11,12 +12,9 @@ pub(crate) const GREATEST_LENGTH: usize = 2048;
 
 const MAC_LENGTH: usize = 16;
 
-/// The octets before the data field: primary header and security header.
-const HEADERS_LENGTH: usize = 12;
-
-/// Makes the checks before that of the MAC, which need no key.
-fn check_headers(frame: &[u8]) -> Result<(), Refusal>
-    ensures accepted { OnOk result (PassesHeaders frame.now) }
+/// Makes the checks before that of the SPI, and answers what stands behind the primary header.
+fn room_of(frame: &[u8]) -> Result<&[u8], Refusal>
+    ensures accepted { IfOk result (λ room. PassesBefore 4 frame.now × (room.now ≡ drop 6 frame.now)) }
     ensures refused { IfErr result (λ fault. (key : List ℕ) → IsFirstFault key frame.now fault) }
 {
     if frame.len() < LEAST_LENGTH {
@@ -25,16 +23,35 @@ fn check_headers(frame: &[u8]) -> Result<(), Refusal>
     if frame.len() > GREATEST_LENGTH {
         return Err(Refusal::Long);
     }
-    if frame[0] / 64 != 1 {
-        return Err(Refusal::Version);
+    let layout = AosLayout {
+        length: frame.len() as u16,
+        insert: 0,
+        ocf: false,
+        fecf: false,
+    };
+    match aos_frame::read(frame, &layout) {
+        Ok(parts) => Ok(parts.room),
+        Err(FrameFault::Version) => Err(Refusal::Version),
+        Err(_) => Err(Refusal::Spare),
     }
-    if frame[5] / 16 % 4 != 0 {
-        return Err(Refusal::Spare);
-    }
-    match frame[6] as u16 * 256 + frame[7] as u16 {
-        0 | u16::MAX => Err(Refusal::Spi),
-        _ => Ok(()),
-    }
+}
+
+/// Whether the SPI at the front of a room is a reserved one.
+fn has_reserved_spi(room: &[u8]) -> bool
+    requires { 2 ≤ length room.now }
+    ensures { IsTrue result ↔ IsReserved (take 2 room.now) }
+{
+    matches!(sdls_header::read_spi(room), Some(0 | u16::MAX))
+}
+
+/// The data field and the MAC in a room of the CMAC suite.
+fn field_and_mac(room: &[u8]) -> (&[u8], &[u8])
+    requires { 22 ≤ length room.now }
+    ensures field { result.0.now ≡ drop 6 (take (length room.now - 16) room.now) }
+    ensures mac { result.1.now ≡ drop (length room.now - 16) room.now }
+{
+    let split = sdls_header::split(room, Suite::Cmac).unwrap();
+    (split.field, split.mac)
 }
 
 /// Whether `trailer` is the MAC of `text` under `key`.
@@ -54,10 +71,13 @@ pub fn check_frame<'a>(key: &Schedule, frame: &'a [u8]) -> Result<&'a [u8], Refu
     ensures accepted { IfOk result (λ field. Passes key.now frame.now × (field.now ≡ data_field frame.now)) }
     ensures refused { IfErr result (IsFirstFault key.now frame.now) }
 {
-    check_headers(frame)?;
-    let (covered, trailer) = frame.split_at(frame.len() - MAC_LENGTH);
-    if !is_mac(key, covered, trailer) {
+    let room = room_of(frame)?;
+    if has_reserved_spi(room) {
+        return Err(Refusal::Spi);
+    }
+    let (field, mac) = field_and_mac(room);
+    if !is_mac(key, &frame[..frame.len() - MAC_LENGTH], mac) {
         return Err(Refusal::Mac);
     }
-    Ok(&covered[HEADERS_LENGTH..])
+    Ok(field)
 }

@@ -15,6 +15,11 @@ const FRAME: &str = "6bc1bee22e409f96e93d7e117393172a070a16b46b4d4144f79bdd9dd04
 const LONGER_FRAME: &str =
     "6bc1bee22e409f96e93d7e117393172aae2d8a571e03ac9c9eb76fac45af8e5130c81c46a35ce411dfa66747de9ae63030ca32611497c827";
 
+/// The key of the examples of SP 800-38B, D.3, and the first 16 octets of the same text with their MAC.
+const LONG_KEY: &str = "603deb1015ca71be2b73aef0857d77811f352c073b6108d72d9810a30914dff4";
+
+const FRAME_OF_LONG_KEY: &str = "6bc1bee22e409f96e93d7e117393172a28a7023f452e8f82bd4bf28d8c37c35c";
+
 struct Open;
 
 impl Gate for Open {
@@ -67,19 +72,19 @@ fn judges_frames(rt: HostRuntime) -> Result<(), Fail> {
         (
             // version 00
             "2bc1bee22e409f96e93d7e117393172a070a16b46b4d4144f79bdd9dd04a287c",
-            "refused form\n",
+            "refused version\n",
             REFUSED,
         ),
         (
             // spare bits 01
             "6bc1bee22e509f96e93d7e117393172a070a16b46b4d4144f79bdd9dd04a287c",
-            "refused form\n",
+            "refused spare\n",
             REFUSED,
         ),
         (
             // SPI 65535
             "6bc1bee22e40ffffe93d7e117393172a070a16b46b4d4144f79bdd9dd04a287c",
-            "refused form\n",
+            "refused spi\n",
             REFUSED,
         ),
         (
@@ -95,6 +100,10 @@ fn judges_frames(rt: HostRuntime) -> Result<(), Fail> {
         assert_eq!(rt; sunk.as_slice(), text.as_bytes(), "at {input}");
         assert_eq!(rt; ended, status, "at {input}");
     }
+    let frame = hex::decode(alloc, FRAME_OF_LONG_KEY)?;
+    let (sunk, ended) = answer(alloc, &["check", LONG_KEY], frame)?;
+    assert_eq!(rt; sunk.as_slice(), b"ok 7393172a\n".as_slice());
+    assert_eq!(rt; ended, DONE);
     Ok(())
 }
 
@@ -109,7 +118,7 @@ fn refuses_what_is_longer_than_any_frame(rt: HostRuntime) -> Result<(), Fail> {
         &mut source,
         quiet_site(alloc),
     );
-    assert_eq!(rt; site.sunk(), b"refused form\n".as_slice());
+    assert_eq!(rt; site.sunk(), b"refused long\n".as_slice());
     assert_eq!(rt; status, REFUSED);
     let mut rest = [0; 1000];
     assert_eq!(rt;
