@@ -1,0 +1,6 @@
+pub mod Known
+pub mod Numbers
+pub mod Play
+pub mod Rule
+pub mod Turn
+pub mod Worker

@@ -1,0 +1,13 @@
+//! Provisional.
+#![tactic(auto)]
+
+mod counters;
+mod drawing;
+mod rule;
+mod ticket;
+mod view;
+
+pub use counters::{Counters, Held, Worker};
+pub use rule::{Counted, Rule};
+pub use ticket::{Arm, Armed, Funded, Ticket};
+pub use view::{Known, Numbers, Opening, Turn, View};
