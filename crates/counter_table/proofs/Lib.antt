@@ -1,5 +1,9 @@
+pub mod Booking
 pub mod Fitting
+pub mod Holding
 pub mod Keeping
+pub mod Knowing
 pub mod Moving
 pub mod Rows
+pub mod Sharing
 pub mod Sums

@@ -1,7 +1,8 @@
 -- Sums and greatest values over all workers, and over lists of pairs.
-use Rattle.std.proofs.Common.{◌≡◌, ◌≢◌, ℕ, zero, suc, ◌+◌, ◌<◌, ◌≤◌, max, eqb, false, List, [], ◌∷◌, ◌++◌, set, length, sym, refl, ap, arith, eq-eqb, if◌then◌else◌, ◌==◌}
+use Rattle.std.proofs.Common.{◌≡◌, ◌≢◌, ℕ, zero, suc, ◌+◌, ◌<◌, ◌≤◌, max, eqb, false, List, [], ◌∷◌, ◌++◌, set, length, sym, refl, ap, subst, ⊎_elim, arith, eq-eqb, if◌then◌else◌, ◌==◌}
 use mathlib.Core.Option.{some, some-injective, some-ne-none}
 use lib.ListN.{get_elem?}
+use Rattle.atomic_table.proofs.Lists.{at_set, at_snoc}
 use Rattle.counter_table.specs.Numbers.{times, count_of, amount, top}
 use Rattle.counter_table.specs.Rule.{total, greatest}
 
@@ -101,3 +102,18 @@ module _ (row r n : ℕ) (apart : eqb r row ≡ false) (ps : List (ℕ × ℕ)) 
 
   pub top_else : top row (ps ++ (r, n) ∷ []) ≡ top row ps
   top_else = rw (top-append row ps ((r, n) ∷ []), apart) (omega arith)
+
+-- what each of the workers is, after one of them changed, and after one came
+module _ {V : Type 0} (P : V → Type 0) (views : List V) where
+  pub each_set : (id : ℕ) (w : V) → P w → ((j : ℕ) (u : V) → get_elem? views j ≡ some u → P u) → (j : ℕ) (u : V) → get_elem? (set views id w) j ≡ some u → P u
+  each_set id w new each j u e = ⊎_elim (λ k. subst P k.1 new) (λ k. each j u k.1) (at_set views id j w u e)
+
+  pub each_snoc : (w : V) → P w → ((j : ℕ) (u : V) → get_elem? views j ≡ some u → P u) → (j : ℕ) (u : V) → get_elem? (views ++ w ∷ []) j ≡ some u → P u
+  each_snoc w new each j u e = ⊎_elim (each j u) (λ k. subst P k new) (at_snoc views w u j e)
+
+  pub each_apart : (id : ℕ) (w : V) → P w → ((j : ℕ) (u : V) → get_elem? views j ≡ some u → j ≢ id → P u) → (j : ℕ) (u : V) → get_elem? (set views id w) j ≡ some u → P u
+  each_apart id w new each j u e = ⊎_elim (λ k. subst P k.1 new) (λ k. each j u k.1 k.0) (at_set views id j w u e)
+
+pub zero_of : (n : ℕ) → (0 < n → ⊥) → n ≡ 0
+zero_of zero h = refl
+zero_of (suc n) h = absurd (h (omega arith))

@@ -76,6 +76,7 @@ pub record KnowsBook (book : Known) (filled : Bool) (v : Turn) : Type 0 where
   pub earlier : Earlier v.known book
   pub epoch : v.epoch ≤ book.changes
   pub opening : v.filled ≡ true → (filled ≡ true) × (v.known.opening ≡ book.opening)
+  pub blank : v.filled ≡ false → v.known ≡ unknown
   pub made : (place : ℕ) → 0 < stands place v.made → place < length v.known.log
 
 module _ {B : Type 0} (told : B → Known) where
