@@ -13,7 +13,7 @@ use Rattle.counter_table.specs.declared.view.Known.{Known}
 use Rattle.counter_table.specs.declared.view.Numbers.{Numbers}
 use Rattle.counter_table.specs.declared.view.Turn.{Turn}
 use Rattle.counter_table.specs.declared.view.View.{View}
-use Rattle.counter_table.specs.Known.{mark_of, Earlier, KeepsMarks, MayGive, MayFill}
+use Rattle.counter_table.specs.Known.{mark_of, Earlier, KeepsMarks, MayGive, MayFill, unknown}
 use Rattle.counter_table.specs.Numbers.{keeper, newcomer, joined, no_numbers, lifting}
 use Rattle.counter_table.specs.Turn.{beginner, merged, no_turn, taking, giving, filling, learning, seeing, turning, epoch_seen}
 use Rattle.counter_table.specs.Rule.{total, next_at, limit_at, RowFits, NumbersFit, TurnFits, IsKept}
@@ -166,9 +166,26 @@ module _ {B : Type 0} (told : B → Known) (count : ℕ) where
                     (first_set s.words kept.numbers.size 0) (get_or-set_other s.words 0 1 0 0 (λ e. omega arith)) (low_limits count s.words 0 0 (omega arith)) holds may),
             (λ c e. (refl, ap (λ z. let r : View = record v { turn = filling (told z) v.turn } in r) (same_slot b c e))))
 
-    pub lift_allows : (m : Me (Option B) View) (row mark : ℕ) (held : Known) → row < count → 0 < m.0.numbers.shares → m.0.turn.holds ≡ true → m.0.turn.filled ≡ true
-        → KeepsMarks m.0.turn.known held → mark ≡ mark_of held row → Allows (IsKept told count) slots id m (limit_at row) (λ n. max n mark) (lifts row mark held.marks m)
-    lift_allows m row mark held below alive holds full marks is s kept size at bound =
+    -- the same, where the seat's view and slots are those
+    pub gives_at : (m : Me (Option B) View) (v : View) (b : B) → m ≡ (v, (0, Some b) ∷ []) → 0 < v.numbers.shares → v.turn.holds ≡ true → v.turn.filled ≡ true → MayGive v.turn.known (told b)
+        → Allows (IsKept told count) slots id m 0 (λ _. 0) (gives told m)
+    gives_at m v b e alive holds full may =
+        subst (λ (z : Me (Option B) View). Allows (IsKept told count) slots id z 0 (λ _. 0) (gives told z)) (sym e) (give_allows v b alive holds full may)
+
+    pub empties_at : (m : Me (Option B) View) → m.1 ≡ [] → m.0.numbers.shares ≡ 1024 → m.0.turn.holds ≡ false → m.0.turn.filled ≡ false
+        → Allows (IsKept told count) slots id m 0 (λ _. 2) (empties told m)
+    empties_at m e all free blank =
+        subst (λ (z : List (ℕ × Option B)). Allows (IsKept told count) slots id (m.0, z) 0 (λ _. 2) (empties told (m.0, z))) (sym e) (empty_allows m.0 all free blank)
+
+    pub fills_at : (m : Me (Option B) View) (v : View) (b : B) → m ≡ (v, (0, Some b) ∷ []) → v.numbers.shares ≡ 1024 → v.turn.holds ≡ true → v.turn.filled ≡ false → MayFill (told b)
+        → Allows (IsKept told count) slots id m 0 (λ _. 0) (fills told m)
+    fills_at m v b e all holds blank may =
+        subst (λ (z : Me (Option B) View). Allows (IsKept told count) slots id z 0 (λ _. 0) (fills told z)) (sym e) (fill_allows v b all holds blank may)
+
+    pub lift_allows : (m : Me (Option B) View) (row mark : ℕ) (marks : List ℕ) → row < count → 0 < m.0.numbers.shares → m.0.turn.holds ≡ true → m.0.turn.filled ≡ true
+        → ((r : ℕ) → mark_of m.0.turn.known r ≤ get_or marks r 1) → mark ≡ get_or marks row 1 → Allows (IsKept told count) slots id m (limit_at row) (λ n. max n mark) (lifts row mark marks m)
+    lift_allows m row mark marks below alive holds full rising is s kept size at bound =
+        let held : Known = record unknown { marks = marks } in
         let l = get_or s.words (limit_at row) 0 in
         let n' = max l mark in
         let v = m.0 in
@@ -181,7 +198,7 @@ module _ {B : Type 0} (told : B → Known) (count : ℕ) where
                 (lift_fits told count s.words s.homes (turns_of s.views) kept.book kept.filled kept.turn id v.turn mine (set s.words (limit_at row) n') held row
                     (limit_apart count s.words words_size row n' below 0 (λ e. omega arith)) (limit_apart count s.words words_size row n' below 1 (λ e. omega arith))
                     (limit_set count s.words words_size row n' below ∙ ap (max l) is)
-                    (λ q b a. limit_apart count s.words words_size row n' below (limit_at q) (λ e. a (omega arith))) holds full marks)
+                    (λ q b a. limit_apart count s.words words_size row n' below (limit_at q) (λ e. a (omega arith))) holds full rising)
                 alive,
             (refl, refl))
 
@@ -216,7 +233,7 @@ module _ {B : Type 0} (told : B → Known) (count : ℕ) where
             low_step s id v at kept 1 n' (omega arith) s.homes (turning v.turn) (record kept.book { changes = kept.book.changes + 1 }) kept.filled alive
                 (turn_fits told count s.words s.homes (turns_of s.views) kept.book kept.filled kept.turn id v.turn mine (set s.words 1 n')
                     (get_or-set_other s.words 1 0 n' 0 (λ e. omega arith)) ((rw get_or-set_same refl) ∙ plus) (low_limits count s.words 1 n' (omega arith)) holds full),
-            (refl, refl))
+            ((refl, refl), is))
 
     pub look_allows : (m : Me (Option B) View) → 0 < m.0.numbers.shares → Allows (IsKept told count) slots id m 1 (λ n. n) (looks count m)
     look_allows m alive s kept size at bound =

@@ -6,4 +6,5 @@ pub mod Knowing
 pub mod Moving
 pub mod Rows
 pub mod Sharing
+pub mod Slots
 pub mod Sums

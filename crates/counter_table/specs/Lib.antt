@@ -1,3 +1,4 @@
+pub mod Close
 pub mod Known
 pub mod Numbers
 pub mod Play

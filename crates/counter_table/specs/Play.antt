@@ -43,19 +43,19 @@ module _ {S : Type 0} where
   sees m n w = MovesTurn m (seeing n) w × (epoch_seen m.0.turn ≤ n) × (m.0.turn.holds ≡ true → n ≡ m.0.turn.known.changes)
 
   abbrev pub turns : Me S View → ℕ → Me S View → Type 0
-  turns m n w = MovesTurn m turning w
+  turns m n w = MovesTurn m turning w × (n ≡ m.0.turn.known.changes)
 
   -- no number of a row below the count was drawn twice
   abbrev pub looks : ℕ → Me S View → ℕ → Me S View → Type 0
   looks count m n w = (w ≡ m) × ((row x : ℕ) → row < count → times row x m.0.numbers.drawn ≤ 1)
 
-module _ {B : Type 0} (told : B → Known) where
-  -- the book that was found follows what was known of it
-  pub record Follows (v : Turn) (book : Known) : Type 0 where
-    pub earlier : Earlier v.known book
-    pub epoch : v.epoch ≤ book.changes
-    pub opening : book.opening ≡ v.known.opening
+-- the book that was found follows what was known of it
+pub record Follows (v : Turn) (book : Known) : Type 0 where
+  pub earlier : Earlier v.known book
+  pub epoch : v.epoch ≤ book.changes
+  pub opening : book.opening ≡ v.known.opening
 
+module _ {B : Type 0} (told : B → Known) where
   abbrev pub Took : Me (Option B) View → Me (Option B) View → Type 0
   Took m w = (b : B) × (w.1 ≡ (0, Some b) ∷ m.1) × (w.0 ≡ record m.0 { turn = taking (told b) m.0.turn }) × Follows m.0.turn (told b)
 

@@ -5,6 +5,7 @@ mod counters;
 mod drawing;
 mod rule;
 mod ticket;
+mod turns;
 mod view;
 
 pub use counters::{Counters, Held, Worker};
