@@ -70,7 +70,7 @@ module _ {B : Type 0} (told : B → Known) (count : ℕ) where
     turn_at = at_turn told count s id v v at kept
 
     -- with all shares, each other worker ended
-    alone : v.numbers.shares ≡ 1024 → (j : ℕ) (u : Turn) → get_elem? (turns_of s.views) j ≡ some u → j ≢ id → u ≡ no_turn
+    pub alone : v.numbers.shares ≡ 1024 → (j : ℕ) (u : Turn) → get_elem? (turns_of s.views) j ≡ some u → j ≢ id → u ≡ no_turn
     alone all j u e apart =
         let there = at_unmap (λ (z : View). z.turn) s.views j u e in
         let x = there.0 in

@@ -1,4 +1,5 @@
 pub mod Booking
+pub mod Ending
 pub mod Fitting
 pub mod Holding
 pub mod Keeping

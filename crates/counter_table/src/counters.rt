@@ -24,6 +24,15 @@ pub struct Worker<B> {
     ghost slots: { slots_fit seat.me.0.turn.holds seat.me.1 ≡ true },
 }
 
+impl<B> Worker<B> {
+    pub(crate) fn into_seat(self) -> Seat<Option<B>, View>
+        ensures { result ≡ self.seat }
+    {
+        let Worker { seat } = self;
+        seat
+    }
+}
+
 impl<B> Drop for Worker<B> {
     fn drop(self) {
         let Worker { seat: _ } = self;

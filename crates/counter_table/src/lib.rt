@@ -4,6 +4,7 @@
 mod counters;
 mod drawing;
 mod rule;
+mod shares;
 mod ticket;
 mod turns;
 mod view;
