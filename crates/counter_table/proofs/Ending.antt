@@ -18,13 +18,13 @@ use Rattle.counter_table.specs.Numbers.{times, count_of, amount, top, no_numbers
 use Rattle.counter_table.specs.Turn.{stands, no_turn}
 use Rattle.counter_table.specs.Rule.{total, greatest, one_if, once_below, next_at, limit_at, SeatFits, RowFits, IsSane, NumbersFit, TurnFits, IsKept, IsAtHome}
 use Rattle.counter_table.specs.Play.{first_view, Follows}
-use Rattle.counter_table.specs.Close.{RowCloses, Closes}
+use Rattle.counter_table.specs.Close.{Closes}
 use Rattle.counter_table.proofs.Sums.{total_two, total_only, greatest_least, each_snoc}
 use Rattle.counter_table.proofs.Rows.{once_below_more}
 use Rattle.counter_table.proofs.Knowing.{append-nil, earlier_length, ended_knows}
 use Rattle.counter_table.proofs.Booking.{false≢true, is_false, is_zero, home_free}
 use Rattle.counter_table.proofs.Keeping.{numbers_of, turns_of, at_numbers, at_turn}
-use Rattle.counter_table.proofs.Holding.{alone}
+use Rattle.counter_table.proofs.Alone.{knows, covers, row_stands, made_only, whole, home}
 
 -- one worker
 single : {V : Type 0} (P : V → Type 0) (v : V) → P v → (j : ℕ) (u : V) → get_elem? (v ∷ []) j ≡ some u → P u
@@ -104,88 +104,19 @@ module _ (count : ℕ) where
         ended = single (λ u. u.numbers.shares ≡ 0 → u.turn ≡ no_turn) first_view (λ e. refl);
       }
 
-module _ {B : Type 0} (told : B → Known) (count id : ℕ) (v : View) (s : State (Option B) View) (kept : IsKept told count s) (at : get_elem? s.views id ≡ some v) (all : v.numbers.shares ≡ 1024) where
-  mine : get_elem? (numbers_of s.views) id ≡ some v.numbers
-  mine = at_numbers told count s id v v at kept
-
-  its_turn : get_elem? (turns_of s.views) id ≡ some v.turn
-  its_turn = at_turn told count s id v v at kept
-
-  others : (j : ℕ) (u : Numbers) → get_elem? (numbers_of s.views) j ≡ some u → j ≢ id → u ≡ no_numbers
-  others j u e apart =
-      let two = total_two (λ z. z.shares) (numbers_of s.views) id j v.numbers u mine e (λ k. apart (sym k)) in
-      let sum = kept.numbers.shares in
-      ⊎_elim (λ k. k) (λ k. absurd (omega arith)) (kept.numbers.sane j u e).alive
-
-  numbers_only : (f : Numbers → ℕ) → f no_numbers ≡ 0 → total f (numbers_of s.views) ≡ f v.numbers
-  numbers_only f z = total_only f (numbers_of s.views) id v.numbers mine (λ j u e apart. ap f (others j u e apart) ∙ z)
-
-  raised_only : (row : ℕ) → greatest (λ u. top row u.raised) (numbers_of s.views) ≤ top row v.numbers.raised
-  raised_only row = greatest_least (λ u. top row u.raised) (numbers_of s.views) _ (λ j u e. dite (ℕ_discrete j id)
-      (λ same. let is : u ≡ v.numbers = some-injective u v.numbers (sym e ∙ (ap (get_elem? (numbers_of s.views)) same ∙ mine)) in
-          let k : top row u.raised ≡ top row v.numbers.raised = ap (λ z. top row z.raised) is in omega arith)
-      (λ apart. let k : top row u.raised ≡ 0 = ap (λ z. top row z.raised) (others j u e apart) in omega arith))
-
-  last_only : (row n : ℕ) → ((j : ℕ) × (u : Numbers) × (get_elem? (numbers_of s.views) j ≡ some u) × (0 < u.shares) × (top row u.nexts ≡ n)) → top row v.numbers.nexts ≡ n
-  last_only row n k = dite (ℕ_discrete k.0 id)
-      (λ same. let is : k.1 ≡ v.numbers = some-injective k.1 v.numbers (sym k.2 ∙ (ap (get_elem? (numbers_of s.views)) same ∙ mine)) in ap (λ z. top row z.nexts) (sym is) ∙ k.4)
-      (λ apart. absurd (let z : k.1.shares ≡ 0 = ap (λ z. z.shares) (others k.0 k.1 k.2 apart) in let p = k.3 in omega arith))
-
-  row_closes : (row : ℕ) → row < count → RowCloses row (get_or s.words (next_at row) 0) (mark_of kept.book row) v.numbers
-  row_closes row b =
-      let fits = kept.numbers.rows row b in
-      let seat = fits.each id v.numbers mine in
+module _ {B : Type 0} (told : B → Known) (count : ℕ) (s : State (Option B) View) (id : ℕ) (v : View) (at : get_elem? s.views id ≡ some v) (kept : IsKept told count s) (all : v.numbers.shares ≡ 1024) (full : v.turn.filled ≡ true) where
+  closes_with : (b : B) → told b ≡ kept.book → (nexts : List ℕ) → length nexts ≡ count → ((row : ℕ) → row < count → get_or nexts row 0 ≡ get_or s.words (next_at row) 0)
+      → Closes count v (told b) nexts
+  closes_with b is nexts rows same = subst (λ k. Closes count v k nexts) (sym is)
       record {
-        grown = let t = numbers_only (λ u. amount row u.added) refl in let g = fits.grown in omega arith;
-        bound = let t = numbers_only (λ u. count_of row u.drawn) refl in let r = raised_only row in let g = fits.bound in omega arith;
-        drawn = λ x. let t = numbers_only (λ u. times row x u.drawn) refl in let o = fits.once x in omega arith;
-        spent = λ x. let a = seat.spent x in let l = kept.turn.limits row b in let m = once_below_more x (get_or s.words (limit_at row) 0) (mark_of kept.book row) l in omega arith;
-        seen = seat.nexts;
-        last = ⊎_elim inl (λ k. inr (last_only row (get_or s.words (next_at row) 0) k)) fits.last;
+        rows = rows;
+        each = λ row c. rw (same row c) (row_stands told count s id v at kept all row c);
+        covered = covers told count s id v at kept;
+        follows = let k = knows told count s id v at kept in record { earlier = k.earlier; epoch = k.epoch; opening = sym (k.opening full).1 };
+        log = whole told count s id v at kept all;
+        made = made_only told count s id v at kept all;
       }
 
-  module _ (free : v.turn.holds ≡ false) (full : v.turn.filled ≡ true) where
-    knows : Rattle.counter_table.specs.Rule.KnowsBook kept.book kept.filled v.turn
-    knows = kept.turn.each id v.turn its_turn
-
-    -- the turn is free
-    free_word : get_or s.words 0 0 ≡ 0
-    free_word =
-        let sum : total (λ u. one_if u.holds) (turns_of s.views) ≡ 0 =
-          total_only (λ u. one_if u.holds) (turns_of s.views) id v.turn its_turn (λ j u e n. ap (λ z. one_if z.holds) (alone told count s id v at kept all j u e n)) ∙ is_zero v.turn.holds free in
-        ⊎_elim (λ h. h.turn) (λ k. ⊎_elim (λ h. h.turn) (λ o. absurd (let h = o.held in omega arith)) k) kept.turn.place
-
-    home : IsAtHome told (get_or s.words 0 0) s.homes (turns_of s.views) kept.book kept.filled
-    home = home_free told count s.words s.homes (turns_of s.views) kept.book kept.filled kept.turn free_word (knows.opening full).0
-
-    made_only : (p : ℕ) → stands p v.turn.made ≡ once_below p (length kept.book.log)
-    made_only p = sym (total_only (λ u. stands p u.made) (turns_of s.views) id v.turn its_turn (λ j u e n. ap (λ z. stands p z.made) (alone told count s id v at kept all j u e n))) ∙ kept.turn.made p
-
-    whole : kept.book.log ≡ v.turn.known.log
-    whole = go knows.earlier.log.0 knows.earlier.log.1
-      where
-        below_itself : (n m : ℕ) → n < m → once_below n m ≡ 1
-        below_itself n m h = grind (arith, nat_tests)
-        go : (rest : List Rattle.sdls_base.specs.declared.entry.Logged.Logged) → kept.book.log ≡ v.turn.known.log ++ rest → kept.book.log ≡ v.turn.known.log
-        go [] e = e ∙ append-nil v.turn.known.log
-        go (x ∷ xs) e =
-            let n = length v.turn.known.log in
-            let l : length kept.book.log ≡ length (v.turn.known.log ++ x ∷ xs) = ap length e in
-            let a = length-append v.turn.known.log (x ∷ xs) in
-            let longer : n < length kept.book.log = omega arith in
-            let one = made_only n ∙ below_itself n (length kept.book.log) longer in
-            absurd (let m = knows.made n (omega arith) in omega arith)
-
-    closes_with : (b : B) → told b ≡ kept.book → (nexts : List ℕ) → length nexts ≡ count → ((row : ℕ) → row < count → get_or nexts row 0 ≡ get_or s.words (next_at row) 0)
-        → Closes count v (told b) nexts
-    closes_with b is nexts rows same = subst (λ k. Closes count v k nexts) (sym is)
-        record {
-          rows = rows;
-          each = λ row c. rw (same row c) (row_closes row c);
-          follows = record { earlier = knows.earlier; epoch = knows.epoch; opening = sym (knows.opening full).1 };
-          log = whole;
-          made = made_only;
-        }
 
 -- what the end says of the slot and of the words
 pub closes : {B : Type 0} (told : B → Known) (count id : ℕ) (v : View) (words : List ℕ) (slots : List (Option B)) → Final (Seen (IsKept told count) id v) words slots
@@ -194,7 +125,7 @@ pub closes : {B : Type 0} (told : B → Known) (count id : ℕ) (v : View) (word
     × ((nexts : List ℕ) → length nexts ≡ count → ((row : ℕ) → row < count → get_or nexts row 0 ≡ get_or words (next_at row) 0) → Closes count v (told b) nexts)
 closes told count id v words slots final all free full =
     let s = final.0 in let kept = final.1.0 in let at = final.1.1 in
-    let h = home told count id v s kept at all free full in
+    let h = home told count s id v at kept all free full in
     let b = h.book.0 in
     (b, final.4 0 (Some b) (ap (λ z. get_elem? z 0) h.book.1),
-        (λ nexts rows same. closes_with told count id v s kept at all free full b h.book.2 nexts rows (λ row c. same row c ∙ ap (λ z. get_or z (next_at row) 0) (sym final.2))))
+        (λ nexts rows same. closes_with told count s id v at kept all full b h.book.2 nexts rows (λ row c. same row c ∙ ap (λ z. get_or z (next_at row) 0) (sym final.2))))

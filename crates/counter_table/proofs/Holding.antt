@@ -17,17 +17,13 @@ use Rattle.counter_table.specs.Known.{mark_of, Earlier, KeepsMarks, MayGive, May
 use Rattle.counter_table.specs.Numbers.{keeper, newcomer, joined, no_numbers, lifting}
 use Rattle.counter_table.specs.Turn.{beginner, merged, no_turn, taking, giving, filling, learning, seeing, turning, epoch_seen}
 use Rattle.counter_table.specs.Rule.{total, next_at, limit_at, RowFits, NumbersFit, TurnFits, IsKept}
-use Rattle.counter_table.specs.Play.{no_view, takes, Took, Follows, gives, empties, fills, lifts, sees, turns, looks}
+use Rattle.counter_table.specs.Play.{no_view, takes, Took, Follows, IsCovered, gives, empties, fills, lifts, sees, turns, looks}
 use Rattle.counter_table.proofs.Sums.{total_two}
 use Rattle.counter_table.proofs.Fitting.{next_apart, limit_apart, limit_set, drawn_once, lift_fits as numbers_lift}
 use Rattle.counter_table.proofs.Sharing.{cut_fits, met_fits}
 use Rattle.counter_table.proofs.Booking.{false≢true, home_free, word_taken, out_with, holder_knows, see_fits, take_fits, give_fits, lift_fits, turn_fits, empty_fits, fill_fits, free_of, beginner_fits, united_fits}
+use Rattle.counter_table.proofs.Alone.{covers, alone, is_whole}
 use Rattle.counter_table.proofs.Keeping.{numbers_of, turns_of, words_fit, at_numbers, at_turn, both_parts}
-
-at_unmap : {A C : Type 0} (f : A → C) (l : List A) (i : ℕ) (c : C) → get_elem? (map f l) i ≡ some c → (a : A) × (get_elem? l i ≡ some a) × (f a ≡ c)
-at_unmap f [] i c e = absurd (some-ne-none c (sym e))
-at_unmap f (x ∷ xs) zero c e = (x, refl, some-injective (f x) c e)
-at_unmap f (x ∷ xs) (suc i) c e = at_unmap f xs i c e
 
 map-snoc : {A C : Type 0} (f : A → C) (l : List A) (a : A) → map f (l ++ a ∷ []) ≡ map f l ++ f a ∷ []
 map-snoc f [] a = refl
@@ -69,17 +65,6 @@ module _ {B : Type 0} (told : B → Known) (count : ℕ) where
     turn_at : get_elem? (turns_of s.views) id ≡ some v.turn
     turn_at = at_turn told count s id v v at kept
 
-    -- with all shares, each other worker ended
-    pub alone : v.numbers.shares ≡ 1024 → (j : ℕ) (u : Turn) → get_elem? (turns_of s.views) j ≡ some u → j ≢ id → u ≡ no_turn
-    alone all j u e apart =
-        let there = at_unmap (λ (z : View). z.turn) s.views j u e in
-        let x = there.0 in
-        let mine = at_numbers told count s id v v at kept in
-        let its = at_map (λ (z : View). z.numbers) s.views j x there.1 in
-        let two = total_two (λ z. z.shares) (numbers_of s.views) id j v.numbers x.numbers mine its (λ k. apart (sym k)) in
-        let sum = kept.numbers.shares in
-        sym there.2 ∙ kept.ended j x there.1 (omega arith)
-
     -- the row's part for a worker
     pub once_each : (row : ℕ) → row < count → (x : ℕ) → Rattle.counter_table.specs.Numbers.times row x v.numbers.drawn ≤ 1
     once_each row b x = drawn_once count s.words s.words (numbers_of s.views) id v.numbers v.numbers row (at_numbers told count s id v v at kept) kept.numbers b x
@@ -96,7 +81,7 @@ module _ {B : Type 0} (told : B → Known) (count : ℕ) where
   same_slot b c e = let f : List (ℕ × Option B) → Option B = first_slot in let h : Some b ≡ Some c = ap f e in cc
 
   module _ (slots id : ℕ) where
-    pub take_allows : (m : Me (Option B) View) → 0 < m.0.numbers.shares → m.0.turn.filled ≡ true → Allows (IsKept told count) slots id m 0 (λ _. 2) (takes told m)
+    pub take_allows : (m : Me (Option B) View) → 0 < m.0.numbers.shares → m.0.turn.filled ≡ true → Allows (IsKept told count) slots id m 0 (λ _. 2) (takes told count m)
     take_allows m alive full s kept size at bound = dite (ℕ_discrete (get_or s.words 0 0) 0) free taken
       where
         fits : TurnFits told count s.words s.homes (turns_of s.views) kept.book kept.filled
@@ -105,7 +90,7 @@ module _ {B : Type 0} (told : B → Known) (count : ℕ) where
         mine = turn_at s id m.0 at kept
         words' : List ℕ
         words' = set s.words 0 2
-        free : get_or s.words 0 0 ≡ 0 → (w : View) × (a : act.Act (Option B)) × act.Valid s.homes m.1 a × IsKept told count (act.stepped s 0 2 id m.1 w a) × takes told m (get_or s.words 0 0) (w, act.carried_after m.1 a)
+        free : get_or s.words 0 0 ≡ 0 → (w : View) × (a : act.Act (Option B)) × act.Valid s.homes m.1 a × IsKept told count (act.stepped s 0 2 id m.1 w a) × takes told count m (get_or s.words 0 0) (w, act.carried_after m.1 a)
         free zero_word =
             let k = fits.each id m.0.turn mine in
             let home = home_free told count s.words s.homes (turns_of s.views) kept.book kept.filled fits zero_word (k.opening full).0 in
@@ -119,8 +104,8 @@ module _ {B : Type 0} (told : B → Known) (count : ℕ) where
                     earlier = subst (Earlier m.0.turn.known) (sym home.book.2) k.earlier;
                     epoch = subst (λ y. m.0.turn.epoch ≤ y.changes) (sym home.book.2) k.epoch;
                     opening = ap (λ y. y.opening) home.book.2 ∙ sym (k.opening full).1;
-                  })), (λ n. absurd (n zero_word))))
-        taken : (get_or s.words 0 0 ≢ 0) → (w : View) × (a : act.Act (Option B)) × act.Valid s.homes m.1 a × IsKept told count (act.stepped s 0 2 id m.1 w a) × takes told m (get_or s.words 0 0) (w, act.carried_after m.1 a)
+                  }, subst (IsCovered count m.0.numbers) (sym home.book.2) (covers told count s id m.0 at kept))), (λ n. absurd (n zero_word))))
+        taken : (get_or s.words 0 0 ≢ 0) → (w : View) × (a : act.Act (Option B)) × act.Valid s.homes m.1 a × IsKept told count (act.stepped s 0 2 id m.1 w a) × takes told count m (get_or s.words 0 0) (w, act.carried_after m.1 a)
         taken some_word =
             let two = word_taken told count s.words s.homes (turns_of s.views) kept.book kept.filled fits some_word in
             (m.0, keeps, tt,
@@ -145,7 +130,7 @@ module _ {B : Type 0} (told : B → Known) (count : ℕ) where
         → Allows (IsKept told count) slots id (v, []) 0 (λ _. 2) (empties told (v, []))
     empty_allows v all free blank s kept size at bound =
         let mine = turn_at s id v at kept in
-        let others = alone s id v at kept all in
+        let others = alone told count s id v at kept all in
         let w : View = record v { turn = record v.turn { holds = true } } in
         let u = free_of told count s.words s.homes (turns_of s.views) kept.book kept.filled kept.turn id v.turn mine others blank free in
         (w, act.takes 0 None, ap (λ z. get_elem? z 0) u.none,
@@ -158,7 +143,7 @@ module _ {B : Type 0} (told : B → Known) (count : ℕ) where
         → Allows (IsKept told count) slots id (v, (0, Some b) ∷ []) 0 (λ _. 0) (fills told (v, (0, Some b) ∷ []))
     fill_allows v b all holds blank may s kept size at bound =
         let mine = turn_at s id v at kept in
-        let others = alone s id v at kept all in
+        let others = alone told count s id v at kept all in
         let w : View = record v { turn = filling (told b) v.turn } in
         (w, act.gives, tt,
             low_step s id v at kept 0 0 (omega arith) (set s.homes 0 (some (Some b))) (filling (told b) v.turn) (told b) true (omega arith)
@@ -242,7 +227,7 @@ module _ {B : Type 0} (told : B → Known) (count : ℕ) where
         let same : set s.words 1 n ≡ s.words = set-get_or s.words 1 0 in
         let views : set s.views id v ≡ s.views = set_again s.views id v at in
         (v, keeps, tt, (let P : List ℕ → List View → Type 0 = λ x y. IsKept told count record { words = x; homes = s.homes; views = y } in subst (λ x. P x (set s.views id v)) (sym same) (subst (P s.words) (sym views) kept)),
-            (refl, λ row x b. once_each s id v at kept row b x))
+            (refl, (λ row x b. once_each s id v at kept row b x), (λ all. is_whole told count s id v at kept all)))
 
   pub splits_keep : (id : ℕ) (v : View) → 1 < v.numbers.shares
       → Splits (IsKept told count) id v record { numbers = keeper v.numbers; turn = v.turn } record { numbers = newcomer v.numbers; turn = beginner v.turn }

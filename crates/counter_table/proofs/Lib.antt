@@ -1,3 +1,4 @@
+pub mod Alone
 pub mod Booking
 pub mod Ending
 pub mod Fitting

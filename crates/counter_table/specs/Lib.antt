@@ -5,3 +5,4 @@ pub mod Play
 pub mod Rule
 pub mod Turn
 pub mod Worker
+pub mod Whole

@@ -5,8 +5,10 @@ use Rattle.counter_table.specs.declared.view.Known.{Known}
 use Rattle.counter_table.specs.declared.view.Numbers.{Numbers}
 use Rattle.counter_table.specs.declared.view.Turn.{Turn}
 use Rattle.counter_table.specs.declared.view.View.{View}
-use Rattle.counter_table.specs.Known.{Earlier}
+use Rattle.counter_table.specs.Known.{Earlier, mark_of}
 use Rattle.counter_table.specs.Numbers.{times, top, arming, drawing, peeking, raising, lifting, first_numbers, no_numbers}
+use Rattle.counter_table.specs.Rule.{once_below}
+use Rattle.counter_table.specs.Whole.{IsWhole}
 use Rattle.counter_table.specs.Turn.{epoch_seen, taking, giving, filling, learning, seeing, turning, no_turn}
 
 abbrev pub first_view : View
@@ -45,9 +47,11 @@ module _ {S : Type 0} where
   abbrev pub turns : Me S View → ℕ → Me S View → Type 0
   turns m n w = MovesTurn m turning w × (n ≡ m.0.turn.known.changes)
 
-  -- no number of a row below the count was drawn twice
+  -- no number of a row below the count was drawn twice, and a worker that has all shares did all
   abbrev pub looks : ℕ → Me S View → ℕ → Me S View → Type 0
-  looks count m n w = (w ≡ m) × ((row x : ℕ) → row < count → times row x m.0.numbers.drawn ≤ 1)
+  looks count m n w =
+      (w ≡ m) × ((row x : ℕ) → row < count → times row x m.0.numbers.drawn ≤ 1)
+      × (m.0.numbers.shares ≡ 1024 → IsWhole count m.0)
 
 -- the book that was found follows what was known of it
 pub record Follows (v : Turn) (book : Known) : Type 0 where
@@ -55,13 +59,19 @@ pub record Follows (v : Turn) (book : Known) : Type 0 where
   pub epoch : v.epoch ≤ book.changes
   pub opening : book.opening ≡ v.known.opening
 
+-- the numbers spent are below the book's marks
+abbrev pub IsCovered : ℕ → Numbers → Known → Type 0
+IsCovered count v book = (row x : ℕ) → row < count → times row x v.spent ≤ once_below x (mark_of book row)
+
 module _ {B : Type 0} (told : B → Known) where
-  abbrev pub Took : Me (Option B) View → Me (Option B) View → Type 0
-  Took m w = (b : B) × (w.1 ≡ (0, Some b) ∷ m.1) × (w.0 ≡ record m.0 { turn = taking (told b) m.0.turn }) × Follows m.0.turn (told b)
+  abbrev pub Took : ℕ → Me (Option B) View → Me (Option B) View → Type 0
+  Took count m w =
+      (b : B) × (w.1 ≡ (0, Some b) ∷ m.1) × (w.0 ≡ record m.0 { turn = taking (told b) m.0.turn })
+      × Follows m.0.turn (told b) × IsCovered count m.0.numbers (told b)
 
   -- the turn was taken with the book, where it was free
-  abbrev pub takes : Me (Option B) View → ℕ → Me (Option B) View → Type 0
-  takes m n w = (n ≡ 0 → Took m w) × (n ≢ 0 → w ≡ m)
+  abbrev pub takes : ℕ → Me (Option B) View → ℕ → Me (Option B) View → Type 0
+  takes count m n w = (n ≡ 0 → Took count m w) × (n ≢ 0 → w ≡ m)
 
   -- the book in the slot was given back
   abbrev pub gives : Me (Option B) View → ℕ → Me (Option B) View → Type 0

@@ -100,10 +100,10 @@ impl<S> Play<S, View> for Turns {
     ghost then = { λ _. turns };
 }
 
-pub(crate) struct Takes;
+pub(crate) struct Takes<T>(PhantomData<T>);
 
-impl<B: Counted> Play<Option<B>, View> for Takes {
-    ghost then = { λ _. takes B.told };
+impl<B: Counted, T: Told> Play<Option<B>, View> for Takes<T> {
+    ghost then = { λ _. takes B.told T.number };
 }
 
 pub(crate) struct Gives;

@@ -8,6 +8,7 @@ ghost use Rattle.counter_table.specs.Turn.{beginner, merged};
 ghost use Rattle.counter_table.specs.Rule.{next_at};
 ghost use Rattle.counter_table.specs.Play.{first_view};
 ghost use Rattle.counter_table.specs.Close.{Closes};
+ghost use Rattle.counter_table.specs.Whole.{IsWhole};
 ghost use Rattle.counter_table.specs.Worker.{view, rows_of, IsOf, IsSame};
 
 use crate::counters::{Counters, Worker};
@@ -65,6 +66,9 @@ impl<B: Counted> Counters<B> {
         // No number of a row was drawn twice, be it by one of the two or by both.
         ensures apart { (row x : ℕ) → row < rows_of self.now
             → times row x (view worker.old).numbers.drawn + times row x (view other).numbers.drawn ≤ 1 }
+
+        // Who has all shares did all.
+        ensures whole { (view worker.new).numbers.shares ≡ 1024 → IsWhole (rows_of self.now) (view worker.new) }
     {
         let seat = other.into_seat();
         self.table.shared.join_seat::<Shares>(&mut worker.seat, seat);
@@ -88,13 +92,14 @@ impl<B: Counted> Counters<B> {
         (book, nexts)
     }
 
-    // A load that tells that no number was drawn twice.
+    // A load that tells that no number was drawn twice, and what all shares mean.
     fn look<T: Told>(&self, worker: &mut Worker<B>, rows: u16)
         requires own { IsOf self.now worker.old }
         requires rows { (rows ≡ rows_of self.now) × (rows ≡ T.number) }
         ensures same { IsSame worker.old worker.new }
         ensures view { view worker.new ≡ view worker.old }
         ensures apart { (row x : ℕ) → row < rows → times row x (view worker.old).numbers.drawn ≤ 1 }
+        ensures whole { (view worker.old).numbers.shares ≡ 1024 → IsWhole rows (view worker.old) }
     {
         let _rows = rows;
         self.table.shared.load::<Looks<T>>(&mut worker.seat, 1);

@@ -3,7 +3,7 @@ ghost use Rattle.std.specs.Prelude.{◌≡◌, ◌+◌, ◌<◌, ◌≤◌, ◌^
 ghost use Rattle.counter_table.specs.Known.{mark_of, KeepsMarks, MayFill, MayGive};
 ghost use Rattle.counter_table.specs.Numbers.{lifting, raising, top};
 ghost use Rattle.counter_table.specs.Turn.{epoch_seen, filling, giving, learning, seeing, taking, turning};
-ghost use Rattle.counter_table.specs.Play.{Follows, Took};
+ghost use Rattle.counter_table.specs.Play.{Follows, IsCovered, Took};
 ghost use Rattle.counter_table.specs.Worker.{view, rows_of, IsOf, IsSame, KeepsNumbers, KeepsTurn};
 
 use crate::counters::{Counters, Held, Worker};
@@ -48,8 +48,11 @@ impl<B: Counted> Counters<B> {
         ensures same { KeepsNumbers worker.old worker.new }
         ensures turn { (view worker.new).turn ≡ taking (B.told result.book) (view worker.old).turn }
         ensures follows { Follows (view worker.old).turn (B.told result.book) }
+
+        // No number was spent that is not below its row's mark.
+        ensures covered { IsCovered (rows_of self.now) (view worker.old).numbers (B.told result.book) }
     {
-        self.seize(rt, &mut worker.seat);
+        self.seize::<Brand, R>(rt, &mut worker.seat, self.rows);
         let book = self.lift_out(&mut worker.seat);
         Held { book }
     }
@@ -167,16 +170,18 @@ impl<B: Counted> Counters<B> {
     }
 
     // Swaps the turn's word until it was free.
-    fn seize<R: Wait>(&self, rt: &R, seat: &mut Seat<Option<B>, View>)
+    fn seize<T: Told, R: Wait>(&self, rt: &R, seat: &mut Seat<Option<B>, View>, rows: u16)
+        requires rows { (rows ≡ rows_of self.now) × (rows ≡ T.number) }
         requires own { seat.old.table_id ≡ self.now.table.shared.table_id }
         requires alive { 0 < seat.old.me.0.numbers.shares }
         requires filled { seat.old.me.0.turn.filled ≡ true }
         ensures same { (seat.new.table_id ≡ seat.old.table_id) × (seat.new.id ≡ seat.old.id) }
-        ensures took { Took B.told seat.old.me seat.new.me }
+        ensures took { Took B.told rows seat.old.me seat.new.me }
     {
+        let _rows = rows;
         let shared = &self.table.shared;
         for _ in rt.forever() {
-            if shared.swap::<Takes>(seat, TURN, TAKEN) == FREE {
+            if shared.swap::<Takes<T>>(seat, TURN, TAKEN) == FREE {
                 return;
             }
             shared.park(rt, TURN, TAKEN as u32);
