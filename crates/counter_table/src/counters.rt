@@ -17,6 +17,27 @@ pub struct Counters<B: Counted> {
     ghost roomy: { (room.items ≡ []) × (rows ≤ vec_capacity room) },
 }
 
+impl<B: Counted> Counters<B> {
+    pub(crate) fn into_parts(self) -> (Table<Option<B>, View, u16, Rule, Global>, u16, Vec<u64>)
+        ensures table { result.0 ≡ self.table }
+        ensures rows { result.1 ≡ self.rows }
+        ensures room { result.2 ≡ self.room }
+    {
+        let Counters { table, rows, room } = self;
+        (table, rows, room)
+    }
+}
+
+impl<B: Counted + Drop> Drop for Counters<B> {
+    fn drop(self) {
+        let Counters {
+            table: _,
+            rows: _,
+            room: _,
+        } = self;
+    }
+}
+
 /// One who steps on the counters. It has no bytes.
 pub struct Worker<B> {
     pub(crate) seat: Seat<Option<B>, View>,

@@ -83,7 +83,7 @@ impl<B: Counted> Counters<B> {
         requires filled { (view worker).turn.filled ≡ true }
         ensures { Closes (rows_of self) (view worker) (B.told result.0) result.1.items }
     {
-        let Counters { table, rows, room } = self;
+        let (table, rows, room) = self.into_parts();
         let mut closed = table.close_with(worker.into_seat());
         let nexts = nexts_of(&closed, rows, room);
         let last = closed.take(0);
