@@ -1,0 +1,122 @@
+-- What stays known of a book while it goes on, and the places of a log.
+use Rattle.std.proofs.Common.{◌≡◌, ◌⊎◌, ℕ, zero, suc, ◌+◌, ◌<◌, ◌≤◌, max, ltb, true, false, Bool, List, [], ◌∷◌, ◌++◌, length, sym, refl, ap, ◌∙◌, subst, inl, inr, ⊎_elim, le_trans, append_assoc, length-append, arith, if◌then◌else◌, ◌==◌}
+use Rattle.std.proofs.lemmas.Bool.Decides.{nat_tests}
+use Rattle.sdls_base.specs.declared.entry.Logged.{Logged}
+use Rattle.counter_table.specs.declared.view.Opening.{Opening}
+use Rattle.counter_table.specs.declared.view.Known.{Known}
+use Rattle.counter_table.specs.declared.view.Turn.{Turn}
+use Rattle.counter_table.specs.Known.{entries, is_entry, HasRisen, Earlier, unknown, longer, later}
+use Rattle.counter_table.specs.Turn.{places, stands, no_turn, beginner}
+use Rattle.counter_table.specs.Rule.{once_below, KnowsBook}
+
+pub append-nil : (xs : List Logged) → xs ++ [] ≡ xs
+append-nil [] = refl
+append-nil (x ∷ xs) = ap (λ ys. x ∷ ys) (append-nil xs)
+
+pub entries-append : (xs ys : List Logged) → entries (xs ++ ys) ≡ entries xs + entries ys
+entries-append [] ys = omega arith
+entries-append (x ∷ xs) ys = let h = entries-append xs ys in omega arith
+
+-- of two beginnings of one log the shorter has no more entries, and no more lines
+entries_shorter : (xs ys r s : List Logged) → xs ++ r ≡ ys ++ s → length xs ≤ length ys → entries xs ≤ entries ys
+entries_shorter [] ys r s e h = omega arith
+entries_shorter (x ∷ xs) [] r s e h = absurd (omega arith)
+entries_shorter (x ∷ xs) (y ∷ ys) r s e h =
+    let head : x ≡ y = cc in let tail : xs ++ r ≡ ys ++ s = cc in
+    let t = entries_shorter xs ys r s tail (omega arith) in let i : (if is_entry x then 1 else 0) ≡ (if is_entry y then 1 else 0) = ap (λ z. if is_entry z then 1 else 0) head in let P : ℕ → Type 0 = λ k. k + entries xs ≤ (if is_entry y then 1 else 0) + entries ys in subst P (sym i) (omega arith)
+
+risen_more : (o m n : ℕ) → m ≤ n → HasRisen o m → HasRisen o n
+risen_more o m n h r = ⊎_elim (λ a. inl (omega arith)) (λ b. inr (omega arith)) r
+
+risen_either : (o m n : ℕ) → HasRisen o (max m n) → HasRisen o m ⊎ HasRisen o n
+risen_either o m n r = ⊎_elim (λ a. elim_lt (ltb m n) refl a) (λ b. elim_le (ltb m n) refl b) r
+  where
+    elim_lt : (t : Bool) → ltb m n ≡ t → o < max m n → HasRisen o m ⊎ HasRisen o n
+    elim_lt true is a = let lt : m < n = grind (arith, nat_tests) in inr (inl (omega arith))
+    elim_lt false is a = let le : n ≤ m = grind (arith, nat_tests) in inl (inl (omega arith))
+
+    elim_le : (t : Bool) → ltb m n ≡ t → 18446744073709551615 ≤ max m n → HasRisen o m ⊎ HasRisen o n
+    elim_le true is b = let lt : m < n = grind (arith, nat_tests) in inr (inr (omega arith))
+    elim_le false is b = let le : n ≤ m = grind (arith, nat_tests) in inl (inr (omega arith))
+
+pub earlier_itself : (k : Known) → Earlier k k
+earlier_itself k = record { log = ([], sym (append-nil k.log)); changes = omega arith; faults = omega arith; stopped = λ r. refl }
+
+pub earlier_unknown : (k : Known) → Earlier unknown k
+earlier_unknown k = record { log = (k.log, refl); changes = omega arith; faults = omega arith; stopped = λ r. absurd (⊎_elim (λ a. omega arith) (λ b. omega arith) r) }
+
+pub earlier_further : (a b c : Known) → Earlier a b → Earlier b c → c.opening ≡ b.opening → Earlier a c
+earlier_further a b c ab bc same =
+    record {
+      log = (ab.log.0 ++ bc.log.0, bc.log.1 ∙ (ap (λ z. z ++ bc.log.0) ab.log.1 ∙ append_assoc a.log ab.log.0 bc.log.0));
+      changes = le_trans ab.changes bc.changes;
+      faults = le_trans ab.faults bc.faults;
+      stopped = λ r.
+          let o : c.opening.faults ≡ b.opening.faults = ap (λ z. z.faults) same in
+          let r' : HasRisen b.opening.faults a.faults = subst (λ z. HasRisen z a.faults) o r in
+          bc.stopped (risen_more c.opening.faults a.faults b.faults ab.faults r) ∙ ab.stopped r';
+    }
+
+pub earlier_length : (a b : Known) → Earlier a b → length a.log ≤ length b.log
+earlier_length a b e = let h : length b.log ≡ length (a.log ++ e.log.0) = ap length e.log.1 in let l = length-append a.log e.log.0 in omega arith
+
+-- what two workers know together is of an earlier time too
+pub earlier_later : (o : Opening) (a b k : Known) → Earlier a k → Earlier b k → Earlier (later o a b) k
+earlier_later o a b k ak bk = go (ltb (length a.log) (length b.log)) refl
+  where
+    same : a.log ++ ak.log.0 ≡ b.log ++ bk.log.0
+    same = sym ak.log.1 ∙ bk.log.1
+
+    fits : (log : List Logged) → ((rest : List Logged) × (k.log ≡ log ++ rest)) → entries a.log ≤ entries log → entries b.log ≤ entries log
+        → Earlier record { marks = a.marks; log = log; changes = max a.changes b.changes; faults = max a.faults b.faults; opening = o } k
+    fits log p ea eb =
+        record {
+          log = p;
+          changes = let x = ak.changes in let y = bk.changes in omega arith;
+          faults = let x = ak.faults in let y = bk.faults in omega arith;
+          stopped = λ r.
+              let whole : entries k.log ≡ entries log + entries p.0 = ap entries p.1 ∙ entries-append log p.0 in
+              ⊎_elim (λ x. let s = ak.stopped x in omega arith) (λ y. let s = bk.stopped y in omega arith) (risen_either k.opening.faults a.faults b.faults r);
+        }
+
+    go : (t : Bool) → ltb (length a.log) (length b.log) ≡ t
+        → Earlier record { marks = a.marks; log = (if t then b.log else a.log); changes = max a.changes b.changes; faults = max a.faults b.faults; opening = o } k
+    go true is = let lt : length a.log < length b.log = grind (arith, nat_tests) in fits b.log bk.log (entries_shorter a.log b.log ak.log.0 bk.log.0 same (omega arith)) (omega arith)
+    go false is = let le : length b.log ≤ length a.log = grind (arith, nat_tests) in fits a.log ak.log (omega arith) (entries_shorter b.log a.log bk.log.0 ak.log.0 (sym same) le)
+
+pub longer_length : (xs ys : List Logged) → (length xs ≤ length (longer xs ys)) × (length ys ≤ length (longer xs ys))
+longer_length xs ys = go (ltb (length xs) (length ys)) refl
+  where
+    go : (t : Bool) → ltb (length xs) (length ys) ≡ t → (length xs ≤ length (if t then ys else xs)) × (length ys ≤ length (if t then ys else xs))
+    go true is = let lt : length xs < length ys = grind (arith, nat_tests) in (omega arith, omega arith)
+    go false is = let le : length ys ≤ length xs = grind (arith, nat_tests) in (omega arith, omega arith)
+
+-- places
+pub stands-append : (p : ℕ) (xs ys : List ℕ) → stands p (xs ++ ys) ≡ stands p xs + stands p ys
+stands-append p [] ys = omega arith
+stands-append p (x ∷ xs) ys = let h = stands-append p xs ys in omega arith
+
+pub places_next : (p from count : ℕ) → stands p (places from count) + once_below p from ≡ once_below p (from + count)
+places_next p from zero = grind (arith, nat_tests)
+places_next p from (suc count) = let h = places_next p (suc from) count in let o = one p from in let e : suc from + count ≡ from + suc count = omega arith in let k = ap (once_below p) e in omega arith
+  where
+    one : (p n : ℕ) → (if n == p then 1 else 0) + once_below p n ≡ once_below p (suc n)
+    one p n = grind (arith, nat_tests)
+
+pub places_low : (p from count : ℕ) → 0 < stands p (places from count) → p < from + count
+places_low p from count h = let e = places_next p from count in lemma (stands p (places from count)) e h
+  where
+    lemma : (s : ℕ) → s + once_below p from ≡ once_below p (from + count) → 0 < s → p < from + count
+    lemma s e h = grind (arith, nat_tests)
+
+-- a worker that ended
+pub ended_knows : (book : Known) (filled : Bool) → KnowsBook book filled no_turn
+ended_knows book filled =
+    record { earlier = earlier_unknown book; epoch = omega arith; opening = λ e. absurd (false≢true e); blank = λ e. refl; made = λ p h. absurd (omega arith) }
+  where
+    false≢true : false ≡ true → ⊥
+    false≢true e = cc
+
+-- a worker that was split off
+pub beginner_knows : (book : Known) (filled : Bool) (v : Turn) → KnowsBook book filled v → KnowsBook book filled (beginner v)
+beginner_knows book filled v k = record { earlier = k.earlier; epoch = k.epoch; opening = k.opening; blank = k.blank; made = λ p h. absurd (omega arith) }

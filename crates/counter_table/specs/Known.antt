@@ -1,0 +1,61 @@
+-- Profile: what a book tells, and how a later book follows an earlier one.
+use Rattle.std.specs.Prelude.{◌≡◌, ◌⊎◌, ℕ, ◌+◌, ◌<◌, ◌≤◌, max, nat_lt, Bool, true, false, List, [], ◌∷◌, ◌++◌, length, slice_index_or, if◌then◌else◌}
+use Rattle.sdls_base.specs.declared.entry.Logged.{Logged}
+use Rattle.sdls_base.specs.declared.entry.Logged.TheVariants.{Entry, Piece}
+use Rattle.counter_table.specs.declared.view.Opening.{Opening}
+use Rattle.counter_table.specs.declared.view.Known.{Known}
+
+-- a row that the book lacks has mark 1
+abbrev pub mark_of : Known → ℕ → ℕ
+mark_of book row = slice_index_or book.marks row 1
+
+abbrev pub is_entry : Logged → Bool
+is_entry (Entry e) = true
+is_entry (Piece p) = false
+
+-- how many lines of the log are entries
+abbrev pub entries : List Logged → ℕ
+entries [] = 0
+entries (line ∷ log) = (if is_entry line then 1 else 0) + entries log
+
+-- a count of faults rose: it is greater, or stands at its last value
+abbrev pub HasRisen : ℕ → ℕ → Type 0
+HasRisen before after = (before < after) ⊎ (18446744073709551615 ≤ after)
+
+-- the one is the other at an earlier time. Once the count of faults had risen since the opening, no entry was added
+pub record Earlier (one other : Known) : Type 0 where
+  pub log : (rest : List Logged) × (other.log ≡ one.log ++ rest)
+  pub changes : one.changes ≤ other.changes
+  pub faults : one.faults ≤ other.faults
+  pub stopped : HasRisen other.opening.faults one.faults → entries other.log ≡ entries one.log
+
+-- no mark fell
+abbrev pub KeepsMarks : Known → Known → Type 0
+KeepsMarks one other = (row : ℕ) → mark_of one row ≤ mark_of other row
+
+-- a held book may be given back by a worker that knew this of it last
+pub record MayGive (known held : Known) : Type 0 where
+  pub marks : KeepsMarks known held
+  pub earlier : Earlier known held
+  pub opening : held.opening ≡ known.opening
+  pub changes : held.changes ≡ known.changes
+
+-- a first book may be filled in
+pub record MayFill (book : Known) : Type 0 where
+  pub marks : (row : ℕ) → 1 ≤ mark_of book row
+  pub changes : book.changes ≡ 0
+
+-- before a book was filled
+abbrev pub unopened : Opening
+unopened = record { image = []; faults = 0 }
+
+abbrev pub unknown : Known
+unknown = record { marks = []; log = []; changes = 0; faults = 0; opening = unopened }
+
+abbrev pub longer : List Logged → List Logged → List Logged
+longer one other = if nat_lt (length one) (length other) then other else one
+
+-- what two workers know together
+abbrev pub later : Opening → Known → Known → Known
+later opening one other =
+    record { marks = one.marks; log = longer one.log other.log; changes = max one.changes other.changes; faults = max one.faults other.faults; opening = opening }

@@ -1,0 +1,122 @@
+-- Profile: the rule of the counters, which holds between any two steps of any workers.
+-- The words are the turn (0 free, 2 taken), the epoch, and from word 16 on 16 words for each row, of which the first is `next` and the second `limit`.
+use Rattle.std.specs.Prelude.{◌≡◌, ◌⊎◌, ℕ, ◌+◌, ◌*◌, ◌<◌, ◌≤◌, max, nat_lt, Bool, true, false, List, [], ◌∷◌, length, map, slice_index, Some, None, Option, if◌then◌else◌}
+use mathlib.Core.Option as slot
+use lib.ListN.{get_elem?}
+use Rattle.atomic_table.specs.Table.{State}
+use Rattle.counter_table.specs.declared.view.Known.{Known}
+use Rattle.counter_table.specs.declared.view.Numbers.{Numbers}
+use Rattle.counter_table.specs.declared.view.Turn.{Turn}
+use Rattle.counter_table.specs.declared.view.View.{View}
+use Rattle.counter_table.specs.Known.{mark_of, Earlier, unknown}
+use Rattle.counter_table.specs.Numbers.{times, count_of, amount, top, is_armed, is_last, no_numbers}
+use Rattle.counter_table.specs.Turn.{stands, no_turn}
+
+-- a sum over all workers, and a greatest
+abbrev pub total : {V : Type 0} → (V → ℕ) → List V → ℕ
+total f [] = 0
+total f (v ∷ vs) = f v + total f vs
+
+abbrev pub greatest : {V : Type 0} → (V → ℕ) → List V → ℕ
+greatest f [] = 0
+greatest f (v ∷ vs) = max (f v) (greatest f vs)
+
+-- 1 for each number below n, else 0
+abbrev pub once_below : ℕ → ℕ → ℕ
+once_below x n = if nat_lt x n then 1 else 0
+
+abbrev pub one_if : Bool → ℕ
+one_if b = if b then 1 else 0
+
+abbrev pub next_at : ℕ → ℕ
+next_at row = 16 * row + 16
+
+abbrev pub limit_at : ℕ → ℕ
+limit_at row = 16 * row + 17
+
+-- the greatest end of a key, 2 ^ 48, and one for each share
+abbrev pub most : ℕ
+most = 281474976711680
+
+-- what a worker knows of a row with these words
+pub record SeatFits (row next limit : ℕ) (v : Numbers) : Type 0 where
+  -- the words seen are past
+  pub nexts : top row v.nexts ≤ next
+  pub limits : top row v.limits ≤ limit
+  -- each number spent is below the limit, and was spent once
+  pub spent : (x : ℕ) → times row x v.spent ≤ once_below x limit
+
+pub record RowFits (row next limit : ℕ) (views : List Numbers) : Type 0 where
+  -- the numbers drawn differ, and are below `next`
+  pub once : (x : ℕ) → total (λ v. times row x v.drawn) views ≤ once_below x next
+  -- there is room for each worker that is armed
+  pub room : next + total (λ v. is_armed row v.armed) views ≤ most
+  -- what draws and raises added
+  pub grown : next ≡ 1 + total (λ v. amount row v.added) views
+  -- what draws and raises can have made of it
+  pub bound : next ≤ max 1 (greatest (λ v. top row v.raised) views) + total (λ v. count_of row v.drawn) views
+  pub each : (id : ℕ) (v : Numbers) → get_elem? views id ≡ slot.some v → SeatFits row next limit v
+  -- a word that moved is the last one that some worker with a share knows
+  pub last : (next ≡ 1) ⊎ ((id : ℕ) × (v : Numbers) × (get_elem? views id ≡ slot.some v) × (0 < v.shares) × (top row v.nexts ≡ next))
+
+-- what a worker knows of its own numbers
+pub record IsSane (v : Numbers) : Type 0 where
+  -- what is spent was drawn here, and so was the last number, which is not spent
+  pub drawn : (row x : ℕ) → times row x v.spent + is_last row x v.last ≤ times row x v.drawn
+  pub alive : (v ≡ no_numbers) ⊎ (0 < v.shares)
+
+pub record NumbersFit (count : ℕ) (words : List ℕ) (views : List Numbers) : Type 0 where
+  pub size : length words ≡ 16 * count + 16
+  pub rows : (row : ℕ) → row < count → RowFits row (slice_index words (next_at row)) (slice_index words (limit_at row)) views
+  pub shares : total (λ v. v.shares) views ≡ 1024
+  pub sane : (id : ℕ) (v : Numbers) → get_elem? views id ≡ slot.some v → IsSane v
+
+-- what a worker knows of the book, where this is the book at home, or out as its holder knows it
+pub record KnowsBook (book : Known) (filled : Bool) (v : Turn) : Type 0 where
+  pub earlier : Earlier v.known book
+  pub epoch : v.epoch ≤ book.changes
+  pub opening : v.filled ≡ true → (filled ≡ true) × (v.known.opening ≡ book.opening)
+  pub blank : v.filled ≡ false → v.known ≡ unknown
+  pub made : (place : ℕ) → 0 < stands place v.made → place < length v.known.log
+
+module _ {B : Type 0} (told : B → Known) where
+  -- where the book is
+  pub record IsAtHome (word : ℕ) (homes : List (slot.Option (Option B))) (views : List Turn) (known : Known) (full : Bool) : Type 0 where
+    pub turn : word ≡ 0
+    pub book : (b : B) × (homes ≡ slot.some (Some b) ∷ []) × (told b ≡ known)
+    pub free : total (λ v. one_if v.holds) views ≡ 0
+    pub filled : full ≡ true
+
+  pub record IsUnfilled (word : ℕ) (homes : List (slot.Option (Option B))) (views : List Turn) (known : Known) (full : Bool) : Type 0 where
+    pub turn : word ≡ 0
+    pub none : homes ≡ slot.some None ∷ []
+    pub free : total (λ v. one_if v.holds) views ≡ 0
+    pub filled : full ≡ false
+    pub book : known ≡ unknown
+
+  pub record IsOut (word : ℕ) (homes : List (slot.Option (Option B))) (views : List Turn) (known : Known) (full : Bool) : Type 0 where
+    pub turn : word ≡ 2
+    pub out : homes ≡ slot.none ∷ []
+    pub held : total (λ v. one_if v.holds) views ≡ 1
+    pub holder : (id : ℕ) (v : Turn) → get_elem? views id ≡ slot.some v → v.holds ≡ true → v.known ≡ known
+    pub book : full ≡ false → known ≡ unknown
+
+  -- the turn, the epoch and the limits fit the book and what each worker knows of it
+  pub record TurnFits (count : ℕ) (words : List ℕ) (homes : List (slot.Option (Option B))) (views : List Turn) (book : Known) (filled : Bool) : Type 0 where
+    pub place : IsAtHome (slice_index words 0) homes views book filled
+        ⊎ (IsUnfilled (slice_index words 0) homes views book filled ⊎ IsOut (slice_index words 0) homes views book filled)
+    pub epoch : slice_index words 1 ≡ book.changes
+    pub limits : (row : ℕ) → row < count → slice_index words (limit_at row) ≤ mark_of book row
+    -- all places of the log, each made once
+    pub made : (place : ℕ) → total (λ v. stands place v.made) views ≡ once_below place (length book.log)
+    pub known : filled ≡ true → 0 < total (λ v. one_if v.filled) views
+    pub each : (id : ℕ) (v : Turn) → get_elem? views id ≡ slot.some v → KnowsBook book filled v
+
+  -- the rule
+  pub record IsKept (count : ℕ) (s : State (Option B) View) : Type 0 where
+    pub numbers : NumbersFit count s.words (map (λ v. v.numbers) s.views)
+    pub book : Known
+    pub filled : Bool
+    pub turn : TurnFits count s.words s.homes (map (λ v. v.turn) s.views) book filled
+    -- a worker that ended knows nothing
+    pub ended : (id : ℕ) (v : View) → get_elem? s.views id ≡ slot.some v → v.numbers.shares ≡ 0 → v.turn ≡ no_turn

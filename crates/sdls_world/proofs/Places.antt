@@ -1,0 +1,90 @@
+-- Lists by place, sums over them, and lists of pairs.
+use Rattle.std.proofs.Common.{◌≡◌, ◌≢◌, ◌⊎◌, ℕ, zero, suc, ◌+◌, ◌-◌, ◌<◌, ◌≤◌, eqb, true, false, Bool, ◌&&◌, List, [], ◌∷◌, ◌++◌, map, set, sym, refl, ap, ◌∙◌, subst, inl, inr, ⊎_elim, arith, Some, None, Option, slice_get, if◌then◌else◌, ◌==◌, eq-eqb}
+use Rattle.std.proofs.lemmas.Bool.Decides.{nat_tests}
+use Rattle.sdls_world.specs.Core.{find_place, further}
+use Rattle.sdls_world.specs.Kept.{one_if, times, total, once_below}
+
+pub some_same : {A : Type 0} {a b : A} → Some a ≡ Some b → a ≡ b
+some_same e = cc
+
+module _ {X : Type 0} where
+  pub get_set : (xs : List X) (i j : ℕ) (w u : X) → slice_get (set xs i w) j ≡ Some u → ((j ≡ i) × (w ≡ u)) ⊎ ((j ≢ i) × (slice_get xs j ≡ Some u))
+  get_set [] i j w u e = absurd (let n : None ≡ Some u = e in cc)
+  get_set (x ∷ xs) zero zero w u e = inl (refl, cc)
+  get_set (x ∷ xs) zero (suc j) w u e = inr ((λ h. omega arith), e)
+  get_set (x ∷ xs) (suc i) zero w u e = inr ((λ h. omega arith), e)
+  get_set (x ∷ xs) (suc i) (suc j) w u e = ⊎_elim (λ t. inl (ap suc t.0, t.1)) (λ t. let n = t.0 in inr ((λ h. n (omega arith)), t.1)) (get_set xs i j w u e)
+
+  pub get_snoc : (xs : List X) (w u : X) (j : ℕ) → slice_get (xs ++ w ∷ []) j ≡ Some u → (slice_get xs j ≡ Some u) ⊎ (w ≡ u)
+  get_snoc [] w u zero e = inr cc
+  get_snoc [] w u (suc j) e = absurd (let n : None ≡ Some u = e in cc)
+  get_snoc (x ∷ xs) w u zero e = inl e
+  get_snoc (x ∷ xs) w u (suc j) e = get_snoc xs w u j e
+
+  pub total_set : (f : X → ℕ) (xs : List X) (i : ℕ) (v w : X) → slice_get xs i ≡ Some v → total f (set xs i w) + f v ≡ total f xs + f w
+  total_set f [] i v w e = absurd (let n : None ≡ Some v = e in cc)
+  total_set f (x ∷ xs) zero v w e = let s : x ≡ v = cc in let h : f x ≡ f v = ap f s in omega arith
+  total_set f (x ∷ xs) (suc i) v w e = let h = total_set f xs i v w e in omega arith
+
+  pub total_at : (f : X → ℕ) (xs : List X) (i : ℕ) (v : X) → slice_get xs i ≡ Some v → f v ≤ total f xs
+  total_at f [] i v e = absurd (let n : None ≡ Some v = e in cc)
+  total_at f (x ∷ xs) zero v e = let s : x ≡ v = cc in let h : f x ≡ f v = ap f s in omega arith
+  total_at f (x ∷ xs) (suc i) v e = let h = total_at f xs i v e in omega arith
+
+  pub total-snoc : (f : X → ℕ) (xs : List X) (w : X) → total f (xs ++ w ∷ []) ≡ total f xs + f w
+  total-snoc f [] w = omega arith
+  total-snoc f (x ∷ xs) w = let h = total-snoc f xs w in omega arith
+
+  later : (p : X → Bool) (y : X) (ys : List X) (i : ℕ) (x : X) → ((j : ℕ) (z : X) → find_place p ys ≡ Some (j, z) → slice_get ys j ≡ Some z)
+      → (o : Option (ℕ × X)) → find_place p ys ≡ o → further o ≡ Some (i, x) → slice_get (y ∷ ys) i ≡ Some x
+  later p y ys i x next None is k = absurd (let n : None ≡ Some (i, x) = k in cc)
+  later p y ys i x next (Some f) is k =
+      let same : (suc f.0, f.1) ≡ (i, x) = some_same k in
+      subst (λ n. slice_get (y ∷ ys) n ≡ Some x) (ap (λ z. z.0) same) (next f.0 f.1 is ∙ ap Some (ap (λ z. z.1) same))
+
+  here_or_later : (p : X → Bool) (y : X) (ys : List X) (i : ℕ) (x : X) → ((j : ℕ) (z : X) → find_place p ys ≡ Some (j, z) → slice_get ys j ≡ Some z)
+      → (b : Bool) → (if b then Some (0, y) else further (find_place p ys)) ≡ Some (i, x) → slice_get (y ∷ ys) i ≡ Some x
+  here_or_later p y ys i x next true k =
+      let same : (0, y) ≡ (i, x) = some_same k in subst (λ n. slice_get (y ∷ ys) n ≡ Some x) (ap (λ z. z.0) same) (ap Some (ap (λ z. z.1) same))
+  here_or_later p y ys i x next false k = later p y ys i x next (find_place p ys) refl k
+
+  pub found_at : (p : X → Bool) (xs : List X) (i : ℕ) (x : X) → find_place p xs ≡ Some (i, x) → slice_get xs i ≡ Some x
+  found_at p [] i x e = absurd (let n : None ≡ Some (i, x) = e in cc)
+  found_at p (y ∷ ys) i x e = here_or_later p y ys i x (λ j z. found_at p ys j z) (p y) e
+
+pub get_map : {X Y : Type 0} (f : X → Y) (xs : List X) (i : ℕ) (y : Y) → slice_get (map f xs) i ≡ Some y → (x : X) × (slice_get xs i ≡ Some x) × (f x ≡ y)
+get_map f [] i y e = absurd (let n : None ≡ Some y = e in cc)
+get_map f (x ∷ xs) zero y e = (x, refl, cc)
+get_map f (x ∷ xs) (suc i) y e = get_map f xs i y e
+
+pub times-append : (row x : ℕ) (ps qs : List (ℕ × ℕ)) → times row x (ps ++ qs) ≡ times row x ps + times row x qs
+times-append row x [] qs = omega arith
+times-append row x (p ∷ ps) qs = let h = times-append row x ps qs in omega arith
+
+pub once_below_one : (x n : ℕ) → once_below x n ≤ 1
+once_below_one x n = grind (arith, nat_tests)
+
+pub once_below_more : (x n m : ℕ) → n ≤ m → once_below x n ≤ once_below x m
+once_below_more x n m h = grind (arith, nat_tests)
+
+pub once_below_last : (x n : ℕ) → n ≡ x → 1 + once_below x n ≤ once_below x (n + 1)
+once_below_last x n h = grind (arith, nat_tests)
+
+pub once_below_yes : (x n : ℕ) → x < n → once_below x n ≡ 1
+once_below_yes x n h = grind (arith, nat_tests)
+
+eqb-eq : (m n : ℕ) → eqb m n ≡ true → m ≡ n
+eqb-eq m n e = grind (arith, nat_tests)
+
+-- the pair is x of the row, or it is not
+pub is_pair : (row x : ℕ) (p : ℕ × ℕ) → ((p.0 ≡ row) × (p.1 ≡ x) × (one_if row x p ≡ 1)) ⊎ (one_if row x p ≡ 0)
+is_pair row x p = go (eqb p.0 row) (eqb p.1 x) refl refl
+  where
+    go : (a b : Bool) → eqb p.0 row ≡ a → eqb p.1 x ≡ b → ((p.0 ≡ row) × (p.1 ≡ x) × ((let n : ℕ = if a && b then 1 else 0 in n) ≡ 1)) ⊎ ((let n : ℕ = if a && b then 1 else 0 in n) ≡ 0)
+    go true true e f = inl (eqb-eq p.0 row e, eqb-eq p.1 x f, refl)
+    go true false e f = inr refl
+    go false true e f = inr refl
+    go false false e f = inr refl
+
+pub same_pair : (p : ℕ × ℕ) → one_if p.0 p.1 p ≡ 1
+same_pair p = rw (eq-eqb p.0 p.0 refl, eq-eqb p.1 p.1 refl) refl

@@ -1,0 +1,50 @@
+-- Profile: what holds of the pure core at every moment.
+use Rattle.std.specs.Prelude.{◌≡◌, ℕ, ◌+◌, ◌-◌, ◌<◌, ◌≤◌, ◌==◌, ◌&&◌, nat_lt, true, List, [], ◌∷◌, Option, Some, None, slice_get, if◌then◌else◌}
+use Rattle.sdls_world.specs.declared.key.Key.{Key}
+use Rattle.sdls_world.specs.Core.{Doer, Core}
+
+-- 1 where the pair is the number x of the row, else 0
+abbrev pub one_if : ℕ → ℕ → ℕ × ℕ → ℕ
+one_if row x p = if (p.0 == row) && (p.1 == x) then 1 else 0
+
+-- how often the number x of the row stands in the list
+abbrev pub times : ℕ → ℕ → List (ℕ × ℕ) → ℕ
+times row x [] = 0
+times row x (p ∷ ps) = one_if row x p + times row x ps
+
+-- a sum over all actors
+abbrev pub total : {V : Type 0} → (V → ℕ) → List V → ℕ
+total f [] = 0
+total f (v ∷ vs) = f v + total f vs
+
+-- 1 for each number below n, else 0
+abbrev pub once_below : ℕ → ℕ → ℕ
+once_below x n = if nat_lt x n then 1 else 0
+
+-- 1 where the number drawn last is x of the row
+abbrev pub is_last : ℕ → ℕ → Option (ℕ × ℕ) → ℕ
+is_last row x None = 0
+is_last row x (Some p) = one_if row x p
+
+-- how often the actor drew the number and did not use it
+abbrev pub unused : ℕ → ℕ → Doer → ℕ
+unused row x a = times row x a.drawn - times row x a.spent
+
+pub record KeyKept (row : ℕ) (k : Key) (w : Core) : Type 0 where
+  -- the numbers used, and those drawn and not used, all differ and are below `next`
+  pub once : (x : ℕ) → times row x w.used + total (unused row x) w.actors ≤ once_below x k.next
+  -- each number used is below the durable mark
+  pub used : (x : ℕ) → times row x w.used ≤ once_below x k.durable
+  -- each funded number is below the limit
+  pub funded : (i : ℕ) (a : Doer) → slice_get w.actors i ≡ Some a → (x : ℕ) → 0 < times row x a.funded → x < k.limit
+  pub lifted : k.limit ≤ k.durable
+  pub stored : k.durable ≤ k.mark
+
+-- what an actor knows of its own numbers
+pub record DoerKept (a : Doer) : Type 0 where
+  pub drawn : (row x : ℕ) → times row x a.spent + is_last row x a.last ≤ times row x a.drawn
+  pub funded : a.is_funded ≡ true → (p : ℕ × ℕ) → a.last ≡ Some p → 0 < times p.0 p.1 a.funded
+
+pub record IsKept (w : Core) : Type 0 where
+  pub keys : (row : ℕ) (k : Key) → slice_get w.keys row ≡ Some k → KeyKept row k w
+  pub actors : (i : ℕ) (a : Doer) → slice_get w.actors i ≡ Some a → DoerKept a
