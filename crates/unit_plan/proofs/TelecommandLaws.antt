@@ -139,7 +139,7 @@ key_said (l ∷ ls) x given =
 pub association_said : (key : ℕ) (lines : List (List ℕ)) (x : (ℕ × ℕ) × List (List ℕ)) → key < 2 ^ 64 - 1
     → association_at key lines ≡ Some x
     → Begins lines (codes "sa" ∷ decimal x.0.0 ∷ codes "send" ∷ codes "cmac" ∷ decimal key ∷ decimal x.0.1
-        ∷ codes "1" ∷ codes "0" ∷ []) x.1
+    ∷ codes "1" ∷ codes "0" ∷ []) x.1
     × (1 ≤ x.0.0) × (x.0.0 ≤ 65534) × (1 ≤ x.0.1) × (x.0.1 ≤ 4294967295)
 unfolding association_at
 association_said key [] x small given = absurd (none_some x given)
@@ -212,10 +212,16 @@ unfolding channel_at past
 channel_again [] s v m others given s_fits v_fits m_fits = absurd (no_line _ others given)
 channel_again (l ∷ ls) s v m others given s_fits v_fits m_fits =
     let parts = first_words (words_of l) (map words_of ls)
-    (codes "channel" ∷ codes "0" ∷ codes "0" ∷ decimal s ∷ decimal v ∷ decimal m ∷ []) others given in
-    (ls, rw (parts.0, number_again 0 1023 s (decimal v ∷ decimal m ∷ []) (omega arith) (omega arith) s_fits,
-      number_again 0 63 v (decimal m ∷ []) (omega arith) (omega arith) v_fits,
-      number_again 0 63 m [] (omega arith) (omega arith) m_fits) refl, parts.1)
+    (codes "channel" ∷ codes "0" ∷ codes "0" ∷ decimal s ∷ decimal v ∷ decimal m ∷ []) others given in (
+      ls,
+      rw (
+        parts.0,
+        number_again 0 1023 s (decimal v ∷ decimal m ∷ []) (omega arith) (omega arith) s_fits,
+        number_again 0 63 v (decimal m ∷ []) (omega arith) (omega arith) v_fits,
+        number_again 0 63 m [] (omega arith) (omega arith) m_fits,
+      ) refl,
+      parts.1,
+    )
 
 pub key_again : (lines : List (List ℕ)) (id : ℕ) (digits octets : List ℕ) (others : List (List (List ℕ)))
     → map words_of lines ≡ (codes "key" ∷ decimal id ∷ codes "active" ∷ digits ∷ []) ∷ others
@@ -224,21 +230,32 @@ pub key_again : (lines : List (List ℕ)) (id : ℕ) (digits octets : List ℕ) 
 unfolding key_at past
 key_again [] id digits octets others given decoded sized low high = absurd (no_line _ others given)
 key_again (l ∷ ls) id digits octets others given decoded sized low high =
-    let parts = first_words (words_of l) (map words_of ls) (codes "key" ∷ decimal id ∷ codes "active" ∷ digits ∷ []) others given in
-    (ls, rw (parts.0, number_again 32768 65535 id (codes "active" ∷ digits ∷ []) (omega arith) low high,
-      octets_again 16 digits octets [] decoded sized) refl, parts.1)
+    let parts = first_words (words_of l) (map words_of ls) (codes "key" ∷ decimal id ∷ codes "active" ∷ digits ∷ []) others given in (
+      ls,
+      rw (
+        parts.0,
+        number_again 32768 65535 id (codes "active" ∷ digits ∷ []) (omega arith) low high,
+        octets_again 16 digits octets [] decoded sized,
+      ) refl,
+      parts.1,
+    )
 
 pub association_again : (key : ℕ) (lines : List (List ℕ)) (spi n : ℕ) (others : List (List (List ℕ))) → key < 2 ^ 64
     → map words_of lines ≡ (codes "sa" ∷ decimal spi ∷ codes "send" ∷ codes "cmac" ∷ decimal key ∷ decimal n
-        ∷ codes "1" ∷ codes "0" ∷ []) ∷ others
+    ∷ codes "1" ∷ codes "0" ∷ []) ∷ others
     → 1 ≤ spi → spi ≤ 65534 → 1 ≤ n → n ≤ 4294967295
     → Leaves (association_at key lines) (spi, n) others
 unfolding association_at past
 association_again key [] spi n others small given spi_low spi_high n_low n_high = absurd (no_line _ others given)
 association_again key (l ∷ ls) spi n others small given spi_low spi_high n_low n_high =
     let parts = first_words (words_of l) (map words_of ls)
-    (codes "sa" ∷ decimal spi ∷ codes "send" ∷ codes "cmac" ∷ decimal key ∷ decimal n ∷ codes "1" ∷ codes "0" ∷ []) others given in
-    (ls, rw (parts.0,
-      number_again 1 65534 spi (codes "send" ∷ codes "cmac" ∷ decimal key ∷ decimal n ∷ codes "1" ∷ codes "0" ∷ []) (omega arith) spi_low spi_high,
-      number_again key key key (decimal n ∷ codes "1" ∷ codes "0" ∷ []) small (omega arith) (omega arith),
-      number_again 1 4294967295 n (codes "1" ∷ codes "0" ∷ []) (omega arith) n_low n_high) refl, parts.1)
+    (codes "sa" ∷ decimal spi ∷ codes "send" ∷ codes "cmac" ∷ decimal key ∷ decimal n ∷ codes "1" ∷ codes "0" ∷ []) others given in (
+      ls,
+      rw (
+        parts.0,
+        number_again 1 65534 spi (codes "send" ∷ codes "cmac" ∷ decimal key ∷ decimal n ∷ codes "1" ∷ codes "0" ∷ []) (omega arith) spi_low spi_high,
+        number_again key key key (decimal n ∷ codes "1" ∷ codes "0" ∷ []) small (omega arith) (omega arith),
+        number_again 1 4294967295 n (codes "1" ∷ codes "0" ∷ []) (omega arith) n_low n_high,
+      ) refl,
+      parts.1,
+    )

@@ -53,8 +53,8 @@ plan_said text plan short given =
       device_digits = at_device.0;
       key_digits = at_key.0;
       words = nine (lines_of text) version.1 device.1 slots.1 block.1 accept.1 link.1 channel.1 key.1 association.1 _ _ _ _ _ _ _ _ _
-        (version_said (lines_of text) version read_version) at_device.1 at_slots.0 at_block.0 at_accept.0
-        (link_said accept.1 link read_link) at_channel.0 at_key.1 at_association.0 (end_said association.1 ended read_end);
+          (version_said (lines_of text) version read_version) at_device.1 at_slots.0 at_block.0 at_accept.0
+          (link_said accept.1 link read_link) at_channel.0 at_key.1 at_association.0 (end_said association.1 ended read_end);
       device = at_device.2;
       device_length = at_device.3;
       key = at_key.2;
@@ -68,8 +68,8 @@ plan_said text plan short given =
         access_point = at_channel.3;
         key = (at_key.4, at_key.5);
         spi = (at_association.1, at_association.2);
-        number = (at_association.3, number_below association.0.1 at_association.4)
-      }
+        number = (at_association.3, number_below association.0.1 at_association.4);
+      };
     })))))))))))
 
 -- a step is made on what was given
