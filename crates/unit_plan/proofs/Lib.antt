@@ -2,3 +2,4 @@ pub mod PartsFacts
 pub mod NumberFacts
 pub mod ReadingFacts
 pub mod TelecommandLaws
+pub mod TelecommandPlans

@@ -39,9 +39,9 @@ held_value : {E : Type 0} (v : ℕ) (some : Type 0) (r : Result ℕ E) → some 
     → result_unwrap_or r (2 ^ 64 - 1) ≡ held v
 held_value v some (Ok x) is given = let e = given.1 in let f = given.0.1 in grind (arith, nat_tests)
 held_value v some (Err e) is given = elim (cases_lt v (2 ^ 64)) [
-    | inl below ↦ absurd (given (is, below))
-    | inr above ↦ grind (arith, nat_tests)
-  ]
+  | inl below ↦ absurd (given (is, below))
+  | inr above ↦ grind (arith, nat_tests)
+]
 
 pub number_parsed : {E : Type 0} (word text : List ℕ) (r : Result ℕ E) → text ≡ word → is_decimal word ≡ true
     → ParsesUnsigned 64 10 text r → Some (result_unwrap_or r (2 ^ 64 - 1)) ≡ number_of word
@@ -63,7 +63,7 @@ number_of-decimal n small =
         | inl above ↦ absurd (let first = first_decimal n above small in omega arith)
         | inr not_above ↦ let one : n ≡ 0 = omega arith in rw (one, decimal_digit 0 (omega arith)) refl
       ];
-      digits = digits_decimal own n small
+      digits = digits_decimal own n small;
     }) in
     rw (is, value) (grind (arith, nat_tests))
 

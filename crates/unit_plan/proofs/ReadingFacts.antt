@@ -62,18 +62,18 @@ number_again least most n ws small low high = rw (number_of-decimal n small) (gr
 
 sized_said : (s : List ℕ) (n : ℕ) (bytes : List ℕ) → decode_sized s n ≡ Ok bytes → (decode_of s ≡ Ok bytes) × (length bytes ≡ n)
 sized_said s n bytes given = elim (cases_eq (length s % 2) 1) [
-    | inl odd ↦ absurd (let e : decode_sized s n ≡ Err OddLength = grind arith in cc)
-    | inr not_odd ↦
-        let even : length s % 2 ≡ 0 = omega arith in
-        elim (cases_eq (length s / 2) n) [
-          | inl half ↦
-              let twice : length s ≡ 2 * n = omega arith in
-              let decoded = sym (decode_sized-twice s n twice) ∙ given in
-              let told = decode_of-ok s bytes decoded in
-              (decoded, omega arith)
-          | inr other ↦ absurd (let e = decode_sized-other s n even other in cc)
-        ]
-  ]
+  | inl odd ↦ absurd (let e : decode_sized s n ≡ Err OddLength = grind arith in cc)
+  | inr not_odd ↦
+      let even : length s % 2 ≡ 0 = omega arith in
+      elim (cases_eq (length s / 2) n) [
+        | inl half ↦
+            let twice : length s ≡ 2 * n = omega arith in
+            let decoded = sym (decode_sized-twice s n twice) ∙ given in
+            let told = decode_of-ok s bytes decoded in
+            (decoded, omega arith)
+        | inr other ↦ absurd (let e = decode_sized-other s n even other in cc)
+      ]
+]
 
 pub octets_said : (count : ℕ) (ws : List (List ℕ)) (x : List ℕ × List (List ℕ)) → octets_at count ws ≡ Some x
     → (digits : List ℕ) × (ws ≡ digits ∷ x.1) × (decode_of digits ≡ Ok x.0) × (length x.0 ≡ count)

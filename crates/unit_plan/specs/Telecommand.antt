@@ -17,7 +17,7 @@ telecommand_words plan device_digits key_digits =
     ∷ (codes "channel" ∷ codes "0" ∷ codes "0" ∷ decimal plan.spacecraft ∷ decimal plan.channel ∷ decimal plan.map ∷ [])
     ∷ (codes "key" ∷ decimal plan.key ∷ codes "active" ∷ key_digits ∷ [])
     ∷ (codes "sa" ∷ decimal plan.spi ∷ codes "send" ∷ codes "cmac" ∷ decimal plan.key ∷ decimal plan.number
-        ∷ codes "1" ∷ codes "0" ∷ [])
+    ∷ codes "1" ∷ codes "0" ∷ [])
     ∷ []
 
 -- the bounds of its numbers; the key is of the CMAC class

@@ -93,5 +93,5 @@ plan_at lines = do
     key = key.0.0;
     key_octets = key.0.1;
     spi = association.0.0;
-    number = association.0.1
+    number = association.0.1;
   })

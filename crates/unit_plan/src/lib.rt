@@ -15,3 +15,6 @@ pub use telecommand::TelecommandPlan;
 
 /// The most octets of a plan.
 pub const MOST_OCTETS: usize = 65_536;
+
+#[cfg(test)]
+mod tests;

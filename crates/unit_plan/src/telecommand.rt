@@ -38,6 +38,21 @@ pub struct TelecommandPlan {
     pub number: u64,
 }
 
+impl TelecommandPlan {
+    /// Reads the nine lines of a text of at most [`MOST_OCTETS`], none of them skipped. Takes no memory.
+    pub fn read(text: &[u8]) -> Option<TelecommandPlan>
+        ensures said { MatchOption result
+            ((plan : TelecommandPlan) → ¬ SaysTelecommand text.now plan)
+            (SaysTelecommand text.now) }
+        ensures determined { (plan : TelecommandPlan) → SaysTelecommand text.now plan → result ≡ Some plan }
+    {
+        if text.len() > MOST_OCTETS {
+            return None;
+        }
+        nine_lines(&mut Lines::of(text))
+    }
+}
+
 impl fmt::Debug for TelecommandPlan {
     fn fmt<W: fmt::Write>(&self, f: &mut fmt::Formatter<W>) -> fmt::Result {
         write!(f, "TelecommandPlan({}, {})", self.spi.get(), self.key.get())
