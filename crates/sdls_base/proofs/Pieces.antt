@@ -1,18 +1,18 @@
 -- Octets cut into pieces, and pieces written one after the other.
-use Rattle.std.proofs.Common.{◌≡◌, ℕ, zero, suc, ◌+◌, ◌-◌, ◌*◌, ◌≤◌, ◌<◌, Bool, true, false, List, [], ◌∷◌, ◌++◌, length, take, drop, get_or, refl, sym, ◌∙◌, ap, subst, arith, append_assoc, length-append, length-take, length-drop}
-use Rattle.std.proofs.lemmas.List.{take-append-drop, drop-drop, take-take, append_cancel_left, get_or-take, get_or_past, drop_all, take_all}
+use Rattle.std.proofs.Common.{◌≡◌, ℕ, zero, suc, ◌+◌, ◌≤◌, ◌<◌, Bool, List, [], ◌∷◌, ◌++◌, length, take, drop, get_or, refl, sym, ◌∙◌, ap, arith, append_assoc}
+use Rattle.std.proofs.lemmas.List.{take-append-drop, drop-drop, take-take, append_cancel_left}
 use Rattle.std.proofs.lemmas.Grind.{common_steps}
-use Rattle.sdls_base.specs.ErrorControl.{error_control, with_error_control, error_control_length, before_error_control}
+use Rattle.sdls_base.specs.ErrorControl.{with_error_control, error_control_length}
 
 -- from a to e and from e on is from a on
 pub drop_in_two : (s : List ℕ) (a e : ℕ) → a ≤ e → drop a (take e s) ++ drop e s ≡ drop a s
 drop_in_two s a e h =
     let cut : take a (take e s) ≡ take a s = take-take a e s h in
     let whole : take a s ++ (drop a (take e s) ++ drop e s) ≡ take a s ++ drop a s =
-        sym (append_assoc (take a s) (drop a (take e s)) (drop e s))
-        ∙ ap (λ l. (l ++ drop a (take e s)) ++ drop e s) (sym cut)
-        ∙ ap (λ l. l ++ drop e s) (take-append-drop a (take e s))
-        ∙ take-append-drop e s ∙ sym (take-append-drop a s) in
+    sym (append_assoc (take a s) (drop a (take e s)) (drop e s))
+    ∙ ap (λ l. (l ++ drop a (take e s)) ++ drop e s) (sym cut)
+    ∙ ap (λ l. l ++ drop e s) (take-append-drop a (take e s))
+    ∙ take-append-drop e s ∙ sym (take-append-drop a s) in
     append_cancel_left (take a s) (drop a (take e s) ++ drop e s) (drop a s) whole
 
 -- an octet of a front is an octet
@@ -34,17 +34,17 @@ pub written_more : (start out : List ℕ) (at : ℕ) (text : List ℕ) → Writt
     → (octets after : List ℕ) (next : ℕ) → next ≡ at + length octets → take next after ≡ take at out ++ octets → drop next after ≡ drop next out
     → Written start after next (text ++ octets)
 written_more start out at text w octets after next n front rest = record {
-      front = front ∙ ap (λ l. l ++ octets) w.front;
-      rest = rest ∙ ap (λ k. drop k out) n ∙ sym (drop-drop (length octets) at out) ∙ ap (λ l. drop (length octets) l) w.rest ∙ drop-drop (length octets) at start ∙ ap (λ k. drop k start) (sym n);
-    }
+  front = front ∙ ap (λ l. l ++ octets) w.front;
+  rest = rest ∙ ap (λ k. drop k out) n ∙ sym (drop-drop (length octets) at out) ∙ ap (λ l. drop (length octets) l) w.rest ∙ drop-drop (length octets) at start ∙ ap (λ k. drop k start) (sym n);
+}
 
 pub written_error_control : (start out : List ℕ) (at : ℕ) (text : List ℕ) → Written start out at text
     → (fecf : Bool) (after : List ℕ) (next : ℕ) → next ≡ at + error_control_length fecf → take next after ≡ with_error_control fecf (take at out) → drop next after ≡ drop next out
     → Written start after next (with_error_control fecf text)
 written_error_control start out at text w fecf after next n front rest = record {
-      front = front ∙ ap (λ l. with_error_control fecf l) w.front;
-      rest = rest ∙ ap (λ k. drop k out) n ∙ sym (drop-drop (error_control_length fecf) at out) ∙ ap (λ l. drop (error_control_length fecf) l) w.rest ∙ drop-drop (error_control_length fecf) at start ∙ ap (λ k. drop k start) (sym n);
-    }
+  front = front ∙ ap (λ l. with_error_control fecf l) w.front;
+  rest = rest ∙ ap (λ k. drop k out) n ∙ sym (drop-drop (error_control_length fecf) at out) ∙ ap (λ l. drop (error_control_length fecf) l) w.rest ∙ drop-drop (error_control_length fecf) at start ∙ ap (λ k. drop k start) (sym n);
+}
 
 pub written_whole : (start out : List ℕ) (at : ℕ) (text : List ℕ) → Written start out at text → out ≡ text ++ drop at start
 written_whole start out at text w =

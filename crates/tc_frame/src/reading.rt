@@ -1,0 +1,111 @@
+ghost use Rattle.std.specs.Prelude.{◌≡◌, ◌+◌, ◌≤◌, ◌<◌, ◌++◌, Bool, length, take, if◌then◌else◌, Some, None, IfOk, IsOkAnd, MatchResult, slice_index};
+ghost use Rattle.sdls_base.specs.ErrorControl.{with_error_control};
+ghost use Rattle.tc_frame.specs.TcFrame.{TcParts, TcFrame, has_segment, view, prefix_of};
+ghost use Rattle.tc_frame.specs.FirstFault.{first_fault, control_of, segment_length, least};
+ghost use Rattle.tc_frame.specs.Reading.{parts_in};
+
+use crate::parts::Parts;
+use sdls_base::{FrameFault, TcLayout, before_fecf, fecf_fails, flag};
+
+/// The octets of the primary header.
+const HEADER: usize = 5;
+
+/// Whether a frame that begins so has a segment header.
+fn segmented(frame: &[u8], layout: &TcLayout) -> bool
+    requires { 0 < length frame.now }
+    ensures { result ≡ has_segment layout.now (control_of frame.now) }
+{
+    layout.segment && !flag(frame[0], 4)
+}
+
+/// The octets that the frame needs at least.
+fn least_length(frame: &[u8], layout: &TcLayout) -> usize
+    requires { 0 < length frame.now }
+    ensures { result ≡ least layout.now frame.now }
+{
+    let header = if segmented(frame, layout) {
+        HEADER + 1
+    } else {
+        HEADER
+    };
+    if layout.fecf { header + 2 } else { header }
+}
+
+fn fault_of(frame: &[u8], layout: &TcLayout) -> Option<FrameFault>
+    ensures { result ≡ first_fault layout.now frame.now }
+{
+    if frame.len() < HEADER || frame.len() < least_length(frame, layout) {
+        return Some(FrameFault::Short);
+    }
+    if frame.len() > usize::from(layout.most) {
+        return Some(FrameFault::Long);
+    }
+    let length_field = u16::from_be_bytes([frame[2], frame[3]]) & 0x3FF;
+    if usize::from(length_field) != frame.len() - 1 {
+        return Some(FrameFault::LengthField);
+    }
+    if frame[0] >> 6 != 0 {
+        return Some(FrameFault::Version);
+    }
+    if (frame[0] >> 2) & 3 != 0 {
+        return Some(FrameFault::Spare);
+    }
+    if fecf_fails(frame, layout.fecf) {
+        return Some(FrameFault::Fecf);
+    }
+    None
+}
+
+/// The octets of the prefix, and the segment header where the frame has one.
+fn cut_segment(body: &[u8], has_segment: bool) -> (usize, Option<u8>)
+    requires { 5 + (if has_segment then 1 else 0) ≤ length body.now }
+    ensures start { result.0 ≡ 5 + (if has_segment then 1 else 0) }
+    ensures segment { result.1 ≡ (if has_segment then Some (slice_index body.now 5) else None) }
+{
+    if has_segment {
+        (HEADER + 1, Some(body[HEADER]))
+    } else {
+        (HEADER, None)
+    }
+}
+
+fn parts_of<'a>(body: &'a [u8], layout: &TcLayout) -> Parts<'a>
+    requires { 5 + segment_length layout.now body.now ≤ length body.now }
+    ensures parts { view result ≡ parts_in layout.now body.now }
+    ensures prefix { result.prefix.now ≡ take (5 + segment_length layout.now body.now) body.now }
+{
+    let (start, segment) = cut_segment(body, segmented(body, layout));
+    Parts {
+        bypass: flag(body[0], 5),
+        control: flag(body[0], 4),
+        spacecraft: u16::from_be_bytes([body[0], body[1]]) & 0x3FF,
+        channel: body[2] >> 2,
+        sequence: body[4],
+        segment,
+        prefix: &body[..start],
+        room: &body[start..],
+    }
+}
+
+/// Takes a frame of the layout apart, or names the first check that fails: `Short`, `Long`, `LengthField`, `Version`,
+/// `Spare`, `Fecf`.
+pub fn read<'a>(frame: &'a [u8], layout: &TcLayout) -> Result<Parts<'a>, FrameFault>
+    // What is read is a frame with these parts, octet for octet.
+    ensures found { IfOk result (λ parts. TcFrame layout.now (view parts) frame.now) }
+    ensures prefix { IfOk result (λ parts. parts.prefix.now ≡ prefix_of layout.now (view parts)) }
+    ensures whole { IfOk result (λ parts. frame.now
+        ≡ with_error_control layout.now.fecf (parts.prefix.now ++ parts.room.now)) }
+
+    // What is a frame is read, and has no other parts.
+    ensures only { (parts : TcParts) → TcFrame layout.now parts frame.now
+        → IsOkAnd result (λ found. view found ≡ parts) }
+
+    // The fault is the first check that fails; there is none where parts are read.
+    ensures fault { MatchResult result (λ _. first_fault layout.now frame.now ≡ None)
+        (λ fault. first_fault layout.now frame.now ≡ Some fault) }
+{
+    match fault_of(frame, layout) {
+        Some(fault) => Err(fault),
+        None => Ok(parts_of(before_fecf(frame, layout.fecf), layout)),
+    }
+}
