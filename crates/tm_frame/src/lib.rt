@@ -1,0 +1,14 @@
+//! TM transfer frames (CCSDS 132.0-B), with or without secondary header, operational control field and frame error
+//! control field.
+//!
+//! `read` takes a frame of a layout apart, or names the first check that fails. `write` is its other direction. The
+//! security header, the data and the security trailer stand in the room behind the prefix.
+#![tactic(auto)]
+
+mod parts;
+mod reading;
+mod writing;
+
+pub use parts::Parts;
+pub use reading::read;
+pub use writing::write;
