@@ -11,3 +11,6 @@ mod writing;
 pub use parts::Parts;
 pub use reading::read;
 pub use writing::write;
+
+#[cfg(test)]
+mod tests;

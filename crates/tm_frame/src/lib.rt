@@ -12,3 +12,6 @@ mod writing;
 pub use parts::Parts;
 pub use reading::read;
 pub use writing::write;
+
+#[cfg(test)]
+mod tests;
