@@ -1,5 +1,5 @@
 -- Each step keeps what holds of the pure core.
-use Rattle.std.proofs.Common.{◌≡◌, ◌≢◌, ◌⊎◌, ℕ, ◌+◌, ◌-◌, ◌<◌, ◌≤◌, max, eqb, ltb, leb, length, true, false, Bool, ◌&&◌, List, [], ◌∷◌, ◌++◌, map, set, length-set, zero, suc, sym, refl, ap, ◌∙◌, subst, inl, inr, ⊎_elim, le_trans, arith, Some, None, Option, slice_get, if◌then◌else◌, nat_lt, nat_le}
+use Rattle.std.proofs.Common.{◌≡◌, ◌≢◌, ◌⊎◌, ℕ, ◌+◌, ◌-◌, ◌<◌, ◌≤◌, max, eqb, ltb, leb, length, true, false, Bool, ◌&&◌, List, [], ◌∷◌, ◌++◌, map, set, length-set, get_or, take, Result, Ok, Err, OnOk, OnErr, zero, suc, sym, refl, ap, ◌∙◌, subst, inl, inr, ⊎_elim, le_trans, arith, Some, None, Option, slice_get, if◌then◌else◌, nat_lt, nat_le}
 use Rattle.std.proofs.lemmas.Bool.Decides.{nat_tests}
 use Rattle.sdls_base.specs.KeyId.{end_of}
 use Rattle.sdls_world.specs.declared.key.Key.{Key}
@@ -381,3 +381,27 @@ used_differ keys steps row x b =
     let k = there w.keys row (omega arith) in
     let kept = (steps_keep (beginning keys) steps (beginning_kept keys)).keys row k.0 k.1 in
     let u = kept.used x in let one = once_below_one x k.0.durable in omega arith
+
+-- one more step
+after_suc : (w : Core) (steps : List Step) (i : ℕ) (s : Step) → i < length steps → s ≡ get_or steps i s → after_all w (take (suc i) steps) ≡ after (after_all w (take i steps)) s
+after_suc w [] i s b e = absurd (omega arith)
+after_suc w (x ∷ xs) zero s b e = ap (after w) (sym e)
+after_suc w (x ∷ xs) (suc i) s b e = after_suc (after w x) xs i s (omega arith) e
+
+pub after_more : (w : Core) (steps : List Step) (i : ℕ) (s : Step) → i < length steps → s ≡ get_or steps i s → after_all w (take (i + 1) steps) ≡ after (after_all w (take i steps)) s
+after_more w steps i s b e = let n : i + 1 ≡ suc i = omega arith in ap (λ k. after_all w (take k steps)) n ∙ after_suc w steps i s b e
+
+pub take_whole : (w : Core) (steps : List Step) (i : ℕ) → length steps ≤ i → after_all w (take i steps) ≡ after_all w steps
+take_whole w [] zero b = refl
+take_whole w [] (suc i) b = refl
+take_whole w (x ∷ xs) zero b = absurd (omega arith)
+take_whole w (x ∷ xs) (suc i) b = take_whole (after w x) xs i (omega arith)
+
+-- whatever a call answers
+pub answer_keeps : {E : Type 0} (r : Result (Unit {0}) E) (w w' : Core) (s : Step) → OnOk r (w' ≡ after w s) → OnErr r (w' ≡ w) → IsKept w → IsKept w'
+answer_keeps (Ok u) w w' s ok err kept = subst IsKept (sym ok) (step_keeps w s kept)
+answer_keeps (Err e) w w' s ok err kept = subst IsKept (sym err) kept
+
+pub answers_keep : {E : Type 0} (r : Result (Unit {0}) E) (w w' : Core) (steps : List Step) → OnOk r (w' ≡ after_all w steps) → OnErr r ((count : ℕ) × (w' ≡ after_all w (take count steps))) → IsKept w → IsKept w'
+answers_keep (Ok u) w w' steps ok err kept = subst IsKept (sym ok) (steps_keep w steps kept)
+answers_keep (Err e) w w' steps ok err kept = subst IsKept (sym err.1) (steps_keep w (take err.0 steps) kept)

@@ -10,6 +10,8 @@ mod actor;
 mod key;
 mod laws;
 mod step;
+#[cfg(test)]
+mod tests;
 mod world;
 
 pub use key::Key;

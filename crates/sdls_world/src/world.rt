@@ -52,12 +52,41 @@ impl World {
         })
     }
 
-    #[tactic(auto, using(crate::proofs::Moments::step_keeps))]
+    /// The keys, by row.
+    pub fn keys(&self) -> &[Key]
+        ensures { result.now ≡ self.now.keys }
+    {
+        self.keys.as_slice()
+    }
+
+    /// The pairs of row and number that were used, in all lives.
+    pub fn used(&self) -> &[(usize, u64)]
+        ensures { result.now ≡ self.now.used }
+    {
+        self.used.as_slice()
+    }
+
     /// Does one step. Want of memory changes nothing, and comes also where a word would pass 2^64 - 1.
     pub fn step(&mut self, step: &Step) -> Result<(), NoMemory>
         ensures ok { OnOk result (self.new ≡ after self.old step.now) }
         ensures err { OnErr result (self.new ≡ self.old) }
         ensures kept { IsKept self.old → IsKept self.new }
+    {
+        self.change(step)
+    }
+
+    /// Does the steps, one after the other. After want of memory it has done some first ones.
+    pub fn run(&mut self, steps: &[Step]) -> Result<(), NoMemory>
+        ensures ok { OnOk result (self.new ≡ after_all self.old steps.now) }
+        ensures err { OnErr result ((count : ℕ) × (self.new ≡ after_all self.old (take count steps.now))) }
+        ensures kept { IsKept self.old → IsKept self.new }
+    {
+        self.change_all(steps)
+    }
+
+    fn change(&mut self, step: &Step) -> Result<(), NoMemory>
+        ensures ok { OnOk result (self.new ≡ after self.old step.now) }
+        ensures err { OnErr result (self.new ≡ self.old) }
     {
         match *step {
             Step::Arm { actor, key } => self.arm(actor, key),
@@ -100,14 +129,12 @@ impl World {
         }
     }
 
-    /// Does the steps, one after the other. After want of memory it has done some first ones.
-    pub fn run(&mut self, steps: &[Step]) -> Result<(), NoMemory>
+    fn change_all(&mut self, steps: &[Step]) -> Result<(), NoMemory>
         ensures ok { OnOk result (self.new ≡ after_all self.old steps.now) }
         ensures err { OnErr result ((count : ℕ) × (self.new ≡ after_all self.old (take count steps.now))) }
-        ensures kept { IsKept self.old → IsKept self.new }
     {
         for step in steps {
-            self.step(step)?;
+            self.change(step)?;
         }
         Ok(())
     }
