@@ -1,5 +1,5 @@
 -- Each step keeps what holds of the pure core.
-use Rattle.std.proofs.Common.{◌≡◌, ◌≢◌, ◌⊎◌, ℕ, ◌+◌, ◌-◌, ◌<◌, ◌≤◌, max, eqb, ltb, leb, true, false, Bool, ◌&&◌, List, [], ◌∷◌, ◌++◌, map, set, sym, refl, ap, ◌∙◌, subst, inl, inr, ⊎_elim, le_trans, arith, Some, None, Option, slice_get, if◌then◌else◌, nat_lt, nat_le}
+use Rattle.std.proofs.Common.{◌≡◌, ◌≢◌, ◌⊎◌, ℕ, ◌+◌, ◌-◌, ◌<◌, ◌≤◌, max, eqb, ltb, leb, length, true, false, Bool, ◌&&◌, List, [], ◌∷◌, ◌++◌, map, set, length-set, get_or, take, Result, Ok, Err, OnOk, OnErr, zero, suc, sym, refl, ap, ◌∙◌, subst, inl, inr, ⊎_elim, le_trans, arith, Some, None, Option, slice_get, if◌then◌else◌, nat_lt, nat_le}
 use Rattle.std.proofs.lemmas.Bool.Decides.{nat_tests}
 use Rattle.sdls_base.specs.KeyId.{end_of}
 use Rattle.sdls_world.specs.declared.key.Key.{Key}
@@ -7,7 +7,7 @@ use Rattle.sdls_world.specs.declared.step.Step.{Step}
 use Rattle.sdls_world.specs.declared.step.Step.TheVariants.{Arm, Draw, Peek, Spend, See, Take, Give, Write, Sync, Lift, RaiseNext, Turn, Crash}
 use Rattle.sdls_world.specs.Core.{Doer, idle, Core, key_of, doer_of, on_found, holds_turn, drawing, funding, spending, arm_found, arm_step, draw_at, draw_step, peek_at, peek_step, spend_step, take_step, write_step, lift_step, raise_step, synced, restarted, if_holder, after, after_all, begun, beginning}
 use Rattle.sdls_world.specs.Kept.{one_if, times, total, once_below, is_last, unused, KeyKept, DoerKept, IsKept}
-use Rattle.sdls_world.proofs.Places.{get_set, get_snoc, get_map, total_set, total_at, total-snoc, found_at, times-append, once_below_one, once_below_more, once_below_last, once_below_yes, is_pair, same_pair, some_same}
+use Rattle.sdls_world.proofs.Places.{get_set, get_snoc, get_map, total_set, total_at, total-snoc, found_at, times-append, once_below_one, once_below_more, once_below_last, once_below_yes, is_pair, same_pair, some_same, length-mapped}
 
 false≢true : false ≡ true → ⊥
 false≢true e = cc
@@ -311,3 +311,97 @@ beginning_kept keys =
             record { once = λ x. omega arith; used = λ x. omega arith; funded = λ i a k x h. absurd (let n : None ≡ Some a = k in cc); lifted = omega arith; stored = omega arith };
       actors = λ i a k. absurd (let n : None ≡ Some a = k in cc);
     }
+
+-- a row that was there at the beginning is there after every list of steps
+if_count : (n : ℕ) (w w' : Core) (b : Bool) → length w.keys ≡ n → length w'.keys ≡ n → length (if b then w' else w).keys ≡ n
+if_count n w w' true e f = f
+if_count n w w' false e f = e
+
+on_count : {X : Type 0} (n : ℕ) (w : Core) (o : Option X) (f : X → Core) → length w.keys ≡ n → ((x : X) → length (f x).keys ≡ n) → length (on_found w o f).keys ≡ n
+on_count n w None f e each = e
+on_count n w (Some x) f e each = each x
+
+draw_count : (w : Core) (a : ℕ × Doer) (armed : Option ℕ) → length (draw_step w a armed).keys ≡ length w.keys
+draw_count w a None = refl
+draw_count w a (Some row) = go (slice_get w.keys row)
+  where
+    go : (o : Option Key) → length (draw_at w a row o).keys ≡ length w.keys
+    go None = refl
+    go (Some k) = length-set w.keys row (record k { next = k.next + 1 })
+
+peek_count : (w : Core) (a : ℕ × Doer) (funded : Bool) (last : Option (ℕ × ℕ)) → length (peek_step w a funded last).keys ≡ length w.keys
+peek_count w a funded None = refl
+peek_count w a true (Some p) = refl
+peek_count w a false (Some p) = go (slice_get w.keys p.0)
+  where
+    go : (o : Option Key) → length (peek_at w a p o).keys ≡ length w.keys
+    go None = refl
+    go (Some k) = if_count (length w.keys) w (record w { actors = set w.actors a.0 (funding p a.1) }) (ltb p.1 k.limit) refl refl
+
+spend_count : (w : Core) (a : ℕ × Doer) (funded : Bool) (last : Option (ℕ × ℕ)) → length (spend_step w a funded last).keys ≡ length w.keys
+spend_count w a funded None = refl
+spend_count w a false (Some p) = refl
+spend_count w a true (Some p) = refl
+
+take_count : (w : Core) (id : ℕ) (o : Option ℕ) → length (take_step w id o).keys ≡ length w.keys
+take_count w id None = refl
+take_count w id (Some h) = refl
+
+same_count : (w : Core) (s : Step) → length (after w s).keys ≡ length w.keys
+same_count w (Arm actor key) = on_count _ w (key_of key w.keys) (arm_step w actor) refl (λ k. if_count _ w (record w { actors = arm_found w.actors actor k.0 (doer_of actor w.actors) }) (ltb k.1.next (end_of k.1.id)) refl refl)
+same_count w (Draw actor) = on_count _ w (doer_of actor w.actors) (λ a. draw_step w a a.1.armed) refl (λ a. draw_count w a a.1.armed)
+same_count w (Peek actor) = on_count _ w (doer_of actor w.actors) (λ a. peek_step w a a.1.is_funded a.1.last) refl (λ a. peek_count w a a.1.is_funded a.1.last)
+same_count w (Spend actor) = on_count _ w (doer_of actor w.actors) (λ a. spend_step w a a.1.is_funded a.1.last) refl (λ a. spend_count w a a.1.is_funded a.1.last)
+same_count w (See actor) = refl
+same_count w (Take actor) = take_count w actor w.holder
+same_count w (Give actor) = if_count _ w (record w { holder = None }) (holds_turn actor w.holder) refl refl
+same_count w (Write actor key mark) = if_count _ w (on_found w (key_of key w.keys) (write_step w mark)) (holds_turn actor w.holder) refl
+    (on_count _ w (key_of key w.keys) (write_step w mark) refl (λ k. if_count _ w (record w { keys = set w.keys k.0 (record k.1 { mark = mark }) }) ((leb k.1.mark mark) && (leb mark (end_of k.1.id))) refl (length-set w.keys k.0 (record k.1 { mark = mark }))))
+same_count w (Sync actor) = if_count _ w (record w { keys = map synced w.keys }) (holds_turn actor w.holder) refl (length-mapped synced w.keys)
+same_count w (Lift actor key) = if_count _ w (on_found w (key_of key w.keys) (lift_step w)) (holds_turn actor w.holder) refl
+    (on_count _ w (key_of key w.keys) (lift_step w) refl (λ k. length-set w.keys k.0 (record k.1 { limit = max k.1.limit k.1.durable })))
+same_count w (RaiseNext actor key number) = if_count _ w (on_found w (key_of key w.keys) (raise_step w number)) (holds_turn actor w.holder) refl
+    (on_count _ w (key_of key w.keys) (raise_step w number) refl (λ k. if_count _ w (record w { keys = set w.keys k.0 (record k.1 { next = max k.1.next number }) }) (leb number (end_of k.1.id)) refl (length-set w.keys k.0 (record k.1 { next = max k.1.next number }))))
+same_count w (Turn actor) = if_count _ w (record w { epoch = if nat_lt w.epoch 18446744073709551615 then w.epoch + 1 else w.epoch }) (holds_turn actor w.holder) refl refl
+same_count w Crash = length-mapped restarted w.keys
+
+same_counts : (w : Core) (steps : List Step) → length (after_all w steps).keys ≡ length w.keys
+same_counts w [] = refl
+same_counts w (s ∷ ss) = same_counts (after w s) ss ∙ same_count w s
+
+there : (keys : List Key) (row : ℕ) → row < length keys → (k : Key) × (slice_get keys row ≡ Some k)
+there [] row b = absurd (omega arith)
+there (k ∷ ks) zero b = (k, refl)
+there (k ∷ ks) (suc row) b = there ks row (omega arith)
+
+pub used_differ : (keys : List (ℕ × ℕ)) (steps : List Step) (row x : ℕ) → row < length keys → times row x (after_all (beginning keys) steps).used ≤ 1
+used_differ keys steps row x b =
+    let w = after_all (beginning keys) steps in
+    let count : length w.keys ≡ length keys = same_counts (beginning keys) steps ∙ length-mapped begun keys in
+    let k = there w.keys row (omega arith) in
+    let kept = (steps_keep (beginning keys) steps (beginning_kept keys)).keys row k.0 k.1 in
+    let u = kept.used x in let one = once_below_one x k.0.durable in omega arith
+
+-- one more step
+after_suc : (w : Core) (steps : List Step) (i : ℕ) (s : Step) → i < length steps → s ≡ get_or steps i s → after_all w (take (suc i) steps) ≡ after (after_all w (take i steps)) s
+after_suc w [] i s b e = absurd (omega arith)
+after_suc w (x ∷ xs) zero s b e = ap (after w) (sym e)
+after_suc w (x ∷ xs) (suc i) s b e = after_suc (after w x) xs i s (omega arith) e
+
+pub after_more : (w : Core) (steps : List Step) (i : ℕ) (s : Step) → i < length steps → s ≡ get_or steps i s → after_all w (take (i + 1) steps) ≡ after (after_all w (take i steps)) s
+after_more w steps i s b e = let n : i + 1 ≡ suc i = omega arith in ap (λ k. after_all w (take k steps)) n ∙ after_suc w steps i s b e
+
+pub take_whole : (w : Core) (steps : List Step) (i : ℕ) → length steps ≤ i → after_all w (take i steps) ≡ after_all w steps
+take_whole w [] zero b = refl
+take_whole w [] (suc i) b = refl
+take_whole w (x ∷ xs) zero b = absurd (omega arith)
+take_whole w (x ∷ xs) (suc i) b = take_whole (after w x) xs i (omega arith)
+
+-- whatever a call answers
+pub answer_keeps : {E : Type 0} (r : Result (Unit {0}) E) (w w' : Core) (s : Step) → OnOk r (w' ≡ after w s) → OnErr r (w' ≡ w) → IsKept w → IsKept w'
+answer_keeps (Ok u) w w' s ok err kept = subst IsKept (sym ok) (step_keeps w s kept)
+answer_keeps (Err e) w w' s ok err kept = subst IsKept (sym err) kept
+
+pub answers_keep : {E : Type 0} (r : Result (Unit {0}) E) (w w' : Core) (steps : List Step) → OnOk r (w' ≡ after_all w steps) → OnErr r ((count : ℕ) × (w' ≡ after_all w (take count steps))) → IsKept w → IsKept w'
+answers_keep (Ok u) w w' steps ok err kept = subst IsKept (sym ok) (steps_keep w steps kept)
+answers_keep (Err e) w w' steps ok err kept = subst IsKept (sym err.1) (steps_keep w (take err.0 steps) kept)

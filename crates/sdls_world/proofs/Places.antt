@@ -1,6 +1,8 @@
 -- Lists by place, sums over them, and lists of pairs.
-use Rattle.std.proofs.Common.{◌≡◌, ◌≢◌, ◌⊎◌, ℕ, zero, suc, ◌+◌, ◌-◌, ◌<◌, ◌≤◌, eqb, true, false, Bool, ◌&&◌, List, [], ◌∷◌, ◌++◌, map, set, sym, refl, ap, ◌∙◌, subst, inl, inr, ⊎_elim, arith, Some, None, Option, slice_get, if◌then◌else◌, ◌==◌, eq-eqb}
+use Rattle.std.proofs.Common.{◌≡◌, ◌≢◌, ◌⊎◌, ℕ, zero, suc, ◌+◌, ◌-◌, ◌<◌, ◌≤◌, eqb, true, false, Bool, ◌&&◌, List, [], ◌∷◌, ◌++◌, map, set, length, get_or, get_or-set_same, get_or-set_other, sym, refl, ap, ◌∙◌, subst, inl, inr, ⊎_elim, arith, Some, None, Option, slice_get, if◌then◌else◌, ◌==◌, eq-eqb}
 use Rattle.std.proofs.lemmas.Bool.Decides.{nat_tests}
+use mathlib.Core.Logic.{dite}
+use native.Mathlib.Decide.{ℕ_discrete}
 use Rattle.sdls_world.specs.Core.{find_place, further}
 use Rattle.sdls_world.specs.Kept.{one_if, times, total, once_below}
 
@@ -88,3 +90,67 @@ is_pair row x p = go (eqb p.0 row) (eqb p.1 x) refl refl
 
 pub same_pair : (p : ℕ × ℕ) → one_if p.0 p.1 p ≡ 1
 same_pair p = rw (eq-eqb p.0 p.0 refl, eq-eqb p.1 p.1 refl) refl
+
+-- a search that ended at a place, and one that found nothing
+pub found_first : {X : Type 0} (p : X → Bool) (xs : List X) (i : ℕ) (x : X) → i < length xs → x ≡ get_or xs i x → p x ≡ true → ((j : ℕ) (d : X) → j < i → p (get_or xs j d) ≡ false) → find_place p xs ≡ Some (i, x)
+found_first p [] i x b is hit miss = absurd (omega arith)
+found_first p (y ∷ ys) zero x b is hit miss = let h : p y ≡ true = ap p (sym is) ∙ hit in rw h (ap (λ z. Some (0, z)) (sym is))
+found_first p (y ∷ ys) (suc i) x b is hit miss =
+    let h : p y ≡ false = miss 0 y (omega arith) in
+    rw h (ap further (found_first p ys i x (omega arith) is hit (λ j d c. miss (suc j) d (omega arith))))
+
+pub not_found : {X : Type 0} (p : X → Bool) (xs : List X) → ((j : ℕ) (d : X) → j < length xs → p (get_or xs j d) ≡ false) → find_place p xs ≡ None
+not_found p [] miss = refl
+not_found p (y ∷ ys) miss =
+    let h : p y ≡ false = miss 0 y (omega arith) in
+    rw h (ap further (not_found p ys (λ j d c. miss (suc j) d (omega arith))))
+
+-- a list that was changed in place
+pub mapped : {X : Type 0} (f : X → X) (xs ys : List X) → length ys ≡ length xs → ((j : ℕ) (d : X) → j < length xs → get_or ys j d ≡ f (get_or xs j d)) → ys ≡ map f xs
+mapped f [] [] l h = refl
+mapped f [] (y ∷ ys) l h = absurd (omega arith)
+mapped f (x ∷ xs) [] l h = absurd (omega arith)
+mapped f (x ∷ xs) (y ∷ ys) l h =
+    let head : y ≡ f x = h 0 x (omega arith) in let tail : ys ≡ map f xs = mapped f xs ys (omega arith) (λ j d c. h (suc j) d (omega arith)) in
+    λ k. head k ∷ tail k
+
+-- one more place of it
+pub mapped_more : {X : Type 0} (f : X → X) (xs ys : List X) (i : ℕ) (y : X) → length ys ≡ length xs → i < length xs → ((d : X) → y ≡ f (get_or ys i d))
+    → ((j : ℕ) (d : X) → j < i → get_or ys j d ≡ f (get_or xs j d)) → ((j : ℕ) (d : X) → i ≤ j → get_or ys j d ≡ get_or xs j d)
+    → ((j : ℕ) (d : X) → j < i + 1 → get_or (set ys i y) j d ≡ f (get_or xs j d)) × ((j : ℕ) (d : X) → i + 1 ≤ j → get_or (set ys i y) j d ≡ get_or xs j d)
+mapped_more f xs ys i y l b is done rest =
+    ((λ j d c. dite (ℕ_discrete j i)
+        (λ e. rw e (get_or-set_same ys i y d (omega arith) ∙ (is d ∙ ap f (rest i d (omega arith)))))
+        (λ n. get_or-set_other ys i j y d n ∙ done j d (omega arith))),
+      (λ j d c. get_or-set_other ys i j y d (λ e. omega arith) ∙ rest j d (omega arith)))
+
+-- a place that was found is in the list
+pub place_below : {X : Type 0} (xs : List X) (i : ℕ) (x : X) → slice_get xs i ≡ Some x → i < length xs
+place_below [] i x e = absurd (let n : None ≡ Some x = e in cc)
+place_below (y ∷ ys) zero x e = omega arith
+place_below (y ∷ ys) (suc i) x e = let h = place_below ys i x e in omega arith
+
+pub place_value : {X : Type 0} (xs : List X) (i : ℕ) (x d : X) → slice_get xs i ≡ Some x → get_or xs i d ≡ x
+place_value [] i x d e = absurd (let n : None ≡ Some x = e in cc)
+place_value (y ∷ ys) zero x d e = some_same e
+place_value (y ∷ ys) (suc i) x d e = place_value ys i x d e
+
+pub place_there : {X : Type 0} (xs : List X) (i : ℕ) (x : X) → i < length xs → x ≡ get_or xs i x → slice_get xs i ≡ Some x
+place_there [] i x b e = absurd (omega arith)
+place_there (y ∷ ys) zero x b e = ap Some (sym e)
+place_there (y ∷ ys) (suc i) x b e = place_there ys i x (omega arith) e
+
+pub place_past : {X : Type 0} (xs : List X) (i : ℕ) → length xs ≤ i → slice_get xs i ≡ None
+place_past [] i b = refl
+place_past (y ∷ ys) zero b = absurd (omega arith)
+place_past (y ∷ ys) (suc i) b = place_past ys i (omega arith)
+
+pub length-mapped : {X Y : Type 0} (f : X → Y) (xs : List X) → length (map f xs) ≡ length xs
+length-mapped f [] = refl
+length-mapped f (x ∷ xs) = ap suc (length-mapped f xs)
+
+-- one more place that fails
+pub more_places : {X : Type 0} (p : X → Bool) (xs : List X) (i : ℕ) (x : X) → i < length xs → x ≡ get_or xs i x → p x ≡ false → ((j : ℕ) (d : X) → j < i → p (get_or xs j d) ≡ false)
+    → (j : ℕ) (d : X) → j < i + 1 → p (get_or xs j d) ≡ false
+more_places p xs i x b is miss before j d c = dite (ℕ_discrete j i)
+    (λ e. rw e (ap p (place_value xs i x d (place_there xs i x b is)) ∙ miss)) (λ n. before j d (omega arith))
