@@ -1,17 +1,16 @@
 -- What reading took is what the words say, and what they say is read.
-use Rattle.std.proofs.Common.{◌≡◌, ◌≢◌, ℕ, ◌+◌, ◌-◌, ◌*◌, ◌/◌, ◌%◌, ◌^◌, ◌<◌, ◌≤◌, List, [], ◌∷◌, ◌++◌, length, eqb, leb, ltb, Bool, true, false, ◌&&◌, cond, Option, Some, None, Result, Ok, Err, refl, sym, ap, ◌∙◌, subst, inl, inr, arith, rules}
-use Rattle.std.proofs.lemmas.Bool.{cases_eq, cases_lt, false≢true}
+use Rattle.std.proofs.Common.{◌≡◌, ℕ, ◌-◌, ◌*◌, ◌/◌, ◌%◌, ◌^◌, ◌<◌, ◌≤◌, List, [], ◌∷◌, ◌++◌, length, leb, Bool, true, false, ◌&&◌, cond, Option, Some, None, Result, Ok, Err, refl, sym, ap, ◌∙◌, inl, inr, arith}
+use Rattle.std.proofs.lemmas.Bool.{cases_eq}
 use Rattle.std.proofs.lemmas.Bool.Decides.{nat_tests}
 use Rattle.std.proofs.lemmas.Option.{cond_some, same_Some}
 use Rattle.std.proofs.lemmas.Slice.Eq.{bytes_eq-Decides}
 use Rattle.std.specs.Fmt.{decimal}
 use Rattle.std.specs.Str.{bytes_eq}
 use Rattle.hex.specs.Hex.{decode_of, decode_sized}
-use Rattle.hex.specs.declared.error.FromHexError.{FromHexError}
-use Rattle.hex.specs.declared.error.FromHexError.TheVariants.{OddLength, InvalidStringLength}
-use Rattle.hex.proofs.HexLemmas.{decode_of-ok, decode_of-odd, decode_sized-twice, decode_sized-other}
+use Rattle.hex.specs.declared.error.FromHexError.TheVariants.{OddLength}
+use Rattle.hex.proofs.HexLemmas.{decode_of-ok, decode_sized-twice, decode_sized-other}
 use Rattle.unit_plan.specs.Number.{number_of}
-use Rattle.unit_plan.specs.Reading.{◌>>=◌, first_of, past, number_at, octets_at, ok_of, end_of}
+use Rattle.unit_plan.specs.Reading.{◌>>=◌, past, number_at, octets_at, ok_of, end_of}
 use Rattle.unit_plan.proofs.NumberFacts.{number_of-decimal, decimal-number_of}
 
 -- a second step was made on what the first gave

@@ -1,11 +1,11 @@
 -- Reading the nine lines of a telecommand plan: what was read is what they say, and what they say is read.
-use Rattle.std.proofs.Common.{◌≡◌, ℕ, ◌-◌, ◌^◌, ◌<◌, ◌≤◌, List, [], ◌∷◌, ◌++◌, length, map, codes, Option, Some, None, Result, Ok, Err, refl, sym, ap, ◌∙◌, arith, lit<}
+use Rattle.std.proofs.Common.{◌≡◌, ℕ, ◌-◌, ◌^◌, ◌<◌, ◌≤◌, List, [], ◌∷◌, ◌++◌, length, map, codes, Option, Some, None, Ok, refl, ap, ◌∙◌, arith, lit<}
 use Rattle.std.proofs.lemmas.Option.{same_Some}
 use Rattle.std.proofs.lemmas.Slice.Eq.{bytes_eq-Decides}
 use Rattle.std.specs.Fmt.{decimal}
 use Rattle.hex.specs.Hex.{decode_of}
 use Rattle.unit_plan.specs.Lines.{words_of}
-use Rattle.unit_plan.specs.Reading.{◌>>=◌, first_of, past, number_at, octets_at, end_of}
+use Rattle.unit_plan.specs.Reading.{past, number_at, octets_at, end_of}
 use Rattle.unit_plan.specs.TelecommandReading.{version_at, device_at, named_number_at, link_at, channel_at, key_at, association_at}
 use Rattle.unit_plan.proofs.ReadingFacts.{bound, past_said, number_said, number_again, octets_said, octets_again, end_said}
 

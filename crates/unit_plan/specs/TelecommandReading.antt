@@ -1,5 +1,5 @@
 -- Reading the nine lines one after the other: what each says, and the lines that are left.
-use Rattle.std.specs.Prelude.{ℕ, List, [], ◌∷◌, codes, Option, Some, None}
+use Rattle.std.specs.Prelude.{ℕ, List, codes, Option, Some}
 use Rattle.unit_plan.specs.declared.telecommand.TelecommandPlan.{TelecommandPlan}
 use Rattle.unit_plan.specs.Lines.{words_of}
 use Rattle.unit_plan.specs.Reading.{◌>>=◌, first_of, past, number_at, octets_at, end_of}

@@ -45,3 +45,57 @@ fn nine_lines_are_read(rt: HostRuntime) -> Result<(), Fail> {
     );
     Ok(())
 }
+
+#[test]
+fn what_is_no_plan(rt: HostRuntime) -> Result<(), Fail> {
+    let lacking = b"sdls 1
+device d0000001
+slots 16
+block 4
+accept 1
+link 0 tc seg nofecf -
+channel 0 0 42 5 3
+key 32769 active 2b7e151628aed2a6abf7158809cf4f3c
+";
+    assert!(rt; TelecommandPlan::read(lacking).is_none());
+    assert!(rt; TelecommandPlan::read(b"").is_none());
+    let mut text = NINE.to_vec(rt.alloc())?;
+    text.push(b'\n')?;
+    assert!(rt;
+        TelecommandPlan::read(text.as_slice()).is_none(),
+        "an empty tenth line"
+    );
+    text.pop();
+    text.extend_from_slice(b"# a comment\n")?;
+    assert!(rt;
+        TelecommandPlan::read(text.as_slice()).is_none(),
+        "a tenth line"
+    );
+    let long = vec![in rt.alloc(); b'#'; 65_537]?;
+    assert!(rt; TelecommandPlan::read(long.as_slice()).is_none());
+    Ok(())
+}
+
+#[test]
+fn words_and_numbers_have_one_spelling(rt: HostRuntime) -> Result<(), Fail> {
+    // The line of the slots, in other spellings and out of bounds.
+    let others: [(&[u8], bool); 9] = [
+        (b"slots 65536", true),
+        (b"slots 016", false),
+        (b"slots +16", false),
+        (b"slots  16", false),
+        (b"slots 16 ", false),
+        (b"slots 15", false),
+        (b"slots 65537", false),
+        (b"slots 18446744073709551632", false),
+        (b"slots", false),
+    ];
+    for (line, is_one) in others {
+        let mut text = b"sdls 1\ndevice D0000001\n".to_vec(rt.alloc())?;
+        text.extend_from_slice(line)?;
+        let end = NINE.split_at_checked(31).ok_or("nine lines")?.1;
+        text.extend_from_slice(end)?;
+        assert_eq!(rt; TelecommandPlan::read(text.as_slice()).is_some(), is_one);
+    }
+    Ok(())
+}

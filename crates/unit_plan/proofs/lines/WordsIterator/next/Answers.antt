@@ -1,4 +1,4 @@
-use Rattle.std.proofs.Common.{◌<◌, length, arith, rules, sym, ◌∙◌, refl, ap}
+use Rattle.std.proofs.Common.{sym, ◌∙◌, ap}
 use Rattle.unit_plan.specs.Lines.{words_left}
 use Rattle.unit_plan.proofs.PartsFacts.{first_word}
 use Rattle.unit_plan.proofs.lines.WordsIterator.next.Goals as goal
