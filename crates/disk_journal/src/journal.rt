@@ -23,6 +23,8 @@ pub struct Journal {
 }
 
 impl Model for Journal {
+    ghost use Rattle.std.specs.Prelude.{◌≤◌};
+    ghost use Rattle.disk_journal.specs.Journal.{JournalView};
     ghost use Rattle.disk_journal.specs.declared.layout.TheConstants.{PLAN_ROOM};
 
     ghost Value = { JournalView };

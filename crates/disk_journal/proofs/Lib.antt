@@ -1,0 +1,5 @@
+pub mod Gating
+pub mod Failing
+pub mod Ranges
+pub mod Moments
+pub mod Images
