@@ -1,5 +1,5 @@
 -- Rows of checks, and the first one that fails.
-use Rattle.std.proofs.Common.{◌≡◌, ◌≢◌, ℕ, zero, suc, ◌+◌, ◌<◌, ◌≤◌, ◌==◌, not, Bool, true, false, List, [], ◌∷◌, ◌++◌, Option, Some, None, refl, sym, ◌∙◌, ap, subst, inl, inr, arith}
+use Rattle.std.proofs.Common.{◌≡◌, ◌≢◌, ℕ, zero, suc, ◌+◌, ◌-◌, ◌<◌, ◌≤◌, ◌==◌, not, Bool, true, false, List, [], ◌∷◌, ◌++◌, Option, Some, None, refl, sym, ◌∙◌, ap, subst, inl, inr, arith}
 use Rattle.std.proofs.lemmas.Bool.{cases_eq}
 use Rattle.std.proofs.lemmas.Bool.Decides.{nat_tests}
 use Rattle.disk_journal.specs.declared.layout.TheConstants.{CLOSED}
@@ -98,3 +98,25 @@ first_other gate (suc n) i (suc k) within before other =
     (λ j below. let high : suc j < suc k = omega arith in subst (λ (m : ℕ). gate m ≡ CLOSED) (next j) (before (suc j) high))
     (subst (λ (m : ℕ). gate m ≢ CLOSED) (next k) other)
     ∙ ap (λ (m : ℕ). Some (slot_at m)) (sym (next k))
+
+-- the same by the number of the slot
+pub stray_found : (gate : ℕ → ℕ) (from slots index : ℕ) → from ≤ index → index < slots
+    → ((k : ℕ) → from ≤ k → k < index → gate k ≡ CLOSED) → gate index ≢ CLOSED
+    → first_failing (gate_checks gate (slots - from) from) ≡ Some (slot_at index)
+stray_found gate from slots index low below before other =
+    let within : index - from < slots - from = omega arith in
+    let same : from + (index - from) ≡ index = omega arith in
+    subst (λ (k : ℕ). first_failing (gate_checks gate (slots - from) from) ≡ Some (slot_at k)) same
+    (first_other gate (slots - from) from (index - from) within
+    (λ j short.
+    let from_low : from ≤ from + j = omega arith in
+    let to_index : from + j < index = omega arith in
+    before (from + j) from_low to_index)
+    (subst (λ (k : ℕ). gate k ≢ CLOSED) (sym same) other))
+
+pub stray_none : (gate : ℕ → ℕ) (from slots : ℕ) → ((k : ℕ) → from ≤ k → k < slots → gate k ≡ CLOSED)
+    → first_failing (gate_checks gate (slots - from) from) ≡ None
+stray_none gate from slots closed = closed_pass gate (slots - from) from (λ j short.
+    let low : from ≤ from + j = omega arith in
+    let below : from + j < slots = omega arith in
+    closed (from + j) low below)

@@ -3,3 +3,4 @@ pub mod Failing
 pub mod Ranges
 pub mod Moments
 pub mod Images
+pub mod SlotWrites

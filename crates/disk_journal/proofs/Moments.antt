@@ -83,6 +83,11 @@ write_moments {T = T} at octets (Err error) old new synced within (inr wrote) = 
   sunk = wrote.sunk;
 }
 
+-- one that failed
+pub failed_moments : (at : ℕ) (octets : List ℕ) (old new : Trace) → IsSynced old.now → at + length octets ≤ length old.now.image
+    → (new ≡ old) ⊎ Wrote at (length octets) old new → EachImage old new (AllBut at (length octets) old.now.image)
+failed_moments at octets old new synced within writes = write_moments {T = ℕ} {E = ℕ} at octets (Err 0) old new synced within writes
+
 -- a sync
 pub sync_moments : {T E : Type 0} → (result : Result T E) (old new : Trace) (P : List ℕ → Type 0) → Syncs result old new
     → ((image : List ℕ) → Leaves old.now image → P image) → P old.now.image → EachImage old new P
@@ -100,11 +105,11 @@ pub stored_moments : {T E : Type 0} → (at : ℕ) (octets : List ℕ) (result :
     → EachImage old new (AllBut at (length octets) old.now.image)
 stored_moments at octets result old mid new synced within writes syncs =
     let P = AllBut at (length octets) old.now.image in
-    image_then old mid new P (write_moments {E = ℕ} at octets (Ok 0) old mid synced within writes)
+    image_then old mid new P (write_moments {T = ℕ} {E = ℕ} at octets (Ok 0) old mid synced within writes)
     (sync_moments result mid new P syncs (torn_leaves at (length octets) old mid synced within writes.0)
     (subst P (sym writes.1) (overwritten_but old.now.image at octets within)))
 
 -- a sync, or nothing
 pub only_syncs_moments : (old new : Trace) → OnlySyncs old new → Leaves old.now old.now.image → EachImage old new (Leaves old.now)
 only_syncs_moments old new (inl same) stays = image_same old new (Leaves old.now) same (λ image leaves. leaves)
-only_syncs_moments old new (inr synced) stays = sync_moments {E = ℕ} (Ok 0) old new (Leaves old.now) synced (λ image leaves. leaves) stays
+only_syncs_moments old new (inr synced) stays = sync_moments {T = ℕ} {E = ℕ} (Ok 0) old new (Leaves old.now) synced (λ image leaves. leaves) stays
