@@ -1,5 +1,6 @@
 // The header of an image.
-ghost use Rattle.std.specs.Prelude.{◌≡◌, ◌+◌, ◌≤◌, length, drop, None, Some, MatchResult};
+ghost use Rattle.std.specs.Prelude.{◌≡◌, ◌+◌, ◌≤◌, ◌==◌, not, length, drop, MatchResult};
+ghost use Rattle.std.specs.List.{list_any};
 ghost use Rattle.byteorder.specs.Endian.{big_number};
 ghost use Rattle.disk_journal.specs.Image.{plan_length_in, slot_count_in};
 ghost use Rattle.disk_journal.specs.Fault.{first_failing, header_checks};
@@ -25,6 +26,13 @@ fn number_at(header: &[u8], at: u64) -> u32
     BigEndian::read_u32(&header[at as usize..])
 }
 
+/// Whether an octet is not 0.
+fn has_other(octets: &[u8]) -> bool
+    ensures { result ≡ list_any (λ octet. not (octet == 0)) octets.now }
+{
+    octets.iter().any(|octet| *octet != 0)
+}
+
 /// The offset of the first check of the header that fails.
 fn header_fault(header: &[u8], image_length: u64) -> Option<u64>
     requires { length header.now ≡ HEADER_LENGTH }
@@ -46,7 +54,7 @@ fn header_fault(header: &[u8], image_length: u64) -> Option<u64>
     if image_length < slot_offset(slots) {
         return Some(image_length);
     }
-    if header[ZEROS_AT as usize..].iter().any(|octet| *octet != 0) {
+    if has_other(&header[ZEROS_AT as usize..]) {
         return Some(ZEROS_AT);
     }
     None
