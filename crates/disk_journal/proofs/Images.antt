@@ -66,7 +66,7 @@ pub record Passes (image : List ℕ) : Type 0 where
 long_enough : (size : ℕ) → nat_lt size HEADER_LENGTH ≡ false → HEADER_LENGTH ≤ size
 long_enough size test = grind (arith, nat_tests)
 
-short_test : (size : ℕ) → HEADER_LENGTH ≤ size → nat_lt size HEADER_LENGTH ≡ false
+pub short_test : (size : ℕ) → HEADER_LENGTH ≤ size → nat_lt size HEADER_LENGTH ≡ false
 short_test size whole = grind (arith, nat_tests)
 
 -- the gates from slot f + 1 on, told by place
@@ -85,10 +85,10 @@ after_quiet gate n f closed = closed_pass gate (n - (f + 1)) (f + 1) (λ k below
     closed (f + 1 + k) above high)
 
 -- the checks of the header, and those of the gates
-abbrev header_part : List ℕ → List Check
+abbrev pub header_part : List ℕ → List Check
 header_part image = header_checks (header_of image) (length image)
 
-abbrev gate_part : List ℕ → List Check
+abbrev pub gate_part : List ℕ → List Check
 gate_part image = gate_checks (gate_at image) (slot_count image - (first_closed image + 1)) (first_closed image + 1)
 
 pub passes_of : (image : List ℕ) → image_fault image ≡ None → Passes image

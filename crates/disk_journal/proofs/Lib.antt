@@ -4,3 +4,4 @@ pub mod Ranges
 pub mod Moments
 pub mod Images
 pub mod SlotWrites
+pub mod Verdicts

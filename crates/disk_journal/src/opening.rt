@@ -8,13 +8,14 @@ ghost use Rattle.disk_journal.specs.Journal.{IsHeaderOf, IsVerdict};
 use crate::gates::{first_closed, stray_gate};
 use crate::header::{Header, read_header};
 use crate::journal::Journal;
-use crate::layout::{HEADER_LENGTH, MOST_SLOTS};
+use crate::layout::{HEADER_LENGTH, MOST_SLOTS, PLAN_ROOM};
 use sdls_outside::{Failed, Site};
 
 /// Makes the checks of the gates, behind a header that passes its own. Answers the journal, or the
 /// offset of the first check that fails.
 fn inspect_gates<O: Site>(site: &mut O, header: Header) -> Result<Result<Journal, u64>, Failed>
-    requires fits { header.slots ≤ MOST_SLOTS }
+    requires room { header.plan_length ≤ PLAN_ROOM }
+    requires most { header.slots ≤ MOST_SLOTS }
     requires passed { IsTrue O.told → IsHeaderOf (O.trace site.old).now.image header.plan_length header.slots }
     ensures found { IsTrue O.told → IfOk result (IsVerdict (O.trace site.old).now.image) }
     ensures same { IsTrue O.told → O.trace site.new ≡ O.trace site.old }
