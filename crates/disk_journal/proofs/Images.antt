@@ -151,7 +151,7 @@ slots_most image passes = (header_bounds (header_of image) (length image) passes
 pub record InSlot (u : ℕ) (old new : List ℕ) : Type 0 where
   pub change : AllBut (slot_at u) SLOT_LENGTH old new
 
-other_gate : (u k : ℕ) (old new : List ℕ) → AllBut (slot_at u) SLOT_LENGTH old new → k ≢ u → gate_at new k ≡ gate_at old k
+pub other_gate : (u k : ℕ) (old new : List ℕ) → AllBut (slot_at u) SLOT_LENGTH old new → k ≢ u → gate_at new k ≡ gate_at old k
 other_gate u k old new change other = change.outside (slot_at k)
     (elim (cases_lt k u) [ inl low ↦ inl (omega arith) | inr high ↦ inr (omega arith) ])
 

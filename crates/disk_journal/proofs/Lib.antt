@@ -5,3 +5,5 @@ pub mod Moments
 pub mod Images
 pub mod SlotWrites
 pub mod Verdicts
+pub mod Growing
+pub mod Laying

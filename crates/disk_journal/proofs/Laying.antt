@@ -1,0 +1,171 @@
+-- The writes of an image without records.
+use Rattle.std.proofs.Common.{◌≡◌, ℕ, zero, suc, ◌+◌, ◌-◌, ◌*◌, ◌<◌, ◌≤◌, ◌⊎◌, List, [], ◌∷◌, ◌++◌, append_assoc, length, get_or, take, drop, replicate, max, refl, sym, ◌∙◌, ap, subst, inl, inr, arith, append-nil, lit≤, Result, Ok, Err}
+use Rattle.std.specs.Result.{OnOk}
+use Rattle.std.proofs.lemmas.List.{take-replicate, drop-replicate, length-replicate, take-append-le, drop-append-le, drop_all, length-append}
+use Rattle.std.proofs.Math.ListN.{replicate-append-replicate}
+use Rattle.std.proofs.Math.Seq.{drop-append_seam, take-append_seam, drop-append-add}
+use Rattle.sdls_outside.specs.Disk.{Disk, Leaves, IsSynced}
+use Rattle.sdls_outside.specs.Moments.{Trace}
+use Rattle.sdls_outside.specs.Site.{overwritten, Wrote, Writes, Synced, Syncs}
+use Rattle.sdls_outside.proofs.Moments.{each_writes}
+use Rattle.byteorder.specs.Endian.{big_bytes}
+use Rattle.disk_journal.specs.declared.layout.TheConstants.{HEADER_LENGTH, PLAN_ROOM, SLOT_LENGTH, MAGIC, MAGIC_AT, FIELD_LENGTH, ZEROS_AT, OPEN, CLOSED}
+use Rattle.disk_journal.specs.Slots.{slot_at}
+use Rattle.disk_journal.specs.Changes.{AllBut, EachImage}
+use Rattle.disk_journal.specs.Initial.{zeros, empty_image, laid_image, initial_image, IsLaid}
+use Rattle.disk_journal.proofs.Moments.{image_same, image_then, image_weaker, sync_moments}
+
+-- at most so many octets
+abbrev pub AtMost : ℕ → List ℕ → Type 0
+AtMost bound image = length image ≤ bound
+
+leaves_short : (disk : Disk) (bound : ℕ) → length disk.image ≤ bound → (image : List ℕ) → Leaves disk image → AtMost bound image
+leaves_short disk bound short image leaves = let longer : length image ≤ length disk.image = leaves.no_longer in omega arith
+
+wrote_short : (at count bound : ℕ) (old new : Trace) → length old.now.image ≤ bound → at + count ≤ bound → Wrote at count old new
+    → length new.now.image ≤ bound
+wrote_short at count bound old new short within wrote =
+    let longer : length new.now.image ≤ max (length old.now.image) (at + count) = wrote.torn.no_longer in omega arith
+
+-- a write that stays within the bound
+pub short_write : {T E : Type 0} → (at : ℕ) (octets : List ℕ) (result : Result T E) (bound : ℕ) (old new : Trace)
+    → length old.now.image ≤ bound → at + length octets ≤ bound → Writes at octets result old new → EachImage old new (AtMost bound)
+short_write {E = E} at octets (Ok value) bound old new short within writes = record {
+  moments = each_writes {E = E} at octets (Ok value) old new (λ image sunk. AtMost bound image × (sunk ≡ old.now.sunk)) writes
+      (λ image leaves. (leaves_short old.now bound short image leaves, refl))
+      (λ wrote image leaves. (leaves_short new.now bound (wrote_short at (length octets) bound old new short within wrote) image leaves, refl));
+  sunk = writes.0.sunk;
+}
+short_write at octets (Err error) bound old new short within (inl same) =
+    image_same old new (AtMost bound) same (leaves_short old.now bound short)
+short_write {T = T} at octets (Err error) bound old new short within (inr wrote) = record {
+  moments = each_writes {T = T} at octets (Err error) old new (λ image sunk. AtMost bound image × (sunk ≡ old.now.sunk)) (inr wrote)
+      (λ image leaves. (leaves_short old.now bound short image leaves, refl))
+      (λ wrote image leaves. (leaves_short new.now bound (wrote_short at (length octets) bound old new short within wrote) image leaves, refl));
+  sunk = wrote.sunk;
+}
+
+pub failed_short : (at : ℕ) (octets : List ℕ) (bound : ℕ) (old new : Trace) → length old.now.image ≤ bound → at + length octets ≤ bound
+    → (new ≡ old) ⊎ Wrote at (length octets) old new → EachImage old new (AtMost bound)
+failed_short at octets bound old new short within writes = short_write {T = ℕ} {E = ℕ} at octets (Err 0) bound old new short within writes
+
+pub done_short : (at : ℕ) (octets : List ℕ) (bound : ℕ) (old new : Trace) → length old.now.image ≤ bound → at + length octets ≤ bound
+    → Wrote at (length octets) old new × (new.now.image ≡ overwritten old.now.image at octets) → EachImage old new (AtMost bound)
+done_short at octets bound old new short within writes = short_write {T = ℕ} {E = ℕ} at octets (Ok 0) bound old new short within writes
+
+pub sync_short : {T E : Type 0} → (result : Result T E) (bound : ℕ) (old new : Trace) → length old.now.image ≤ bound
+    → Syncs result old new → EachImage old new (AtMost bound)
+sync_short result bound old new short syncs =
+    sync_moments result old new (AtMost bound) syncs (leaves_short old.now bound short) short
+
+pub length_zeros : (n : ℕ) → length (zeros n) ≡ n
+unfolding zeros
+length_zeros n = length-replicate n 0
+
+take_zeros : (m n : ℕ) → m ≤ n → take m (zeros n) ≡ zeros m
+unfolding zeros
+take_zeros m n low = take-replicate m n 0 low
+
+drop_zeros : (m n : ℕ) → drop m (zeros n) ≡ zeros (n - m)
+unfolding zeros
+drop_zeros m n = drop-replicate m n 0
+
+join_zeros : (m n : ℕ) → zeros m ++ zeros n ≡ zeros (m + n)
+unfolding zeros
+join_zeros m n = replicate-append-replicate m n 0
+
+-- one more block of zeros at the end
+pub more_zeros : (n count : ℕ) → overwritten (zeros n) n (zeros count) ≡ zeros (n + count)
+more_zeros n count =
+    let past : drop (n + length (zeros count)) (zeros n) ≡ [] =
+    drop_all (n + length (zeros count)) (zeros n) (let size : length (zeros n) ≡ n = length_zeros n in omega arith) in
+    ap (λ (rest : List ℕ). take n (zeros n) ++ zeros count ++ rest) past
+    ∙ append-nil (take n (zeros n) ++ zeros count)
+    ∙ ap (λ (front : List ℕ). front ++ zeros count) (take_zeros n n (omega arith))
+    ∙ join_zeros n count
+
+-- octets written over zeros
+over_zeros : (n at : ℕ) (octets : List ℕ) → at ≤ n → overwritten (zeros n) at octets ≡ zeros at ++ octets ++ zeros (n - (at + length octets))
+over_zeros n at octets low =
+    ap (λ (front : List ℕ). front ++ octets ++ drop (at + length octets) (zeros n)) (take_zeros at n low)
+    ∙ ap (λ (back : List ℕ). zeros at ++ octets ++ back) (drop_zeros (at + length octets) n)
+
+-- octets written into the zeros at the front
+into_zeros : (n at : ℕ) (octets rest : List ℕ) → at + length octets ≤ n
+    → overwritten (zeros n ++ rest) at octets ≡ zeros at ++ octets ++ (zeros (n - (at + length octets)) ++ rest)
+into_zeros n at octets rest within =
+    let sized : length (zeros n) ≡ n = length_zeros n in
+    let front : take at (zeros n ++ rest) ≡ zeros at = take-append-le at (zeros n) rest (omega arith) ∙ take_zeros at n (omega arith) in
+    let back : drop (at + length octets) (zeros n ++ rest) ≡ zeros (n - (at + length octets)) ++ rest =
+    drop-append-le (at + length octets) (zeros n) rest (omega arith)
+    ∙ ap (λ (some : List ℕ). some ++ rest) (drop_zeros (at + length octets) n) in
+    ap (λ (some : List ℕ). some ++ octets ++ drop (at + length octets) (zeros n ++ rest)) front
+    ∙ ap (λ (some : List ℕ). zeros at ++ octets ++ some) back
+
+one_zero : zeros 1 ≡ 0 ∷ []
+unfolding zeros
+one_zero = refl
+
+abbrev pub fields_of : ℕ → ℕ → List ℕ
+fields_of plan_length slots = MAGIC ++ big_bytes FIELD_LENGTH plan_length ++ big_bytes FIELD_LENGTH slots
+
+-- the image in parts
+parts_of : (plan : List ℕ) (slots : ℕ) → (0 ∷ []) ++ fields_of (length plan) slots
+    ++ (zeros 495 ++ (plan ++ zeros (slot_at slots - (HEADER_LENGTH + length plan)))) ≡ laid_image plan slots
+unfolding empty_image
+parts_of plan slots =
+    sym (append_assoc ((0 ∷ []) ++ fields_of (length plan) slots) (zeros 495) (plan ++ zeros (slot_at slots - (HEADER_LENGTH + length plan))))
+    ∙ sym (append_assoc ((0 ∷ []) ++ fields_of (length plan) slots ++ zeros 495) plan (zeros (slot_at slots - (HEADER_LENGTH + length plan))))
+
+pub laid_is : (plan : List ℕ) (slots size : ℕ) → size ≡ slot_at slots → HEADER_LENGTH + length plan ≤ size
+    → overwritten (overwritten (zeros size) HEADER_LENGTH plan) MAGIC_AT (fields_of (length plan) slots) ≡ laid_image plan slots
+laid_is plan slots size sized within =
+    let rest = zeros (size - (HEADER_LENGTH + length plan)) in
+    let first : overwritten (zeros size) HEADER_LENGTH plan ≡ zeros HEADER_LENGTH ++ (plan ++ rest) =
+    over_zeros size HEADER_LENGTH plan (omega arith) ∙ append_assoc (zeros HEADER_LENGTH) plan rest in
+    let fields = fields_of (length plan) slots in
+    let fits : MAGIC_AT + length fields ≤ HEADER_LENGTH = lit≤ tt in
+    ap (λ (image : List ℕ). overwritten image MAGIC_AT fields) first
+    ∙ into_zeros HEADER_LENGTH MAGIC_AT fields (plan ++ rest) fits
+    ∙ ap (λ (front : List ℕ). front ++ fields ++ (zeros 495 ++ (plan ++ rest))) one_zero
+    ∙ ap (λ (n : ℕ). (0 ∷ []) ++ fields ++ (zeros 495 ++ (plan ++ zeros (n - (HEADER_LENGTH + length plan))))) sized
+    ∙ parts_of plan slots
+
+pub laid_length : (plan : List ℕ) (slots : ℕ) → 1 ≤ length (laid_image plan slots)
+unfolding empty_image
+laid_length plan slots = omega arith
+
+-- the gate
+pub opened_is : (plan : List ℕ) (slots : ℕ) → overwritten (laid_image plan slots) 0 (OPEN ∷ []) ≡ initial_image plan slots
+unfolding empty_image
+opened_is plan slots = refl
+
+beyond : (gate octet : ℕ) (rest : List ℕ) (i : ℕ) → 0 + 1 ≤ i → get_or (gate ∷ rest) i 0 ≡ get_or (octet ∷ rest) i 0
+beyond gate octet rest zero above = absurd (omega arith)
+beyond gate octet rest (suc i) above = refl
+
+gate_apart : (gate octet : ℕ) (rest image : List ℕ) → AllBut 0 1 (gate ∷ rest) image → AllBut 0 1 (octet ∷ rest) image
+gate_apart gate octet rest image change = record {
+  same_length = change.same_length;
+  outside = λ i away. elim away [
+    | inl before ↦ absurd (omega arith)
+    | inr after ↦ change.outside i (inr after) ∙ beyond gate octet rest i after
+  ];
+}
+
+pub but_for_gate : (plan : List ℕ) (slots : ℕ) (image : List ℕ) → AllBut 0 1 (laid_image plan slots) image
+    → AllBut 0 1 (initial_image plan slots) image
+unfolding empty_image
+but_for_gate plan slots image change = gate_apart CLOSED OPEN _ image change
+
+-- the whole call
+pub laid_early : (plan : List ℕ) (slots : ℕ) (old new : Trace) → EachImage old new (AtMost (slot_at slots)) → IsLaid plan slots old new new
+laid_early plan slots old new early = record { early = early; late = inl refl }
+
+pub laid_late : (plan : List ℕ) (slots : ℕ) (old mid new : Trace) → EachImage old mid (AtMost (slot_at slots)) → IsSynced mid.now
+    → mid.now.image ≡ laid_image plan slots → EachImage mid new (AllBut 0 1 mid.now.image) → IsLaid plan slots old mid new
+laid_late plan slots old mid new early synced laid late = record {
+  early = early;
+  late = inr (synced, laid, image_weaker mid new (AllBut 0 1 mid.now.image) (AllBut 0 1 (initial_image plan slots))
+      (λ image change. but_for_gate plan slots image (subst (λ (octets : List ℕ). AllBut 0 1 octets image) laid change)) late);
+}
