@@ -31,7 +31,7 @@ pub record AtSlot (old : List ℕ) (at : ℕ) : Type 0 where
   pub closed : gate_at old (first_closed old) ≡ CLOSED
   pub place : at ≡ slot_at (first_closed old)
 
-fits_slot : (old : List ℕ) (at : ℕ) → AtSlot old at → at + SLOT_LENGTH ≤ length old
+pub fits_slot : (old : List ℕ) (at : ℕ) → AtSlot old at → at + SLOT_LENGTH ≤ length old
 fits_slot old at slot =
     let inside : slot_at (first_closed old) + SLOT_LENGTH ≤ length old =
     slot_inside (first_closed old) (slot_count old) (length old) slot.room (slots_within old slot.passes) in

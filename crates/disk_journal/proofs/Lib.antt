@@ -7,3 +7,4 @@ pub mod SlotWrites
 pub mod Verdicts
 pub mod Growing
 pub mod Laying
+pub mod Calls
