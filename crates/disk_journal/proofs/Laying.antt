@@ -169,3 +169,56 @@ laid_late plan slots old mid new early synced laid late = record {
   late = inr (synced, laid, image_weaker mid new (AllBut 0 1 mid.now.image) (AllBut 0 1 (initial_image plan slots))
       (λ image change. but_for_gate plan slots image (subst (λ (octets : List ℕ). AllBut 0 1 octets image) laid change)) late);
 }
+
+-- zeros so far, by blocks
+no_zeros : zeros 0 ≡ []
+unfolding zeros
+no_zeros = refl
+
+pub zeros_none : (old : Trace) (blocks : ℕ) → old.now.image ≡ [] → old.now.image ≡ zeros (SLOT_LENGTH * 0)
+zeros_none old blocks empty = empty ∙ sym no_zeros
+
+pub none_yet : (old : Trace) (bound : ℕ) → old.now.image ≡ [] → EachImage old old (AtMost bound)
+none_yet old bound empty =
+    let short : length old.now.image ≤ bound = let size : length old.now.image ≡ 0 = ap (λ (octets : List ℕ). length octets) empty in omega arith in
+    image_same old old (AtMost bound) refl (leaves_short old.now bound short)
+
+pub zeros_end : (image : List ℕ) (n : ℕ) → image ≡ zeros n → length image ≡ n
+zeros_end image n filled = ap (λ (octets : List ℕ). length octets) filled ∙ length_zeros n
+
+-- a block of zeros, as it is written
+pub is_block : zeros SLOT_LENGTH ≡ replicate SLOT_LENGTH 0
+unfolding zeros
+is_block = refl
+
+block_size : (octets : List ℕ) → octets ≡ zeros SLOT_LENGTH → length octets ≡ SLOT_LENGTH
+block_size octets filled = zeros_end octets SLOT_LENGTH filled
+
+pub block_written : (old mid new : Trace) (block blocks : ℕ) (octets : List ℕ) → octets ≡ zeros SLOT_LENGTH → block < blocks
+    → mid.now.image ≡ zeros (SLOT_LENGTH * block) → EachImage old mid (AtMost (SLOT_LENGTH * blocks))
+    → Wrote (SLOT_LENGTH * block) (length octets) mid new × (new.now.image ≡ overwritten mid.now.image (SLOT_LENGTH * block) octets)
+    → EachImage old new (AtMost (SLOT_LENGTH * blocks))
+block_written old mid new block blocks octets block_is below filled each written =
+    let sized : length octets ≡ SLOT_LENGTH = block_size octets block_is in
+    let size : length mid.now.image ≡ SLOT_LENGTH * block = zeros_end mid.now.image (SLOT_LENGTH * block) filled in
+    image_then old mid new (AtMost (SLOT_LENGTH * blocks)) each
+    (done_short (SLOT_LENGTH * block) octets (SLOT_LENGTH * blocks) mid new (omega arith) (omega arith) written)
+
+pub block_failed : (old mid new : Trace) (block blocks : ℕ) (octets : List ℕ) → octets ≡ zeros SLOT_LENGTH → block < blocks
+    → mid.now.image ≡ zeros (SLOT_LENGTH * block) → EachImage old mid (AtMost (SLOT_LENGTH * blocks))
+    → (new ≡ mid) ⊎ Wrote (SLOT_LENGTH * block) (length octets) mid new
+    → EachImage old new (AtMost (SLOT_LENGTH * blocks))
+block_failed old mid new block blocks octets block_is below filled each failed =
+    let sized : length octets ≡ SLOT_LENGTH = block_size octets block_is in
+    let size : length mid.now.image ≡ SLOT_LENGTH * block = zeros_end mid.now.image (SLOT_LENGTH * block) filled in
+    image_then old mid new (AtMost (SLOT_LENGTH * blocks)) each
+    (failed_short (SLOT_LENGTH * block) octets (SLOT_LENGTH * blocks) mid new (omega arith) (omega arith) failed)
+
+pub block_zeros : (mid new : List ℕ) (block : ℕ) (octets : List ℕ) → octets ≡ zeros SLOT_LENGTH → mid ≡ zeros (SLOT_LENGTH * block)
+    → new ≡ overwritten mid (SLOT_LENGTH * block) octets → new ≡ zeros (SLOT_LENGTH * (block + 1))
+block_zeros mid new block octets block_is filled written =
+    let next : SLOT_LENGTH * block + SLOT_LENGTH ≡ SLOT_LENGTH * (block + 1) = omega arith in
+    written ∙ ap (λ (image : List ℕ). overwritten image (SLOT_LENGTH * block) octets) filled
+    ∙ ap (λ (some : List ℕ). overwritten (zeros (SLOT_LENGTH * block)) (SLOT_LENGTH * block) some) block_is
+    ∙ more_zeros (SLOT_LENGTH * block) SLOT_LENGTH
+    ∙ ap zeros next
