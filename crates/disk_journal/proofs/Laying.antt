@@ -14,6 +14,7 @@ use Rattle.disk_journal.specs.Slots.{slot_at}
 use Rattle.disk_journal.specs.Changes.{AllBut, EachImage}
 use Rattle.disk_journal.specs.Initial.{zeros, empty_image, laid_image, initial_image, IsLaid}
 use Rattle.disk_journal.proofs.Moments.{image_same, image_then, image_weaker, sync_moments}
+use Rattle.disk_journal.proofs.Ranges.{overwritten_length}
 
 -- at most so many octets
 abbrev pub AtMost : ℕ → List ℕ → Type 0
@@ -222,3 +223,69 @@ block_zeros mid new block octets block_is filled written =
     ∙ ap (λ (some : List ℕ). overwritten (zeros (SLOT_LENGTH * block)) (SLOT_LENGTH * block) some) block_is
     ∙ more_zeros (SLOT_LENGTH * block) SLOT_LENGTH
     ∙ ap zeros next
+
+-- the parts of the call, one after the other
+pub zeros_first : (blocks size : ℕ) (old new : Trace) → SLOT_LENGTH * blocks ≡ size → EachImage old new (AtMost (SLOT_LENGTH * blocks))
+    → EachImage old new (AtMost size)
+zeros_first blocks size old new sized each = subst (λ (n : ℕ). EachImage old new (AtMost n)) sized each
+
+pub zeros_short : (image : List ℕ) (blocks size : ℕ) → SLOT_LENGTH * blocks ≡ size → image ≡ zeros (SLOT_LENGTH * blocks) → length image ≡ size
+zeros_short image blocks size sized filled = zeros_end image (SLOT_LENGTH * blocks) filled ∙ sized
+
+pub then_failed : (at : ℕ) (octets : List ℕ) (bound : ℕ) (old mid new : Trace) → EachImage old mid (AtMost bound)
+    → length mid.now.image ≤ bound → at + length octets ≤ bound → (new ≡ mid) ⊎ Wrote at (length octets) mid new
+    → EachImage old new (AtMost bound)
+then_failed at octets bound old mid new each short within failed =
+    image_then old mid new (AtMost bound) each (failed_short at octets bound mid new short within failed)
+
+-- one more write that is Ok
+pub record Longer (bound : ℕ) (old new : Trace) : Type 0 where
+  pub each : EachImage old new (AtMost bound)
+  pub short : length new.now.image ≤ bound
+
+pub then_done : (at : ℕ) (octets : List ℕ) (bound : ℕ) (old mid new : Trace) → EachImage old mid (AtMost bound)
+    → length mid.now.image ≤ bound → at + length octets ≤ bound
+    → Wrote at (length octets) mid new × (new.now.image ≡ overwritten mid.now.image at octets) → Longer bound old new
+then_done at octets bound old mid new each short within done = record {
+  each = image_then old mid new (AtMost bound) each (done_short at octets bound mid new short within done);
+  short = wrote_short at (length octets) bound mid new short within done.0;
+}
+
+pub then_sync : {T E : Type 0} → (result : Result T E) (bound : ℕ) (old mid new : Trace) → Longer bound old mid → Syncs result mid new
+    → EachImage old new (AtMost bound)
+then_sync result bound old mid new longer syncs =
+    image_then old mid new (AtMost bound) longer.each (sync_short result bound mid new longer.short syncs)
+
+pub synced_ok : {T E : Type 0} → (result : Result T E) (old new : Trace) (image : List ℕ) → Syncs result old new → old.now.image ≡ image
+    → OnOk result (IsSynced new.now × (new.now.image ≡ image))
+synced_ok (Ok value) old new image synced is = (synced.is_synced, synced.image ∙ is)
+synced_ok (Err error) old new image same is = tt
+
+pub laid_by : (plan : List ℕ) (slots blocks : ℕ) (first second third : List ℕ) → SLOT_LENGTH * blocks ≡ slot_at slots
+    → length plan ≤ PLAN_ROOM → first ≡ zeros (SLOT_LENGTH * blocks) → second ≡ overwritten first HEADER_LENGTH plan
+    → third ≡ overwritten second MAGIC_AT (fields_of (length plan) slots) → third ≡ laid_image plan slots
+laid_by plan slots blocks first second third sized room filled planned named =
+    named ∙ ap (λ (image : List ℕ). overwritten image MAGIC_AT (fields_of (length plan) slots))
+    (planned ∙ ap (λ (image : List ℕ). overwritten image HEADER_LENGTH plan) filled)
+    ∙ laid_is plan slots (SLOT_LENGTH * blocks) sized (omega arith)
+
+pub initial_ok : {T E : Type 0} → (result : Result T E) (plan : List ℕ) (slots : ℕ) (mid new : Trace) → mid.now.image ≡ laid_image plan slots
+    → OnOk result (IsSynced new.now × (new.now.image ≡ overwritten mid.now.image 0 (OPEN ∷ [])))
+    → OnOk result (IsSynced new.now × (new.now.image ≡ initial_image plan slots))
+initial_ok (Ok value) plan slots mid new laid stored =
+    (stored.0, stored.1 ∙ ap (λ (image : List ℕ). overwritten image 0 (OPEN ∷ [])) laid ∙ opened_is plan slots)
+initial_ok (Err error) plan slots mid new laid stored = tt
+
+pub gate_within : (plan : List ℕ) (slots : ℕ) (image : List ℕ) → image ≡ laid_image plan slots → 0 + 1 ≤ length image
+gate_within plan slots image laid = subst (λ (octets : List ℕ). 1 ≤ length octets) (sym laid) (laid_length plan slots)
+
+pub fields_within : (plan_length slots : ℕ) → MAGIC_AT + length (fields_of plan_length slots) ≤ slot_at slots
+fields_within plan_length slots = let fits : MAGIC_AT + length (fields_of plan_length slots) ≤ 66048 = lit≤ tt in omega arith
+
+-- the plan's write leaves the octet before the fields
+pub fields_place : (first second plan : List ℕ) (size : ℕ) → length first ≡ size → HEADER_LENGTH + length plan ≤ size
+    → second ≡ overwritten first HEADER_LENGTH plan → MAGIC_AT ≤ length second
+fields_place first second plan size long within written =
+    let same : length second ≡ length first =
+    ap (λ (octets : List ℕ). length octets) written ∙ overwritten_length first HEADER_LENGTH plan (omega arith) in
+    omega arith
