@@ -167,8 +167,12 @@ pub laid_late : (plan : List ℕ) (slots : ℕ) (old mid new : Trace) → EachIm
     → mid.now.image ≡ laid_image plan slots → EachImage mid new (AllBut 0 1 mid.now.image) → IsLaid plan slots old mid new
 laid_late plan slots old mid new early synced laid late = record {
   early = early;
-  late = inr (synced, laid, image_weaker mid new (AllBut 0 1 mid.now.image) (AllBut 0 1 (initial_image plan slots))
-      (λ image change. but_for_gate plan slots image (subst (λ (octets : List ℕ). AllBut 0 1 octets image) laid change)) late);
+  late = inr (
+    synced,
+    laid,
+    image_weaker mid new (AllBut 0 1 mid.now.image) (AllBut 0 1 (initial_image plan slots))
+        (λ image change. but_for_gate plan slots image (subst (λ (octets : List ℕ). AllBut 0 1 octets image) laid change)) late,
+  );
 }
 
 -- zeros so far, by blocks

@@ -46,8 +46,8 @@ counted gate body n u bodies first are =
     elim (cases_lt u (length bodies)) [
       | inl below ↦ absurd (first.closed (omega arith) (are.opened u below))
       | inr above ↦ elim (cases_lt (length bodies) u) [
-          | inl below ↦ absurd (are.closed (omega arith) (first.before (length bodies) below))
-          | inr same ↦ omega arith
+        | inl below ↦ absurd (are.closed (omega arith) (first.before (length bodies) below))
+        | inr same ↦ omega arith
       ]
     ]
 

@@ -42,7 +42,10 @@ fn fill_fields(fields: &mut [u8], plan_length: u32, slots: u32)
     ensures { fields.new ≡ MAGIC ++ big_bytes FIELD_LENGTH plan_length ++ big_bytes FIELD_LENGTH slots }
 {
     fields[..8].copy_from_slice(&MAGIC);
-    BigEndian::write_u32(&mut fields[(PLAN_LENGTH_AT - MAGIC_AT) as usize..], plan_length);
+    BigEndian::write_u32(
+        &mut fields[(PLAN_LENGTH_AT - MAGIC_AT) as usize..],
+        plan_length,
+    );
     BigEndian::write_u32(&mut fields[(SLOT_COUNT_AT - MAGIC_AT) as usize..], slots);
 }
 

@@ -14,6 +14,8 @@ returns-clause-created g c = λ told.
     initial_ok c.store.result c.args.plan.now c.args.slots (g.O.Site.trace c.lay.new.site) (g.O.Site.trace c.store.new.site) (c.in_ok-lay.ensures.laid told).1 (c.store.ensures.stored told)
 
 pub returns-clause-any_moment : goal.returns-clause-any_moment
-returns-clause-any_moment g c = λ told.
-    ((g.O.Site.trace c.lay.new.site), laid_late c.args.plan.now c.args.slots (g.O.Site.trace c.args.site.now) (g.O.Site.trace c.lay.new.site) (g.O.Site.trace c.store.new.site) (c.lay.ensures.any_moment told) (c.in_ok-lay.ensures.laid told).0
-    (c.in_ok-lay.ensures.laid told).1 (c.store.ensures.any_moment told))
+returns-clause-any_moment g c = λ told. (
+  (g.O.Site.trace c.lay.new.site),
+  laid_late c.args.plan.now c.args.slots (g.O.Site.trace c.args.site.now) (g.O.Site.trace c.lay.new.site) (g.O.Site.trace c.store.new.site) (c.lay.ensures.any_moment told) (c.in_ok-lay.ensures.laid told).0
+      (c.in_ok-lay.ensures.laid told).1 (c.store.ensures.any_moment told),
+)
