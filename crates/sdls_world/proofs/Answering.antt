@@ -40,7 +40,7 @@ module _ (w : Core) (id place : ℕ) (a b : Doer) (found : doer_of id w.actors �
       let new : a' ≡ funding p a = is ∙ ap (funding p) same in
       let k_there : slice_get w.keys p.0 ≡ Some k = place_there w.keys p.0 k below k_is in
       let step : record w { actors = set w.actors place a' } ≡ peek_step w (place, a) false (Some p) =
-        rw k_there (rw (lt_test p.1 k.limit low) (ap (λ (z : Doer). let r : Core = record w { actors = set w.actors place z } in r) new)) in
+      rw k_there (rw (lt_test p.1 k.limit low) (ap (λ (z : Doer). let r : Core = record w { actors = set w.actors place z } in r) new)) in
       rw found (step ∙ λ j. peek_step w (place, a) (sym unfunded j) (sym last j))
 
   pub spend_is : (p : ℕ × ℕ) (a' : Doer) → a.last ≡ Some p → a.is_funded ≡ true → a' ≡ spending p b → record w { actors = set w.actors place a'; used = w.used ++ p ∷ [] } ≡ after w (Spend id)

@@ -1,0 +1,10 @@
+pub mod Gating
+pub mod Failing
+pub mod Ranges
+pub mod Moments
+pub mod Images
+pub mod SlotWrites
+pub mod Verdicts
+pub mod Growing
+pub mod Laying
+pub mod Calls

@@ -1,0 +1,13 @@
+use Rattle.std.proofs.Common.{◌≡◌, ◌*◌, ◌≤◌, IsTrue}
+use Rattle.disk_journal.specs.declared.layout.TheConstants.{SLOT_LENGTH}
+use Rattle.disk_journal.specs.Changes.{EachImage}
+use Rattle.disk_journal.specs.Initial.{zeros}
+use Rattle.disk_journal.proofs.Laying.{AtMost}
+use Rattle.disk_journal.proofs.creating.write_zeros.Given as goal
+
+abbrev pub invariant-loop-block : goal.invariant-loop-block
+invariant-loop-block g l = record {
+  later : g.O.Site.faults l.initial.site ≤ g.O.Site.faults l.site;
+  image : IsTrue g.O.Site.told → (g.O.Site.trace l.site).now.image ≡ zeros (SLOT_LENGTH * l.block);
+  each : IsTrue g.O.Site.told → EachImage (g.O.Site.trace l.initial.site) (g.O.Site.trace l.site) (AtMost (SLOT_LENGTH * l.blocks));
+}

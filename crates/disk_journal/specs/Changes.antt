@@ -1,0 +1,39 @@
+-- What a crash at a moment of a call may leave of an image (profile).
+use Rattle.std.specs.Prelude.{◌≡◌, ◌≢◌, ℕ, ◌+◌, ◌<◌, ◌≤◌, ◌⊎◌, List, [], ◌∷◌, ◌++◌, length, None, slice_index, slice_set}
+use Rattle.sdls_outside.specs.Moments.{Trace, EachMoment}
+use Rattle.sdls_outside.specs.Site.{Synced}
+use Rattle.disk_journal.specs.declared.layout.TheConstants.{SLOT_LENGTH, CLOSED}
+use Rattle.disk_journal.specs.Slots.{slot_at, gate_at}
+use Rattle.disk_journal.specs.Image.{records, first_closed, IsHalfOpen, regated, opened_form}
+use Rattle.disk_journal.specs.Fault.{image_fault}
+
+-- new is old, but for what stands in a range of octets
+pub record AllBut (at count : ℕ) (old new : List ℕ) : Type 0 where
+  pub same_length : length new ≡ length old
+  pub outside : (i : ℕ) → (i < at) ⊎ (at + count ≤ i) → slice_index new i ≡ slice_index old i
+
+-- at each moment P holds of the image, and nothing is sunk
+pub record EachImage (old new : Trace) (P : List ℕ → Type 0) : Type 0 where
+  pub moments : EachMoment old new (λ image sunk. P image × (sunk ≡ old.now.sunk))
+  pub sunk : new.now.sunk ≡ old.now.sunk
+
+-- nothing was written: the trace is what it was, or a sync later
+abbrev pub OnlySyncs : Trace → Trace → Type 0
+OnlySyncs old new = (new ≡ old) ⊎ Synced old new
+
+-- The image opens, and shows the records of old, or those and this body. Where its first closed slot is half open, the
+-- image with that slot opened shows those and this body. No octet outside of the first closed slot of old has changed.
+pub record Grows (old body new : List ℕ) : Type 0 where
+  pub opens : image_fault new ≡ None
+  pub lists : (records new ≡ records old) ⊎ (records new ≡ records old ++ body ∷ [])
+  pub half_open : IsHalfOpen new → records (opened_form new) ≡ records old ++ body ∷ []
+  pub others : AllBut (slot_at (first_closed old)) SLOT_LENGTH old new
+
+-- new is old, or old with another octet as the gate of this slot, which is one of the slots and whose gate is not 0
+abbrev pub Closes : List ℕ → ℕ → ℕ → List ℕ → Type 0
+Closes old index slots new = (new ≡ old)
+    ⊎ ((index < slots) × (gate_at old index ≢ CLOSED) × ((octet : ℕ) × (new ≡ slice_set old (slot_at index) octet)))
+
+-- new is old, or old, half open, with another octet as the gate of its first closed slot
+abbrev pub Regates : List ℕ → List ℕ → Type 0
+Regates old new = (new ≡ old) ⊎ (IsHalfOpen old × ((octet : ℕ) × (new ≡ regated old octet)))
