@@ -1,12 +1,11 @@
 // What no clause says: the image as written by hand, and that calls succeed and fail where they should.
-ghost use Rattle.std.specs.Prelude.{◌≤◌, length};
-
 use crate::{BODY_LENGTH, Journal, JournalFault, create};
 use sdls_outside::{Crash, MemSite};
 use std::alloc::{AllocError, Global};
 use std::test::Fail;
 
-const PLAN: &[u8] = b"sdls 1\ndevice 0000000a\nslots 16\nblock 4\naccept 4\nlink 0 tc seg nofecf -\nchannel 0 0 42 3 1\nkey 7 active 2b7e151628aed2a6abf7158809cf4f3c\nsa 7 send cmac 7 1 1 0\n";
+const PLAN: &[u8] =
+    b"sdls 1\ndevice 0000000a\nslots 16\nblock 4\naccept 4\nlink 0 tc seg nofecf -\nchannel 0 0 42 3 1\nkey 7 active 2b7e151628aed2a6abf7158809cf4f3c\nsa 7 send cmac 7 1 1 0\n";
 
 /// Octets that stand at an offset.
 type Piece = (usize, &'static [u8]);
@@ -95,7 +94,11 @@ fn fills_up(rt: HostRuntime) -> Result<(), Fail> {
     let mut image = Vec::new(alloc);
     for at in 0..IMAGE_LENGTH {
         let gate = at >= 66_048 && at < 73_728 && at % 512 == 0;
-        image.push(if gate { 1 } else { octet_at(&[HEADER, (512, PLAN)], at) })?;
+        image.push(if gate {
+            1
+        } else {
+            octet_at(&[HEADER, (512, PLAN)], at)
+        })?;
     }
     let mut site = quiet_site(alloc, image);
     let mut journal = Journal::open(&mut site)?;
@@ -103,8 +106,12 @@ fn fills_up(rt: HostRuntime) -> Result<(), Fail> {
     journal.settle(&mut site)?;
     journal.append(&mut site, &[7; BODY_LENGTH])?;
     assert_eq!(rt; journal.used(), 16);
-    assert_eq!(rt; journal.append(&mut site, &[8; BODY_LENGTH]), Err(JournalFault::Full(16)));
-    assert_eq!(rt; site.image()[73_728..74_240].iter().all(|octet| *octet == 7 || *octet == 1), true);
+    assert_eq!(rt;
+        journal.append(&mut site, &[8; BODY_LENGTH]),
+        Err(JournalFault::Full(16))
+    );
+    assert_eq!(rt; site.image().get(73_728).copied(), Some(1));
+    assert_eq!(rt; site.image().get(73_729).copied(), Some(7));
     Ok(())
 }
 
