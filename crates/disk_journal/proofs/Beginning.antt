@@ -1,5 +1,5 @@
 -- The initial image opens.
-use Rattle.std.proofs.Common.{◌≡◌, ◌≢◌, ℕ, zero, suc, ◌+◌, ◌-◌, ◌*◌, ◌^◌, ◌<◌, ◌≤◌, ◌==◌, ◌||◌, not, nat_lt, Bool, true, false, List, [], ◌∷◌, ◌++◌, append_assoc, length, get_or, take, drop, replicate, None, refl, sym, ◌∙◌, ap, subst, inl, inr, arith, length-append}
+use Rattle.std.proofs.Common.{◌≡◌, ℕ, zero, suc, ◌+◌, ◌-◌, ◌^◌, ◌<◌, ◌≤◌, ◌==◌, ◌||◌, not, nat_lt, Bool, false, List, [], ◌∷◌, ◌++◌, append_assoc, length, get_or, take, drop, replicate, None, refl, sym, ◌∙◌, ap, subst, inl, inr, arith, length-append}
 use Rattle.std.specs.List.{list_any, slice_range}
 use Rattle.std.specs.Str.{bytes_eq}
 use Rattle.std.proofs.lemmas.Bool.{cases_lt}
@@ -10,14 +10,12 @@ use Rattle.std.proofs.Math.Seq.{take-append_seam, drop-append_seam}
 use Rattle.byteorder.specs.Endian.{big_bytes}
 use Rattle.byteorder.specs.Numbers.{big_number-reads_back}
 use Rattle.disk_journal.specs.declared.layout.TheConstants.{HEADER_LENGTH, PLAN_ROOM, LEAST_SLOTS, MOST_SLOTS, MAGIC, MAGIC_AT, PLAN_LENGTH_AT, SLOT_COUNT_AT, ZEROS_AT, FIELD_LENGTH, OPEN, CLOSED}
-use Rattle.disk_journal.specs.Slots.{slot_at, gate_at, body_at}
+use Rattle.disk_journal.specs.Slots.{slot_at, gate_at}
 use Rattle.disk_journal.specs.Image.{header_of, plan_length_in, slot_count_in, slot_count, plan_of, records, first_closed, IsAtRest}
-use Rattle.disk_journal.specs.Fault.{Check, first_failing, header_checks, image_fault}
+use Rattle.disk_journal.specs.Fault.{first_failing, header_checks}
 use Rattle.disk_journal.specs.Initial.{zeros, empty_image, initial_image}
 use Rattle.disk_journal.specs.Journal.{IsJournalOf}
-use Rattle.disk_journal.proofs.Gating.{AreRecords}
-use Rattle.disk_journal.proofs.Failing.{passed_first}
-use Rattle.disk_journal.proofs.Images.{Passes, of_passes, is_records}
+use Rattle.disk_journal.proofs.Images.{of_passes, is_records}
 use Rattle.disk_journal.proofs.Laying.{length_zeros}
 
 -- the header

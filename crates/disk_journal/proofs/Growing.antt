@@ -1,18 +1,15 @@
 -- A journal that grows by a record, and one that is brought to rest.
-use Rattle.std.proofs.Common.{◌≡◌, ◌≢◌, ℕ, zero, suc, ◌+◌, ◌<◌, ◌≤◌, ◌⊎◌, List, [], ◌∷◌, ◌++◌, length, get_or, set, take, drop, Option, Some, None, refl, sym, ◌∙◌, ap, subst, inl, inr, arith, length-append}
+use Rattle.std.proofs.Common.{◌≡◌, ◌≢◌, ℕ, zero, suc, ◌+◌, ◌<◌, ◌≤◌, List, [], ◌∷◌, ◌++◌, length, get_or, set, take, drop, Some, None, refl, sym, ◌∙◌, ap, subst, inl, inr, arith, length-append}
 use Rattle.std.specs.List.{slice_get}
-use Rattle.std.proofs.lemmas.Bool.{cases_lt}
-use Rattle.sdls_outside.specs.Disk.{Leaves, IsSynced}
+use Rattle.sdls_outside.specs.Disk.{IsSynced}
 use Rattle.sdls_outside.specs.Moments.{Trace}
 use Rattle.sdls_outside.specs.Site.{overwritten}
-use Rattle.sdls_outside.proofs.Moments.{synced_leaves}
-use Rattle.disk_journal.specs.declared.layout.TheConstants.{HEADER_LENGTH, PLAN_ROOM, SLOTS_AT, SLOT_LENGTH, BODY_LENGTH, OPEN, CLOSED}
+use Rattle.disk_journal.specs.declared.layout.TheConstants.{SLOT_LENGTH, BODY_LENGTH, OPEN, CLOSED}
 use Rattle.disk_journal.specs.Slots.{slot_at, gate_at, body_at}
-use Rattle.disk_journal.specs.Image.{header_of, plan_length_in, slot_count, plan_of, records, first_closed, IsHalfOpen, IsAtRest, regated, opened_form}
+use Rattle.disk_journal.specs.Image.{header_of, slot_count, plan_of, records, first_closed, IsHalfOpen, IsAtRest, regated, opened_form}
 use Rattle.disk_journal.specs.Fault.{image_fault}
 use Rattle.disk_journal.specs.Changes.{AllBut, EachImage, Grows, Closes, Regates}
 use Rattle.disk_journal.specs.Journal.{JournalView, IsJournalOf, IsOpen, IsSettled}
-use Rattle.disk_journal.proofs.Gating.{AreRecords}
 use Rattle.disk_journal.proofs.Ranges.{all_but_wider, all_but_then, same_stretch, overwritten_length, overwritten_but, overwritten_stretch, overwritten_one, set_but}
 use Rattle.std.proofs.lemmas.List.{get_or-set_same, set-set}
 use Rattle.disk_journal.proofs.Moments.{image_weaker}
