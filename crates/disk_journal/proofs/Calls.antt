@@ -1,5 +1,5 @@
 -- The calls of an open journal.
-use Rattle.std.proofs.Common.{◌≡◌, ◌≢◌, ℕ, ◌+◌, ◌-◌, ◌<◌, ◌≤◌, ◌⊎◌, List, [], ◌∷◌, ◌++◌, length, take, drop, min, Option, Some, refl, sym, ◌∙◌, ap, subst, inl, inr, arith, length-drop}
+use Rattle.std.proofs.Common.{◌≡◌, ℕ, ◌+◌, ◌-◌, ◌<◌, ◌≤◌, List, [], ◌∷◌, ◌++◌, length, take, drop, min, Some, refl, sym, ◌∙◌, ap, subst, inl, arith, length-drop}
 use Rattle.std.specs.List.{slice_get}
 use Rattle.std.proofs.lemmas.List.{length-take, length-take-le}
 use Rattle.std.proofs.Math.Seq.{take-append_seam}
@@ -11,10 +11,9 @@ use Rattle.disk_journal.specs.Slots.{slot_at, body_at}
 use Rattle.disk_journal.specs.Image.{header_of, plan_length_in, slot_count_in, slot_count, plan_of, records, first_closed, IsHalfOpen}
 use Rattle.disk_journal.specs.Changes.{EachImage, Grows}
 use Rattle.disk_journal.specs.Journal.{JournalView, IsJournalOf, IsOpen, IsSettled}
-use Rattle.disk_journal.proofs.Gating.{AreRecords}
 use Rattle.disk_journal.proofs.Ranges.{all_but_same}
 use Rattle.disk_journal.proofs.Moments.{image_same, synced_holds}
-use Rattle.disk_journal.proofs.Images.{Passes, passes_of, Bounds, header_bounds, slots_within, records_of}
+use Rattle.disk_journal.proofs.Images.{passes_of, Bounds, header_bounds, slots_within, records_of}
 use Rattle.disk_journal.proofs.Growing.{Appended, appended, at_slot, one_more, record_at}
 
 -- where the slots of an open journal end

@@ -1,19 +1,17 @@
 -- A journal that grows by a record, and one that is brought to rest.
-use Rattle.std.proofs.Common.{◌≡◌, ◌≢◌, ℕ, zero, suc, ◌+◌, ◌<◌, ◌≤◌, ◌⊎◌, List, [], ◌∷◌, ◌++◌, length, get_or, set, take, drop, Option, Some, refl, sym, ◌∙◌, ap, subst, inl, inr, arith, length-append}
+use Rattle.std.proofs.Common.{◌≡◌, ◌≢◌, ℕ, zero, suc, ◌+◌, ◌<◌, ◌≤◌, List, [], ◌∷◌, ◌++◌, length, get_or, set, take, drop, Some, None, refl, sym, ◌∙◌, ap, subst, inl, inr, arith, length-append}
 use Rattle.std.specs.List.{slice_get}
-use Rattle.std.proofs.lemmas.Bool.{cases_lt}
-use Rattle.sdls_outside.specs.Disk.{Leaves, IsSynced}
+use Rattle.sdls_outside.specs.Disk.{IsSynced}
 use Rattle.sdls_outside.specs.Moments.{Trace}
 use Rattle.sdls_outside.specs.Site.{overwritten}
-use Rattle.sdls_outside.proofs.Moments.{synced_leaves}
-use Rattle.disk_journal.specs.declared.layout.TheConstants.{HEADER_LENGTH, PLAN_ROOM, SLOTS_AT, SLOT_LENGTH, BODY_LENGTH, OPEN, CLOSED}
+use Rattle.disk_journal.specs.declared.layout.TheConstants.{SLOT_LENGTH, BODY_LENGTH, OPEN, CLOSED}
 use Rattle.disk_journal.specs.Slots.{slot_at, gate_at, body_at}
-use Rattle.disk_journal.specs.Image.{header_of, plan_length_in, slot_count, plan_of, records, first_closed, IsHalfOpen, IsAtRest, regated}
+use Rattle.disk_journal.specs.Image.{header_of, slot_count, plan_of, records, first_closed, IsHalfOpen, IsAtRest, regated, opened_form}
 use Rattle.disk_journal.specs.Fault.{image_fault}
 use Rattle.disk_journal.specs.Changes.{AllBut, EachImage, Grows, Closes, Regates}
 use Rattle.disk_journal.specs.Journal.{JournalView, IsJournalOf, IsOpen, IsSettled}
-use Rattle.disk_journal.proofs.Gating.{AreRecords}
 use Rattle.disk_journal.proofs.Ranges.{all_but_wider, all_but_then, same_stretch, overwritten_length, overwritten_but, overwritten_stretch, overwritten_one, set_but}
+use Rattle.std.proofs.lemmas.List.{get_or-set_same, set-set}
 use Rattle.disk_journal.proofs.Moments.{image_weaker}
 use Rattle.disk_journal.proofs.SlotWrites.{Storing}
 use Rattle.disk_journal.proofs.Images.{Passes, passes_of, of_passes, records_of, header_bounds, same_slots, same_plan, slots_within, stays_closed, is_opened, still_passes, other_gate, OnTheWay, grows}
@@ -243,3 +241,37 @@ get_at (x ∷ xs) (suc i) below = get_at xs i (omega arith)
 pub record_at : (image : List ℕ) (i : ℕ) → i < length (records image) → slice_get (records image) i ≡ Some (body_at image i)
 record_at image i below =
     get_at (records image) i below ∙ ap (λ (body : List ℕ). Some body) ((records_of image).are i below)
+
+-- another octet as the gate of the first closed slot
+pub record Regated (image : List ℕ) (octet : ℕ) : Type 0 where
+  pub opens : image_fault (regated image octet) ≡ None
+  pub same : records (regated image octet) ≡ records image
+  pub same_form : opened_form (regated image octet) ≡ opened_form image
+
+pub regates : (image : List ℕ) (octet : ℕ) → image_fault image ≡ None → IsHalfOpen image → octet ≢ OPEN → Regated image octet
+regates image octet opens half closed =
+    let u = first_closed image in
+    let passes : Passes image = passes_of image opens in
+    let new = set image (slot_at u) octet in
+    let change : AllBut (slot_at u) SLOT_LENGTH image new = set_in_slot u octet image in
+    let inside : slot_at u + SLOT_LENGTH ≤ length image = slot_inside u (slot_count image) (length image) half.there (slots_within image passes) in
+    let here : gate_at new u ≡ octet = get_or-set_same image (slot_at u) octet 0 (omega arith) in
+    let same : records new ≡ records image = stays_closed image new change (subst (λ (gate : ℕ). gate ≢ OPEN) (sym here) closed) in
+    let count : first_closed new ≡ u = ap (λ (bodies : List (List ℕ)). length bodies) same in
+    record {
+      opens = of_passes new (still_passes image new passes change (omega arith));
+      same = same;
+      same_form = ap (λ (k : ℕ). set new (slot_at k) OPEN) count ∙ set-set image (slot_at u) octet OPEN;
+    }
+
+pub form_opens : (image : List ℕ) → image_fault image ≡ None → first_closed image < slot_count image → image_fault (opened_form image) ≡ None
+form_opens image opens room =
+    let u = first_closed image in
+    let passes : Passes image = passes_of image opens in
+    let new = set image (slot_at u) OPEN in
+    let change : AllBut (slot_at u) SLOT_LENGTH image new = set_in_slot u OPEN image in
+    let inside : slot_at u + SLOT_LENGTH ≤ length image = slot_inside u (slot_count image) (length image) room (slots_within image passes) in
+    let here : gate_at new u ≡ OPEN = get_or-set_same image (slot_at u) OPEN 0 (omega arith) in
+    let grown : records new ≡ records image ++ body_at new u ∷ [] = is_opened image new (body_at new u) passes room change here refl in
+    let count : first_closed new ≡ u + 1 = ap (λ (bodies : List (List ℕ)). length bodies) grown ∙ length-append (records image) (body_at new u ∷ []) in
+    of_passes new (still_passes image new passes change (omega arith))

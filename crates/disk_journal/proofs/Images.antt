@@ -1,18 +1,18 @@
 -- Images whose checks pass, and what a change in their first closed slot leaves.
-use Rattle.std.proofs.Common.{◌≡◌, ◌≢◌, ℕ, zero, suc, ◌+◌, ◌-◌, ◌*◌, ◌<◌, ◌≤◌, ◌⊎◌, ◌||◌, ◌==◌, not, Bool, true, false, nat_lt, List, [], ◌∷◌, ◌++◌, length, get_or, take, drop, set, Option, Some, None, refl, sym, ◌∙◌, ap, subst, inl, inr, arith, length-append}
+use Rattle.std.proofs.Common.{◌≡◌, ◌≢◌, ℕ, ◌+◌, ◌-◌, ◌<◌, ◌≤◌, ◌⊎◌, ◌||◌, ◌==◌, not, Bool, false, nat_lt, List, [], ◌∷◌, ◌++◌, length, get_or, take, drop, set, None, refl, sym, ◌∙◌, ap, subst, inl, inr, arith, length-append}
 use Rattle.std.specs.List.{list_any, slice_range}
 use Rattle.std.specs.Str.{bytes_eq}
 use Rattle.std.proofs.lemmas.Bool.{cases_lt, cases_eq}
 use Rattle.std.proofs.lemmas.Bool.Decides.{nat_tests}
-use Rattle.std.proofs.lemmas.List.{length-take-le, get_or-set_same, length-drop}
+use Rattle.std.proofs.lemmas.List.{get_or-set_same}
 use Rattle.disk_journal.specs.declared.layout.TheConstants.{HEADER_LENGTH, PLAN_ROOM, SLOTS_AT, SLOT_LENGTH, BODY_LENGTH, LEAST_SLOTS, MOST_SLOTS, MAGIC, MAGIC_AT, PLAN_LENGTH_AT, SLOT_COUNT_AT, ZEROS_AT, OPEN, CLOSED}
-use Rattle.disk_journal.specs.Slots.{slot_at, gate_at, body_at, gated}
-use Rattle.disk_journal.specs.Image.{header_of, plan_length_in, slot_count_in, slot_count, plan_of, records, first_closed, IsHalfOpen, IsAtRest, regated, opened_form}
-use Rattle.disk_journal.specs.Fault.{Check, first_failing, header_checks, gate_checks, checks, image_fault}
+use Rattle.disk_journal.specs.Slots.{slot_at, gate_at, body_at}
+use Rattle.disk_journal.specs.Image.{header_of, plan_length_in, slot_count_in, slot_count, plan_of, records, first_closed}
+use Rattle.disk_journal.specs.Fault.{Check, first_failing, header_checks, gate_checks, image_fault}
 use Rattle.disk_journal.specs.Changes.{AllBut, Grows}
 use Rattle.disk_journal.proofs.Gating.{AreRecords, records_are, records_is, SameBefore, records_stay, records_grow}
-use Rattle.disk_journal.proofs.Failing.{PassFirst, all_passed, passed_first, failed_first, passed_append, failed_append, front_passed, closed_pass, pass_closed}
-use Rattle.disk_journal.proofs.Ranges.{all_but_same, all_but_wider, all_but_then, same_stretch, same_front, set_but}
+use Rattle.disk_journal.proofs.Failing.{all_passed, passed_first, passed_append, front_passed, closed_pass, pass_closed}
+use Rattle.disk_journal.proofs.Ranges.{all_but_wider, all_but_then, same_stretch, same_front, set_but}
 
 -- the numbers of a header that passes, in an image of this length
 pub record Bounds (header : List ℕ) (image_length : ℕ) : Type 0 where

@@ -1,15 +1,14 @@
 -- The writes of an image without records.
 use Rattle.std.proofs.Common.{◌≡◌, ℕ, zero, suc, ◌+◌, ◌-◌, ◌*◌, ◌<◌, ◌≤◌, ◌⊎◌, List, [], ◌∷◌, ◌++◌, append_assoc, length, get_or, take, drop, replicate, max, refl, sym, ◌∙◌, ap, subst, inl, inr, arith, append-nil, lit≤, Result, Ok, Err}
 use Rattle.std.specs.Result.{OnOk}
-use Rattle.std.proofs.lemmas.List.{take-replicate, drop-replicate, length-replicate, take-append-le, drop-append-le, drop_all, length-append}
+use Rattle.std.proofs.lemmas.List.{take-replicate, drop-replicate, length-replicate, take-append-le, drop-append-le, drop_all}
 use Rattle.std.proofs.Math.ListN.{replicate-append-replicate}
-use Rattle.std.proofs.Math.Seq.{drop-append_seam, take-append_seam, drop-append-add}
 use Rattle.sdls_outside.specs.Disk.{Disk, Leaves, IsSynced}
 use Rattle.sdls_outside.specs.Moments.{Trace}
-use Rattle.sdls_outside.specs.Site.{overwritten, Wrote, Writes, Synced, Syncs}
+use Rattle.sdls_outside.specs.Site.{overwritten, Wrote, Writes, Syncs}
 use Rattle.sdls_outside.proofs.Moments.{each_writes}
 use Rattle.byteorder.specs.Endian.{big_bytes}
-use Rattle.disk_journal.specs.declared.layout.TheConstants.{HEADER_LENGTH, PLAN_ROOM, SLOT_LENGTH, MAGIC, MAGIC_AT, FIELD_LENGTH, ZEROS_AT, OPEN, CLOSED}
+use Rattle.disk_journal.specs.declared.layout.TheConstants.{HEADER_LENGTH, PLAN_ROOM, SLOT_LENGTH, MAGIC, MAGIC_AT, FIELD_LENGTH, OPEN, CLOSED}
 use Rattle.disk_journal.specs.Slots.{slot_at}
 use Rattle.disk_journal.specs.Changes.{AllBut, EachImage}
 use Rattle.disk_journal.specs.Initial.{zeros, empty_image, laid_image, initial_image, IsLaid}

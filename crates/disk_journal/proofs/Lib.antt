@@ -8,3 +8,4 @@ pub mod Verdicts
 pub mod Growing
 pub mod Laying
 pub mod Calls
+pub mod Beginning

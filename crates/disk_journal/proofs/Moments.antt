@@ -3,8 +3,8 @@ use Rattle.std.proofs.Common.{◌≡◌, ℕ, ◌+◌, ◌<◌, ◌≤◌, ◌�
 use Rattle.std.proofs.lemmas.Bool.{cases_lt}
 use Rattle.std.proofs.Math.ListN.{get_or-eq_default}
 use Rattle.sdls_outside.specs.Disk.{Disk, Leaves, IsSynced, Outside}
-use Rattle.sdls_outside.specs.Moments.{Trace, EachMoment}
-use Rattle.sdls_outside.specs.Site.{overwritten, Wrote, Writes, Synced, Syncs, Torn}
+use Rattle.sdls_outside.specs.Moments.{Trace}
+use Rattle.sdls_outside.specs.Site.{overwritten, Wrote, Writes, Syncs}
 use Rattle.sdls_outside.proofs.Moments.{synced_leaves, each_same, each_then, each_weaker, each_writes, each_syncs}
 use Rattle.disk_journal.specs.Changes.{AllBut, EachImage, OnlySyncs}
 use Rattle.disk_journal.proofs.Ranges.{all_but_same, overwritten_but}

@@ -1,13 +1,13 @@
 -- What the checks of an image come to.
-use Rattle.std.proofs.Common.{◌≡◌, ◌≢◌, ℕ, ◌+◌, ◌-◌, ◌<◌, ◌≤◌, List, ◌++◌, length, nat_lt, true, false, take, drop, Option, Some, None, refl, sym, ◌∙◌, ap, subst, inl, inr, arith, length-drop, Result, Ok, Err}
+use Rattle.std.proofs.Common.{◌≡◌, ℕ, ◌+◌, ◌-◌, ◌<◌, ◌≤◌, List, ◌++◌, length, nat_lt, true, drop, Some, None, sym, ◌∙◌, ap, subst, inl, inr, arith, length-drop, Result, Ok, Err}
 use Rattle.std.specs.Result.{OnOk, IfOk}
 use Rattle.std.proofs.lemmas.Bool.{cases_lt}
 use Rattle.std.proofs.lemmas.Bool.Decides.{nat_tests}
 use Rattle.std.proofs.lemmas.List.{length-take-le}
 use Rattle.sdls_outside.specs.Moments.{Trace}
 use Rattle.sdls_outside.specs.Site.{Synced}
-use Rattle.disk_journal.specs.declared.layout.TheConstants.{HEADER_LENGTH, PLAN_ROOM, SLOTS_AT, OPEN}
-use Rattle.disk_journal.specs.Slots.{slot_at, gate_at, body_at, gated}
+use Rattle.disk_journal.specs.declared.layout.TheConstants.{HEADER_LENGTH, PLAN_ROOM}
+use Rattle.disk_journal.specs.Slots.{slot_at, gate_at, body_at}
 use Rattle.disk_journal.specs.Gates.{IsFirstClosed}
 use Rattle.disk_journal.specs.Image.{header_of, plan_length_in, slot_count_in, slot_count, plan_of, records, first_closed}
 use Rattle.disk_journal.specs.Fault.{first_failing, header_checks, gate_checks, image_fault}

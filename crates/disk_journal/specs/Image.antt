@@ -1,5 +1,5 @@
 -- What an image says (profile): the fields of its header, its plan and its records.
-use Rattle.std.specs.Prelude.{◌≡◌, ◌≢◌, ℕ, ◌+◌, ◌<◌, List, length, take, drop, slice_set}
+use Rattle.std.specs.Prelude.{◌≡◌, ◌≢◌, ℕ, ◌<◌, List, length, take, drop, slice_set}
 use Rattle.byteorder.specs.Endian.{big_number}
 use Rattle.disk_journal.specs.declared.layout.TheConstants.{HEADER_LENGTH, PLAN_LENGTH_AT, SLOT_COUNT_AT, FIELD_LENGTH, OPEN, CLOSED}
 use Rattle.disk_journal.specs.Slots.{slot_at, gate_at, body_at, gated}

@@ -1,5 +1,5 @@
 -- The slots of an image (profile): one gate octet each, then a body.
-use Rattle.std.specs.Prelude.{◌≡◌, ℕ, zero, suc, ◌+◌, ◌*◌, ◌==◌, if◌then◌else◌, List, [], ◌∷◌, take, drop, slice_index}
+use Rattle.std.specs.Prelude.{ℕ, zero, suc, ◌+◌, ◌*◌, ◌==◌, if◌then◌else◌, List, [], ◌∷◌, take, drop, slice_index}
 use Rattle.disk_journal.specs.declared.layout.TheConstants.{SLOTS_AT, SLOT_LENGTH, BODY_LENGTH, OPEN}
 
 -- where slot i begins

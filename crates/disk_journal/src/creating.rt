@@ -93,7 +93,7 @@ fn write_image<O: Site>(site: &mut O, plan: &[u8], slots: u32) -> Result<(), Fai
 }
 
 /// Writes the image of this plan, with this many slots and no records, where there is no image. After
-/// `Ok` it is on the disk. After a fault the image is not the initial one, or it is whole.
+/// `Ok` it is on the disk. After a fault some of it may stand.
 pub fn create<O: Site>(site: &mut O, plan: &[u8], slots: u32) -> Result<(), JournalFault>
     requires empty { IsTrue O.told → (O.trace site.old).now.image ≡ [] }
     requires room { length plan.now ≤ PLAN_ROOM }

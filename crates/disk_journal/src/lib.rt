@@ -12,6 +12,7 @@ mod fault;
 mod gates;
 mod header;
 mod journal;
+mod laws;
 mod layout;
 mod opening;
 mod storing;
@@ -19,6 +20,7 @@ mod storing;
 pub use creating::create;
 pub use fault::JournalFault;
 pub use journal::Journal;
+pub use laws::{initial_image_opens, regated_image_opens};
 pub use layout::{
     BODY_LENGTH, CLOSED, FIELD_LENGTH, HEADER_LENGTH, LEAST_SLOTS, MAGIC, MAGIC_AT, MOST_SLOTS,
     OPEN, PLAN_LENGTH_AT, PLAN_ROOM, SLOT_COUNT_AT, SLOT_LENGTH, SLOTS_AT, ZEROS_AT, slot_offset,

@@ -1,6 +1,8 @@
-use Rattle.std.proofs.Common.{◌≡◌, ℕ, ◌<◌, ◌≤◌, List, [], ◌∷◌, length, get_or, map, MatchOption, Option, Some, None, codes, String, string_bytes, sym, ◌∙◌, ap, arith, subst}
+use Rattle.std.proofs.Common.{◌≡◌, Bool, true, IsTrue, ℕ, ◌<◌, ◌≤◌, List, [], ◌∷◌, length, get_or, map, MatchOption, Option, Some, None, codes, String, string_bytes, sym, ◌∙◌, ap, arith, subst}
+use Rattle.std.specs.Str.{bytes_eq}
+use Rattle.std.proofs.lemmas.Slice.Eq.{bytes_eq-Decides}
 use Rattle.std.specs.declared.alloc.Global.{Global}
-use Rattle.sdls_run.specs.Words.{IsCheck, IsKey}
+use Rattle.sdls_run.specs.Words.{IsCheck, IsInit, IsKey}
 
 -- a list of two, by its items
 two_items : {X : Type 0} (xs : List X) (a b : X) → 2 ≤ length xs → length xs < 3 → a ≡ get_or xs 0 a → b ≡ get_or xs 1 b
@@ -39,3 +41,23 @@ one_key words key other is was =
     let first = is.spells.spelled in
     let second = was.spells.spelled in
     cc
+
+-- the word `init` alone is no check
+pub init_is_no_check : (words : List (String Global)) → IsInit words → (key : List ℕ) → ¬ IsCheck words key
+init_is_no_check words alone key is = let both = sym alone ∙ is.words_are in let k : ⊥ = cc in k
+
+one_item : {X : Type 0} (xs : List X) (a : X) → 1 ≤ length xs → length xs < 2 → a ≡ get_or xs 0 a → xs ≡ a ∷ []
+one_item [] a least below first = absurd (omega arith)
+one_item (x ∷ []) a least below first = cc
+one_item (x ∷ y ∷ rest) a least below first = absurd (omega arith)
+
+-- whether the one word is this text
+pub is_one_word : (words : List (String Global)) (a : String Global) (text seen : List ℕ) (found : Bool)
+    → 1 ≤ length words → length words < 2 → a ≡ get_or words 0 a → seen ≡ string_bytes a → found ≡ bytes_eq seen text
+    → (IsTrue found → map string_bytes words ≡ text ∷ []) × (map string_bytes words ≡ text ∷ [] → IsTrue found)
+is_one_word words a text seen found least below first seen_is found_is =
+    let mapped : map string_bytes words ≡ string_bytes a ∷ [] = ap (map string_bytes) (one_item words a least below first) in
+    let decides = bytes_eq-Decides seen text in (
+      λ is_true. mapped ∙ ap (λ (word : List ℕ). word ∷ []) (sym seen_is ∙ decides.0 (sym found_is ∙ is_true)),
+      λ are. found_is ∙ decides.1 (seen_is ∙ (let both = sym mapped ∙ are in let same : string_bytes a ≡ text = cc in same)),
+    )

@@ -14,3 +14,11 @@ pub record IsCheck (words : List (String Global)) (key : List ℕ) : Type 0 wher
   pub digits : List ℕ
   pub words_are : map string_bytes words ≡ codes "check" ∷ digits ∷ []
   pub spells : IsKey digits key
+
+-- the one word is `init`
+abbrev pub IsInit : List (String Global) → Type 0
+IsInit words = map string_bytes words ≡ codes "init" ∷ []
+
+-- the words are none of the commands that are served
+abbrev pub IsNoCommand : List (String Global) → Type 0
+IsNoCommand words = ((key : List ℕ) → ¬ IsCheck words key) × (¬ IsInit words)

@@ -12,6 +12,7 @@ mod answer;
 mod check;
 mod frame_check;
 mod gate;
+mod init;
 mod intake;
 mod outcome;
 mod output;
@@ -24,6 +25,7 @@ mod words;
 
 pub use frame_check::check_frame;
 pub use gate::Gate;
+pub use init::InitEnd;
 pub use outcome::Outcome;
 pub use refusal::Refusal;
 pub use top::{run, run_plain};

@@ -9,6 +9,9 @@ pub const REFUSED: u8 = 1;
 /// The words are no command.
 pub const USAGE: u8 = 2;
 
+/// The input has not the form that it is to have.
+pub const MALFORMED: u8 = 3;
+
 /// The source failed.
 pub const SOURCE_FAULT: u8 = 4;
 
@@ -17,3 +20,6 @@ pub const SITE_FAULT: u8 = 5;
 
 /// Memory is wanting.
 pub const NO_MEMORY: u8 = 6;
+
+/// There is an image already, or the image shows no state.
+pub const NO_STATE: u8 = 7;

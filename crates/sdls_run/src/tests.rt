@@ -1,4 +1,4 @@
-use crate::status::{DONE, REFUSED, SITE_FAULT, SOURCE_FAULT, USAGE};
+use crate::status::{DONE, MALFORMED, NO_STATE, REFUSED, SITE_FAULT, SOURCE_FAULT, USAGE};
 use crate::{Gate, Outcome, run, run_plain};
 use sdls_outside::{MemSite, MemSource, Site, Source, SureSource};
 use std::alloc::{AllocError, Global};
@@ -193,5 +193,71 @@ fn takes_a_source_of_single_octets(rt: HostRuntime) -> Result<(), Fail> {
         b"ok 7393172aae2d8a571e03ac9c9eb76fac45af8e5130c81c46a35ce411\n".as_slice()
     );
     assert_eq!(rt; status, DONE);
+    Ok(())
+}
+
+/// A plan of one telecommand channel, of 168 octets.
+const PLAN: &[u8] = b"sdls 1
+device d0000001
+slots 16
+block 4
+accept 1
+link 0 tc seg nofecf -
+channel 0 0 42 5 3
+key 32769 active 2b7e151628aed2a6abf7158809cf4f3c
+sa 7 send cmac 32769 1 1 0
+";
+
+fn fill_up(image: &mut Vec<u8>, length: usize) -> Result<(), AllocError> {
+    for _ in image.len()..length {
+        image.push(0)?;
+    }
+    Ok(())
+}
+
+/// The image of the plan, octet for octet as its format says: gate, magic, 168 octets of plan, 16 slots.
+fn image_of_the_plan(alloc: Global) -> Result<Vec<u8>, AllocError> {
+    let mut image = Vec::new(alloc);
+    image.extend_from_slice(b"\x01SDLSIMG1\x00\x00\x00\xa8\x00\x00\x00\x10")?;
+    fill_up(&mut image, 512)?;
+    image.extend_from_slice(PLAN)?;
+    fill_up(&mut image, 66_048 + 16 * 512)?;
+    Ok(image)
+}
+
+#[test]
+fn makes_the_image_of_a_plan_once(rt: HostRuntime) -> Result<(), Fail> {
+    let alloc = rt.alloc();
+    let words = words(alloc, &["init"])?;
+    let mut source = SureSource::new(Vec::from_slice(alloc, PLAN)?);
+    let site = quiet_site(alloc);
+    let Outcome { status, site } = run_plain(alloc, words.as_slice(), &mut source, site);
+    assert_eq!(rt; status, DONE);
+    assert!(rt; site.image() == image_of_the_plan(alloc)?.as_slice());
+    assert_eq!(rt; site.sunk().len(), 0);
+    let Outcome { status, site } = run_plain(alloc, words.as_slice(), &mut source, site);
+    assert_eq!(rt; status, NO_STATE);
+    assert_eq!(rt; site.sunk(), b"image exists\n".as_slice());
+    Ok(())
+}
+
+#[test]
+fn makes_no_image_of_another_text(rt: HostRuntime) -> Result<(), Fail> {
+    let alloc = rt.alloc();
+    for end in ["# one line more\n", "\n"] {
+        let mut text = Vec::from_slice(alloc, PLAN)?;
+        text.extend_from_slice(end.as_bytes())?;
+        let words = words(alloc, &["init"])?;
+        let mut source = SureSource::new(text);
+        let Outcome { status, site } = run_plain(
+            alloc,
+            words.as_slice(),
+            &mut source,
+            quiet_site(alloc),
+        );
+        assert_eq!(rt; status, MALFORMED);
+        assert_eq!(rt; site.sunk(), b"plan line 1 unbuilt\n".as_slice());
+        assert_eq!(rt; site.image().len(), 0);
+    }
     Ok(())
 }

@@ -1,21 +1,24 @@
 ghost use Rattle.std.specs.Prelude.{◌≡◌, ℕ, ◌+◌, ◌≤◌, List, IsTrue};
 ghost use Rattle.sdls_outside.specs.Faults.{Rose};
 ghost use Rattle.sdls_run.specs.Answer.{Ends, EndsCheck, usage_text};
+ghost use Rattle.sdls_run.specs.Init.{EndsInit};
 ghost use Rattle.sdls_run.specs.Intake.{TakesAtMost};
-ghost use Rattle.sdls_run.specs.Words.{IsCheck};
+ghost use Rattle.sdls_run.specs.Words.{IsCheck, IsInit, IsNoCommand};
 
 use crate::check::put_check;
 use crate::frame_check::GREATEST_LENGTH;
 use crate::gate::Gate;
+use crate::init::run_init;
 use crate::outcome::Outcome;
 use crate::output::put_text;
 use crate::status::{SITE_FAULT, USAGE};
-use crate::words::check_key;
+use crate::words::{check_key, is_init};
 use aes_block::Schedule;
 use sdls_outside::{Failed, Site, Source};
 use std::alloc::Global;
 use std::sync::Wait;
 use std::thread::Threads;
+use unit_plan::MOST_OCTETS;
 
 const USAGE_TEXT: &[u8] = b"usage: sdls check KEY, init, run, stat, drill N\n";
 
@@ -52,14 +55,18 @@ fn run_usage<O: Site>(mut site: O) -> Outcome<O>
     }
 }
 
-/// Serves the words that need no threads. Today that is `check KEY`; other words are answered with
-/// the usage line.
+/// Serves the words that need no threads: `check KEY` and `init`. Other words are answered with the
+/// usage line.
 ///
 /// `check KEY` reads one AOS transfer frame from the source and puts `ok` with its data field in
-/// hexadecimal digits, or `refused` with the first check that fails. Nothing is put after a failed
-/// put. No memory is taken.
+/// hexadecimal digits, or `refused` with the first check that fails. It takes no memory.
+///
+/// `init` reads a plan from the source and makes the image of it, where there is none, and puts
+/// nothing; or it puts why not, and the image is as it was, except after a fault of the site.
+///
+/// Nothing is put after a failed put.
 pub fn run_plain<S: Source, O: Site>(
-    _alloc: Global,
+    alloc: Global,
     words: &[String],
     source: &mut S,
     site: O,
@@ -67,13 +74,23 @@ pub fn run_plain<S: Source, O: Site>(
     ensures check { (key : List ℕ) → IsCheck words.now key → EndsCheck key
         (λ input. IsTrue S.told → input ≡ S.left source.old) (Rose (S.faults source.old) (S.faults source.new))
         O.told (O.trace site) (O.trace result.site) (Rose (O.faults site) (O.faults result.site)) result.status }
-    ensures taken { IsTrue S.told → TakesAtMost (GREATEST_LENGTH + 1) (S.left source.old) (S.left source.new) }
+    ensures taken { IsTrue S.told → ¬ IsInit words.now
+        → TakesAtMost (GREATEST_LENGTH + 1) (S.left source.old) (S.left source.new) }
 
-    ensures usage { ((key : List ℕ) → ¬ IsCheck words.now key)
+    ensures init { IsInit words.now → EndsInit
+        (λ input. IsTrue S.told → input ≡ S.left source.old) (Rose (S.faults source.old) (S.faults source.new))
+        O.told (O.trace site) (O.trace result.site) (Rose (O.faults site) (O.faults result.site)) result.status }
+    ensures plan_taken { IsTrue S.told → IsInit words.now
+        → TakesAtMost (MOST_OCTETS + 1) (S.left source.old) (S.left source.new) }
+
+    ensures usage { IsNoCommand words.now
         → Ends O.told (O.trace site) (O.trace result.site) (Rose (O.faults site) (O.faults result.site))
         usage_text USAGE result.status }
-    ensures untouched { ((key : List ℕ) → ¬ IsCheck words.now key) → source.new ≡ source.old }
+    ensures untouched { IsNoCommand words.now → source.new ≡ source.old }
 {
+    if is_init(words) {
+        return run_init(alloc, source, site);
+    }
     match check_key(words) {
         Some(key) => run_check(&key, source, site),
         None => run_usage(site),
@@ -94,12 +111,19 @@ pub fn run<R: Threads + Wait + Sync, S: Source, O: Site + Send, G: Gate + Sync>(
     ensures check { (key : List ℕ) → IsCheck words.now key → EndsCheck key
         (λ input. IsTrue S.told → input ≡ S.left source.old) (Rose (S.faults source.old) (S.faults source.new))
         O.told (O.trace site) (O.trace result.site) (Rose (O.faults site) (O.faults result.site)) result.status }
-    ensures taken { IsTrue S.told → TakesAtMost (GREATEST_LENGTH + 1) (S.left source.old) (S.left source.new) }
+    ensures taken { IsTrue S.told → ¬ IsInit words.now
+        → TakesAtMost (GREATEST_LENGTH + 1) (S.left source.old) (S.left source.new) }
 
-    ensures usage { ((key : List ℕ) → ¬ IsCheck words.now key)
+    ensures init { IsInit words.now → EndsInit
+        (λ input. IsTrue S.told → input ≡ S.left source.old) (Rose (S.faults source.old) (S.faults source.new))
+        O.told (O.trace site) (O.trace result.site) (Rose (O.faults site) (O.faults result.site)) result.status }
+    ensures plan_taken { IsTrue S.told → IsInit words.now
+        → TakesAtMost (MOST_OCTETS + 1) (S.left source.old) (S.left source.new) }
+
+    ensures usage { IsNoCommand words.now
         → Ends O.told (O.trace site) (O.trace result.site) (Rose (O.faults site) (O.faults result.site))
         usage_text USAGE result.status }
-    ensures untouched { ((key : List ℕ) → ¬ IsCheck words.now key) → source.new ≡ source.old }
+    ensures untouched { IsNoCommand words.now → source.new ≡ source.old }
 {
     run_plain(alloc, words, source, site)
 }

@@ -1,5 +1,5 @@
-ghost use Rattle.std.specs.Prelude.{◌≡◌, ℕ, List, MatchOption};
-ghost use Rattle.sdls_run.specs.Words.{IsCheck, IsKey};
+ghost use Rattle.std.specs.Prelude.{◌≡◌, ◌↔◌, ℕ, List, IsTrue, MatchOption};
+ghost use Rattle.sdls_run.specs.Words.{IsCheck, IsInit, IsKey};
 
 use aes_block::Schedule;
 
@@ -29,5 +29,15 @@ pub(crate) fn check_key(words: &[String]) -> Option<Schedule>
     match words {
         [command, digits] if command.as_str() == "check" => key_of(digits.as_str()),
         _ => None,
+    }
+}
+
+/// Whether the words are `init` alone.
+pub(crate) fn is_init(words: &[String]) -> bool
+    ensures { IsTrue result ↔ IsInit words.now }
+{
+    match words {
+        [command] => command.as_str() == "init",
+        _ => false,
     }
 }

@@ -1,4 +1,4 @@
-use Rattle.std.proofs.Common.{◌≡◌, ◌≤◌, ◌<◌, ◌*◌, ◌∙◌, replicate, ap, sym, arith}
+use Rattle.std.proofs.Common.{◌≡◌, ◌*◌, ◌∙◌, replicate, ap, sym, arith}
 use Rattle.disk_journal.specs.declared.layout.TheConstants.{SLOT_LENGTH}
 use Rattle.disk_journal.specs.Initial.{zeros}
 use Rattle.disk_journal.proofs.Laying.{zeros_none, none_yet, zeros_end, is_block, block_written, block_failed, block_zeros}

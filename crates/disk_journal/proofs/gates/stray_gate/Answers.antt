@@ -1,6 +1,6 @@
-use Rattle.std.proofs.Common.{◌≡◌, ◌≤◌, ◌<◌, ◌∙◌, ℕ, Some, ap, sym, arith}
+use Rattle.std.proofs.Common.{◌≤◌, ◌<◌, ◌∙◌, ℕ, Some, ap, sym, arith}
 use Rattle.sdls_outside.specs.Moments.{Trace}
-use Rattle.disk_journal.specs.Slots.{slot_at, gate_at}
+use Rattle.disk_journal.specs.Slots.{gate_at}
 use Rattle.disk_journal.proofs.Failing.{stray_found, stray_none}
 use Rattle.disk_journal.proofs.gates.stray_gate.Goals as goal
 

@@ -1,4 +1,4 @@
-use Rattle.std.proofs.Common.{◌≡◌, ◌<◌, ◌≤◌, length, sym, subst, ℕ, arith}
+use Rattle.std.proofs.Common.{◌<◌, subst, ℕ}
 use Rattle.disk_journal.specs.declared.layout.TheConstants.{HEADER_LENGTH}
 use Rattle.disk_journal.proofs.Verdicts.{short_verdict, header_verdict}
 use Rattle.disk_journal.proofs.opening.inspect.Goals as goal

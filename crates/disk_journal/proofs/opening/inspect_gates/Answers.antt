@@ -1,4 +1,4 @@
-use Rattle.std.proofs.Common.{◌≡◌, ◌∙◌, sym}
+use Rattle.std.proofs.Common.{◌∙◌, sym}
 use Rattle.disk_journal.proofs.Verdicts.{stray_verdict, clear_verdict}
 use Rattle.disk_journal.proofs.opening.inspect_gates.Goals as goal
 

@@ -1,4 +1,4 @@
-use Rattle.std.proofs.Common.{◌≡◌, ◌∙◌, inl, inr}
+use Rattle.std.proofs.Common.{◌∙◌, inl, inr}
 use Rattle.sdls_outside.specs.Site.{Synced}
 use Rattle.disk_journal.proofs.Verdicts.{synced_between, same_verdict, on_ok_so}
 use Rattle.disk_journal.proofs.opening.inspect_synced.Goals as goal

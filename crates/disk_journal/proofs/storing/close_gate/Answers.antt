@@ -1,4 +1,4 @@
-use Rattle.std.proofs.Common.{◌<◌, ◌≡◌, ◌∙◌, arith, refl}
+use Rattle.std.proofs.Common.{◌<◌, ◌∙◌, arith, refl}
 use Rattle.disk_journal.proofs.SlotWrites.{closes_same, closes_torn, closes_end}
 use Rattle.disk_journal.proofs.storing.close_gate.Goals as goal
 

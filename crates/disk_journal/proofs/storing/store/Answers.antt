@@ -1,4 +1,3 @@
-use Rattle.std.proofs.Common.{length}
 use Rattle.disk_journal.proofs.Moments.{failed_moments, stored_moments}
 use Rattle.disk_journal.proofs.storing.store.Goals as goal
 

@@ -1,5 +1,5 @@
-use Rattle.std.proofs.Common.{◌<◌, ◌+◌, sym, subst, arith}
-use Rattle.disk_journal.specs.Journal.{JournalView, IsOpen, IsSettled}
+use Rattle.std.proofs.Common.{◌<◌, sym, subst, arith}
+use Rattle.disk_journal.specs.Journal.{JournalView, IsSettled}
 use Rattle.disk_journal.proofs.Growing.{at_slot, fits_slot, append_moments, one_more}
 use Rattle.disk_journal.proofs.Calls.{full_moments, append_stored, append_kept}
 use Rattle.disk_journal.proofs.journal.Journal.append.Goals as goal

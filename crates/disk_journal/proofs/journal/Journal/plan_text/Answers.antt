@@ -1,5 +1,5 @@
 use Rattle.std.proofs.Common.{sym, subst}
-use Rattle.disk_journal.specs.Journal.{JournalView, IsOpen, IsSettled}
+use Rattle.disk_journal.specs.Journal.{JournalView, IsOpen}
 use Rattle.disk_journal.proofs.Calls.{plan_within, plan_read}
 use Rattle.disk_journal.proofs.journal.Journal.plan_text.Goals as goal
 

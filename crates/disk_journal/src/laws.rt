@@ -1,0 +1,25 @@
+// Laws of images: each function is a statement about the definitions, and does nothing.
+ghost use Rattle.std.specs.Prelude.{◌≡◌, ◌≢◌, ℕ, ◌<◌, ◌≤◌, List, length, None};
+ghost use Rattle.disk_journal.specs.Image.{plan_of, slot_count, records, first_closed, IsHalfOpen, IsAtRest, regated, opened_form};
+ghost use Rattle.disk_journal.specs.Fault.{image_fault};
+ghost use Rattle.disk_journal.specs.Initial.{initial_image};
+ghost use Rattle.disk_journal.specs.Journal.{IsJournalOf};
+
+use crate::layout::{LEAST_SLOTS, MOST_SLOTS, OPEN, PLAN_ROOM};
+
+/// Law: the initial image opens, with its plan, its slots and no record, and is at rest.
+pub fn initial_image_opens()
+    ensures { (plan : List ℕ) (slots : ℕ) → length plan ≤ PLAN_ROOM → LEAST_SLOTS ≤ slots → slots ≤ MOST_SLOTS
+        → IsJournalOf (initial_image plan slots) (record { plan_length = length plan; slots = slots; used = 0 })
+        × (plan_of (initial_image plan slots) ≡ plan) × IsAtRest (initial_image plan slots) }
+{}
+
+/// Law: an image that opens still does with another octet as the gate of its first closed slot. Where
+/// that octet does not open the slot, the image shows the same records, and has the same opened form.
+pub fn regated_image_opens()
+    ensures stays { (image : List ℕ) (octet : ℕ) → image_fault image ≡ None → IsHalfOpen image → octet ≢ OPEN
+        → (image_fault (regated image octet) ≡ None) × (records (regated image octet) ≡ records image)
+        × (opened_form (regated image octet) ≡ opened_form image) }
+    ensures opened { (image : List ℕ) → image_fault image ≡ None → first_closed image < slot_count image
+        → image_fault (opened_form image) ≡ None }
+{}
