@@ -110,17 +110,8 @@ fn fills_up(rt: HostRuntime) -> Result<(), Fail> {
         journal.append(&mut site, &[8; BODY_LENGTH]),
         Err(JournalFault::Full(16))
     );
-<<<<<<< HEAD
-    assert_eq!(rt;
-        site.image()[73_728..74_240]
-            .iter()
-            .all(|octet| *octet == 7 || *octet == 1),
-        true
-    );
-=======
     assert_eq!(rt; site.image().get(73_728).copied(), Some(1));
     assert_eq!(rt; site.image().get(73_729).copied(), Some(7));
->>>>>>> fd915b24a7a938377b130bb1e4b213d525694dc7
     Ok(())
 }
 
