@@ -1,0 +1,92 @@
+//! Measures what one draw costs: on one thread, and on four that draw from one row at once. The figures
+//! go to standard error, since they differ from run to run.
+#![tactic(auto)]
+
+ghost use Rattle.std.specs.Prelude.{◌≡◌, ◌<◌, [], ◌∷◌, false};
+ghost use Rattle.counter_table.specs.Known.{unopened};
+ghost use Rattle.counter_table.specs.Worker.{view, rows_of, IsOf};
+
+use counter_table::{Arm, Counted, Counters, Worker};
+use std::io;
+use std::thread::{Threads, join};
+use std::time::Instant;
+
+/// How many numbers each thread draws.
+const TIMES: u64 = 1_000_000;
+
+const END: u64 = 1 << 40;
+
+/// A book that is never filled in.
+#[derive(Drop)]
+struct NoBook;
+
+impl Counted for NoBook {
+    ghost told = { λ _. record { marks = 1 ∷ []; log = []; changes = 0; faults = 0; opening = unopened } };
+
+    fn mark(&self, _row: u16) -> u64 {
+        1
+    }
+
+    fn changes(&self) -> u64 {
+        0
+    }
+}
+
+fn draw_many(counters: &Counters<NoBook>, mut worker: Worker<NoBook>) -> Worker<NoBook>
+    requires own { IsOf counters.now worker }
+    requires row { 0 < rows_of counters.now }
+    ensures own { IsOf counters.now result }
+{
+    for _ in 0..TIMES {
+        let Arm::Armed(armed) = counters.arm(&mut worker, 0, END) else {
+            return worker;
+        };
+        let _ticket = counters.draw(&mut worker, armed);
+    }
+    worker
+}
+
+fn draw_on_two<R: Threads + Sync>(
+    rt: &R,
+    counters: &Counters<NoBook>,
+    one: Worker<NoBook>,
+    two: Worker<NoBook>,
+) -> (Worker<NoBook>, Worker<NoBook>)
+    requires own_one { IsOf counters.now one }
+    requires own_two { IsOf counters.now two }
+    requires row { 0 < rows_of counters.now }
+    ensures own_one { IsOf counters.now result.0 }
+    ensures own_two { IsOf counters.now result.1 }
+{
+    join(
+        rt,
+        move || draw_many(counters, one),
+        move || draw_many(counters, two),
+    )
+}
+
+fn main(rt: HostRuntime) -> io::Result<()> {
+    let Ok((counters, mut first)) = Counters::<NoBook>::new(rt.alloc(), 1) else {
+        return Err(io::ErrorKind::OutOfMemory.into());
+    };
+    let second = counters.split(&mut first);
+    let third = counters.split(&mut first);
+    let fourth = counters.split(&mut first);
+    let start = Instant::now(&rt)?;
+    let first = draw_many(&counters, first);
+    let alone = start.elapsed(&rt)?.as_nanos();
+    let (shared, handle) = (&counters, &rt);
+    let start = Instant::now(&rt)?;
+    join(
+        &rt,
+        move || draw_on_two(handle, shared, first, second),
+        move || draw_on_two(handle, shared, third, fourth),
+    );
+    let together = start.elapsed(&rt)?.as_nanos();
+    eprintln!(rt; "one thread: {} ns for 1,000 draws", alone / 1000)?;
+    eprintln!(rt;
+        "four threads: {} ns for 1,000 draws of each",
+        together / 1000
+    )?;
+    println!(rt; "measured")
+}
