@@ -32,37 +32,39 @@ impl Counted for NoBook {
     }
 }
 
-fn draw_many(counters: &Counters<NoBook>, mut worker: Worker<NoBook>) -> Worker<NoBook>
+/// Draws, and answers the worker with the last number that it drew.
+fn draw_many(counters: &Counters<NoBook>, mut worker: Worker<NoBook>) -> (Worker<NoBook>, u64)
     requires own { IsOf counters.now worker }
     requires row { 0 < rows_of counters.now }
-    ensures own { IsOf counters.now result }
+    ensures own { IsOf counters.now result.0 }
 {
+    let mut last = 0;
     for _ in 0..TIMES {
         let Arm::Armed(armed) = counters.arm(&mut worker, 0, END) else {
-            return worker;
+            return (worker, last);
         };
-        let _ticket = counters.draw(&mut worker, armed);
+        last = counters.draw(&mut worker, armed).number();
     }
-    worker
+    (worker, last)
 }
 
+/// Draws on two threads, and answers the greater of the last numbers.
 fn draw_on_two<R: Threads + Sync>(
     rt: &R,
     counters: &Counters<NoBook>,
     one: Worker<NoBook>,
     two: Worker<NoBook>,
-) -> (Worker<NoBook>, Worker<NoBook>)
+) -> u64
     requires own_one { IsOf counters.now one }
     requires own_two { IsOf counters.now two }
     requires row { 0 < rows_of counters.now }
-    ensures own_one { IsOf counters.now result.0 }
-    ensures own_two { IsOf counters.now result.1 }
 {
-    join(
+    let (one, two) = join(
         rt,
         move || draw_many(counters, one),
         move || draw_many(counters, two),
-    )
+    );
+    one.1.max(two.1)
 }
 
 fn main(rt: HostRuntime) -> io::Result<()> {
@@ -73,11 +75,11 @@ fn main(rt: HostRuntime) -> io::Result<()> {
     let third = counters.split(&mut first);
     let fourth = counters.split(&mut first);
     let start = Instant::now(&rt)?;
-    let first = draw_many(&counters, first);
+    let (first, last) = draw_many(&counters, first);
     let alone = start.elapsed(&rt)?.as_nanos();
     let (shared, handle) = (&counters, &rt);
     let start = Instant::now(&rt)?;
-    join(
+    let (one, two) = join(
         &rt,
         move || draw_on_two(handle, shared, first, second),
         move || draw_on_two(handle, shared, third, fourth),
@@ -88,5 +90,6 @@ fn main(rt: HostRuntime) -> io::Result<()> {
         "four threads: {} ns for 1,000 draws of each",
         together / 1000
     )?;
+    eprintln!(rt; "the last numbers are {last} and {}", one.max(two))?;
     println!(rt; "measured")
 }
