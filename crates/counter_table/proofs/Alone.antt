@@ -1,5 +1,5 @@
 -- What a worker that has all shares knows, since all other workers ended.
-use Rattle.std.proofs.Common.{◌≡◌, ◌≢◌, ◌⊎◌, ℕ, zero, suc, ◌+◌, ◌<◌, ◌≤◌, max, true, false, List, [], ◌∷◌, ◌++◌, get_or, length, map, sym, refl, ap, ◌∙◌, subst, inl, inr, ⊎_elim, le_trans, arith, length-append, Option}
+use Rattle.std.proofs.Common.{◌≡◌, ◌≢◌, ℕ, zero, suc, ◌<◌, ◌≤◌, true, false, List, [], ◌∷◌, ◌++◌, get_or, length, map, sym, refl, ap, ◌∙◌, inl, inr, ⊎_elim, le_trans, arith, length-append, Option}
 use Rattle.std.proofs.lemmas.Bool.Decides.{nat_tests}
 use mathlib.Core.Option.{some, some-injective, some-ne-none}
 use mathlib.Core.Logic.{dite}
@@ -14,7 +14,7 @@ use Rattle.counter_table.specs.declared.view.Turn.{Turn}
 use Rattle.counter_table.specs.declared.view.View.{View}
 use Rattle.counter_table.specs.Numbers.{times, count_of, amount, top, no_numbers}
 use Rattle.counter_table.specs.Turn.{stands, no_turn}
-use Rattle.counter_table.specs.Rule.{total, greatest, one_if, once_below, next_at, limit_at, KnowsBook, IsAtHome, IsKept}
+use Rattle.counter_table.specs.Rule.{total, greatest, one_if, once_below, next_at, KnowsBook, IsAtHome, IsKept}
 use Rattle.counter_table.specs.Play.{IsCovered}
 use Rattle.counter_table.specs.Whole.{RowStands, IsWhole}
 use Rattle.counter_table.proofs.Sums.{total_two, total_only, greatest_least}
@@ -48,7 +48,7 @@ module _ {B : Type 0} (told : B → Known) (count : ℕ) (s : State (Option B) V
     alone j u e apart =
         let there = at_unmap (λ (z : View). z.turn) s.views j u e in
         let x = there.0 in
-              let its = at_map (λ (z : View). z.numbers) s.views j x there.1 in
+        let its = at_map (λ (z : View). z.numbers) s.views j x there.1 in
         let two = total_two (λ z. z.shares) (numbers_of s.views) id j v.numbers x.numbers mine its (λ k. apart (sym k)) in
         let sum = kept.numbers.shares in
         sym there.2 ∙ kept.ended j x there.1 (omega arith)
@@ -65,7 +65,7 @@ module _ {B : Type 0} (told : B → Known) (count : ℕ) (s : State (Option B) V
     raised_only : (row : ℕ) → greatest (λ u. top row u.raised) (numbers_of s.views) ≤ top row v.numbers.raised
     raised_only row = greatest_least (λ u. top row u.raised) (numbers_of s.views) _ (λ j u e. dite (ℕ_discrete j id)
         (λ same. let is : u ≡ v.numbers = some-injective u v.numbers (sym e ∙ (ap (get_elem? (numbers_of s.views)) same ∙ mine)) in
-            let k : top row u.raised ≡ top row v.numbers.raised = ap (λ z. top row z.raised) is in omega arith)
+        let k : top row u.raised ≡ top row v.numbers.raised = ap (λ z. top row z.raised) is in omega arith)
         (λ apart. let k : top row u.raised ≡ 0 = ap (λ z. top row z.raised) (others j u e apart) in omega arith))
 
     last_only : (row n : ℕ) → ((j : ℕ) × (u : Numbers) × (get_elem? (numbers_of s.views) j ≡ some u) × (0 < u.shares) × (top row u.nexts ≡ n)) → top row v.numbers.nexts ≡ n
@@ -93,6 +93,7 @@ module _ {B : Type 0} (told : B → Known) (count : ℕ) (s : State (Option B) V
       where
         below_itself : (n m : ℕ) → n < m → once_below n m ≡ 1
         below_itself n m h = grind (arith, nat_tests)
+
         go : (rest : List Logged) → kept.book.log ≡ v.turn.known.log ++ rest → kept.book.log ≡ v.turn.known.log
         go [] e = e ∙ append-nil v.turn.known.log
         go (x ∷ xs) e =
@@ -115,9 +116,8 @@ module _ {B : Type 0} (told : B → Known) (count : ℕ) (s : State (Option B) V
       pub free_word : get_or s.words 0 0 ≡ 0
       free_word =
           let sum : total (λ u. one_if u.holds) (turns_of s.views) ≡ 0 =
-            total_only (λ u. one_if u.holds) (turns_of s.views) id v.turn its_turn (λ j u e n. ap (λ z. one_if z.holds) (alone j u e n)) ∙ is_zero v.turn.holds free in
+          total_only (λ u. one_if u.holds) (turns_of s.views) id v.turn its_turn (λ j u e n. ap (λ z. one_if z.holds) (alone j u e n)) ∙ is_zero v.turn.holds free in
           ⊎_elim (λ h. h.turn) (λ k. ⊎_elim (λ h. h.turn) (λ o. absurd (let h = o.held in omega arith)) k) kept.turn.place
 
       pub home : v.turn.filled ≡ true → IsAtHome told (get_or s.words 0 0) s.homes (turns_of s.views) kept.book kept.filled
       home full = home_free told count s.words s.homes (turns_of s.views) kept.book kept.filled kept.turn free_word (knows.opening full).0
-

@@ -1,29 +1,23 @@
 -- The counters at their beginning, and at their end.
-use Rattle.std.proofs.Common.{◌≡◌, ◌≢◌, ◌⊎◌, ℕ, zero, suc, ◌+◌, ◌-◌, ◌*◌, ◌<◌, ◌≤◌, max, true, false, List, [], ◌∷◌, ◌++◌, set, get_or, length, map, replicate, sym, refl, ap, ◌∙◌, subst, inl, inr, ⊎_elim, arith, length-set, length-append, get_or-set_same, get_or-set_other, Bool, Some, None, Option}
+use Rattle.std.proofs.Common.{◌≡◌, ℕ, zero, suc, ◌+◌, ◌*◌, ◌<◌, true, false, List, [], ◌∷◌, ◌++◌, set, get_or, length, replicate, sym, refl, ap, ◌∙◌, subst, inl, inr, arith, length-set, get_or-set_same, get_or-set_other, Some, None, Option}
 use Rattle.std.proofs.lemmas.List.{get_or-replicate, length-replicate}
 use Rattle.std.proofs.lemmas.Bool.Decides.{nat_tests}
-use mathlib.Core.Option as slot
 use mathlib.Core.Option.{some, some-injective, some-ne-none}
 use mathlib.Core.Logic.{dite}
 use native.Mathlib.Decide.{ℕ_discrete}
 use lib.ListN.{get_elem?}
 use Rattle.atomic_table.specs.Table.{State, opening, Final, Seen}
-use Rattle.atomic_table.proofs.Lists.{at_map}
 use Rattle.counter_table.specs.declared.view.Known.{Known}
-use Rattle.counter_table.specs.declared.view.Numbers.{Numbers}
-use Rattle.counter_table.specs.declared.view.Turn.{Turn}
 use Rattle.counter_table.specs.declared.view.View.{View}
-use Rattle.counter_table.specs.Known.{mark_of, unknown}
-use Rattle.counter_table.specs.Numbers.{times, count_of, amount, top, no_numbers, first_numbers}
-use Rattle.counter_table.specs.Turn.{stands, no_turn}
+use Rattle.counter_table.specs.Known.{unknown}
+use Rattle.counter_table.specs.Numbers.{first_numbers}
+use Rattle.counter_table.specs.Turn.{no_turn}
 use Rattle.counter_table.specs.Rule.{total, greatest, one_if, once_below, next_at, limit_at, SeatFits, RowFits, IsSane, NumbersFit, TurnFits, IsKept, IsAtHome}
-use Rattle.counter_table.specs.Play.{first_view, Follows}
+use Rattle.counter_table.specs.Play.{first_view}
 use Rattle.counter_table.specs.Close.{Closes}
-use Rattle.counter_table.proofs.Sums.{total_two, total_only, greatest_least, each_snoc}
-use Rattle.counter_table.proofs.Rows.{once_below_more}
-use Rattle.counter_table.proofs.Knowing.{append-nil, earlier_length, ended_knows}
-use Rattle.counter_table.proofs.Booking.{false≢true, is_false, is_zero, home_free}
-use Rattle.counter_table.proofs.Keeping.{numbers_of, turns_of, at_numbers, at_turn}
+use Rattle.counter_table.proofs.Sums.{each_snoc}
+use Rattle.counter_table.proofs.Knowing.{ended_knows}
+use Rattle.counter_table.proofs.Booking.{false≢true}
 use Rattle.counter_table.proofs.Alone.{knows, covers, row_stands, made_only, whole, home}
 
 -- one worker
@@ -39,6 +33,7 @@ next_value xs x n f size old new row b = dite (ℕ_discrete row n) (λ e. rw e (
     at_end [] x (suc n) e = absurd (omega arith)
     at_end (y ∷ ys) x zero e = absurd (omega arith)
     at_end (y ∷ ys) x (suc n) e = at_end ys x n (omega arith)
+
     before : (xs : List ℕ) (x row : ℕ) → row < length xs → get_or (xs ++ x ∷ []) row 0 ≡ get_or xs row 0
     before [] x row h = absurd (omega arith)
     before (y ∷ ys) x zero h = refl
@@ -70,7 +65,7 @@ module _ (count : ℕ) where
   word_row : (j : ℕ) → 1 < j → j < 16 * count + 16 → get_or (first_words count) j 0 ≡ 1
   word_row j low high =
       get_or-set_other (set (replicate (16 * count + 16) 1) 0 0) 1 j 0 0 (λ e. omega arith)
-          ∙ (get_or-set_other (replicate (16 * count + 16) 1) 0 j 0 0 (λ e. omega arith) ∙ get_or-replicate (16 * count + 16) j 1 0 high)
+      ∙ (get_or-set_other (replicate (16 * count + 16) 1) 0 j 0 0 (λ e. omega arith) ∙ get_or-replicate (16 * count + 16) j 1 0 high)
 
   none_below : (p : ℕ) → once_below p 0 ≡ 0
   none_below p = grind (arith, nat_tests)
@@ -78,7 +73,10 @@ module _ (count : ℕ) where
   first_row : (row : ℕ) → RowFits row 1 1 (first_numbers ∷ [])
   first_row row =
       record {
-        once = λ x. omega arith; room = omega arith; grown = refl; bound = omega arith;
+        once = λ x. omega arith;
+        room = omega arith;
+        grown = refl;
+        bound = omega arith;
         each = single (SeatFits row 1 1) first_numbers record { nexts = omega arith; limits = omega arith; spent = λ x. omega arith };
         last = inl refl;
       }
@@ -92,7 +90,8 @@ module _ (count : ℕ) where
           shares = refl;
           sane = single IsSane first_numbers record { drawn = λ row x. omega arith; alive = inr (omega arith) };
         };
-        book = unknown; filled = false;
+        book = unknown;
+        filled = false;
         turn = record {
           place = inr (inl record { turn = word_turn; none = refl; free = refl; filled = refl; book = refl });
           epoch = word_epoch;
@@ -117,7 +116,6 @@ module _ {B : Type 0} (told : B → Known) (count : ℕ) (s : State (Option B) V
         made = made_only told count s id v at kept all;
       }
 
-
 -- what the end says of the slot and of the words
 pub closes : {B : Type 0} (told : B → Known) (count id : ℕ) (v : View) (words : List ℕ) (slots : List (Option B)) → Final (Seen (IsKept told count) id v) words slots
     → v.numbers.shares ≡ 1024 → v.turn.holds ≡ false → v.turn.filled ≡ true
@@ -126,6 +124,8 @@ pub closes : {B : Type 0} (told : B → Known) (count id : ℕ) (v : View) (word
 closes told count id v words slots final all free full =
     let s = final.0 in let kept = final.1.0 in let at = final.1.1 in
     let h = home told count s id v at kept all free full in
-    let b = h.book.0 in
-    (b, final.4 0 (Some b) (ap (λ z. get_elem? z 0) h.book.1),
-        (λ nexts rows same. closes_with told count s id v at kept all full b h.book.2 nexts rows (λ row c. same row c ∙ ap (λ z. get_or z (next_at row) 0) (sym final.2))))
+    let b = h.book.0 in (
+      b,
+      final.4 0 (Some b) (ap (λ z. get_elem? z 0) h.book.1),
+      (λ nexts rows same. closes_with told count s id v at kept all full b h.book.2 nexts rows (λ row c. same row c ∙ ap (λ z. get_or z (next_at row) 0) (sym final.2))),
+    )

@@ -1,5 +1,5 @@
 -- The steps on the turn, the epoch, the book and the shares keep the whole rule.
-use Rattle.std.proofs.Common.{◌≡◌, ◌≢◌, ◌⊎◌, ℕ, zero, suc, ◌+◌, ◌-◌, ◌*◌, ◌<◌, ◌≤◌, ◌%◌, ◌^◌, max, true, false, List, [], ◌∷◌, ◌++◌, set, get_or, length, map, sym, refl, ap, ◌∙◌, subst, inl, inr, ⊎_elim, arith, length-set, get_or-set_same, get_or-set_other, Bool, Some, None, Option}
+use Rattle.std.proofs.Common.{◌≡◌, ◌≢◌, ℕ, ◌+◌, ◌*◌, ◌<◌, ◌≤◌, ◌%◌, ◌^◌, max, true, false, List, [], ◌∷◌, ◌++◌, set, get_or, length, map, sym, refl, ap, ◌∙◌, subst, ⊎_elim, arith, length-set, get_or-set_same, get_or-set_other, Bool, Some, None, Option}
 use mathlib.Core.Option as slot
 use mathlib.Core.Option.{some, some-injective, some-ne-none}
 use mathlib.Core.Logic.{dite}
@@ -13,15 +13,14 @@ use Rattle.counter_table.specs.declared.view.Known.{Known}
 use Rattle.counter_table.specs.declared.view.Numbers.{Numbers}
 use Rattle.counter_table.specs.declared.view.Turn.{Turn}
 use Rattle.counter_table.specs.declared.view.View.{View}
-use Rattle.counter_table.specs.Known.{mark_of, Earlier, KeepsMarks, MayGive, MayFill, unknown}
+use Rattle.counter_table.specs.Known.{mark_of, Earlier, MayGive, MayFill, unknown}
 use Rattle.counter_table.specs.Numbers.{keeper, newcomer, joined, no_numbers, lifting}
-use Rattle.counter_table.specs.Turn.{beginner, merged, no_turn, taking, giving, filling, learning, seeing, turning, epoch_seen}
-use Rattle.counter_table.specs.Rule.{total, next_at, limit_at, RowFits, NumbersFit, TurnFits, IsKept}
-use Rattle.counter_table.specs.Play.{no_view, takes, Took, Follows, IsCovered, gives, empties, fills, lifts, sees, turns, looks}
-use Rattle.counter_table.proofs.Sums.{total_two}
-use Rattle.counter_table.proofs.Fitting.{next_apart, limit_apart, limit_set, drawn_once, lift_fits as numbers_lift}
+use Rattle.counter_table.specs.Turn.{beginner, merged, no_turn, taking, giving, filling, learning, seeing, turning}
+use Rattle.counter_table.specs.Rule.{next_at, limit_at, NumbersFit, TurnFits, IsKept}
+use Rattle.counter_table.specs.Play.{no_view, takes, IsCovered, gives, empties, fills, lifts, sees, turns, looks}
+use Rattle.counter_table.proofs.Fitting.{limit_apart, limit_set, drawn_once, lift_fits as numbers_lift}
 use Rattle.counter_table.proofs.Sharing.{cut_fits, met_fits}
-use Rattle.counter_table.proofs.Booking.{false≢true, home_free, word_taken, out_with, holder_knows, see_fits, take_fits, give_fits, lift_fits, turn_fits, empty_fits, fill_fits, free_of, beginner_fits, united_fits}
+use Rattle.counter_table.proofs.Booking.{home_free, word_taken, holder_knows, see_fits, take_fits, give_fits, lift_fits, turn_fits, empty_fits, fill_fits, free_of, beginner_fits, united_fits}
 use Rattle.counter_table.proofs.Alone.{covers, alone, is_whole}
 use Rattle.counter_table.proofs.Keeping.{numbers_of, turns_of, words_fit, at_numbers, at_turn, both_parts}
 
@@ -59,8 +58,8 @@ module _ {B : Type 0} (told : B → Known) (count : ℕ) where
         → IsKept told count record { words = set s.words i n; homes = homes'; views = set s.views id record { numbers = v.numbers; turn = turn } }
     low_step i n low homes' turn book filled alive fits =
         both_parts told count s id v record { numbers = v.numbers; turn = turn } at kept (set s.words i n) homes' book filled
-            (same_numbers (set s.words i n) (fit_words count s.words (set s.words i n) (numbers_of s.views) (low_size s.words i n) (low_rows count s.words i n low) kept.numbers))
-            fits alive
+        (same_numbers (set s.words i n) (fit_words count s.words (set s.words i n) (numbers_of s.views) (low_size s.words i n) (low_rows count s.words i n low) kept.numbers))
+        fits alive
 
     turn_at : get_elem? (turns_of s.views) id ≡ some v.turn
     turn_at = at_turn told count s id v v at kept
@@ -86,45 +85,67 @@ module _ {B : Type 0} (told : B → Known) (count : ℕ) where
       where
         fits : TurnFits told count s.words s.homes (turns_of s.views) kept.book kept.filled
         fits = kept.turn
+
         mine : get_elem? (turns_of s.views) id ≡ some m.0.turn
         mine = turn_at s id m.0 at kept
+
         words' : List ℕ
         words' = set s.words 0 2
+
         free : get_or s.words 0 0 ≡ 0 → (w : View) × (a : act.Act (Option B)) × act.Valid s.homes m.1 a × IsKept told count (act.stepped s 0 2 id m.1 w a) × takes told count m (get_or s.words 0 0) (w, act.carried_after m.1 a)
         free zero_word =
             let k = fits.each id m.0.turn mine in
             let home = home_free told count s.words s.homes (turns_of s.views) kept.book kept.filled fits zero_word (k.opening full).0 in
             let b = home.book.0 in
-            let w : View = record m.0 { turn = taking (told b) m.0.turn } in
-            (w, act.takes 0 (Some b), ap (λ z. get_elem? z 0) home.book.1,
-                low_step s id m.0 at kept 0 2 (omega arith) (set s.homes 0 slot.none) (taking (told b) m.0.turn) kept.book kept.filled alive
-                    (take_fits told count s.words s.homes (turns_of s.views) kept.book kept.filled fits id m.0.turn mine (set s.words 0 2) b
-                        (first_set s.words kept.numbers.size 2) (get_or-set_other s.words 0 1 2 0 (λ e. omega arith)) (low_limits count s.words 0 2 (omega arith)) full home home.book.2 home.book.1),
-                ((λ z. (b, refl, refl, record {
+            let w : View = record m.0 { turn = taking (told b) m.0.turn } in (
+              w,
+              act.takes 0 (Some b),
+              ap (λ z. get_elem? z 0) home.book.1,
+              low_step s id m.0 at kept 0 2 (omega arith) (set s.homes 0 slot.none) (taking (told b) m.0.turn) kept.book kept.filled alive
+                  (take_fits told count s.words s.homes (turns_of s.views) kept.book kept.filled fits id m.0.turn mine (set s.words 0 2) b
+                  (first_set s.words kept.numbers.size 2) (get_or-set_other s.words 0 1 2 0 (λ e. omega arith)) (low_limits count s.words 0 2 (omega arith)) full home home.book.2 home.book.1),
+              (
+                (λ z. (
+                  b,
+                  refl,
+                  refl,
+                  record {
                     earlier = subst (Earlier m.0.turn.known) (sym home.book.2) k.earlier;
                     epoch = subst (λ y. m.0.turn.epoch ≤ y.changes) (sym home.book.2) k.epoch;
                     opening = ap (λ y. y.opening) home.book.2 ∙ sym (k.opening full).1;
-                  }, subst (IsCovered count m.0.numbers) (sym home.book.2) (covers told count s id m.0 at kept))), (λ n. absurd (n zero_word))))
+                  },
+                  subst (IsCovered count m.0.numbers) (sym home.book.2) (covers told count s id m.0 at kept),
+                )),
+                (λ n. absurd (n zero_word)),
+              ),
+            )
+
         taken : (get_or s.words 0 0 ≢ 0) → (w : View) × (a : act.Act (Option B)) × act.Valid s.homes m.1 a × IsKept told count (act.stepped s 0 2 id m.1 w a) × takes told count m (get_or s.words 0 0) (w, act.carried_after m.1 a)
         taken some_word =
-            let two = word_taken told count s.words s.homes (turns_of s.views) kept.book kept.filled fits some_word in
-            (m.0, keeps, tt,
-                low_step s id m.0 at kept 0 2 (omega arith) s.homes m.0.turn kept.book kept.filled alive
-                    (subst (λ z. TurnFits told count (set s.words 0 2) s.homes z kept.book kept.filled) (sym (set_again (turns_of s.views) id m.0.turn mine))
-                        (words_fit told count s.words (set s.words 0 2) s.homes (turns_of s.views) kept.book kept.filled (first_set s.words kept.numbers.size 2 ∙ sym two)
-                            (get_or-set_other s.words 0 1 2 0 (λ e. omega arith)) (λ row b. let l = low_limits count s.words 0 2 (omega arith) row b in let o = fits.limits row b in omega arith) fits)),
-                ((λ z. absurd (some_word z)), (λ n. refl)))
+            let two = word_taken told count s.words s.homes (turns_of s.views) kept.book kept.filled fits some_word in (
+              m.0,
+              keeps,
+              tt,
+              low_step s id m.0 at kept 0 2 (omega arith) s.homes m.0.turn kept.book kept.filled alive
+                  (subst (λ z. TurnFits told count (set s.words 0 2) s.homes z kept.book kept.filled) (sym (set_again (turns_of s.views) id m.0.turn mine))
+                  (words_fit told count s.words (set s.words 0 2) s.homes (turns_of s.views) kept.book kept.filled (first_set s.words kept.numbers.size 2 ∙ sym two)
+                  (get_or-set_other s.words 0 1 2 0 (λ e. omega arith)) (λ row b. let l = low_limits count s.words 0 2 (omega arith) row b in let o = fits.limits row b in omega arith) fits)),
+              ((λ z. absurd (some_word z)), (λ n. refl)),
+            )
 
     pub give_allows : (v : View) (b : B) → 0 < v.numbers.shares → v.turn.holds ≡ true → v.turn.filled ≡ true → MayGive v.turn.known (told b)
         → Allows (IsKept told count) slots id (v, (0, Some b) ∷ []) 0 (λ _. 0) (gives told (v, (0, Some b) ∷ []))
     give_allows v b alive holds full may s kept size at bound =
         let mine = turn_at s id v at kept in
-        let w : View = record v { turn = giving (told b) v.turn } in
-        (w, act.gives, tt,
-            low_step s id v at kept 0 0 (omega arith) (set s.homes 0 (some (Some b))) (giving (told b) v.turn) (told b) kept.filled alive
-                (give_fits told count s.words s.homes (turns_of s.views) kept.book kept.filled kept.turn id v.turn mine (set s.words 0 0) b
-                    (first_set s.words kept.numbers.size 0) (get_or-set_other s.words 0 1 0 0 (λ e. omega arith)) (low_limits count s.words 0 0 (omega arith)) holds full may),
-            (λ c e. (refl, ap (λ z. let r : View = record v { turn = giving (told z) v.turn } in r) (same_slot b c e))))
+        let w : View = record v { turn = giving (told b) v.turn } in (
+          w,
+          act.gives,
+          tt,
+          low_step s id v at kept 0 0 (omega arith) (set s.homes 0 (some (Some b))) (giving (told b) v.turn) (told b) kept.filled alive
+              (give_fits told count s.words s.homes (turns_of s.views) kept.book kept.filled kept.turn id v.turn mine (set s.words 0 0) b
+              (first_set s.words kept.numbers.size 0) (get_or-set_other s.words 0 1 0 0 (λ e. omega arith)) (low_limits count s.words 0 0 (omega arith)) holds full may),
+          (λ c e. (refl, ap (λ z. let r : View = record v { turn = giving (told z) v.turn } in r) (same_slot b c e))),
+        )
 
     pub empty_allows : (v : View) → v.numbers.shares ≡ 1024 → v.turn.holds ≡ false → v.turn.filled ≡ false
         → Allows (IsKept told count) slots id (v, []) 0 (λ _. 2) (empties told (v, []))
@@ -132,24 +153,30 @@ module _ {B : Type 0} (told : B → Known) (count : ℕ) where
         let mine = turn_at s id v at kept in
         let others = alone told count s id v at kept all in
         let w : View = record v { turn = record v.turn { holds = true } } in
-        let u = free_of told count s.words s.homes (turns_of s.views) kept.book kept.filled kept.turn id v.turn mine others blank free in
-        (w, act.takes 0 None, ap (λ z. get_elem? z 0) u.none,
-            low_step s id v at kept 0 2 (omega arith) (set s.homes 0 slot.none) (record v.turn { holds = true }) kept.book kept.filled (omega arith)
-                (empty_fits told count s.words s.homes (turns_of s.views) kept.book kept.filled kept.turn id v.turn mine others blank (set s.words 0 2)
-                    (first_set s.words kept.numbers.size 2) (get_or-set_other s.words 0 1 2 0 (λ e. omega arith)) (low_limits count s.words 0 2 (omega arith)) free),
-            (refl, refl))
+        let u = free_of told count s.words s.homes (turns_of s.views) kept.book kept.filled kept.turn id v.turn mine others blank free in (
+          w,
+          act.takes 0 None,
+          ap (λ z. get_elem? z 0) u.none,
+          low_step s id v at kept 0 2 (omega arith) (set s.homes 0 slot.none) (record v.turn { holds = true }) kept.book kept.filled (omega arith)
+              (empty_fits told count s.words s.homes (turns_of s.views) kept.book kept.filled kept.turn id v.turn mine others blank (set s.words 0 2)
+              (first_set s.words kept.numbers.size 2) (get_or-set_other s.words 0 1 2 0 (λ e. omega arith)) (low_limits count s.words 0 2 (omega arith)) free),
+          (refl, refl),
+        )
 
     pub fill_allows : (v : View) (b : B) → v.numbers.shares ≡ 1024 → v.turn.holds ≡ true → v.turn.filled ≡ false → MayFill (told b)
         → Allows (IsKept told count) slots id (v, (0, Some b) ∷ []) 0 (λ _. 0) (fills told (v, (0, Some b) ∷ []))
     fill_allows v b all holds blank may s kept size at bound =
         let mine = turn_at s id v at kept in
         let others = alone told count s id v at kept all in
-        let w : View = record v { turn = filling (told b) v.turn } in
-        (w, act.gives, tt,
-            low_step s id v at kept 0 0 (omega arith) (set s.homes 0 (some (Some b))) (filling (told b) v.turn) (told b) true (omega arith)
-                (fill_fits told count s.words s.homes (turns_of s.views) kept.book kept.filled kept.turn id v.turn mine others blank (set s.words 0 0) b
-                    (first_set s.words kept.numbers.size 0) (get_or-set_other s.words 0 1 0 0 (λ e. omega arith)) (low_limits count s.words 0 0 (omega arith)) holds may),
-            (λ c e. (refl, ap (λ z. let r : View = record v { turn = filling (told z) v.turn } in r) (same_slot b c e))))
+        let w : View = record v { turn = filling (told b) v.turn } in (
+          w,
+          act.gives,
+          tt,
+          low_step s id v at kept 0 0 (omega arith) (set s.homes 0 (some (Some b))) (filling (told b) v.turn) (told b) true (omega arith)
+              (fill_fits told count s.words s.homes (turns_of s.views) kept.book kept.filled kept.turn id v.turn mine others blank (set s.words 0 0) b
+              (first_set s.words kept.numbers.size 0) (get_or-set_other s.words 0 1 0 0 (λ e. omega arith)) (low_limits count s.words 0 0 (omega arith)) holds may),
+          (λ c e. (refl, ap (λ z. let r : View = record v { turn = filling (told z) v.turn } in r) (same_slot b c e))),
+        )
 
     -- the same, where the seat's view and slots are those
     pub gives_at : (m : Me (Option B) View) (v : View) (b : B) → m ≡ (v, (0, Some b) ∷ []) → 0 < v.numbers.shares → v.turn.holds ≡ true → v.turn.filled ≡ true → MayGive v.turn.known (told b)
@@ -176,16 +203,19 @@ module _ {B : Type 0} (told : B → Known) (count : ℕ) where
         let v = m.0 in
         let words_size = kept.numbers.size in
         let mine = turn_at s id v at kept in
-        let w : View = record { numbers = lifting row mark v.numbers; turn = learning held.marks v.turn } in
-        (w, keeps, tt,
-            both_parts told count s id v w at kept (set s.words (limit_at row) n') s.homes (record kept.book { marks = held.marks }) kept.filled
-                (numbers_lift count s.words (numbers_of s.views) id v.numbers row (at_numbers told count s id v v at kept) kept.numbers below alive mark)
-                (lift_fits told count s.words s.homes (turns_of s.views) kept.book kept.filled kept.turn id v.turn mine (set s.words (limit_at row) n') held row
-                    (limit_apart count s.words words_size row n' below 0 (λ e. omega arith)) (limit_apart count s.words words_size row n' below 1 (λ e. omega arith))
-                    (limit_set count s.words words_size row n' below ∙ ap (max l) is)
-                    (λ q b a. limit_apart count s.words words_size row n' below (limit_at q) (λ e. a (omega arith))) holds full rising)
-                alive,
-            (refl, refl))
+        let w : View = record { numbers = lifting row mark v.numbers; turn = learning held.marks v.turn } in (
+          w,
+          keeps,
+          tt,
+          both_parts told count s id v w at kept (set s.words (limit_at row) n') s.homes (record kept.book { marks = held.marks }) kept.filled
+              (numbers_lift count s.words (numbers_of s.views) id v.numbers row (at_numbers told count s id v v at kept) kept.numbers below alive mark)
+              (lift_fits told count s.words s.homes (turns_of s.views) kept.book kept.filled kept.turn id v.turn mine (set s.words (limit_at row) n') held row
+              (limit_apart count s.words words_size row n' below 0 (λ e. omega arith)) (limit_apart count s.words words_size row n' below 1 (λ e. omega arith))
+              (limit_set count s.words words_size row n' below ∙ ap (max l) is)
+              (λ q b a. limit_apart count s.words words_size row n' below (limit_at q) (λ e. a (omega arith))) holds full rising)
+              alive,
+          (refl, refl),
+        )
 
     pub see_allows : (m : Me (Option B) View) → 0 < m.0.numbers.shares → Allows (IsKept told count) slots id m 1 (λ n. n) (sees m)
     see_allows m alive s kept size at bound =
@@ -195,12 +225,15 @@ module _ {B : Type 0} (told : B → Known) (count : ℕ) where
         let w : View = record v { turn = seeing n v.turn } in
         let same : set s.words 1 n ≡ s.words = set-get_or s.words 1 0 in
         let k = kept.turn.each id v.turn mine in
-        let earlier = k.earlier.changes in let epoch = k.epoch in let is = kept.turn.epoch in
-        (w, keeps, tt,
-            low_step s id v at kept 1 n (omega arith) s.homes (seeing n v.turn) kept.book kept.filled alive
-                (see_fits told count s.words s.homes (turns_of s.views) kept.book kept.filled kept.turn id v.turn mine (set s.words 1 n) n
-                    (ap (λ z. get_or z 0 0) same) (ap (λ z. get_or z 1 0) same) (λ row b. ap (λ z. get_or z (limit_at row) 0) same) refl),
-            ((refl, refl), omega arith, (λ h. is ∙ sym (ap (λ z. z.changes) (holder_knows told count s.words s.homes (turns_of s.views) kept.book kept.filled kept.turn id v.turn mine h)))))
+        let earlier = k.earlier.changes in let epoch = k.epoch in let is = kept.turn.epoch in (
+          w,
+          keeps,
+          tt,
+          low_step s id v at kept 1 n (omega arith) s.homes (seeing n v.turn) kept.book kept.filled alive
+              (see_fits told count s.words s.homes (turns_of s.views) kept.book kept.filled kept.turn id v.turn mine (set s.words 1 n) n
+              (ap (λ z. get_or z 0 0) same) (ap (λ z. get_or z 1 0) same) (λ row b. ap (λ z. get_or z (limit_at row) 0) same) refl),
+          ((refl, refl), omega arith, (λ h. is ∙ sym (ap (λ z. z.changes) (holder_knows told count s.words s.homes (turns_of s.views) kept.book kept.filled kept.turn id v.turn mine h)))),
+        )
 
     pub turn_allows : (m : Me (Option B) View) → 0 < m.0.numbers.shares → m.0.turn.holds ≡ true → m.0.turn.filled ≡ true → m.0.turn.known.changes + 1 < 2 ^ 64
         → Allows (IsKept told count) slots id m 1 (λ n. (n + 1) % 2 ^ 64) (turns m)
@@ -213,21 +246,28 @@ module _ {B : Type 0} (told : B → Known) (count : ℕ) where
         let is : n ≡ v.turn.known.changes = kept.turn.epoch ∙ sym (ap (λ z. z.changes) knows) in
         let n' = (n + 1) % 2 ^ 64 in
         let plus : n' ≡ n + 1 = omega arith in
-        let b : 1 < length s.words = let z = kept.numbers.size in omega arith in
-        (w, keeps, tt,
-            low_step s id v at kept 1 n' (omega arith) s.homes (turning v.turn) (record kept.book { changes = kept.book.changes + 1 }) kept.filled alive
-                (turn_fits told count s.words s.homes (turns_of s.views) kept.book kept.filled kept.turn id v.turn mine (set s.words 1 n')
-                    (get_or-set_other s.words 1 0 n' 0 (λ e. omega arith)) ((rw get_or-set_same refl) ∙ plus) (low_limits count s.words 1 n' (omega arith)) holds full),
-            ((refl, refl), is))
+        let b : 1 < length s.words = let z = kept.numbers.size in omega arith in (
+          w,
+          keeps,
+          tt,
+          low_step s id v at kept 1 n' (omega arith) s.homes (turning v.turn) (record kept.book { changes = kept.book.changes + 1 }) kept.filled alive
+              (turn_fits told count s.words s.homes (turns_of s.views) kept.book kept.filled kept.turn id v.turn mine (set s.words 1 n')
+              (get_or-set_other s.words 1 0 n' 0 (λ e. omega arith)) ((rw get_or-set_same refl) ∙ plus) (low_limits count s.words 1 n' (omega arith)) holds full),
+          ((refl, refl), is),
+        )
 
     pub look_allows : (m : Me (Option B) View) → 0 < m.0.numbers.shares → Allows (IsKept told count) slots id m 1 (λ n. n) (looks count m)
     look_allows m alive s kept size at bound =
         let n = get_or s.words 1 0 in
         let v = m.0 in
         let same : set s.words 1 n ≡ s.words = set-get_or s.words 1 0 in
-        let views : set s.views id v ≡ s.views = set_again s.views id v at in
-        (v, keeps, tt, (let P : List ℕ → List View → Type 0 = λ x y. IsKept told count record { words = x; homes = s.homes; views = y } in subst (λ x. P x (set s.views id v)) (sym same) (subst (P s.words) (sym views) kept)),
-            (refl, (λ row x b. once_each s id v at kept row b x), (λ all. is_whole told count s id v at kept all)))
+        let views : set s.views id v ≡ s.views = set_again s.views id v at in (
+          v,
+          keeps,
+          tt,
+          (let P : List ℕ → List View → Type 0 = λ x y. IsKept told count record { words = x; homes = s.homes; views = y } in subst (λ x. P x (set s.views id v)) (sym same) (subst (P s.words) (sym views) kept)),
+          (refl, (λ row x b. once_each s id v at kept row b x), (λ all. is_whole told count s id v at kept all)),
+        )
 
   pub splits_keep : (id : ℕ) (v : View) → 1 < v.numbers.shares
       → Splits (IsKept told count) id v record { numbers = keeper v.numbers; turn = v.turn } record { numbers = newcomer v.numbers; turn = beginner v.turn }
@@ -237,16 +277,17 @@ module _ {B : Type 0} (told : B → Known) (count : ℕ) where
       let mine = turn_at s id v at kept in
       record {
         numbers = subst (NumbersFit count s.words) (sym (map-snoc (λ (u : View). u.numbers) (set s.views id left) right ∙ ap (λ z. z ++ right.numbers ∷ []) (map-set (λ (u : View). u.numbers) s.views id left)))
-          (cut_fits (numbers_of s.views) id v.numbers (at_numbers told count s id v v at kept) count s.words kept.numbers two);
-        book = kept.book; filled = kept.filled;
+            (cut_fits (numbers_of s.views) id v.numbers (at_numbers told count s id v v at kept) count s.words kept.numbers two);
+        book = kept.book;
+        filled = kept.filled;
         turn = subst (λ z. TurnFits told count s.words s.homes z kept.book kept.filled)
-          (sym (map-snoc (λ (u : View). u.turn) (set s.views id left) right
-              ∙ ap (λ z. z ++ right.turn ∷ []) (map-set (λ (u : View). u.turn) s.views id left ∙ set_again (turns_of s.views) id v.turn mine)))
-          (beginner_fits told count s.words s.homes (turns_of s.views) kept.book kept.filled kept.turn id v.turn mine);
+            (sym (map-snoc (λ (u : View). u.turn) (set s.views id left) right
+            ∙ ap (λ z. z ++ right.turn ∷ []) (map-set (λ (u : View). u.turn) s.views id left ∙ set_again (turns_of s.views) id v.turn mine)))
+            (beginner_fits told count s.words s.homes (turns_of s.views) kept.book kept.filled kept.turn id v.turn mine);
         ended = λ j u e none. ⊎_elim
-          (λ k. ⊎_elim (λ x. absurd (let z : u.numbers.shares ≡ left.numbers.shares = ap (λ y. y.numbers.shares) (sym x.1) in omega arith)) (λ x. kept.ended j u x.1 none) (at_set s.views id j left u k))
-          (λ k. absurd (let z : u.numbers.shares ≡ 1 = ap (λ y. y.numbers.shares) (sym k) in omega arith))
-          (at_snoc (set s.views id left) right u j e);
+            (λ k. ⊎_elim (λ x. absurd (let z : u.numbers.shares ≡ left.numbers.shares = ap (λ y. y.numbers.shares) (sym x.1) in omega arith)) (λ x. kept.ended j u x.1 none) (at_set s.views id j left u k))
+            (λ k. absurd (let z : u.numbers.shares ≡ 1 = ap (λ y. y.numbers.shares) (sym k) in omega arith))
+            (at_snoc (set s.views id left) right u j e);
       }
 
   pub joins_keep : (id : ℕ) (v : View) (other : ℕ) (w : View) → 0 < v.numbers.shares → w.turn.holds ≡ false
@@ -258,13 +299,14 @@ module _ {B : Type 0} (told : B → Known) (count : ℕ) where
       let its = at_map (λ (u : View). u.turn) s.views other w there in
       record {
         numbers = subst (NumbersFit count s.words)
-          (sym (map-set (λ (u : View). u.numbers) (set s.views id both) other no_view ∙ ap (λ z. set z other no_numbers) (map-set (λ (u : View). u.numbers) s.views id both)))
-          (met_fits (numbers_of s.views) id other v.numbers w.numbers (at_numbers told count s id v v at kept) (at_map (λ (u : View). u.numbers) s.views other w there) apart count s.words kept.numbers alive);
-        book = kept.book; filled = kept.filled;
+            (sym (map-set (λ (u : View). u.numbers) (set s.views id both) other no_view ∙ ap (λ z. set z other no_numbers) (map-set (λ (u : View). u.numbers) s.views id both)))
+            (met_fits (numbers_of s.views) id other v.numbers w.numbers (at_numbers told count s id v v at kept) (at_map (λ (u : View). u.numbers) s.views other w there) apart count s.words kept.numbers alive);
+        book = kept.book;
+        filled = kept.filled;
         turn = subst (λ z. TurnFits told count s.words s.homes z kept.book kept.filled)
-          (sym (map-set (λ (u : View). u.turn) (set s.views id both) other no_view ∙ ap (λ z. set z other no_turn) (map-set (λ (u : View). u.turn) s.views id both)))
-          (united_fits told count s.words s.homes (turns_of s.views) kept.book kept.filled kept.turn id other v.turn w.turn mine its apart free);
+            (sym (map-set (λ (u : View). u.turn) (set s.views id both) other no_view ∙ ap (λ z. set z other no_turn) (map-set (λ (u : View). u.turn) s.views id both)))
+            (united_fits told count s.words s.homes (turns_of s.views) kept.book kept.filled kept.turn id other v.turn w.turn mine its apart free);
         ended = λ j u e none. ⊎_elim (λ k. ap (λ y. y.turn) (sym k.1))
-          (λ k. ⊎_elim (λ x. absurd (let z : u.numbers.shares ≡ both.numbers.shares = ap (λ y. y.numbers.shares) (sym x.1) in omega arith)) (λ x. kept.ended j u x.1 none) (at_set s.views id j both u k.1))
-          (at_set (set s.views id both) other j no_view u e);
+            (λ k. ⊎_elim (λ x. absurd (let z : u.numbers.shares ≡ both.numbers.shares = ap (λ y. y.numbers.shares) (sym x.1) in omega arith)) (λ x. kept.ended j u x.1 none) (at_set s.views id j both u k.1))
+            (at_set (set s.views id both) other j no_view u e);
       }

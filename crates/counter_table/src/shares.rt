@@ -61,7 +61,9 @@ impl<B: Counted> Counters<B> {
         requires free { (view other).turn.holds ≡ false }
         ensures same { IsSame worker.old worker.new }
         ensures joined { view worker.new ≡ record {
-            numbers = joined (view worker.old).numbers (view other).numbers; turn = merged (view worker.old).turn (view other).turn } }
+          numbers = joined (view worker.old).numbers (view other).numbers;
+          turn = merged (view worker.old).turn (view other).turn;
+        } }
 
         // No number of a row was drawn twice, be it by one of the two or by both.
         ensures apart { (row x : ℕ) → row < rows_of self.now
@@ -71,7 +73,9 @@ impl<B: Counted> Counters<B> {
         ensures whole { (view worker.new).numbers.shares ≡ 1024 → IsWhole (rows_of self.now) (view worker.new) }
     {
         let seat = other.into_seat();
-        self.table.shared.join_seat::<Shares>(&mut worker.seat, seat);
+        self.table
+            .shared
+            .join_seat::<Shares>(&mut worker.seat, seat);
         self.look::<Brand>(worker, self.rows);
     }
 

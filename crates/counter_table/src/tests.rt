@@ -163,11 +163,7 @@ fn the_epoch_follows_the_changes(rt: HostRuntime) -> Result<(), Fail> {
 }
 
 // Takes the book and counts, so many times.
-fn counted<R: Wait>(
-    rt: &R,
-    counters: &Counters<Tally>,
-    mut worker: Worker<Tally>,
-) -> Worker<Tally>
+fn counted<R: Wait>(rt: &R, counters: &Counters<Tally>, mut worker: Worker<Tally>) -> Worker<Tally>
     requires own { IsOf counters.now worker }
     requires free { (view worker).turn.holds ≡ false }
     requires filled { (view worker).turn.filled ≡ true }

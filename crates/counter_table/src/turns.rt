@@ -135,7 +135,10 @@ impl<B: Counted> Counters<B> {
         ensures same { KeepsNumbers worker.old worker.new }
         ensures turn { (view worker.new).turn ≡ turning (view worker.old).turn }
     {
-        let before = self.table.shared.fetch_add::<Turns>(&mut worker.seat, EPOCH, 1);
+        let before = self
+            .table
+            .shared
+            .fetch_add::<Turns>(&mut worker.seat, EPOCH, 1);
         prove!(before + 1 == changes);
     }
 
@@ -153,7 +156,9 @@ impl<B: Counted> Counters<B> {
     {
         let _held = held;
         let at = limit_word(row);
-        self.table.shared.fetch_max::<Lifts<T>>(&mut worker.seat, at, mark);
+        self.table
+            .shared
+            .fetch_max::<Lifts<T>>(&mut worker.seat, at, mark);
     }
 
     fn max_to_raise<T: Told>(&self, worker: &mut Worker<B>, row: u16, number: u64) -> u64
@@ -166,7 +171,9 @@ impl<B: Counted> Counters<B> {
         ensures numbers { (view worker.new).numbers ≡ raising row number result (view worker.old).numbers }
     {
         let at = next_word(row);
-        self.table.shared.fetch_max::<Raises<T>>(&mut worker.seat, at, number)
+        self.table
+            .shared
+            .fetch_max::<Raises<T>>(&mut worker.seat, at, number)
     }
 
     // Swaps the turn's word until it was free.

@@ -1,11 +1,10 @@
 -- What each step of the definition is, where it is open.
-use Rattle.std.proofs.Common.{◌≡◌, ◌⊎◌, ℕ, ◌+◌, ◌<◌, ◌≤◌, max, eqb, ltb, leb, true, false, Bool, ◌&&◌, List, [], ◌∷◌, ◌++◌, set, length, get_or, sym, refl, ap, ◌∙◌, subst, arith, Some, None, Option, slice_get, if◌then◌else◌}
+use Rattle.std.proofs.Common.{◌≡◌, ℕ, ◌+◌, ◌<◌, ◌≤◌, max, ltb, leb, true, false, [], ◌∷◌, ◌++◌, set, length, get_or, sym, refl, ap, ◌∙◌, arith, Some, slice_get}
 use Rattle.std.proofs.lemmas.Bool.Decides.{nat_tests}
 use Rattle.sdls_base.specs.KeyId.{end_of}
 use Rattle.sdls_world.specs.declared.key.Key.{Key}
-use Rattle.sdls_world.specs.declared.step.Step.{Step}
-use Rattle.sdls_world.specs.declared.step.Step.TheVariants.{Arm, Draw, Peek, Spend, See, Take, Give, Write, Sync, Lift, RaiseNext, Turn, Crash}
-use Rattle.sdls_world.specs.Core.{Doer, Core, key_of, doer_of, holds_turn, drawing, funding, spending, arm_found, peek_step, after}
+use Rattle.sdls_world.specs.declared.step.Step.TheVariants.{Arm, Draw, Peek, Spend, Write, Lift, RaiseNext}
+use Rattle.sdls_world.specs.Core.{Doer, Core, key_of, doer_of, holds_turn, drawing, funding, spending, peek_step, after}
 use Rattle.sdls_world.proofs.Places.{place_value, place_there}
 
 lt_test : (m n : ℕ) → m < n → ltb m n ≡ true
@@ -40,7 +39,7 @@ module _ (w : Core) (id place : ℕ) (a b : Doer) (found : doer_of id w.actors �
       let new : a' ≡ funding p a = is ∙ ap (funding p) same in
       let k_there : slice_get w.keys p.0 ≡ Some k = place_there w.keys p.0 k below k_is in
       let step : record w { actors = set w.actors place a' } ≡ peek_step w (place, a) false (Some p) =
-        rw k_there (rw (lt_test p.1 k.limit low) (ap (λ (z : Doer). let r : Core = record w { actors = set w.actors place z } in r) new)) in
+      rw k_there (rw (lt_test p.1 k.limit low) (ap (λ (z : Doer). let r : Core = record w { actors = set w.actors place z } in r) new)) in
       rw found (step ∙ λ j. peek_step w (place, a) (sym unfunded j) (sym last j))
 
   pub spend_is : (p : ℕ × ℕ) (a' : Doer) → a.last ≡ Some p → a.is_funded ≡ true → a' ≡ spending p b → record w { actors = set w.actors place a'; used = w.used ++ p ∷ [] } ≡ after w (Spend id)

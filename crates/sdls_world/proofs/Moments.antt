@@ -1,11 +1,11 @@
 -- Each step keeps what holds of the pure core.
-use Rattle.std.proofs.Common.{◌≡◌, ◌≢◌, ◌⊎◌, ℕ, ◌+◌, ◌-◌, ◌<◌, ◌≤◌, max, eqb, ltb, leb, length, true, false, Bool, ◌&&◌, List, [], ◌∷◌, ◌++◌, map, set, length-set, get_or, take, Result, Ok, Err, OnOk, OnErr, zero, suc, sym, refl, ap, ◌∙◌, subst, inl, inr, ⊎_elim, le_trans, arith, Some, None, Option, slice_get, if◌then◌else◌, nat_lt, nat_le}
+use Rattle.std.proofs.Common.{◌≡◌, ◌≢◌, ℕ, ◌+◌, ◌<◌, ◌≤◌, max, eqb, ltb, leb, length, true, false, Bool, ◌&&◌, List, [], ◌∷◌, ◌++◌, map, set, length-set, get_or, take, Result, Ok, Err, OnOk, OnErr, zero, suc, sym, refl, ap, ◌∙◌, subst, ⊎_elim, le_trans, arith, Some, None, Option, slice_get, if◌then◌else◌, nat_lt}
 use Rattle.std.proofs.lemmas.Bool.Decides.{nat_tests}
 use Rattle.sdls_base.specs.KeyId.{end_of}
 use Rattle.sdls_world.specs.declared.key.Key.{Key}
 use Rattle.sdls_world.specs.declared.step.Step.{Step}
 use Rattle.sdls_world.specs.declared.step.Step.TheVariants.{Arm, Draw, Peek, Spend, See, Take, Give, Write, Sync, Lift, RaiseNext, Turn, Crash}
-use Rattle.sdls_world.specs.Core.{Doer, idle, Core, key_of, doer_of, on_found, holds_turn, drawing, funding, spending, arm_found, arm_step, draw_at, draw_step, peek_at, peek_step, spend_step, take_step, write_step, lift_step, raise_step, synced, restarted, if_holder, after, after_all, begun, beginning}
+use Rattle.sdls_world.specs.Core.{Doer, idle, Core, key_of, doer_of, on_found, holds_turn, drawing, funding, spending, arm_found, arm_step, draw_at, draw_step, peek_at, peek_step, spend_step, take_step, write_step, lift_step, raise_step, synced, restarted, after, after_all, begun, beginning}
 use Rattle.sdls_world.specs.Kept.{one_if, times, total, once_below, is_last, unused, KeyKept, DoerKept, IsKept}
 use Rattle.sdls_world.proofs.Places.{get_set, get_snoc, get_map, total_set, total_at, total-snoc, found_at, times-append, once_below_one, once_below_more, once_below_last, once_below_yes, is_pair, same_pair, some_same, length-mapped}
 
@@ -20,7 +20,8 @@ rises row k k' w w' next limit durable lifted stored used actors kept =
       once = λ x. rw used (rw actors (le_trans (kept.once x) (once_below_more x k.next k'.next next)));
       used = λ x. rw used (le_trans (kept.used x) (once_below_more x k.durable k'.durable durable));
       funded = λ i a e x h. let b = kept.funded i a (subst (λ z. slice_get z i ≡ Some a) actors e) x h in omega arith;
-      lifted = lifted; stored = stored;
+      lifted = lifted;
+      stored = stored;
     }
 
 -- one key changes, and its words and marks only rise
@@ -30,9 +31,9 @@ key_moves w row k k' kept at next limit durable lifted stored =
     let w' = record w { keys = set w.keys row k' } in
     record {
       keys = λ q c e. ⊎_elim
-        (λ s. subst (λ z. KeyKept q z w') s.1 (subst (λ z. KeyKept z k' w') (sym s.0) (rises row k k' w w' next limit durable lifted stored refl refl (kept.keys row k at))))
-        (λ o. let old = kept.keys q c o.1 in rises q c c w w' (omega arith) (omega arith) (omega arith) old.lifted old.stored refl refl old)
-        (get_set w.keys row q k' c e);
+          (λ s. subst (λ z. KeyKept q z w') s.1 (subst (λ z. KeyKept z k' w') (sym s.0) (rises row k k' w w' next limit durable lifted stored refl refl (kept.keys row k at))))
+          (λ o. let old = kept.keys q c o.1 in rises q c c w w' (omega arith) (omega arith) (omega arith) old.lifted old.stored refl refl old)
+          (get_set w.keys row q k' c e);
       actors = kept.actors;
     }
 
@@ -43,10 +44,13 @@ same_actors : (w : Core) (actors : List Doer) → ((row x : ℕ) → total (unus
 same_actors w actors same each kept =
     record {
       keys = λ row k e. let old = kept.keys row k e in
-        record {
-          once = λ x. let s = same row x in let o = old.once x in omega arith;
-          used = old.used; funded = λ i a at x h. (each i a at).1 row k e x h; lifted = old.lifted; stored = old.stored;
-        };
+          record {
+            once = λ x. let s = same row x in let o = old.once x in omega arith;
+            used = old.used;
+            funded = λ i a at x h. (each i a at).1 row k e x h;
+            lifted = old.lifted;
+            stored = old.stored;
+          };
       actors = λ i a e. (each i a e).0;
     }
 
@@ -58,22 +62,22 @@ arm_keeps : (w : Core) (id row : ℕ) (o : Option (ℕ × Doer)) → doer_of id 
 arm_keeps w id row None is kept =
     let a' : Doer = record (idle id) { armed = Some row } in
     same_actors w (w.actors ++ a' ∷ []) (λ q x. total-snoc (unused q x) w.actors a' ∙ omega arith)
-        (λ i a e. ⊎_elim (λ old. (kept.actors i a old, λ q k at x h. (kept.keys q k at).funded i a old x h))
-          (λ same. subst (λ (z : Doer). DoerKept z × ((q : ℕ) (k : Key) → slice_get w.keys q ≡ Some k → (x : ℕ) → 0 < times q x z.funded → x < k.limit)) same
-              (record { drawn = λ q x. omega arith; funded = λ f. absurd (false≢true f) }, λ q k at x h. absurd (omega arith)))
-          (get_snoc w.actors a' a i e))
-        kept
+    (λ i a e. ⊎_elim (λ old. (kept.actors i a old, λ q k at x h. (kept.keys q k at).funded i a old x h))
+    (λ same. subst (λ (z : Doer). DoerKept z × ((q : ℕ) (k : Key) → slice_get w.keys q ≡ Some k → (x : ℕ) → 0 < times q x z.funded → x < k.limit)) same
+    (record { drawn = λ q x. omega arith; funded = λ f. absurd (false≢true f) }, λ q k at x h. absurd (omega arith)))
+    (get_snoc w.actors a' a i e))
+    kept
 arm_keeps w id row (Some f) is kept =
     let at = found_at (λ (a : Doer). eqb a.id id) w.actors f.0 f.1 is in
     let a' : Doer = record f.1 { armed = Some row } in
     let old = kept.actors f.0 f.1 at in
     same_actors w (set w.actors f.0 a') (λ q x. let t = total_set (unused q x) w.actors f.0 f.1 a' at in omega arith)
-        (λ i a e. ⊎_elim
-          (λ same. subst (λ (z : Doer). DoerKept z × ((q : ℕ) (k : Key) → slice_get w.keys q ≡ Some k → (x : ℕ) → 0 < times q x z.funded → x < k.limit)) same.1
-              (record { drawn = old.drawn; funded = old.funded }, λ q k k_at x h. (kept.keys q k k_at).funded f.0 f.1 at x h))
-          (λ o. (kept.actors i a o.1, λ q k k_at x h. (kept.keys q k k_at).funded i a o.1 x h))
-          (get_set w.actors f.0 i a' a e))
-        kept
+    (λ i a e. ⊎_elim
+    (λ same. subst (λ (z : Doer). DoerKept z × ((q : ℕ) (k : Key) → slice_get w.keys q ≡ Some k → (x : ℕ) → 0 < times q x z.funded → x < k.limit)) same.1
+    (record { drawn = old.drawn; funded = old.funded }, λ q k k_at x h. (kept.keys q k k_at).funded f.0 f.1 at x h))
+    (λ o. (kept.actors i a o.1, λ q k k_at x h. (kept.keys q k k_at).funded i a o.1 x h))
+    (get_set w.actors f.0 i a' a e))
+    kept
 
 -- Draw
 draw_keeps : (w : Core) (i row : ℕ) (a : Doer) (k : Key) → slice_get w.actors i ≡ Some a → slice_get w.keys row ≡ Some k → IsKept w
@@ -84,23 +88,25 @@ draw_keeps w i row a k at k_at kept =
     let sane = kept.actors i a at in
     record {
       keys = λ q c e. ⊎_elim
-        (λ s. subst (λ z. KeyKept q z w') s.1 (subst (λ z. KeyKept z (record k { next = k.next + 1 }) w') (sym s.0)
-            (key_drawn w i row a k at kept row k (record k { next = k.next + 1 }) (kept.keys row k k_at) refl refl refl
-              (λ x. next_one row x k.next))))
-        (λ o. key_drawn w i row a k at kept q c c (kept.keys q c o.1) refl refl refl (λ x. other_row row q x k.next (once_below x c.next) (λ z. o.0 (sym z))))
-        (get_set w.keys row q (record k { next = k.next + 1 }) c e);
+          (λ s. subst (λ z. KeyKept q z w') s.1 (subst (λ z. KeyKept z (record k { next = k.next + 1 }) w') (sym s.0)
+          (key_drawn w i row a k at kept row k (record k { next = k.next + 1 }) (kept.keys row k k_at) refl refl refl
+          (λ x. next_one row x k.next))))
+          (λ o. key_drawn w i row a k at kept q c c (kept.keys q c o.1) refl refl refl (λ x. other_row row q x k.next (once_below x c.next) (λ z. o.0 (sym z))))
+          (get_set w.keys row q (record k { next = k.next + 1 }) c e);
       actors = λ j b e. ⊎_elim
-        (λ s. subst DoerKept s.1 record {
-          drawn = λ q x. rw (times-append q x a.drawn ((row, k.next) ∷ [])) (let d = sane.drawn q x in omega arith);
-          funded = λ f. absurd (false≢true f);
-        })
-        (λ o. kept.actors j b o.1) (get_set w.actors i j a' b e);
+          (λ s. subst DoerKept s.1 record {
+            drawn = λ q x. rw (times-append q x a.drawn ((row, k.next) ∷ [])) (let d = sane.drawn q x in omega arith);
+            funded = λ f. absurd (false≢true f);
+          })
+          (λ o. kept.actors j b o.1) (get_set w.actors i j a' b e);
     }
   where
     next_one : (row x n : ℕ) → one_if row x (row, n) + once_below x n ≤ once_below x (n + 1)
     next_one row x n = ⊎_elim (λ y. let l = once_below_last x n y.1 in let z = y.2 in omega arith) (λ z. let m = once_below_more x n (n + 1) (omega arith) in omega arith) (is_pair row x (row, n))
+
     other_row : (row q x n o : ℕ) → row ≢ q → one_if q x (row, n) + o ≤ o
     other_row row q x n o apart = ⊎_elim (λ y. absurd (apart y.0)) (λ z. omega arith) (is_pair q x (row, n))
+
     key_drawn : (w : Core) (i row : ℕ) (a : Doer) (k : Key) → slice_get w.actors i ≡ Some a → IsKept w → (q : ℕ) (c c' : Key) → KeyKept q c w → c'.limit ≡ c.limit → c'.durable ≡ c.durable → c'.mark ≡ c.mark
         → ((x : ℕ) → one_if q x (row, k.next) + once_below x c.next ≤ once_below x c'.next)
         → KeyKept q c' record w { keys = set w.keys row (record k { next = k.next + 1 }); actors = set w.actors i (drawing row k.next a) }
@@ -108,9 +114,9 @@ draw_keeps w i row a k at k_at kept =
         let sane = kept.actors i a at in
         record {
           once = λ x.
-            let t = total_set (unused q x) w.actors i a (drawing row k.next a) at in
-            let d = times-append q x a.drawn ((row, k.next) ∷ []) in
-            let s = sane.drawn q x in let o = old.once x in let m = more x in omega arith;
+              let t = total_set (unused q x) w.actors i a (drawing row k.next a) at in
+              let d = times-append q x a.drawn ((row, k.next) ∷ []) in
+              let s = sane.drawn q x in let o = old.once x in let m = more x in omega arith;
           used = λ x. rw same_durable (old.used x);
           funded = λ j b e x h. rw same_limit (⊎_elim (λ s. old.funded i a at x (subst (λ (z : Doer). 0 < times q x z.funded) (sym s.1) h)) (λ o. old.funded j b o.1 x h) (get_set w.actors i j (drawing row k.next a) b e));
           lifted = let l = old.lifted in omega arith;
@@ -124,23 +130,24 @@ peek_keeps w i a p k at last k_at below kept =
     let sane = kept.actors i a at in
     let a' = funding p a in
     same_actors w (set w.actors i a') (λ q x. let t = total_set (unused q x) w.actors i a a' at in omega arith)
-        (λ j b e. ⊎_elim
-          (λ same. subst (λ (z : Doer). DoerKept z × ((q : ℕ) (c : Key) → slice_get w.keys q ≡ Some c → (x : ℕ) → 0 < times q x z.funded → x < c.limit)) same.1
-              (record {
-                drawn = sane.drawn;
-                funded = λ f r is. let s : p ≡ r = some_same (sym last ∙ is) in
-                  subst (λ (z : ℕ × ℕ). 0 < times z.0 z.1 (a.funded ++ p ∷ [])) s (let o = same_pair p in let t = times-append p.0 p.1 a.funded (p ∷ []) in omega arith);
-              },
-              λ q c c_at x h.
-                let t = times-append q x a.funded (p ∷ []) in
-                ⊎_elim
-                  (λ y. let same_key : c ≡ k = some_same (sym c_at ∙ (ap (slice_get w.keys) (sym y.0) ∙ k_at)) in
-                    let l : c.limit ≡ k.limit = ap (λ z. z.limit) same_key in let n = y.1 in omega arith)
-                  (λ z. (kept.keys q c c_at).funded i a at x (omega arith))
-                  (is_pair q x p)))
-          (λ o. (kept.actors j b o.1, λ q c c_at x h. (kept.keys q c c_at).funded j b o.1 x h))
-          (get_set w.actors i j a' b e))
-        kept
+    (λ j b e. ⊎_elim
+    (λ same. subst (λ (z : Doer). DoerKept z × ((q : ℕ) (c : Key) → slice_get w.keys q ≡ Some c → (x : ℕ) → 0 < times q x z.funded → x < c.limit)) same.1 (
+      record {
+        drawn = sane.drawn;
+        funded = λ f r is. let s : p ≡ r = some_same (sym last ∙ is) in
+            subst (λ (z : ℕ × ℕ). 0 < times z.0 z.1 (a.funded ++ p ∷ [])) s (let o = same_pair p in let t = times-append p.0 p.1 a.funded (p ∷ []) in omega arith);
+      },
+      λ q c c_at x h.
+          let t = times-append q x a.funded (p ∷ []) in
+          ⊎_elim
+          (λ y. let same_key : c ≡ k = some_same (sym c_at ∙ (ap (slice_get w.keys) (sym y.0) ∙ k_at)) in
+          let l : c.limit ≡ k.limit = ap (λ z. z.limit) same_key in let n = y.1 in omega arith)
+          (λ z. (kept.keys q c c_at).funded i a at x (omega arith))
+          (is_pair q x p),
+    ))
+    (λ o. (kept.actors j b o.1, λ q c c_at x h. (kept.keys q c c_at).funded j b o.1 x h))
+    (get_set w.actors i j a' b e))
+    kept
 
 -- Spend
 spend_keeps : (w : Core) (i : ℕ) (a : Doer) (p : ℕ × ℕ) → slice_get w.actors i ≡ Some a → a.last ≡ Some p → a.is_funded ≡ true → IsKept w
@@ -151,31 +158,32 @@ spend_keeps w i a p at last is_funded kept =
     let is : (q x : ℕ) → is_last q x a.last ≡ one_if q x p = λ q x. ap (is_last q x) last in
     record {
       keys = λ q c c_at. let old = kept.keys q c c_at in
-        record {
-          once = λ x.
-            let t = total_set (unused q x) w.actors i a a' at in
-            let s = sane.drawn q x in let e = is q x in
-            let u = times-append q x a.spent (p ∷ []) in let v = times-append q x w.used (p ∷ []) in let o = old.once x in omega arith;
-          used = λ x.
-            let v = times-append q x w.used (p ∷ []) in
-            ⊎_elim
-              (λ y.
+          record {
+            once = λ x.
+                let t = total_set (unused q x) w.actors i a a' at in
+                let s = sane.drawn q x in let e = is q x in
+                let u = times-append q x a.spent (p ∷ []) in let v = times-append q x w.used (p ∷ []) in let o = old.once x in omega arith;
+            used = λ x.
+                let v = times-append q x w.used (p ∷ []) in
+                ⊎_elim
+                (λ y.
                 let below : x < c.limit = old.funded i a at x (subst (λ (z : ℕ × ℕ). 0 < times z.0 z.1 a.funded) (pair_is p q x y.0 y.1) (sane.funded is_funded p last)) in
                 let l = old.lifted in let one = once_below_yes x c.durable (omega arith) in
                 let most = once_below_one x c.next in
                 let t = total_at (unused q x) w.actors i a at in
                 let s = sane.drawn q x in let e = is q x in let o = old.once x in let z = y.2 in omega arith)
-              (λ z. let u = old.used x in omega arith)
-              (is_pair q x p);
-          funded = λ j b e x h. ⊎_elim (λ s. old.funded i a at x (subst (λ (z : Doer). 0 < times q x z.funded) (sym s.1) h)) (λ o. old.funded j b o.1 x h) (get_set w.actors i j a' b e);
-          lifted = old.lifted; stored = old.stored;
-        };
+                (λ z. let u = old.used x in omega arith)
+                (is_pair q x p);
+            funded = λ j b e x h. ⊎_elim (λ s. old.funded i a at x (subst (λ (z : Doer). 0 < times q x z.funded) (sym s.1) h)) (λ o. old.funded j b o.1 x h) (get_set w.actors i j a' b e);
+            lifted = old.lifted;
+            stored = old.stored;
+          };
       actors = λ j b e. ⊎_elim
-        (λ s. subst DoerKept s.1 record {
-          drawn = λ q x. rw (times-append q x a.spent (p ∷ [])) (let d = sane.drawn q x in let l = is q x in omega arith);
-          funded = λ f. absurd (false≢true f);
-        })
-        (λ o. kept.actors j b o.1) (get_set w.actors i j a' b e);
+          (λ s. subst DoerKept s.1 record {
+            drawn = λ q x. rw (times-append q x a.spent (p ∷ [])) (let d = sane.drawn q x in let l = is q x in omega arith);
+            funded = λ f. absurd (false≢true f);
+          })
+          (λ o. kept.actors j b o.1) (get_set w.actors i j a' b e);
     }
   where
     pair_is : (p : ℕ × ℕ) (q x : ℕ) → p.0 ≡ q → p.1 ≡ x → p ≡ (q, x)
@@ -187,8 +195,8 @@ synced_keeps w kept =
     let w' = record w { keys = map synced w.keys } in
     record {
       keys = λ q c e. let f = get_map synced w.keys q c e in let old = kept.keys q f.0 f.1 in
-        subst (λ z. KeyKept q z w') f.2
-            (rises q f.0 (synced f.0) w w' (omega arith) (omega arith) (let s = old.stored in omega arith) (let l = old.lifted in let s = old.stored in omega arith) (omega arith) refl refl old);
+          subst (λ z. KeyKept q z w') f.2
+          (rises q f.0 (synced f.0) w w' (omega arith) (omega arith) (let s = old.stored in omega arith) (let l = old.lifted in let s = old.stored in omega arith) (omega arith) refl refl old);
       actors = kept.actors;
     }
 
@@ -197,11 +205,14 @@ crash_keeps w kept =
     let w' : Core = record { keys = map restarted w.keys; actors = []; holder = None; epoch = 0; used = w.used } in
     record {
       keys = λ q c e. let f = get_map restarted w.keys q c e in let old = kept.keys q f.0 f.1 in
-        subst (λ z. KeyKept q z w') f.2
-            record {
-              once = λ x. let u = old.used x in omega arith; used = old.used;
-              funded = λ i a k x h. absurd (let n : None ≡ Some a = k in cc); lifted = omega arith; stored = omega arith;
-            };
+          subst (λ z. KeyKept q z w') f.2
+          record {
+            once = λ x. let u = old.used x in omega arith;
+            used = old.used;
+            funded = λ i a k x h. absurd (let n : None ≡ Some a = k in cc);
+            lifted = omega arith;
+            stored = omega arith;
+          };
       actors = λ i a k. absurd (let n : None ≡ Some a = k in cc);
     }
 
@@ -244,6 +255,7 @@ peek_step_keeps w a at kept false (Some p) e = go (slice_get w.keys p.0) refl
     below : (k : Key) → slice_get w.keys p.0 ≡ Some k → (b : Bool) → ltb p.1 k.limit ≡ b → IsKept (if b then record w { actors = set w.actors a.0 (funding p a.1) } else w)
     below k k_at true is = let lt : p.1 < k.limit = grind (arith, nat_tests) in peek_keeps w a.0 a.1 p k at e k_at lt kept
     below k k_at false is = kept
+
     go : (o : Option Key) → slice_get w.keys p.0 ≡ o → IsKept (peek_at w a p o)
     go None k = kept
     go (Some c) k = below c k (ltb p.1 c.limit) refl
@@ -269,7 +281,7 @@ raise_step_keeps : (w : Core) (number : ℕ) (k : ℕ × Key) → slice_get w.ke
 raise_step_keeps w number k at kept =
     let old = kept.keys k.0 k.1 at in
     if_keeps w (record w { keys = set w.keys k.0 (record k.1 { next = max k.1.next number }) }) (leb number (end_of k.1.id)) kept
-        (key_moves w k.0 k.1 (record k.1 { next = max k.1.next number }) kept at (omega arith) (omega arith) (omega arith) old.lifted old.stored)
+    (key_moves w k.0 k.1 (record k.1 { next = max k.1.next number }) kept at (omega arith) (omega arith) (omega arith) old.lifted old.stored)
 
 take_step_keeps : (w : Core) (id : ℕ) (o : Option ℕ) → IsKept w → IsKept (take_step w id o)
 take_step_keeps w id None kept = same_core w (Some id) w.epoch kept
@@ -307,8 +319,8 @@ pub beginning_kept : (keys : List (ℕ × ℕ)) → IsKept (beginning keys)
 beginning_kept keys =
     record {
       keys = λ q c e. let f = get_map begun keys q c e in
-        subst (λ z. KeyKept q z (beginning keys)) f.2
-            record { once = λ x. omega arith; used = λ x. omega arith; funded = λ i a k x h. absurd (let n : None ≡ Some a = k in cc); lifted = omega arith; stored = omega arith };
+          subst (λ z. KeyKept q z (beginning keys)) f.2
+          record { once = λ x. omega arith; used = λ x. omega arith; funded = λ i a k x h. absurd (let n : None ≡ Some a = k in cc); lifted = omega arith; stored = omega arith };
       actors = λ i a k. absurd (let n : None ≡ Some a = k in cc);
     }
 

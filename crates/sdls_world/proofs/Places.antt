@@ -1,5 +1,5 @@
 -- Lists by place, sums over them, and lists of pairs.
-use Rattle.std.proofs.Common.{◌≡◌, ◌≢◌, ◌⊎◌, ℕ, zero, suc, ◌+◌, ◌-◌, ◌<◌, ◌≤◌, eqb, true, false, Bool, ◌&&◌, List, [], ◌∷◌, ◌++◌, map, set, length, get_or, get_or-set_same, get_or-set_other, sym, refl, ap, ◌∙◌, subst, inl, inr, ⊎_elim, arith, Some, None, Option, slice_get, if◌then◌else◌, ◌==◌, eq-eqb}
+use Rattle.std.proofs.Common.{◌≡◌, ◌≢◌, ◌⊎◌, ℕ, zero, suc, ◌+◌, ◌<◌, ◌≤◌, eqb, true, false, Bool, ◌&&◌, List, [], ◌∷◌, ◌++◌, map, set, length, get_or, get_or-set_same, get_or-set_other, sym, refl, ap, ◌∙◌, subst, inl, inr, ⊎_elim, arith, Some, None, Option, slice_get, if◌then◌else◌, eq-eqb}
 use Rattle.std.proofs.lemmas.Bool.Decides.{nat_tests}
 use mathlib.Core.Logic.{dite}
 use native.Mathlib.Decide.{ℕ_discrete}
@@ -118,11 +118,12 @@ mapped f (x ∷ xs) (y ∷ ys) l h =
 pub mapped_more : {X : Type 0} (f : X → X) (xs ys : List X) (i : ℕ) (y : X) → length ys ≡ length xs → i < length xs → ((d : X) → y ≡ f (get_or ys i d))
     → ((j : ℕ) (d : X) → j < i → get_or ys j d ≡ f (get_or xs j d)) → ((j : ℕ) (d : X) → i ≤ j → get_or ys j d ≡ get_or xs j d)
     → ((j : ℕ) (d : X) → j < i + 1 → get_or (set ys i y) j d ≡ f (get_or xs j d)) × ((j : ℕ) (d : X) → i + 1 ≤ j → get_or (set ys i y) j d ≡ get_or xs j d)
-mapped_more f xs ys i y l b is done rest =
-    ((λ j d c. dite (ℕ_discrete j i)
-        (λ e. rw e (get_or-set_same ys i y d (omega arith) ∙ (is d ∙ ap f (rest i d (omega arith)))))
-        (λ n. get_or-set_other ys i j y d n ∙ done j d (omega arith))),
-      (λ j d c. get_or-set_other ys i j y d (λ e. omega arith) ∙ rest j d (omega arith)))
+mapped_more f xs ys i y l b is done rest = (
+  (λ j d c. dite (ℕ_discrete j i)
+      (λ e. rw e (get_or-set_same ys i y d (omega arith) ∙ (is d ∙ ap f (rest i d (omega arith)))))
+      (λ n. get_or-set_other ys i j y d n ∙ done j d (omega arith))),
+  (λ j d c. get_or-set_other ys i j y d (λ e. omega arith) ∙ rest j d (omega arith)),
+)
 
 -- a place that was found is in the list
 pub place_below : {X : Type 0} (xs : List X) (i : ℕ) (x : X) → slice_get xs i ≡ Some x → i < length xs

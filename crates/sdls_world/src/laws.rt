@@ -9,12 +9,10 @@ ghost use Rattle.sdls_world.specs.Kept.{IsKept, times};
 pub fn kept_always()
     ensures kept { (w : Core) (steps : List Step) → IsKept w → IsKept (after_all w steps) }
     ensures beginning { (keys : List (ℕ × ℕ)) → IsKept (beginning keys) }
-{
-}
+{}
 
 /// Law: in all lives together no pair of row and number is used twice.
 #[tactic(auto, using(crate::proofs::Moments::used_differ))]
 pub fn used_once()
     ensures { (keys : List (ℕ × ℕ)) (steps : List Step) (row x : ℕ) → row < length keys → times row x (after_all (beginning keys) steps).used ≤ 1 }
-{
-}
+{}

@@ -9,7 +9,11 @@ const ACTOR: u64 = 7;
 fn reserve(world: &mut World, key: KeyId, mark: u64) -> Option<()> {
     let steps = [
         Step::Take { actor: ACTOR },
-        Step::Write { actor: ACTOR, key, mark },
+        Step::Write {
+            actor: ACTOR,
+            key,
+            mark,
+        },
         Step::Sync { actor: ACTOR },
         Step::Lift { actor: ACTOR, key },
         Step::Give { actor: ACTOR },
@@ -62,7 +66,10 @@ fn numbers_go_on_at_the_mark_after_a_crash(rt: HostRuntime) -> Result<(), Fail> 
     world.step(&Step::Crash)?;
     reserve(&mut world, key, 9).ok_or("memory")?;
     use_one(&mut world, key).ok_or("memory")?;
-    assert_eq!(rt; world.used(), [(0, 1), (0, 2), (0, 3), (0, 4), (0, 5)].as_slice());
+    assert_eq!(rt;
+        world.used(),
+        [(0, 1), (0, 2), (0, 3), (0, 4), (0, 5)].as_slice()
+    );
     let [first] = world.keys() else {
         panic!(rt; "there is one key")
     };

@@ -16,6 +16,6 @@ returns-clause-apart g c row x below =
     let mine = c.args.worker.now.seat.me.0.numbers.drawn in
     let its = c.args.other.seat.me.0.numbers.drawn in
     let drawn : c.join_seat.new.seat.me.0.numbers.drawn ≡ mine ++ its =
-      ap (λ m. m.0.numbers.drawn) c.join_seat.ensures.2 ∙ ap (λ s. mine ++ s.me.0.numbers.drawn) c.into_seat-seat.ensures in
+    ap (λ m. m.0.numbers.drawn) c.join_seat.ensures.2 ∙ ap (λ s. mine ++ s.me.0.numbers.drawn) c.into_seat-seat.ensures in
     let once : times row x (mine ++ its) ≤ 1 = subst (λ (z : List (ℕ × ℕ)). times row x z ≤ 1) drawn (c.look.ensures.apart row x below) in
     omega (arith, times-append row x mine its)

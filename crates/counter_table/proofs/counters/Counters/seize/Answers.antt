@@ -1,4 +1,4 @@
-use Rattle.std.proofs.Common.{rules, ℕ, ◌<◌, ◌≡◌, subst, sym, ap, ◌∙◌, true}
+use Rattle.std.proofs.Common.{rules, ℕ, ◌<◌, ◌≡◌, subst, sym, ap, ◌∙◌}
 use Rattle.atomic_table.specs.Table.{Allows}
 use Rattle.counter_table.specs.Rule.{IsKept}
 use Rattle.counter_table.specs.Play.{takes}
@@ -12,6 +12,9 @@ swap-requires g c =
     let table = c.args.self.now.table.shared in
     let seat = c.loop.seat in
     let rows : table.key ≡ g.T.Told.number = sized.2 ∙ (sym c.requires.rows.0 ∙ c.requires.rows.1) in
-    let told = g.B.Counted.told in
-    (search rules, search rules, subst (λ (k : ℕ). Allows (IsKept told table.key) table.table_id.slots seat.id seat.me 0 (λ _. 2) (takes told k seat.me)) rows
-      (take_allows _ _ _ _ seat.me (subst (λ (k : ℕ). 0 < k) (sym (ap (λ m. m.0.numbers.shares) same)) c.requires.alive) (ap (λ m. m.0.turn.filled) same ∙ c.requires.filled)))
+    let told = g.B.Counted.told in (
+      search rules,
+      search rules,
+      subst (λ (k : ℕ). Allows (IsKept told table.key) table.table_id.slots seat.id seat.me 0 (λ _. 2) (takes told k seat.me)) rows
+          (take_allows _ _ _ _ seat.me (subst (λ (k : ℕ). 0 < k) (sym (ap (λ m. m.0.numbers.shares) same)) c.requires.alive) (ap (λ m. m.0.turn.filled) same ∙ c.requires.filled)),
+    )

@@ -1,4 +1,4 @@
-use Rattle.std.proofs.Common.{◌≡◌, ℕ, ◌<◌, eqb, true, false, Some, None, List, ap, ◌∙◌, sym, length, slice_get, subst, arith, eq-eqb, ne_eqb}
+use Rattle.std.proofs.Common.{◌≡◌, ◌<◌, eqb, true, Some, None, List, ap, ◌∙◌, sym, length, slice_get, subst, arith, eq-eqb, ne_eqb}
 use Rattle.sdls_world.specs.Core.{Doer, doer_of}
 use Rattle.sdls_world.proofs.Places.{found_first, not_found, place_there, more_places}
 use Rattle.sdls_world.proofs.world.World.actor.Goals as goal
@@ -20,7 +20,7 @@ returns-then-id c =
 pub loop-place-preserved : goal.loop-place-preserved
 loop-place-preserved c =
     more_places (λ (a : Doer). eqb a.id c.args.id) c.deref-actor-items.result.now c.loop-place.place c.actor-item.result (omega arith) c.actor-item.is
-        (ne_eqb _ _ (λ e. c.if-id.false (c.id.ensures ∙ e))) c.loop-place.invariant
+    (ne_eqb _ _ (λ e. c.if-id.false (c.id.ensures ∙ e))) c.loop-place.invariant
 
 pub returns : goal.returns
 returns c =

@@ -1,7 +1,6 @@
-use Rattle.std.proofs.Common.{rules, ◌≡◌, ℕ, ◌+◌, ◌<◌, ◌≤◌, max, true, false, Some, List, ◌∷◌, [], ◌++◌, ap, ◌∙◌, sym, length, set, get_or, arith}
-use Rattle.sdls_base.specs.KeyId.{end_of}
+use Rattle.std.proofs.Common.{rules, ◌≡◌, ◌+◌, ◌<◌, List, ap, ◌∙◌, sym, length, set, get_or, arith}
 use Rattle.sdls_world.specs.declared.key.Key.{Key}
-use Rattle.sdls_world.specs.Core.{Core, Doer, holds_turn}
+use Rattle.sdls_world.specs.Core.{Core}
 use Rattle.sdls_world.proofs.Answering.{draw_is}
 use Rattle.sdls_world.proofs.world.World.draw.Goals as goal
 
@@ -23,4 +22,4 @@ returns-clause-ok c =
     let moved = ap (λ (z : Core). let r : Core = record z { keys = set z.keys row (record key { next = next }); actors = set z.actors place a' } in r) c.self.view_is in
     let next_is : next ≡ key.next + 1 = search rules in
     moved ∙ draw_is core c.args.actor place c.in-Some.found.now b c.in-Some.ensures.found c.in-Some.ensures.there.1 reached
-        row next key a' (sym c.armed.ensures ∙ c.in-Some-armed.is) (omega arith) key_is next_is c.in_ok-draw.ensures.ok
+    row next key a' (sym c.armed.ensures ∙ c.in-Some-armed.is) (omega arith) key_is next_is c.in_ok-draw.ensures.ok

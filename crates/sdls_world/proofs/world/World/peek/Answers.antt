@@ -1,7 +1,6 @@
-use Rattle.std.proofs.Common.{rules, ◌≡◌, ℕ, ◌+◌, ◌<◌, ◌≤◌, max, true, false, Some, List, ◌∷◌, [], ◌++◌, ap, ◌∙◌, sym, length, set, get_or, arith}
-use Rattle.sdls_base.specs.KeyId.{end_of}
+use Rattle.std.proofs.Common.{rules, ◌≡◌, ◌<◌, List, ap, ◌∙◌, sym, length, set, get_or, arith}
 use Rattle.sdls_world.specs.declared.key.Key.{Key}
-use Rattle.sdls_world.specs.Core.{Core, Doer, holds_turn}
+use Rattle.sdls_world.specs.Core.{Core}
 use Rattle.sdls_world.proofs.Answering.{peek_is}
 use Rattle.sdls_world.proofs.world.World.peek.Goals as goal
 
@@ -23,4 +22,4 @@ returns-clause-ok c =
     let moved = ap (λ (z : Core). let r : Core = record z { actors = set z.actors place a' } in r) c.self.view_is in
     let below : number < key.limit = omega arith in
     moved ∙ peek_is core c.args.actor place c.in-Some.found.now b c.in-Some.ensures.found c.in-Some.ensures.there.1 reached
-        (row, number) key a' (sym c.last.ensures ∙ c.in-Some-last.is) (sym c.is_funded.ensures ∙ c.if-is_funded.false) (omega arith) key_is below c.in_ok-fund.ensures.ok
+    (row, number) key a' (sym c.last.ensures ∙ c.in-Some-last.is) (sym c.is_funded.ensures ∙ c.if-is_funded.false) (omega arith) key_is below c.in_ok-fund.ensures.ok

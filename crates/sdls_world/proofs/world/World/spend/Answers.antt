@@ -1,7 +1,5 @@
-use Rattle.std.proofs.Common.{rules, ◌≡◌, ℕ, ◌+◌, ◌<◌, ◌≤◌, max, true, false, Some, List, ◌∷◌, [], ◌++◌, ap, ◌∙◌, sym, length, set, get_or, arith}
-use Rattle.sdls_base.specs.KeyId.{end_of}
-use Rattle.sdls_world.specs.declared.key.Key.{Key}
-use Rattle.sdls_world.specs.Core.{Core, Doer, holds_turn}
+use Rattle.std.proofs.Common.{◌≡◌, ℕ, List, ◌∷◌, [], ◌++◌, ap, ◌∙◌, sym, set, get_or}
+use Rattle.sdls_world.specs.Core.{Core}
 use Rattle.sdls_world.proofs.Answering.{spend_is}
 use Rattle.sdls_world.proofs.world.World.spend.Goals as goal
 
@@ -18,4 +16,4 @@ returns-clause-ok c =
     let used : c.push_reserved.new.self.items ≡ c.self.inside.used.items ++ pair ∷ [] = c.push_reserved.ensures.items ∙ ap (λ xs. xs ++ pair ∷ []) c.in_ok-reserve.ensures.items in
     let grown = ap (λ (u : List (ℕ × ℕ)). let r : Core = record { keys = c.self.inside.keys.items; actors = set c.self.inside.actors.items place a'; holder = c.self.inside.holder; epoch = c.self.inside.epoch; used = u } in r) used in
     grown ∙ (moved ∙ spend_is core c.args.actor place c.in-Some.found.now b c.in-Some.ensures.found c.in-Some.ensures.there.1 reached
-        pair a' (sym c.last.ensures ∙ c.in-Some-last.is) (sym c.is_funded.ensures ∙ c.if-not-is_funded.false) c.in_ok-spend.ensures.ok)
+    pair a' (sym c.last.ensures ∙ c.in-Some-last.is) (sym c.is_funded.ensures ∙ c.if-not-is_funded.false) c.in_ok-spend.ensures.ok)
