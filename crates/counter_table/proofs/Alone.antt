@@ -1,5 +1,5 @@
 -- What a worker that has all shares knows, since all other workers ended.
-use Rattle.std.proofs.Common.{◌≡◌, ◌≢◌, ◌⊎◌, ℕ, zero, suc, ◌+◌, ◌<◌, ◌≤◌, max, true, false, List, [], ◌∷◌, ◌++◌, get_or, length, map, sym, refl, ap, ◌∙◌, subst, inl, inr, ⊎_elim, le_trans, arith, length-append, Option}
+use Rattle.std.proofs.Common.{◌≡◌, ◌≢◌, ℕ, zero, suc, ◌<◌, ◌≤◌, true, false, List, [], ◌∷◌, ◌++◌, get_or, length, map, sym, refl, ap, ◌∙◌, inl, inr, ⊎_elim, le_trans, arith, length-append, Option}
 use Rattle.std.proofs.lemmas.Bool.Decides.{nat_tests}
 use mathlib.Core.Option.{some, some-injective, some-ne-none}
 use mathlib.Core.Logic.{dite}
@@ -14,7 +14,7 @@ use Rattle.counter_table.specs.declared.view.Turn.{Turn}
 use Rattle.counter_table.specs.declared.view.View.{View}
 use Rattle.counter_table.specs.Numbers.{times, count_of, amount, top, no_numbers}
 use Rattle.counter_table.specs.Turn.{stands, no_turn}
-use Rattle.counter_table.specs.Rule.{total, greatest, one_if, once_below, next_at, limit_at, KnowsBook, IsAtHome, IsKept}
+use Rattle.counter_table.specs.Rule.{total, greatest, one_if, once_below, next_at, KnowsBook, IsAtHome, IsKept}
 use Rattle.counter_table.specs.Play.{IsCovered}
 use Rattle.counter_table.specs.Whole.{RowStands, IsWhole}
 use Rattle.counter_table.proofs.Sums.{total_two, total_only, greatest_least}

@@ -1,29 +1,23 @@
 -- The counters at their beginning, and at their end.
-use Rattle.std.proofs.Common.{◌≡◌, ◌≢◌, ◌⊎◌, ℕ, zero, suc, ◌+◌, ◌-◌, ◌*◌, ◌<◌, ◌≤◌, max, true, false, List, [], ◌∷◌, ◌++◌, set, get_or, length, map, replicate, sym, refl, ap, ◌∙◌, subst, inl, inr, ⊎_elim, arith, length-set, length-append, get_or-set_same, get_or-set_other, Bool, Some, None, Option}
+use Rattle.std.proofs.Common.{◌≡◌, ℕ, zero, suc, ◌+◌, ◌*◌, ◌<◌, true, false, List, [], ◌∷◌, ◌++◌, set, get_or, length, replicate, sym, refl, ap, ◌∙◌, subst, inl, inr, arith, length-set, get_or-set_same, get_or-set_other, Some, None, Option}
 use Rattle.std.proofs.lemmas.List.{get_or-replicate, length-replicate}
 use Rattle.std.proofs.lemmas.Bool.Decides.{nat_tests}
-use mathlib.Core.Option as slot
 use mathlib.Core.Option.{some, some-injective, some-ne-none}
 use mathlib.Core.Logic.{dite}
 use native.Mathlib.Decide.{ℕ_discrete}
 use lib.ListN.{get_elem?}
 use Rattle.atomic_table.specs.Table.{State, opening, Final, Seen}
-use Rattle.atomic_table.proofs.Lists.{at_map}
 use Rattle.counter_table.specs.declared.view.Known.{Known}
-use Rattle.counter_table.specs.declared.view.Numbers.{Numbers}
-use Rattle.counter_table.specs.declared.view.Turn.{Turn}
 use Rattle.counter_table.specs.declared.view.View.{View}
-use Rattle.counter_table.specs.Known.{mark_of, unknown}
-use Rattle.counter_table.specs.Numbers.{times, count_of, amount, top, no_numbers, first_numbers}
-use Rattle.counter_table.specs.Turn.{stands, no_turn}
+use Rattle.counter_table.specs.Known.{unknown}
+use Rattle.counter_table.specs.Numbers.{first_numbers}
+use Rattle.counter_table.specs.Turn.{no_turn}
 use Rattle.counter_table.specs.Rule.{total, greatest, one_if, once_below, next_at, limit_at, SeatFits, RowFits, IsSane, NumbersFit, TurnFits, IsKept, IsAtHome}
-use Rattle.counter_table.specs.Play.{first_view, Follows}
+use Rattle.counter_table.specs.Play.{first_view}
 use Rattle.counter_table.specs.Close.{Closes}
-use Rattle.counter_table.proofs.Sums.{total_two, total_only, greatest_least, each_snoc}
-use Rattle.counter_table.proofs.Rows.{once_below_more}
-use Rattle.counter_table.proofs.Knowing.{append-nil, earlier_length, ended_knows}
-use Rattle.counter_table.proofs.Booking.{false≢true, is_false, is_zero, home_free}
-use Rattle.counter_table.proofs.Keeping.{numbers_of, turns_of, at_numbers, at_turn}
+use Rattle.counter_table.proofs.Sums.{each_snoc}
+use Rattle.counter_table.proofs.Knowing.{ended_knows}
+use Rattle.counter_table.proofs.Booking.{false≢true}
 use Rattle.counter_table.proofs.Alone.{knows, covers, row_stands, made_only, whole, home}
 
 -- one worker

@@ -1,5 +1,5 @@
 -- The steps on the turn, the epoch, the book and the shares keep the whole rule.
-use Rattle.std.proofs.Common.{◌≡◌, ◌≢◌, ◌⊎◌, ℕ, zero, suc, ◌+◌, ◌-◌, ◌*◌, ◌<◌, ◌≤◌, ◌%◌, ◌^◌, max, true, false, List, [], ◌∷◌, ◌++◌, set, get_or, length, map, sym, refl, ap, ◌∙◌, subst, inl, inr, ⊎_elim, arith, length-set, get_or-set_same, get_or-set_other, Bool, Some, None, Option}
+use Rattle.std.proofs.Common.{◌≡◌, ◌≢◌, ℕ, ◌+◌, ◌*◌, ◌<◌, ◌≤◌, ◌%◌, ◌^◌, max, true, false, List, [], ◌∷◌, ◌++◌, set, get_or, length, map, sym, refl, ap, ◌∙◌, subst, ⊎_elim, arith, length-set, get_or-set_same, get_or-set_other, Bool, Some, None, Option}
 use mathlib.Core.Option as slot
 use mathlib.Core.Option.{some, some-injective, some-ne-none}
 use mathlib.Core.Logic.{dite}
@@ -13,15 +13,14 @@ use Rattle.counter_table.specs.declared.view.Known.{Known}
 use Rattle.counter_table.specs.declared.view.Numbers.{Numbers}
 use Rattle.counter_table.specs.declared.view.Turn.{Turn}
 use Rattle.counter_table.specs.declared.view.View.{View}
-use Rattle.counter_table.specs.Known.{mark_of, Earlier, KeepsMarks, MayGive, MayFill, unknown}
+use Rattle.counter_table.specs.Known.{mark_of, Earlier, MayGive, MayFill, unknown}
 use Rattle.counter_table.specs.Numbers.{keeper, newcomer, joined, no_numbers, lifting}
-use Rattle.counter_table.specs.Turn.{beginner, merged, no_turn, taking, giving, filling, learning, seeing, turning, epoch_seen}
-use Rattle.counter_table.specs.Rule.{total, next_at, limit_at, RowFits, NumbersFit, TurnFits, IsKept}
-use Rattle.counter_table.specs.Play.{no_view, takes, Took, Follows, IsCovered, gives, empties, fills, lifts, sees, turns, looks}
-use Rattle.counter_table.proofs.Sums.{total_two}
-use Rattle.counter_table.proofs.Fitting.{next_apart, limit_apart, limit_set, drawn_once, lift_fits as numbers_lift}
+use Rattle.counter_table.specs.Turn.{beginner, merged, no_turn, taking, giving, filling, learning, seeing, turning}
+use Rattle.counter_table.specs.Rule.{next_at, limit_at, NumbersFit, TurnFits, IsKept}
+use Rattle.counter_table.specs.Play.{no_view, takes, IsCovered, gives, empties, fills, lifts, sees, turns, looks}
+use Rattle.counter_table.proofs.Fitting.{limit_apart, limit_set, drawn_once, lift_fits as numbers_lift}
 use Rattle.counter_table.proofs.Sharing.{cut_fits, met_fits}
-use Rattle.counter_table.proofs.Booking.{false≢true, home_free, word_taken, out_with, holder_knows, see_fits, take_fits, give_fits, lift_fits, turn_fits, empty_fits, fill_fits, free_of, beginner_fits, united_fits}
+use Rattle.counter_table.proofs.Booking.{home_free, word_taken, holder_knows, see_fits, take_fits, give_fits, lift_fits, turn_fits, empty_fits, fill_fits, free_of, beginner_fits, united_fits}
 use Rattle.counter_table.proofs.Alone.{covers, alone, is_whole}
 use Rattle.counter_table.proofs.Keeping.{numbers_of, turns_of, words_fit, at_numbers, at_turn, both_parts}
 

@@ -1,9 +1,7 @@
 -- What a worker's list of slots is.
 use Rattle.std.proofs.Common.{◌≡◌, ℕ, eqb, true, false, Bool, ◌&&◌, List, [], ◌∷◌, sym, refl, ap, ◌∙◌, subst, Some, None, Option, is_none}
 use Rattle.std.proofs.lemmas.Bool.Decides.{nat_tests}
-use Rattle.atomic_table.specs.Table.{Me}
-use Rattle.counter_table.specs.Turn.{is_emptied, is_empty, slots_fit}
-use Rattle.counter_table.specs.declared.view.View.{View}
+use Rattle.counter_table.specs.Turn.{slots_fit}
 
 module _ {B : Type 0} where
   pub no_slots : (h : Bool) (slots : List (ℕ × Option B)) → h ≡ false → slots_fit h slots ≡ true → slots ≡ []

@@ -1,8 +1,7 @@
 -- What is left once all workers were joined and the counters are closed.
-use Rattle.std.specs.Prelude.{◌≡◌, ℕ, ◌<◌, ◌≤◌, List, length, slice_index}
+use Rattle.std.specs.Prelude.{◌≡◌, ℕ, ◌<◌, List, length, slice_index}
 use Rattle.counter_table.specs.declared.view.Known.{Known}
 use Rattle.counter_table.specs.declared.view.View.{View}
-use Rattle.counter_table.specs.Known.{mark_of}
 use Rattle.counter_table.specs.Turn.{stands}
 use Rattle.counter_table.specs.Rule.{once_below}
 use Rattle.counter_table.specs.Play.{Follows, IsCovered}

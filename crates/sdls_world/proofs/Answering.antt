@@ -1,11 +1,10 @@
 -- What each step of the definition is, where it is open.
-use Rattle.std.proofs.Common.{◌≡◌, ◌⊎◌, ℕ, ◌+◌, ◌<◌, ◌≤◌, max, eqb, ltb, leb, true, false, Bool, ◌&&◌, List, [], ◌∷◌, ◌++◌, set, length, get_or, sym, refl, ap, ◌∙◌, subst, arith, Some, None, Option, slice_get, if◌then◌else◌}
+use Rattle.std.proofs.Common.{◌≡◌, ℕ, ◌+◌, ◌<◌, ◌≤◌, max, ltb, leb, true, false, [], ◌∷◌, ◌++◌, set, length, get_or, sym, refl, ap, ◌∙◌, arith, Some, slice_get}
 use Rattle.std.proofs.lemmas.Bool.Decides.{nat_tests}
 use Rattle.sdls_base.specs.KeyId.{end_of}
 use Rattle.sdls_world.specs.declared.key.Key.{Key}
-use Rattle.sdls_world.specs.declared.step.Step.{Step}
-use Rattle.sdls_world.specs.declared.step.Step.TheVariants.{Arm, Draw, Peek, Spend, See, Take, Give, Write, Sync, Lift, RaiseNext, Turn, Crash}
-use Rattle.sdls_world.specs.Core.{Doer, Core, key_of, doer_of, holds_turn, drawing, funding, spending, arm_found, peek_step, after}
+use Rattle.sdls_world.specs.declared.step.Step.TheVariants.{Arm, Draw, Peek, Spend, Write, Lift, RaiseNext}
+use Rattle.sdls_world.specs.Core.{Doer, Core, key_of, doer_of, holds_turn, drawing, funding, spending, peek_step, after}
 use Rattle.sdls_world.proofs.Places.{place_value, place_there}
 
 lt_test : (m n : ℕ) → m < n → ltb m n ≡ true

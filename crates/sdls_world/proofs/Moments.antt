@@ -1,11 +1,11 @@
 -- Each step keeps what holds of the pure core.
-use Rattle.std.proofs.Common.{◌≡◌, ◌≢◌, ◌⊎◌, ℕ, ◌+◌, ◌-◌, ◌<◌, ◌≤◌, max, eqb, ltb, leb, length, true, false, Bool, ◌&&◌, List, [], ◌∷◌, ◌++◌, map, set, length-set, get_or, take, Result, Ok, Err, OnOk, OnErr, zero, suc, sym, refl, ap, ◌∙◌, subst, inl, inr, ⊎_elim, le_trans, arith, Some, None, Option, slice_get, if◌then◌else◌, nat_lt, nat_le}
+use Rattle.std.proofs.Common.{◌≡◌, ◌≢◌, ℕ, ◌+◌, ◌<◌, ◌≤◌, max, eqb, ltb, leb, length, true, false, Bool, ◌&&◌, List, [], ◌∷◌, ◌++◌, map, set, length-set, get_or, take, Result, Ok, Err, OnOk, OnErr, zero, suc, sym, refl, ap, ◌∙◌, subst, ⊎_elim, le_trans, arith, Some, None, Option, slice_get, if◌then◌else◌, nat_lt}
 use Rattle.std.proofs.lemmas.Bool.Decides.{nat_tests}
 use Rattle.sdls_base.specs.KeyId.{end_of}
 use Rattle.sdls_world.specs.declared.key.Key.{Key}
 use Rattle.sdls_world.specs.declared.step.Step.{Step}
 use Rattle.sdls_world.specs.declared.step.Step.TheVariants.{Arm, Draw, Peek, Spend, See, Take, Give, Write, Sync, Lift, RaiseNext, Turn, Crash}
-use Rattle.sdls_world.specs.Core.{Doer, idle, Core, key_of, doer_of, on_found, holds_turn, drawing, funding, spending, arm_found, arm_step, draw_at, draw_step, peek_at, peek_step, spend_step, take_step, write_step, lift_step, raise_step, synced, restarted, if_holder, after, after_all, begun, beginning}
+use Rattle.sdls_world.specs.Core.{Doer, idle, Core, key_of, doer_of, on_found, holds_turn, drawing, funding, spending, arm_found, arm_step, draw_at, draw_step, peek_at, peek_step, spend_step, take_step, write_step, lift_step, raise_step, synced, restarted, after, after_all, begun, beginning}
 use Rattle.sdls_world.specs.Kept.{one_if, times, total, once_below, is_last, unused, KeyKept, DoerKept, IsKept}
 use Rattle.sdls_world.proofs.Places.{get_set, get_snoc, get_map, total_set, total_at, total-snoc, found_at, times-append, once_below_one, once_below_more, once_below_last, once_below_yes, is_pair, same_pair, some_same, length-mapped}
 

@@ -1,4 +1,4 @@
-use Rattle.std.proofs.Common.{rules, ℕ, arith, ap, length, length-append, get_or, ◌++◌, ◌∷◌, [], ◌∙◌, ◌≡◌, ◌<◌, ◌+◌}
+use Rattle.std.proofs.Common.{ℕ, arith, ap, length-append, get_or, ◌∷◌, [], ◌∙◌, ◌≡◌}
 use Rattle.std.specs.Mem.Slots.{slots_items}
 use Rattle.counter_table.specs.Rule.{next_at}
 use Rattle.counter_table.proofs.Ending.{next_value, value_there}

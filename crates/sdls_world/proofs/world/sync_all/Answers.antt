@@ -1,4 +1,4 @@
-use Rattle.std.proofs.Common.{◌≡◌, ℕ, ◌<◌, ap, ◌∙◌, sym, length, length-set, get_or, arith}
+use Rattle.std.proofs.Common.{◌<◌, ap, ◌∙◌, sym, length, length-set, arith}
 use Rattle.sdls_world.specs.declared.key.Key.{Key}
 use Rattle.sdls_world.specs.Core.{synced}
 use Rattle.sdls_world.proofs.Places.{mapped, mapped_more, place_there, place_value}

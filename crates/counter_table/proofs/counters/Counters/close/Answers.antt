@@ -1,9 +1,6 @@
-use Rattle.std.proofs.Common.{rules, ◌≡◌, ◌<◌, ℕ, ◌∙◌, sym, ap, subst, Some, None, Option}
+use Rattle.std.proofs.Common.{◌≡◌, ◌<◌, ℕ, ◌∙◌, sym, ap, subst, Some}
 use mathlib.Core.Option.{some-injective}
-use Rattle.atomic_table.specs.Table.{Final, Seen}
-use Rattle.counter_table.specs.Rule.{IsKept}
 use Rattle.counter_table.specs.Close.{Closes}
-use Rattle.std.specs.Mem.Slots.{slots_items}
 use Rattle.counter_table.proofs.Ending.{closes}
 use Rattle.counter_table.proofs.counters.Counters.close.Goals as goal
 

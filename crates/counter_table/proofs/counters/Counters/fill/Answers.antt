@@ -1,4 +1,4 @@
-use Rattle.std.proofs.Common.{rules, ap, ◌∙◌, sym, subst, ◌≡◌, ℕ, false}
+use Rattle.std.proofs.Common.{rules, ap, ◌∙◌}
 use Rattle.counter_table.specs.declared.view.View.{View}
 use Rattle.counter_table.proofs.Slots.{no_slots}
 use Rattle.counter_table.proofs.Holding.{empties_at, fills_at}

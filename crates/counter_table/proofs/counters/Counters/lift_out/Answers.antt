@@ -1,4 +1,4 @@
-use Rattle.std.proofs.Common.{rules, ◌≡◌, ◌∷◌, [], Some, ℕ, List, Option, ap, ◌∙◌, sym}
+use Rattle.std.proofs.Common.{rules, ◌∷◌, Some, ap, ◌∙◌, sym}
 use Rattle.atomic_table.specs.Table.{rest}
 use Rattle.counter_table.proofs.counters.Counters.lift_out.Goals as goal
 

@@ -1,4 +1,4 @@
-use Rattle.std.proofs.Common.{rules, ℕ, ◌≡◌, ◌<◌, ◌≤◌, ◌∙◌, ap, arith, max, subst, sym, get_or}
+use Rattle.std.proofs.Common.{rules, ◌≡◌, ◌<◌, ◌≤◌, ◌∙◌, ap, arith, subst, sym, get_or}
 use Rattle.counter_table.specs.Rule.{limit_at}
 use Rattle.counter_table.specs.Known.{mark_of}
 use Rattle.counter_table.proofs.Holding.{lift_allows}

@@ -1,4 +1,4 @@
-use Rattle.std.proofs.Common.{rules, ℕ, ◌≡◌, ◌<◌, ◌≤◌, ◌∙◌, ap, arith, max, subst, sym}
+use Rattle.std.proofs.Common.{rules, ◌≡◌, ◌<◌, ◌≤◌, ◌∙◌, ap, arith}
 use Rattle.counter_table.specs.Rule.{next_at}
 use Rattle.counter_table.proofs.Keeping.{raise_allows}
 use Rattle.counter_table.proofs.counters.Counters.max_to_raise.Goals as goal

@@ -1,4 +1,4 @@
-use Rattle.std.proofs.Common.{rules, ◌∙◌}
+use Rattle.std.proofs.Common.{◌∙◌}
 use Rattle.counter_table.proofs.Ending.{opens}
 use Rattle.counter_table.proofs.counters.Counters.new.Goals as goal
 

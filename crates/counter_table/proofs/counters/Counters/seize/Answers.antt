@@ -1,4 +1,4 @@
-use Rattle.std.proofs.Common.{rules, ℕ, ◌<◌, ◌≡◌, subst, sym, ap, ◌∙◌, true}
+use Rattle.std.proofs.Common.{rules, ℕ, ◌<◌, ◌≡◌, subst, sym, ap, ◌∙◌}
 use Rattle.atomic_table.specs.Table.{Allows}
 use Rattle.counter_table.specs.Rule.{IsKept}
 use Rattle.counter_table.specs.Play.{takes}

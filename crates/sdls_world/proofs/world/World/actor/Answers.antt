@@ -1,4 +1,4 @@
-use Rattle.std.proofs.Common.{◌≡◌, ℕ, ◌<◌, eqb, true, false, Some, None, List, ap, ◌∙◌, sym, length, slice_get, subst, arith, eq-eqb, ne_eqb}
+use Rattle.std.proofs.Common.{◌≡◌, ◌<◌, eqb, true, Some, None, List, ap, ◌∙◌, sym, length, slice_get, subst, arith, eq-eqb, ne_eqb}
 use Rattle.sdls_world.specs.Core.{Doer, doer_of}
 use Rattle.sdls_world.proofs.Places.{found_first, not_found, place_there, more_places}
 use Rattle.sdls_world.proofs.world.World.actor.Goals as goal

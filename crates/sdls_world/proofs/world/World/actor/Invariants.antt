@@ -1,5 +1,4 @@
 use Rattle.std.proofs.Common.{◌≡◌, ℕ, ◌<◌, eqb, false, get_or}
-use Rattle.sdls_world.specs.declared.key.Key.{Key}
 use Rattle.sdls_world.specs.Core.{Doer}
 use Rattle.sdls_world.proofs.world.World.actor.Given as goal
 

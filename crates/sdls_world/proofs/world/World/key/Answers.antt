@@ -1,4 +1,4 @@
-use Rattle.std.proofs.Common.{◌≡◌, ℕ, ◌<◌, eqb, true, false, Some, None, List, ap, ◌∙◌, sym, length, slice_get, subst, arith}
+use Rattle.std.proofs.Common.{◌≡◌, ◌<◌, eqb, true, Some, None, List, ap, ◌∙◌, sym, length, slice_get, subst, arith}
 use Rattle.sdls_world.specs.declared.key.Key.{Key}
 use Rattle.sdls_world.specs.Core.{key_of}
 use Rattle.sdls_world.proofs.Places.{found_first, not_found, place_there, more_places}

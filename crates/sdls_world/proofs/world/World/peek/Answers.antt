@@ -1,7 +1,6 @@
-use Rattle.std.proofs.Common.{rules, ◌≡◌, ℕ, ◌+◌, ◌<◌, ◌≤◌, max, true, false, Some, List, ◌∷◌, [], ◌++◌, ap, ◌∙◌, sym, length, set, get_or, arith}
-use Rattle.sdls_base.specs.KeyId.{end_of}
+use Rattle.std.proofs.Common.{rules, ◌≡◌, ◌<◌, List, ap, ◌∙◌, sym, length, set, get_or, arith}
 use Rattle.sdls_world.specs.declared.key.Key.{Key}
-use Rattle.sdls_world.specs.Core.{Core, Doer, holds_turn}
+use Rattle.sdls_world.specs.Core.{Core}
 use Rattle.sdls_world.proofs.Answering.{peek_is}
 use Rattle.sdls_world.proofs.world.World.peek.Goals as goal
 

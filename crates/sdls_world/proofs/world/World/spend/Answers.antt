@@ -1,7 +1,5 @@
-use Rattle.std.proofs.Common.{rules, ◌≡◌, ℕ, ◌+◌, ◌<◌, ◌≤◌, max, true, false, Some, List, ◌∷◌, [], ◌++◌, ap, ◌∙◌, sym, length, set, get_or, arith}
-use Rattle.sdls_base.specs.KeyId.{end_of}
-use Rattle.sdls_world.specs.declared.key.Key.{Key}
-use Rattle.sdls_world.specs.Core.{Core, Doer, holds_turn}
+use Rattle.std.proofs.Common.{◌≡◌, ℕ, List, ◌∷◌, [], ◌++◌, ap, ◌∙◌, sym, set, get_or}
+use Rattle.sdls_world.specs.Core.{Core}
 use Rattle.sdls_world.proofs.Answering.{spend_is}
 use Rattle.sdls_world.proofs.world.World.spend.Goals as goal
 
