@@ -33,7 +33,7 @@ impl Counted for NoBook {
 }
 
 /// Draws, and answers the worker with the last number that it drew.
-fn draw_many(counters: &Counters<NoBook>, mut worker: Worker<NoBook>) -> (Worker<NoBook>, u64)
+fn draw_many<B: Counted>(counters: &Counters<B>, mut worker: Worker<B>) -> (Worker<B>, u64)
     requires own { IsOf counters.now worker }
     requires row { 0 < rows_of counters.now }
     ensures own { IsOf counters.now result.0 }
@@ -48,12 +48,13 @@ fn draw_many(counters: &Counters<NoBook>, mut worker: Worker<NoBook>) -> (Worker
     (worker, last)
 }
 
-/// Draws on two threads, and answers the greater of the last numbers.
-fn draw_on_two<R: Threads + Sync>(
+/// Draws on two threads, which share the counters, over any book that a thread may be given. Answers
+/// the greater of the last numbers.
+fn draw_on_two<R: Threads + Sync, B: Counted + Send>(
     rt: &R,
-    counters: &Counters<NoBook>,
-    one: Worker<NoBook>,
-    two: Worker<NoBook>,
+    counters: &Counters<B>,
+    one: Worker<B>,
+    two: Worker<B>,
 ) -> u64
     requires own_one { IsOf counters.now one }
     requires own_two { IsOf counters.now two }

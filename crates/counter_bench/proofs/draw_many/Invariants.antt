@@ -2,4 +2,4 @@ use Rattle.counter_table.specs.Worker.{IsOf}
 use Rattle.counter_bench.proofs.draw_many.Given as goal
 
 abbrev pub invariant-loop : goal.invariant-loop
-invariant-loop l = IsOf l.counters l.worker
+invariant-loop g l = IsOf l.counters l.worker
