@@ -1,0 +1,2 @@
+//! The book of a unit.
+#![tactic(auto)]
