@@ -264,7 +264,12 @@ regates image octet opens half closed =
       same_form = ap (λ (k : ℕ). set new (slot_at k) OPEN) count ∙ set-set image (slot_at u) octet OPEN;
     }
 
-pub form_opens : (image : List ℕ) → image_fault image ≡ None → first_closed image < slot_count image → image_fault (opened_form image) ≡ None
+-- the image with its first closed slot opened
+pub record FormOpens (image : List ℕ) : Type 0 where
+  pub opens : image_fault (opened_form image) ≡ None
+  pub rests : IsAtRest (opened_form image)
+
+pub form_opens : (image : List ℕ) → image_fault image ≡ None → first_closed image < slot_count image → FormOpens image
 form_opens image opens room =
     let u = first_closed image in
     let passes : Passes image = passes_of image opens in
@@ -274,4 +279,27 @@ form_opens image opens room =
     let here : gate_at new u ≡ OPEN = get_or-set_same image (slot_at u) OPEN 0 (omega arith) in
     let grown : records new ≡ records image ++ body_at new u ∷ [] = is_opened image new (body_at new u) passes room change here refl in
     let count : first_closed new ≡ u + 1 = ap (λ (bodies : List (List ℕ)). length bodies) grown ∙ length-append (records image) (body_at new u ∷ []) in
-    of_passes new (still_passes image new passes change (omega arith))
+    let slots : slot_count new ≡ slot_count image = same_slots (slot_at u) SLOT_LENGTH image new change (omega arith) in
+    record {
+      opens = of_passes new (still_passes image new passes change (omega arith));
+      rests = λ there.
+          let low : u + 1 < slot_count image = omega arith in
+          let after : u < u + 1 = omega arith in
+          subst (λ (k : ℕ). gate_at new k ≡ CLOSED) (sym count)
+          (other_gate u (u + 1) image new change (omega arith) ∙ passes.quiet (u + 1) after low);
+    }
+
+-- what differs in a slot alone
+pub record KeepsPlan (old new : List ℕ) : Type 0 where
+  pub plan : plan_of new ≡ plan_of old
+  pub slots : slot_count new ≡ slot_count old
+
+pub keeps_plan : (i : ℕ) (old new : List ℕ) → image_fault old ≡ None → AllBut (slot_at i) SLOT_LENGTH old new → KeepsPlan old new
+keeps_plan i old new opens change = record {
+  plan = same_view i old new (passes_of old opens) change;
+  slots = same_slots (slot_at i) SLOT_LENGTH old new change (omega arith);
+}
+
+pub regated_keeps_plan : (image : List ℕ) (octet : ℕ) → image_fault image ≡ None → KeepsPlan image (regated image octet)
+regated_keeps_plan image octet opens =
+    keeps_plan (first_closed image) image (regated image octet) opens (set_in_slot (first_closed image) octet image)

@@ -2,10 +2,12 @@
 ghost use Rattle.std.specs.Prelude.{◌≡◌, ◌≢◌, ℕ, ◌<◌, ◌≤◌, List, length, None};
 ghost use Rattle.disk_journal.specs.Image.{plan_of, slot_count, records, first_closed, IsHalfOpen, IsAtRest, regated, opened_form};
 ghost use Rattle.disk_journal.specs.Fault.{image_fault};
+ghost use Rattle.disk_journal.specs.Slots.{slot_at};
+ghost use Rattle.disk_journal.specs.Changes.{AllBut};
 ghost use Rattle.disk_journal.specs.Initial.{initial_image};
 ghost use Rattle.disk_journal.specs.Journal.{IsJournalOf};
 
-use crate::layout::{LEAST_SLOTS, MOST_SLOTS, OPEN, PLAN_ROOM};
+use crate::layout::{LEAST_SLOTS, MOST_SLOTS, OPEN, PLAN_ROOM, SLOT_LENGTH};
 
 /// Law: the initial image opens, with its plan, its slots and no record, and is at rest.
 pub fn initial_image_opens()
@@ -21,5 +23,13 @@ pub fn regated_image_opens()
         → (image_fault (regated image octet) ≡ None) × (records (regated image octet) ≡ records image)
         × (opened_form (regated image octet) ≡ opened_form image) }
     ensures opened { (image : List ℕ) → image_fault image ≡ None → first_closed image < slot_count image
-        → image_fault (opened_form image) ≡ None }
+        → (image_fault (opened_form image) ≡ None) × IsAtRest (opened_form image) }
+    ensures plan { (image : List ℕ) (octet : ℕ) → image_fault image ≡ None → first_closed image < slot_count image
+        → (plan_of (regated image octet) ≡ plan_of image) × (slot_count (regated image octet) ≡ slot_count image) }
+{}
+
+/// Law: two images of which one opens, and that differ in a slot alone, have the same plan and the same number of slots.
+pub fn slots_keep_plan()
+    ensures { (old new : List ℕ) (i : ℕ) → image_fault old ≡ None → AllBut (slot_at i) SLOT_LENGTH old new
+        → (plan_of new ≡ plan_of old) × (slot_count new ≡ slot_count old) }
 {}
