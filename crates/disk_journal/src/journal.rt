@@ -1,5 +1,5 @@
 // The journal.
-ghost use Rattle.std.specs.Prelude.{◌≡◌, ℕ, ◌<◌, ◌≤◌, ◌↔◌, IsTrue, IfOk, OnOk, slice_get, List, length, take, [], ◌∷◌, ◌++◌};
+ghost use Rattle.std.specs.Prelude.{◌≡◌, ℕ, ◌+◌, ◌<◌, ◌≤◌, ◌↔◌, IsTrue, IfOk, OnOk, OnErr, slice_get, List, length, take, [], ◌∷◌, ◌++◌};
 ghost use Rattle.sdls_outside.specs.Disk.{Leaves};
 ghost use Rattle.disk_journal.specs.Image.{records, plan_of};
 ghost use Rattle.disk_journal.specs.Fault.{image_fault};
@@ -7,7 +7,7 @@ ghost use Rattle.disk_journal.specs.Journal.{JournalView, IsOpen, IsSettled, Has
 ghost use Rattle.disk_journal.specs.Changes.{EachImage, OnlySyncs, Grows, Regates};
 
 use crate::fault::JournalFault;
-use crate::layout::{BODY_LENGTH, HEADER_LENGTH, PLAN_ROOM, slot_offset};
+use crate::layout::{BODY_LENGTH, HEADER_LENGTH, MOST_SLOTS, PLAN_ROOM, slot_offset};
 use crate::opening::inspect_synced;
 use crate::storing::{close_gate, store_record};
 use sdls_outside::{Failed, Site};
@@ -25,13 +25,13 @@ pub struct Journal {
 impl Model for Journal {
     ghost use Rattle.std.specs.Prelude.{◌≤◌};
     ghost use Rattle.disk_journal.specs.Journal.{JournalView};
-    ghost use Rattle.disk_journal.specs.declared.layout.TheConstants.{PLAN_ROOM};
+    ghost use Rattle.disk_journal.specs.declared.layout.TheConstants.{PLAN_ROOM, MOST_SLOTS};
 
     ghost Value = { JournalView };
 
     ghost view = { λ journal. record { plan_length = journal.plan_length; slots = journal.slots; used = journal.used } };
 
-    ghost invariant = { λ journal. (journal.plan_length ≤ PLAN_ROOM) × (journal.used ≤ journal.slots) };
+    ghost invariant = { λ journal. (journal.plan_length ≤ PLAN_ROOM) × (journal.used ≤ journal.slots) × (journal.slots ≤ MOST_SLOTS) };
 }
 
 impl Journal {
@@ -125,6 +125,10 @@ impl Journal {
         ensures any_moment { IsTrue O.told → EachImage (O.trace site.old) (O.trace site.new)
             (Grows (O.trace site.old).now.image body.now) }
 
+        // After `Ok` one slot more is used, and else none.
+        ensures counted { OnOk result (self.new ≡ record self.old { used = self.old.used + 1 }) }
+        ensures not_counted { OnErr result (self.new ≡ self.old) }
+
         ensures full { (result ≡ Err (JournalFault.Full self.old.slots)) ↔ (self.old.used ≡ self.old.slots) }
         ensures unchanged { self.old.used ≡ self.old.slots → (self.new ≡ self.old) × (site.new ≡ site.old) }
         ensures fault { HasFault (O.faults site.old) (O.faults site.new)
@@ -144,14 +148,16 @@ impl Journal {
 
     /// How many slots hold records.
     pub fn used(&self) -> u32
-        ensures { result ≡ self.now.used }
+        ensures used { result ≡ self.now.used }
+        ensures within { result ≤ self.now.slots }
     {
         self.used
     }
 
     /// How many slots there are.
     pub fn slots(&self) -> u32
-        ensures { result ≡ self.now.slots }
+        ensures slots { result ≡ self.now.slots }
+        ensures most { result ≤ MOST_SLOTS }
     {
         self.slots
     }

@@ -1,1 +1,5 @@
 pub mod State
+pub mod Record
+pub mod Shows
+pub mod History
+pub mod Book

@@ -40,15 +40,20 @@ pub record State : Type 0 where
   pub keys : List KeyRow
   pub associations : List AssociationRow
 
--- the state that the lines of a plan say: its key, active, and its association, with that key, operational on channel 0
-abbrev pub initial : TelecommandPlan → State
-initial plan = record {
+-- The state of a unit with one telecommand channel: the plan's key, active, with this mark and this floor, and the plan's
+-- association, with that key, operational on channel 0.
+abbrev pub telecommand_state : TelecommandPlan → ℕ → ℕ → State
+telecommand_state plan mark floor = record {
   plan = plan;
   keys = (record { id = plan.key; state = Active; bytes = Some plan.key_octets; digest = sha256 plan.key_octets;
-      mark = plan.number; floor = 0 }) ∷ [];
+      mark = mark; floor = floor }) ∷ [];
   associations = (record { spi = plan.spi; direction = Send; suite = Cmac; state = Operational; key = Some plan.key;
       channels = 0 ∷ []; high = 0; width = 1 }) ∷ [];
 }
+
+-- the state that the lines of a plan say
+abbrev pub initial : TelecommandPlan → State
+initial plan = telecommand_state plan plan.number 0
 
 -- the first row of a key
 abbrev pub key_row : List KeyRow → ℕ → Option KeyRow
