@@ -1,2 +1,4 @@
 //! The book of a unit.
 #![tactic(auto)]
+
+mod record;
