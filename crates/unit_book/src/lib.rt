@@ -1,4 +1,8 @@
 //! The book of a unit.
 #![tactic(auto)]
 
+mod fault;
+mod opening;
 mod record;
+
+pub use fault::{BookFault, OpenFault};

@@ -1,0 +1,13 @@
+use Rattle.std.proofs.Common.{◌≡◌, ◌≤◌, IsTrue, take}
+use Rattle.disk_journal.specs.Image.{records}
+use Rattle.unit_book.specs.State.{telecommand_state, initial}
+use Rattle.unit_book.specs.Record.{LeadTo}
+use Rattle.unit_book.proofs.opening.read_records.Given as goal
+
+abbrev pub invariant-loop-index : goal.invariant-loop-index
+invariant-loop-index g l = record {
+  later : g.O.Site.faults l.initial.site ≤ g.O.Site.faults l.site;
+  same : IsTrue g.O.Site.told → g.O.Site.trace l.site ≡ g.O.Site.trace l.initial.site;
+  led : IsTrue g.O.Site.told → LeadTo (initial l.plan) (take l.index (records (g.O.Site.trace l.initial.site).now.image))
+      (telecommand_state l.plan l.marks.mark l.marks.floor);
+}
