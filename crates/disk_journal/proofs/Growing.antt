@@ -268,6 +268,7 @@ regates image octet opens half closed =
 pub record FormOpens (image : List ℕ) : Type 0 where
   pub opens : image_fault (opened_form image) ≡ None
   pub rests : IsAtRest (opened_form image)
+  pub longer : first_closed (opened_form image) ≡ first_closed image + 1
 
 pub form_opens : (image : List ℕ) → image_fault image ≡ None → first_closed image < slot_count image → FormOpens image
 form_opens image opens room =
@@ -287,6 +288,7 @@ form_opens image opens room =
           let after : u < u + 1 = omega arith in
           subst (λ (k : ℕ). gate_at new k ≡ CLOSED) (sym count)
           (other_gate u (u + 1) image new change (omega arith) ∙ passes.quiet (u + 1) after low);
+      longer = count;
     }
 
 -- what differs in a slot alone

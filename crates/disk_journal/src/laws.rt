@@ -1,5 +1,5 @@
 // Laws of images: each function is a statement about the definitions, and does nothing.
-ghost use Rattle.std.specs.Prelude.{◌≡◌, ◌≢◌, ℕ, ◌<◌, ◌≤◌, List, length, None};
+ghost use Rattle.std.specs.Prelude.{◌≡◌, ◌≢◌, ℕ, ◌+◌, ◌<◌, ◌≤◌, List, length, None};
 ghost use Rattle.disk_journal.specs.Image.{plan_of, slot_count, records, first_closed, IsHalfOpen, IsAtRest, regated, opened_form};
 ghost use Rattle.disk_journal.specs.Fault.{image_fault};
 ghost use Rattle.disk_journal.specs.Slots.{slot_at};
@@ -23,7 +23,8 @@ pub fn regated_image_opens()
         → (image_fault (regated image octet) ≡ None) × (records (regated image octet) ≡ records image)
         × (opened_form (regated image octet) ≡ opened_form image) }
     ensures opened { (image : List ℕ) → image_fault image ≡ None → first_closed image < slot_count image
-        → (image_fault (opened_form image) ≡ None) × IsAtRest (opened_form image) }
+        → (image_fault (opened_form image) ≡ None) × IsAtRest (opened_form image)
+        × (first_closed (opened_form image) ≡ first_closed image + 1) }
     ensures plan { (image : List ℕ) (octet : ℕ) → image_fault image ≡ None → first_closed image < slot_count image
         → (plan_of (regated image octet) ≡ plan_of image) × (slot_count (regated image octet) ≡ slot_count image) }
 {}
