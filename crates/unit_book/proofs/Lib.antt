@@ -1,3 +1,6 @@
 pub mod Bodies
 pub mod Leading
 pub mod Faults
+pub mod Showing
+pub mod Histories
+pub mod Storing

@@ -1,11 +1,11 @@
 // The book.
-ghost use Rattle.std.specs.Prelude.{◌≡◌, ℕ, ◌+◌, ◌<◌, ◌≤◌, ◌↔◌, IsTrue, MatchResult, IfErr, Ok, length, [], ◌∷◌, ◌++◌, vec_len, vec_capacity};
+ghost use Rattle.std.specs.Prelude.{◌≡◌, ℕ, ◌+◌, ◌<◌, ◌≤◌, ◌↔◌, IsTrue, MatchResult, IfErr, Ok, min, length, [], ◌∷◌, ◌++◌, vec_len, vec_capacity};
 ghost use Rattle.std.specs.Option.{IsSome};
 ghost use Rattle.sdls_base.specs.KeyId.{end_of};
 ghost use Rattle.sdls_outside.specs.Faults.{Rose};
 ghost use Rattle.sdls_outside.specs.Site.{Puts};
-ghost use Rattle.unit_book.specs.State.{key_row, mark_of};
-ghost use Rattle.unit_book.specs.Book.{IsKept, Stores, ReserveFails, SameBook, PutFails};
+ghost use Rattle.unit_book.specs.State.{key_row, mark_of, floor_of};
+ghost use Rattle.unit_book.specs.Book.{IsKept, CanAdd, Stores, ReserveFails, SameBook, PutFails};
 
 use crate::fault::BookFault;
 use crate::record::{Marks, write_marks};
@@ -34,7 +34,8 @@ pub struct Book<O: Site> {
 }
 
 impl<O: Site> Model for Book<O> {
-    ghost use Rattle.std.specs.Prelude.{◌≡◌, ◌≤◌, length, map, vec_capacity};
+    ghost use Rattle.std.specs.Prelude.{◌≡◌, ◌<◌, ◌≤◌, length, map, vec_capacity};
+    ghost use Rattle.sdls_base.specs.KeyId.{end_of};
     ghost use Rattle.disk_journal.specs.declared.layout.TheConstants.{MOST_SLOTS};
     ghost use Rattle.unit_book.specs.State.{telecommand_state};
     ghost use Rattle.unit_book.specs.Book.{BookView};
@@ -52,6 +53,7 @@ impl<O: Site> Model for Book<O> {
     } };
 
     ghost invariant = { λ book. (book.faults ≡ O.faults book.opened.value)
+        × (1 ≤ book.plan.block) × (book.now.floor < end_of book.plan.key) × (book.journal.slots ≤ MOST_SLOTS)
         × (MOST_SLOTS ≤ vec_capacity book.entries) × (MOST_SLOTS ≤ vec_capacity book.stored) };
 }
 
@@ -81,4 +83,113 @@ impl<O: Site> Book<O> {
         } = self;
         (site, entries)
     }
+
+    /// Whether the site has failed since the book was opened.
+    fn has_failed(&self) -> bool
+        ensures { IsTrue result ↔ Rose (O.faults self.entry.now.opened) (O.faults self.entry.now.site) }
+    {
+        let count = self.site.faults();
+        count > self.faults || count == u64::MAX
+    }
+
+    /// The mark and the floor of the key after a number was reserved.
+    fn reserved(&self, key: KeyId, number: u64) -> Marks
+        requires known { IsSome (key_row self.now.state.keys key) }
+        ensures mark { result.mark ≡ min (number + self.entry.now.state.plan.block) (end_of key) }
+        ensures floor { result.floor ≡ floor_of self.entry.now.state key }
+    {
+        Marks {
+            mark: number.saturating_add(self.plan.block).min(key.end()),
+            floor: self.now.floor,
+        }
+    }
+
+    /// Stores the entry that reserves a number, for which a slot is free.
+    fn store(&mut self, key: KeyId, number: u64) -> Result<u64, BookFault>
+        requires kept { IsKept O.told O.trace O.faults self.old }
+        requires known { IsSome (key_row self.old.state.keys key) }
+        requires needed { mark_of self.old.state key ≤ number }
+        requires below { number < end_of key }
+        requires free { CanAdd O.faults self.old }
+        ensures kept { IsKept O.told O.trace O.faults self.new }
+        ensures stored { MatchResult result (Stores O.trace O.faults key number self.old self.new)
+            (ReserveFails O.faults key number self.old self.new) }
+        ensures sunk { IsTrue O.told → (O.trace self.new.site).now.sunk ≡ (O.trace self.old.site).now.sunk }
+    {
+        let marks = self.reserved(key, number);
+        let before = Snapshot::of(&self.site);
+        let entry = Entry {
+            index: None,
+            seen: Seen::Number(number),
+            change: Change::Marks {
+                key,
+                mark: marks.mark,
+                floor: marks.floor,
+            },
+        };
+        match self.journal.append(&mut self.site, &write_marks(key, marks)) {
+            Ok(()) => {
+                push_within(&mut self.entries, entry);
+                push_within(&mut self.stored, before);
+                self.now = marks;
+                Ok(marks.mark)
+            }
+            Err(JournalFault::SiteFault(count)) => {
+                push_within(&mut self.entries, entry);
+                Err(BookFault::SiteFault(count))
+            }
+            Err(_) => unreachable!(),
+        }
+    }
+
+    /// Sees to it that the key's mark is above a number that was drawn, and answers the mark. Where it is not yet, the
+    /// entry that reserves the number is stored, so that the mark is in every image that a crash may leave.
+    pub fn reserve(&mut self, key: KeyId, number: u64) -> Result<u64, BookFault>
+        requires kept { IsKept O.told O.trace O.faults self.old }
+        requires known { IsSome (key_row self.old.state.keys key) }
+        requires below { number < end_of key }
+        ensures kept { IsKept O.told O.trace O.faults self.new }
+
+        ensures unneeded { number < mark_of self.old.state key → (result ≡ Ok (mark_of self.old.state key)) × (self.new ≡ self.old) }
+        ensures stored { mark_of self.old.state key ≤ number → MatchResult result
+            (Stores O.trace O.faults key number self.old self.new) (ReserveFails O.faults key number self.old self.new) }
+        ensures sunk { IsTrue O.told → (O.trace self.new.site).now.sunk ≡ (O.trace self.old.site).now.sunk }
+    {
+        if number < self.now.mark {
+            return Ok(self.now.mark);
+        }
+        if self.has_failed() {
+            return Err(BookFault::Stopped(self.site.faults()));
+        }
+        if self.journal.used() == self.journal.slots() {
+            return Err(BookFault::JournalFull(self.journal.slots()));
+        }
+        self.store(key, number)
+    }
+
+    /// Hands octets to the site's sink. It makes no entry, and still puts after a fault of the disk.
+    pub fn put(&mut self, octets: &[u8]) -> Result<(), BookFault>
+        requires kept { IsKept O.told O.trace O.faults self.old }
+        ensures kept { IsKept O.told O.trace O.faults self.new }
+        ensures same { SameBook self.old self.new }
+        ensures put { IsTrue O.told → Puts octets.now result (O.trace self.old.site) (O.trace self.new.site) }
+        ensures fault { IfErr result (PutFails (O.faults self.old.site) (O.faults self.new.site)) }
+        ensures later { O.faults self.old.site ≤ O.faults self.new.site }
+    {
+        match self.site.put(octets) {
+            Ok(()) => Ok(()),
+            Err(Failed) => Err(BookFault::SiteFault(self.site.faults())),
+        }
+    }
+}
+
+/// Pushes an element for which there is room.
+fn push_within<T: Drop>(items: &mut Vec<T>, item: T)
+    requires { vec_len items.old < vec_capacity items.old }
+    ensures items { items.new.items ≡ items.old.items ++ item ∷ [] }
+    ensures capacity { vec_capacity items.old ≤ vec_capacity items.new }
+{
+    let Ok(()) = items.push(item) else {
+        unreachable!()
+    };
 }

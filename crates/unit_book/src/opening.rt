@@ -6,7 +6,7 @@ ghost use Rattle.sdls_outside.specs.Faults.{Rose};
 ghost use Rattle.sdls_base.specs.KeyId.{end_of};
 ghost use Rattle.sdls_base.specs.declared.change.Change.{Change};
 ghost use Rattle.unit_plan.specs.declared.telecommand.TelecommandPlan.{TelecommandPlan};
-ghost use Rattle.unit_plan.specs.Telecommand.{SaysTelecommand};
+ghost use Rattle.unit_plan.specs.Telecommand.{SaysTelecommand, IsInBounds};
 ghost use Rattle.disk_journal.specs.Slots.{slot_at};
 ghost use Rattle.disk_journal.specs.Image.{plan_of, slot_count, records};
 ghost use Rattle.disk_journal.specs.Journal.{IsOpen, IsSettled, IsCause};
@@ -45,6 +45,7 @@ fn read_plan<O: Site>(
     requires opened { IsTrue O.told → IsOpen (O.trace site.old) journal.now }
     ensures read { IsTrue O.told → IfOk result (λ plan. HasPlan (O.trace site.old).now.image plan
         × (plan.slots ≡ slot_count (O.trace site.old).now.image)) }
+    ensures bounds { IfOk result IsInBounds }
     ensures same { IsTrue O.told → O.trace site.new ≡ O.trace site.old }
     ensures fault { HasOpenFault (O.faults site.old) (O.faults site.new)
         (λ offset. IsTrue O.told → ShowsNone (O.trace site.old).now.image offset) result }
@@ -72,6 +73,7 @@ fn read_record<O: Site>(
     requires below { index < journal.now.used }
     requires opened { IsTrue O.told → IsOpen (O.trace site.old) journal.now }
     ensures read { IsTrue O.told → IfOk result (ReadsMarks (records (O.trace site.old).now.image) index key) }
+    ensures floor { IfOk result (λ marks. marks.floor < end_of key) }
     ensures same { IsTrue O.told → O.trace site.new ≡ O.trace site.old }
     ensures fault { HasOpenFault (O.faults site.old) (O.faults site.new)
         (λ offset. (offset ≡ slot_at index) × (IsTrue O.told → IsUnfit (records (O.trace site.old).now.image) index key)) result }
@@ -97,6 +99,7 @@ fn read_records<O: Site>(
         × (plan.now.slots ≡ slot_count (O.trace site.old).now.image) }
     ensures read { IsTrue O.told → IfOk result (λ marks. LeadTo (initial plan.now) (records (O.trace site.old).now.image)
         (telecommand_state plan.now marks.mark marks.floor)) }
+    ensures floor { IfOk result (λ marks. marks.floor < end_of plan.now.key) }
     ensures same { IsTrue O.told → O.trace site.new ≡ O.trace site.old }
     ensures fault { HasOpenFault (O.faults site.old) (O.faults site.new)
         (λ offset. IsTrue O.told → ShowsNone (O.trace site.old).now.image offset) result }
@@ -127,6 +130,7 @@ fn inspect_opened<O: Site>(
     requires room { length room.old ≡ PLAN_ROOM }
     requires opened { IsTrue O.told → IsOpen (O.trace site.old) journal }
     ensures journal { IfOk result (λ found. found.journal ≡ journal) }
+    ensures bounds { IfOk result (λ found. IsInBounds found.plan × (found.marks.floor < end_of found.plan.key)) }
     ensures shows { IsTrue O.told → IfOk result (λ found.
         Shows (O.trace site.old).now.image (telecommand_state found.plan found.marks.mark found.marks.floor)) }
     ensures same { IsTrue O.told → O.trace site.new ≡ O.trace site.old }
@@ -148,6 +152,7 @@ fn inspect_opened<O: Site>(
 fn inspect<O: Site>(site: &mut O, room: &mut [u8]) -> Result<Found, OpenFault>
     requires room { length room.old ≡ PLAN_ROOM }
     ensures opened { IsTrue O.told → IfOk result (λ found. IsOpen (O.trace site.new) found.journal) }
+    ensures bounds { IfOk result (λ found. IsInBounds found.plan × (found.marks.floor < end_of found.plan.key)) }
     ensures shows { IsTrue O.told → IfOk result (λ found.
         Shows (O.trace site.old).now.image (telecommand_state found.plan found.marks.mark found.marks.floor)) }
     ensures unchanged { IsTrue O.told → OnlySyncs (O.trace site.old) (O.trace site.new) }

@@ -1,4 +1,5 @@
-use Rattle.std.proofs.Common.{◌≡◌, ◌≤◌, IsTrue, take}
+use Rattle.std.proofs.Common.{◌≡◌, ◌<◌, ◌≤◌, IsTrue, take}
+use Rattle.sdls_base.specs.KeyId.{end_of}
 use Rattle.disk_journal.specs.Image.{records}
 use Rattle.unit_book.specs.State.{telecommand_state, initial}
 use Rattle.unit_book.specs.Record.{LeadTo}
@@ -10,4 +11,5 @@ invariant-loop-index g l = record {
   same : IsTrue g.O.Site.told → g.O.Site.trace l.site ≡ g.O.Site.trace l.initial.site;
   led : IsTrue g.O.Site.told → LeadTo (initial l.plan) (take l.index (records (g.O.Site.trace l.initial.site).now.image))
       (telecommand_state l.plan l.marks.mark l.marks.floor);
+  floor : l.marks.floor < end_of l.plan.key;
 }
