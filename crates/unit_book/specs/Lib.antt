@@ -1,1 +1,4 @@
+pub mod Binding
+pub mod Protects
 pub mod State
+pub mod Verdict
