@@ -1,3 +1,5 @@
+pub mod Protection
+pub mod Bindings
 pub mod Bodies
 pub mod Leading
 pub mod Faults

@@ -1,4 +1,7 @@
 pub mod State
+pub mod Binding
+pub mod Protects
+pub mod Verdict
 pub mod Record
 pub mod Shows
 pub mod History

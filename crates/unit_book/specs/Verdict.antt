@@ -1,0 +1,96 @@
+-- The checks of a frame that is to be protected, in their order (profile), and what they find in a state.
+use Rattle.std.specs.Prelude.{◌≡◌, ℕ, ◌+◌, ◌*◌, ◌/◌, ◌%◌, ◌^◌, Bool, not, ◌&&◌, ◌||◌, ◌==◌, nat_lt, if◌then◌else◌, List, [], ◌∷◌, length, slice_index, Option, Some, None, is_some, is_none}
+use Rattle.std.specs.Option.{option_and_then}
+use Rattle.sdls_base.specs.declared.layout.FrameFault.{FrameFault}
+use Rattle.sdls_base.specs.declared.layout.FrameFault.TheVariants.{Short, Long, LengthField, Version, Spare, SecondaryHeader, Fecf}
+use Rattle.tc_frame.specs.FirstFault.{first_fault, control_of}
+use Rattle.unit_plan.specs.declared.telecommand.TelecommandPlan.{TelecommandPlan}
+use Rattle.unit_book.specs.declared.binding.Verdict.{Verdict}
+use Rattle.unit_book.specs.declared.binding.Verdict.TheVariants as verdicts
+use Rattle.unit_book.specs.Protects.{clear_layout, link_layout}
+use Rattle.unit_book.specs.State.{State, AssociationRow, initial, key_row, sender_on}
+
+-- a frame has no primary header, or lacks the segment header that frames without the control command flag have
+abbrev pub lacks_header : List ℕ → Bool
+lacks_header frame = nat_lt (length frame) 5 || (not (control_of frame) && nat_lt (length frame) 6)
+
+-- spacecraft identifier, bits 6 to 15
+abbrev pub spacecraft_of : List ℕ → ℕ
+spacecraft_of frame = (slice_index frame 0 * 2 ^ 8 + slice_index frame 1) % 2 ^ 10
+
+-- virtual channel identifier, bits 16 to 21
+abbrev pub virtual_channel_of : List ℕ → ℕ
+virtual_channel_of frame = slice_index frame 2 / 2 ^ 2
+
+-- MAP identifier, the last six bits of the segment header
+abbrev pub access_point_of : List ℕ → ℕ
+access_point_of frame = slice_index frame 5 % 2 ^ 6
+
+-- the frame has the identifiers of the plan's channel, which is on link 0
+abbrev pub is_on_channel : TelecommandPlan → ℕ → List ℕ → Bool
+is_on_channel plan link frame =
+    link == 0 && (spacecraft_of frame == plan.spacecraft
+    && (virtual_channel_of frame == plan.channel && access_point_of frame == plan.map))
+
+-- the number of the plan's channel that the frame is of
+abbrev pub channel_of : TelecommandPlan → ℕ → List ℕ → Option ℕ
+channel_of plan link frame = if is_on_channel plan link frame then Some 0 else None
+
+-- the association under which the frame is sent
+abbrev pub sender_of : State → ℕ → List ℕ → Option AssociationRow
+sender_of state link frame = option_and_then (sender_on state.associations) (channel_of state.plan link frame)
+
+-- a fault's number in the formats; 0 is none
+abbrev pub fault_number : Option FrameFault → ℕ
+fault_number None = 0
+fault_number (Some Short) = 1
+fault_number (Some Long) = 2
+fault_number (Some LengthField) = 3
+fault_number (Some Version) = 4
+fault_number (Some Spare) = 5
+fault_number (Some SecondaryHeader) = 6
+fault_number (Some Fecf) = 7
+
+-- the first fault of the frame in the link's layout of frames in clear
+abbrev pub clear_fault : List ℕ → Option FrameFault
+clear_fault frame = first_fault (clear_layout link_layout) frame
+
+-- a check: whether it ends the checks, and the verdict that it then gives
+abbrev pub Check : Type 0
+Check = Bool × Verdict
+
+-- the verdict of the first check that ends them; the frame is bound where none does
+abbrev pub first_verdict : List Check → Verdict
+first_verdict [] = verdicts.Bound
+first_verdict (check ∷ checks) = if check.0 then check.1 else first_verdict checks
+
+abbrev pub protect_checks : State → ℕ → List ℕ → List Check
+protect_checks state link clear =
+    (not (link == 0), verdicts.Layout 0)
+    ∷ (lacks_header clear, verdicts.Layout 1)
+    ∷ (control_of clear, verdicts.Clear)
+    ∷ (is_none (channel_of state.plan link clear), verdicts.Channel)
+    ∷ (is_none (sender_of state link clear), verdicts.State)
+    ∷ (is_some (clear_fault clear), verdicts.Layout (fault_number (clear_fault clear))) ∷ []
+
+-- the verdict on a frame in clear that is to be protected on a link
+abbrev pub protect_verdict : State → ℕ → List ℕ → Verdict
+protect_verdict state link clear = first_verdict (protect_checks state link clear)
+
+-- the octets of a row's key, where it has them
+abbrev pub octets_in : State → ℕ → Option (List ℕ)
+octets_in state key = option_and_then (λ row. row.bytes) (key_row state.keys key)
+
+-- the frame is bound to this SPI, this key, and these octets of the key
+pub record IsBinding (state : State) (link : ℕ) (clear : List ℕ) (spi key : ℕ) (octets : List ℕ) : Type 0 where
+  pub row : AssociationRow
+  pub sender : sender_of state link clear ≡ Some row
+  pub index : row.spi ≡ spi
+  pub keyed : row.key ≡ Some key
+  pub octets_are : octets_in state key ≡ Some octets
+
+-- The state has the plan, the association as it was opened and its key's octets. The marks and floors may be any.
+pub record IsOfPlan (plan : TelecommandPlan) (state : State) : Type 0 where
+  pub same_plan : state.plan ≡ plan
+  pub associations : state.associations ≡ (initial plan).associations
+  pub octets : octets_in state plan.key ≡ Some plan.key_octets
