@@ -6,3 +6,4 @@ pub mod Faults
 pub mod Showing
 pub mod Histories
 pub mod Storing
+pub mod Beginning

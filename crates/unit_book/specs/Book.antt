@@ -5,7 +5,7 @@ use Rattle.sdls_base.specs.declared.entry.Entry.{Entry}
 use Rattle.sdls_outside.specs.Disk.{Leaves}
 use Rattle.sdls_outside.specs.Faults.{Rose}
 use Rattle.sdls_outside.specs.Moments.{Trace, EachMoment}
-use Rattle.disk_journal.specs.Image.{records, IsHalfOpen, opened_form}
+use Rattle.disk_journal.specs.Image.{records, slot_count, IsHalfOpen, opened_form}
 use Rattle.disk_journal.specs.Changes.{Regates}
 use Rattle.disk_journal.specs.Journal.{JournalView, IsSettled}
 use Rattle.unit_book.specs.declared.fault.BookFault.{BookFault}
@@ -51,6 +51,12 @@ pub record Placed (start : State) (entries : List Entry) (places all_sunk image 
 -- another octet as the gate of its first closed slot; nothing is sunk.
 abbrev pub Opening : Trace → List ℕ → List ℕ → Type 0
 Opening entry image sunk = (Leaves entry.now image ⊎ Regates entry.now.image image) × (sunk ≡ entry.now.sunk)
+
+-- The image as it was opened has as many records as it had, and the journal is over them.
+pub record SameJournal (old new : List ℕ) (journal : JournalView) : Type 0 where
+  pub same_records : length (records new) ≡ length (records old)
+  pub slots : journal.slots ≡ slot_count old
+  pub used : journal.used ≡ length (records old)
 
 -- the run from the opening to now
 pub record IsHistory (opened now : Trace) (start : State) (entries : List Entry) (places : List ℕ) : Type 0 where

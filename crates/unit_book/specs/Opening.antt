@@ -4,6 +4,9 @@ use Rattle.std.specs.List.{slice_get}
 use Rattle.sdls_base.specs.KeyId.{end_of}
 use Rattle.sdls_base.specs.declared.change.Change.{Change}
 use Rattle.unit_plan.specs.declared.telecommand.TelecommandPlan.{TelecommandPlan}
+use Rattle.unit_plan.specs.Telecommand.{IsInBounds}
+use Rattle.disk_journal.specs.Journal.{JournalView}
+use Rattle.disk_journal.specs.declared.layout.TheConstants.{MOST_SLOTS}
 use Rattle.unit_book.specs.declared.record.Marks.{Marks}
 use Rattle.unit_book.specs.State.{telecommand_state}
 use Rattle.unit_book.specs.Record.{IsMarks, IsRecord, Allows}
@@ -45,3 +48,9 @@ pub record IsUnfit (bodies : List (List ℕ)) (place id : ℕ) : Type 0 where
   pub there : slice_get bodies place ≡ Some body
   pub bad : (change : Change) (plan : TelecommandPlan) (mark floor : ℕ) → plan.key ≡ id → IsRecord change body
       → ¬ Allows (telecommand_state plan mark floor) change
+
+-- what a book needs of a plan, a floor and a journal
+pub record IsUsable (plan : TelecommandPlan) (floor : ℕ) (journal : JournalView) : Type 0 where
+  pub plan_bounds : IsInBounds plan
+  pub floor_bound : floor < end_of plan.key
+  pub few_slots : journal.slots ≤ MOST_SLOTS

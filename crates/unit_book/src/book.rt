@@ -1,17 +1,24 @@
 // The book.
-ghost use Rattle.std.specs.Prelude.{◌≡◌, ℕ, ◌+◌, ◌<◌, ◌≤◌, ◌↔◌, IsTrue, MatchResult, IfErr, Ok, min, length, [], ◌∷◌, ◌++◌, vec_len, vec_capacity};
+ghost use Rattle.std.specs.Prelude.{◌≡◌, ℕ, ◌+◌, ◌<◌, ◌≤◌, ◌↔◌, IsTrue, MatchResult, IfOk, IfErr, Ok, min, length, [], ◌∷◌, ◌++◌, vec_len, vec_capacity};
 ghost use Rattle.std.specs.Option.{IsSome};
 ghost use Rattle.sdls_base.specs.KeyId.{end_of};
 ghost use Rattle.sdls_outside.specs.Faults.{Rose};
 ghost use Rattle.sdls_outside.specs.Site.{Puts};
 ghost use Rattle.unit_book.specs.State.{key_row, mark_of, floor_of};
-ghost use Rattle.unit_book.specs.Book.{IsKept, CanAdd, Stores, ReserveFails, SameBook, PutFails};
+ghost use Rattle.unit_book.specs.State.{telecommand_state};
+ghost use Rattle.unit_book.specs.Shows.{Shows, ShowsNone};
+ghost use Rattle.unit_book.specs.Opening.{IsOpenCause, IsUsable};
+ghost use Rattle.unit_book.specs.Book.{IsKept, CanAdd, Stores, ReserveFails, SameBook, PutFails, Opening, SameJournal};
+ghost use Rattle.sdls_outside.specs.Moments.{EachMoment};
+ghost use Rattle.disk_journal.specs.Changes.{OnlySyncs};
 
-use crate::fault::BookFault;
+use crate::fault::{BookFault, OpenFault};
+use crate::opening::{Found, Rooms, start};
 use crate::record::{Marks, write_marks};
-use disk_journal::{Journal, JournalFault};
+use disk_journal::{Journal, JournalFault, MOST_SLOTS};
 use sdls_base::{Change, Entry, KeyId, Seen};
 use sdls_outside::{Failed, Site};
+use std::alloc::Global;
 use std::marker::Model;
 use std::snapshot::Snapshot;
 use unit_plan::TelecommandPlan;
@@ -58,6 +65,70 @@ impl<O: Site> Model for Book<O> {
 }
 
 impl<O: Site> Book<O> {
+    /// Opens the image of a site: starts a run on it, reserves the room for the entries, makes all checks of the image, and
+    /// brings its journal to rest.
+    ///
+    /// It is refused with `Image` and the offset of the first check that fails exactly where the image shows no state;
+    /// nothing is written then. After a fault of the site the image shows what it showed.
+    pub fn open(alloc: Global, mut site: O) -> Result<Book<O>, (OpenFault, O)>
+        ensures kept { IfOk result (IsKept O.told O.trace O.faults) }
+        ensures begun { IfOk result (λ book. (book.entries ≡ []) × (book.site ≡ book.opened) × (book.state ≡ book.start)) }
+        ensures shows { IsTrue O.told → IfOk result (λ book. Shows (O.trace site).now.image book.start
+            × SameJournal (O.trace site).now.image (O.trace book.opened).now.image book.journal) }
+
+        // Only an image that shows no state is refused as one, and nothing is written then.
+        ensures refused { IfErr result (λ refused. IsOpenCause (O.faults site) (O.faults refused.1)
+            (λ offset. IsTrue O.told → ShowsNone (O.trace site).now.image offset
+            × OnlySyncs (O.trace site) (O.trace refused.1)) refused.0) }
+
+        // A crash at any moment leaves what one before may have left, or the image with another octet in the gate of its
+        // first closed slot.
+        ensures any_moment { IsTrue O.told → MatchResult result
+            (λ book. EachMoment (O.trace site) (O.trace book.site) (Opening (O.trace site)))
+            (λ refused. EachMoment (O.trace site) (O.trace refused.1) (Opening (O.trace site))) }
+        ensures later { MatchResult result (λ book. O.faults site ≤ O.faults book.site)
+            (λ refused. O.faults site ≤ O.faults refused.1) }
+    {
+        match start(alloc, &mut site) {
+            Ok((found, rooms)) => Ok(Book::new(site, found, rooms)),
+            Err(fault) => Err((fault, site)),
+        }
+    }
+
+    /// The book over a site whose image was found to show this.
+    fn new(site: O, found: Found, rooms: Rooms<O>) -> Book<O>
+        requires usable { IsUsable found.plan found.marks.floor found.journal }
+        requires entries { (rooms.entries.items ≡ []) × (MOST_SLOTS ≤ vec_capacity rooms.entries) }
+        requires stored { (rooms.stored.items ≡ []) × (MOST_SLOTS ≤ vec_capacity rooms.stored) }
+        ensures { result ≡ record {
+            site = site;
+            opened = site;
+            start = telecommand_state found.plan found.marks.mark found.marks.floor;
+            state = telecommand_state found.plan found.marks.mark found.marks.floor;
+            journal = found.journal;
+            entries = [];
+            places = [];
+        } }
+    {
+        let Found {
+            journal,
+            plan,
+            marks,
+        } = found;
+        let Rooms { entries, stored } = rooms;
+        Book {
+            opened: Snapshot::of(&site),
+            faults: site.faults(),
+            site,
+            plan,
+            first: marks,
+            now: marks,
+            journal,
+            entries,
+            stored,
+        }
+    }
+
     /// How many entries the run has.
     pub fn count(&self) -> u64
         ensures { result ≡ length self.entry.now.entries }
