@@ -49,8 +49,9 @@ pub record IsUnfit (bodies : List (List ℕ)) (place id : ℕ) : Type 0 where
   pub bad : (change : Change) (plan : TelecommandPlan) (mark floor : ℕ) → plan.key ≡ id → IsRecord change body
       → ¬ Allows (telecommand_state plan mark floor) change
 
--- what a book needs of a plan, a floor and a journal
-pub record IsUsable (plan : TelecommandPlan) (floor : ℕ) (journal : JournalView) : Type 0 where
+-- what a book needs of a plan, a mark and a floor, and a journal
+pub record IsUsable (plan : TelecommandPlan) (marks : Marks) (journal : JournalView) : Type 0 where
   pub plan_bounds : IsInBounds plan
-  pub floor_bound : floor < end_of plan.key
+  pub mark_bound : 1 ≤ marks.mark
+  pub floor_bound : marks.floor < end_of plan.key
   pub few_slots : journal.slots ≤ MOST_SLOTS

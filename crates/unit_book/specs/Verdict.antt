@@ -7,6 +7,7 @@ use Rattle.tc_frame.specs.FirstFault.{first_fault, control_of}
 use Rattle.unit_plan.specs.declared.telecommand.TelecommandPlan.{TelecommandPlan}
 use Rattle.unit_book.specs.declared.binding.Verdict.{Verdict}
 use Rattle.unit_book.specs.declared.binding.Verdict.TheVariants as verdicts
+use Rattle.unit_book.specs.Binding.{BindingParts}
 use Rattle.unit_book.specs.Protects.{clear_layout, link_layout}
 use Rattle.unit_book.specs.State.{State, AssociationRow, initial, key_row, sender_on}
 
@@ -94,3 +95,11 @@ pub record IsOfPlan (plan : TelecommandPlan) (state : State) : Type 0 where
   pub same_plan : state.plan ≡ plan
   pub associations : state.associations ≡ (initial plan).associations
   pub octets : octets_in state plan.key ≡ Some plan.key_octets
+
+-- what the plan's association binds frames to
+abbrev pub binding_of : State → BindingParts
+binding_of state = record { spi = state.plan.spi; key = state.plan.key; octets = state.plan.key_octets }
+
+-- the frame is bound, and to the plan's association
+abbrev pub IsBound : State → ℕ → List ℕ → Type 0
+IsBound state link clear = IsBinding state link clear (binding_of state).spi (binding_of state).key (binding_of state).octets

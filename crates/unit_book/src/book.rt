@@ -1,17 +1,19 @@
 // The book.
-ghost use Rattle.std.specs.Prelude.{◌≡◌, ℕ, ◌+◌, ◌<◌, ◌≤◌, ◌↔◌, IsTrue, MatchResult, IfOk, IfErr, Ok, min, length, [], ◌∷◌, ◌++◌, vec_len, vec_capacity};
+ghost use Rattle.std.specs.Prelude.{◌≡◌, ℕ, ◌+◌, ◌<◌, ◌≤◌, ◌↔◌, IsTrue, MatchResult, IfOk, IfErr, Ok, None, min, length, [], ◌∷◌, ◌++◌, vec_len, vec_capacity};
 ghost use Rattle.std.specs.Option.{IsSome};
 ghost use Rattle.sdls_base.specs.KeyId.{end_of};
 ghost use Rattle.sdls_outside.specs.Faults.{Rose};
 ghost use Rattle.sdls_outside.specs.Site.{Puts};
 ghost use Rattle.unit_book.specs.State.{key_row, mark_of, floor_of};
 ghost use Rattle.unit_book.specs.State.{telecommand_state};
+ghost use Rattle.unit_book.specs.Verdict.{protect_verdict, clear_fault, binding_of, IsBound};
 ghost use Rattle.unit_book.specs.Shows.{Shows, ShowsNone};
 ghost use Rattle.unit_book.specs.Opening.{IsOpenCause, IsUsable};
 ghost use Rattle.unit_book.specs.Book.{IsKept, CanAdd, Stores, ReserveFails, SameBook, PutFails, Opening, SameJournal};
 ghost use Rattle.sdls_outside.specs.Moments.{EachMoment};
 ghost use Rattle.disk_journal.specs.Changes.{OnlySyncs};
 
+use crate::binding::{Binding, Verdict, verdict_on};
 use crate::fault::{BookFault, OpenFault};
 use crate::opening::{Found, Rooms, start};
 use crate::record::{Marks, write_marks};
@@ -61,6 +63,7 @@ impl<O: Site> Model for Book<O> {
 
     ghost invariant = { λ book. (book.faults ≡ O.faults book.opened.value)
         × (1 ≤ book.plan.block) × (book.now.floor < end_of book.plan.key) × (book.journal.slots ≤ MOST_SLOTS)
+        × (1 ≤ book.now.mark)
         × (MOST_SLOTS ≤ vec_capacity book.entries) × (MOST_SLOTS ≤ vec_capacity book.stored) };
 }
 
@@ -97,7 +100,7 @@ impl<O: Site> Book<O> {
 
     /// The book over a site whose image was found to show this.
     fn new(site: O, found: Found, rooms: Rooms<O>) -> Book<O>
-        requires usable { IsUsable found.plan found.marks.floor found.journal }
+        requires usable { IsUsable found.plan found.marks found.journal }
         requires entries { (rooms.entries.items ≡ []) × (MOST_SLOTS ≤ vec_capacity rooms.entries) }
         requires stored { (rooms.stored.items ≡ []) × (MOST_SLOTS ≤ vec_capacity rooms.stored) }
         ensures { result ≡ record {
@@ -127,6 +130,32 @@ impl<O: Site> Book<O> {
             entries,
             stored,
         }
+    }
+
+    /// What frames are protected under: the one association, its key, and the key's octets.
+    pub fn binding(&self) -> Binding
+        ensures binding { result ≡ binding_of self.entry.now.start }
+        ensures known { IsSome (key_row self.entry.now.start.keys result.key) }
+        ensures known_now { IsSome (key_row self.entry.now.state.keys result.key) }
+    {
+        Binding::of(&self.plan)
+    }
+
+    /// Makes the checks of a frame in clear that is to be protected on a link.
+    pub fn verdict(&self, link: u8, clear: &[u8]) -> Verdict
+        ensures verdict { result ≡ protect_verdict self.entry.now.start link clear.now }
+        ensures bound { result ≡ Verdict.Bound → IsBound self.entry.now.start link clear.now }
+        ensures faultless { result ≡ Verdict.Bound → clear_fault clear.now ≡ None }
+    {
+        verdict_on(&self.plan, link, clear)
+    }
+
+    /// The mark of the association's key.
+    pub fn mark(&self) -> u64
+        ensures mark { result ≡ mark_of self.entry.now.state (binding_of self.entry.now.start).key }
+        ensures least { 1 ≤ result }
+    {
+        self.now.mark
     }
 
     /// How many entries the run has.

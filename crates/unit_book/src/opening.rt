@@ -79,7 +79,7 @@ fn read_record<O: Site>(
     requires below { index < journal.now.used }
     requires opened { IsTrue O.told → IsOpen (O.trace site.old) journal.now }
     ensures read { IsTrue O.told → IfOk result (ReadsMarks (records (O.trace site.old).now.image) index key) }
-    ensures floor { IfOk result (λ marks. marks.floor < end_of key) }
+    ensures bounds { IfOk result (λ marks. (1 ≤ marks.mark) × (marks.floor < end_of key)) }
     ensures same { IsTrue O.told → O.trace site.new ≡ O.trace site.old }
     ensures fault { HasOpenFault (O.faults site.old) (O.faults site.new)
         (λ offset. (offset ≡ slot_at index) × (IsTrue O.told → IsUnfit (records (O.trace site.old).now.image) index key)) result }
@@ -105,7 +105,7 @@ fn read_records<O: Site>(
         × (plan.now.slots ≡ slot_count (O.trace site.old).now.image) }
     ensures read { IsTrue O.told → IfOk result (λ marks. LeadTo (initial plan.now) (records (O.trace site.old).now.image)
         (telecommand_state plan.now marks.mark marks.floor)) }
-    ensures floor { IfOk result (λ marks. marks.floor < end_of plan.now.key) }
+    ensures bounds { IsInBounds plan.now → IfOk result (λ marks. (1 ≤ marks.mark) × (marks.floor < end_of plan.now.key)) }
     ensures same { IsTrue O.told → O.trace site.new ≡ O.trace site.old }
     ensures fault { HasOpenFault (O.faults site.old) (O.faults site.new)
         (λ offset. IsTrue O.told → ShowsNone (O.trace site.old).now.image offset) result }
@@ -137,7 +137,7 @@ fn inspect_opened<O: Site>(
     requires room { length room.old ≡ PLAN_ROOM }
     requires opened { IsTrue O.told → IsOpen (O.trace site.old) journal }
     ensures journal { IfOk result (λ found. found.journal ≡ journal) }
-    ensures bounds { IfOk result (λ found. IsUsable found.plan found.marks.floor found.journal) }
+    ensures bounds { IfOk result (λ found. IsUsable found.plan found.marks found.journal) }
     ensures shows { IsTrue O.told → IfOk result (λ found.
         Shows (O.trace site.old).now.image (telecommand_state found.plan found.marks.mark found.marks.floor)) }
     ensures same { IsTrue O.told → O.trace site.new ≡ O.trace site.old }
@@ -159,7 +159,7 @@ fn inspect_opened<O: Site>(
 fn inspect<O: Site>(site: &mut O, room: &mut [u8]) -> Result<Found, OpenFault>
     requires room { length room.old ≡ PLAN_ROOM }
     ensures opened { IsTrue O.told → IfOk result (λ found. IsOpen (O.trace site.new) found.journal) }
-    ensures bounds { IfOk result (λ found. IsUsable found.plan found.marks.floor found.journal) }
+    ensures bounds { IfOk result (λ found. IsUsable found.plan found.marks found.journal) }
     ensures shows { IsTrue O.told → IfOk result (λ found.
         Shows (O.trace site.old).now.image (telecommand_state found.plan found.marks.mark found.marks.floor)) }
     ensures unchanged { IsTrue O.told → OnlySyncs (O.trace site.old) (O.trace site.new) }
@@ -176,7 +176,7 @@ fn inspect<O: Site>(site: &mut O, room: &mut [u8]) -> Result<Found, OpenFault>
 /// Makes all checks of an image, answers what it shows, and brings its journal to rest.
 fn show<O: Site>(site: &mut O, room: &mut [u8]) -> Result<Found, OpenFault>
     requires room { length room.old ≡ PLAN_ROOM }
-    ensures bounds { IfOk result (λ found. IsUsable found.plan found.marks.floor found.journal) }
+    ensures bounds { IfOk result (λ found. IsUsable found.plan found.marks found.journal) }
     ensures settled { IsTrue O.told → IfOk result (λ found. IsSettled (O.trace site.new) found.journal) }
     ensures shows { IsTrue O.told → IfOk result (λ found.
         Shows (O.trace site.old).now.image (telecommand_state found.plan found.marks.mark found.marks.floor)
@@ -224,7 +224,7 @@ fn plan_room(alloc: Global) -> Result<Vec<u8>, AllocError>
 
 /// Starts a run on the site, reserves the room that the book needs, and then makes all checks of the image.
 pub(crate) fn start<O: Site>(alloc: Global, site: &mut O) -> Result<(Found, Rooms<O>), OpenFault>
-    ensures bounds { IfOk result (λ begun. IsUsable begun.0.plan begun.0.marks.floor begun.0.journal) }
+    ensures bounds { IfOk result (λ begun. IsUsable begun.0.plan begun.0.marks begun.0.journal) }
     ensures rooms { IfOk result (λ begun. (begun.1.entries.items ≡ []) × (begun.1.stored.items ≡ [])
         × (MOST_SLOTS ≤ vec_capacity begun.1.entries) × (MOST_SLOTS ≤ vec_capacity begun.1.stored)) }
     ensures settled { IsTrue O.told → IfOk result (λ begun. IsSettled (O.trace site.new) begun.0.journal) }

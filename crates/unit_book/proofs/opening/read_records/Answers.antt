@@ -13,5 +13,5 @@ loop-index-preserved g c = record {
       c.loop-index.marks.mark c.loop-index.marks.floor c.in_ok-marks.marks (c.loop-index.invariant.led told)
       (subst (λ (trace : Trace). ReadsMarks (records trace.now.image) c.loop-index.index c.args.plan.now.key c.in_ok-marks.marks)
       (c.loop-index.invariant.same told) (c.in_ok-marks.ensures.read told));
-  floor = c.in_ok-marks.ensures.floor;
+  bounds = λ plan. c.in_ok-marks.ensures.bounds;
 }

@@ -1,4 +1,5 @@
 use Rattle.std.proofs.Common.{◌≡◌, ◌<◌, ◌≤◌, IsTrue, take}
+use Rattle.unit_plan.specs.Telecommand.{IsInBounds}
 use Rattle.sdls_base.specs.KeyId.{end_of}
 use Rattle.disk_journal.specs.Image.{records}
 use Rattle.unit_book.specs.State.{telecommand_state, initial}
@@ -11,5 +12,5 @@ invariant-loop-index g l = record {
   same : IsTrue g.O.Site.told → g.O.Site.trace l.site ≡ g.O.Site.trace l.initial.site;
   led : IsTrue g.O.Site.told → LeadTo (initial l.plan) (take l.index (records (g.O.Site.trace l.initial.site).now.image))
       (telecommand_state l.plan l.marks.mark l.marks.floor);
-  floor : l.marks.floor < end_of l.plan.key;
+  bounds : IsInBounds l.plan → (1 ≤ l.marks.mark) × (l.marks.floor < end_of l.plan.key);
 }
