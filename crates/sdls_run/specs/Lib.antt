@@ -1,6 +1,12 @@
 pub mod Answer
+pub mod AnswerOctets
 pub mod Check
+pub mod Fits
 pub mod Init
 pub mod Intake
+pub mod Life
 pub mod Output
+pub mod Records
+pub mod RecordSteps
+pub mod Sound
 pub mod Words

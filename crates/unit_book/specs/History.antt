@@ -1,9 +1,10 @@
 -- The history of a run (profile): its entries, each a change, in order.
-use Rattle.std.specs.Prelude.{◌≡◌, ℕ, ◌+◌, ◌<◌, ◌≤◌, ⊤, min, List, [], ◌∷◌, length, take, None}
+use Rattle.std.specs.Prelude.{◌≡◌, ℕ, zero, suc, ◌+◌, ◌<◌, ◌≤◌, ⊤, Bool, true, false, if◌then◌else◌, min, List, [], ◌∷◌, length, take, None}
 use Rattle.std.specs.Option.{IsSome}
 use Rattle.sdls_base.specs.declared.entry.Entry.{Entry}
 use Rattle.sdls_base.specs.declared.entry.Seen.TheVariants.{Number}
-use Rattle.sdls_base.specs.declared.change.Change.TheVariants.{Marks}
+use Rattle.sdls_base.specs.declared.change.Change.{Change}
+use Rattle.sdls_base.specs.declared.change.Change.TheVariants.{Marks, Accepted, Nothing}
 use Rattle.sdls_base.specs.KeyId.{end_of}
 use Rattle.unit_book.specs.State.{State, key_row, mark_of, floor_of, applied}
 
@@ -15,6 +16,25 @@ after state (entry ∷ entries) = after (applied state entry.change) entries
 -- the state after the first p entries
 abbrev pub after_first : State → List Entry → ℕ → State
 after_first state entries p = after state (take p entries)
+
+-- the change counts for the epoch: it is none of marks, of an acceptance, and of nothing
+abbrev pub counts : Change → Bool
+counts (Marks id mark floor) = false
+counts (Accepted spi key number floor) = false
+counts Nothing = false
+counts other = true
+
+-- the epoch after the entries: how many of them count
+abbrev pub epoch_after : List Entry → ℕ
+epoch_after [] = 0
+epoch_after (entry ∷ entries) = (if counts entry.change then 1 else 0) + epoch_after entries
+
+-- the state when an epoch begins: after as many counting entries, and the state at the start for epoch 0
+abbrev pub at_epoch : State → List Entry → ℕ → State
+at_epoch state entries zero = state
+at_epoch state [] (suc epoch) = state
+at_epoch state (entry ∷ entries) (suc epoch) =
+    at_epoch (applied state entry.change) entries (if counts entry.change then epoch else suc epoch)
 
 -- Word can have stood in the key's next number, in a run from this state with so many records to protect: no number below
 -- the mark is drawn, and each record draws at most one.
