@@ -132,6 +132,13 @@ impl<O: Site> Book<O> {
         }
     }
 
+    /// The count of the site's faults.
+    pub fn faults(&self) -> u64
+        ensures { result ≡ O.faults self.entry.now.site }
+    {
+        self.site.faults()
+    }
+
     /// What frames are protected under: the one association, its key, and the key's octets.
     pub fn binding(&self) -> Binding
         ensures binding { result ≡ binding_of self.entry.now.start }
@@ -184,8 +191,8 @@ impl<O: Site> Book<O> {
         (site, entries)
     }
 
-    /// Whether the site has failed since the book was opened.
-    fn has_failed(&self) -> bool
+    /// Whether the count of the site's faults has risen since the book was opened.
+    pub fn has_failed(&self) -> bool
         ensures { IsTrue result ↔ Rose (O.faults self.entry.now.opened) (O.faults self.entry.now.site) }
     {
         let count = self.site.faults();
@@ -214,7 +221,10 @@ impl<O: Site> Book<O> {
         ensures kept { IsKept O.told O.trace O.faults self.new }
         ensures stored { MatchResult result (Stores O.trace O.faults key number self.old self.new)
             (ReserveFails O.faults key number self.old self.new) }
+        ensures known { IsSome (key_row self.new.state.keys key) }
+        ensures slots { self.new.journal.slots ≡ self.old.journal.slots }
         ensures sunk { IsTrue O.told → (O.trace self.new.site).now.sunk ≡ (O.trace self.old.site).now.sunk }
+        ensures later { O.faults self.old.site ≤ O.faults self.new.site }
     {
         let marks = self.reserved(key, number);
         let before = Snapshot::of(&self.site);
@@ -253,7 +263,10 @@ impl<O: Site> Book<O> {
         ensures unneeded { number < mark_of self.old.state key → (result ≡ Ok (mark_of self.old.state key)) × (self.new ≡ self.old) }
         ensures stored { mark_of self.old.state key ≤ number → MatchResult result
             (Stores O.trace O.faults key number self.old self.new) (ReserveFails O.faults key number self.old self.new) }
+        ensures known { IsSome (key_row self.new.state.keys key) }
+        ensures slots { self.new.journal.slots ≡ self.old.journal.slots }
         ensures sunk { IsTrue O.told → (O.trace self.new.site).now.sunk ≡ (O.trace self.old.site).now.sunk }
+        ensures later { O.faults self.old.site ≤ O.faults self.new.site }
     {
         if number < self.now.mark {
             return Ok(self.now.mark);
