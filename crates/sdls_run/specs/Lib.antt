@@ -8,5 +8,6 @@ pub mod Life
 pub mod Output
 pub mod Records
 pub mod RecordSteps
+pub mod Serving
 pub mod Sound
 pub mod Words

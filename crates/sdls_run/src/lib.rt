@@ -19,6 +19,7 @@ mod outcome;
 mod output;
 mod records;
 mod refusal;
+mod serving;
 pub mod status;
 #[cfg(test)]
 mod tests;

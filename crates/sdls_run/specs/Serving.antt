@@ -1,0 +1,129 @@
+-- What holds while frames are served (profile). Private: the clauses of `run` speak of courses and moments.
+use Rattle.std.specs.Prelude.{◌≡◌, ◌≢◌, ℕ, ◌+◌, ◌<◌, ◌≤◌, ◌⊎◌, ⊤, Bool, IsTrue, List, [], ◌∷◌, length}
+use Rattle.std.specs.List.{All, AllPairs}
+use Rattle.std.specs.Option.{IsSome}
+use Rattle.sdls_base.specs.KeyId.{end_of}
+use Rattle.sdls_base.specs.declared.entry.Entry.{Entry}
+use Rattle.sdls_outside.specs.Faults.{Rose}
+use Rattle.sdls_outside.specs.Moments.{Trace}
+use Rattle.disk_journal.specs.Image.{records}
+use Rattle.unit_book.specs.declared.binding.Verdict.TheVariants.{Bound}
+use Rattle.unit_book.specs.declared.fault.BookFault.{BookFault}
+use Rattle.unit_book.specs.declared.fault.BookFault.TheVariants.{SiteFault, Stopped, JournalFull}
+use Rattle.unit_book.specs.Verdict.{protect_verdict, binding_of, IsBound}
+use Rattle.unit_book.specs.Protects.{Protects}
+use Rattle.unit_book.specs.Binding.{BindingParts}
+use Rattle.unit_book.specs.State.{State, key_row, mark_of}
+use Rattle.unit_book.specs.History.{Near, AreReserves, after_first}
+use Rattle.unit_book.specs.Book.{BookView, IsKept, Stores, ReserveFails, places_below}
+use Rattle.sdls_run.specs.declared.records.Record.{Record}
+use Rattle.sdls_run.specs.declared.answers.Answer.{Answer}
+use Rattle.sdls_run.specs.AnswerOctets.{answer_octets}
+use Rattle.sdls_run.specs.Fits.{Course, IsBare, IsVerdict, IsWanting, FitInTurn}
+use Rattle.sdls_run.specs.Sound.{Uses, Differ, TellsEpoch, OneFault}
+
+-- the course of a run so far, whose count of faults at the start was before
+abbrev pub course_of : {O : Type 0} → (O → Trace) → (O → ℕ) → ℕ → BookView O → List Record → Course
+course_of trace faults before book frames = record {
+  start = book.start;
+  slots = book.journal.slots;
+  used = length (records (trace book.opened).now.image);
+  faults_before = before;
+  faults = faults book.site;
+  entries = book.entries;
+  frames = frames;
+}
+
+-- a number that the answer uses was drawn, and is stored
+abbrev pub IsDrawn : State → State → ℕ → ℕ → Answer → Type 0
+IsDrawn start state key next answer = (k number : ℕ) → Uses answer k number
+    → (k ≡ key) × (mark_of start key ≤ number) × (number < next) × (number < mark_of state key)
+
+-- the answer says that the site failed
+abbrev pub SaysFailed : Answer → Type 0
+SaysFailed answer = (answer.code ≡ 0x31) ⊎ (answer.code ≡ 0x32)
+
+-- these frames were answered with these answers, and this number is the next
+pub record IsServing {O : Type 0} (told : Bool) (trace : O → Trace) (faults : O → ℕ) (before : ℕ) (book : BookView O)
+    (binding : BindingParts) (next : ℕ) (frames : List Record) (answers : List Answer) : Type 0 where
+  pub kept : IsKept told trace faults book
+  pub binding_is : binding ≡ binding_of book.start
+  pub known : IsSome (key_row book.state.keys binding.key)
+  pub before_low : before ≤ faults book.opened
+  pub next_low : mark_of book.start binding.key ≤ next
+  pub next_high : next ≤ mark_of book.start binding.key + length frames
+  pub next_least : 1 ≤ next
+  pub few : length book.entries ≤ length frames
+  pub reserves : AreReserves (Near book.start (length frames)) book.start book.entries
+  pub same_many : length answers ≡ length frames
+  pub fit : IsTrue told → FitInTurn (course_of trace faults before book frames) frames answers
+  pub drawn : All (IsDrawn book.start book.state binding.key next) answers
+  pub differ : AllPairs (Differ Uses) answers
+  pub none_accepts : All (λ answer. answer.code ≢ 1) answers
+  pub first_epoch : All (λ answer. TellsEpoch answer → answer.position ≡ 0) answers
+  pub failed : All (λ answer. SaysFailed answer → Rose (faults book.opened) (faults book.site)) answers
+  pub one_fault : OneFault answers
+
+-- a frame that is not bound
+pub record AnswersVerdict (start : State) (frame : Record) (answer : Answer) : Type 0 where
+  pub verdict : IsVerdict (protect_verdict start frame.link frame.octets) answer
+  pub number_is : answer.number ≡ 0
+  pub position_is : answer.position ≡ 0
+
+-- the numbers of the key have come to their end
+pub record AnswersExhausted (start : State) (key next : ℕ) (frame : Record) (answer : Answer) : Type 0 where
+  pub verdict : protect_verdict start frame.link frame.octets ≡ Bound
+  pub bound : IsBound start frame.link frame.octets
+  pub at_end : end_of key ≤ next
+  pub code_is : answer.code ≡ 0x20
+  pub detail_is : answer.detail ≡ 0
+  pub key_is : answer.key ≡ key
+  pub number_is : answer.number ≡ next
+  pub position_is : answer.position ≡ 0
+  pub body_is : answer.body ≡ []
+
+-- the frame is protected under the number
+pub record AnswersProtected (binding : BindingParts) (number : ℕ) (frame : Record) (answer : Answer) : Type 0 where
+  pub code_is : answer.code ≡ 0
+  pub detail_is : answer.detail ≡ 0
+  pub key_is : answer.key ≡ binding.key
+  pub number_is : answer.number ≡ number
+  pub position_is : answer.position ≡ 0
+  pub protects : Protects binding.spi binding.octets number frame.octets answer.body
+
+-- the number has been reserved before, or is now
+abbrev pub Reserves : {O : Type 0} → (O → Trace) → (O → ℕ) → ℕ → ℕ → BookView O → BookView O → Type 0
+Reserves trace faults key number old new =
+    ((number < mark_of old.state key) × (new ≡ old))
+    ⊎ ((mark_of old.state key ≤ number) × ((mark : ℕ) × Stores trace faults key number old new mark))
+
+-- the answer that a refusal of the book is given
+abbrev pub TellsRefusal : BookFault → ℕ → Answer → Type 0
+TellsRefusal (SiteFault count) position answer = IsBare 0x31 0 answer × (answer.number ≡ count) × (answer.position ≡ position)
+TellsRefusal (Stopped count) position answer = IsBare 0x32 0 answer × (answer.number ≡ count) × (answer.position ≡ position)
+TellsRefusal (JournalFull slots) position answer = IsBare 0x30 0 answer × (answer.number ≡ slots) × (answer.position ≡ position)
+
+-- a number is drawn for the frame
+pub record Draws {O : Type 0} (trace : O → Trace) (faults : O → ℕ) (binding : BindingParts) (number : ℕ)
+    (old new : BookView O) (frame : Record) (answer : Answer) : Type 0 where
+  pub verdict : protect_verdict old.start frame.link frame.octets ≡ Bound
+  pub bound : IsBound old.start frame.link frame.octets
+  pub below : number < end_of binding.key
+  pub outcome : (Reserves trace faults binding.key number old new × AnswersProtected binding number frame answer)
+      ⊎ ((mark_of old.state binding.key ≤ number) × ((fault : BookFault)
+          × ReserveFails faults binding.key number old new fault × TellsRefusal fault (length new.entries) answer))
+
+-- one frame is answered: without a number, or with the next one
+abbrev pub AnswersFrame : {O : Type 0} → (O → Trace) → (O → ℕ) → BindingParts → ℕ → ℕ → BookView O → BookView O → Record → Answer → Type 0
+AnswersFrame trace faults binding next_old next_new old new frame answer =
+    ((next_new ≡ next_old) × (new ≡ old) × (AnswersVerdict old.start frame answer ⊎ IsWanting answer
+        ⊎ AnswersExhausted old.start binding.key next_old frame answer))
+    ⊎ ((next_new ≡ next_old + 1) × Draws trace faults binding next_old old new frame answer)
+
+-- Each answer's number lies below the mark that was stored when its first octet was sunk. The first answer begins at this
+-- place among the octets sunk.
+abbrev pub AreCovered : State → List Entry → List ℕ → ℕ → ℕ → List Answer → Type 0
+AreCovered start entries places key place [] = ⊤
+AreCovered start entries places key place (answer ∷ answers) =
+    ((k number : ℕ) → Uses answer k number → number < mark_of (after_first start entries (places_below (place + 1) places)) key)
+    × AreCovered start entries places key (place + length (answer_octets answer)) answers
