@@ -1,5 +1,5 @@
 -- What holds while frames are served (profile). Private: the clauses of `run` speak of courses and moments.
-use Rattle.std.specs.Prelude.{◌≡◌, ◌≢◌, ℕ, ◌+◌, ◌<◌, ◌≤◌, ◌⊎◌, ⊤, Bool, IsTrue, List, [], ◌∷◌, length}
+use Rattle.std.specs.Prelude.{◌≡◌, ◌≢◌, ℕ, ◌+◌, ◌^◌, ◌<◌, ◌≤◌, ◌⊎◌, ⊤, Bool, IsTrue, List, [], ◌∷◌, length}
 use Rattle.std.specs.List.{All, AllPairs}
 use Rattle.std.specs.Option.{IsSome}
 use Rattle.sdls_base.specs.KeyId.{end_of}
@@ -63,6 +63,15 @@ pub record IsServing {O : Type 0} (told : Bool) (trace : O → Trace) (faults : 
   pub first_epoch : All (λ answer. TellsEpoch answer → answer.position ≡ 0) answers
   pub failed : All (λ answer. SaysFailed answer → Rose (faults book.opened) (faults book.site)) answers
   pub one_fault : OneFault answers
+
+-- a book with what its channel is bound to, and a next number that may be drawn or is past the end
+pub record IsReady {O : Type 0} (told : Bool) (trace : O → Trace) (faults : O → ℕ) (book : BookView O) (binding : BindingParts) (next : ℕ)
+    : Type 0 where
+  pub kept : IsKept told trace faults book
+  pub binding_is : binding ≡ binding_of book.start
+  pub known : IsSome (key_row book.state.keys binding.key)
+  pub next_least : 1 ≤ next
+  pub short_numbers : end_of binding.key ≤ 2 ^ 32
 
 -- a frame that is not bound
 pub record AnswersVerdict (start : State) (frame : Record) (answer : Answer) : Type 0 where

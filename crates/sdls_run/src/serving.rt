@@ -1,5 +1,5 @@
 // Frames of one telecommand channel, protected and answered.
-ghost use Rattle.std.specs.Prelude.{◌≡◌, ◌≢◌, ℕ, ◌+◌, ◌<◌, ◌≤◌, ◌++◌, IsTrue, IfOk, List, length, vec_len};
+ghost use Rattle.std.specs.Prelude.{◌≡◌, ◌≢◌, ◌+◌, ◌^◌, ◌<◌, ◌≤◌, IsTrue, IfOk, None, length, vec_len};
 ghost use Rattle.sdls_base.specs.KeyId.{end_of};
 ghost use Rattle.unit_book.specs.declared.binding.Verdict.{Verdict};
 ghost use Rattle.unit_book.specs.Verdict.{protect_verdict, binding_of, IsBound, clear_fault};
@@ -7,7 +7,7 @@ ghost use Rattle.unit_book.specs.Book.{IsKept};
 ghost use Rattle.unit_book.specs.State.{key_row};
 ghost use Rattle.std.specs.Option.{IsSome};
 ghost use Rattle.sdls_run.specs.Fits.{IsBare, IsVerdict};
-ghost use Rattle.sdls_run.specs.Serving.{AnswersFrame, Draws, TellsRefusal};
+ghost use Rattle.sdls_run.specs.Serving.{AnswersFrame, AnswersProtected, Draws, IsReady, TellsRefusal};
 
 use crate::answers::Answer;
 use crate::records::Record;
@@ -69,9 +69,107 @@ fn refused(alloc: Global, fault: BookFault, position: u64) -> Answer
     }
 }
 
+/// Protects a frame under a number into `body`, and answers it.
+fn protected(binding: &Binding, number: u64, frame: &Record, mut body: Vec<u8>) -> Answer
+    requires faultless { clear_fault frame.now.octets ≡ None }
+    requires least { 1 ≤ number }
+    requires most { number < 2 ^ 32 }
+    requires room { vec_len body ≡ length frame.now.octets + OVERHEAD }
+    ensures { AnswersProtected binding.now number frame.now result }
+{
+    shield(binding, number, frame.octets.as_slice(), &mut body);
+    Answer {
+        code: 0x00,
+        detail: 0,
+        key: binding.key().get(),
+        position: 0,
+        number,
+        body: Octets::new(body),
+    }
+}
+
 /// So many zeros.
 fn zeros(alloc: Global, count: usize) -> Result<Vec<u8>, AllocError>
     ensures { IfOk result (λ zeros. vec_len zeros ≡ count) }
 {
     vec![in alloc; 0; count]
+}
+
+impl<O: Site> Session<O> {
+    /// Draws the next number, reserves it, and protects a bound frame under it into `body`.
+    fn use_number(&mut self, alloc: Global, frame: &Record, body: Vec<u8>) -> Answer
+        requires kept { IsKept O.told O.trace O.faults self.old.book }
+        requires binding { self.old.binding ≡ binding_of self.old.book.start }
+        requires known { IsSome (key_row self.old.book.state.keys self.old.binding.key) }
+        requires least { 1 ≤ self.old.next }
+        requires below { self.old.next < end_of self.old.binding.key }
+        requires small { end_of self.old.binding.key ≤ 2 ^ 32 }
+        requires verdict { protect_verdict self.old.book.start frame.now.link frame.now.octets ≡ Verdict.Bound }
+        requires bound { IsBound self.old.book.start frame.now.link frame.now.octets }
+        requires faultless { clear_fault frame.now.octets ≡ None }
+        requires room { vec_len body ≡ length frame.now.octets + OVERHEAD }
+        ensures kept { IsKept O.told O.trace O.faults self.new.book }
+        ensures binding { self.new.binding ≡ self.old.binding }
+        ensures known { IsSome (key_row self.new.book.state.keys self.new.binding.key) }
+        ensures next { self.new.next ≡ self.old.next + 1 }
+        ensures draws { Draws O.trace O.faults self.old.binding self.old.next self.old.book self.new.book frame.now result }
+        ensures slots { self.new.book.journal.slots ≡ self.old.book.journal.slots }
+        ensures sunk { IsTrue O.told → (O.trace self.new.book.site).now.sunk ≡ (O.trace self.old.book.site).now.sunk }
+        ensures later { O.faults self.old.book.site ≤ O.faults self.new.book.site }
+    {
+        let number = self.next;
+        self.next += 1;
+        match self.book.reserve(self.binding.key(), number) {
+            Ok(_) => protected(&self.binding, number, frame, body),
+            Err(fault) => refused(alloc, fault, self.book.count()),
+        }
+    }
+
+    /// Answers a bound frame.
+    fn answer_bound(&mut self, alloc: Global, frame: &Record) -> Answer
+        requires ready { IsReady O.told O.trace O.faults self.old.book self.old.binding self.old.next }
+        requires verdict { protect_verdict self.old.book.start frame.now.link frame.now.octets ≡ Verdict.Bound }
+        requires bound { IsBound self.old.book.start frame.now.link frame.now.octets }
+        requires faultless { clear_fault frame.now.octets ≡ None }
+        ensures ready { IsReady O.told O.trace O.faults self.new.book self.new.binding self.new.next }
+        ensures binding { self.new.binding ≡ self.old.binding }
+        ensures answers { AnswersFrame O.trace O.faults self.old.binding self.old.next self.new.next
+            self.old.book self.new.book frame.now result }
+        ensures slots { self.new.book.journal.slots ≡ self.old.book.journal.slots }
+        ensures sunk { IsTrue O.told → (O.trace self.new.book.site).now.sunk ≡ (O.trace self.old.book.site).now.sunk }
+        ensures later { O.faults self.old.book.site ≤ O.faults self.new.book.site }
+    {
+        let key = self.binding.key();
+        if self.next >= key.end() {
+            return Answer {
+                code: 0x20,
+                detail: 0,
+                key: key.get(),
+                position: 0,
+                number: self.next,
+                body: Octets::new(Vec::new(alloc)),
+            };
+        }
+        match zeros(alloc, frame.octets.as_slice().len() + OVERHEAD) {
+            Ok(body) => self.use_number(alloc, frame, body),
+            Err(_) => bare(alloc, 0x33, 0, 0, 0),
+        }
+    }
+
+    /// Answers a frame.
+    fn answer_frame(&mut self, alloc: Global, frame: &Record) -> Answer
+        requires ready { IsReady O.told O.trace O.faults self.old.book self.old.binding self.old.next }
+        ensures ready { IsReady O.told O.trace O.faults self.new.book self.new.binding self.new.next }
+        ensures binding { self.new.binding ≡ self.old.binding }
+        ensures answers { AnswersFrame O.trace O.faults self.old.binding self.old.next self.new.next
+            self.old.book self.new.book frame.now result }
+        ensures slots { self.new.book.journal.slots ≡ self.old.book.journal.slots }
+        ensures sunk { IsTrue O.told → (O.trace self.new.book.site).now.sunk ≡ (O.trace self.old.book.site).now.sunk }
+        ensures later { O.faults self.old.book.site ≤ O.faults self.new.book.site }
+    {
+        match self.book.verdict(frame.link, frame.octets.as_slice()) {
+            Verdict::Bound => self.answer_bound(alloc, frame),
+            verdict => unbound(alloc, verdict),
+        }
+    }
 }
