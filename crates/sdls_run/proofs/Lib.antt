@@ -7,3 +7,4 @@ pub mod ReadingRecords
 pub mod Rooms
 pub mod Spelling
 pub mod WholeInput
+pub mod ServingSteps

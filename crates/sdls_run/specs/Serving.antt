@@ -43,16 +43,22 @@ IsDrawn start state key next answer = (k number : ℕ) → Uses answer k number
 abbrev pub SaysFailed : Answer → Type 0
 SaysFailed answer = (answer.code ≡ 0x31) ⊎ (answer.code ≡ 0x32)
 
--- these frames were answered with these answers, and this number is the next
-pub record IsServing {O : Type 0} (told : Bool) (trace : O → Trace) (faults : O → ℕ) (before : ℕ) (book : BookView O)
-    (binding : BindingParts) (next : ℕ) (frames : List Record) (answers : List Answer) : Type 0 where
+-- a book with what its channel is bound to, and a next number that may be drawn or is past the end
+pub record IsReady {O : Type 0} (told : Bool) (trace : O → Trace) (faults : O → ℕ) (book : BookView O) (binding : BindingParts) (next : ℕ)
+    : Type 0 where
   pub kept : IsKept told trace faults book
   pub binding_is : binding ≡ binding_of book.start
   pub known : IsSome (key_row book.state.keys binding.key)
+  pub next_least : 1 ≤ next
+  pub short_numbers : end_of binding.key ≤ 2 ^ 32
+
+-- these frames were answered with these answers, and this number is the next
+pub record IsServing {O : Type 0} (told : Bool) (trace : O → Trace) (faults : O → ℕ) (before : ℕ) (book : BookView O)
+    (binding : BindingParts) (next : ℕ) (frames : List Record) (answers : List Answer) : Type 0 where
+  pub ready : IsReady told trace faults book binding next
   pub before_low : before ≤ faults book.opened
   pub next_low : mark_of book.start binding.key ≤ next
   pub next_high : next ≤ mark_of book.start binding.key + length frames
-  pub next_least : 1 ≤ next
   pub few : length book.entries ≤ length frames
   pub reserves : AreReserves (Near book.start (length frames)) book.start book.entries
   pub same_many : length answers ≡ length frames
@@ -63,15 +69,6 @@ pub record IsServing {O : Type 0} (told : Bool) (trace : O → Trace) (faults : 
   pub first_epoch : All (λ answer. TellsEpoch answer → answer.position ≡ 0) answers
   pub failed : All (λ answer. SaysFailed answer → Rose (faults book.opened) (faults book.site)) answers
   pub one_fault : OneFault answers
-
--- a book with what its channel is bound to, and a next number that may be drawn or is past the end
-pub record IsReady {O : Type 0} (told : Bool) (trace : O → Trace) (faults : O → ℕ) (book : BookView O) (binding : BindingParts) (next : ℕ)
-    : Type 0 where
-  pub kept : IsKept told trace faults book
-  pub binding_is : binding ≡ binding_of book.start
-  pub known : IsSome (key_row book.state.keys binding.key)
-  pub next_least : 1 ≤ next
-  pub short_numbers : end_of binding.key ≤ 2 ^ 32
 
 -- a frame that is not bound
 pub record AnswersVerdict (start : State) (frame : Record) (answer : Answer) : Type 0 where
