@@ -8,3 +8,4 @@ pub mod Rooms
 pub mod Spelling
 pub mod WholeInput
 pub mod ServingSteps
+pub mod AnswerSteps
