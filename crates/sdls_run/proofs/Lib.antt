@@ -3,5 +3,7 @@ pub mod Collecting
 pub mod Delivering
 pub mod Judging
 pub mod Making
+pub mod ReadingRecords
 pub mod Rooms
 pub mod Spelling
+pub mod WholeInput

@@ -1,6 +1,9 @@
 pub mod Answer
+pub mod AnswerOctets
 pub mod Check
 pub mod Init
 pub mod Intake
 pub mod Output
+pub mod Records
+pub mod RecordSteps
 pub mod Words

@@ -9,6 +9,7 @@
 #![tactic(auto)]
 
 mod answer;
+mod answers;
 mod check;
 mod frame_check;
 mod gate;
@@ -16,6 +17,7 @@ mod init;
 mod intake;
 mod outcome;
 mod output;
+mod records;
 mod refusal;
 pub mod status;
 #[cfg(test)]
