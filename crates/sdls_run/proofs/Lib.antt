@@ -5,7 +5,7 @@ pub mod Judging
 pub mod Making
 pub mod ReadingRecords
 pub mod Rooms
-pub mod Spelling
-pub mod WholeInput
 pub mod ServingSteps
 pub mod AnswerSteps
+pub mod Spelling
+pub mod WholeInput

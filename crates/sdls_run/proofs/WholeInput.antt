@@ -1,12 +1,12 @@
 -- What segments one after the other say of the whole input.
-use Rattle.std.proofs.Common.{◌≡◌, ℕ, ◌+◌, ◌-◌, ◌^◌, ◌≤◌, ◌<◌, Bool, true, false, IsTrue, List, [], ◌∷◌, ◌++◌, length, refl, sym, ◌∙◌, ap, subst, inl, inr, ⊎_elim, arith, rules, tests, append_assoc, length-append}
+use Rattle.std.proofs.Common.{◌≡◌, ℕ, ◌+◌, ◌<◌, Bool, false, IsTrue, List, [], ◌∷◌, ◌++◌, length, refl, sym, ◌∙◌, ap, subst, inl, inr, ⊎_elim, arith, rules, tests, append_assoc, length-append}
 use Rattle.std.specs.Prelude.{◌⊎◌, ◌==◌, if◌then◌else◌, map, All}
 use Rattle.std.proofs.lemmas.List.{append-nil}
 use Rattle.std.proofs.lemmas.List.Elements.{All-nil, All-cons, All-append}
 use Rattle.sdls_run.specs.declared.records.Record.{Record}
 use Rattle.sdls_run.specs.declared.records.SegmentEnd.{SegmentEnd}
 use Rattle.sdls_run.specs.declared.records.SegmentEnd.TheVariants.{More, End, Malformed, SourceFault}
-use Rattle.sdls_run.specs.Records.{Item, Place, Moves, Segment, NextSegment, NoBeginning, EndsBefore, AreNumbered, Closes, HasRead, ReadsOn, IsFence, IsItem, IsMalformedRest, item_octets, items_octets, protect_item, records_octets, with_records, due_beginning, beginning}
+use Rattle.sdls_run.specs.Records.{Item, Place, Moves, Segment, NextSegment, NoBeginning, AreNumbered, Closes, HasRead, ReadsOn, IsItem, item_octets, items_octets, protect_item, records_octets, with_records, due_beginning, beginning}
 
 items_octets-append : (xs ys : List Item) → items_octets (xs ++ ys) ≡ items_octets xs ++ items_octets ys
 items_octets-append [] ys = refl

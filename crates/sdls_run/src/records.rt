@@ -279,7 +279,9 @@ impl Reader {
         ensures later { S.faults source.old ≤ S.faults source.new }
         ensures cause { IfOk result (λ read. HasFaultCause (S.faults source.old) (S.faults source.new) read.1) }
     {
-        if self.taken == 0 && let Some(end) = self.begin(source) {
+        if self.taken == 0
+            && let Some(end) = self.begin(source)
+        {
             return Ok((Vec::new(alloc), end));
         }
         self.read_items(alloc, source)
