@@ -75,7 +75,8 @@ fn protected(binding: &Binding, number: u64, frame: &Record, mut body: Vec<u8>) 
     requires least { 1 ≤ number }
     requires most { number < 2 ^ 32 }
     requires room { vec_len body ≡ length frame.now.octets + OVERHEAD }
-    ensures { AnswersProtected binding.now number frame.now result }
+    ensures protected { AnswersProtected binding.now number frame.now result }
+    ensures short { length result.body ≤ 1024 }
 {
     shield(binding, number, frame.octets.as_slice(), &mut body);
     Answer {
@@ -112,6 +113,7 @@ impl<O: Site> Session<O> {
         ensures binding { self.new.binding ≡ self.old.binding }
         ensures known { IsSome (key_row self.new.book.state.keys self.new.binding.key) }
         ensures next { self.new.next ≡ self.old.next + 1 }
+        ensures short { length result.body ≤ 1024 }
         ensures draws { Draws O.trace O.faults self.old.binding self.old.next self.old.book self.new.book frame.now result }
         ensures slots { self.new.book.journal.slots ≡ self.old.book.journal.slots }
         ensures sunk { IsTrue O.told → (O.trace self.new.book.site).now.sunk ≡ (O.trace self.old.book.site).now.sunk }
@@ -133,6 +135,7 @@ impl<O: Site> Session<O> {
         requires faultless { clear_fault frame.now.octets ≡ None }
         ensures ready { IsReady O.told O.trace O.faults self.new.book self.new.binding self.new.next }
         ensures binding { self.new.binding ≡ self.old.binding }
+        ensures short { length result.body ≤ 1024 }
         ensures answers { AnswersFrame O.trace O.faults self.old.binding self.old.next self.new.next
             self.old.book self.new.book frame.now result }
         ensures slots { self.new.book.journal.slots ≡ self.old.book.journal.slots }
@@ -161,6 +164,7 @@ impl<O: Site> Session<O> {
         requires ready { IsReady O.told O.trace O.faults self.old.book self.old.binding self.old.next }
         ensures ready { IsReady O.told O.trace O.faults self.new.book self.new.binding self.new.next }
         ensures binding { self.new.binding ≡ self.old.binding }
+        ensures short { length result.body ≤ 1024 }
         ensures answers { AnswersFrame O.trace O.faults self.old.binding self.old.next self.new.next
             self.old.book self.new.book frame.now result }
         ensures slots { self.new.book.journal.slots ≡ self.old.book.journal.slots }

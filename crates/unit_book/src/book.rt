@@ -1,5 +1,5 @@
 // The book.
-ghost use Rattle.std.specs.Prelude.{◌≡◌, ℕ, ◌+◌, ◌<◌, ◌≤◌, ◌↔◌, IsTrue, MatchResult, IfOk, IfErr, Ok, None, min, length, [], ◌∷◌, ◌++◌, vec_len, vec_capacity};
+ghost use Rattle.std.specs.Prelude.{◌≡◌, ℕ, ◌+◌, ◌^◌, ◌<◌, ◌≤◌, ◌↔◌, IsTrue, MatchResult, IfOk, IfErr, Ok, None, min, length, [], ◌∷◌, ◌++◌, vec_len, vec_capacity};
 ghost use Rattle.std.specs.Option.{IsSome};
 ghost use Rattle.sdls_base.specs.KeyId.{end_of};
 ghost use Rattle.sdls_outside.specs.Faults.{Rose};
@@ -63,7 +63,7 @@ impl<O: Site> Model for Book<O> {
 
     ghost invariant = { λ book. (book.faults ≡ O.faults book.opened.value)
         × (1 ≤ book.plan.block) × (book.now.floor < end_of book.plan.key) × (book.journal.slots ≤ MOST_SLOTS)
-        × (1 ≤ book.now.mark)
+        × (1 ≤ book.now.mark) × (32768 ≤ book.plan.key)
         × (MOST_SLOTS ≤ vec_capacity book.entries) × (MOST_SLOTS ≤ vec_capacity book.stored) };
 }
 
@@ -144,6 +144,7 @@ impl<O: Site> Book<O> {
         ensures binding { result ≡ binding_of self.entry.now.start }
         ensures known { IsSome (key_row self.entry.now.start.keys result.key) }
         ensures known_now { IsSome (key_row self.entry.now.state.keys result.key) }
+        ensures short_numbers { end_of result.key ≤ 2 ^ 32 }
     {
         Binding::of(&self.plan)
     }

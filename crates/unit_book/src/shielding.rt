@@ -90,6 +90,7 @@ pub fn shield(binding: &Binding, number: u64, clear: &[u8], out: &mut [u8]) -> u
     requires most { number < 2 ^ 32 }
     requires room { length clear.now + 22 ≤ length out.old }
     ensures count { result ≡ length clear.now + 22 }
+    ensures short { result ≤ 1024 }
     ensures protected { Protects binding.now.spi binding.now.octets number clear.now (take result out.new) }
     ensures rest { drop result out.new ≡ drop result out.old }
 {

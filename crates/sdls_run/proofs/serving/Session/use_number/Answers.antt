@@ -14,5 +14,5 @@ returns-in-Ok-clause-draws g c = record {
     | inr high ↦ inr (high, (c.in-Ok.field-0, subst (λ (k : ℕ). Stores {O = g.row.O.Denot} g.O.Site.trace g.O.Site.faults k c.args.self.now.next
         c.args.self.now.book c.reserve.new.self c.in-Ok.field-0) c.key.ensures
         (c.in-Ok.ensures.stored (subst (λ (k : ℕ). mark_of c.args.self.now.book.state k ≤ c.args.self.now.next) (sym c.key.ensures) high))))
-  ], c.protected.ensures);
+  ], c.protected.ensures.protected);
 }
