@@ -4,6 +4,7 @@ pub mod Delivering
 pub mod Judging
 pub mod Making
 pub mod ReadingRecords
+pub mod Putting
 pub mod Rooms
 pub mod ServingSteps
 pub mod AnswerSteps

@@ -1,11 +1,11 @@
 -- What holds while frames are served (profile). Private: the clauses of `run` speak of courses and moments.
-use Rattle.std.specs.Prelude.{◌≡◌, ◌≢◌, ℕ, ◌+◌, ◌^◌, ◌<◌, ◌≤◌, ◌⊎◌, ⊤, Bool, IsTrue, List, [], ◌∷◌, length}
+use Rattle.std.specs.Prelude.{◌≡◌, ◌≢◌, ℕ, ◌+◌, ◌^◌, ◌<◌, ◌≤◌, ◌⊎◌, ⊤, Bool, IsTrue, List, [], ◌∷◌, ◌++◌, length, Result, MatchResult}
 use Rattle.std.specs.List.{All, AllPairs}
 use Rattle.std.specs.Option.{IsSome}
 use Rattle.sdls_base.specs.KeyId.{end_of}
 use Rattle.sdls_base.specs.declared.entry.Entry.{Entry}
 use Rattle.sdls_outside.specs.Faults.{Rose}
-use Rattle.sdls_outside.specs.Moments.{Trace}
+use Rattle.sdls_outside.specs.Moments.{Trace, Between}
 use Rattle.disk_journal.specs.Image.{records}
 use Rattle.unit_book.specs.declared.binding.Verdict.TheVariants.{Bound}
 use Rattle.unit_book.specs.declared.fault.BookFault.{BookFault}
@@ -133,3 +133,14 @@ AreCovered start entries places key place [] = ⊤
 AreCovered start entries places key place (answer ∷ answers) =
     ((k number : ℕ) → Uses answer k number → number < mark_of (after_first start entries (places_below (place + 1) places)) key)
     × AreCovered start entries places key (place + length (answer_octets answer)) answers
+
+-- From any run in which these were served, the frames are answered with these answers.
+abbrev pub ServesOn : {O : Type 0} → Bool → (O → Trace) → (O → ℕ) → BindingParts → BookView O → BookView O → ℕ → ℕ
+    → List Record → List Answer → Type 0
+ServesOn told trace faults binding old new next_old next_new frames answers = (before : ℕ) (first : List Record) (given : List Answer)
+    → IsServing told trace faults before old binding next_old first given
+    → IsServing told trace faults before new binding next_new (first ++ frames) (given ++ answers)
+
+-- Ok: the octets were added to what is sunk. Err: a front of them.
+abbrev pub Adds : {T E : Type 0} → List ℕ → Result T E → List ℕ → List ℕ → Type 0
+Adds octets result old new = MatchResult result (λ _. new ≡ old ++ octets) (λ _. Between old (old ++ octets) new)

@@ -1,5 +1,5 @@
 // Frames of one telecommand channel, protected and answered.
-ghost use Rattle.std.specs.Prelude.{◌≡◌, ◌≢◌, ◌+◌, ◌^◌, ◌<◌, ◌≤◌, IsTrue, IfOk, None, length, vec_len};
+ghost use Rattle.std.specs.Prelude.{◌≡◌, ◌≢◌, ◌+◌, ◌^◌, ◌<◌, ◌≤◌, [], ◌∷◌, ◌++◌, IsTrue, IfOk, OnErr, None, length, vec_len, vec_capacity};
 ghost use Rattle.sdls_base.specs.KeyId.{end_of};
 ghost use Rattle.unit_book.specs.declared.binding.Verdict.{Verdict};
 ghost use Rattle.unit_book.specs.Verdict.{protect_verdict, binding_of, IsBound, clear_fault};
@@ -7,11 +7,16 @@ ghost use Rattle.unit_book.specs.Book.{IsKept};
 ghost use Rattle.unit_book.specs.State.{key_row};
 ghost use Rattle.std.specs.Option.{IsSome};
 ghost use Rattle.sdls_run.specs.Fits.{IsBare, IsVerdict};
-ghost use Rattle.sdls_run.specs.Serving.{AnswersFrame, AnswersProtected, Draws, IsReady, TellsRefusal};
+ghost use Rattle.std.specs.List.{All};
+ghost use Rattle.sdls_outside.specs.Faults.{Rose};
+ghost use Rattle.unit_book.specs.Book.{SameBook};
+ghost use Rattle.sdls_run.specs.AnswerOctets.{answer_octets};
+ghost use Rattle.sdls_run.specs.Sound.{answers_octets};
+ghost use Rattle.sdls_run.specs.Serving.{Adds, ServesOn, AnswersFrame, AnswersProtected, Draws, IsReady, TellsRefusal};
 
-use crate::answers::Answer;
+use crate::answers::{Answer, answer_header};
 use crate::records::Record;
-use sdls_base::Octets;
+use sdls_base::{NoMemory, Octets};
 use sdls_outside::Site;
 use std::alloc::{AllocError, Global};
 use unit_book::{Binding, Book, BookFault, Verdict, shield};
@@ -176,4 +181,76 @@ impl<O: Site> Session<O> {
             verdict => unbound(alloc, verdict),
         }
     }
+
+    /// Answers the frames of a segment, in their order. Where memory is wanting none is answered.
+    fn answer_frames(&mut self, alloc: Global, frames: &[Record]) -> Result<Vec<Answer>, NoMemory>
+        requires ready { IsReady O.told O.trace O.faults self.old.book self.old.binding self.old.next }
+        ensures ready { IsReady O.told O.trace O.faults self.new.book self.new.binding self.new.next }
+        ensures binding { self.new.binding ≡ self.old.binding }
+        ensures answered { IfOk result (λ answers. ServesOn O.told O.trace O.faults self.old.binding self.old.book self.new.book
+            self.old.next self.new.next frames.now answers.items) }
+        ensures short { IfOk result (λ answers. All (λ answer. length answer.body ≤ 1024) answers.items) }
+        ensures unanswered { OnErr result (self.new ≡ self.old) }
+        ensures sunk { IsTrue O.told → (O.trace self.new.book.site).now.sunk ≡ (O.trace self.old.book.site).now.sunk }
+        ensures later { O.faults self.old.book.site ≤ O.faults self.new.book.site }
+    {
+        let Ok(mut answers) = Vec::with_capacity(alloc, frames.len()) else {
+            return Err(NoMemory);
+        };
+        for frame in frames {
+            let answer = self.answer_frame(alloc, frame);
+            push_within(&mut answers, answer);
+        }
+        Ok(answers)
+    }
+
+    /// Puts an answer, its header before its body.
+    fn put_answer(&mut self, answer: &Answer) -> Result<(), BookFault>
+        requires kept { IsKept O.told O.trace O.faults self.old.book }
+        requires short { length answer.now.body ≤ 1024 }
+        ensures kept { IsKept O.told O.trace O.faults self.new.book }
+        ensures same { SameBook self.old.book self.new.book }
+        ensures others { (self.new.binding ≡ self.old.binding) × (self.new.next ≡ self.old.next) }
+        ensures put { IsTrue O.told → Adds (answer_octets answer.now) result (O.trace self.old.book.site).now.sunk
+            (O.trace self.new.book.site).now.sunk }
+        ensures later { O.faults self.old.book.site ≤ O.faults self.new.book.site }
+        ensures fault { OnErr result (Rose (O.faults self.old.book.site) (O.faults self.new.book.site)) }
+    {
+        match self.book.put(&answer_header(answer)) {
+            Ok(()) => self.book.put(answer.body.as_slice()),
+            Err(fault) => Err(fault),
+        }
+    }
+
+    /// Puts answers, one after the other.
+    fn put_answers(&mut self, answers: &[Answer]) -> Result<(), BookFault>
+        requires kept { IsKept O.told O.trace O.faults self.old.book }
+        requires short { All (λ answer. length answer.body ≤ 1024) answers.now }
+        ensures kept { IsKept O.told O.trace O.faults self.new.book }
+        ensures same { SameBook self.old.book self.new.book }
+        ensures others { (self.new.binding ≡ self.old.binding) × (self.new.next ≡ self.old.next) }
+        ensures put { IsTrue O.told → Adds (answers_octets answers.now) result (O.trace self.old.book.site).now.sunk
+            (O.trace self.new.book.site).now.sunk }
+        ensures later { O.faults self.old.book.site ≤ O.faults self.new.book.site }
+        ensures fault { OnErr result (Rose (O.faults self.old.book.site) (O.faults self.new.book.site)) }
+    {
+        for answer in answers {
+            match self.put_answer(answer) {
+                Ok(()) => {}
+                Err(fault) => return Err(fault),
+            }
+        }
+        Ok(())
+    }
+}
+
+/// Pushes an element for which there is room.
+fn push_within<T: Drop>(items: &mut Vec<T>, item: T)
+    requires { vec_len items.old < vec_capacity items.old }
+    ensures items { items.new.items ≡ items.old.items ++ item ∷ [] }
+    ensures capacity { vec_capacity items.old ≤ vec_capacity items.new }
+{
+    let Ok(()) = items.push(item) else {
+        unreachable!()
+    };
 }

@@ -1,0 +1,15 @@
+use Rattle.std.proofs.Common.{◌≡◌, ◌≤◌, ◌++◌, IsTrue, take}
+use Rattle.unit_book.specs.Book.{IsKept, SameBook}
+use Rattle.sdls_run.specs.Sound.{answers_octets}
+use Rattle.sdls_run.proofs.serving.Session.put_answers.Given as goal
+
+abbrev pub invariant-loop-answer : goal.invariant-loop-answer
+invariant-loop-answer g l = record {
+  kept : IsKept g.O.Site.told g.O.Site.trace g.O.Site.faults l.self.book;
+  same : SameBook l.initial.self.book l.self.book;
+  binding : l.self.binding ≡ l.initial.self.binding;
+  next : l.self.next ≡ l.initial.self.next;
+  put : IsTrue g.O.Site.told → (g.O.Site.trace l.self.book.site).now.sunk
+      ≡ (g.O.Site.trace l.initial.self.book.site).now.sunk ++ answers_octets (take l.answer-index l.answers);
+  later : g.O.Site.faults l.initial.self.book.site ≤ g.O.Site.faults l.self.book.site;
+}
