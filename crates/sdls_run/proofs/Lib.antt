@@ -8,5 +8,6 @@ pub mod Putting
 pub mod Rooms
 pub mod ServingSteps
 pub mod AnswerSteps
+pub mod Answering
 pub mod Spelling
 pub mod WholeInput
