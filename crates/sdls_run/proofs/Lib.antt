@@ -1,4 +1,5 @@
 pub mod CheckWords
+pub mod Covering
 pub mod Collecting
 pub mod Delivering
 pub mod Judging

@@ -6,6 +6,7 @@ use Rattle.unit_book.specs.Binding.{BindingParts}
 use Rattle.sdls_run.specs.declared.answers.Answer.{Answer}
 use Rattle.sdls_run.specs.Serving.{IsReady, AnswersFrame, ServesOn}
 use Rattle.sdls_run.proofs.Answering.{serves_more}
+use Rattle.sdls_run.proofs.Covering.{behind_then, frame_behind}
 use Rattle.sdls_run.proofs.serving.Session.answer_frames.Goals as goal
 
 pub loop-frame-preserved : goal.loop-frame-preserved
@@ -34,6 +35,9 @@ loop-frame-preserved g c =
           c.frame-item.result c.answer_frame-answer.result) old.binding here.answers)
           (subst (λ (b : BindingParts). IsReady told trace faults new.book b new.next) (here.binding ∙ old.binding) here.ready)
           here.slots here.later low c.frame-item.is);
+      behind = λ is_told. behind_then trace c.args.self.now.book c.loop-frame.self.book new.book (old.sunk is_told) (old.behind is_told)
+          (frame_behind told trace faults c.loop-frame.self.book new.book c.loop-frame.self.binding c.loop-frame.self.next new.next
+          c.frame-item.result c.answer_frame-answer.result old.ready.kept here.answers);
       many = omega (arith, many, old.many);
       room = omega (arith, old.room, c.push_within.ensures.capacity);
       short = subst (All (λ (answer : Answer). length answer.body ≤ 1024)) (sym items)
