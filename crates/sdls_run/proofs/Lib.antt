@@ -10,5 +10,6 @@ pub mod Rooms
 pub mod ServingSteps
 pub mod AnswerSteps
 pub mod Answering
+pub mod SegmentSteps
 pub mod Spelling
 pub mod WholeInput
