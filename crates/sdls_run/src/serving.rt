@@ -198,6 +198,7 @@ impl<O: Site> Session<O> {
         ensures binding { self.new.binding ≡ self.old.binding }
         ensures answered { IfOk result (λ answers. ServesOn O.told O.trace O.faults self.old.binding self.old.book self.new.book
             self.old.next self.new.next frames.now answers.items) }
+        ensures slots { self.new.book.journal.slots ≡ self.old.book.journal.slots }
         ensures behind { IsTrue O.told → GrowsBehind O.trace self.old.book self.new.book }
         ensures short { IfOk result (λ answers. All (λ answer. length answer.body ≤ 1024) answers.items) }
         ensures unanswered { OnErr result (self.new ≡ self.old) }
@@ -258,6 +259,8 @@ impl<O: Site> Session<O> {
         requires ready { IsReady O.told O.trace O.faults self.old.book self.old.binding self.old.next }
         ensures ready { IsReady O.told O.trace O.faults self.new.book self.new.binding self.new.next }
         ensures binding { self.new.binding ≡ self.old.binding }
+        ensures slots { self.new.book.journal.slots ≡ self.old.book.journal.slots }
+        ensures same_run { IsTrue O.told → (self.new.book.opened ≡ self.old.book.opened) × (self.new.book.start ≡ self.old.book.start) }
         ensures served { ServesSegment O.told O.trace O.faults self.old.binding self.old.book self.new.book
             self.old.next self.new.next frames.now result }
         ensures later { O.faults self.old.book.site ≤ O.faults self.new.book.site }

@@ -38,6 +38,7 @@ loop-frame-preserved g c =
       behind = λ is_told. behind_then trace c.args.self.now.book c.loop-frame.self.book new.book (old.sunk is_told) (old.behind is_told)
           (frame_behind told trace faults c.loop-frame.self.book new.book c.loop-frame.self.binding c.loop-frame.self.next new.next
           c.frame-item.result c.answer_frame-answer.result old.ready.kept here.answers);
+      slots = here.slots ∙ old.slots;
       many = omega (arith, many, old.many);
       room = omega (arith, old.room, c.push_within.ensures.capacity);
       short = subst (All (λ (answer : Answer). length answer.body ≤ 1024)) (sym items)

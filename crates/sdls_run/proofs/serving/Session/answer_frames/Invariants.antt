@@ -11,6 +11,7 @@ invariant-loop-frame g l = record {
   answered : ServesOn g.O.Site.told g.O.Site.trace g.O.Site.faults l.initial.self.binding l.initial.self.book l.self.book
       l.initial.self.next l.self.next (take l.frame-index l.frames) l.answers.items;
   behind : IsTrue g.O.Site.told → GrowsBehind g.O.Site.trace l.initial.self.book l.self.book;
+  slots : l.self.book.journal.slots ≡ l.initial.self.book.journal.slots;
   many : length l.answers.items ≡ l.frame-index;
   room : length l.frames ≤ vec_capacity l.answers;
   short : All (λ answer. length answer.body ≤ 1024) l.answers.items;
