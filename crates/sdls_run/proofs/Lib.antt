@@ -10,3 +10,4 @@ pub mod ServingSteps
 pub mod AnswerSteps
 pub mod Spelling
 pub mod WholeInput
+pub mod Lives
