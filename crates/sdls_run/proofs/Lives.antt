@@ -1,13 +1,13 @@
 -- Lives: what a run keeps, and what all runs together keep.
-use Rattle.std.proofs.Common.{◌≡◌, ◌≢◌, ℕ, zero, suc, ◌+◌, ◌<◌, ◌≤◌, ◌⊎◌, List, [], ◌∷◌, ◌++◌, length, take, None, refl, sym, ◌∙◌, ap, subst, inl, inr, arith, append_assoc, append-nil}
+use Rattle.std.proofs.Common.{◌≡◌, ℕ, suc, ◌<◌, ◌≤◌, List, [], ◌∷◌, ◌++◌, length, None, refl, sym, subst, inl, inr, arith, append_assoc, append-nil}
 use Rattle.std.specs.List.{All, AllPairs}
-use Rattle.std.proofs.lemmas.List.Elements.{All-nil, All-append, All-weaker}
+use Rattle.std.proofs.lemmas.List.Elements.{All-nil, All-append}
 use Rattle.std.proofs.lemmas.List.Kept.{AllPairs-cons}
 use Rattle.std.proofs.lemmas.Bool.{cases_eq}
 use Rattle.unit_plan.specs.declared.telecommand.TelecommandPlan.{TelecommandPlan}
 use Rattle.unit_plan.specs.Telecommand.{SaysTelecommand}
 use Rattle.disk_journal.specs.declared.layout.TheConstants.{OPEN}
-use Rattle.disk_journal.specs.Image.{records, plan_of, slot_count, IsHalfOpen, IsAtRest, regated, opened_form}
+use Rattle.disk_journal.specs.Image.{records, IsHalfOpen, regated, opened_form}
 use Rattle.disk_journal.specs.Fault.{image_fault}
 use Rattle.disk_journal.specs.Changes.{Regates}
 use Rattle.disk_journal.specs.Initial.{initial_image}
@@ -22,7 +22,7 @@ use Rattle.unit_book.proofs.ShownOnce.{shown_once}
 use Rattle.unit_book.proofs.Marks.{all_marks_rise}
 use Rattle.sdls_run.specs.declared.answers.Answer.{Answer}
 use Rattle.sdls_run.specs.Fits.{Course}
-use Rattle.sdls_run.specs.Sound.{IsSound, PairsDiffer, IsShown, ShowsServed, ImageShows, Uses, Differ}
+use Rattle.sdls_run.specs.Sound.{PairsDiffer, IsShown, ShowsServed, Uses, Differ}
 use Rattle.sdls_run.specs.Life.{LifeRun, IsRun, FollowFrom, IsLife, UsesOnce, answers_of}
 
 -- two lists, each of whose pairs are related, and each of the first with each of the second
@@ -135,11 +135,11 @@ still_below run answers is_run left state shown = elim is_run.sound.image_shows 
       let led : LedTo run.start run.course.start = shows_led run.start run.course.start is_run.shows in
       let here : IsTelecommand led.plan run.course.start = led_ends run.start run.course.start led in
       λ k d within key number uses.
-          let low : number < mark_of run.course.start key =
-          left.below run.course.start (inl is_run.shows) k d within key number uses in
-          let rise : mark_of run.course.start key ≤ mark_of state key =
-          served_raised run.course run.answers led.plan run.image state key here is_run.sound.history served shown in
-          omega arith
+      let low : number < mark_of run.course.start key =
+      left.below run.course.start (inl is_run.shows) k d within key number uses in
+      let rise : mark_of run.course.start key ≤ mark_of state key =
+      served_raised run.course run.answers led.plan run.image state key here is_run.sound.history served shown in
+      omega arith
 ]
 
 still_shown : (run : LifeRun) → IsRun run → Shown run.start → Shown run.image
@@ -199,17 +199,20 @@ begun text plan said =
     let image : List ℕ = initial_image text plan.slots in
     record {
       shown = record {
-        whole = (initial plan, record {
-          plan = plan;
-          has_plan = record {
-            opens = begins_so.of_image.opens;
-            said = subst (λ (t : List ℕ). SaysTelecommand t plan) (sym begins_so.plan_text) said;
-          };
-          same_slots = begins_so.of_image.slots;
-          last = initial plan;
-          led = no_records image plan begins_so.of_image.used;
-          left = refl;
-        });
+        whole = (
+          initial plan,
+          record {
+            plan = plan;
+            has_plan = record {
+              opens = begins_so.of_image.opens;
+              said = subst (λ (t : List ℕ). SaysTelecommand t plan) (sym begins_so.plan_text) said;
+            };
+            same_slots = begins_so.of_image.slots;
+            last = initial plan;
+            led = no_records image plan begins_so.of_image.used;
+            left = refl;
+          },
+        );
         half_open = λ half. absurd (half.torn (begins_so.rests half.there));
       };
       differ = λ i j d lt within. absurd (omega arith);
