@@ -13,3 +13,4 @@ pub mod Answering
 pub mod SegmentSteps
 pub mod Spelling
 pub mod WholeInput
+pub mod Lives

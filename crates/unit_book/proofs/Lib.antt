@@ -5,5 +5,7 @@ pub mod Leading
 pub mod Faults
 pub mod Showing
 pub mod Histories
+pub mod ShownOnce
+pub mod Marks
 pub mod Storing
 pub mod Beginning
