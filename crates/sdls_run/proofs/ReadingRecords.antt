@@ -5,9 +5,13 @@ use Rattle.std.proofs.lemmas.Nat.{from_be_bytes-to_be_bytes_2}
 use Rattle.std.proofs.lemmas.Grind.{common_steps}
 use Rattle.sdls_base.proofs.Endings.{take_front}
 use Rattle.sdls_run.specs.declared.records.Record.{Record}
-use Rattle.sdls_run.specs.Records.{Item, Place, Moves, Continues, Breaks, Fails, AreNumbered, HasEnded, IsMalformedRest, LacksItem, IsFence, IsItem, item_header, item_octets, items_octets, protect_item, records_octets}
+use Rattle.sdls_run.specs.declared.records.SegmentEnd.{SegmentEnd}
+use Rattle.sdls_run.specs.declared.records.SegmentEnd.TheVariants.{More, End, Malformed, SourceFault}
+use Rattle.sdls_run.specs.declared.records.Read.{Read}
+use Rattle.sdls_run.specs.declared.records.Read.TheVariants as reads
+use Rattle.sdls_run.specs.Records.{Item, Place, Moves, Continues, Breaks, Fails, EndsBehind, AreNumbered, HasEnded, IsMalformedRest, LacksItem, IsFence, IsItem, item_header, item_octets, items_octets, protect_item, records_octets}
 use Rattle.sdls_run.specs.Intake.{TakesAtMost}
-use Rattle.sdls_run.specs.RecordSteps.{IsNoHead}
+use Rattle.sdls_run.specs.RecordSteps.{IsNoHead, ReadsItem}
 
 length-header : (item : Item) → length (item_header item) ≡ 6
 length-header item = refl
@@ -85,6 +89,7 @@ pub breaks_at_header : (told : Bool) (old new : Place) (header left : List ℕ) 
 breaks_at_header told old new header left offset at six none = record {
   offset_is = omega arith;
   part = header;
+  few = omega (arith, six);
   moved = λ _. refl;
   malformed = λ _. no_head new.taken header left six none;
 }
@@ -105,11 +110,14 @@ continues_at_fence told old new header left fence is head six =
     }
 
 -- a fault behind the header
-pub fails_behind : (told : Bool) (most : ℕ) (header left_old left_new : List ℕ) → (IsTrue told → TakesAtMost most left_old left_new)
-    → Fails told [] (header ++ left_old) left_new
-fails_behind told most header left_old left_new bounded t =
-    let taken = bounded t in
-    (header ++ taken.taken, ap (λ l. header ++ l) taken.moved ∙ sym (append_assoc header taken.taken left_new))
+pub fails_behind : (told : Bool) (most : ℕ) (header left_old left_new : List ℕ) → length header ≡ 6 → most ≤ 2048
+    → (IsTrue told → TakesAtMost most left_old left_new) → Fails told [] (header ++ left_old) left_new
+fails_behind told most header left_old left_new six short bounded t =
+    let taken = bounded t in (
+      header ++ taken.taken,
+      ap (λ l. header ++ l) taken.moved ∙ sym (append_assoc header taken.taken left_new),
+      omega (arith, length-append header taken.taken, taken.few),
+    )
 
 -- octets of a frame that are cut
 pub breaks_in_octets : (told : Bool) (old new : Place) (header octets left_old left_new : List ℕ) (link len offset : ℕ) → offset ≡ old.taken → length header ≡ 6
@@ -119,6 +127,7 @@ pub breaks_in_octets : (told : Bool) (old new : Place) (header octets left_old l
 breaks_in_octets told old new header octets left_old left_new link len offset at six short head cut moved ended = record {
   offset_is = omega arith;
   part = header ++ octets;
+  few = omega (arith, length-append header octets);
   moved = λ t. ap (λ l. header ++ l) (moved t) ∙ sym (append_assoc header octets left_new);
   malformed = λ t. cut_octets new.taken link len header octets left_new six short head cut (ended t);
 }
@@ -134,3 +143,42 @@ moves_one_more told records more r old mid read new left_old left_mid left_new f
       counted = same ∙ both.counted ∙ ap (λ l. old.taken + length l) (sym octets);
       moved = λ t. both.moved t ∙ ap (λ l. l ++ left_new) (sym octets);
     }
+
+ends_from : (told : Bool) (octets : List ℕ) (count : ℕ) (old before new : Place) (left_old front left_new : List ℕ) (end : SegmentEnd)
+    → before.taken ≡ old.taken → (IsTrue told → left_old ≡ front)
+    → EndsBehind told octets count before new front left_new end → EndsBehind told octets count old new left_old left_new end
+ends_from told octets count old before new left_old front left_new More same e ends = record {
+  close = ends.close;
+  closes = ends.closes;
+  moves = record { counted = omega (arith, ends.moves.counted); moved = λ t. e t ∙ ends.moves.moved t };
+}
+ends_from told octets count old before new left_old front left_new End same e ends = (
+  ends.0,
+  record {
+    moves = record { counted = omega (arith, ends.1.moves.counted); moved = λ t. e t ∙ ends.1.moves.moved t };
+    ended = ends.1.ended;
+  },
+)
+ends_from told octets count old before new left_old front left_new (Malformed offset) same e ends = (
+  ends.0,
+  record {
+    offset_is = omega (arith, ends.1.offset_is);
+    part = ends.1.part;
+    few = ends.1.few;
+    moved = λ t. e t ∙ ends.1.moved t;
+    malformed = ends.1.malformed;
+  },
+)
+ends_from told octets count old before new left_old front left_new (SourceFault faults) same e ends =
+    (ends.0, λ t. let fault = ends.1 t in (fault.0, e t ∙ fault.1, fault.2))
+
+-- what was read, from the octets that were left before the header
+pub read_from : (told : Bool) (old before new : Place) (left_old front left_new : List ℕ) (read : Read) → before.taken ≡ old.taken
+    → (IsTrue told → left_old ≡ front) → ReadsItem told before new front left_new read → ReadsItem told old new left_old left_new read
+read_from told old before new left_old front left_new (reads.Protect link octets) same e found =
+    (found.0, record { counted = omega (arith, found.1.counted); moved = λ t. e t ∙ found.1.moved t })
+read_from told old before new left_old front left_new (reads.Ends end) same e found =
+    ends_from told [] 0 old before new left_old front left_new end same e found
+
+pub take_whole : (n : ℕ) (xs : List ℕ) → n ≡ length xs → take n xs ≡ xs
+take_whole n xs e = ap (λ k. take k xs) e ∙ grind (arith, common_steps)

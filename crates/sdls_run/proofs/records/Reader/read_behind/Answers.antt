@@ -17,7 +17,9 @@ returns-in-Some-Fence-clause-read g c =
 
 pub returns-in-Err-clause-read : goal.returns-in-Err-clause-read
 returns-in-Err-clause-read g c =
-    (lit< tt, fails_behind g.S.Source.told _ c.args.header _ _ c.take_octets.ensures.bounded)
+    let head : IsHead c.args.header c.in-Some-Protect.field-0 = c.in-Some-Protect.ensures in
+    let found = rw c.in-Some-Protect.field-0-is at head in
+    (lit< tt, fails_behind g.S.Source.told _ c.args.header _ _ (search rules) found.0 c.take_octets.ensures.bounded)
 
 pub returns-in-Ok-clause-read : goal.returns-in-Ok-clause-read
 returns-in-Ok-clause-read g c =
