@@ -85,10 +85,11 @@ AreNumbered-push n (x ∷ records) r (here, fits, numbered) index short =
 
 -- six octets that head no item
 pub breaks_at_header : (told : Bool) (old new : Place) (header left : List ℕ) (offset : ℕ) → offset ≡ old.taken → length header ≡ 6 → IsNoHead header
-    → Breaks told [] old new (header ++ left) left offset
-breaks_at_header told old new header left offset at six none = record {
+    → new.taken ≡ old.taken + 6 → Breaks told [] old new (header ++ left) left offset
+breaks_at_header told old new header left offset at six none count = record {
   offset_is = omega arith;
   part = header;
+  counted = omega (arith, six, count);
   few = omega (arith, six);
   moved = λ _. refl;
   malformed = λ _. no_head new.taken header left six none;
@@ -123,10 +124,11 @@ fails_behind told most header left_old left_new six short bounded t =
 pub breaks_in_octets : (told : Bool) (old new : Place) (header octets left_old left_new : List ℕ) (link len offset : ℕ) → offset ≡ old.taken → length header ≡ 6
     → len ≤ 2048 → header ≡ 1 ∷ 0 ∷ link ∷ 0 ∷ to_be_bytes w16 len → length octets < len
     → (IsTrue told → left_old ≡ octets ++ left_new) → (IsTrue told → HasEnded new.taken left_new)
-    → Breaks told [] old new (header ++ left_old) left_new offset
-breaks_in_octets told old new header octets left_old left_new link len offset at six short head cut moved ended = record {
+    → new.taken ≡ old.taken + 6 + length octets → Breaks told [] old new (header ++ left_old) left_new offset
+breaks_in_octets told old new header octets left_old left_new link len offset at six short head cut moved ended count = record {
   offset_is = omega arith;
   part = header ++ octets;
+  counted = omega (arith, length-append header octets, six, count);
   few = omega (arith, length-append header octets);
   moved = λ t. ap (λ l. header ++ l) (moved t) ∙ sym (append_assoc header octets left_new);
   malformed = λ t. cut_octets new.taken link len header octets left_new six short head cut (ended t);
@@ -164,6 +166,7 @@ ends_from told octets count old before new left_old front left_new (Malformed of
   record {
     offset_is = omega (arith, ends.1.offset_is);
     part = ends.1.part;
+    counted = omega (arith, ends.1.counted);
     few = ends.1.few;
     moved = λ t. e t ∙ ends.1.moved t;
     malformed = ends.1.malformed;

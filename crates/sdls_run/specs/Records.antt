@@ -126,6 +126,7 @@ pub record Completes (told : Bool) (octets : List ℕ) (old new : Place) (left_o
 pub record Breaks (told : Bool) (octets : List ℕ) (old new : Place) (left_old left_new : List ℕ) (offset : ℕ) : Type 0 where
   pub offset_is : offset ≡ old.taken + length octets
   pub part : List ℕ
+  pub counted : new.taken ≡ old.taken + length octets + length part
   pub few : length part ≤ 6 + 2048
   pub moved : IsTrue told → left_old ≡ octets ++ (part ++ left_new)
   pub malformed : IsTrue told → IsMalformedRest new.taken (part ++ left_new)
