@@ -1,5 +1,5 @@
 -- Items read one after the other.
-use Rattle.std.proofs.Common.{◌≡◌, ◌≢◌, ℕ, ◌+◌, ◌≤◌, ◌<◌, Bool, IsTrue, List, [], ◌∷◌, ◌++◌, length, take, drop, refl, sym, ◌∙◌, ap, subst, inl, inr, arith, append_assoc, length-append, lit<}
+use Rattle.std.proofs.Common.{◌≡◌, ◌≢◌, ℕ, ◌+◌, ◌≤◌, ◌<◌, Bool, IsTrue, List, [], ◌∷◌, ◌++◌, length, take, drop, refl, sym, ◌∙◌, ap, subst, inl, inr, ⊎_elim, arith, append_assoc, length-append, lit<}
 use Rattle.std.specs.Int.{w16, to_be_bytes, from_be_bytes}
 use Rattle.std.proofs.lemmas.Nat.{from_be_bytes-to_be_bytes_2}
 use Rattle.std.proofs.lemmas.Grind.{common_steps}
@@ -185,3 +185,35 @@ read_from told old before new left_old front left_new (reads.Ends end) same e fo
 
 pub take_whole : (n : ℕ) (xs : List ℕ) → n ≡ length xs → take n xs ≡ xs
 take_whole n xs e = ap (λ k. take k xs) e ∙ grind (arith, common_steps)
+
+-- what ends a segment, behind octets that were taken before, and so many frames
+pub ends_after : (told : Bool) (a : List ℕ) (count : ℕ) (old mid new : Place) (left_old left_mid left_new : List ℕ) (end : SegmentEnd)
+    → Moves told a old mid left_old left_mid → count < 1024 → EndsBehind told [] 0 mid new left_mid left_new end
+    → EndsBehind told a count old new left_old left_new end
+ends_after told a count old mid new left_old left_mid left_new More first few ends = record {
+  close = ends.close;
+  closes = ⊎_elim (λ fence. inl (few, fence.1)) (λ full. absurd (omega (arith, full.0))) ends.closes;
+  moves = moves_more told a (items_octets ends.close) old mid new left_old left_mid left_new first ends.moves;
+}
+ends_after told a count old mid new left_old left_mid left_new End first few ends = (
+  few,
+  record {
+    moves = subst (λ (l : List ℕ). Moves told l old new left_old left_new) (append-nil a)
+        (moves_more told a [] old mid new left_old left_mid left_new first ends.1.moves);
+    ended = ends.1.ended;
+  },
+)
+ends_after told a count old mid new left_old left_mid left_new (Malformed offset) first few ends = (
+  few,
+  record {
+    offset_is = omega (arith, ends.1.offset_is, first.counted);
+    part = ends.1.part;
+    few = ends.1.few;
+    moved = λ t. first.moved t ∙ ap (λ l. a ++ l) (ends.1.moved t);
+    malformed = ends.1.malformed;
+  },
+)
+ends_after told a count old mid new left_old left_mid left_new (SourceFault faults) first few ends = (
+  few,
+  λ t. let fault = ends.1 t in (fault.0, first.moved t ∙ ap (λ l. a ++ l) fault.1, fault.2),
+)
