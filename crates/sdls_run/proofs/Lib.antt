@@ -10,6 +10,7 @@ pub mod Rooms
 pub mod ServingSteps
 pub mod AnswerSteps
 pub mod Answering
+pub mod RunSteps
 pub mod SegmentSteps
 pub mod Spelling
 pub mod WholeInput
