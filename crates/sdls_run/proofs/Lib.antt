@@ -11,3 +11,4 @@ pub mod AnswerSteps
 pub mod Spelling
 pub mod WholeInput
 pub mod Lives
+pub mod LifeKeys

@@ -1,5 +1,5 @@
 -- Lives: what a run keeps, and what all runs together keep.
-use Rattle.std.proofs.Common.{◌≡◌, ℕ, suc, ◌<◌, ◌≤◌, List, [], ◌∷◌, ◌++◌, length, None, refl, sym, subst, inl, inr, arith, append_assoc, append-nil}
+use Rattle.std.proofs.Common.{◌≡◌, ℕ, suc, ◌<◌, ◌≤◌, List, [], ◌∷◌, ◌++◌, length, None, refl, sym, ◌∙◌, ap, subst, inl, inr, arith, append_assoc, append-nil}
 use Rattle.std.specs.List.{All, AllPairs}
 use Rattle.std.proofs.lemmas.List.Elements.{All-nil, All-append}
 use Rattle.std.proofs.lemmas.List.Kept.{AllPairs-cons}
@@ -20,7 +20,7 @@ use Rattle.unit_book.specs.Shows.{Shows}
 use Rattle.unit_book.specs.History.{Near, AreReserves, after_first}
 use Rattle.unit_book.proofs.Showing.{IsTelecommand, LedTo, shows_led, led_ends, shows_regated}
 use Rattle.unit_book.proofs.ShownOnce.{shown_once}
-use Rattle.unit_book.proofs.Marks.{all_marks_rise, floors_stay}
+use Rattle.unit_book.proofs.Marks.{all_marks_rise, floors_stay, first_telecommand}
 use Rattle.sdls_run.specs.declared.answers.Answer.{Answer}
 use Rattle.sdls_run.specs.Fits.{Course}
 use Rattle.sdls_run.specs.Sound.{PairsDiffer, AcceptedOnce, IsShown, ShowsServed, Uses, Accepts, Differ}
@@ -120,13 +120,13 @@ record IsLeft (image : List ℕ) (answers : List Answer) : Type 0 where
   below : (state : State) → IsShown image state → All (IsBelow state) answers
   floored : (state : State) → IsShown image state → All (IsFloored state) answers
 
--- the state is one at the start, or its marks and floors are no lower
-data Follows (run : LifeRun) (state : State) : Type 0 where
+-- the state is one at the start, or of the same plan, with marks that are no lower and the same floors
+pub data Follows (run : LifeRun) (state : State) : Type 0 where
   at_start : IsShown run.start state → Follows run state
-  risen : ((key : ℕ) → mark_of run.course.start key ≤ mark_of state key)
+  risen : state.plan ≡ run.course.start.plan → ((key : ℕ) → mark_of run.course.start key ≤ mark_of state key)
       → ((key : ℕ) → floor_of state key ≡ floor_of run.course.start key) → Follows run state
 
-follows : (run : LifeRun) (state : State) → IsRun run → IsShown run.image state → Follows run state
+pub follows : (run : LifeRun) (state : State) → IsRun run → IsShown run.image state → Follows run state
 follows run state is_run shown = elim is_run.sound.image_shows [
   | inl opening ↦ at_start (shown_before run.start run.image run.course.start state is_run.shows opening.1 shown)
   | inr served ↦
@@ -137,7 +137,9 @@ follows run state is_run shown = elim is_run.sound.image_shows [
       let near : ℕ → ℕ → Type 0 = Near start (length run.course.frames) in
       let reserves : AreReserves near start entries = is_run.sound.history.reserves in
       let (p, same) = served_is run.course run.answers run.image state served shown in
+      let ends : IsTelecommand led.plan (after_first start entries p) = first_telecommand near led.plan start entries p here reserves in
       risen
+      (ap (λ (s : State). s.plan) (sym same ∙ ap restarted ends.is) ∙ sym (ap (λ (s : State). s.plan) here.is))
       (λ key. subst (λ (s : State). mark_of start key ≤ mark_of s key) same
       (all_marks_rise near led.plan start entries 0 p key here reserves (omega arith)))
       (λ key. subst (λ (s : State). floor_of s key ≡ floor_of start key) same (floors_stay near led.plan start entries p key here reserves))
@@ -148,7 +150,7 @@ still_below : (run : LifeRun) (answers : List Answer) → IsRun run → IsLeft r
     → IsShown run.image state → All (IsBelow state) answers
 still_below run answers is_run left state shown = elim (follows run state is_run shown) [
   | at_start earlier ↦ left.below state earlier
-  | risen rise stay ↦ λ k d within key number uses.
+  | risen plan rise stay ↦ λ k d within key number uses.
       let low : number < mark_of run.course.start key = left.below run.course.start (inl is_run.shows) k d within key number uses in
       let high : mark_of run.course.start key ≤ mark_of state key = rise key in
       omega arith
@@ -159,7 +161,7 @@ still_floored : (run : LifeRun) (answers : List Answer) → IsRun run → IsLeft
     → IsShown run.image state → All (IsFloored state) answers
 still_floored run answers is_run left state shown = elim (follows run state is_run shown) [
   | at_start earlier ↦ left.floored state earlier
-  | risen rise stay ↦ λ k d within key number accepts.
+  | risen plan rise stay ↦ λ k d within key number accepts.
       let low : number ≤ floor_of run.course.start key =
       left.floored run.course.start (inl is_run.shows) k d within key number accepts in
       let same : floor_of state key ≡ floor_of run.course.start key = stay key in

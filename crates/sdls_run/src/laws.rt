@@ -1,5 +1,5 @@
 // Laws of lives: each function is a statement about the definitions, and does nothing.
-ghost use Rattle.std.specs.Prelude.{ℕ, ◌<◌, ◌≤◌, List, [], ◌∷◌, ◌++◌};
+ghost use Rattle.std.specs.Prelude.{◌≡◌, ℕ, ◌<◌, ◌≤◌, List, [], ◌∷◌, ◌++◌};
 ghost use Rattle.std.specs.List.{All, AllPairs};
 ghost use Rattle.disk_journal.specs.Image.{IsHalfOpen, opened_form};
 ghost use Rattle.unit_book.specs.State.{State, mark_of, floor_of};
@@ -8,10 +8,13 @@ ghost use Rattle.sdls_run.specs.Sound.{IsShown, Uses, Accepts, Differ};
 ghost use Rattle.sdls_run.specs.Life.{LifeRun, IsLife, UsesOnce, answers_of};
 
 /// Law: in every life no two answers use the same number under the same key, and no two accept the same
-/// number under the same key.
+/// number under the same key. Every number is used under the one key of the life's plan, so that keys
+/// that differ in identifier alone do not come in.
 pub fn used_once_in_a_life()
     ensures once { (runs : List LifeRun) → IsLife runs → UsesOnce runs }
     ensures accepted_once { (runs : List LifeRun) → IsLife runs → AllPairs (Differ Accepts) (answers_of runs) }
+    ensures one_key { (runs : List LifeRun) → (life : IsLife runs)
+        → All (λ answer. (key number : ℕ) → Uses answer key number → key ≡ life.plan.key) (answers_of runs) }
 {}
 
 /// Law: each run of a life leaves an image that shows a state, and so does its opened form where it is
