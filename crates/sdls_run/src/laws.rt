@@ -8,8 +8,7 @@ ghost use Rattle.sdls_run.specs.Sound.{IsShown, Uses, Accepts, Differ};
 ghost use Rattle.sdls_run.specs.Life.{LifeRun, IsLife, UsesOnce, answers_of};
 
 /// Law: in every life no two answers use the same number under the same key, and no two accept the same
-/// number under the same key. Every number is used under the one key of the life's plan, so that keys
-/// that differ in identifier alone do not come in.
+/// number under the same key. Every number is used under the one key of the life's plan.
 pub fn used_once_in_a_life()
     ensures once { (runs : List LifeRun) → IsLife runs → UsesOnce runs }
     ensures accepted_once { (runs : List LifeRun) → IsLife runs → AllPairs (Differ Accepts) (answers_of runs) }
