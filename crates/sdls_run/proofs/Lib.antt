@@ -1,4 +1,5 @@
 pub mod CheckWords
+pub mod Covering
 pub mod Collecting
 pub mod Delivering
 pub mod Judging
@@ -8,6 +9,8 @@ pub mod Putting
 pub mod Rooms
 pub mod ServingSteps
 pub mod AnswerSteps
+pub mod Answering
+pub mod SegmentSteps
 pub mod Spelling
 pub mod WholeInput
 pub mod Lives

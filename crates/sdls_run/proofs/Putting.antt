@@ -5,6 +5,7 @@ use Rattle.std.proofs.lemmas.List.{append-nil, take_at, take-append-le, length-t
 use Rattle.sdls_outside.specs.Moments.{Trace, Between}
 use Rattle.sdls_outside.specs.Site.{Sank, Puts}
 use Rattle.sdls_outside.proofs.Moments.{between-old}
+use Rattle.unit_book.specs.Book.{BookView, SameBook}
 use Rattle.sdls_run.specs.declared.answers.Answer.{Answer}
 use Rattle.sdls_run.specs.AnswerOctets.{answer_octets}
 use Rattle.sdls_run.specs.Sound.{answers_octets}
@@ -91,3 +92,9 @@ put_some answers i answer old mid new low is first between =
     subst (λ (octets : List ℕ). Between old (old ++ octets) new) whole
     (between_wider old (answers_octets (take (i + 1) answers)) (answers_octets (drop (i + 1) answers)) new
     (subst (λ (octets : List ℕ). Between old (old ++ octets) new) front here))
+
+pub same_then : {O : Type 0} → (old mid new : BookView O) → SameBook old mid → SameBook mid new → SameBook old new
+same_then {O} old mid new first second = record {
+  opened = second.opened ∙ first.opened; start = second.start ∙ first.start; state = second.state ∙ first.state;
+  journal = second.journal ∙ first.journal; entries = second.entries ∙ first.entries; places = second.places ∙ first.places;
+}

@@ -86,7 +86,7 @@ tells_faults course faults frame answer low tells = record {
   };
 }
 
-fits_faults : (course : Course) (faults : ℕ) (frame : Record) (answer : Answer) → course.faults ≤ faults → Fits course frame answer
+pub fits_faults : (course : Course) (faults : ℕ) (frame : Record) (answer : Answer) → course.faults ≤ faults → Fits course frame answer
     → Fits (record course { faults = faults }) frame answer
 fits_faults course faults frame answer low (inl a) = inl (record {
   code_is = a.code_is; detail_is = a.detail_is; spi = a.spi; octets = a.octets; bound = a.bound; near = a.near; below = a.below; protects = a.protects;
@@ -176,7 +176,7 @@ pub all_tail : {X : Type 0} (P : X → Type 0) (x : X) (xs : List X) → All P (
 all_tail P x xs all = λ k d low. all (suc k) d (omega arith)
 
 -- all fit another course
-fit_all : (course other : Course) (P : Answer → Type 0)
+pub fit_all : (course other : Course) (P : Answer → Type 0)
     → ((frame : Record) (answer : Answer) → P answer → Fits course frame answer → Fits other frame answer)
     → (frames : List Record) (answers : List Answer) → All P answers → FitInTurn course frames answers → FitInTurn other frames answers
 fit_all course other P each frames [] all fit = tt
@@ -227,7 +227,7 @@ pub record StepTo {O : Type 0} (told : Bool) (trace : O → Trace) (faults : O �
   pub failed : SaysFailed answer → Rose (faults old.opened) (faults new.site)
   pub one : answer.code ≡ 0x31 → ¬ Rose (faults old.opened) (faults old.site)
 
-rose_later : (before mid now : ℕ) → mid ≤ now → Rose before mid → Rose before now
+pub rose_later : (before mid now : ℕ) → mid ≤ now → Rose before mid → Rose before now
 rose_later before mid now low rose = omega arith
 
 module _ {O : Type 0} (told : Bool) (trace : O → Trace) (faults : O → ℕ) (before : ℕ) (old new : BookView O) (binding : BindingParts)

@@ -10,5 +10,5 @@ header_octets answer =
     ++ to_be_bytes w64 answer.position ++ to_be_bytes w64 answer.number
 
 -- the body stands behind
-abbrev pub answer_octets : Answer → List ℕ
+unfoldable pub answer_octets : Answer → List ℕ
 answer_octets answer = header_octets answer ++ answer.body

@@ -8,6 +8,7 @@ pub mod Life
 pub mod Output
 pub mod Records
 pub mod RecordSteps
+pub mod Run
 pub mod Serving
 pub mod Sound
 pub mod Words

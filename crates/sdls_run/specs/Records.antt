@@ -122,16 +122,19 @@ pub record Completes (told : Bool) (octets : List ℕ) (old new : Place) (left_o
   pub moves : Moves told octets old new left_old left_new
   pub ended : IsTrue told → HasEnded new.taken left_new
 
--- behind the octets the rest is malformed; a part of it was taken
+-- behind the octets the rest is malformed; a part of it was taken, no longer than an item
 pub record Breaks (told : Bool) (octets : List ℕ) (old new : Place) (left_old left_new : List ℕ) (offset : ℕ) : Type 0 where
   pub offset_is : offset ≡ old.taken + length octets
   pub part : List ℕ
+  pub counted : new.taken ≡ old.taken + length octets + length part
+  pub few : length part ≤ 6 + 2048
   pub moved : IsTrue told → left_old ≡ octets ++ (part ++ left_new)
   pub malformed : IsTrue told → IsMalformedRest new.taken (part ++ left_new)
 
--- the octets were taken, and a part of what is behind them
+-- the octets were taken, and a part of what is behind them, no longer than an item
 abbrev pub Fails : Bool → List ℕ → List ℕ → List ℕ → Type 0
-Fails told octets left_old left_new = IsTrue told → (part : List ℕ) × (left_old ≡ octets ++ (part ++ left_new))
+Fails told octets left_old left_new =
+    IsTrue told → (part : List ℕ) × (left_old ≡ octets ++ (part ++ left_new)) × (length part ≤ 6 + 2048)
 
 -- what is so behind the octets of a segment's frames, by the end that is answered
 abbrev pub EndsBehind : Bool → List ℕ → ℕ → Place → Place → List ℕ → List ℕ → SegmentEnd → Type 0

@@ -20,7 +20,9 @@ use Rattle.sdls_run.specs.declared.records.Record.{Record}
 use Rattle.sdls_run.specs.declared.answers.Answer.{Answer}
 use Rattle.sdls_run.specs.AnswerOctets.{answer_octets}
 use Rattle.sdls_run.specs.Fits.{Course, IsBare, IsVerdict, IsWanting, FitInTurn}
-use Rattle.sdls_run.specs.Sound.{Uses, Differ, TellsEpoch, OneFault}
+use Rattle.sdls_run.specs.Sound.{answers_octets, Uses, Differ, TellsEpoch, OneFault}
+use Rattle.sdls_run.specs.declared.serving.Stop.{Stop}
+use Rattle.sdls_run.specs.declared.serving.Stop.TheVariants.{NoMemory, PutFailed}
 
 -- the course of a run so far, whose count of faults at the start was before
 abbrev pub course_of : {O : Type 0} → (O → Trace) → (O → ℕ) → ℕ → BookView O → List Record → Course
@@ -144,3 +146,44 @@ ServesOn told trace faults binding old new next_old next_new frames answers = (b
 -- Ok: the octets were added to what is sunk. Err: a front of them.
 abbrev pub Adds : {T E : Type 0} → List ℕ → Result T E → List ℕ → List ℕ → Type 0
 Adds octets result old new = MatchResult result (λ _. new ≡ old ++ octets) (λ _. Between old (old ++ octets) new)
+
+-- The frames were answered, and the answers stand among the octets sunk behind the octets at the base.
+pub record IsServed {O : Type 0} (told : Bool) (trace : O → Trace) (faults : O → ℕ) (before : ℕ) (base : List ℕ) (book : BookView O)
+    (binding : BindingParts) (next : ℕ) (frames : List Record) (answers : List Answer) : Type 0 where
+  pub serving : IsServing told trace faults before book binding next frames answers
+  pub sunk : IsTrue told → (trace book.site).now.sunk ≡ base ++ answers_octets answers
+  pub covered : IsTrue told → AreCovered book.start book.entries book.places binding.key (length base) answers
+
+-- The same, but a put has failed: a front of the answers' octets was sunk.
+pub record IsBroken {O : Type 0} (told : Bool) (trace : O → Trace) (faults : O → ℕ) (before : ℕ) (base : List ℕ) (book : BookView O)
+    (binding : BindingParts) (next : ℕ) (frames : List Record) (answers : List Answer) : Type 0 where
+  pub serving : IsServing told trace faults before book binding next frames answers
+  pub sunk : IsTrue told → Between base (base ++ answers_octets answers) (trace book.site).now.sunk
+  pub covered : IsTrue told → AreCovered book.start book.entries book.places binding.key (length base) answers
+  pub rose : Rose (faults book.opened) (faults book.site)
+
+-- why no more frames are served
+abbrev pub Stops : {O : Type 0} → Bool → (O → Trace) → (O → ℕ) → ℕ → List ℕ → BookView O → BindingParts → ℕ → List Record → List Record
+    → List Answer → Stop → Type 0
+Stops told trace faults before base book binding next first frames given NoMemory =
+    IsServed told trace faults before base book binding next first given
+Stops told trace faults before base book binding next first frames given PutFailed = (answers : List Answer)
+    × IsBroken told trace faults before base book binding next (first ++ frames) (given ++ answers)
+
+-- A segment's frames are answered, and the answers put; or memory was wanting, and none is; or a put failed.
+abbrev pub ServesSegment : {O : Type 0} → Bool → (O → Trace) → (O → ℕ) → BindingParts → BookView O → BookView O → ℕ → ℕ
+    → List Record → Result (Unit {0}) Stop → Type 0
+ServesSegment told trace faults binding old new next_old next_new frames result =
+    (before : ℕ) (base : List ℕ) (first : List Record) (given : List Answer)
+    → IsServed told trace faults before base old binding next_old first given
+    → MatchResult result
+        (λ _. (answers : List Answer) × IsServed told trace faults before base new binding next_new (first ++ frames) (given ++ answers))
+        (Stops told trace faults before base new binding next_new first frames given)
+
+-- The entries have grown, and what had been stored before an octet was sunk has not changed.
+pub record GrowsBehind {O : Type 0} (trace : O → Trace) (old new : BookView O) : Type 0 where
+  pub opened : new.opened ≡ old.opened
+  pub start : new.start ≡ old.start
+  pub places : (t : ℕ) → t ≤ length (trace old.site).now.sunk → places_below t new.places ≡ places_below t old.places
+  pub states : (t : ℕ) → t ≤ length (trace old.site).now.sunk
+      → after_first new.start new.entries (places_below t old.places) ≡ after_first old.start old.entries (places_below t old.places)

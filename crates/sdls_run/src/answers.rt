@@ -19,6 +19,7 @@ pub struct Answer {
 }
 
 /// The first 24 octets of an answer, which its body follows.
+#[tactic(auto, unfolding(crate::specs::AnswerOctets::answer_octets))]
 pub(crate) fn answer_header(answer: &Answer) -> [u8; 24]
     requires { length answer.now.body < 2 ^ 32 }
     ensures header { result ≡ header_octets answer.now }

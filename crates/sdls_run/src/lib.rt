@@ -20,6 +20,7 @@ mod outcome;
 mod output;
 mod records;
 mod refusal;
+mod running;
 mod serving;
 pub mod status;
 #[cfg(test)]

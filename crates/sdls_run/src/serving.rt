@@ -12,7 +12,7 @@ ghost use Rattle.sdls_outside.specs.Faults.{Rose};
 ghost use Rattle.unit_book.specs.Book.{SameBook};
 ghost use Rattle.sdls_run.specs.AnswerOctets.{answer_octets};
 ghost use Rattle.sdls_run.specs.Sound.{answers_octets};
-ghost use Rattle.sdls_run.specs.Serving.{Adds, ServesOn, AnswersFrame, AnswersProtected, Draws, IsReady, TellsRefusal};
+ghost use Rattle.sdls_run.specs.Serving.{Adds, GrowsBehind, ServesOn, ServesSegment, AnswersFrame, AnswersProtected, Draws, IsReady, TellsRefusal};
 
 use crate::answers::{Answer, answer_header};
 use crate::records::Record;
@@ -29,6 +29,15 @@ pub(crate) struct Session<O: Site> {
     pub(crate) book: Book<O>,
     pub(crate) binding: Binding,
     pub(crate) next: u64,
+}
+
+/// Why no more frames are served.
+#[derive(Clone, Copy, Debug, PartialEq, Eq)]
+pub(crate) enum Stop {
+    /// Memory is wanting.
+    NoMemory,
+    /// A put failed.
+    PutFailed,
 }
 
 /// An answer with neither key nor body.
@@ -189,6 +198,8 @@ impl<O: Site> Session<O> {
         ensures binding { self.new.binding ≡ self.old.binding }
         ensures answered { IfOk result (λ answers. ServesOn O.told O.trace O.faults self.old.binding self.old.book self.new.book
             self.old.next self.new.next frames.now answers.items) }
+        ensures slots { self.new.book.journal.slots ≡ self.old.book.journal.slots }
+        ensures behind { IsTrue O.told → GrowsBehind O.trace self.old.book self.new.book }
         ensures short { IfOk result (λ answers. All (λ answer. length answer.body ≤ 1024) answers.items) }
         ensures unanswered { OnErr result (self.new ≡ self.old) }
         ensures sunk { IsTrue O.told → (O.trace self.new.book.site).now.sunk ≡ (O.trace self.old.book.site).now.sunk }
@@ -241,6 +252,27 @@ impl<O: Site> Session<O> {
             }
         }
         Ok(())
+    }
+
+    /// Answers the frames of a segment and puts the answers, in their order.
+    pub(crate) fn serve_segment(&mut self, alloc: Global, frames: &[Record]) -> Result<(), Stop>
+        requires ready { IsReady O.told O.trace O.faults self.old.book self.old.binding self.old.next }
+        ensures ready { IsReady O.told O.trace O.faults self.new.book self.new.binding self.new.next }
+        ensures binding { self.new.binding ≡ self.old.binding }
+        ensures slots { self.new.book.journal.slots ≡ self.old.book.journal.slots }
+        ensures same_run { IsTrue O.told → (self.new.book.opened ≡ self.old.book.opened) × (self.new.book.start ≡ self.old.book.start) }
+        ensures served { ServesSegment O.told O.trace O.faults self.old.binding self.old.book self.new.book
+            self.old.next self.new.next frames.now result }
+        ensures later { O.faults self.old.book.site ≤ O.faults self.new.book.site }
+    {
+        let answers = match self.answer_frames(alloc, frames) {
+            Ok(answers) => answers,
+            Err(NoMemory) => return Err(Stop::NoMemory),
+        };
+        match self.put_answers(&answers) {
+            Ok(()) => Ok(()),
+            Err(_) => Err(Stop::PutFailed),
+        }
     }
 }
 

@@ -1,7 +1,7 @@
 use Rattle.std.proofs.Common.{◌≡◌, ◌+◌, List, [], ◌∷◌, ◌++◌, length, ap, sym, subst, ◌∙◌, arith, length-append}
 use Rattle.sdls_run.specs.declared.records.Record.{Record}
 use Rattle.sdls_run.specs.Records.{AreNumbered}
-use Rattle.sdls_run.proofs.ReadingRecords.{AreNumbered-push, moves_one_more}
+use Rattle.sdls_run.proofs.ReadingRecords.{AreNumbered-push, moves_one_more, ends_after}
 use Rattle.sdls_run.proofs.records.Reader.read_items.Goals as goal
 
 pub number-index-requires : goal.number-index-requires
@@ -24,3 +24,14 @@ items-preserved g c =
           (ap (λ p. p.taken) c.number-index.ensures.counted) pushed,
       omega (arith, c.items.invariant.4, c.in_ok-link.ensures.later),
     )
+
+pub returns-in-Ends-clause-segment : goal.returns-in-Ends-clause-segment
+returns-in-Ends-clause-segment g c =
+    let read = rw c.in-Ends.is at c.in_ok-link.ensures.read in
+    let counted = rw c.in-Ends.is at c.in_ok-link.ensures.counted in
+    record {
+      numbered = c.items.invariant.1;
+      counted = omega (arith, counted, c.items.invariant.2);
+      ends = ends_after g.S.Source.told _ _ _ _ _ _ _ _ c.in-Ends.end c.items.invariant.3
+          (omega (arith, c.items.records.ok.0)) read;
+    }

@@ -1,0 +1,157 @@
+-- How `run` ends (profile).
+use Rattle.std.specs.Prelude.{◌≡◌, ℕ, ◌+◌, ◌-◌, ◌^◌, ◌<◌, ◌≤◌, ◌⊎◌, ◌==◌, ⊤, Bool, IsTrue, if◌then◌else◌, List, [], ◌∷◌, ◌++◌, length, map}
+use Rattle.sdls_base.specs.declared.entry.Entry.{Entry}
+use Rattle.sdls_outside.specs.Faults.{Rose}
+use Rattle.sdls_outside.specs.Moments.{Trace, Between, EachMoment}
+use Rattle.disk_journal.specs.Image.{records, slot_count}
+use Rattle.unit_book.specs.Binding.{BindingParts}
+use Rattle.unit_book.specs.Book.{BookView}
+use Rattle.unit_book.specs.State.{State}
+use Rattle.unit_book.specs.Shows.{Shows, ShowsNone}
+use Rattle.sdls_run.specs.declared.records.Record.{Record}
+use Rattle.sdls_run.specs.declared.answers.Answer.{Answer}
+use Rattle.sdls_run.specs.declared.running.RunEnd.{RunEnd}
+use Rattle.sdls_run.specs.declared.running.RunEnd.TheVariants.{Ended, Malformed, SourceFault, SiteFault, NoMemory, NoState}
+use Rattle.sdls_run.specs.declared.running.Step.{Step}
+use Rattle.sdls_run.specs.declared.running.Step.TheVariants.{On, Ends, Broken}
+use Rattle.sdls_run.specs.declared.records.SegmentEnd.{SegmentEnd}
+use Rattle.sdls_run.specs.declared.records.SegmentEnd.TheVariants as ends
+use Rattle.sdls_run.specs.declared.status.TheConstants as statuses
+use Rattle.sdls_run.specs.Records.{Item, Place, IsWellFormed, IsMalformedAfter, HasRead, items_octets, protect_item, beginning}
+use Rattle.sdls_run.specs.AnswerOctets.{answer_octets}
+use Rattle.sdls_run.specs.Fits.{Course}
+use Rattle.sdls_run.specs.Sound.{answers_octets, EarlyOrSound}
+use Rattle.sdls_run.specs.Serving.{IsServed, IsBroken}
+
+-- the items that are frames to be protected
+abbrev pub frames_of : List Item → List Item
+frames_of [] = []
+frames_of (item ∷ items) = if item.kind == 1 then item ∷ frames_of items else frames_of items
+
+-- octets are counted up to 2^64 - 1; an input of so many counts as ended there
+abbrev pub IsTooLong : List ℕ → Type 0
+IsTooLong input = 2 ^ 64 - 1 ≤ length input
+
+-- the items stand at the front of the input, behind its beginning; there are none where that was not read
+abbrev pub AreInFront : List Item → List ℕ → Type 0
+AreInFront items input = (items ≡ []) ⊎ ((rest : List ℕ) × (input ≡ beginning ++ (items_octets items ++ rest)))
+
+abbrev pub end_status : RunEnd → ℕ
+end_status Ended = statuses.DONE
+end_status (Malformed offset) = statuses.MALFORMED
+end_status (SourceFault count) = statuses.SOURCE_FAULT
+end_status (SiteFault count) = statuses.SITE_FAULT
+end_status NoMemory = statuses.NO_MEMORY
+end_status (NoState offset) = statuses.NO_STATE
+
+-- the offset or the count of faults, 0 where there is none
+abbrev pub end_number : RunEnd → ℕ
+end_number Ended = 0
+end_number (Malformed offset) = offset
+end_number (SourceFault count) = count
+end_number (SiteFault count) = count
+end_number NoMemory = 0
+end_number (NoState offset) = offset
+
+-- the End answer
+abbrev pub end_answer : RunEnd → ℕ → Answer
+end_answer end entries = record {
+  code = 0xff; detail = end_status end; key = 0; position = entries; number = end_number end; body = [];
+}
+
+-- Why a run ends so: the input has ended and is well formed; it is malformed behind these items; the source's count of
+-- faults rose, or the site's; the image shows no state. Want of memory needs no cause.
+abbrev pub EndCause : Bool → List ℕ → List ℕ → ℕ → ℕ → ℕ → ℕ → (ℕ → Type 0) → List Item → RunEnd → Type 0
+EndCause s_told input left s_before s_now o_before o_now none items Ended =
+    IsTrue s_told → (IsWellFormed input items × (left ≡ [])) ⊎ IsTooLong input
+EndCause s_told input left s_before s_now o_before o_now none items (Malformed offset) =
+    IsTrue s_told → IsMalformedAfter items input offset ⊎ IsTooLong input
+EndCause s_told input left s_before s_now o_before o_now none items (SourceFault count) =
+    Rose s_before s_now × (count ≡ s_now)
+EndCause s_told input left s_before s_now o_before o_now none items (SiteFault count) =
+    Rose o_before o_now × Rose o_before count × (count ≤ o_now)
+EndCause s_told input left s_before s_now o_before o_now none items NoMemory = ⊤
+EndCause s_told input left s_before s_now o_before o_now none items (NoState offset) = none offset
+
+-- the course of a run whose image showed this state
+abbrev pub whole_course : Trace → State → ℕ → ℕ → List Entry → List Record → Course
+whole_course old state o_before o_now entries frames = record {
+  start = state;
+  slots = slot_count old.now.image;
+  used = length (records old.now.image);
+  faults_before = o_before;
+  faults = o_now;
+  entries = entries;
+  frames = frames;
+}
+
+-- The answers and End were put whole, and the status is that of the end; or a put failed, and a front of them was.
+abbrev pub PutsAll : Bool → List ℕ → List ℕ → List ℕ → ℕ → ℕ → ℕ → ℕ → Type 0
+PutsAll o_told octets old new o_before o_now due status =
+    ((status ≡ due) × (IsTrue o_told → new ≡ old ++ octets))
+    ⊎ ((status ≡ statuses.SITE_FAULT) × Rose o_before o_now × (IsTrue o_told → Between old (old ++ octets) new))
+
+-- How `run` ends. Input is what the source had, left what it has now; s and o are the counts of faults of source and site.
+pub record RunEnds (s_told o_told : Bool) (input left : List ℕ) (s_before s_now o_before o_now : ℕ) (old new : Trace) (status : ℕ)
+    (entries : List Entry) : Type 0 where
+  pub end : RunEnd
+  pub items : List Item
+  pub frames : List Record
+  pub answers : List Answer
+  pub in_front : IsTrue s_told → AreInFront items input
+  pub frames_are : frames_of items ≡ map protect_item frames
+  pub all_answered : length answers ≡ length frames
+  pub cause : EndCause s_told input left s_before s_now o_before o_now (λ offset. IsTrue o_told → ShowsNone old.now.image offset) items end
+  pub put : PutsAll o_told (answers_octets answers ++ answer_octets (end_answer end (length entries))) old.now.sunk new.now.sunk
+      o_before o_now (end_status end) status
+  pub sound : IsTrue o_told → (state : State) → Shows old.now.image state
+      → EachMoment old new (EarlyOrSound old (whole_course old state o_before o_now entries frames))
+  pub none_shown : IsTrue o_told → (offset : ℕ) → ShowsNone old.now.image offset → (answers ≡ []) × (entries ≡ [])
+
+-- Private: a run that goes on.
+pub record UnderWay {O : Type 0} (s_told : Bool) (input : List ℕ) (place : Place) (left : List ℕ) (o_told : Bool) (trace : O → Trace)
+    (faults : O → ℕ) (before : ℕ) (base : List ℕ) (book : BookView O) (binding : BindingParts) (next : ℕ) : Type 0 where
+  pub items : List Item
+  pub frames : List Record
+  pub answers : List Answer
+  pub read : HasRead s_told input items place left
+  pub frames_are : frames_of items ≡ map protect_item frames
+  pub served : IsServed o_told trace faults before base book binding next frames answers
+
+-- Private: a run whose frames are answered, and that ends so.
+pub record HasStopped {O : Type 0} (s_told : Bool) (input left : List ℕ) (s_before s_now : ℕ) (o_told : Bool) (trace : O → Trace)
+    (faults : O → ℕ) (before : ℕ) (base : List ℕ) (book : BookView O) (binding : BindingParts) (next : ℕ) (end : RunEnd) : Type 0 where
+  pub items : List Item
+  pub frames : List Record
+  pub answers : List Answer
+  pub in_front : IsTrue s_told → AreInFront items input
+  pub frames_are : frames_of items ≡ map protect_item frames
+  pub served : IsServed o_told trace faults before base book binding next frames answers
+  pub cause : EndCause s_told input left s_before s_now before (faults book.site) (λ offset. ⊥) items end
+
+-- Private: a run in which a put has failed.
+pub record HasBroken {O : Type 0} (s_told : Bool) (input : List ℕ) (o_told : Bool) (trace : O → Trace)
+    (faults : O → ℕ) (before : ℕ) (base : List ℕ) (book : BookView O) (binding : BindingParts) (next : ℕ) : Type 0 where
+  pub items : List Item
+  pub frames : List Record
+  pub answers : List Answer
+  pub in_front : IsTrue s_told → AreInFront items input
+  pub frames_are : frames_of items ≡ map protect_item frames
+  pub broken : IsBroken o_told trace faults before base book binding next frames answers
+
+-- Private: what a step of a run leads to.
+abbrev pub StepLeads : {O : Type 0} → Bool → List ℕ → Place → List ℕ → ℕ → ℕ → Bool → (O → Trace) → (O → ℕ) → ℕ → List ℕ → BookView O
+    → BindingParts → ℕ → Step → Type 0
+StepLeads s_told input place left s_before s_now o_told trace faults before base book binding next On =
+    UnderWay s_told input place left o_told trace faults before base book binding next
+StepLeads s_told input place left s_before s_now o_told trace faults before base book binding next (Ends end) =
+    HasStopped s_told input left s_before s_now o_told trace faults before base book binding next end
+StepLeads s_told input place left s_before s_now o_told trace faults before base book binding next Broken =
+    HasBroken s_told input o_told trace faults before base book binding next
+
+-- Private: what a segment's end says of the run.
+abbrev pub step_after : SegmentEnd → Step
+step_after ends.More = On
+step_after ends.End = Ends Ended
+step_after (ends.Malformed offset) = Ends (Malformed offset)
+step_after (ends.SourceFault count) = Ends (SourceFault count)

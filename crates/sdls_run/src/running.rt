@@ -1,0 +1,110 @@
+// The run loop: segments are read and served until the input ends.
+ghost use Rattle.std.specs.Prelude.{◌≡◌, ℕ, ◌^◌, ◌<◌, ◌≤◌, IsTrue, List};
+ghost use Rattle.sdls_outside.specs.Faults.{Rose};
+ghost use Rattle.sdls_run.specs.Run.{UnderWay, StepLeads, step_after, end_status, end_number};
+ghost use Rattle.sdls_run.specs.Serving.{IsReady};
+
+use crate::records::{Reader, SegmentEnd};
+use crate::serving::{Session, Stop};
+use crate::status::{DONE, MALFORMED, NO_MEMORY, NO_STATE, SITE_FAULT, SOURCE_FAULT};
+use sdls_base::NoMemory;
+use sdls_outside::{Site, Source};
+use std::alloc::Global;
+
+/// Why `run` ends.
+#[derive(Clone, Copy, Debug, PartialEq, Eq)]
+pub enum RunEnd {
+    /// The whole input was read, and each frame was answered.
+    Ended,
+    /// The input is malformed at this offset; each frame before it was answered.
+    Malformed(u64),
+    /// The source failed; its count of faults.
+    SourceFault(u64),
+    /// The site failed; its count of faults.
+    SiteFault(u64),
+    /// Memory is wanting.
+    NoMemory,
+    /// The image shows no state; the offset of the first check that fails.
+    NoState(u64),
+}
+
+impl RunEnd {
+    pub(crate) fn status(self) -> u8
+        ensures { result ≡ end_status self }
+    {
+        match self {
+            RunEnd::Ended => DONE,
+            RunEnd::Malformed(_) => MALFORMED,
+            RunEnd::SourceFault(_) => SOURCE_FAULT,
+            RunEnd::SiteFault(_) => SITE_FAULT,
+            RunEnd::NoMemory => NO_MEMORY,
+            RunEnd::NoState(_) => NO_STATE,
+        }
+    }
+
+    /// The offset or the count of faults; 0 where there is none.
+    pub(crate) fn number(self) -> u64
+        ensures { result ≡ end_number self }
+    {
+        match self {
+            RunEnd::Malformed(number)
+            | RunEnd::SourceFault(number)
+            | RunEnd::SiteFault(number)
+            | RunEnd::NoState(number) => number,
+            RunEnd::Ended | RunEnd::NoMemory => 0,
+        }
+    }
+}
+
+/// What comes after a segment.
+#[derive(Clone, Copy, Debug, PartialEq, Eq)]
+pub(crate) enum Step {
+    /// The next segment.
+    On,
+    /// The end of the run.
+    Ends(RunEnd),
+    /// Nothing, since a put failed.
+    Broken,
+}
+
+/// What a segment's end says of the run.
+fn step_of(end: SegmentEnd) -> Step
+    ensures { result ≡ step_after end }
+{
+    match end {
+        SegmentEnd::More => Step::On,
+        SegmentEnd::End => Step::Ends(RunEnd::Ended),
+        SegmentEnd::Malformed(offset) => Step::Ends(RunEnd::Malformed(offset)),
+        SegmentEnd::SourceFault(count) => Step::Ends(RunEnd::SourceFault(count)),
+    }
+}
+
+impl<O: Site> Session<O> {
+    /// Reads the next segment, answers its frames and puts the answers.
+    fn serve_next<S: Source>(&mut self, alloc: Global, source: &mut S, reader: &mut Reader) -> Step
+        requires ready { IsReady O.told O.trace O.faults self.old.book self.old.binding self.old.next }
+        ensures ready { IsReady O.told O.trace O.faults self.new.book self.new.binding self.new.next }
+        ensures binding { self.new.binding ≡ self.old.binding }
+        ensures slots { self.new.book.journal.slots ≡ self.old.book.journal.slots }
+        ensures same_run { IsTrue O.told → (self.new.book.opened ≡ self.old.book.opened) × (self.new.book.start ≡ self.old.book.start) }
+        ensures leads { (input : List ℕ) (s_before before : ℕ) (base : List ℕ) → s_before ≤ S.faults source.old
+            → UnderWay S.told input reader.old (S.left source.old) O.told O.trace O.faults before base
+            self.old.book self.old.binding self.old.next
+            → StepLeads S.told input reader.new (S.left source.new) s_before (S.faults source.new) O.told O.trace O.faults before base
+            self.new.book self.old.binding self.new.next result }
+        ensures forth { result ≡ Step.On → reader.old.taken < reader.new.taken }
+        ensures bounded { result ≡ Step.On → reader.new.taken < 2 ^ 64 }
+        ensures later { O.faults self.old.book.site ≤ O.faults self.new.book.site }
+        ensures source_later { S.faults source.old ≤ S.faults source.new }
+    {
+        let (frames, end) = match reader.next_segment(alloc, source) {
+            Ok(read) => read,
+            Err(NoMemory) => return Step::Ends(RunEnd::NoMemory),
+        };
+        match self.serve_segment(alloc, &frames) {
+            Ok(()) => step_of(end),
+            Err(Stop::NoMemory) => Step::Ends(RunEnd::NoMemory),
+            Err(Stop::PutFailed) => Step::Broken,
+        }
+    }
+}
