@@ -208,6 +208,7 @@ ends_after told a count old mid new left_old left_mid left_new (Malformed offset
   record {
     offset_is = omega (arith, ends.1.offset_is, first.counted);
     part = ends.1.part;
+    counted = omega (arith, ends.1.counted, first.counted);
     few = ends.1.few;
     moved = λ t. first.moved t ∙ ap (λ l. a ++ l) (ends.1.moved t);
     malformed = ends.1.malformed;

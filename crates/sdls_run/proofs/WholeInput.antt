@@ -8,7 +8,7 @@ use Rattle.sdls_run.specs.declared.records.SegmentEnd.{SegmentEnd}
 use Rattle.sdls_run.specs.declared.records.SegmentEnd.TheVariants.{More, End, Malformed, SourceFault}
 use Rattle.sdls_run.specs.Records.{Item, Place, Moves, Segment, NextSegment, NoBeginning, AreNumbered, Closes, HasRead, ReadsOn, IsItem, item_octets, items_octets, protect_item, records_octets, with_records, due_beginning, beginning}
 
-items_octets-append : (xs ys : List Item) → items_octets (xs ++ ys) ≡ items_octets xs ++ items_octets ys
+pub items_octets-append : (xs ys : List Item) → items_octets (xs ++ ys) ≡ items_octets xs ++ items_octets ys
 items_octets-append [] ys = refl
 items_octets-append (x ∷ xs) ys =
     ap (λ l. item_octets x ++ l) (items_octets-append xs ys) ∙ sym (append_assoc (item_octets x) (items_octets xs) (items_octets ys))
@@ -71,7 +71,7 @@ HasRead-start told start = record {
 }
 
 -- the whole input, where something of it is behind the items
-behind : (told : Bool) (start : List ℕ) (items : List Item) (records : List Record) (old : Place) (left_old rest : List ℕ) (read : HasRead told start items old left_old)
+pub behind : (told : Bool) (start : List ℕ) (items : List Item) (records : List Record) (old : Place) (left_old rest : List ℕ) (read : HasRead told start items old left_old)
     → IsTrue told → left_old ≡ (due_beginning old.taken ++ records_octets records) ++ rest
     → start ≡ (beginning ++ items_octets (with_records items records)) ++ rest
 behind told start items records old left_old rest read t moved =
@@ -134,7 +134,7 @@ segment_reads_on told start items old new left_old left_new records (SourceFault
     inl (fault.0 ++ left_new, behind told start items records old left_old (fault.0 ++ left_new) read t fault.1)
 
 -- nothing was taken where no beginning was read
-nothing_read : (told : Bool) (start : List ℕ) (items : List Item) (old : Place) (left : List ℕ) (read : HasRead told start items old left)
+pub nothing_read : (told : Bool) (start : List ℕ) (items : List Item) (old : Place) (left : List ℕ) (read : HasRead told start items old left)
     → old.taken ≡ 0 → (read.octets ≡ []) × (items ≡ [])
 nothing_read told start items old left read zero =
     ⊎_elim (λ (none : (read.octets ≡ []) × (items ≡ [])). none)

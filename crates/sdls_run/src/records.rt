@@ -1,5 +1,5 @@
 // The recorded input, read in segments.
-ghost use Rattle.std.specs.Prelude.{◌^◌, ℕ, List, ◌≡◌, ◌↔◌, ◌+◌, ◌-◌, ◌*◌, ◌≤◌, ◌<◌, ◌++◌, [], length, take, IsTrue, IfOk, OnErr, IfNone, IfSome, MatchOption, vec_len};
+ghost use Rattle.std.specs.Prelude.{ℕ, List, ◌≡◌, ◌↔◌, ◌+◌, ◌-◌, ◌*◌, ◌≤◌, ◌<◌, ◌++◌, [], length, take, IsTrue, IfOk, OnErr, IfNone, IfSome, MatchOption, vec_len};
 ghost use Rattle.sdls_outside.specs.Faults.{HasCause, Rose};
 ghost use Rattle.sdls_run.specs.Intake.{TakesAtMost};
 ghost use Rattle.sdls_run.specs.Records.{EndsBefore, EndsBehind, HasEnded, HasFaultCause, HasRead, Item, Moves, NextSegment, NoBeginning, Place, ReadsOn, Segment, beginning};
@@ -111,6 +111,13 @@ impl Reader {
             taken: 0,
             records: 0,
         }
+    }
+
+    /// How many octets were taken.
+    pub(crate) fn taken(&self) -> u64
+        ensures { result ≡ self.now.taken }
+    {
+        self.taken
     }
 
     /// Takes octets until the room is full or the input ends, and answers how many.
@@ -304,7 +311,6 @@ impl Reader {
             → HasRead S.told start items self.old (S.left source.old)
             → IfOk result (λ read. ReadsOn S.told start items self.new (S.left source.new) read.0.items read.1) }
 
-        ensures bounded { self.new.taken < 2 ^ 64 }
         ensures later { S.faults source.old ≤ S.faults source.new }
         ensures cause { IfOk result (λ read. HasFaultCause (S.faults source.old) (S.faults source.new) read.1) }
     {

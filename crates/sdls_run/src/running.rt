@@ -93,7 +93,6 @@ impl<O: Site> Session<O> {
             → StepLeads S.told input reader.new (S.left source.new) s_before (S.faults source.new) O.told O.trace O.faults before base
             self.new.book self.old.binding self.new.next result }
         ensures forth { result ≡ Step.On → reader.old.taken < reader.new.taken }
-        ensures bounded { result ≡ Step.On → reader.new.taken < 2 ^ 64 }
         ensures later { O.faults self.old.book.site ≤ O.faults self.new.book.site }
         ensures source_later { S.faults source.old ≤ S.faults source.new }
     {
