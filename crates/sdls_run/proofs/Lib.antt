@@ -15,3 +15,4 @@ pub mod SegmentSteps
 pub mod Spelling
 pub mod WholeInput
 pub mod Lives
+pub mod LifeKeys

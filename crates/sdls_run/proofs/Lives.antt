@@ -1,5 +1,5 @@
 -- Lives: what a run keeps, and what all runs together keep.
-use Rattle.std.proofs.Common.{◌≡◌, ℕ, suc, ◌<◌, ◌≤◌, List, [], ◌∷◌, ◌++◌, length, None, refl, sym, subst, inl, inr, arith, append_assoc, append-nil}
+use Rattle.std.proofs.Common.{◌≡◌, ℕ, suc, ◌<◌, ◌≤◌, List, [], ◌∷◌, ◌++◌, length, None, refl, sym, ◌∙◌, ap, subst, inl, inr, arith, append_assoc, append-nil}
 use Rattle.std.specs.List.{All, AllPairs}
 use Rattle.std.proofs.lemmas.List.Elements.{All-nil, All-append}
 use Rattle.std.proofs.lemmas.List.Kept.{AllPairs-cons}
@@ -13,16 +13,17 @@ use Rattle.disk_journal.specs.Changes.{Regates}
 use Rattle.disk_journal.specs.Initial.{initial_image}
 use Rattle.disk_journal.proofs.Growing.{Regated, regates, FormOpens, form_opens, regated_keeps_plan}
 use Rattle.disk_journal.proofs.Beginning.{Begins, begins}
-use Rattle.unit_book.specs.State.{State, initial, mark_of, restarted}
+use Rattle.sdls_base.specs.declared.entry.Entry.{Entry}
+use Rattle.unit_book.specs.State.{State, initial, mark_of, floor_of, restarted}
 use Rattle.unit_book.specs.Record.{LeadTo}
 use Rattle.unit_book.specs.Shows.{Shows}
-use Rattle.unit_book.specs.History.{Near, LegalHistory, after_first}
+use Rattle.unit_book.specs.History.{Near, AreReserves, after_first}
 use Rattle.unit_book.proofs.Showing.{IsTelecommand, LedTo, shows_led, led_ends, shows_regated}
 use Rattle.unit_book.proofs.ShownOnce.{shown_once}
-use Rattle.unit_book.proofs.Marks.{all_marks_rise}
+use Rattle.unit_book.proofs.Marks.{all_marks_rise, floors_stay, first_telecommand}
 use Rattle.sdls_run.specs.declared.answers.Answer.{Answer}
 use Rattle.sdls_run.specs.Fits.{Course}
-use Rattle.sdls_run.specs.Sound.{PairsDiffer, IsShown, ShowsServed, Uses, Differ}
+use Rattle.sdls_run.specs.Sound.{PairsDiffer, AcceptedOnce, IsShown, ShowsServed, Uses, Accepts, Differ}
 use Rattle.sdls_run.specs.Life.{LifeRun, IsRun, FollowFrom, IsLife, UsesOnce, answers_of}
 
 -- two lists, each of whose pairs are related, and each of the first with each of the second
@@ -94,51 +95,76 @@ served_shown course answers image served = record {
       (restarted (after_first course.start course.entries q), form);
 }
 
--- no mark of a state that is shown while the book serves is lower than at the start
-raised : (course : Course) (plan : TelecommandPlan) (image : List ℕ) (state : State) (p key : ℕ) → IsTelecommand plan course.start
-    → LegalHistory course.start (length course.frames) course.entries → Shows image state
-    → Shows image (restarted (after_first course.start course.entries p)) → mark_of course.start key ≤ mark_of state key
-raised course plan image state p key here history shows served =
-    let same : restarted (after_first course.start course.entries p) ≡ state =
-    shown_once image (restarted (after_first course.start course.entries p)) state served shows in
-    subst (λ (s : State). mark_of course.start key ≤ mark_of s key) same
-    (all_marks_rise (Near course.start (length course.frames)) plan course.start course.entries 0 p key here history.reserves (omega arith))
-
-served_raised : (course : Course) (answers : List Answer) (plan : TelecommandPlan) (image : List ℕ) (state : State) (key : ℕ)
-    → IsTelecommand plan course.start → LegalHistory course.start (length course.frames) course.entries
-    → ShowsServed course answers image → IsShown image state → mark_of course.start key ≤ mark_of state key
-served_raised course answers plan image state key here history served (inl shows) =
-    raised course plan image state served.p key here history shows served.shows
-served_raised course answers plan image state key here history served (inr (half, shows)) =
+-- a state that is shown while the book serves is one of the history
+served_is : (course : Course) (answers : List Answer) (image : List ℕ) (state : State) → ShowsServed course answers image
+    → IsShown image state → (p : ℕ) × (restarted (after_first course.start course.entries p) ≡ state)
+served_is course answers image state served (inl shows) =
+    (served.p, shown_once image (restarted (after_first course.start course.entries served.p)) state served.shows shows)
+served_is course answers image state served (inr (half, shows)) =
     let (q, above, within, form) = served.half_open half in
-    raised course plan (opened_form image) state q key here history shows form
+    (q, shown_once (opened_form image) (restarted (after_first course.start course.entries q)) state form shows)
 
 -- the numbers that an answer uses are below their marks in the state
-abbrev IsBelow : State → Answer → Type 0
+abbrev pub IsBelow : State → Answer → Type 0
 IsBelow state answer = (key number : ℕ) → Uses answer key number → number < mark_of state key
 
-abbrev pub AreBelow : State → List Answer → Type 0
-AreBelow state answers = All (IsBelow state) answers
+-- those that it accepts are at most their floors
+abbrev pub IsFloored : State → Answer → Type 0
+IsFloored state answer = (key number : ℕ) → Accepts answer key number → number ≤ floor_of state key
 
 -- what runs leave: an image, and the answers so far
 record IsLeft (image : List ℕ) (answers : List Answer) : Type 0 where
   shown : Shown image
   differ : AllPairs (Differ Uses) answers
-  below : (state : State) → IsShown image state → AreBelow state answers
+  accepted : AllPairs (Differ Accepts) answers
+  below : (state : State) → IsShown image state → All (IsBelow state) answers
+  floored : (state : State) → IsShown image state → All (IsFloored state) answers
 
--- the answers from before are below the marks that a run leaves
-still_below : (run : LifeRun) (answers : List Answer) → IsRun run → IsLeft run.start answers → (state : State)
-    → IsShown run.image state → AreBelow state answers
-still_below run answers is_run left state shown = elim is_run.sound.image_shows [
-  | inl opening ↦ left.below state (shown_before run.start run.image run.course.start state is_run.shows opening.1 shown)
+-- the state is one at the start, or of the same plan, with marks that are no lower and the same floors
+pub data Follows (run : LifeRun) (state : State) : Type 0 where
+  at_start : IsShown run.start state → Follows run state
+  risen : state.plan ≡ run.course.start.plan → ((key : ℕ) → mark_of run.course.start key ≤ mark_of state key)
+      → ((key : ℕ) → floor_of state key ≡ floor_of run.course.start key) → Follows run state
+
+pub follows : (run : LifeRun) (state : State) → IsRun run → IsShown run.image state → Follows run state
+follows run state is_run shown = elim is_run.sound.image_shows [
+  | inl opening ↦ at_start (shown_before run.start run.image run.course.start state is_run.shows opening.1 shown)
   | inr served ↦
       let led : LedTo run.start run.course.start = shows_led run.start run.course.start is_run.shows in
       let here : IsTelecommand led.plan run.course.start = led_ends run.start run.course.start led in
-      λ k d within key number uses.
-      let low : number < mark_of run.course.start key =
-      left.below run.course.start (inl is_run.shows) k d within key number uses in
-      let rise : mark_of run.course.start key ≤ mark_of state key =
-      served_raised run.course run.answers led.plan run.image state key here is_run.sound.history served shown in
+      let start : State = run.course.start in
+      let entries : List Entry = run.course.entries in
+      let near : ℕ → ℕ → Type 0 = Near start (length run.course.frames) in
+      let reserves : AreReserves near start entries = is_run.sound.history.reserves in
+      let (p, same) = served_is run.course run.answers run.image state served shown in
+      let ends : IsTelecommand led.plan (after_first start entries p) = first_telecommand near led.plan start entries p here reserves in
+      risen
+      (ap (λ (s : State). s.plan) (sym same ∙ ap restarted ends.is) ∙ sym (ap (λ (s : State). s.plan) here.is))
+      (λ key. subst (λ (s : State). mark_of start key ≤ mark_of s key) same
+      (all_marks_rise near led.plan start entries 0 p key here reserves (omega arith)))
+      (λ key. subst (λ (s : State). floor_of s key ≡ floor_of start key) same (floors_stay near led.plan start entries p key here reserves))
+]
+
+-- the answers from before are below the marks that a run leaves
+still_below : (run : LifeRun) (answers : List Answer) → IsRun run → IsLeft run.start answers → (state : State)
+    → IsShown run.image state → All (IsBelow state) answers
+still_below run answers is_run left state shown = elim (follows run state is_run shown) [
+  | at_start earlier ↦ left.below state earlier
+  | risen plan rise stay ↦ λ k d within key number uses.
+      let low : number < mark_of run.course.start key = left.below run.course.start (inl is_run.shows) k d within key number uses in
+      let high : mark_of run.course.start key ≤ mark_of state key = rise key in
+      omega arith
+]
+
+-- and at most the floors
+still_floored : (run : LifeRun) (answers : List Answer) → IsRun run → IsLeft run.start answers → (state : State)
+    → IsShown run.image state → All (IsFloored state) answers
+still_floored run answers is_run left state shown = elim (follows run state is_run shown) [
+  | at_start earlier ↦ left.floored state earlier
+  | risen plan rise stay ↦ λ k d within key number accepts.
+      let low : number ≤ floor_of run.course.start key =
+      left.floored run.course.start (inl is_run.shows) k d within key number accepts in
+      let same : floor_of state key ≡ floor_of run.course.start key = stay key in
       omega arith
 ]
 
@@ -151,24 +177,38 @@ still_shown run is_run shown = elim is_run.sound.image_shows [
 -- one more run
 one_more : (run : LifeRun) (answers : List Answer) → IsRun run → IsLeft run.start answers → IsLeft run.image (answers ++ run.answers)
 one_more run answers is_run left =
-    let pairs : PairsDiffer run.course.start run.image run.answers = is_run.sound.pairs in
+    let start : State = run.course.start in
+    let pairs : PairsDiffer start run.image run.answers = is_run.sound.pairs in
+    let accepted : AcceptedOnce start run.image run.answers = is_run.sound.accepted in
     record {
       shown = still_shown run is_run left.shown;
       differ = pairs_append (Differ Uses) answers run.answers left.differ pairs.differ (λ k d within i e inside key number old new.
-          let low : number < mark_of run.course.start key =
-          left.below run.course.start (inl is_run.shows) k d within key number old in
+          let low : number < mark_of run.course.start key = left.below start (inl is_run.shows) k d within key number old in
           let high : mark_of run.course.start key ≤ number = pairs.above i e inside key number new in
           absurd (omega arith));
-      below = λ state shown. All-append (IsBelow state) answers run.answers (still_below run answers is_run left state shown) (pairs.below state shown);
+      accepted = pairs_append (Differ Accepts) answers run.answers left.accepted accepted.differ (λ k d within i e inside key number old new.
+          let low : number ≤ floor_of run.course.start key = left.floored start (inl is_run.shows) k d within key number old in
+          let high : floor_of run.course.start key < number = accepted.above i e inside key number new in
+          absurd (omega arith));
+      below = λ state shown.
+          All-append (IsBelow state) answers run.answers (still_below run answers is_run left state shown) (pairs.below state shown);
+      floored = λ state shown.
+          All-append (IsFloored state) answers run.answers (still_floored run answers is_run left state shown) (accepted.below state shown);
     }
 
+-- what is said of all answers
+record AreLeft (answers : List Answer) : Type 0 where
+  differ : AllPairs (Differ Uses) answers
+  accepted : AllPairs (Differ Accepts) answers
+
 -- all runs
-all_differ : (runs : List LifeRun) (image : List ℕ) (answers : List Answer) → IsLeft image answers → FollowFrom image runs
-    → AllPairs (Differ Uses) (answers ++ answers_of runs)
-all_differ [] image answers left follow = subst (AllPairs (Differ Uses)) (sym (append-nil answers)) left.differ
-all_differ (run ∷ runs) image answers left (start, is_run, follow) =
-    subst (AllPairs (Differ Uses)) (append_assoc answers run.answers (answers_of runs))
-    (all_differ runs run.image (answers ++ run.answers)
+all_left : (runs : List LifeRun) (image : List ℕ) (answers : List Answer) → IsLeft image answers → FollowFrom image runs
+    → AreLeft (answers ++ answers_of runs)
+all_left [] image answers left follow =
+    subst AreLeft (sym (append-nil answers)) (record { differ = left.differ; accepted = left.accepted })
+all_left (run ∷ runs) image answers left (start, is_run, follow) =
+    subst AreLeft (append_assoc answers run.answers (answers_of runs))
+    (all_left runs run.image (answers ++ run.answers)
     (one_more run answers is_run (subst (λ (i : List ℕ). IsLeft i answers) (sym start) left)) follow)
 
 -- each run leaves such an image
@@ -216,12 +256,20 @@ begun text plan said =
         half_open = λ half. absurd (half.torn (begins_so.rests half.there));
       };
       differ = λ i j d lt within. absurd (omega arith);
+      accepted = λ i j d lt within. absurd (omega arith);
       below = λ state shown. All-nil (IsBelow state);
+      floored = λ state shown. All-nil (IsFloored state);
     }
 
+life_left : (runs : List LifeRun) → IsLife runs → AreLeft (answers_of runs)
+life_left runs life =
+    all_left runs (initial_image life.text life.plan.slots) [] (begun life.text life.plan life.said) life.follow
+
 pub used_once : (runs : List LifeRun) → IsLife runs → UsesOnce runs
-used_once runs life =
-    all_differ runs (initial_image life.text life.plan.slots) [] (begun life.text life.plan life.said) life.follow
+used_once runs life = (life_left runs life).differ
+
+pub accepted_once : (runs : List LifeRun) → IsLife runs → AllPairs (Differ Accepts) (answers_of runs)
+accepted_once runs life = (life_left runs life).accepted
 
 left_by : (before : List LifeRun) (run : LifeRun) (later : List LifeRun) → IsLife (before ++ run ∷ later)
     → IsLeft run.image (answers_of (before ++ run ∷ []))
@@ -229,8 +277,12 @@ left_by before run later life =
     each_left before run later (initial_image life.text life.plan.slots) [] (begun life.text life.plan life.said) life.follow
 
 pub stays_below : (before : List LifeRun) (run : LifeRun) (later : List LifeRun) → IsLife (before ++ run ∷ later) → (state : State)
-    → IsShown run.image state → AreBelow state (answers_of (before ++ run ∷ []))
+    → IsShown run.image state → All (IsBelow state) (answers_of (before ++ run ∷ []))
 stays_below before run later life state shown = (left_by before run later life).below state shown
+
+pub stays_floored : (before : List LifeRun) (run : LifeRun) (later : List LifeRun) → IsLife (before ++ run ∷ later) → (state : State)
+    → IsShown run.image state → All (IsFloored state) (answers_of (before ++ run ∷ []))
+stays_floored before run later life state shown = (left_by before run later life).floored state shown
 
 pub stays_shown : (before : List LifeRun) (run : LifeRun) (later : List LifeRun) → IsLife (before ++ run ∷ later)
     → ((state : State) × Shows run.image state) × (IsHalfOpen run.image → (state : State) × Shows (opened_form run.image) state)

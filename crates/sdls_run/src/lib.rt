@@ -31,7 +31,7 @@ mod words;
 pub use frame_check::check_frame;
 pub use gate::Gate;
 pub use init::InitEnd;
-pub use laws::used_once_in_a_life;
+pub use laws::{covered_in_a_life, used_once_in_a_life};
 pub use outcome::Outcome;
 pub use refusal::Refusal;
 pub use top::{run, run_plain};

@@ -1,5 +1,5 @@
--- The marks of a history of reserves.
-use Rattle.std.proofs.Common.{◌≡◌, ◌≢◌, ℕ, zero, suc, ◌+◌, ◌<◌, ◌≤◌, ◌==◌, true, false, min, List, [], ◌∷◌, refl, ◌∙◌, ap, subst, inl, inr, arith}
+-- The marks and the floors of a history of reserves.
+use Rattle.std.proofs.Common.{◌≡◌, ◌≢◌, ℕ, zero, suc, ◌+◌, ◌<◌, ◌≤◌, ◌==◌, true, false, min, List, [], ◌∷◌, refl, sym, ◌∙◌, ap, subst, inl, inr, arith}
 use Rattle.std.specs.Option.{IsSome}
 use Rattle.std.proofs.lemmas.Bool.{eq-eqb, cases_eq}
 use Rattle.std.proofs.lemmas.Bool.Decides.{nat_tests}
@@ -25,10 +25,21 @@ pub mark_elsewhere : (plan : TelecommandPlan) (state : State) (id : ℕ) → IsT
 mark_elsewhere plan state id here other =
     ap (λ (s : State). mark_of s id) here.is ∙ no_mark plan here.mark here.floor id other
 
--- a state of the same plan, whose marks are no lower
+pub floor_there : (plan : TelecommandPlan) (mark floor : ℕ) → floor_of (telecommand_state plan mark floor) plan.key ≡ floor
+floor_there plan mark floor = let test : (plan.key == plan.key) ≡ true = eq-eqb plan.key plan.key refl in rw test refl
+
+no_floor : (plan : TelecommandPlan) (mark floor id : ℕ) → plan.key ≢ id → floor_of (telecommand_state plan mark floor) id ≡ 0
+no_floor plan mark floor id other = let test : (plan.key == id) ≡ false = grind (arith, nat_tests) in rw test refl
+
+floor_elsewhere : (plan : TelecommandPlan) (state : State) (id : ℕ) → IsTelecommand plan state → plan.key ≢ id → floor_of state id ≡ 0
+floor_elsewhere plan state id here other =
+    ap (λ (s : State). floor_of s id) here.is ∙ no_floor plan here.mark here.floor id other
+
+-- a state of the same plan, whose mark is no lower, and whose floor is the same
 pub record Raised (plan : TelecommandPlan) (old new : State) : Type 0 where
   pub here : IsTelecommand plan new
   pub higher : mark_of old plan.key ≤ mark_of new plan.key
+  pub same_floor : floor_of new plan.key ≡ floor_of old plan.key
 
 reserve_made : (plan : TelecommandPlan) (mark floor id new_mark new_floor : ℕ) → plan.key ≡ id
     → applied (telecommand_state plan mark floor) (Marks id new_mark new_floor) ≡ telecommand_state plan new_mark new_floor
@@ -53,20 +64,24 @@ raises near plan state entry here reserve =
     ap (λ (s : State). mark_of s plan.key) made ∙ mark_there plan mark floor in
     let needed : mark_of state reserve.id ≤ reserve.number = reserve.needed in
     let below : reserve.number < end_of reserve.id = reserve.below in
-    record { here = record { mark = mark; floor = floor; is = made }; higher = omega arith }
+    record {
+      here = record { mark = mark; floor = floor; is = made };
+      higher = omega arith;
+      same_floor = ap (λ (s : State). floor_of s plan.key) made ∙ floor_there plan mark floor ∙ sym (ap (floor_of state) key);
+    }
 
 -- after some of the reserves the marks are no lower than before
 pub raised_first : (near : ℕ → ℕ → Type 0) (plan : TelecommandPlan) (start : State) (entries : List Entry) (p : ℕ)
     → IsTelecommand plan start → AreReserves near start entries → Raised plan start (after_first start entries p)
-raised_first near plan start entries zero here reserves = record { here = here; higher = omega arith }
-raised_first near plan start [] (suc p) here reserves = record { here = here; higher = omega arith }
+raised_first near plan start entries zero here reserves = record { here = here; higher = omega arith; same_floor = refl }
+raised_first near plan start [] (suc p) here reserves = record { here = here; higher = omega arith; same_floor = refl }
 raised_first near plan start (entry ∷ entries) (suc p) here (reserve, reserves) =
     let next : Raised plan start (applied start entry.change) = raises near plan start entry here reserve in
     let rest : Raised plan (applied start entry.change) (after_first (applied start entry.change) entries p) =
     raised_first near plan (applied start entry.change) entries p next.here reserves in
     let low : mark_of start plan.key ≤ mark_of (applied start entry.change) plan.key = next.higher in
     let high : mark_of (applied start entry.change) plan.key ≤ mark_of (after_first (applied start entry.change) entries p) plan.key = rest.higher in
-    record { here = rest.here; higher = omega arith }
+    record { here = rest.here; higher = omega arith; same_floor = rest.same_floor ∙ next.same_floor }
 
 -- after more of them, no lower than after fewer
 pub marks_rise : (near : ℕ → ℕ → Type 0) (plan : TelecommandPlan) (start : State) (entries : List Entry) (p q : ℕ)
@@ -96,4 +111,14 @@ all_marks_rise near plan start entries p q id here reserves low = elim (cases_eq
       let new_is : mark_of (after_first start entries q) id ≡ 1 =
       mark_elsewhere plan (after_first start entries q) id (first_telecommand near plan start entries q here reserves) other in
       omega arith
+]
+
+-- every floor stays
+pub floors_stay : (near : ℕ → ℕ → Type 0) (plan : TelecommandPlan) (start : State) (entries : List Entry) (p id : ℕ)
+    → IsTelecommand plan start → AreReserves near start entries → floor_of (after_first start entries p) id ≡ floor_of start id
+floors_stay near plan start entries p id here reserves = elim (cases_eq plan.key id) [
+  | inl same ↦ subst (λ (k : ℕ). floor_of (after_first start entries p) k ≡ floor_of start k) same
+      (raised_first near plan start entries p here reserves).same_floor
+  | inr other ↦ floor_elsewhere plan (after_first start entries p) id (first_telecommand near plan start entries p here reserves) other
+      ∙ sym (floor_elsewhere plan start id here other)
 ]
