@@ -152,10 +152,12 @@ pub(crate) fn run_init<S: Source, O: Site>(alloc: Global, source: &mut S, mut si
         Ok(()) => Outcome {
             status: end.status(),
             site,
+            entries: Vec::new(alloc),
         },
         Err(Failed) => Outcome {
             status: SITE_FAULT,
             site,
+            entries: Vec::new(alloc),
         },
     }
 }

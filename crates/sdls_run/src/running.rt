@@ -1,8 +1,8 @@
 // The run loop: segments are read and served until the input ends.
-ghost use Rattle.std.specs.Prelude.{◌≡◌, ℕ, ◌^◌, ◌<◌, ◌≤◌, IsTrue, List};
+ghost use Rattle.std.specs.Prelude.{◌≡◌, ℕ, ◌<◌, ◌≤◌, IsTrue, List, [], MatchOption};
 ghost use Rattle.sdls_outside.specs.Faults.{Rose};
-ghost use Rattle.sdls_run.specs.Run.{UnderWay, StepLeads, step_after, end_status, end_number};
-ghost use Rattle.sdls_run.specs.Serving.{IsReady};
+ghost use Rattle.sdls_run.specs.Run.{UnderWay, HasStopped, HasBroken, StepLeads, step_after, end_status, end_number};
+ghost use Rattle.sdls_run.specs.Serving.{IsReady, IsServed};
 
 use crate::records::{Reader, SegmentEnd};
 use crate::serving::{Session, Stop};
@@ -104,6 +104,32 @@ impl<O: Site> Session<O> {
             Ok(()) => step_of(end),
             Err(Stop::NoMemory) => Step::Ends(RunEnd::NoMemory),
             Err(Stop::PutFailed) => Step::Broken,
+        }
+    }
+
+    /// Reads and serves the whole input, and says why the run ends, or nothing where a put has failed.
+    fn serve_input<S: Source>(&mut self, alloc: Global, source: &mut S) -> Option<RunEnd>
+        requires ready { IsReady O.told O.trace O.faults self.old.book self.old.binding self.old.next }
+        ensures ready { IsReady O.told O.trace O.faults self.new.book self.new.binding self.new.next }
+        ensures binding { self.new.binding ≡ self.old.binding }
+        ensures slots { self.new.book.journal.slots ≡ self.old.book.journal.slots }
+        ensures same_run { IsTrue O.told → (self.new.book.opened ≡ self.old.book.opened) × (self.new.book.start ≡ self.old.book.start) }
+        ensures serves { (before : ℕ) (base : List ℕ)
+            → IsServed O.told O.trace O.faults before base self.old.book self.old.binding self.old.next [] []
+            → MatchOption result
+            (HasBroken S.told (S.left source.old) O.told O.trace O.faults before base self.new.book self.old.binding self.new.next)
+            (HasStopped S.told (S.left source.old) (S.left source.new) (S.faults source.old) (S.faults source.new)
+            O.told O.trace O.faults before base self.new.book self.old.binding self.new.next) }
+        ensures later { O.faults self.old.book.site ≤ O.faults self.new.book.site }
+    {
+        let mut reader = Reader::new();
+        'segments: loop {
+            let taken = reader.taken();
+            match self.serve_next(alloc, source, &mut reader) {
+                Step::On => {}
+                Step::Ends(end) => return Some(end),
+                Step::Broken => return None,
+            }
         }
     }
 }

@@ -23,23 +23,33 @@ use unit_plan::MOST_OCTETS;
 const USAGE_TEXT: &[u8] = b"usage: sdls check KEY, init, run, stat, drill N\n";
 
 /// Runs `check KEY`.
-fn run_check<S: Source, O: Site>(key: &Schedule, source: &mut S, mut site: O) -> Outcome<O>
+fn run_check<S: Source, O: Site>(
+    alloc: Global,
+    key: &Schedule,
+    source: &mut S,
+    mut site: O,
+) -> Outcome<O>
     ensures due { EndsCheck key.now
         (λ input. IsTrue S.told → input ≡ S.left source.old) (Rose (S.faults source.old) (S.faults source.new))
         O.told (O.trace site) (O.trace result.site) (Rose (O.faults site) (O.faults result.site)) result.status }
     ensures taken { IsTrue S.told → TakesAtMost (GREATEST_LENGTH + 1) (S.left source.old) (S.left source.new) }
 {
     match put_check(key, source, &mut site) {
-        Ok(status) => Outcome { status, site },
+        Ok(status) => Outcome {
+            status,
+            site,
+            entries: Vec::new(alloc),
+        },
         Err(Failed) => Outcome {
             status: SITE_FAULT,
             site,
+            entries: Vec::new(alloc),
         },
     }
 }
 
 /// Answers words that are no command.
-fn run_usage<O: Site>(mut site: O) -> Outcome<O>
+fn run_usage<O: Site>(alloc: Global, mut site: O) -> Outcome<O>
     ensures { Ends O.told (O.trace site) (O.trace result.site) (Rose (O.faults site) (O.faults result.site))
         usage_text USAGE result.status }
 {
@@ -47,10 +57,12 @@ fn run_usage<O: Site>(mut site: O) -> Outcome<O>
         Ok(()) => Outcome {
             status: USAGE,
             site,
+            entries: Vec::new(alloc),
         },
         Err(Failed) => Outcome {
             status: SITE_FAULT,
             site,
+            entries: Vec::new(alloc),
         },
     }
 }
@@ -92,8 +104,8 @@ pub fn run_plain<S: Source, O: Site>(
         return run_init(alloc, source, site);
     }
     match check_key(words) {
-        Some(key) => run_check(&key, source, site),
-        None => run_usage(site),
+        Some(key) => run_check(alloc, &key, source, site),
+        None => run_usage(alloc, site),
     }
 }
 
