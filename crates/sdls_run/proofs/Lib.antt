@@ -2,6 +2,7 @@ pub mod CheckWords
 pub mod Covering
 pub mod Collecting
 pub mod Delivering
+pub mod EndSteps
 pub mod Judging
 pub mod Making
 pub mod ReadingRecords

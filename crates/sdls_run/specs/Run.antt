@@ -21,7 +21,7 @@ use Rattle.sdls_run.specs.Records.{Item, Place, IsWellFormed, IsMalformedAfter, 
 use Rattle.sdls_run.specs.AnswerOctets.{answer_octets}
 use Rattle.sdls_run.specs.Fits.{Course}
 use Rattle.sdls_run.specs.Sound.{answers_octets, EarlyOrSound}
-use Rattle.sdls_run.specs.Serving.{IsServed, IsBroken}
+use Rattle.sdls_run.specs.Serving.{IsServing, IsServed, IsBroken, AreCovered}
 
 -- the items that are frames to be protected
 abbrev pub frames_of : List Item → List Item
@@ -155,3 +155,23 @@ step_after ends.More = On
 step_after ends.End = Ends Ended
 step_after (ends.Malformed offset) = Ends (Malformed offset)
 step_after (ends.SourceFault count) = Ends (SourceFault count)
+
+-- Private: the end that is told: a fault of the site, where its count rose, or the one that came.
+abbrev pub TellsEnd : {O : Type 0} → (O → ℕ) → BookView O → RunEnd → RunEnd → Type 0
+TellsEnd faults book came told =
+    (Rose (faults book.opened) (faults book.site) × (told ≡ SiteFault (faults book.site))) ⊎ (told ≡ came)
+
+-- Private: all was served, and End put, or a put failed.
+pub record ServedAll {O : Type 0} (s_told : Bool) (input left : List ℕ) (s_before s_now : ℕ) (o_told : Bool) (trace : O → Trace)
+    (faults : O → ℕ) (before : ℕ) (base : List ℕ) (book : BookView O) (binding : BindingParts) (next status : ℕ) : Type 0 where
+  pub end : RunEnd
+  pub items : List Item
+  pub frames : List Record
+  pub answers : List Answer
+  pub in_front : IsTrue s_told → AreInFront items input
+  pub frames_are : frames_of items ≡ map protect_item frames
+  pub serving : IsServing o_told trace faults before book binding next frames answers
+  pub covered : IsTrue o_told → AreCovered book.start book.entries book.places binding.key (length base) answers
+  pub cause : EndCause s_told input left s_before s_now before (faults book.site) (λ offset. ⊥) items end
+  pub put : PutsAll o_told (answers_octets answers ++ answer_octets (end_answer end (length book.entries))) base (trace book.site).now.sunk
+      before (faults book.site) (end_status end) status

@@ -1,13 +1,16 @@
 // The run loop: segments are read and served until the input ends.
-ghost use Rattle.std.specs.Prelude.{◌≡◌, ℕ, ◌<◌, ◌≤◌, IsTrue, List, [], MatchOption};
+ghost use Rattle.std.specs.Prelude.{◌≡◌, ℕ, ◌<◌, ◌≤◌, IsTrue, List, [], length, MatchOption};
 ghost use Rattle.sdls_outside.specs.Faults.{Rose};
-ghost use Rattle.sdls_run.specs.Run.{UnderWay, HasStopped, HasBroken, StepLeads, step_after, end_status, end_number};
+ghost use Rattle.sdls_run.specs.Run.{UnderWay, HasStopped, HasBroken, ServedAll, TellsEnd, PutsAll, StepLeads, end_answer, step_after, end_status, end_number};
+ghost use Rattle.unit_book.specs.Book.{IsKept, SameBook};
+ghost use Rattle.sdls_run.specs.AnswerOctets.{answer_octets};
 ghost use Rattle.sdls_run.specs.Serving.{IsReady, IsServed};
 
+use crate::answers::Answer;
 use crate::records::{Reader, SegmentEnd};
 use crate::serving::{Session, Stop};
 use crate::status::{DONE, MALFORMED, NO_MEMORY, NO_STATE, SITE_FAULT, SOURCE_FAULT};
-use sdls_base::NoMemory;
+use sdls_base::{NoMemory, Octets};
 use sdls_outside::{Site, Source};
 use std::alloc::Global;
 
@@ -131,5 +134,66 @@ impl<O: Site> Session<O> {
                 Step::Broken => return None,
             }
         }
+    }
+
+    /// The end that is told: a fault of the site, where its count has risen since the book was opened.
+    fn told_end(&self, end: RunEnd) -> RunEnd
+        ensures { TellsEnd O.faults self.entry.now.book end result }
+    {
+        if self.book.has_failed() {
+            RunEnd::SiteFault(self.book.faults())
+        } else {
+            end
+        }
+    }
+
+    /// Puts the End answer, and answers the end that it tells, and the status.
+    fn put_end(&mut self, alloc: Global, end: RunEnd) -> (RunEnd, u8)
+        requires kept { IsKept O.told O.trace O.faults self.old.book }
+        ensures kept { IsKept O.told O.trace O.faults self.new.book }
+        ensures same { SameBook self.old.book self.new.book }
+        ensures others { (self.new.binding ≡ self.old.binding) × (self.new.next ≡ self.old.next) }
+        ensures tells { TellsEnd O.faults self.old.book end result.0 }
+        ensures put { PutsAll O.told (answer_octets (end_answer result.0 (length self.old.book.entries)))
+            (O.trace self.old.book.site).now.sunk (O.trace self.new.book.site).now.sunk
+            (O.faults self.old.book.site) (O.faults self.new.book.site) (end_status result.0) result.1 }
+        ensures later { O.faults self.old.book.site ≤ O.faults self.new.book.site }
+    {
+        let told = self.told_end(end);
+        let answer = answer_of(alloc, told, self.book.count());
+        match self.put_answer(&answer) {
+            Ok(()) => (told, told.status()),
+            Err(_) => (told, SITE_FAULT),
+        }
+    }
+
+    /// Serves the whole input, puts End, and answers the status.
+    fn serve_all<S: Source>(&mut self, alloc: Global, source: &mut S) -> u8
+        requires ready { IsReady O.told O.trace O.faults self.old.book self.old.binding self.old.next }
+        ensures slots { self.new.book.journal.slots ≡ self.old.book.journal.slots }
+        ensures same_run { IsTrue O.told → (self.new.book.opened ≡ self.old.book.opened) × (self.new.book.start ≡ self.old.book.start) }
+        ensures served { (before : ℕ) (base : List ℕ)
+            → IsServed O.told O.trace O.faults before base self.old.book self.old.binding self.old.next [] []
+            → ServedAll S.told (S.left source.old) (S.left source.new) (S.faults source.old) (S.faults source.new)
+            O.told O.trace O.faults before base self.new.book self.old.binding self.new.next result }
+    {
+        match self.serve_input(alloc, source) {
+            Some(end) => self.put_end(alloc, end).1,
+            None => SITE_FAULT,
+        }
+    }
+}
+
+/// The End answer.
+fn answer_of(alloc: Global, end: RunEnd, entries: u64) -> Answer
+    ensures { result ≡ end_answer end entries }
+{
+    Answer {
+        code: 0xff,
+        detail: end.status(),
+        key: 0,
+        position: entries,
+        number: end.number(),
+        body: Octets::new(Vec::new(alloc)),
     }
 }

@@ -216,7 +216,7 @@ impl<O: Site> Session<O> {
     }
 
     /// Puts an answer, its header before its body.
-    fn put_answer(&mut self, answer: &Answer) -> Result<(), BookFault>
+    pub(crate) fn put_answer(&mut self, answer: &Answer) -> Result<(), BookFault>
         requires kept { IsKept O.told O.trace O.faults self.old.book }
         requires short { length answer.now.body ≤ 1024 }
         ensures kept { IsKept O.told O.trace O.faults self.new.book }
