@@ -1,3 +1,4 @@
+pub mod Begun
 pub mod CheckWords
 pub mod Covering
 pub mod Collecting
@@ -12,6 +13,7 @@ pub mod ServingSteps
 pub mod AnswerSteps
 pub mod Answering
 pub mod RunSteps
+pub mod Soundness
 pub mod SegmentSteps
 pub mod Spelling
 pub mod WholeInput
