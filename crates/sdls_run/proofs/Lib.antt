@@ -4,6 +4,7 @@ pub mod Covering
 pub mod Collecting
 pub mod Delivering
 pub mod EndSteps
+pub mod Finishing
 pub mod Judging
 pub mod Making
 pub mod ReadingRecords

@@ -52,7 +52,7 @@ opening_sound entry course image sunk legal (inr regates) only_end = inr ([], re
 })
 
 -- what was sunk behind the base, at a moment
-since_front : (base octets sunk : List ℕ) → sunk ≡ take (length sunk) (base ++ octets) → drop (length base) sunk ≡ take (length sunk - length base) octets
+pub since_front : (base octets sunk : List ℕ) → sunk ≡ take (length sunk) (base ++ octets) → drop (length base) sunk ≡ take (length sunk - length base) octets
 since_front base octets sunk front = elim (cases_lt (length base) (length sunk)) [
   | inl beyond ↦
       let whole : length base + (length sunk - length base) ≡ length sunk = omega arith in
@@ -65,7 +65,7 @@ since_front base octets sunk front = elim (cases_lt (length base) (length sunk))
 ]
 
 -- the same, by its own length
-own_front : (n : ℕ) (octets since : List ℕ) → since ≡ take n octets → since ≡ take (length since) octets
+pub own_front : (n : ℕ) (octets since : List ℕ) → since ≡ take n octets → since ≡ take (length since) octets
 own_front n octets since is =
     let size : length since ≡ min n (length octets) = ap (λ (l : List ℕ). length l) is ∙ length-take n octets in
     elim (cases_lt n (length octets)) [

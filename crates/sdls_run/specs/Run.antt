@@ -6,6 +6,9 @@ use Rattle.sdls_outside.specs.Moments.{Trace, Between, EachMoment}
 use Rattle.disk_journal.specs.Image.{records, slot_count}
 use Rattle.unit_book.specs.Binding.{BindingParts}
 use Rattle.unit_book.specs.Book.{BookView}
+use Rattle.unit_book.specs.Verdict.{binding_of}
+use Rattle.unit_book.specs.declared.fault.OpenFault.{OpenFault}
+use Rattle.unit_book.specs.declared.fault.OpenFault.TheVariants as open_faults
 use Rattle.unit_book.specs.State.{State}
 use Rattle.unit_book.specs.Shows.{Shows, ShowsNone}
 use Rattle.sdls_run.specs.declared.records.Record.{Record}
@@ -175,3 +178,20 @@ pub record ServedAll {O : Type 0} (s_told : Bool) (input left : List ℕ) (s_bef
   pub cause : EndCause s_told input left s_before s_now before (faults book.site) (λ offset. ⊥) items end
   pub put : PutsAll o_told (answers_octets answers ++ answer_octets (end_answer end (length book.entries))) base (trace book.site).now.sunk
       before (faults book.site) (end_status end) status
+
+-- Private: a book that was opened has served all; this is the site, the entries and the status that are answered.
+pub record HasServed {O : Type 0} (s_told : Bool) (input left : List ℕ) (s_before s_now : ℕ) (o_told : Bool) (trace : O → Trace)
+    (faults : O → ℕ) (before : ℕ) (base : List ℕ) (book : BookView O) (site : O) (entries : List Entry) (status : ℕ) : Type 0 where
+  pub last : BookView O
+  pub next : ℕ
+  pub served : ServedAll s_told input left s_before s_now o_told trace faults before base last (binding_of book.start) next status
+  pub slots : last.journal.slots ≡ book.journal.slots
+  pub same_run : IsTrue o_told → (last.opened ≡ book.opened) × (last.start ≡ book.start)
+  pub site_is : site ≡ last.site
+  pub entries_are : entries ≡ last.entries
+
+-- Private: why a run ends whose book was not opened.
+abbrev pub end_of_open : OpenFault → RunEnd
+end_of_open (open_faults.SiteFault count) = SiteFault count
+end_of_open (open_faults.Image offset) = NoState offset
+end_of_open open_faults.NoMemory = NoMemory

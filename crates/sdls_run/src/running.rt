@@ -1,18 +1,23 @@
 // The run loop: segments are read and served until the input ends.
-ghost use Rattle.std.specs.Prelude.{◌≡◌, ℕ, ◌<◌, ◌≤◌, IsTrue, List, [], length, MatchOption};
+ghost use Rattle.std.specs.Prelude.{◌≡◌, ℕ, ◌<◌, ◌≤◌, ◌⊎◌, IsTrue, List, [], length, MatchOption};
 ghost use Rattle.sdls_outside.specs.Faults.{Rose};
-ghost use Rattle.sdls_run.specs.Run.{UnderWay, HasStopped, HasBroken, ServedAll, TellsEnd, PutsAll, StepLeads, end_answer, step_after, end_status, end_number};
+ghost use Rattle.sdls_run.specs.Run.{UnderWay, HasStopped, HasBroken, ServedAll, HasServed, RunEnds, end_of_open, TellsEnd, PutsAll, StepLeads, end_answer, step_after, end_status, end_number};
 ghost use Rattle.unit_book.specs.Book.{IsKept, SameBook};
+ghost use Rattle.unit_book.specs.Verdict.{binding_of};
+ghost use Rattle.unit_book.specs.State.{mark_of};
+ghost use Rattle.sdls_outside.specs.Site.{Sank};
 ghost use Rattle.sdls_run.specs.AnswerOctets.{answer_octets};
 ghost use Rattle.sdls_run.specs.Serving.{IsReady, IsServed};
 
-use crate::answers::Answer;
+use crate::answers::{Answer, answer_header};
+use crate::outcome::Outcome;
 use crate::records::{Reader, SegmentEnd};
 use crate::serving::{Session, Stop};
 use crate::status::{DONE, MALFORMED, NO_MEMORY, NO_STATE, SITE_FAULT, SOURCE_FAULT};
-use sdls_base::{NoMemory, Octets};
-use sdls_outside::{Site, Source};
+use sdls_base::{Entry, NoMemory, Octets};
+use sdls_outside::{Failed, Site, Source};
 use std::alloc::Global;
+use unit_book::{Book, OpenFault};
 
 /// Why `run` ends.
 #[derive(Clone, Copy, Debug, PartialEq, Eq)]
@@ -195,5 +200,107 @@ fn answer_of(alloc: Global, end: RunEnd, entries: u64) -> Answer
         position: entries,
         number: end.number(),
         body: Octets::new(Vec::new(alloc)),
+    }
+}
+
+impl<O: Site> Session<O> {
+    /// A session over a book that was opened.
+    fn new(book: Book<O>) -> Session<O>
+        requires { IsKept O.told O.trace O.faults book }
+        ensures book { result.book ≡ book }
+        ensures binding { result.binding ≡ binding_of book.start }
+        ensures next { result.next ≡ mark_of book.state result.binding.key }
+        ensures ready { IsReady O.told O.trace O.faults result.book result.binding result.next }
+    {
+        let binding = book.binding();
+        let next = book.mark();
+        Session {
+            book,
+            binding,
+            next,
+        }
+    }
+
+    /// Gives back the site and the run's entries.
+    fn into_site(self) -> (O, Vec<Entry>)
+        ensures site { result.0 ≡ self.book.site }
+        ensures entries { result.1.items ≡ self.book.entries }
+    {
+        let Session {
+            book,
+            binding: _binding,
+            next: _next,
+        } = self;
+        book.into_site()
+    }
+}
+
+/// Serves the input with a book that was opened.
+fn serve<S: Source, O: Site>(alloc: Global, source: &mut S, book: Book<O>) -> Outcome<O>
+    requires { IsKept O.told O.trace O.faults book }
+    ensures { (before : ℕ) (base : List ℕ) → before ≤ O.faults book.opened → book.entries ≡ [] → book.state ≡ book.start
+        → (IsTrue O.told → (O.trace book.site).now.sunk ≡ base)
+        → HasServed S.told (S.left source.old) (S.left source.new) (S.faults source.old) (S.faults source.new)
+        O.told O.trace O.faults before base book result.site result.entries.items result.status }
+{
+    let mut session = Session::new(book);
+    let status = session.serve_all(alloc, source);
+    let (site, entries) = session.into_site();
+    Outcome {
+        status,
+        site,
+        entries,
+    }
+}
+
+/// Why a run ends whose book was not opened.
+fn refused_end(fault: OpenFault) -> RunEnd
+    ensures { result ≡ end_of_open fault }
+{
+    match fault {
+        OpenFault::SiteFault(count) => RunEnd::SiteFault(count),
+        OpenFault::Image(offset) => RunEnd::NoState(offset),
+        OpenFault::NoMemory => RunEnd::NoMemory,
+    }
+}
+
+/// Puts End where the book was not opened.
+fn refuse<O: Site>(alloc: Global, fault: OpenFault, mut site: O) -> Outcome<O>
+    ensures put { PutsAll O.told (answer_octets (end_answer (end_of_open fault) 0))
+        (O.trace site).now.sunk (O.trace result.site).now.sunk (O.faults site) (O.faults result.site)
+        (end_status (end_of_open fault)) result.status }
+    ensures sank { IsTrue O.told → (O.trace result.site ≡ O.trace site)
+        ⊎ Sank (answer_octets (end_answer (end_of_open fault) 0)) (O.trace site) (O.trace result.site) }
+    ensures entries { result.entries.items ≡ [] }
+    ensures later { O.faults site ≤ O.faults result.site }
+{
+    let end = refused_end(fault);
+    let answer = answer_of(alloc, end, 0);
+    match site.put(&answer_header(&answer)) {
+        Ok(()) => Outcome {
+            status: end.status(),
+            site,
+            entries: Vec::new(alloc),
+        },
+        Err(Failed) => Outcome {
+            status: SITE_FAULT,
+            site,
+            entries: Vec::new(alloc),
+        },
+    }
+}
+
+/// Runs `run`: protects the telecommand frames of the recorded input.
+pub(crate) fn run_frames<S: Source, O: Site>(
+    alloc: Global,
+    source: &mut S,
+    site: O,
+) -> Outcome<O>
+    ensures { RunEnds S.told O.told (S.left source.old) (S.left source.new) (S.faults source.old) (S.faults source.new)
+        (O.faults site) (O.faults result.site) (O.trace site) (O.trace result.site) result.status result.entries.items }
+{
+    match Book::open(alloc, site) {
+        Ok(book) => serve(alloc, source, book),
+        Err((fault, site)) => refuse(alloc, fault, site),
     }
 }

@@ -9,3 +9,4 @@ pub mod ShownOnce
 pub mod Marks
 pub mod Storing
 pub mod Beginning
+pub mod ShownNone
