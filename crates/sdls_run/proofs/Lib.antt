@@ -17,6 +17,7 @@ pub mod RunSteps
 pub mod Soundness
 pub mod SegmentSteps
 pub mod Spelling
+pub mod Statuses
 pub mod WholeInput
 pub mod Lives
 pub mod LifeKeys

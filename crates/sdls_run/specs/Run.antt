@@ -1,5 +1,5 @@
 -- How `run` ends (profile).
-use Rattle.std.specs.Prelude.{◌≡◌, ℕ, ◌+◌, ◌-◌, ◌^◌, ◌<◌, ◌≤◌, ◌⊎◌, ◌==◌, ⊤, Bool, IsTrue, if◌then◌else◌, List, [], ◌∷◌, ◌++◌, length, map}
+use Rattle.std.specs.Prelude.{◌≡◌, ◌≢◌, ℕ, ◌+◌, ◌-◌, ◌^◌, ◌<◌, ◌≤◌, ◌⊎◌, ◌==◌, ⊤, Bool, IsTrue, if◌then◌else◌, List, [], ◌∷◌, ◌++◌, length, map}
 use Rattle.sdls_base.specs.declared.entry.Entry.{Entry}
 use Rattle.sdls_outside.specs.Faults.{Rose}
 use Rattle.sdls_outside.specs.Moments.{Trace, Between, EachMoment}
@@ -110,6 +110,24 @@ pub record RunEnds (s_told o_told : Bool) (input left : List ℕ) (s_before s_no
   pub sound : IsTrue o_told → (state : State) → Shows old.now.image state
       → EachMoment old new (EarlyOrSound old (whole_course old state o_before o_now entries frames))
   pub none_shown : IsTrue o_told → (offset : ℕ) → ShowsNone old.now.image offset → (answers ≡ []) × (entries ≡ [])
+
+-- What the status of `run` says. 0: the source has ended, the input is well formed, each frame has one answer, and End
+-- stands last. 3: the input is malformed at the offset that End tells. 4, 5: the count of faults of the source, or of the
+-- site, rose in this call. 7: the image shows no state, for the check whose offset End tells. No other status but 6 comes.
+pub record StatusSays (s_told o_told : Bool) (input left : List ℕ) (s_before s_now o_before o_now : ℕ) (old new : Trace)
+    (entries : List Entry) (status : ℕ) : Type 0 where
+  pub done : status ≡ statuses.DONE → (items : List Item) × (frames : List Record) × (answers : List Answer)
+      × (IsTrue s_told → (IsWellFormed input items × (left ≡ [])) ⊎ IsTooLong input)
+      × (frames_of items ≡ map protect_item frames) × (length answers ≡ length frames)
+      × (IsTrue o_told → new.now.sunk ≡ old.now.sunk ++ (answers_octets answers ++ answer_octets (end_answer Ended (length entries))))
+  pub malformed : status ≡ statuses.MALFORMED → (items : List Item) × (answers : List Answer) × (offset : ℕ)
+      × (IsTrue s_told → IsMalformedAfter items input offset ⊎ IsTooLong input)
+      × (IsTrue o_told → new.now.sunk ≡ old.now.sunk ++ (answers_octets answers ++ answer_octets (end_answer (Malformed offset) (length entries))))
+  pub source_fault : status ≡ statuses.SOURCE_FAULT → Rose s_before s_now
+  pub site_fault : status ≡ statuses.SITE_FAULT → Rose o_before o_now
+  pub no_state : status ≡ statuses.NO_STATE → (offset : ℕ) × (IsTrue o_told → ShowsNone old.now.image offset)
+      × (IsTrue o_told → new.now.sunk ≡ old.now.sunk ++ answer_octets (end_answer (NoState offset) (length entries)))
+  pub others : (status ≢ statuses.REFUSED) × (status ≢ statuses.USAGE) × (status ≤ statuses.NO_STATE)
 
 -- Private: a run that goes on.
 pub record UnderWay {O : Type 0} (s_told : Bool) (input : List ℕ) (place : Place) (left : List ℕ) (o_told : Bool) (trace : O → Trace)

@@ -19,6 +19,10 @@ pub record IsCheck (words : List (String Global)) (key : List ℕ) : Type 0 wher
 abbrev pub IsInit : List (String Global) → Type 0
 IsInit words = map string_bytes words ≡ codes "init" ∷ []
 
--- the words are none of the commands that are served
+-- the one word is `run`
+abbrev pub IsRun : List (String Global) → Type 0
+IsRun words = map string_bytes words ≡ codes "run" ∷ []
+
+-- the words are neither `check KEY` nor `init`
 abbrev pub IsNoCommand : List (String Global) → Type 0
 IsNoCommand words = ((key : List ℕ) → ¬ IsCheck words key) × (¬ IsInit words)

@@ -146,6 +146,7 @@ pub(crate) fn run_init<S: Source, O: Site>(alloc: Global, source: &mut S, mut si
         (Rose (S.faults source.old) (S.faults source.new)) O.told (O.trace site) (O.trace result.site)
         (Rose (O.faults site) (O.faults result.site)) result.status }
     ensures taken { IsTrue S.told → TakesAtMost (MOST_OCTETS + 1) (S.left source.old) (S.left source.new) }
+    ensures no_history { result.entries.items ≡ [] }
 {
     let end = initialize(alloc, source, &mut site);
     match put_end(&mut site, end) {

@@ -1,9 +1,10 @@
-ghost use Rattle.std.specs.Prelude.{◌≡◌, ℕ, ◌+◌, ◌≤◌, List, IsTrue};
+ghost use Rattle.std.specs.Prelude.{◌≡◌, ℕ, ◌+◌, ◌≤◌, List, [], IsTrue};
 ghost use Rattle.sdls_outside.specs.Faults.{Rose};
 ghost use Rattle.sdls_run.specs.Answer.{Ends, EndsCheck, usage_text};
 ghost use Rattle.sdls_run.specs.Init.{EndsInit};
 ghost use Rattle.sdls_run.specs.Intake.{TakesAtMost};
-ghost use Rattle.sdls_run.specs.Words.{IsCheck, IsInit, IsNoCommand};
+ghost use Rattle.sdls_run.specs.Words.{IsCheck, IsInit, IsNoCommand, IsRun};
+ghost use Rattle.sdls_run.specs.Run.{RunEnds, StatusSays};
 
 use crate::check::put_check;
 use crate::frame_check::GREATEST_LENGTH;
@@ -12,7 +13,8 @@ use crate::init::run_init;
 use crate::outcome::Outcome;
 use crate::output::put_text;
 use crate::status::{SITE_FAULT, USAGE};
-use crate::words::{check_key, is_init};
+use crate::running::run_frames;
+use crate::words::{check_key, is_init, is_run};
 use aes_block::Schedule;
 use sdls_outside::{Failed, Site, Source};
 use std::alloc::Global;
@@ -33,6 +35,7 @@ fn run_check<S: Source, O: Site>(
         (λ input. IsTrue S.told → input ≡ S.left source.old) (Rose (S.faults source.old) (S.faults source.new))
         O.told (O.trace site) (O.trace result.site) (Rose (O.faults site) (O.faults result.site)) result.status }
     ensures taken { IsTrue S.told → TakesAtMost (GREATEST_LENGTH + 1) (S.left source.old) (S.left source.new) }
+    ensures no_history { result.entries.items ≡ [] }
 {
     match put_check(key, source, &mut site) {
         Ok(status) => Outcome {
@@ -50,8 +53,9 @@ fn run_check<S: Source, O: Site>(
 
 /// Answers words that are no command.
 fn run_usage<O: Site>(alloc: Global, mut site: O) -> Outcome<O>
-    ensures { Ends O.told (O.trace site) (O.trace result.site) (Rose (O.faults site) (O.faults result.site))
+    ensures ends { Ends O.told (O.trace site) (O.trace result.site) (Rose (O.faults site) (O.faults result.site))
         usage_text USAGE result.status }
+    ensures no_history { result.entries.items ≡ [] }
 {
     match put_text(&mut site, USAGE_TEXT) {
         Ok(()) => Outcome {
@@ -67,7 +71,7 @@ fn run_usage<O: Site>(alloc: Global, mut site: O) -> Outcome<O>
     }
 }
 
-/// Serves the words that need no threads: `check KEY` and `init`. Other words are answered with the
+/// Serves the words that need no threads: `check KEY` and `init`. Other words, `run` among them, are answered with the
 /// usage line.
 ///
 /// `check KEY` reads one AOS transfer frame from the source and puts `ok` with its data field in
@@ -99,6 +103,7 @@ pub fn run_plain<S: Source, O: Site>(
         → Ends O.told (O.trace site) (O.trace result.site) (Rose (O.faults site) (O.faults result.site))
         usage_text USAGE result.status }
     ensures untouched { IsNoCommand words.now → source.new ≡ source.old }
+    ensures no_history { result.entries.items ≡ [] }
 {
     if is_init(words) {
         return run_init(alloc, source, site);
@@ -109,9 +114,13 @@ pub fn run_plain<S: Source, O: Site>(
     }
 }
 
-/// Serves the words after the program's name, and answers the status and the site.
+/// Serves the words after the program's name, and answers the status, the site and the run's entries.
 ///
-/// It hands all words to [`run_plain`], whose clauses are its own.
+/// `run` reads recorded telecommand frames from the source, protects each under the one association of the image's plan,
+/// and puts one answer for each, in their order, and an End answer behind them. A number that a frame is protected under
+/// is stored in the image before the frame is put, so that no life of the unit uses it again.
+///
+/// It hands all other words to [`run_plain`], whose clauses are its own.
 pub fn run<R: Threads + Wait + Sync, S: Source, O: Site + Send, G: Gate + Sync>(
     _rt: &R,
     alloc: Global,
@@ -120,10 +129,20 @@ pub fn run<R: Threads + Wait + Sync, S: Source, O: Site + Send, G: Gate + Sync>(
     site: O,
     _gate: &G,
 ) -> Outcome<O>
+    // Each moment of the run is early or sound, and why it ends is told.
+    ensures frames { IsRun words.now → RunEnds S.told O.told (S.left source.old) (S.left source.new)
+        (S.faults source.old) (S.faults source.new) (O.faults site) (O.faults result.site) (O.trace site) (O.trace result.site)
+        result.status result.entries.items }
+
+    // What a status says.
+    ensures status { IsRun words.now → StatusSays S.told O.told (S.left source.old) (S.left source.new)
+        (S.faults source.old) (S.faults source.new) (O.faults site) (O.faults result.site) (O.trace site) (O.trace result.site)
+        result.entries.items result.status }
+
     ensures check { (key : List ℕ) → IsCheck words.now key → EndsCheck key
         (λ input. IsTrue S.told → input ≡ S.left source.old) (Rose (S.faults source.old) (S.faults source.new))
         O.told (O.trace site) (O.trace result.site) (Rose (O.faults site) (O.faults result.site)) result.status }
-    ensures taken { IsTrue S.told → ¬ IsInit words.now
+    ensures taken { IsTrue S.told → ¬ IsInit words.now → ¬ IsRun words.now
         → TakesAtMost (GREATEST_LENGTH + 1) (S.left source.old) (S.left source.new) }
 
     ensures init { IsInit words.now → EndsInit
@@ -132,10 +151,14 @@ pub fn run<R: Threads + Wait + Sync, S: Source, O: Site + Send, G: Gate + Sync>(
     ensures plan_taken { IsTrue S.told → IsInit words.now
         → TakesAtMost (MOST_OCTETS + 1) (S.left source.old) (S.left source.new) }
 
-    ensures usage { IsNoCommand words.now
+    ensures usage { IsNoCommand words.now → ¬ IsRun words.now
         → Ends O.told (O.trace site) (O.trace result.site) (Rose (O.faults site) (O.faults result.site))
         usage_text USAGE result.status }
-    ensures untouched { IsNoCommand words.now → source.new ≡ source.old }
+    ensures untouched { IsNoCommand words.now → ¬ IsRun words.now → source.new ≡ source.old }
+    ensures no_history { ¬ IsRun words.now → result.entries.items ≡ [] }
 {
+    if is_run(words) {
+        return run_frames(alloc, source, site);
+    }
     run_plain(alloc, words, source, site)
 }

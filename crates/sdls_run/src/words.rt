@@ -1,5 +1,5 @@
 ghost use Rattle.std.specs.Prelude.{◌≡◌, ◌↔◌, ℕ, List, IsTrue, MatchOption};
-ghost use Rattle.sdls_run.specs.Words.{IsCheck, IsInit, IsKey};
+ghost use Rattle.sdls_run.specs.Words.{IsCheck, IsInit, IsKey, IsRun};
 
 use aes_block::Schedule;
 
@@ -38,6 +38,16 @@ pub(crate) fn is_init(words: &[String]) -> bool
 {
     match words {
         [command] => command.as_str() == "init",
+        _ => false,
+    }
+}
+
+/// Whether the words are `run` alone.
+pub(crate) fn is_run(words: &[String]) -> bool
+    ensures { IsTrue result ↔ IsRun words.now }
+{
+    match words {
+        [command] => command.as_str() == "run",
         _ => false,
     }
 }
