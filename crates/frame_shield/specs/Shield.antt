@@ -30,4 +30,4 @@ prefix_for (Aos layout) prefix n = prefix
 abbrev pub room_for : Binding → Vector → List ℕ → List ℕ → List ℕ
 room_for b vector prefix field =
     let seal = sealed b.schedule vector (covered b prefix vector) field in
-    header_octets (header_of b vector) ++ seal.0 ++ seal.1
+    header_octets (header_of b vector) ++ (seal.0 ++ seal.1)

@@ -1,7 +1,8 @@
-ghost use Rattle.std.specs.Prelude.{◌≡◌, ◌≤◌, length};
-ghost use Rattle.sdls_header.specs.Authenticated.{authenticated};
+ghost use Rattle.std.specs.Prelude.{◌≡◌, ◌+◌, ◌≤◌, ◌++◌, length, take, drop};
+ghost use Rattle.sdls_header.specs.Authenticated.{authenticated, masked_octets};
 ghost use Rattle.sdls_header.specs.SecurityHeader.{header_octets};
 
+use sdls_base::put;
 use sdls_header::{SecurityHeader, masked, write_header};
 use std::marker::Model;
 
@@ -25,14 +26,33 @@ impl Model for Covered {
     ghost invariant = { λ covered. covered.used ≤ 84 };
 }
 
+fn put_masked(out: &mut [u8], prefix: &[u8], mask: &[u8])
+    requires { length prefix.now ≤ length out.old }
+    ensures { out.new ≡ masked_octets prefix.now mask.now ++ drop (length prefix.now) out.old }
+{
+    masked(prefix, mask, &mut out[..prefix.len()]);
+}
+
+/// Writes a security header into `out` from place `at` on, and answers the place after it.
+pub fn put_header(out: &mut [u8], at: usize, header: &SecurityHeader) -> usize
+    requires { at + 14 ≤ length out.old }
+    ensures place { result ≡ at + length (header_octets header.now) }
+    ensures written { take result out.new ≡ take at out.old ++ header_octets header.now }
+    ensures rest { drop result out.new ≡ drop result out.old }
+{
+    let mut octets = [0; 14];
+    let count = write_header(header, &mut octets);
+    put(out, at, &octets[..count])
+}
+
 impl Covered {
     pub fn new(prefix: &[u8], mask: &[u8], header: &SecurityHeader) -> Covered
         requires { length prefix.now ≤ 70 }
         ensures { result ≡ authenticated mask.now prefix.now (header_octets header.now) }
     {
         let mut octets = [0; MOST];
-        masked(prefix, mask, &mut octets[..prefix.len()]);
-        let used = prefix.len() + write_header(header, &mut octets[prefix.len()..]);
+        put_masked(&mut octets, prefix, mask);
+        let used = put_header(&mut octets, prefix.len(), header);
         Covered { octets, used }
     }
 

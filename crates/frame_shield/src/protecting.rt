@@ -7,15 +7,16 @@ ghost use Rattle.frame_shield.specs.AnyFrame.{first_fault};
 ghost use Rattle.frame_shield.specs.Binding.{IsBinding, clear_layout, gain_of};
 ghost use Rattle.frame_shield.specs.Link.{IsInBounds};
 ghost use Rattle.frame_shield.specs.Protects.{Protects};
-ghost use Rattle.frame_shield.specs.Secured.{vector_for};
+ghost use Rattle.frame_shield.specs.Secured.{sealed, vector_for};
 ghost use Rattle.frame_shield.specs.Shield.{most_of, relengthened, prefix_for, room_for};
 ghost use Rattle.frame_shield.specs.ShieldFault.{fault_number};
 
 use crate::binding::{Binding, clear_layout, gain_of};
 use crate::body::body_of;
-use crate::covered::Covered;
+use crate::covered::{Covered, put_header};
 use crate::link::AnyLayout;
 use crate::sealing::seal;
+use aes_block::Schedule;
 use sdls_base::{Suite, put, put_fecf, put_optional};
 use sdls_header::{SecurityHeader, Vector};
 
@@ -83,9 +84,31 @@ fn put_prefix(out: &mut [u8], layout: &AnyLayout, prefix: &[u8], count: usize) -
     }
 }
 
+/// Writes text and MAC of a data field into `out`, from `at` on.
+fn put_sealed(
+    out: &mut [u8],
+    at: usize,
+    key: &Schedule,
+    vector: Vector,
+    covered: &[u8],
+    field: &[u8],
+) -> usize
+    requires covered { length covered.now ≤ 65536 }
+    requires field { length field.now ≤ 65536 }
+    requires room { at + length field.now + 16 ≤ length out.old }
+    ensures place { result ≡ at + length field.now + 16 }
+    ensures written { let seal = sealed key.now vector covered.now field.now in
+        take result out.new ≡ take at out.old ++ (seal.0 ++ seal.1) }
+    ensures rest { drop result out.new ≡ drop result out.old }
+{
+    let text_end = put(out, at, field);
+    let mac = seal(key, vector, covered, &mut out[at..text_end]);
+    put(out, text_end, &mac)
+}
+
 /// Writes security header, text and MAC of a data field into `out`, behind the prefix that ends at `at`.
 fn put_room(out: &mut [u8], at: usize, binding: &Binding, vector: Vector, field: &[u8]) -> usize
-    requires binding { binding.now.link.mask.length ≤ 6 }
+    requires mask { binding.now.link.mask.length ≤ 6 }
     requires vector { IsVectorOf binding.now.suite vector }
     requires prefix { at ≤ 70 }
     requires field { length field.now ≤ 2048 }
@@ -99,15 +122,15 @@ fn put_room(out: &mut [u8], at: usize, binding: &Binding, vector: Vector, field:
         vector,
     };
     let covered = Covered::new(&out[..at], binding.link.mask.as_slice(), &header);
-    let text_start = put(out, at, &covered.as_slice()[at..]);
-    let text_end = put(out, text_start, field);
-    let mac = seal(
+    let text_start = put_header(out, at, &header);
+    put_sealed(
+        out,
+        text_start,
         &binding.schedule,
         vector,
         covered.as_slice(),
-        &mut out[text_start..text_end],
-    );
-    put(out, text_end, &mac)
+        field,
+    )
 }
 
 fn vector_for(suite: Suite, device: [u8; 4], number: u64) -> Vector

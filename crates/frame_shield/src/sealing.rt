@@ -6,7 +6,8 @@ ghost use Rattle.frame_shield.specs.Secured.{sealed, number_of};
 
 use aes_block::Schedule;
 use cmac::Running;
-use gcm::{open_in_place, seal_in_place};
+use gcm::{BadTag, open_in_place, opens_what_was_sealed, seal_in_place};
+use sdls_base::put;
 use sdls_header::Vector;
 
 /// The MAC over one text followed by another.
@@ -24,8 +25,8 @@ fn vector_octets(device: [u8; 4], number: u64) -> [u8; 12]
     ensures { result ≡ device ++ to_be_bytes w64 number }
 {
     let mut octets = [0; 12];
-    octets[..4].copy_from_slice(&device);
-    octets[4..].copy_from_slice(&number.to_be_bytes());
+    let device_end = put(&mut octets, 0, &device);
+    put(&mut octets, device_end, &number.to_be_bytes());
     octets
 }
 
@@ -65,7 +66,11 @@ pub fn open(key: &Schedule, vector: Vector, covered: &[u8], text: &mut [u8], mac
     match vector {
         Vector::Sequence(_) => mac_over(key, covered, text) == *mac,
         Vector::Wide { device, number } => {
-            open_in_place(key, &vector_octets(device, number), covered, text, mac).is_ok()
+            opens_what_was_sealed();
+            match open_in_place(key, &vector_octets(device, number), covered, text, mac) {
+                Ok(()) => true,
+                Err(BadTag) => false,
+            }
         }
     }
 }

@@ -1,0 +1,3 @@
+pub mod CoveredFacts
+pub mod OpenFacts
+pub mod Stretches
