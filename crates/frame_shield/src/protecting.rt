@@ -1,10 +1,11 @@
-ghost use Rattle.std.specs.Prelude.{◌≡◌, ℕ, ◌+◌, ◌^◌, ◌<◌, ◌≤◌, ◌++◌, None, Some, length, take, drop, MatchResult};
+ghost use Rattle.std.specs.Prelude.{◌≡◌, ℕ, ◌+◌, ◌^◌, ◌<◌, ◌≤◌, [], ◌++◌, unwrap_or, option_copied, None, Some, length, take, drop, MatchResult};
 ghost use Rattle.sdls_base.specs.declared.layout.FrameFault.{FrameFault};
 ghost use Rattle.sdls_base.specs.KeyId.{end_of};
 ghost use Rattle.sdls_base.specs.Suite.{overhead_of};
 ghost use Rattle.sdls_header.specs.SecurityHeader.{IsVectorOf};
 ghost use Rattle.frame_shield.specs.AnyFrame.{first_fault};
 ghost use Rattle.frame_shield.specs.Binding.{IsBinding, clear_layout, gain_of};
+ghost use Rattle.frame_shield.specs.Body.{IsBody};
 ghost use Rattle.frame_shield.specs.Link.{IsInBounds};
 ghost use Rattle.frame_shield.specs.Protects.{Protects};
 ghost use Rattle.frame_shield.specs.Secured.{sealed, vector_for};
@@ -12,7 +13,7 @@ ghost use Rattle.frame_shield.specs.Shield.{most_of, relengthened, prefix_for, r
 ghost use Rattle.frame_shield.specs.ShieldFault.{fault_number};
 
 use crate::binding::{Binding, clear_layout, gain_of};
-use crate::body::body_of;
+use crate::body::{Body, body_of};
 use crate::covered::{Covered, put_header};
 use crate::link::AnyLayout;
 use crate::sealing::seal;
@@ -144,6 +145,22 @@ fn vector_for(suite: Suite, device: [u8; 4], number: u64) -> Vector
     }
 }
 
+/// The body of a clear frame, and how long its parts are.
+fn clear_body<'a>(binding: &Binding, clear: &'a [u8]) -> Body<'a>
+    requires binding { IsBinding binding.now }
+    requires fits { first_fault (clear_layout binding.now.suite binding.now.link.layout) clear.now ≡ None }
+    ensures body { IsBody (clear_layout binding.now.suite binding.now.link.layout) clear.now result }
+    ensures least { 5 ≤ length result.prefix.now }
+    ensures most { length result.prefix.now ≤ 70 }
+    ensures whole { length clear.now ≡ length result.prefix.now + length result.room.now
+        + length (unwrap_or (option_copied result.ocf) []) }
+    ensures gain { length clear.now + gain_of binding.now.suite binding.now.link.layout
+        ≤ most_of binding.now.link.layout }
+    ensures short { most_of binding.now.link.layout ≤ 2048 }
+{
+    body_of(clear, &clear_layout(binding.suite, &binding.link.layout)).unwrap()
+}
+
 /// Protects a clear frame under a number of the key: writes the protected frame into the front of `out`, and answers
 /// the frame's octets. In a TC frame the length field becomes that of the protected frame. The operational control
 /// field is carried over. What `out` has behind the frame stays.
@@ -157,7 +174,7 @@ pub fn shield(binding: &Binding, number: u64, clear: &[u8], out: &mut [u8]) -> u
     ensures rest { drop result out.new ≡ drop result out.old }
 {
     let layout = &binding.link.layout;
-    let body = body_of(clear, &clear_layout(binding.suite, layout)).unwrap();
+    let body = clear_body(binding, clear);
     let count = clear.len() + gain_of(binding.suite, layout);
     let vector = vector_for(binding.suite, binding.device, number);
     let room_start = put_prefix(out, layout, body.prefix, count);
