@@ -1,4 +1,5 @@
 pub mod CoveredFacts
+pub mod FoundFacts
 pub mod Lengths
 pub mod OpenFacts
 pub mod ProtectFacts
