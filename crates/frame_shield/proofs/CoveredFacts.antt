@@ -1,5 +1,5 @@
 -- The covered text, as it is written.
-use Rattle.std.proofs.Common.{◌≡◌, ℕ, suc, List, [], ◌∷◌, ◌++◌, length, take, drop, refl, ap, ◌∙◌, sym}
+use Rattle.std.proofs.Common.{◌≡◌, ℕ, suc, List, [], ◌∷◌, ◌++◌, length, take, refl, ap, sym}
 use Rattle.sdls_base.proofs.Endings.{take_front}
 use Rattle.sdls_header.specs.Authenticated.{masked_octets}
 

@@ -1,9 +1,9 @@
 -- What is found in a frame, and whether it opens.
-use Rattle.std.proofs.Common.{◌≡◌, ℕ, ◌+◌, ◌-◌, ◌≤◌, ◌<◌, Bool, true, false, List, [], ◌++◌, length, take, drop, refl, sym, ap, ◌∙◌, subst, arith, append-nil, append_assoc, length-append}
-use Rattle.std.specs.Prelude.{Option, unwrap_or, slice_range}
+use Rattle.std.proofs.Common.{◌≡◌, ℕ, ◌+◌, ◌-◌, ◌≤◌, Bool, true, false, List, [], ◌++◌, length, take, drop, refl, sym, ap, ◌∙◌, subst, arith, append-nil, append_assoc, length-append}
+use Rattle.std.specs.Prelude.{unwrap_or, slice_range}
 use Rattle.sdls_base.specs.ErrorControl.{with_error_control, error_control}
 use Rattle.sdls_base.proofs.Endings.{take_front, drop_front}
-use Rattle.sdls_header.specs.SecurityHeader.{Pieces, SplitsInto, header_octets}
+use Rattle.sdls_header.specs.SecurityHeader.{Pieces, SplitsInto}
 use Rattle.sdls_header.proofs.Splits.{one_split}
 use Rattle.frame_shield.specs.declared.binding.Binding.{Binding}
 use Rattle.frame_shield.specs.declared.opening.Found.{Found}
@@ -12,7 +12,7 @@ use Rattle.frame_shield.specs.Body.{ocf_of}
 use Rattle.frame_shield.specs.Found.{IsFound}
 use Rattle.frame_shield.specs.Link.{has_fecf}
 use Rattle.frame_shield.specs.Opens.{Opens}
-use Rattle.frame_shield.specs.Secured.{IsSecured, sealed, covered, header_of, number_of}
+use Rattle.frame_shield.specs.Secured.{IsSecured, sealed, covered, number_of}
 use Rattle.frame_shield.proofs.Lengths.{frame_is}
 use Rattle.frame_shield.proofs.OpenFacts.{one_frame}
 

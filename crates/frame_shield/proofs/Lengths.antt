@@ -1,6 +1,6 @@
 -- How long frames and their prefixes are.
 use Rattle.std.proofs.Common.{◌≡◌, ℕ, ◌+◌, ◌-◌, ◌≤◌, Bool, true, false, List, [], ◌++◌, length, refl, sym, ap, ◌∙◌, arith, append-nil, length-append}
-use Rattle.std.specs.Prelude.{Option, Some, None, unwrap_or, not, ◌&&◌}
+use Rattle.std.specs.Prelude.{Option, Some, None, unwrap_or}
 use Rattle.std.specs.Option.{option_to_list}
 use Rattle.sdls_base.specs.declared.states.Suite.{Suite}
 use Rattle.sdls_base.specs.declared.states.Suite.TheVariants.{Cmac, Gcm}
@@ -9,8 +9,6 @@ use Rattle.sdls_base.specs.Fields.{packed}
 use Rattle.sdls_base.specs.ErrorControl.{with_error_control, error_control_length}
 use Rattle.sdls_base.proofs.Endings.{length-with_error_control}
 use Rattle.sdls_base.specs.declared.layout.TcLayout.{TcLayout}
-use Rattle.sdls_base.specs.declared.layout.TmLayout.{TmLayout}
-use Rattle.sdls_base.specs.declared.layout.AosLayout.{AosLayout}
 use Rattle.aes_block.specs.Aes.{encrypted, cipher}
 use Rattle.cmac.specs.Cmac.{mac}
 use Rattle.gcm.specs.Gcm.{tag_of, gctr}
@@ -24,7 +22,7 @@ use Rattle.aos_frame.specs.AosFrame as aos_frames
 use Rattle.frame_shield.specs.declared.link.AnyLayout.{AnyLayout}
 use Rattle.frame_shield.specs.declared.link.AnyLayout.TheVariants.{Tc, Tm, Aos}
 use Rattle.frame_shield.specs.AnyFrame.{AnyParts, tc, tm, aos, IsFrame, prefix_of, room_of}
-use Rattle.frame_shield.specs.Body.{ocf_of, IsLayout}
+use Rattle.frame_shield.specs.Body.{ocf_of}
 use Rattle.frame_shield.specs.Link.{has_fecf, IsInBounds}
 use Rattle.frame_shield.specs.Binding.{clear_layout, gain_of}
 use Rattle.frame_shield.specs.Shield.{most_of}

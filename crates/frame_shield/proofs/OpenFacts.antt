@@ -1,5 +1,5 @@
 -- A frame opens in one way.
-use Rattle.std.proofs.Common.{◌≡◌, ℕ, List, ◌++◌, refl, sym, ap, ◌∙◌, subst}
+use Rattle.std.proofs.Common.{◌≡◌, ℕ, List, ◌++◌, sym, ap, ◌∙◌, subst}
 use Rattle.std.specs.Prelude.{Some, ◌↔◌}
 use Rattle.gcm.specs.Gcm.{gcm_open, gcm_seal}
 use Rattle.sdls_header.specs.declared.pieces.Vector.{Vector}

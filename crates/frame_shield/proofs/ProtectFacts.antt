@@ -1,6 +1,6 @@
 -- What is put together from a clear frame is its protected frame.
-use Rattle.std.proofs.Common.{◌≡◌, ℕ, Bool, false, ◌+◌, ◌-◌, ◌*◌, ◌/◌, ◌%◌, ◌^◌, ◌≤◌, ◌<◌, List, [], ◌∷◌, ◌++◌, length, refl, sym, ap, ◌∙◌, subst, arith, append-nil, append_assoc, length-append}
-use Rattle.std.specs.Prelude.{Option, unwrap_or}
+use Rattle.std.proofs.Common.{◌≡◌, ℕ, false, ◌+◌, ◌-◌, ◌*◌, ◌/◌, ◌^◌, ◌≤◌, ◌<◌, List, [], ◌++◌, length, refl, sym, ap, ◌∙◌, subst, arith, append-nil, append_assoc, length-append}
+use Rattle.std.specs.Prelude.{unwrap_or}
 use Rattle.std.specs.Option.{option_to_list}
 use Rattle.std.specs.Int.{w64, to_be_bytes}
 use Rattle.sdls_base.specs.declared.states.Suite.{Suite}
@@ -10,12 +10,12 @@ use Rattle.sdls_base.specs.declared.layout.TmLayout.{TmLayout}
 use Rattle.sdls_base.specs.declared.layout.AosLayout.{AosLayout}
 use Rattle.sdls_base.specs.Suite.{overhead_of}
 use Rattle.sdls_base.specs.Fields.{packed}
-use Rattle.sdls_base.specs.ErrorControl.{with_error_control, error_control_length}
+use Rattle.sdls_base.specs.ErrorControl.{with_error_control}
 use Rattle.sdls_base.proofs.Endings.{length-with_error_control}
 use Rattle.sdls_base.proofs.FieldLemmas.{cells_five}
 use Rattle.sdls_header.specs.declared.pieces.Vector.{Vector}
 use Rattle.sdls_header.specs.declared.pieces.Vector.TheVariants.{Sequence, Wide}
-use Rattle.sdls_header.specs.SecurityHeader.{Pieces, SplitsInto, IsVectorOf, header_octets, vector_octets}
+use Rattle.sdls_header.specs.SecurityHeader.{Pieces, IsVectorOf, header_octets}
 use Rattle.tc_frame.specs.TcFrame as tc_frames
 use Rattle.tm_frame.specs.TmFrame as tm_frames
 use Rattle.aos_frame.specs.AosFrame as aos_frames
@@ -30,7 +30,7 @@ use Rattle.frame_shield.specs.Binding.{IsBinding, clear_layout, gain_of}
 use Rattle.frame_shield.specs.Shield.{relengthened, prefix_for, room_for}
 use Rattle.frame_shield.specs.Secured.{IsSecured, sealed, covered, header_of, vector_for}
 use Rattle.frame_shield.specs.Protects.{Protects}
-use Rattle.frame_shield.proofs.Lengths.{length-frame, tc_length, tc_header, gain_most, length-sealed}
+use Rattle.frame_shield.proofs.Lengths.{length-frame, tc_length, gain_most, length-sealed}
 
 third_cell : (ch n m : ℕ) → n ≤ 2 ^ 10 → (ch * 2 ^ 2 + (n - 1) / 2 ^ 8) / 4 * 4 + m ≡ ch * 2 ^ 2 + m
 third_cell ch n m h = omega arith

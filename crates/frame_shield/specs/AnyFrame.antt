@@ -1,5 +1,5 @@
 -- A transfer frame of one of three kinds: TC (CCSDS 232.0-B), TM (132.0-B) or AOS (732.0-B).
-use Rattle.std.specs.Prelude.{ℕ, Bool, List, [], Option, None}
+use Rattle.std.specs.Prelude.{ℕ, List, [], Option}
 use Rattle.sdls_base.specs.declared.layout.FrameFault.{FrameFault}
 use Rattle.tc_frame.specs.TcFrame as tc_frames
 use Rattle.tm_frame.specs.TmFrame as tm_frames

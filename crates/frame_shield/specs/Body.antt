@@ -1,5 +1,5 @@
 -- The octets of a frame before its frame error control field, as they lie in memory, for the private calls.
-use Rattle.std.specs.Prelude.{◌≡◌, ℕ, ◌≤◌, List, Option, None, option_copied}
+use Rattle.std.specs.Prelude.{◌≡◌, ℕ, List, Option, None, option_copied}
 use Rattle.tm_frame.specs.TmFrame as tm_frames
 use Rattle.aos_frame.specs.AosFrame as aos_frames
 use Rattle.frame_shield.specs.declared.link.AnyLayout.{AnyLayout}

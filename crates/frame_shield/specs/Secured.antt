@@ -8,7 +8,7 @@ use Rattle.sdls_base.specs.declared.states.Suite.TheVariants.{Cmac, Gcm}
 use Rattle.sdls_header.specs.declared.pieces.Vector.{Vector}
 use Rattle.sdls_header.specs.declared.pieces.Vector.TheVariants.{Sequence, Wide}
 use Rattle.sdls_header.specs.declared.pieces.SecurityHeader.{SecurityHeader}
-use Rattle.sdls_header.specs.SecurityHeader.{Pieces, SplitsInto, header_octets, vector_octets}
+use Rattle.sdls_header.specs.SecurityHeader.{Pieces, SplitsInto, header_octets}
 use Rattle.sdls_header.specs.Authenticated.{authenticated}
 use Rattle.frame_shield.specs.declared.binding.Binding.{Binding}
 use Rattle.frame_shield.specs.Link.{mask_octets}

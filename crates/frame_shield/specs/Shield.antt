@@ -1,11 +1,10 @@
 -- How a protected frame is put together, for the private calls.
-use Rattle.std.specs.Prelude.{◌≡◌, ℕ, ◌+◌, ◌-◌, ◌*◌, ◌/◌, ◌%◌, ◌^◌, ◌≤◌, List, [], ◌∷◌, ◌++◌, length, take, drop, slice_index}
+use Rattle.std.specs.Prelude.{ℕ, ◌+◌, ◌-◌, ◌*◌, ◌/◌, ◌%◌, ◌^◌, List, [], ◌∷◌, ◌++◌, drop, slice_index}
 use Rattle.sdls_header.specs.declared.pieces.Vector.{Vector}
-use Rattle.sdls_header.specs.SecurityHeader.{Pieces, header_octets}
+use Rattle.sdls_header.specs.SecurityHeader.{header_octets}
 use Rattle.frame_shield.specs.declared.binding.Binding.{Binding}
 use Rattle.frame_shield.specs.declared.link.AnyLayout.{AnyLayout}
 use Rattle.frame_shield.specs.declared.link.AnyLayout.TheVariants.{Tc, Tm, Aos}
-use Rattle.frame_shield.specs.AnyFrame.{AnyParts, IsFrame, prefix_of, room_of}
 use Rattle.frame_shield.specs.Secured.{covered, header_of, sealed}
 
 -- a TC prefix with the length field of a frame of n octets

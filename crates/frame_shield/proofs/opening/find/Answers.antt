@@ -1,5 +1,5 @@
-use Rattle.std.proofs.Common.{◌≡◌, ℕ, ◌+◌, ◌≤◌, ◌<◌, ◌++◌, List, length, take, ap, sym, ◌∙◌, subst, arith, refl, inl, inr, Result}
-use Rattle.std.specs.Prelude.{IfOk, slice_range}
+use Rattle.std.proofs.Common.{◌≡◌, ℕ, ◌+◌, ◌≤◌, ◌++◌, List, length, ap, sym, ◌∙◌, subst, arith, refl, inl, inr, Result}
+use Rattle.std.specs.Prelude.{IfOk}
 use Rattle.std.proofs.lemmas.Bool.{cases_lt, false≢true}
 use Rattle.sdls_base.specs.Suite.{overhead_of}
 use Rattle.sdls_base.specs.declared.layout.FrameFault.{FrameFault}
@@ -7,7 +7,7 @@ use Rattle.sdls_header.specs.SecurityHeader.{Pieces, SplitsInto, header_octets, 
 use Rattle.sdls_header.specs.Authenticated.{authenticated}
 use Rattle.frame_shield.specs.declared.binding.Binding.{Binding}
 use Rattle.frame_shield.specs.declared.body.Body.{Body}
-use Rattle.frame_shield.specs.AnyFrame.{AnyParts, room_of}
+use Rattle.frame_shield.specs.AnyFrame.{room_of}
 use Rattle.frame_shield.specs.Body.{IsBody}
 use Rattle.frame_shield.specs.Link.{mask_octets}
 use Rattle.frame_shield.specs.Secured.{header_of}

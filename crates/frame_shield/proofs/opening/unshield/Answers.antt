@@ -1,10 +1,9 @@
-use Rattle.std.proofs.Common.{◌≡◌, ℕ, ◌+◌, ◌-◌, ◌≤◌, List, length, ap, sym, ◌∙◌, arith, refl}
+use Rattle.std.proofs.Common.{◌≡◌, ℕ, ◌-◌, ◌≤◌, List, length, ap, sym, ◌∙◌, arith, refl}
 use Rattle.std.specs.Prelude.{slice_range}
 use Rattle.std.proofs.lemmas.Slice.{take-put_mid_below, drop-put_mid, between-put_mid}
 use borrow.Rule.Slice.PartMut.{put_mid}
 use Rattle.frame_shield.specs.declared.binding.Binding.{Binding}
 use Rattle.frame_shield.specs.declared.opening.Found.{Found}
-use Rattle.frame_shield.specs.Opens.{Opens}
 use Rattle.frame_shield.specs.Secured.{sealed}
 use Rattle.frame_shield.proofs.FoundFacts.{opens_sealed, found_opens}
 use Rattle.frame_shield.proofs.opening.unshield.Goals as goal

@@ -1,5 +1,5 @@
-use Rattle.std.proofs.Common.{◌≡◌, ℕ, ◌+◌, ◌≤◌, length, ap, ◌∙◌, sym, subst, arith, [], List, Result}
-use Rattle.std.specs.Prelude.{IfOk, unwrap_or, Option, option_copied}
+use Rattle.std.proofs.Common.{ℕ, length, ap, subst, arith, [], List, Result}
+use Rattle.std.specs.Prelude.{IfOk, unwrap_or, Option}
 use Rattle.sdls_base.specs.ErrorControl.{error_control_length}
 use Rattle.sdls_base.specs.declared.layout.FrameFault.{FrameFault}
 use Rattle.frame_shield.specs.declared.body.Body.{Body}

@@ -1,4 +1,4 @@
-use Rattle.std.proofs.Common.{◌≤◌, arith, ◌∙◌}
+use Rattle.std.proofs.Common.{arith, ◌∙◌}
 use Rattle.frame_shield.proofs.Stretches.{drop_later}
 use Rattle.frame_shield.proofs.protecting.put_room.Goals as goal
 

@@ -1,4 +1,4 @@
-use Rattle.std.proofs.Common.{◌≡◌, ◌≤◌, ◌++◌, ◌+◌, ◌-◌, List, ℕ, take, drop, length, ap, ◌∙◌, arith}
+use Rattle.std.proofs.Common.{◌++◌, List, ℕ, take, ap, ◌∙◌, arith}
 use Rattle.frame_shield.specs.Secured.{sealed}
 use Rattle.frame_shield.proofs.Stretches.{middle, changed_written, changed_rest}
 use Rattle.frame_shield.proofs.protecting.put_sealed.Goals as goal

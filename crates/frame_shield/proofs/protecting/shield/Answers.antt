@@ -1,10 +1,10 @@
-use Rattle.std.proofs.Common.{◌≡◌, ℕ, ◌+◌, List, [], ◌++◌, Bool, length, take, drop, ap, sym, subst, ◌∙◌, arith, length-append, length-take-le}
+use Rattle.std.proofs.Common.{◌≡◌, ℕ, ◌+◌, List, [], ◌++◌, Bool, length, take, ap, sym, subst, ◌∙◌, arith, length-append, length-take-le}
 use Rattle.std.specs.Prelude.{Option, unwrap_or, option_copied}
 use Rattle.sdls_base.specs.Suite.{overhead_of}
 use Rattle.sdls_base.specs.ErrorControl.{with_error_control}
 use Rattle.frame_shield.specs.declared.binding.Binding.{Binding}
 use Rattle.frame_shield.specs.AnyFrame.{prefix_of, room_of}
-use Rattle.frame_shield.specs.Binding.{clear_layout, gain_of}
+use Rattle.frame_shield.specs.Binding.{clear_layout}
 use Rattle.frame_shield.specs.Body.{ocf_of}
 use Rattle.frame_shield.specs.Link.{has_fecf}
 use Rattle.frame_shield.specs.Protects.{Protects}

@@ -1,5 +1,4 @@
 use Rattle.std.proofs.Common.{◌≡◌, ◌++◌, List, ℕ, ◌∙◌, ap, append-nil, replicate, drop, arith}
-use Rattle.std.specs.Int.{w64, to_be_bytes}
 use Rattle.sdls_base.proofs.Pieces.{written_none, written_more, written_whole}
 use Rattle.frame_shield.proofs.sealing.vector_octets.Goals as goal
 

@@ -1,4 +1,4 @@
-use Rattle.std.proofs.Common.{◌≡◌, List, ℕ, take, ap, sym, ◌∙◌}
+use Rattle.std.proofs.Common.{List, ℕ, take, ap, sym, ◌∙◌}
 use Rattle.std.specs.Int.{w16, to_be_bytes}
 use Rattle.frame_shield.specs.AnyFrame.{room_of}
 use Rattle.frame_shield.proofs.OpenFacts.{one_frame}

@@ -1,4 +1,4 @@
-use Rattle.std.proofs.Common.{◌++◌, List, ℕ, take, drop, length, ap, ◌∙◌, replicate}
+use Rattle.std.proofs.Common.{◌++◌, ℕ, take, drop, length, ap, ◌∙◌, replicate}
 use Rattle.sdls_header.specs.SecurityHeader.{header_octets}
 use Rattle.frame_shield.proofs.CoveredFacts.{take_masked}
 use Rattle.frame_shield.proofs.covered.Covered.new.Goals as goal
