@@ -1,6 +1,6 @@
 -- A frame opens in one way.
 use Rattle.std.proofs.Common.{◌≡◌, ℕ, List, ◌++◌, sym, ap, ◌∙◌, subst}
-use Rattle.std.specs.Prelude.{Some, ◌↔◌}
+use Rattle.std.specs.Prelude.{Some, None, ◌↔◌}
 use Rattle.gcm.specs.Gcm.{gcm_open, gcm_seal}
 use Rattle.sdls_header.specs.declared.pieces.Vector.{Vector}
 use Rattle.sdls_header.specs.declared.pieces.Vector.TheVariants.{Sequence, Wide}
@@ -13,7 +13,7 @@ use Rattle.aos_frame.proofs.Frames as aos_facts
 use Rattle.frame_shield.specs.declared.binding.Binding.{Binding}
 use Rattle.frame_shield.specs.declared.link.AnyLayout.{AnyLayout}
 use Rattle.frame_shield.specs.declared.link.AnyLayout.TheVariants.{Tc, Tm, Aos}
-use Rattle.frame_shield.specs.AnyFrame.{AnyParts, tc, tm, aos, IsFrame, prefix_of, room_of}
+use Rattle.frame_shield.specs.AnyFrame.{AnyParts, tc, tm, aos, IsFrame, first_fault, prefix_of, room_of}
 use Rattle.frame_shield.specs.Secured.{sealed, IsSecured, number_of}
 use Rattle.frame_shield.specs.Opens.{Opens}
 
@@ -34,6 +34,18 @@ one_frame (Aos layout) (tm p) q frame a b = absurd a
 one_frame (Aos layout) (aos p) (tc q) frame a b = absurd b
 one_frame (Aos layout) (aos p) (tm q) frame a b = absurd b
 one_frame (Aos layout) (aos p) (aos q) frame a b = ap aos (sym (aos_facts.frame_parts layout p frame a).1 ∙ (aos_facts.frame_parts layout q frame b).1)
+
+-- and no fault
+pub no_fault : (layout : AnyLayout) (p : AnyParts) (frame : List ℕ) → IsFrame layout p frame → first_fault layout frame ≡ None
+no_fault (Tc layout) (tc p) frame is = (tc_facts.frame_parts layout p frame is).0
+no_fault (Tc layout) (tm p) frame is = absurd is
+no_fault (Tc layout) (aos p) frame is = absurd is
+no_fault (Tm layout) (tc p) frame is = absurd is
+no_fault (Tm layout) (tm p) frame is = (tm_facts.frame_parts layout p frame is).0
+no_fault (Tm layout) (aos p) frame is = absurd is
+no_fault (Aos layout) (tc p) frame is = absurd is
+no_fault (Aos layout) (tm p) frame is = absurd is
+no_fault (Aos layout) (aos p) frame is = (aos_facts.frame_parts layout p frame is).0
 
 -- what GCM seals opens to that, and nothing else opens
 abbrev pub OpensWhatWasSealed : Type 0

@@ -27,7 +27,7 @@ use Rattle.frame_shield.specs.AnyFrame.{AnyParts, tc, tm, aos, IsFrame, prefix_o
 use Rattle.frame_shield.specs.Body.{ocf_of}
 use Rattle.frame_shield.specs.Link.{has_fecf, IsInBounds}
 use Rattle.frame_shield.specs.Binding.{IsBinding, clear_layout, gain_of}
-use Rattle.frame_shield.specs.Shield.{relengthened, prefix_for, room_for}
+use Rattle.frame_shield.specs.Shield.{with_length_field, prefix_for, room_for}
 use Rattle.frame_shield.specs.Secured.{IsSecured, sealed, covered, header_of, vector_for}
 use Rattle.frame_shield.specs.Protects.{Protects}
 use Rattle.frame_shield.proofs.Lengths.{length-frame, tc_length, gain_most, length-sealed}
@@ -62,7 +62,7 @@ prefix_kept suite (Tc layout) (tc p) clear room bounds is longer =
     let short : m ≤ 2 ^ 10 = lengths.1 in
     let before : packed (tc_frames.primary_header p n) ≡ cells_of p n = header_cells p n is.fits.spacecraft is.fits.channel is.fits.sequence is.fits.field in
     let after : packed (tc_frames.primary_header q m) ≡ cells_of q m = header_cells q m is.fits.spacecraft is.fits.channel is.fits.sequence short in
-    ap (λ (l : List ℕ). relengthened (l ++ segment) m) before
+    ap (λ (l : List ℕ). with_length_field (l ++ segment) m) before
     ∙ ap (λ (l : List ℕ). l ++ segment) (cells_five refl refl (third_cell p.channel n ((m - 1) / 2 ^ 8) is.fits.field) refl refl ∙ sym after)
     ∙ ap (λ (k : ℕ). packed (tc_frames.primary_header q k) ++ segment) lengths.0
 prefix_kept suite (Tc layout) (tm p) clear room bounds is longer = absurd is

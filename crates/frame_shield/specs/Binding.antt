@@ -1,5 +1,5 @@
 -- What binds a frame to its association (profile).
-use Rattle.std.specs.Prelude.{◌≡◌, ℕ, ◌+◌, ◌-◌, ◌≤◌, false}
+use Rattle.std.specs.Prelude.{◌≡◌, ℕ, ◌+◌, ◌-◌, ◌≤◌, false, List, Option}
 use Rattle.sdls_base.specs.declared.states.Suite.{Suite}
 use Rattle.sdls_base.specs.KeyId.{class_of}
 use Rattle.sdls_base.specs.Suite.{overhead_of, class_of_suite}
@@ -7,6 +7,8 @@ use Rattle.sdls_base.specs.ErrorControl.{error_control_length}
 use Rattle.frame_shield.specs.declared.binding.Binding.{Binding}
 use Rattle.frame_shield.specs.declared.link.AnyLayout.{AnyLayout}
 use Rattle.frame_shield.specs.declared.link.AnyLayout.TheVariants.{Tc, Tm, Aos}
+use Rattle.sdls_base.specs.declared.layout.FrameFault.{FrameFault}
+use Rattle.frame_shield.specs.AnyFrame.{first_fault}
 use Rattle.frame_shield.specs.Link.{IsInBounds, has_fecf}
 
 -- the parts of a binding go together
@@ -24,3 +26,7 @@ abbrev pub clear_layout : Suite → AnyLayout → AnyLayout
 clear_layout suite (Tc layout) = Tc (record layout { fecf = false; most = layout.most - gain_of suite (Tc layout) })
 clear_layout suite (Tm layout) = Tm (record layout { fecf = false; length = layout.length - gain_of suite (Tm layout) })
 clear_layout suite (Aos layout) = Aos (record layout { fecf = false; length = layout.length - gain_of suite (Aos layout) })
+
+-- the first check of a clear frame that fails
+abbrev pub clear_fault : Binding → List ℕ → Option FrameFault
+clear_fault b clear = first_fault (clear_layout b.suite b.link.layout) clear

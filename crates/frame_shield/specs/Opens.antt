@@ -18,10 +18,11 @@ pub record Opens (b : Binding) (frame : List ℕ) (n : ℕ) (field : List ℕ) :
   pub number : number_of pieces.vector ≡ n
   pub secured : IsSecured b (prefix_of b.link.layout parts) (room_of parts) pieces field
 
--- the room of the frame, where it has at least the overhead, begins with the binding's index
-abbrev pub HasIndex : Binding → List ℕ → Type 0
-HasIndex b frame = (parts : AnyParts) → IsFrame b.link.layout parts frame → overhead_of b.suite ≤ length (room_of parts)
-    → take 2 (room_of parts) ≡ to_be_bytes w16 b.spi
+-- the frame has the link's layout, and its room, where it has at least the overhead, begins with the binding's index
+pub record CarriesIndex (b : Binding) (frame : List ℕ) : Type 0 where
+  pub parts : AnyParts
+  pub framed : IsFrame b.link.layout parts frame
+  pub index : overhead_of b.suite ≤ length (room_of parts) → take 2 (room_of parts) ≡ to_be_bytes w16 b.spi
 
 -- the frame opens, and its data field stands in clear behind prefix and security header; nothing else has changed
 pub record OpensInPlace (b : Binding) (old new : List ℕ) (number from to : ℕ) : Type 0 where

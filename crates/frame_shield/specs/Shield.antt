@@ -8,8 +8,8 @@ use Rattle.frame_shield.specs.declared.link.AnyLayout.TheVariants.{Tc, Tm, Aos}
 use Rattle.frame_shield.specs.Secured.{covered, header_of, sealed}
 
 -- a TC prefix with the length field of a frame of n octets
-abbrev pub relengthened : List ℕ → ℕ → List ℕ
-relengthened prefix n =
+abbrev pub with_length_field : List ℕ → ℕ → List ℕ
+with_length_field prefix n =
     (slice_index prefix 0 ∷ slice_index prefix 1 ∷ (slice_index prefix 2 / 4 * 4 + (n - 1) / 2 ^ 8) ∷ ((n - 1) % 2 ^ 8)
     ∷ slice_index prefix 4 ∷ []) ++ drop 5 prefix
 
@@ -21,7 +21,7 @@ most_of (Aos layout) = layout.length
 
 -- the prefix of the protected frame of n octets, from that of the clear frame
 abbrev pub prefix_for : AnyLayout → List ℕ → ℕ → List ℕ
-prefix_for (Tc layout) prefix n = relengthened prefix n
+prefix_for (Tc layout) prefix n = with_length_field prefix n
 prefix_for (Tm layout) prefix n = prefix
 prefix_for (Aos layout) prefix n = prefix
 

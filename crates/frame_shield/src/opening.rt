@@ -1,10 +1,7 @@
 ghost use Rattle.std.specs.Prelude.{◌≡◌, ℕ, ◌+◌, ◌≤◌, ◌<◌, ◌↔◌, List, None, length, take, drop, slice_range, IfSome, IsNone};
-ghost use Rattle.std.specs.Int.{w16, to_be_bytes};
-ghost use Rattle.sdls_base.specs.Suite.{overhead_of};
-ghost use Rattle.frame_shield.specs.AnyFrame.{AnyParts, IsFrame, first_fault, prefix_of, room_of};
 ghost use Rattle.frame_shield.specs.Binding.{IsBinding};
 ghost use Rattle.frame_shield.specs.Found.{IsFound};
-ghost use Rattle.frame_shield.specs.Opens.{Opens, OpensInPlace, OnField, HasIndex};
+ghost use Rattle.frame_shield.specs.Opens.{CarriesIndex, Opens, OpensInPlace, OnField};
 
 use crate::binding::Binding;
 use crate::body::{Body, body_of};
@@ -43,8 +40,7 @@ fn mac_of(octets: &[u8]) -> [u8; 16]
 /// Finds text and MAC in a frame of the link. There are none exactly where the room is too short for them.
 fn find(binding: &Binding, frame: &[u8]) -> Option<Found>
     requires binding { IsBinding binding.now }
-    requires frame { first_fault binding.now.link.layout frame.now ≡ None }
-    requires index { HasIndex binding.now frame.now }
+    requires frame { CarriesIndex binding.now frame.now }
     ensures none { IsNone result → (n : ℕ) (field : List ℕ) → ¬ Opens binding.now frame.now n field }
     ensures found { IfSome result (IsFound binding.now frame.now) }
 {
@@ -70,8 +66,7 @@ fn find(binding: &Binding, frame: &[u8]) -> Option<Found>
 /// of a vector is not compared with the binding's.
 pub fn unshield(binding: &Binding, frame: &mut [u8]) -> Opened
     requires binding { IsBinding binding.now }
-    requires frame { first_fault binding.now.link.layout frame.old ≡ None }
-    requires index { HasIndex binding.now frame.old }
+    requires frame { CarriesIndex binding.now frame.old }
     ensures field { OnField result (OpensInPlace binding.now frame.old frame.new) }
 
     // The MAC differs, or the room is below the overhead: the frame opens to nothing.

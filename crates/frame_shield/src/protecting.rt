@@ -3,13 +3,12 @@ ghost use Rattle.sdls_base.specs.declared.layout.FrameFault.{FrameFault};
 ghost use Rattle.sdls_base.specs.KeyId.{end_of};
 ghost use Rattle.sdls_base.specs.Suite.{overhead_of};
 ghost use Rattle.sdls_header.specs.SecurityHeader.{IsVectorOf};
-ghost use Rattle.frame_shield.specs.AnyFrame.{first_fault};
-ghost use Rattle.frame_shield.specs.Binding.{IsBinding, clear_layout, gain_of};
+ghost use Rattle.frame_shield.specs.Binding.{IsBinding, clear_fault, clear_layout, gain_of};
 ghost use Rattle.frame_shield.specs.Body.{IsBody};
 ghost use Rattle.frame_shield.specs.Link.{IsInBounds};
 ghost use Rattle.frame_shield.specs.Protects.{Protects};
 ghost use Rattle.frame_shield.specs.Secured.{sealed, vector_for};
-ghost use Rattle.frame_shield.specs.Shield.{most_of, relengthened, prefix_for, room_for};
+ghost use Rattle.frame_shield.specs.Shield.{most_of, with_length_field, prefix_for, room_for};
 ghost use Rattle.frame_shield.specs.ShieldFault.{fault_number};
 
 use crate::binding::{Binding, clear_layout, gain_of};
@@ -37,10 +36,9 @@ pub enum ShieldFault {
 pub fn fits(binding: &Binding, clear: &[u8]) -> Result<(), ShieldFault>
     requires { IsBinding binding.now }
     ensures { MatchResult result
-        (λ _. first_fault (clear_layout binding.now.suite binding.now.link.layout) clear.now ≡ None)
-        (λ refusal. (fault : FrameFault)
-        × (first_fault (clear_layout binding.now.suite binding.now.link.layout) clear.now ≡ Some fault)
-        × (refusal ≡ ShieldFault.Layout (fault_number fault))) }
+        (λ _. clear_fault binding.now clear.now ≡ None)
+        (λ refusal. (fault : FrameFault) × (clear_fault binding.now clear.now ≡ Some fault)
+            × (refusal ≡ ShieldFault.Layout (fault_number fault))) }
 {
     match body_of(clear, &clear_layout(binding.suite, &binding.link.layout)) {
         Ok(_) => Ok(()),
@@ -49,12 +47,12 @@ pub fn fits(binding: &Binding, clear: &[u8]) -> Result<(), ShieldFault>
 }
 
 /// Writes a TC prefix into the front of `out`, with the length field of a frame of `count` octets.
-fn put_relengthened(out: &mut [u8], prefix: &[u8], count: usize) -> usize
+fn put_tc_prefix(out: &mut [u8], prefix: &[u8], count: usize) -> usize
     requires prefix { 5 ≤ length prefix.now }
     requires count { (1 ≤ count) × (count ≤ 1024) }
     requires room { length prefix.now ≤ length out.old }
     ensures place { result ≡ length prefix.now }
-    ensures written { take result out.new ≡ relengthened prefix.now count }
+    ensures written { take result out.new ≡ with_length_field prefix.now count }
     ensures rest { drop result out.new ≡ drop result out.old }
 {
     let [high, low] = ((count - 1) as u16).to_be_bytes();
@@ -80,7 +78,7 @@ fn put_prefix(out: &mut [u8], layout: &AnyLayout, prefix: &[u8], count: usize) -
     ensures rest { drop result out.new ≡ drop result out.old }
 {
     match layout {
-        AnyLayout::Tc(_) => put_relengthened(out, prefix, count),
+        AnyLayout::Tc(_) => put_tc_prefix(out, prefix, count),
         _ => put(out, 0, prefix),
     }
 }
@@ -148,7 +146,7 @@ fn vector_for(suite: Suite, device: [u8; 4], number: u64) -> Vector
 /// The body of a clear frame, and how long its parts are.
 fn clear_body<'a>(binding: &Binding, clear: &'a [u8]) -> Body<'a>
     requires binding { IsBinding binding.now }
-    requires fits { first_fault (clear_layout binding.now.suite binding.now.link.layout) clear.now ≡ None }
+    requires fits { clear_fault binding.now clear.now ≡ None }
     ensures body { IsBody (clear_layout binding.now.suite binding.now.link.layout) clear.now result }
     ensures least { 5 ≤ length result.prefix.now }
     ensures most { length result.prefix.now ≤ 70 }
@@ -166,7 +164,7 @@ fn clear_body<'a>(binding: &Binding, clear: &'a [u8]) -> Body<'a>
 /// field is carried over. What `out` has behind the frame stays.
 pub fn shield(binding: &Binding, number: u64, clear: &[u8], out: &mut [u8]) -> usize
     requires binding { IsBinding binding.now }
-    requires fits { first_fault (clear_layout binding.now.suite binding.now.link.layout) clear.now ≡ None }
+    requires fits { clear_fault binding.now clear.now ≡ None }
     requires number { (1 ≤ number) × (number < end_of binding.now.key) }
     requires room { 2048 ≤ length out.old }
     ensures count { result ≡ length clear.now + gain_of binding.now.suite binding.now.link.layout }

@@ -1,4 +1,4 @@
-use Rattle.std.proofs.Common.{◌≡◌, ℕ, ◌+◌, ◌≤◌, ◌++◌, List, length, ap, sym, ◌∙◌, subst, arith, refl, inl, inr, Result}
+use Rattle.std.proofs.Common.{◌≡◌, ℕ, ◌+◌, ◌≤◌, ◌++◌, List, length, ap, sym, ◌∙◌, subst, take, arith, refl, inl, inr, Result}
 use Rattle.std.specs.Prelude.{IfOk}
 use Rattle.std.proofs.lemmas.Bool.{cases_lt, false≢true}
 use Rattle.sdls_base.specs.Suite.{overhead_of}
@@ -7,14 +7,18 @@ use Rattle.sdls_header.specs.SecurityHeader.{Pieces, SplitsInto, header_octets, 
 use Rattle.sdls_header.specs.Authenticated.{authenticated}
 use Rattle.frame_shield.specs.declared.binding.Binding.{Binding}
 use Rattle.frame_shield.specs.declared.body.Body.{Body}
-use Rattle.frame_shield.specs.AnyFrame.{room_of}
+use Rattle.frame_shield.specs.AnyFrame.{AnyParts, room_of}
 use Rattle.frame_shield.specs.Body.{IsBody}
 use Rattle.frame_shield.specs.Link.{mask_octets}
 use Rattle.frame_shield.specs.Secured.{header_of}
 use Rattle.frame_shield.proofs.FoundFacts.{text_at}
-use Rattle.frame_shield.proofs.Lengths.{prefix_bounds, bounded_insert}
-use Rattle.frame_shield.proofs.OpenFacts.{one_frame}
+use Rattle.frame_shield.proofs.Lengths.{bounded_insert, prefix_bounds}
+use Rattle.frame_shield.proofs.OpenFacts.{no_fault, one_frame}
 use Rattle.frame_shield.proofs.opening.find.Goals as goal
+
+pub unwrap-body-requires : goal.unwrap-body-requires
+unwrap-body-requires c =
+    c.body_of.ensures.ok.1 (no_fault c.args.binding.now.link.layout c.requires.frame.parts c.args.frame.now c.requires.frame.framed)
 
 pub returns-in_default-clause-none : goal.returns-in_default-clause-none
 returns-in_default-clause-none c = λ none n field o.
@@ -36,6 +40,7 @@ returns-clause-found c =
     let frame : List ℕ = c.args.frame.now in
     let body = c.unwrap-body.result in
     let is = subst (λ (r : Result Body FrameFault). IfOk r (IsBody b.link.layout frame)) c.unwrap-body.ensures c.body_of.ensures.body in
+    let same : is.parts ≡ c.requires.frame.parts = one_frame b.link.layout is.parts c.requires.frame.parts frame is.framed c.requires.frame.framed in
     let pieces : Pieces = view c.in-Some.pieces in
     let split : SplitsInto b.suite (room_of is.parts) pieces = subst (λ (r : List ℕ). SplitsInto b.suite r pieces) is.room c.in-Some.ensures.found in
     let enough : overhead_of b.suite ≤ length (room_of is.parts) =
@@ -44,7 +49,7 @@ returns-clause-found c =
       | inr enough ↦ enough
     ] in
     let header : pieces.header ≡ header_octets (header_of b pieces.vector) =
-    split.header ∙ ap (λ (l : List ℕ). l ++ vector_octets pieces.vector) (c.requires.index is.parts is.framed enough) in
+    split.header ∙ ap (λ (l : List ℕ). l ++ vector_octets pieces.vector) (ap (λ (p : AnyParts). take 2 (room_of p)) same ∙ c.requires.frame.index (subst (λ (p : AnyParts). overhead_of b.suite ≤ length (room_of p)) same enough)) in
     let start : ℕ = length body.prefix.now + length pieces.header in
     let end : ℕ = start + length pieces.field in
     let place = ap (λ (l : List ℕ). length l + length pieces.header) is.prefix in
