@@ -38,7 +38,7 @@ pub fn fits(binding: &Binding, clear: &[u8]) -> Result<(), ShieldFault>
     ensures { MatchResult result
         (λ _. clear_fault binding.now clear.now ≡ None)
         (λ refusal. (fault : FrameFault) × (clear_fault binding.now clear.now ≡ Some fault)
-            × (refusal ≡ ShieldFault.Layout (fault_number fault))) }
+        × (refusal ≡ ShieldFault.Layout (fault_number fault))) }
 {
     match body_of(clear, &clear_layout(binding.suite, &binding.link.layout)) {
         Ok(_) => Ok(()),
