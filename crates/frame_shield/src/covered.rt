@@ -26,6 +26,7 @@ impl Model for Covered {
     ghost invariant = { λ covered. covered.used ≤ 84 };
 }
 
+/// Writes the prefix under the mask into the front of `out`.
 fn put_masked(out: &mut [u8], prefix: &[u8], mask: &[u8])
     requires { length prefix.now ≤ length out.old }
     ensures { out.new ≡ masked_octets prefix.now mask.now ++ drop (length prefix.now) out.old }
@@ -46,6 +47,7 @@ pub fn put_header(out: &mut [u8], at: usize, header: &SecurityHeader) -> usize
 }
 
 impl Covered {
+    /// The covered text of a frame with this prefix, of at most 70 octets, and this security header.
     pub fn new(prefix: &[u8], mask: &[u8], header: &SecurityHeader) -> Covered
         requires { length prefix.now ≤ 70 }
         ensures { result ≡ authenticated mask.now prefix.now (header_octets header.now) }

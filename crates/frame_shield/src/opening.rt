@@ -1,4 +1,4 @@
-ghost use Rattle.std.specs.Prelude.{◌≡◌, ℕ, ◌+◌, ◌≤◌, ◌<◌, ◌↔◌, List, None, length, take, drop, slice_range, IfSome, IsNone};
+ghost use Rattle.std.specs.Prelude.{◌≡◌, ℕ, ◌↔◌, List, length, IfSome, IsNone};
 ghost use Rattle.frame_shield.specs.Binding.{IsBinding};
 ghost use Rattle.frame_shield.specs.Found.{IsFound};
 ghost use Rattle.frame_shield.specs.Opens.{CarriesIndex, Opens, OpensInPlace, OnField};
@@ -7,7 +7,7 @@ use crate::binding::Binding;
 use crate::body::{Body, body_of};
 use crate::covered::Covered;
 use crate::sealing::{number_of, open};
-use sdls_header::{SecurityHeader, Split, Vector, split};
+use sdls_header::{SecurityHeader, Vector, split};
 
 /// What came of opening a frame.
 #[derive(Clone, Copy, Debug, PartialEq, Eq)]

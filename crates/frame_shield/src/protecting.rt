@@ -1,4 +1,4 @@
-ghost use Rattle.std.specs.Prelude.{◌≡◌, ℕ, ◌+◌, ◌^◌, ◌<◌, ◌≤◌, [], ◌++◌, unwrap_or, option_copied, None, Some, length, take, drop, MatchResult};
+ghost use Rattle.std.specs.Prelude.{◌≡◌, ◌+◌, ◌^◌, ◌<◌, ◌≤◌, [], ◌++◌, unwrap_or, option_copied, None, Some, length, take, drop, MatchResult};
 ghost use Rattle.sdls_base.specs.declared.layout.FrameFault.{FrameFault};
 ghost use Rattle.sdls_base.specs.KeyId.{end_of};
 ghost use Rattle.sdls_base.specs.Suite.{overhead_of};
@@ -132,6 +132,7 @@ fn put_room(out: &mut [u8], at: usize, binding: &Binding, vector: Vector, field:
     )
 }
 
+/// The vector of the suite that carries a number.
 fn vector_for(suite: Suite, device: [u8; 4], number: u64) -> Vector
     requires { suite ≡ Suite.Cmac → number < 2 ^ 32 }
     ensures vector { result ≡ vector_for suite device number }

@@ -284,6 +284,26 @@ fn each_bit_of_an_aos_header(rt: HostRuntime) -> Result<(), Fail> {
     Ok(())
 }
 
+#[test]
+fn least_telemetry_frame(rt: HostRuntime) -> Result<(), Fail> {
+    let binding = binding(7, 32_769, &CMAC_KEY, telemetry(48, false)).ok_or("a binding")?;
+    let mut clear = [0; 26];
+    clear[..6].copy_from_slice(b"\x02\xa4\x11\x22\x18\x00");
+    let mut frame = protected(rt.alloc(), &binding, 1, &clear).ok_or("a frame")?;
+    assert!(rt;
+        frame.ends_with(b"\xca\xb5\xc1\xba\x6f\x64\x1d\x96\x8a\x3e\x8f\x5c\x55\x5c\x02\x6f")
+    );
+    assert_eq!(rt;
+        opened(&binding, frame.as_mut_slice()),
+        Some(Opened::Field {
+            number: 1,
+            from: 12,
+            to: 32
+        })
+    );
+    Ok(())
+}
+
 // With insert zone or without, operational control field and frame error control field.
 #[test]
 fn greatest_frames_of_fixed_length(rt: HostRuntime) -> Result<(), Fail> {
