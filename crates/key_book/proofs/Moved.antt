@@ -38,7 +38,7 @@ lowest_holder-more pairs i id pair within read =
     let p : ℕ × ℕ → Bool = λ x. nat_eq x.0 id in
     let front : List (ℕ × ℕ) = filter p (take i pairs) in
     ap (λ (xs : List (ℕ × ℕ)). least (map (λ x. x.1) xs))
-        (filter_more p pairs i pair within ∙ ap (λ (x : ℕ × ℕ). front ++ cond (p x) (x ∷ []) []) (sym read))
+    (filter_more p pairs i pair within ∙ ap (λ (x : ℕ × ℕ). front ++ cond (p x) (x ∷ []) []) (sym read))
     ∙ one (nat_eq pair.0 id) front
   where
     one : (b : Bool) (front : List (ℕ × ℕ)) → least (map (λ x. x.1) (front ++ cond b (pair ∷ []) [])) ≡ cond b (Some (option_map_or (min pair.1) (least (map (λ x. x.1) front)) pair.1)) (least (map (λ x. x.1) front))
@@ -127,9 +127,10 @@ move_refusal-unknown rows done id to in_use nowhere =
 
 move_refusal-known : (rows : List KeyRow) (done : List ℕ) (id i : ℕ) (to : KeyState) (in_use : List (ℕ × ℕ)) (row : KeyRow) → place_of rows id ≡ Some i → row ≡ get_or rows i row → (move_refusal (moved rows done to) id to in_use ≡ state_refusal (moved_row done to row).state to (lowest_holder in_use id)) × (row.id ≡ id)
 move_refusal-known rows done id i to in_use row place read =
-    let found : row_of rows id ≡ Some row = find_placed (λ (row : KeyRow). nat_eq row.id id) rows i row place ∙ ap (λ (r : KeyRow). Some r) (sym read) in
-    (ap (judged to in_use id) (row_of-moved rows done to id ∙ ap (option_map (moved_row done to)) found),
-     ap (λ (r : KeyRow). r.id) read ∙ same_number _ _ (position-Some _ rows i row place).1)
+    let found : row_of rows id ≡ Some row = find_placed (λ (row : KeyRow). nat_eq row.id id) rows i row place ∙ ap (λ (r : KeyRow). Some r) (sym read) in (
+      ap (judged to in_use id) (row_of-moved rows done to id ∙ ap (option_map (moved_row done to)) found),
+      ap (λ (r : KeyRow). r.id) read ∙ same_number _ _ (position-Some _ rows i row place).1,
+    )
 
 -- any row
 some_row : KeyRow
@@ -180,10 +181,10 @@ has_bytes _ _ bytes digest next h = absurd (false≢true next)
 IsKeyRow-in_state : (row : KeyRow) (to : KeyState) → IsKeyRow row → is_next row.state to ≡ true → IsKeyRow (in_state row to)
 IsKeyRow-in_state row to ok next =
     record {
-        bytes = has_bytes row.state to row.bytes row.digest next ok.bytes;
-        mark_from_one = ok.mark_from_one;
-        mark_to_end = ok.mark_to_end;
-        floor_below_end = ok.floor_below_end;
+      bytes = has_bytes row.state to row.bytes row.digest next ok.bytes;
+      mark_from_one = ok.mark_from_one;
+      mark_to_end = ok.mark_to_end;
+      floor_below_end = ok.floor_below_end;
     }
 
 next_if_free : (b : Bool) (from : KeyState) (o : Option KeyRefusal) → option_or (refuse_if (not b) (WrongState from)) o ≡ None → b ≡ true
@@ -199,13 +200,13 @@ unique_row rows id k d (Some i) ok low named place =
     let same : (get_or rows i d).id ≡ id = same_number _ _ found.1 in
     find_placed (λ (row : KeyRow). nat_eq row.id id) rows i d place
     ∙ ⊎_elim (λ (here : k ≡ i). ap (λ n. Some (get_or rows n d)) (sym here))
-        (λ (elsewhere : k ≢ i). absurd (other_identifier rows i k d ok found.0 low elsewhere (named ∙ sym same)))
-        (cases_eq k i)
+    (λ (elsewhere : k ≢ i). absurd (other_identifier rows i k d ok found.0 low elsewhere (named ∙ sym same)))
+    (cases_eq k i)
 
 next_here : (rows : List KeyRow) (id k : ℕ) (d : KeyRow) (to : KeyState) (in_use : List (ℕ × ℕ)) → AreKeyRows rows → k < length rows → (get_or rows k d).id ≡ id → move_refusal rows id to in_use ≡ None → is_next (get_or rows k d).state to ≡ true
 next_here rows id k d to in_use ok low named free =
     next_if_free _ (get_or rows k d).state _
-        (ap (judged to in_use id) (sym (unique_row rows id k d (place_of rows id) ok low named refl)) ∙ free)
+    (ap (judged to in_use id) (sym (unique_row rows id k d (place_of rows id) ok low named refl)) ∙ free)
 
 or_false : (b : Bool) → (b || false) ≡ b
 or_false true = refl
@@ -214,19 +215,19 @@ or_false false = refl
 one_moved : (row : KeyRow) (id : ℕ) (to : KeyState) (b : Bool) → nat_eq id row.id ≡ b → IsKeyRow row → (row.id ≡ id → is_next row.state to ≡ true) → IsKeyRow (moved_row (id ∷ []) to row)
 one_moved row id to true e ok next =
     subst IsKeyRow (sym (chosen _ (in_state row to) row (or_false _ ∙ e)))
-        (IsKeyRow-in_state row to ok (next (sym (same_number id row.id e))))
+    (IsKeyRow-in_state row to ok (next (sym (same_number id row.id e))))
 one_moved row id to false e ok next = subst IsKeyRow (sym (left_out _ (in_state row to) row (or_false _ ∙ e))) ok
 
 AreKeyRows-moved_one : (rows : List KeyRow) (id : ℕ) (to : KeyState) (in_use : List (ℕ × ℕ)) → AreKeyRows rows → move_refusal rows id to in_use ≡ None → AreKeyRows (moved rows (id ∷ []) to)
 AreKeyRows-moved_one rows id to in_use ok free =
     record {
-        each = All-map IsKeyRow (moved_row (id ∷ []) to) rows
-            (λ k d low. one_moved (get_or rows k d) id to (nat_eq id (get_or rows k d).id) refl (ok.each k d low)
-                (λ named. next_here rows id k d to in_use ok low named free));
-        identifiers = pairs_map (λ (a b : KeyRow). a.id ≢ b.id) (moved_row (id ∷ []) to) rows
-            (λ a b apart same. apart (sym (moved_row-id (id ∷ []) to a) ∙ same ∙ moved_row-id (id ∷ []) to b)) ok.identifiers;
-        digests = pairs_map (λ (a b : KeyRow). a.digest ≢ b.digest) (moved_row (id ∷ []) to) rows
-            (λ a b apart same. apart (sym (moved_row-digest (id ∷ []) to a) ∙ same ∙ moved_row-digest (id ∷ []) to b)) ok.digests;
+      each = All-map IsKeyRow (moved_row (id ∷ []) to) rows
+          (λ k d low. one_moved (get_or rows k d) id to (nat_eq id (get_or rows k d).id) refl (ok.each k d low)
+          (λ named. next_here rows id k d to in_use ok low named free));
+      identifiers = pairs_map (λ (a b : KeyRow). a.id ≢ b.id) (moved_row (id ∷ []) to) rows
+          (λ a b apart same. apart (sym (moved_row-id (id ∷ []) to a) ∙ same ∙ moved_row-id (id ∷ []) to b)) ok.identifiers;
+      digests = pairs_map (λ (a b : KeyRow). a.digest ≢ b.digest) (moved_row (id ∷ []) to) rows
+          (λ a b apart same. apart (sym (moved_row-digest (id ∷ []) to a) ∙ same ∙ moved_row-digest (id ∷ []) to b)) ok.digests;
     }
 
 free_both : (r s : Option KeyRefusal) → option_or r s ≡ None → (r ≡ None) × (s ≡ None)
@@ -243,6 +244,6 @@ AreKeyRows-moved rows (id ∷ ids) to in_use ok free =
 pub IsKeyBook-moved : (rows : List KeyRow) (ids : List ℕ) (to : KeyState) (in_use : List (ℕ × ℕ)) → IsKeyBook rows → moves_refusal rows ids to in_use ≡ None → IsKeyBook (moved rows ids to)
 IsKeyBook-moved rows ids to in_use ok free =
     record {
-        most = subst (λ n. n ≤ MOST_KEYS) (sym (length-map rows (moved_row ids to))) ok.most;
-        rules = AreKeyRows-moved rows ids to in_use ok.rules free;
+      most = subst (λ n. n ≤ MOST_KEYS) (sym (length-map rows (moved_row ids to))) ok.most;
+      rules = AreKeyRows-moved rows ids to in_use ok.rules free;
     }

@@ -6,7 +6,7 @@ use Rattle.std.specs.Str.{bytes_eq}
 use Rattle.std.proofs.lemmas.Grind.{common_steps}
 use Rattle.std.proofs.lemmas.Bool.{cases_eq, cases_lt, false≢true}
 use Rattle.std.proofs.lemmas.Bool.Decides.{nat_tests}
-use Rattle.std.proofs.lemmas.List.{map_more, length-map, get_or-map, get_or_default, at_drop_more, length_push, get_or-set_same, get_or-set_other, same_lists, length-set}
+use Rattle.std.proofs.lemmas.List.{length-take, get_or-take, map_more, length-map, get_or-map, get_or_default, at_drop_more, length_push, get_or-set_same, get_or-set_other, same_lists, length-set}
 use Rattle.std.proofs.lemmas.List.Elements.{All-set, All-push, All-map}
 use Rattle.std.proofs.lemmas.List.Quantifiers.{position-Some, all_pairs_push}
 use Rattle.std.proofs.lemmas.Slice.Eq.{bytes_eq-Decides}
@@ -245,4 +245,21 @@ loaded_row before rows items i item within read so_far =
     ap (λ (rs : List KeyRow). rs ++ new_row item ∷ []) so_far
     ∙ append_assoc before (map new_row (take i items)) (new_row item ∷ [])
     ∙ ap (λ (rs : List KeyRow). before ++ rs)
-        (ap (λ (x : KeyItem). map new_row (take i items) ++ new_row x ∷ []) read ∙ sym (map_more new_row items i item within))
+    (ap (λ (x : KeyItem). map new_row (take i items) ++ new_row x ∷ []) read ∙ sym (map_more new_row items i item within))
+
+-- each row may follow those before it
+pub may_follow : (rows : List KeyRow) (i : ℕ) (d : KeyRow) → IsKeyBook rows → i < length rows → MayFollow (take i rows) (get_or rows i d)
+may_follow rows i d ok within =
+    let front : length (take i rows) ≡ i = omega (arith, length-take i rows) in
+    let most = ok.most in
+    let same : (e : KeyRow) → get_or rows i d ≡ get_or rows i e = λ e. get_or_default rows i d e within in
+    let before : (k : ℕ) (e : KeyRow) → k < length (take i rows) → (k < i) × (get_or (take i rows) k e ≡ get_or rows k e) =
+    λ k e low. let less : k < i = subst (λ n. k < n) front low in (less, get_or-take i rows k e less) in
+    record {
+      room = subst (λ n. n + 1 ≤ MOST_KEYS) (sym front) (omega arith);
+      rules = ok.rules.each i d within;
+      identifier = λ k e low equal. ok.rules.identifiers k i e (before k e low).0 within
+          (ap (λ (r : KeyRow). r.id) (sym (before k e low).1) ∙ equal ∙ ap (λ (r : KeyRow). r.id) (same e));
+      digest = λ k e low equal. ok.rules.digests k i e (before k e low).0 within
+          (ap (λ (r : KeyRow). r.digest) (sym (before k e low).1) ∙ equal ∙ ap (λ (r : KeyRow). r.digest) (same e));
+    }

@@ -1,8 +1,9 @@
-ghost use Rattle.std.specs.Prelude.{◌≡◌, ◌+◌, ◌<◌, ◌≤◌, max, List, [], ◌∷◌, ◌++◌, length, map, All, IfOk, IfErr, OnOk, OnErr, IsSome, None, Some, MatchOption, vec_len};
+ghost use Rattle.std.specs.Prelude.{◌≡◌, ◌+◌, ◌<◌, ◌≤◌, max, ℕ, List, [], ◌∷◌, ◌++◌, length, map, take, slice_index_or, All, IfOk, IfErr, OnOk, OnErr, IsSome, None, Some, MatchOption, vec_len};
 ghost use Rattle.std.specs.List.{slice_get};
 ghost use Rattle.std.specs.Option.{option_map};
 ghost use Rattle.std.specs.Result.{result_err};
 ghost use Rattle.sdls_base.specs.KeyId.{end_of};
+ghost use Rattle.key_book.specs.declared.key_row.KeyRow.{KeyRow};
 ghost use Rattle.key_book.specs.KeyRow.{IsKeyLength, new_row};
 ghost use Rattle.key_book.specs.KeyBook.{IsKeyBook, MayFollow, row_of, place_of, changed};
 ghost use Rattle.key_book.specs.KeyRefusal.{IsRefusal, load_refusal};
@@ -188,3 +189,9 @@ fn known_place(rows: &[KeyRow], id: KeyId) -> usize
 {
     place(rows, id).unwrap()
 }
+
+/// Law: each row of a book may follow those before it, so a book can be made again row by row.
+pub fn rows_may_follow()
+    ensures { (rows : List KeyRow) (i : ℕ) (d : KeyRow) → IsKeyBook rows → i < length rows
+        → MayFollow (take i rows) (slice_index_or rows i d) }
+{}

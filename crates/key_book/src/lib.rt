@@ -15,7 +15,7 @@ mod moves;
 mod places;
 
 pub use inventory::{Inventory, MOST_LISTED};
-pub use key_book::KeyBook;
+pub use key_book::{KeyBook, rows_may_follow};
 pub use key_refusal::KeyRefusal;
 pub use key_row::{KeyRow, digest};
 

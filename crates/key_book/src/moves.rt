@@ -69,7 +69,11 @@ fn judge_move(
     let Some(i) = place(rows, id) else {
         return Err(KeyRefusal::UnknownKey(id));
     };
-    let from = if done.contains(&id) { to } else { rows[i].state };
+    let from = if done.contains(&id) {
+        to
+    } else {
+        rows[i].state
+    };
     judge_state(from, to, lowest_holder(in_use, id))
 }
 

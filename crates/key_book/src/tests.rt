@@ -3,6 +3,7 @@ ghost use Rattle.std.specs.Prelude.{◌≡◌, IfOk, All, length};
 use super::*;
 use sdls_base::{KeyId, KeyItem, KeyList, KeyState, MOST_KEYS, Octets, Spi};
 use std::alloc::Global;
+use std::process::Abort;
 use std::test::*;
 
 fn key(n: u16) -> Result<KeyId, Fail> {
@@ -85,69 +86,70 @@ fn digests(rt: HostRuntime) {
     );
 }
 
+/// A load that is refused so, and leaves the rows.
+fn refuses(
+    rt: &(impl Abort + AllocGlobal),
+    book: &mut KeyBook,
+    pairs: &[(u16, u16)],
+    refusal: KeyRefusal,
+) -> Result<(), Fail> {
+    let before = book.copy().ok().ok_or("memory")?;
+    assert_eq!(rt; load(rt.alloc(), book, pairs)?, Err(refusal));
+    assert!(rt; book.rows() == before.rows());
+    Ok(())
+}
+
 #[test]
 fn each_refusal_of_a_load_leaves_the_rows(rt: HostRuntime) -> Result<(), Fail> {
-    let alloc = rt.alloc();
     let mut book = three_keys(rt.alloc())?;
-    let before = book.copy().ok().ok_or("memory")?;
-    let refused = [
-        // An identifier of the book, or of an earlier item; it comes before the octets of the same item.
-        (
-            vec![in alloc; (2, 2), (300, 3)]?,
-            KeyRefusal::AlreadyLoaded(key(300)?),
-        ),
-        (
-            vec![in alloc; (2, 2), (2, 3)]?,
-            KeyRefusal::AlreadyLoaded(key(2)?),
-        ),
-        (
-            vec![in alloc; (1, 0x0140)]?,
-            KeyRefusal::AlreadyLoaded(key(1)?),
-        ),
-        // Octets of the book, those of a destroyed key among them; the earlier item's fault comes first.
-        (
-            vec![in alloc; (2, 0x0130), (1, 1)]?,
-            KeyRefusal::DuplicateKey(key(300)?),
-        ),
-        (
-            vec![in alloc; (2, 0x0140)]?,
-            KeyRefusal::DuplicateKey(key(40_000)?),
-        ),
-        // The last of eight has the octets of the first.
-        (
-            vec![in alloc;
-                (2, 2),
-                (3, 3),
-                (4, 4),
-                (5, 5),
-                (6, 6),
-                (7, 7),
-                (8, 8),
-                (9, 2),
-            ]?,
-            KeyRefusal::DuplicateKey(key(2)?),
-        ),
-        // The last of eight has the octets of a destroyed key.
-        (
-            vec![in alloc;
-                (2, 2),
-                (3, 3),
-                (4, 4),
-                (5, 5),
-                (6, 6),
-                (7, 7),
-                (8, 8),
-                (9, 0x0130),
-            ]?,
-            KeyRefusal::DuplicateKey(key(300)?),
-        ),
-    ];
-    for (pairs, refusal) in &refused {
-        assert_eq!(rt; load(alloc, &mut book, pairs)?, Err(*refusal));
-        assert!(rt; book.rows() == before.rows());
-    }
-    assert_eq!(rt; load(alloc, &mut book, &[(2, 2), (3, 3)])?, Ok(()));
+    // An identifier of the book, or of an earlier item; it comes before the octets of the same item.
+    refuses(
+        &rt,
+        &mut book,
+        &[(2, 2), (300, 3)],
+        KeyRefusal::AlreadyLoaded(key(300)?),
+    )?;
+    refuses(
+        &rt,
+        &mut book,
+        &[(2, 2), (2, 3)],
+        KeyRefusal::AlreadyLoaded(key(2)?),
+    )?;
+    refuses(
+        &rt,
+        &mut book,
+        &[(1, 0x0140)],
+        KeyRefusal::AlreadyLoaded(key(1)?),
+    )?;
+    // Octets of the book; the earlier item's fault comes first.
+    refuses(
+        &rt,
+        &mut book,
+        &[(2, 0x0130), (1, 1)],
+        KeyRefusal::DuplicateKey(key(300)?),
+    )?;
+    load(rt.alloc(), &mut book, &[(2, 2), (3, 3)])??;
     assert_eq!(rt; book.rows().len(), 5);
+    Ok(())
+}
+
+#[test]
+fn the_last_of_eight_keys(rt: HostRuntime) -> Result<(), Fail> {
+    let mut book = three_keys(rt.alloc())?;
+    let mut eight = [
+        (2, 2),
+        (3, 3),
+        (4, 4),
+        (5, 5),
+        (6, 6),
+        (7, 7),
+        (8, 8),
+        (9, 2),
+    ];
+    // It has the octets of the first, and then those of a destroyed key.
+    refuses(&rt, &mut book, &eight, KeyRefusal::DuplicateKey(key(2)?))?;
+    eight[7] = (9, 0x0130);
+    refuses(&rt, &mut book, &eight, KeyRefusal::DuplicateKey(key(300)?))?;
     Ok(())
 }
 
@@ -174,61 +176,67 @@ fn a_full_book(rt: HostRuntime) -> Result<(), Fail> {
     Ok(())
 }
 
-#[test]
-fn each_refusal_of_a_state_leaves_the_rows(rt: HostRuntime) -> Result<(), Fail> {
-    let alloc = rt.alloc();
-    let mut book = three_keys(rt.alloc())?;
-    let before = book.copy().ok().ok_or("memory")?;
+/// A change of state that is refused so, and leaves the rows. Key 40,000 is held by association 3, and key 1 by 9 and 7.
+fn stays(
+    rt: &(impl Abort + AllocGlobal),
+    book: &mut KeyBook,
+    ids: &[u16],
+    to: KeyState,
+    refusal: KeyRefusal,
+) -> Result<(), Fail> {
     let in_use = [
         (key(40_000)?, spi(3)?),
         (key(1)?, spi(9)?),
         (key(1)?, spi(7)?),
     ];
-    let refused = [
-        (
-            vec![in alloc; 40_000, 5]?,
-            KeyState::Active,
-            KeyRefusal::UnknownKey(key(5)?),
-        ),
-        (
-            vec![in alloc; 1]?,
-            KeyState::Active,
-            KeyRefusal::WrongState(KeyState::Active),
-        ),
-        (
-            vec![in alloc; 1]?,
-            KeyState::Destroyed,
-            KeyRefusal::WrongState(KeyState::Active),
-        ),
-        (
-            vec![in alloc; 40_000]?,
-            KeyState::Deactivated,
-            KeyRefusal::WrongState(KeyState::PreActive),
-        ),
-        (
-            vec![in alloc; 300]?,
-            KeyState::PreActive,
-            KeyRefusal::WrongState(KeyState::Destroyed),
-        ),
-        // A key that stands twice has taken the state at its second place.
-        (
-            vec![in alloc; 40_000, 40_000]?,
-            KeyState::Active,
-            KeyRefusal::WrongState(KeyState::Active),
-        ),
-        (
-            vec![in alloc; 1, 5]?,
-            KeyState::Deactivated,
-            KeyRefusal::KeyInUse(spi(7)?),
-        ),
-    ];
-    for (ids, to, refusal) in &refused {
-        assert_eq!(rt;
-            move_keys(alloc, &mut book, ids, *to, &in_use)?,
-            Err(*refusal)
-        );
-        assert!(rt; book.rows() == before.rows());
-    }
+    let before = book.copy().ok().ok_or("memory")?;
+    assert_eq!(rt;
+        move_keys(rt.alloc(), book, ids, to, &in_use)?,
+        Err(refusal)
+    );
+    assert!(rt; book.rows() == before.rows());
+    Ok(())
+}
+
+#[test]
+fn each_refusal_of_a_state_leaves_the_rows(rt: HostRuntime) -> Result<(), Fail> {
+    let mut book = three_keys(rt.alloc())?;
+    stays(
+        &rt,
+        &mut book,
+        &[40_000, 5],
+        KeyState::Active,
+        KeyRefusal::UnknownKey(key(5)?),
+    )?;
+    stays(
+        &rt,
+        &mut book,
+        &[1],
+        KeyState::Destroyed,
+        KeyRefusal::WrongState(KeyState::Active),
+    )?;
+    stays(
+        &rt,
+        &mut book,
+        &[300],
+        KeyState::PreActive,
+        KeyRefusal::WrongState(KeyState::Destroyed),
+    )?;
+    // A key that stands twice has taken the state at its second place.
+    stays(
+        &rt,
+        &mut book,
+        &[40_000, 40_000],
+        KeyState::Active,
+        KeyRefusal::WrongState(KeyState::Active),
+    )?;
+    stays(
+        &rt,
+        &mut book,
+        &[1, 5],
+        KeyState::Deactivated,
+        KeyRefusal::KeyInUse(spi(7)?),
+    )?;
     Ok(())
 }
 
@@ -261,7 +269,9 @@ fn raise(book: &mut KeyBook, id: KeyId, mark: u64, floor: u64, sets: bool) {
             book.set_marks(id, mark, floor);
         } else {
             book.raise_mark(id, mark);
-            book.raise_floor(id, floor);
+            if book.mark(id).is_some() {
+                book.raise_floor(id, floor);
+            }
         }
     }
 }

@@ -17,7 +17,7 @@ loop-item-preserved c =
     let pushed : c.push.new.self.items ≡ rows ++ new_row item ∷ [] = c.in_ok-push.ensures.items ∙ ap (λ (r : KeyRow). rows ++ r ∷ []) c.in_ok-loaded.ensures in
     let long : IsKeyLength (length item.bytes) = subst (λ (x : KeyItem). IsKeyLength (length x.bytes)) (sym c.item-item.is) (c.requires.lengths c.loop-item.item-index item c.loop-item-test.true) in
     rw pushed (record {
-        rows = loaded_row c.args.rows.now.items rows c.args.items.now c.loop-item.item-index item c.loop-item-test.true c.item-item.is c.loop-item.invariant.rows;
-        refusal = c.loop-item.invariant.refusal ∙ loaded_more rows c.args.items.now c.loop-item.item-index item c.loop-item-test.true c.item-item.is free;
-        rules = AreKeyRows-push rows item c.loop-item.invariant.rules long free;
+      rows = loaded_row c.args.rows.now.items rows c.args.items.now c.loop-item.item-index item c.loop-item-test.true c.item-item.is c.loop-item.invariant.rows;
+      refusal = c.loop-item.invariant.refusal ∙ loaded_more rows c.args.items.now c.loop-item.item-index item c.loop-item-test.true c.item-item.is free;
+      rules = AreKeyRows-push rows item c.loop-item.invariant.rules long free;
     })

@@ -1,0 +1,26 @@
+use Rattle.std.proofs.Common.{rules, arith, ◌≡◌, ℕ, ◌+◌, ◌<◌, List, [], ◌∷◌, length, get_or, Option, Some, None, sym, refl, ap, ◌∙◌, subst}
+use Rattle.std.specs.Result.{result_err}
+use Rattle.sdls_base.specs.declared.states.SaState.TheVariants.{Unkeyed, Keyed, Operational}
+use Rattle.sa_book.specs.declared.sa_row.SaRow.{SaRow}
+use Rattle.sa_book.specs.declared.sa_refusal.SaRefusal.{SaRefusal}
+use Rattle.sa_book.specs.declared.sa_refusal.SaRefusal.TheVariants.{UnknownSpi}
+use Rattle.sa_book.specs.SaRow.{following, with_key, without_key, MayAccept}
+use Rattle.sa_book.specs.SaBook.{place_of, row_of}
+use Rattle.sa_book.specs.SaRefusal.{first_of, unless_unkeyed, unless_keyed, unless_operational, if_unkeyed, key_refusal, rival_of, taken_channel, number_refusal_of, rekey_refusal, start_refusal, stop_refusal, expire_refusal, delete_refusal, set_number_refusal, set_window_refusal, read_number_refusal}
+use Rattle.sa_book.proofs.Rows.{on_place, on_nowhere, within_place, same_read, set-changed, remove-without, IsSaBook-remove}
+use Rattle.sa_book.proofs.Changes.{IsSaBook-start, IsSaBook-stop, IsSaBook-expire, IsSaBook-rekey, IsSaBook-set_number, IsSaBook-set_window, IsSaBook-accept, next_fits}
+use Rattle.std.proofs.Common.{IsSomeAnd}
+use Rattle.sa_book.proofs.Rows.{row_of_placed}
+use Rattle.sa_book.proofs.sa_book.SaBook.accept.Goals as goal
+
+pub invariant_of-self : goal.invariant_of-self
+invariant_of-self c =
+    let place : place_of c.self.inside.rows.items c.args.spi ≡ Some c.known_place-i.result = rw c.deref.ensures.value at c.known_place-i.ensures in
+    let here = row_of_placed c.self.inside.rows.items c.args.spi c.known_place-i.result c.index_mut-row.result.now place c.index_mut-row.ensures.value in
+    let may : MayAccept c.index_mut-row.result.now c.args.number = subst (λ (o : Option SaRow). IsSomeAnd o (λ (row : SaRow). MayAccept row c.args.number)) here (rw (← c.self.view_is) at c.requires) in
+    IsSaBook-accept c.self.inside.rows.items c.known_place-i.result c.index_mut-row.result.now c.args.number c.self.invariant (within_place c.self.inside.rows.items c.args.spi c.known_place-i.result c.index_mut-row.result.now place) c.index_mut-row.ensures.value may
+
+pub returns : goal.returns
+returns c =
+    let place : place_of c.self.inside.rows.items c.args.spi ≡ Some c.known_place-i.result = rw c.deref.ensures.value at c.known_place-i.ensures in
+    rw (← c.self.view_is) (set-changed c.self.inside.rows.items c.args.spi c.known_place-i.result (λ (row : SaRow). record row { window = record row.window { high = c.args.number } }) c.index_mut-row.result.now c.self.invariant place c.index_mut-row.ensures.value)

@@ -1,0 +1,26 @@
+use Rattle.std.proofs.Common.{rules, arith, ◌≡◌, ℕ, ◌+◌, ◌<◌, List, [], ◌∷◌, length, get_or, Option, Some, None, sym, refl, ap, ◌∙◌, subst}
+use Rattle.std.specs.Result.{result_err}
+use Rattle.sdls_base.specs.declared.states.SaState.TheVariants.{Unkeyed, Keyed, Operational}
+use Rattle.sa_book.specs.declared.sa_row.SaRow.{SaRow}
+use Rattle.sa_book.specs.declared.sa_refusal.SaRefusal.{SaRefusal}
+use Rattle.sa_book.specs.declared.sa_refusal.SaRefusal.TheVariants.{UnknownSpi}
+use Rattle.sa_book.specs.SaRow.{following, with_key, without_key}
+use Rattle.sa_book.specs.SaBook.{place_of, row_of}
+use Rattle.sa_book.specs.SaRefusal.{first_of, unless_unkeyed, unless_keyed, unless_operational, if_unkeyed, key_refusal, rival_of, taken_channel, number_refusal_of, rekey_refusal, start_refusal, stop_refusal, expire_refusal, delete_refusal, set_number_refusal, set_window_refusal, read_number_refusal}
+use Rattle.sa_book.proofs.Rows.{on_place, on_nowhere, within_place, same_read, set-changed, remove-without, IsSaBook-remove}
+use Rattle.sa_book.proofs.Changes.{IsSaBook-start, IsSaBook-stop, IsSaBook-expire, IsSaBook-rekey, IsSaBook-set_number, IsSaBook-set_window, IsSaBook-accept, next_fits}
+use Rattle.std.proofs.lemmas.Result.{IfErr-at_err}
+use Rattle.sa_book.proofs.Lists.{find_nowhere}
+use Rattle.sa_book.proofs.Rows.{row_of_placed, nowhere_row}
+use Rattle.sa_book.proofs.sa_book.SaBook.status.Goals as goal
+
+pub returns-in_err-i-clause-unknown : goal.returns-in_err-i-clause-unknown
+returns-in_err-i-clause-unknown c =
+    let nowhere : row_of c.self.inside.rows.items c.args.spi ≡ None = nowhere_row c.self.inside.rows.items c.args.spi (rw c.deref.ensures.value at c.in_err-i.ensures.1) in
+    let unknown = c.in_err-i.ensures.0 in
+    rw (← c.self.view_is, nowhere) (search rules)
+
+pub returns-clause-row : goal.returns-clause-row
+returns-clause-row c =
+    let place : place_of c.self.inside.rows.items c.args.spi ≡ Some c.in_ok-i.i = rw c.deref.ensures.value at c.in_ok-i.ensures in
+    rw (← c.self.view_is) (row_of_placed c.self.inside.rows.items c.args.spi c.in_ok-i.i c.index.result.now place c.index.ensures)
