@@ -60,20 +60,20 @@ keyless_kept old new key had has keyless = (λ u. absurd (has u), λ none. absur
 with_state : (row : SaRow) (state : SaState) → IsSaRow row → (row.state ≡ Unkeyed → ⊥) → (state ≡ Unkeyed → ⊥) → IsSaRow (record row { state = state })
 with_state row state ok had has =
     record {
-        keyless = keyless_kept row.state state row.key had has ok.keyless;
-        suite = ok.suite;
-        high = ok.high;
-        width = ok.width;
-        channels = ok.channels;
+      keyless = keyless_kept row.state state row.key had has ok.keyless;
+      suite = ok.suite;
+      high = ok.high;
+      width = ok.width;
+      channels = ok.channels;
     }
 
 pub IsSaBook-stop : (rows : List SaRow) (i : ℕ) (row : SaRow) → IsSaBook rows → i < length rows → row ≡ get_or rows i row → unless_operational row.state ≡ None → IsSaBook (set rows i (record row { state = Keyed }))
 IsSaBook-stop rows i row ok within read free =
     let state : row.state ≡ Operational = is_operational_state row.state free in
     IsSaBook-set rows i row (record row { state = Keyed }) ok within read
-        (with_state row Keyed (rules_at rows i row ok within read) (λ u. cc) (λ u. cc))
-        refl
-        (λ k d low not_i agree. record { channels = λ s. absurd (cc); keys = agree.keys })
+    (with_state row Keyed (rules_at rows i row ok within read) (λ u. cc) (λ u. cc))
+    refl
+    (λ k d low not_i agree. record { channels = λ s. absurd (cc); keys = agree.keys })
 
 -- starting
 
@@ -101,8 +101,8 @@ found_among xs x c = list_any_at (λ own. nat_eq own x) xs c.0 x c.1 (equal_numb
 rival_test : (row other : SaRow) (channel : ℕ) → other.state ≡ Operational → row.direction ≡ other.direction → Contains row.channels channel → Contains other.channels channel → list_any (λ channel. covers row.direction channel other) row.channels ≡ true
 rival_test row other channel state same own others =
     let here : (c : ℕ) → c ≡ channel → covers row.direction c other ≡ true =
-        λ c e. subst (λ n. covers row.direction n other ≡ true) (sym e)
-            (and_three _ _ _ (operational_test other.state state) (same_direction row.direction other.direction same) (found_among other.channels channel others)) in
+    λ c e. subst (λ n. covers row.direction n other ≡ true) (sym e)
+    (and_three _ _ _ (operational_test other.state state) (same_direction row.direction other.direction same) (found_among other.channels channel others)) in
     list_any_at (λ c. covers row.direction c other) row.channels own.0 channel own.1 (here _ own.2)
 
 no_rival : (o : Option SaRow) → taken_channel o ≡ None → o ≡ None
@@ -114,14 +114,14 @@ IsSaBook-start rows i row ok within read free =
     let parts = none_both (unless_keyed row.state) (taken_channel (rival_of rows row) ∷ []) free in
     let state : row.state ≡ Keyed = is_keyed_state row.state parts.0 in
     let alone = find_none (λ (other : SaRow). list_any (λ channel. covers row.direction channel other) row.channels) rows
-        (no_rival (rival_of rows row) (none_both (taken_channel (rival_of rows row)) [] parts.1).0) in
+    (no_rival (rival_of rows row) (none_both (taken_channel (rival_of rows row)) [] parts.1).0) in
     IsSaBook-set rows i row (record row { state = Operational }) ok within read
-        (with_state row Operational (rules_at rows i row ok within read) (λ u. cc) (λ u. cc))
-        refl
-        (λ k d low not_i agree. record {
-            channels = λ s so same channel own others. false≢true (sym (alone k d low) ∙ rival_test row (get_or rows k d) channel so same own others);
-            keys = agree.keys;
-        })
+    (with_state row Operational (rules_at rows i row ok within read) (λ u. cc) (λ u. cc))
+    refl
+    (λ k d low not_i agree. record {
+      channels = λ s so same channel own others. false≢true (sym (alone k d low) ∙ rival_test row (get_or rows k d) channel so same own others);
+      keys = agree.keys;
+    })
 
 -- taking the key away
 
@@ -133,15 +133,15 @@ pub IsSaBook-expire : (rows : List SaRow) (i : ℕ) (row : SaRow) → IsSaBook r
 IsSaBook-expire rows i row ok within read =
     let rules = rules_at rows i row ok within read in
     IsSaBook-set rows i row (without_key row) ok within read
-        (record {
-            keyless = (λ u. refl, λ none. refl);
-            suite = tt;
-            high = no_high row.direction;
-            width = rules.width;
-            channels = rules.channels;
-        })
-        refl
-        (λ k d low not_i agree. record { channels = λ s. absurd (cc); keys = λ _ _ key none. absurd (cc) })
+    (record {
+      keyless = (λ u. refl, λ none. refl);
+      suite = tt;
+      high = no_high row.direction;
+      width = rules.width;
+      channels = rules.channels;
+    })
+    refl
+    (λ k d low not_i agree. record { channels = λ s. absurd (cc); keys = λ _ _ key none. absurd (cc) })
 
 -- taking a key
 
@@ -201,21 +201,21 @@ IsSaBook-rekey rows i row key state number floor ok within read free =
     let parts = key_parts (unless_unkeyed row.state) (refuse_if (not (is_same_class (class_of key) (class_of_suite row.suite))) WrongSuite) (unless_active state) (taken_key row.direction (receiver_with rows key)) (number_refusal key number floor) free in
     let below : number < end_of key = number_below key number floor parts.2 in
     IsSaBook-set rows i row (with_key key number row) ok within read
-        (record {
-            keyless = (λ u. absurd (cc), λ none. absurd (false≢true (sym none)));
-            suite = class_same (class_of key) (class_of_suite row.suite) (not_false _ (not_refused _ WrongSuite parts.0));
-            high = high_after row.direction row.key key number row.window rules.high below;
-            width = width_after row.direction number row.window rules.width;
-            channels = rules.channels;
-        })
-        refl
-        (λ k d low not_i agree. record {
-            channels = λ s. absurd (cc);
-            keys = λ receives others own mine theirs.
-                let same : key ≡ own = same_Some key own mine in
-                let alone = find_none (receives_with key) rows (not_taken row.direction (receiver_with rows key) receives parts.1) k d low in
-                false≢true (sym alone ∙ receives_test (get_or rows k d) key others (theirs ∙ ap (λ n. Some n) (sym same)));
-        })
+    (record {
+      keyless = (λ u. absurd (cc), λ none. absurd (false≢true (sym none)));
+      suite = class_same (class_of key) (class_of_suite row.suite) (not_false _ (not_refused _ WrongSuite parts.0));
+      high = high_after row.direction row.key key number row.window rules.high below;
+      width = width_after row.direction number row.window rules.width;
+      channels = rules.channels;
+    })
+    refl
+    (λ k d low not_i agree. record {
+      channels = λ s. absurd (cc);
+      keys = λ receives others own mine theirs.
+          let same : key ≡ own = same_Some key own mine in
+          let alone = find_none (receives_with key) rows (not_taken row.direction (receiver_with rows key) receives parts.1) k d low in
+          false≢true (sym alone ∙ receives_test (get_or rows k d) key others (theirs ∙ ap (λ n. Some n) (sym same)));
+    })
 
 -- numbers and windows
 
@@ -223,15 +223,15 @@ with_window : (rows : List SaRow) (i : ℕ) (row : SaRow) (window : Window) → 
 with_window rows i row window ok within read high width =
     let rules = rules_at rows i row ok within read in
     IsSaBook-set rows i row (record row { window = window }) ok within read
-        (record {
-            keyless = rules.keyless;
-            suite = rules.suite;
-            high = high;
-            width = width;
-            channels = rules.channels;
-        })
-        refl
-        (λ k d low not_i agree. record { channels = agree.channels; keys = agree.keys })
+    (record {
+      keyless = rules.keyless;
+      suite = rules.suite;
+      high = high;
+      width = width;
+      channels = rules.channels;
+    })
+    refl
+    (λ k d low not_i agree. record { channels = agree.channels; keys = agree.keys })
 
 high_set : (direction : Direction) (key : Option ℕ) (number floor : ℕ) (window : Window) → HasHigh direction key window.high → (IsNone key → ⊥) → number_refusal_of key number floor ≡ None → HasHigh direction key (following direction number window).high
 high_set Send key number floor window h keyed free = h
@@ -243,9 +243,9 @@ IsSaBook-set_number rows i row number floor ok within read free =
     let rules = rules_at rows i row ok within read in
     let parts = none_both _ _ free in
     with_window rows i row (following row.direction number row.window) ok within read
-        (high_set row.direction row.key number floor row.window rules.high
-            (λ none. has_no_key row.state parts.0 (rules.keyless.1 none)) (none_both _ _ parts.1).0)
-        (width_after row.direction number row.window rules.width)
+    (high_set row.direction row.key number floor row.window rules.high
+    (λ none. has_no_key row.state parts.0 (rules.keyless.1 none)) (none_both _ _ parts.1).0)
+    (width_after row.direction number row.window rules.width)
 
 pub IsSaBook-set_window : (rows : List SaRow) (i : ℕ) (row : SaRow) (width : ℕ) → IsSaBook rows → i < length rows → row ≡ get_or rows i row → IsWidth width → IsSaBook (set rows i (record row { window = record row.window { width = width } }))
 IsSaBook-set_window rows i row width ok within read wide =
@@ -259,8 +259,8 @@ high_accepted Send held key number d h below = absurd (cc)
 pub IsSaBook-accept : (rows : List SaRow) (i : ℕ) (row : SaRow) (number : ℕ) → IsSaBook rows → i < length rows → row ≡ get_or rows i row → MayAccept row number → IsSaBook (set rows i (record row { window = record row.window { high = number } }))
 IsSaBook-accept rows i row number ok within read may =
     with_window rows i row (record row.window { high = number }) ok within read
-        (high_accepted row.direction row.key may.key number may.receives may.holds may.fresh.below_end)
-        (rules_at rows i row ok within read).width
+    (high_accepted row.direction row.key may.key number may.receives may.holds may.fresh.below_end)
+    (rules_at rows i row ok within read).width
 
 class_end : (class : KeyClass) → end_of_class class ≤ 2 ^ 48
 class_end Master = lit≤ tt
@@ -290,22 +290,22 @@ IsSaBook-create rows new known ok wide channels free =
     let alone = find_none (λ (row : SaRow). nat_eq row.spi new.spi) rows (none_some (row_of rows new.spi) (not_refused _ SpiTaken parts.0)) in
     let room : length rows < MOST_ASSOCIATIONS = below_of _ _ (not_refused _ TableFull parts.1) in
     IsSaBook-insert rows (new_row new) ok (omega arith)
-        (record {
-            keyless = (λ u. refl, λ none. refl);
-            suite = tt;
-            high = no_high new.direction;
-            width = wide;
-            channels = channels;
-        })
-        (λ k d low same. false≢true (sym (alone k d low) ∙ equal_number _ _ same))
-        (λ other. record { channels = λ s. absurd (cc); keys = λ _ _ key none. absurd (cc) })
+    (record {
+      keyless = (λ u. refl, λ none. refl);
+      suite = tt;
+      high = no_high new.direction;
+      width = wide;
+      channels = channels;
+    })
+    (λ k d low same. false≢true (sym (alone k d low) ∙ equal_number _ _ same))
+    (λ other. record { channels = λ s. absurd (cc); keys = λ _ _ key none. absurd (cc) })
 
 -- judging a creation
 
 create-taken : (rows : List SaRow) (new : NewSa) (known : List ℕ) (b : Bool) → is_some (place_of rows new.spi) ≡ b → create_refusal rows new known ≡ first_of (refuse_if b SpiTaken ∷ option_map UnknownChannel (first_unknown new.channels known) ∷ refuse_if (nat_le MOST_ASSOCIATIONS (length rows)) TableFull ∷ [])
 create-taken rows new known b h =
     ap (λ t. first_of (refuse_if t SpiTaken ∷ option_map UnknownChannel (first_unknown new.channels known) ∷ refuse_if (nat_le MOST_ASSOCIATIONS (length rows)) TableFull ∷ []))
-        (is_some-find (λ (row : SaRow). nat_eq row.spi new.spi) rows ∙ h)
+    (is_some-find (λ (row : SaRow). nat_eq row.spi new.spi) rows ∙ h)
 
 pub create_refusal-taken : (rows : List SaRow) (new : NewSa) (known : List ℕ) → is_some (place_of rows new.spi) ≡ true → create_refusal rows new known ≡ Some SpiTaken
 create_refusal-taken rows new known h = create-taken rows new known true h

@@ -4,7 +4,7 @@ use Rattle.std.specs.List.{find, filter, insert, remove, position, position_or_l
 use Rattle.std.specs.Option.{option_map_or, unwrap_or}
 use Rattle.std.proofs.lemmas.Bool.{cases_eq, cases_lt, false≢true}
 use Rattle.std.proofs.lemmas.Bool.Decides.{nat_tests}
-use Rattle.std.proofs.lemmas.List.{length-map, get_or-map, get_or_default, get_or-set_same, get_or-set_other, same_lists, length-set, length_push}
+use Rattle.std.proofs.lemmas.List.{length-take, get_or-take, length-map, get_or-map, get_or_default, get_or-set_same, get_or-set_other, same_lists, length-set, length_push}
 use Rattle.std.proofs.lemmas.List.Edits.{length-insert, get_or-insert_below, get_or-insert_at, get_or-insert_above, length-remove}
 use Rattle.std.proofs.lemmas.List.Elements.{All-set, All-push, All-append, All-cons, All-take, All-drop}
 use Rattle.std.proofs.lemmas.List.Sums.{prefix_len-le-length, fails_before_first, passes_at_first}
@@ -78,8 +78,8 @@ or_end p xs =
 other_index : (rows : List SaRow) (i k : ℕ) (d : SaRow) → IsSaBook rows → i < length rows → k < length rows → k ≢ i → (get_or rows k d).spi ≢ (get_or rows i d).spi
 other_index rows i k d ok at_i at_k not_i =
     ⊎_elim (λ (less : k < i). let o = (ok.apart k i d less at_i).order in λ same. omega arith)
-        (λ (more : i < k). let o = (ok.apart i k d more at_k).order in λ same. omega arith)
-        (let apart : (k < i) ⊎ (i < k) = ⊎_elim (λ x. inl x) (λ x. inr (omega arith)) (cases_lt k i) in apart)
+    (λ (more : i < k). let o = (ok.apart i k d more at_k).order in λ same. omega arith)
+    (let apart : (k < i) ⊎ (i < k) = ⊎_elim (λ x. inl x) (λ x. inr (omega arith)) (cases_lt k i) in apart)
 
 -- a write of a changed row at its place changes that row alone
 pub set-changed : (rows : List SaRow) (spi i : ℕ) (f : SaRow → SaRow) (row : SaRow) → IsSaBook rows → place_of rows spi ≡ Some i → row ≡ get_or rows i row → set rows i (f row) ≡ changed rows spi f
@@ -90,22 +90,22 @@ set-changed rows spi i f row ok place read =
     let named : (get_or rows i row).spi ≡ spi = same_number _ _ found.1 in
     let test : nat_eq row.spi spi ≡ true = ap (λ (r : SaRow). nat_eq r.spi spi) read ∙ found.1 in
     same_lists _ _ (length-set rows i (f row) ∙ sym (length-map rows g))
-        (λ k d low.
-            let end : k < length rows = subst (λ n. k < n) (length-set rows i (f row)) low in
-            ⊎_elim
-                (λ (here : k ≡ i).
-                    subst (λ n. get_or (set rows i (f row)) n d ≡ get_or (map g rows) n d) (sym here)
-                    (get_or-set_same rows i (f row) d within
-                    ∙ sym (chosen (nat_eq row.spi spi) (f row) row test)
-                    ∙ ap g (sym (row_at rows i row d within read))
-                    ∙ sym (get_or-map g rows i d d within)))
-                (λ (elsewhere : k ≢ i).
-                    get_or-set_other rows i k (f row) d elsewhere
-                    ∙ sym (left_out (nat_eq (get_or rows k d).spi spi) (f (get_or rows k d)) (get_or rows k d)
-                        (other_number _ _ (λ same. other_index rows i k d ok within end elsewhere
-                            (same ∙ sym named ∙ ap (λ (r : SaRow). r.spi) (get_or_default rows i row d within)))))
-                    ∙ sym (get_or-map g rows k d d end))
-                (cases_eq k i))
+    (λ k d low.
+    let end : k < length rows = subst (λ n. k < n) (length-set rows i (f row)) low in
+    ⊎_elim
+    (λ (here : k ≡ i).
+    subst (λ n. get_or (set rows i (f row)) n d ≡ get_or (map g rows) n d) (sym here)
+    (get_or-set_same rows i (f row) d within
+    ∙ sym (chosen (nat_eq row.spi spi) (f row) row test)
+    ∙ ap g (sym (row_at rows i row d within read))
+    ∙ sym (get_or-map g rows i d d within)))
+    (λ (elsewhere : k ≢ i).
+    get_or-set_other rows i k (f row) d elsewhere
+    ∙ sym (left_out (nat_eq (get_or rows k d).spi spi) (f (get_or rows k d)) (get_or rows k d)
+    (other_number _ _ (λ same. other_index rows i k d ok within end elsewhere
+    (same ∙ sym named ∙ ap (λ (r : SaRow). r.spi) (get_or_default rows i row d within)))))
+    ∙ sym (get_or-map g rows k d d end))
+    (cases_eq k i))
 
 -- The rules of two rows that do not speak of their order.
 pub record Agree (a b : SaRow) : Type 0 where
@@ -115,8 +115,8 @@ pub record Agree (a b : SaRow) : Type 0 where
 agree_before : (a b : SaRow) → AreApart a b → Agree b a
 agree_before a b ok =
     record {
-        channels = λ sb sa same channel inb ina. ok.channels sa sb (sym same) channel ina inb;
-        keys = λ db da key kb ka. ok.keys da db key ka kb;
+      channels = λ sb sa same channel inb ina. ok.channels sa sb (sym same) channel ina inb;
+      keys = λ db da key kb ka. ok.keys da db key ka kb;
     }
 
 agree_behind : (a b : SaRow) → AreApart a b → Agree a b
@@ -126,15 +126,15 @@ agree_behind a b ok = record { channels = ok.channels; keys = ok.keys }
 pub agree_elsewhere : (rows : List SaRow) (i k : ℕ) (d : SaRow) → IsSaBook rows → i < length rows → k < length rows → k ≢ i → Agree (get_or rows i d) (get_or rows k d)
 agree_elsewhere rows i k d ok at_i at_k not_i =
     ⊎_elim (λ (less : k < i). agree_before (get_or rows k d) (get_or rows i d) (ok.apart k i d less at_i))
-        (λ (more : i < k). agree_behind (get_or rows i d) (get_or rows k d) (ok.apart i k d more at_k))
-        (let apart : (k < i) ⊎ (i < k) = ⊎_elim (λ x. inl x) (λ x. inr (omega arith)) (cases_lt k i) in apart)
+    (λ (more : i < k). agree_behind (get_or rows i d) (get_or rows k d) (ok.apart i k d more at_k))
+    (let apart : (k < i) ⊎ (i < k) = ⊎_elim (λ x. inl x) (λ x. inr (omega arith)) (cases_lt k i) in apart)
 
 apart_before : (other new : SaRow) → other.spi < new.spi → Agree new other → AreApart other new
 apart_before other new order ok =
     record {
-        order = order;
-        channels = λ so sn same channel ino inn. ok.channels sn so (sym same) channel inn ino;
-        keys = λ d_o dn key ko kn. ok.keys dn d_o key kn ko;
+      order = order;
+      channels = λ so sn same channel ino inn. ok.channels sn so (sym same) channel inn ino;
+      keys = λ d_o dn key ko kn. ok.keys dn d_o key kn ko;
     }
 
 apart_behind : (new other : SaRow) → new.spi < other.spi → Agree new other → AreApart new other
@@ -145,22 +145,22 @@ pub IsSaBook-set : (rows : List SaRow) (i : ℕ) (row new : SaRow) → IsSaBook 
 IsSaBook-set rows i row new ok within read rules same_spi agrees =
     let at_i : (d : SaRow) → get_or rows i d ≡ row = λ d. row_at rows i row d within read in
     let agree : (k : ℕ) (d : SaRow) → k < length rows → k ≢ i → Agree new (get_or rows k d) =
-        λ k d low not_i. agrees k d low not_i (subst (λ (r : SaRow). Agree r (get_or rows k d)) (at_i d) (agree_elsewhere rows i k d ok within low not_i)) in
+    λ k d low not_i. agrees k d low not_i (subst (λ (r : SaRow). Agree r (get_or rows k d)) (at_i d) (agree_elsewhere rows i k d ok within low not_i)) in
     record {
-        most = subst (λ n. n ≤ MOST_ASSOCIATIONS) (sym (length-set rows i new)) ok.most;
-        each = All-set IsSaRow rows i new rules ok.each;
-        apart = pairs_set AreApart rows i new within
-            (λ k d less.
-                let o : (get_or rows k d).spi < (get_or rows i d).spi = (ok.apart k i d less within).order in
-                apart_before (get_or rows k d) new
-                    (subst (λ n. (get_or rows k d).spi < n) (ap (λ (r : SaRow). r.spi) (at_i d) ∙ sym same_spi) o)
-                    (agree k d (omega arith) (omega arith)))
-            (λ k d more end.
-                let o : (get_or rows i d).spi < (get_or rows k d).spi = (ok.apart i k d more end).order in
-                apart_behind new (get_or rows k d)
-                    (subst (λ n. n < (get_or rows k d).spi) (ap (λ (r : SaRow). r.spi) (at_i d) ∙ sym same_spi) o)
-                    (agree k d end (omega arith)))
-            ok.apart;
+      most = subst (λ n. n ≤ MOST_ASSOCIATIONS) (sym (length-set rows i new)) ok.most;
+      each = All-set IsSaRow rows i new rules ok.each;
+      apart = pairs_set AreApart rows i new within
+          (λ k d less.
+          let o : (get_or rows k d).spi < (get_or rows i d).spi = (ok.apart k i d less within).order in
+          apart_before (get_or rows k d) new
+          (subst (λ n. (get_or rows k d).spi < n) (ap (λ (r : SaRow). r.spi) (at_i d) ∙ sym same_spi) o)
+          (agree k d (omega arith) (omega arith)))
+          (λ k d more end.
+          let o : (get_or rows i d).spi < (get_or rows k d).spi = (ok.apart i k d more end).order in
+          apart_behind new (get_or rows k d)
+          (subst (λ n. n < (get_or rows k d).spi) (ap (λ (r : SaRow). r.spi) (at_i d) ∙ sym same_spi) o)
+          (agree k d end (omega arith)))
+          ok.apart;
     }
 
 -- the rules of the row at a place
@@ -196,16 +196,16 @@ remove-without rows spi i row ok place read =
     let found = position-Some (λ (r : SaRow). nat_eq r.spi spi) rows i row place in
     let named : (d : SaRow) → (get_or rows i d).spi ≡ spi = λ d. ap (λ (r : SaRow). r.spi) (get_or_default rows i d row found.0) ∙ same_number _ _ found.1 in
     removed_one (λ (r : SaRow). not (nat_eq r.spi spi)) rows i found.0
-        (λ d. not-true _ (equal_number _ _ (named d)))
-        (λ k d low not_i. not-false _ (other_number _ _ (λ same. other_index rows i k d ok found.0 low not_i (same ∙ sym (named d)))))
+    (λ d. not-true _ (equal_number _ _ (named d)))
+    (λ k d low not_i. not-false _ (other_number _ _ (λ same. other_index rows i k d ok found.0 low not_i (same ∙ sym (named d)))))
 
 pub IsSaBook-remove : (rows : List SaRow) (i : ℕ) → IsSaBook rows → i < length rows → IsSaBook (remove rows i)
 IsSaBook-remove rows i ok within =
     let most = ok.most in
     record {
-        most = omega (arith, length-remove rows i within);
-        each = All-append IsSaRow (take i rows) (drop (suc i) rows) (All-take IsSaRow i rows ok.each) (All-drop IsSaRow (suc i) rows ok.each);
-        apart = all_pairs_remove AreApart rows i within ok.apart;
+      most = omega (arith, length-remove rows i within);
+      each = All-append IsSaRow (take i rows) (drop (suc i) rows) (All-take IsSaRow i rows ok.each) (All-drop IsSaRow (suc i) rows ok.each);
+      apart = all_pairs_remove AreApart rows i within ok.apart;
     }
 
 -- insertion
@@ -232,24 +232,24 @@ pairs_insert : {X : Type 0} (R : X → X → Type 0) (xs : List X) (n : ℕ) (y 
 pairs_insert R xs n y fits before behind pairs i j d less end =
     let size = length-insert xs n y fits in
     ⊎_elim
-        (λ (i_low : i < n). ⊎_elim
-            (λ (j_low : j < n). rw (get_or-insert_below xs n y d i i_low fits, get_or-insert_below xs n y d j j_low fits) (pairs i j d less (omega arith)))
-            (λ (j_high : n ≤ j). ⊎_elim
-                (λ (j_here : j ≡ n).
-                    subst (λ m. R (get_or (insert xs n y) i d) (get_or (insert xs n y) m d)) (sym j_here)
-                    (rw (get_or-insert_below xs n y d i i_low fits, get_or-insert_at xs n y d fits) (before i d i_low)))
-                (λ (j_other : j ≢ n).
-                    rw (get_or-insert_below xs n y d i i_low fits, inserted_above xs n y d j (omega arith) fits) (pairs i (j - 1) d (omega arith) (omega (arith, size))))
-                (cases_eq j n))
-            (cases_lt j n))
-        (λ (i_high : n ≤ i). ⊎_elim
-            (λ (i_here : i ≡ n).
-                subst (λ m. R (get_or (insert xs n y) m d) (get_or (insert xs n y) j d)) (sym i_here)
-                (rw (get_or-insert_at xs n y d fits, inserted_above xs n y d j (omega arith) fits) (behind (j - 1) d (omega arith) (omega (arith, size)))))
-            (λ (i_other : i ≢ n).
-                rw (inserted_above xs n y d i (omega arith) fits, inserted_above xs n y d j (omega arith) fits) (pairs (i - 1) (j - 1) d (omega arith) (omega (arith, size))))
-            (cases_eq i n))
-        (cases_lt i n)
+    (λ (i_low : i < n). ⊎_elim
+    (λ (j_low : j < n). rw (get_or-insert_below xs n y d i i_low fits, get_or-insert_below xs n y d j j_low fits) (pairs i j d less (omega arith)))
+    (λ (j_high : n ≤ j). ⊎_elim
+    (λ (j_here : j ≡ n).
+    subst (λ m. R (get_or (insert xs n y) i d) (get_or (insert xs n y) m d)) (sym j_here)
+    (rw (get_or-insert_below xs n y d i i_low fits, get_or-insert_at xs n y d fits) (before i d i_low)))
+    (λ (j_other : j ≢ n).
+    rw (get_or-insert_below xs n y d i i_low fits, inserted_above xs n y d j (omega arith) fits) (pairs i (j - 1) d (omega arith) (omega (arith, size))))
+    (cases_eq j n))
+    (cases_lt j n))
+    (λ (i_high : n ≤ i). ⊎_elim
+    (λ (i_here : i ≡ n).
+    subst (λ m. R (get_or (insert xs n y) m d) (get_or (insert xs n y) j d)) (sym i_here)
+    (rw (get_or-insert_at xs n y d fits, inserted_above xs n y d j (omega arith) fits) (behind (j - 1) d (omega arith) (omega (arith, size)))))
+    (λ (i_other : i ≢ n).
+    rw (inserted_above xs n y d i (omega arith) fits, inserted_above xs n y d j (omega arith) fits) (pairs (i - 1) (j - 1) d (omega arith) (omega (arith, size))))
+    (cases_eq i n))
+    (cases_lt i n)
 
 -- the place for a row is one of the book
 pub fits_place : (rows : List SaRow) (spi : ℕ) → position_or_len (λ (other : SaRow). nat_lt spi other.spi) rows ≤ length rows
@@ -262,32 +262,46 @@ IsSaBook-insert rows row ok room rules others agrees =
     let n : ℕ = position_or_len p rows in
     let fits : n ≤ length rows = position_or_len-bound p rows in
     record {
-        most = subst (λ m. m ≤ MOST_ASSOCIATIONS) (sym (length-insert rows n row fits)) room;
-        each = All-append IsSaRow (take n rows) (row ∷ drop n rows) (All-take IsSaRow n rows ok.each)
-            (All-cons IsSaRow row (drop n rows) rules (All-drop IsSaRow n rows ok.each));
-        apart = pairs_insert AreApart rows n row fits
-            (λ k d less.
-                let not_above : row.spi < (get_or rows k d).spi → ⊥ = not_less _ _ (fails_before_first p rows k d less) in
-                let other = others k d (omega arith) in
-                apart_before (get_or rows k d) row (lower_of _ _ not_above other) (agrees (get_or rows k d)))
-            (λ k d high end.
-                let least : row.spi < (get_or rows n d).spi = less_of _ _ (passes_at_first p rows d (omega arith)) in
-                apart_behind row (get_or rows k d)
-                    (⊎_elim (λ (here : k ≡ n). subst (λ m. row.spi < (get_or rows m d).spi) (sym here) least)
-                        (λ (beyond : k ≢ n). let o = (ok.apart n k d (omega arith) end).order in omega arith)
-                        (cases_eq k n))
-                    (agrees (get_or rows k d)))
-            ok.apart;
+      most = subst (λ m. m ≤ MOST_ASSOCIATIONS) (sym (length-insert rows n row fits)) room;
+      each = All-append IsSaRow (take n rows) (row ∷ drop n rows) (All-take IsSaRow n rows ok.each)
+          (All-cons IsSaRow row (drop n rows) rules (All-drop IsSaRow n rows ok.each));
+      apart = pairs_insert AreApart rows n row fits
+          (λ k d less.
+          let not_above : row.spi < (get_or rows k d).spi → ⊥ = not_less _ _ (fails_before_first p rows k d less) in
+          let other = others k d (omega arith) in
+          apart_before (get_or rows k d) row (lower_of _ _ not_above other) (agrees (get_or rows k d)))
+          (λ k d high end.
+          let least : row.spi < (get_or rows n d).spi = less_of _ _ (passes_at_first p rows d (omega arith)) in
+          apart_behind row (get_or rows k d)
+          (⊎_elim (λ (here : k ≡ n). subst (λ m. row.spi < (get_or rows m d).spi) (sym here) least)
+          (λ (beyond : k ≢ n). let o = (ok.apart n k d (omega arith) end).order in omega arith)
+          (cases_eq k n))
+          (agrees (get_or rows k d)))
+          ok.apart;
     }
 
 pub IsSaBook-push : (rows : List SaRow) (row : SaRow) → IsSaBook rows → MayFollow rows row → IsSaBook (rows ++ row ∷ [])
 IsSaBook-push rows row ok may =
     record {
-        most = subst (λ n. n ≤ MOST_ASSOCIATIONS) (sym (length_push rows row)) may.room;
-        each = All-push IsSaRow rows row ok.each may.rules;
-        apart = all_pairs_push AreApart rows row ok.apart may.apart;
+      most = subst (λ n. n ≤ MOST_ASSOCIATIONS) (sym (length_push rows row)) may.room;
+      each = All-push IsSaRow rows row ok.each may.rules;
+      apart = all_pairs_push AreApart rows row ok.apart may.apart;
     }
 
 pub there_and : {X : Type 0} (o : Option X) (P : X → Type 0) → IsSomeAnd o P → IsSome o
 there_and (Some x) P h = refl
 there_and None P h = absurd h
+
+-- each row may follow those before it
+pub may_follow : (rows : List SaRow) (i : ℕ) (d : SaRow) → IsSaBook rows → i < length rows → MayFollow (take i rows) (get_or rows i d)
+may_follow rows i d ok within =
+    let front : length (take i rows) ≡ i = omega (arith, length-take i rows) in
+    let most = ok.most in
+    record {
+      room = subst (λ n. n + 1 ≤ MOST_ASSOCIATIONS) (sym front) (omega arith);
+      rules = ok.each i d within;
+      apart = λ k e low.
+          let less : k < i = subst (λ n. k < n) front low in
+          subst (λ (row : SaRow). AreApart (get_or (take i rows) k e) row) (sym (get_or_default rows i d e within))
+          (subst (λ (other : SaRow). AreApart other (get_or rows i e)) (sym (get_or-take i rows k e less)) (ok.apart k i e less within));
+    }

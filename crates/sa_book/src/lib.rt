@@ -10,7 +10,7 @@ mod sa_book;
 mod sa_refusal;
 mod sa_row;
 
-pub use sa_book::SaBook;
+pub use sa_book::{SaBook, rows_may_follow};
 pub use sa_refusal::SaRefusal;
 pub use sa_row::{MOST_CHANNELS, SaRow};
 

@@ -1,9 +1,10 @@
-ghost use Rattle.std.specs.Prelude.{◌≡◌, ◌+◌, ◌≤◌, [], ◌∷◌, ◌++◌, All, Some, IfOk, IfErr, OnOk, OnErr, IsSomeAnd};
+ghost use Rattle.std.specs.Prelude.{◌≡◌, ℕ, ◌+◌, ◌<◌, ◌≤◌, List, length, take, slice_index_or, [], ◌∷◌, ◌++◌, All, Some, IfOk, IfErr, OnOk, OnErr, IsSomeAnd};
 ghost use Rattle.std.specs.Option.{option_map, ForSome};
 ghost use Rattle.std.specs.Result.{result_err};
 ghost use Rattle.sdls_base.specs.declared.states.Direction.TheVariants.{Receive};
 ghost use Rattle.sdls_base.specs.declared.states.SaState.TheVariants.{Keyed, Operational};
 ghost use Rattle.replay_window.specs.Window.{IsWidth};
+ghost use Rattle.sa_book.specs.declared.sa_row.SaRow.{SaRow};
 ghost use Rattle.sa_book.specs.SaRow.{AreChannels, MayAccept, new_row, with_key, without_key, following};
 ghost use Rattle.sa_book.specs.SaBook.{IsSaBook, MayFollow, row_of, changed, without, with_row, sender_on, in_use};
 ghost use Rattle.sa_book.specs.SaRefusal.{IsRefusal, create_refusal, rekey_refusal, start_refusal, stop_refusal, expire_refusal, delete_refusal, set_number_refusal, set_window_refusal, read_number_refusal};
@@ -252,3 +253,9 @@ impl SaBook {
         Ok(SaBook { rows })
     }
 }
+
+/// Law: each row of a book may follow those before it, so a book can be made again row by row.
+pub fn rows_may_follow()
+    ensures { (rows : List SaRow) (i : ℕ) (d : SaRow) → IsSaBook rows → i < length rows
+        → MayFollow (take i rows) (slice_index_or rows i d) }
+{}

@@ -18,6 +18,6 @@ invariant_of-self-2 c =
     let free : create_refusal c.self.inside.rows.items c.args.new.now c.args.known.now ≡ None = sym (rw c.deref.ensures.value at c.in_ok-judge_create.ensures) in
     let place : c.place_for-place.result ≡ position_or_len (λ (other : SaRow). nat_lt c.args.new.now.spi other.spi) c.self.inside.rows.items = rw c.deref-2.ensures.value at c.place_for-place.ensures in
     let items : c.insert.new.self.items ≡ with_row c.self.inside.rows.items (new_row c.args.new.now) =
-        c.in_ok-insert.ensures.items ∙ ap (λ n. insert c.self.inside.rows.items n c.in_ok-row.row) place
-        ∙ ap (λ (row : SaRow). insert c.self.inside.rows.items (position_or_len (λ (other : SaRow). nat_lt c.args.new.now.spi other.spi) c.self.inside.rows.items) row) c.in_ok-row.ensures in
+    c.in_ok-insert.ensures.items ∙ ap (λ n. insert c.self.inside.rows.items n c.in_ok-row.row) place
+    ∙ ap (λ (row : SaRow). insert c.self.inside.rows.items (position_or_len (λ (other : SaRow). nat_lt c.args.new.now.spi other.spi) c.self.inside.rows.items) row) c.in_ok-row.ensures in
     rw items (IsSaBook-create c.self.inside.rows.items c.args.new.now c.args.known.now c.self.invariant c.requires.window c.requires.channels free)

@@ -15,21 +15,21 @@ pub returns-in_err-i-clause-refused : goal.returns-in_err-i-clause-refused
 returns-in_err-i-clause-refused c =
     let nowhere : place_of c.self.inside.rows.items c.args.spi ≡ None = rw c.deref.ensures.value at c.in_err-i.ensures.1 in
     let first : set_number_refusal c.self.inside.rows.items c.args.spi c.args.number c.args.floor ≡ Some c.in_err-i.field-0.0 =
-        on_nowhere c.self.inside.rows.items c.args.spi _ nowhere ∙ ap (λ (r : SaRefusal). Some r) (sym c.in_err-i.ensures.0) in
+    on_nowhere c.self.inside.rows.items c.args.spi _ nowhere ∙ ap (λ (r : SaRefusal). Some r) (sym c.in_err-i.ensures.0) in
     rw (← c.self.view_is, first) (search rules)
 
 pub returns-in_err-judge_set_number-clause-refused : goal.returns-in_err-judge_set_number-clause-refused
 returns-in_err-judge_set_number-clause-refused c =
     let place : place_of c.self.inside.rows.items c.args.spi ≡ Some c.in_ok-i.i = rw c.deref.ensures.value at c.in_ok-i.ensures in
     let first : set_number_refusal c.self.inside.rows.items c.args.spi c.args.number c.args.floor ≡ Some c.in_err-judge_set_number.field-0.0 =
-        on_place c.self.inside.rows.items c.args.spi c.in_ok-i.i c.index.result.now _ place c.index.ensures ∙ sym c.in_err-judge_set_number.ensures in
+    on_place c.self.inside.rows.items c.args.spi c.in_ok-i.i c.index.result.now _ place c.index.ensures ∙ sym c.in_err-judge_set_number.ensures in
     rw (← c.self.view_is, first) (search rules)
 
 pub returns-clause-refused : goal.returns-clause-refused
 returns-clause-refused c =
     let place : place_of c.self.inside.rows.items c.args.spi ≡ Some c.in_ok-i.i = rw c.deref.ensures.value at c.in_ok-i.ensures in
     let first : set_number_refusal c.self.inside.rows.items c.args.spi c.args.number c.args.floor ≡ None =
-        on_place c.self.inside.rows.items c.args.spi c.in_ok-i.i c.index.result.now _ place c.index.ensures ∙ sym c.in_ok-judge_set_number.ensures in
+    on_place c.self.inside.rows.items c.args.spi c.in_ok-i.i c.index.result.now _ place c.index.ensures ∙ sym c.in_ok-judge_set_number.ensures in
     rw (← c.self.view_is) (sym first)
 
 pub invariant_of-self : goal.invariant_of-self

@@ -15,7 +15,7 @@ pub returns-in_err-i-clause-refused : goal.returns-in_err-i-clause-refused
 returns-in_err-i-clause-refused c =
     let nowhere : place_of c.self.inside.rows.items c.args.spi ≡ None = rw c.deref.ensures.value at c.in_err-i.ensures.1 in
     let first : set_window_refusal c.self.inside.rows.items c.args.spi ≡ Some c.in_err-i.field-0.0 =
-        on_nowhere c.self.inside.rows.items c.args.spi _ nowhere ∙ ap (λ (r : SaRefusal). Some r) (sym c.in_err-i.ensures.0) in
+    on_nowhere c.self.inside.rows.items c.args.spi _ nowhere ∙ ap (λ (r : SaRefusal). Some r) (sym c.in_err-i.ensures.0) in
     rw (← c.self.view_is, first) (search rules)
 
 pub returns-clause-refused : goal.returns-clause-refused
