@@ -180,7 +180,7 @@ impl SaBook {
     {
         let i = judging::known_place(&self.rows, spi);
         let row = &mut self.rows[i];
-        row.window.high = number;
+        row.window.accept(number);
     }
 
     /// The next number of a receiving association that has a key: the one after the highest accepted.
