@@ -1,5 +1,5 @@
 -- The keys of a range of identifiers.
-use Rattle.std.proofs.Common.{◌&&◌, nat_le, sym, subst, ℕ, ◌≤◌, ◌+◌, Bool, true, false, cond, List, [], ◌∷◌, length, arith}
+use Rattle.std.proofs.Common.{◌&&◌, nat_le, sym, subst, ℕ, ◌≤◌, Bool, true, false, cond, List, [], ◌∷◌, length, arith}
 use Rattle.std.specs.List.{filter}
 use Rattle.std.proofs.lemmas.List.{length-map}
 use Rattle.key_book.specs.declared.key_row.KeyRow.{KeyRow}

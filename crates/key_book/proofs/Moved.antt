@@ -1,10 +1,9 @@
 -- Keys that take a state: what that leaves of the rules, and how it is judged.
-use Rattle.std.proofs.Common.{append-nil, ◌≡◌, ◌≢◌, ℕ, ◌+◌, ◌<◌, ◌≤◌, min, Bool, true, false, cond, nat_eq, not, ◌&&◌, ◌||◌, List, [], ◌∷◌, ◌++◌, length, get_or, take, drop, map, Option, Some, None, sym, refl, ap, ◌∙◌, subst, inl, inr, ⊎_elim, ◌⊎◌, arith, rules}
-use Rattle.std.specs.List.{find, list_any, filter, All, AllPairs}
+use Rattle.std.proofs.Common.{append-nil, ◌≡◌, ◌≢◌, ℕ, ◌+◌, ◌<◌, ◌≤◌, min, Bool, true, false, cond, nat_eq, not, ◌||◌, List, [], ◌∷◌, ◌++◌, length, get_or, take, drop, map, Option, Some, None, sym, refl, ap, ◌∙◌, subst, ⊎_elim, arith}
+use Rattle.std.specs.List.{list_any, filter}
 use Rattle.std.specs.Option.{option_map, option_map_or, option_or}
 use Rattle.std.proofs.lemmas.Bool.{cases_eq, false≢true}
-use Rattle.std.proofs.lemmas.Bool.Decides.{nat_tests}
-use Rattle.std.proofs.lemmas.List.{length-map, get_or-map, get_or_default, map-append, at_drop_more, take_more}
+use Rattle.std.proofs.lemmas.List.{length-map, get_or_default, map-append, at_drop_more, take_more}
 use Rattle.std.proofs.lemmas.List.Elements.{All-map, filter_more}
 use Rattle.std.proofs.lemmas.List.Folds.{list_any-append, map_fixed}
 use Rattle.std.proofs.lemmas.List.Quantifiers.{position-Some}
@@ -17,7 +16,7 @@ use Rattle.key_book.specs.declared.key_refusal.KeyRefusal.TheVariants.{WrongStat
 use Rattle.key_book.specs.KeyRow.{HasBytes, IsKeyRow, in_state, bytes_in}
 use Rattle.key_book.specs.KeyBook.{AreKeyRows, IsKeyBook, row_of, place_of}
 use Rattle.key_book.specs.KeyRefusal.{refuse_if}
-use Rattle.key_book.specs.Moves.{is_next, least, lowest_holder, in_use_refusal, state_refusal, move_refusal, moved, moves_refusal}
+use Rattle.key_book.specs.Moves.{is_next, least, lowest_holder, state_refusal, move_refusal, moved, moves_refusal}
 use Rattle.key_book.proofs.Lists.{find_placed, find_nowhere, find_none, find-map, chosen, left_out, pairs_map}
 use Rattle.key_book.proofs.Rows.{same_number, eqb-same, other_identifier}
 

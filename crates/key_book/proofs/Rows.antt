@@ -1,32 +1,27 @@
 -- What the changes leave of the rules of the rows.
-use Rattle.std.proofs.Common.{◌≡◌, ◌≢◌, ℕ, ◌+◌, ◌<◌, ◌≤◌, max, Bool, true, false, cond, eqb, ltb, nat_eq, not, ◌&&◌, ◌||◌, List, [], ◌∷◌, ◌++◌, length, get_or, set, take, drop, map, Option, Some, None, IsSome, IsNone, is_some, sym, refl, ap, ◌∙◌, subst, inl, inr, ⊎_elim, ◌⊎◌, append_assoc, lit≤, ◌^◌, arith, rules}
-use Rattle.std.specs.List.{find, position, list_any, All, AllPairs}
+use Rattle.std.proofs.Common.{◌≡◌, ◌≢◌, ℕ, ◌+◌, ◌<◌, ◌≤◌, max, Bool, true, false, cond, nat_eq, List, [], ◌∷◌, ◌++◌, length, get_or, set, take, drop, map, Option, Some, None, IsSome, is_some, sym, refl, ap, ◌∙◌, subst, inl, inr, ⊎_elim, ◌⊎◌, append_assoc, lit≤, ◌^◌, arith, rules}
 use Rattle.std.specs.Option.{option_map, option_or}
 use Rattle.std.specs.Str.{bytes_eq}
-use Rattle.std.proofs.lemmas.Grind.{common_steps}
 use Rattle.std.proofs.lemmas.Bool.{cases_eq, cases_lt, false≢true}
 use Rattle.std.proofs.lemmas.Bool.Decides.{nat_tests}
 use Rattle.std.proofs.lemmas.List.{length-take, get_or-take, map_more, length-map, get_or-map, get_or_default, at_drop_more, length_push, get_or-set_same, get_or-set_other, same_lists, length-set}
-use Rattle.std.proofs.lemmas.List.Elements.{All-set, All-push, All-map}
+use Rattle.std.proofs.lemmas.List.Elements.{All-set, All-push}
 use Rattle.std.proofs.lemmas.List.Quantifiers.{position-Some, all_pairs_push}
 use Rattle.std.proofs.lemmas.Slice.Eq.{bytes_eq-Decides}
 use Rattle.sha2.specs.Sha256.{sha256}
 use Rattle.sdls_base.specs.KeyId.{end_of}
 use Rattle.sdls_base.specs.declared.TheConstants.{MOST_KEYS}
 use Rattle.sdls_base.specs.declared.key_item.KeyItem.{KeyItem}
-use Rattle.sdls_base.specs.declared.states.KeyState.{KeyState}
-use Rattle.sdls_base.specs.declared.states.KeyState.TheVariants.{PreActive, Active, Deactivated, Destroyed}
 use Rattle.key_book.specs.declared.key_row.KeyRow.{KeyRow}
-use Rattle.key_book.specs.KeyRow.{IsKeyLength, HasBytes, IsKeyRow, new_row, in_state, bytes_in}
+use Rattle.key_book.specs.KeyRow.{IsKeyLength, IsKeyRow, new_row}
 use Rattle.key_book.specs.KeyBook.{AreKeyRows, IsKeyBook, MayFollow, row_of, place_of, changed}
 use Rattle.key_book.specs.KeyRefusal.{refuse_if, key_refusal, items_refusal, row_with, place_with}
-use Rattle.key_book.specs.Moves.{is_next, moved, move_refusal, moves_refusal, lowest_holder, state_refusal}
 use Rattle.sdls_base.specs.KeyId.{class_of, end_of_class}
 use Rattle.sdls_base.specs.declared.key_id.KeyClass.{KeyClass}
 use Rattle.sdls_base.specs.declared.key_id.KeyClass.TheVariants.{Master, Gcm, Cmac}
 use Rattle.key_book.specs.declared.key_refusal.KeyRefusal.{KeyRefusal}
 use Rattle.key_book.specs.declared.key_refusal.KeyRefusal.TheVariants.{AlreadyLoaded, DuplicateKey}
-use Rattle.key_book.proofs.Lists.{find_place, find_placed, find_nowhere, find_none, find-map, is_some-find, chosen, left_out, pairs_map, pairs_set}
+use Rattle.key_book.proofs.Lists.{find_placed, find_nowhere, find_none, is_some-find, chosen, left_out, pairs_set}
 
 pub same_number : (a b : ℕ) → nat_eq a b ≡ true → a ≡ b
 same_number a b h = grind (arith, nat_tests)

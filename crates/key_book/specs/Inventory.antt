@@ -1,5 +1,5 @@
 -- The inventory of keys (CCSDS 355.1-B, key inventory; bounds profile).
-use Rattle.std.specs.Prelude.{◌≡◌, ℕ, Bool, ◌&&◌, nat_le, List, length, map, filter, take, IsPermutation}
+use Rattle.std.specs.Prelude.{◌≡◌, ℕ, ◌&&◌, nat_le, List, length, map, filter, take, IsPermutation}
 use Rattle.std.specs.List.Sorted.{IsNonDecreasingBy}
 use Rattle.sdls_base.specs.declared.states.KeyState.{KeyState}
 use Rattle.key_book.specs.declared.inventory.Inventory.{Inventory}

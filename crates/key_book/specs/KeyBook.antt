@@ -1,5 +1,5 @@
 -- The rows of a book of keys, in the order of loading (profile).
-use Rattle.std.specs.Prelude.{◌≡◌, ◌≢◌, ℕ, ◌+◌, ◌≤◌, Bool, ◌==◌, if◌then◌else◌, List, length, map, Option, position, All, AllPairs}
+use Rattle.std.specs.Prelude.{◌≢◌, ℕ, ◌+◌, ◌≤◌, ◌==◌, if◌then◌else◌, List, length, map, Option, position, All, AllPairs}
 use Rattle.std.specs.List.{find}
 use Rattle.sdls_base.specs.declared.TheConstants.{MOST_KEYS}
 use Rattle.key_book.specs.declared.key_row.KeyRow.{KeyRow}

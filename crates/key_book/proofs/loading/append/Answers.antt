@@ -1,6 +1,4 @@
-use Rattle.std.proofs.Common.{rules, arith, ◌≡◌, ◌≢◌, ℕ, ◌+◌, ◌<◌, ◌≤◌, max, Bool, true, false, nat_eq, nat_lt, List, [], ◌∷◌, ◌++◌, length, get_or, set, map, take, drop, Option, Some, None, IsSome, is_some, sym, refl, ap, ◌∙◌, subst}
-use Rattle.std.proofs.Common.{append_assoc}
-use Rattle.std.proofs.lemmas.List.{map_more}
+use Rattle.std.proofs.Common.{◌≡◌, List, [], ◌∷◌, ◌++◌, length, None, sym, ap, ◌∙◌, subst}
 use Rattle.sha2.specs.Sha256.{sha256}
 use Rattle.sdls_base.specs.declared.key_item.KeyItem.{KeyItem}
 use Rattle.key_book.specs.declared.key_row.KeyRow.{KeyRow}

@@ -1,4 +1,4 @@
-use Rattle.std.proofs.Common.{rules, arith, ◌≡◌, ◌≢◌, ℕ, ◌+◌, ◌<◌, ◌≤◌, max, Bool, true, false, nat_eq, nat_lt, List, [], ◌∷◌, ◌++◌, length, get_or, set, map, take, drop, Option, Some, None, IsSome, is_some, sym, refl, ap, ◌∙◌, subst}
+use Rattle.std.proofs.Common.{◌≡◌, true, false, is_some, sym}
 use Rattle.key_book.specs.KeyBook.{place_of}
 use Rattle.key_book.proofs.Rows.{key_refusal-taken, key_refusal-twin, key_refusal-none}
 use Rattle.key_book.proofs.loading.judge.Goals as goal

@@ -1,9 +1,9 @@
-use Rattle.std.proofs.Common.{rules, arith, ◌≡◌, ◌≢◌, ℕ, ◌+◌, ◌<◌, ◌≤◌, max, Bool, true, false, nat_eq, nat_lt, List, [], ◌∷◌, ◌++◌, length, get_or, set, map, take, drop, Option, Some, None, IsSome, is_some, sym, refl, ap, ◌∙◌, subst}
+use Rattle.std.proofs.Common.{◌≡◌, true, false, nat_eq, Some, sym, ap, ◌∙◌}
 use Rattle.std.specs.List.{list_any}
 use Rattle.sdls_base.specs.declared.states.KeyState.{KeyState}
 use Rattle.key_book.specs.declared.key_row.KeyRow.{KeyRow}
 use Rattle.key_book.specs.KeyBook.{place_of}
-use Rattle.key_book.specs.Moves.{moved, move_refusal, state_refusal, lowest_holder}
+use Rattle.key_book.specs.Moves.{state_refusal, lowest_holder}
 use Rattle.key_book.proofs.Moved.{move_refusal-unknown, move_refusal-first, move_refusal-again}
 use Rattle.key_book.proofs.moves.judge_move.Goals as goal
 use Rattle.key_book.proofs.moves.judge_move.Goals.{then-contains, else-contains}

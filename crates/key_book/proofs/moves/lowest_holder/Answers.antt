@@ -1,4 +1,4 @@
-use Rattle.std.proofs.Common.{rules, arith, ◌≡◌, ◌≢◌, ℕ, ◌+◌, ◌<◌, ◌≤◌, max, Bool, true, false, nat_eq, nat_lt, List, [], ◌∷◌, ◌++◌, length, get_or, set, map, take, drop, Option, Some, None, IsSome, is_some, sym, refl, ap, ◌∙◌, subst}
+use Rattle.std.proofs.Common.{◌≡◌, true, false, nat_eq}
 use Rattle.key_book.proofs.Moved.{lowest_holder-takes, lowest_holder-passes}
 use Rattle.key_book.proofs.moves.lowest_holder.Goals as goal
 use Rattle.key_book.proofs.moves.lowest_holder.Goals.{then-eq, else-eq}

@@ -1,8 +1,7 @@
-use Rattle.std.proofs.Common.{rules, arith, ◌≡◌, ◌≢◌, ℕ, ◌+◌, ◌<◌, ◌≤◌, max, Bool, true, false, nat_eq, nat_lt, List, [], ◌∷◌, ◌++◌, length, get_or, set, map, take, drop, Option, Some, None, IsSome, is_some, sym, refl, ap, ◌∙◌, subst}
+use Rattle.std.proofs.Common.{◌≡◌, true, false, nat_eq, get_or, set, sym, ap, ◌∙◌}
 use Rattle.std.specs.List.{list_any}
 use Rattle.std.proofs.lemmas.List.Edits.{map_over_more}
 use Rattle.key_book.specs.declared.key_row.KeyRow.{KeyRow}
-use Rattle.key_book.specs.KeyRow.{in_state}
 use Rattle.key_book.proofs.Moved.{moved_row, moved_row-in, moved_row-out}
 use Rattle.key_book.proofs.moves.move_rows.Goals as goal
 use Rattle.key_book.proofs.moves.move_rows.Goals.{then-contains, else-contains}

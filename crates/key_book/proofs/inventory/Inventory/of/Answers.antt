@@ -1,4 +1,4 @@
-use Rattle.std.proofs.Common.{rules, arith, ◌≡◌, ◌≢◌, ℕ, ◌+◌, ◌<◌, ◌≤◌, max, Bool, true, false, nat_eq, nat_lt, List, [], ◌∷◌, ◌++◌, length, get_or, set, map, take, drop, Option, Some, None, IsSome, is_some, sym, refl, ap, ◌∙◌, subst}
+use Rattle.std.proofs.Common.{rules, arith, length, ap, ◌∙◌, subst}
 use Rattle.std.proofs.Common.{IsPermutation}
 use Rattle.std.proofs.lemmas.List.Sorted.{IsNonDecreasingBy-from_sort_by_key}
 use Rattle.key_book.proofs.Listed.{length-listed}

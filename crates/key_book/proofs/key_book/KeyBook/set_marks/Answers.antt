@@ -1,4 +1,4 @@
-use Rattle.std.proofs.Common.{◌≡◌, max, Some}
+use Rattle.std.proofs.Common.{◌≡◌, Some}
 use Rattle.key_book.specs.declared.key_row.KeyRow.{KeyRow}
 use Rattle.key_book.specs.KeyBook.{place_of}
 use Rattle.key_book.proofs.Rows.{IsKeyBook-set_marks, set-changed}

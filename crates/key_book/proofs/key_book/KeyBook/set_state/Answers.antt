@@ -1,4 +1,4 @@
-use Rattle.std.proofs.Common.{rules, arith, ◌≡◌, ◌≢◌, ℕ, ◌+◌, ◌<◌, ◌≤◌, max, Bool, true, false, nat_eq, nat_lt, List, [], ◌∷◌, ◌++◌, length, get_or, set, map, take, drop, Option, Some, None, IsSome, is_some, sym, refl, ap, ◌∙◌, subst}
+use Rattle.std.proofs.Common.{◌≡◌, None}
 use Rattle.key_book.specs.Moves.{moves_refusal}
 use Rattle.key_book.proofs.Moved.{IsKeyBook-moved}
 use Rattle.key_book.proofs.key_book.KeyBook.set_state.Goals as goal
