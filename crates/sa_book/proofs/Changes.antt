@@ -1,6 +1,6 @@
 -- What each change of a row leaves of the rules.
-use Rattle.std.proofs.Common.{◌≡◌, ◌≢◌, ℕ, ◌+◌, ◌-◌, ◌<◌, ◌≤◌, ◌^◌, ◌↔◌, lit≤, Bool, true, false, cond, not, ◌&&◌, ◌||◌, nat_eq, nat_lt, nat_le, List, [], ◌∷◌, ◌++◌, length, get_or, set, Option, Some, None, IsSome, IsNone, IfSome, is_some, sym, refl, ap, ◌∙◌, subst, inl, inr, ⊎_elim, ◌⊎◌, arith, rules}
-use Rattle.std.specs.List.{find, list_any, All, Contains}
+use Rattle.std.proofs.Common.{◌≡◌, ℕ, ◌+◌, ◌<◌, ◌≤◌, ◌^◌, ◌↔◌, lit≤, Bool, true, false, not, ◌&&◌, nat_eq, nat_le, List, [], ◌∷◌, length, get_or, set, Option, Some, None, IsNone, is_some, sym, refl, ap, ◌∙◌, subst, arith}
+use Rattle.std.specs.List.{list_any, Contains}
 use Rattle.std.specs.Option.{option_map, SomeIff}
 use Rattle.std.proofs.lemmas.Bool.{false≢true}
 use Rattle.std.proofs.lemmas.Option.{same_Some}
@@ -18,15 +18,15 @@ use Rattle.sdls_base.specs.declared.states.KeyState.{KeyState}
 use Rattle.sdls_base.specs.declared.states.SaState.{SaState}
 use Rattle.sdls_base.specs.declared.states.SaState.TheVariants.{Unkeyed, Keyed, Operational}
 use Rattle.replay_window.specs.declared.window.Window.{Window}
-use Rattle.replay_window.specs.Window.{IsWidth, IsFresh}
+use Rattle.replay_window.specs.Window.{IsWidth}
 use Rattle.sa_book.specs.declared.sa_row.SaRow.{SaRow}
 use Rattle.sa_book.specs.declared.sa_refusal.SaRefusal.{SaRefusal}
-use Rattle.sa_book.specs.declared.sa_refusal.SaRefusal.TheVariants.{SpiTaken, UnknownChannel, TableFull, WrongSuite, PastEnd}
+use Rattle.sa_book.specs.declared.sa_refusal.SaRefusal.TheVariants.{SpiTaken, UnknownChannel, TableFull, WrongSuite}
 use Rattle.sa_book.specs.SaRow.{IsSaRow, HasHigh, following, with_key, without_key, new_row, AreChannels, MayAccept}
-use Rattle.sa_book.specs.SaBook.{IsSaBook, AreApart, row_of, place_of, covers, is_operational, is_same_direction, with_row}
+use Rattle.sa_book.specs.SaBook.{IsSaBook, row_of, place_of, covers, is_operational, is_same_direction, with_row}
 use Rattle.sa_book.specs.SaRefusal.{first_of, refuse_if, unless_unkeyed, unless_keyed, unless_operational, unless_active, if_unkeyed, is_same_class, is_receiving, is_key, taken_key, receives_with, receiver_with, number_refusal, number_refusal_of, key_refusal, rival_of, taken_channel, create_refusal, first_unknown}
 use Rattle.sa_book.proofs.Lists.{find_none, is_some-find}
-use Rattle.sa_book.proofs.Rows.{Agree, IsSaBook-set, IsSaBook-insert, rules_at}
+use Rattle.sa_book.proofs.Rows.{IsSaBook-set, IsSaBook-insert, rules_at}
 
 -- what no refusal says
 

@@ -1,8 +1,8 @@
 -- Rows by their place, and what a write, an insertion and a removal leave of the rules.
-use Rattle.std.proofs.Common.{◌≡◌, ◌≢◌, ℕ, zero, suc, ◌+◌, ◌-◌, ◌<◌, ◌≤◌, Bool, true, false, cond, not, ◌&&◌, ◌||◌, nat_eq, nat_lt, List, [], ◌∷◌, ◌++◌, length, get_or, set, take, drop, map, Option, Some, None, IsSome, IsSomeAnd, IsNone, is_some, sym, refl, ap, ◌∙◌, subst, inl, inr, ⊎_elim, ◌⊎◌, arith, rules}
-use Rattle.std.specs.List.{find, filter, insert, remove, position, position_or_len, All, AllPairs, Contains}
-use Rattle.std.specs.Option.{option_map_or, unwrap_or}
-use Rattle.std.proofs.lemmas.Bool.{cases_eq, cases_lt, false≢true}
+use Rattle.std.proofs.Common.{◌≡◌, ◌≢◌, ℕ, zero, suc, ◌+◌, ◌-◌, ◌<◌, ◌≤◌, Bool, true, false, cond, not, nat_eq, nat_lt, List, [], ◌∷◌, ◌++◌, length, get_or, set, take, drop, map, Option, Some, None, IsSome, IsSomeAnd, sym, refl, ap, ◌∙◌, subst, inl, inr, ⊎_elim, ◌⊎◌, arith, rules}
+use Rattle.std.specs.List.{filter, insert, remove, position, position_or_len, AllPairs, Contains}
+use Rattle.std.specs.Option.{unwrap_or}
+use Rattle.std.proofs.lemmas.Bool.{cases_eq, cases_lt}
 use Rattle.std.proofs.lemmas.Bool.Decides.{nat_tests}
 use Rattle.std.proofs.lemmas.List.{length-take, get_or-take, length-map, get_or-map, get_or_default, get_or-set_same, get_or-set_other, same_lists, length-set, length_push}
 use Rattle.std.proofs.lemmas.List.Edits.{length-insert, get_or-insert_below, get_or-insert_at, get_or-insert_above, length-remove}
@@ -10,8 +10,8 @@ use Rattle.std.proofs.lemmas.List.Elements.{All-set, All-push, All-append, All-c
 use Rattle.std.proofs.lemmas.List.Sums.{prefix_len-le-length, fails_before_first, passes_at_first}
 use Rattle.std.proofs.lemmas.List.Quantifiers.{position-Some, all_pairs_push, all_pairs_remove}
 use Rattle.sdls_base.specs.declared.TheConstants.{MOST_ASSOCIATIONS}
-use Rattle.sdls_base.specs.declared.states.Direction.TheVariants.{Send, Receive}
-use Rattle.sdls_base.specs.declared.states.SaState.TheVariants.{Unkeyed, Keyed, Operational}
+use Rattle.sdls_base.specs.declared.states.Direction.TheVariants.{Receive}
+use Rattle.sdls_base.specs.declared.states.SaState.TheVariants.{Operational}
 use Rattle.sa_book.specs.declared.sa_row.SaRow.{SaRow}
 use Rattle.sa_book.specs.declared.sa_refusal.SaRefusal.{SaRefusal}
 use Rattle.sa_book.specs.declared.sa_refusal.SaRefusal.TheVariants.{UnknownSpi}

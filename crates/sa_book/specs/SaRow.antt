@@ -6,7 +6,6 @@ use Rattle.sdls_base.specs.Suite.{class_of_suite}
 use Rattle.sdls_base.specs.declared.change.NewSa.{NewSa}
 use Rattle.sdls_base.specs.declared.states.Direction.{Direction}
 use Rattle.sdls_base.specs.declared.states.Direction.TheVariants.{Send, Receive}
-use Rattle.sdls_base.specs.declared.states.SaState.{SaState}
 use Rattle.sdls_base.specs.declared.states.SaState.TheVariants.{Unkeyed, Keyed, Operational}
 use Rattle.replay_window.specs.declared.window.Window.{Window}
 use Rattle.replay_window.specs.Window.{IsWidth, IsFresh}

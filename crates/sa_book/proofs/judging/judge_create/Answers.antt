@@ -1,5 +1,4 @@
-use Rattle.std.proofs.Common.{◌≡◌, ◌≤◌, ◌<◌, length, true, false, is_some, Some, None, sym, ap, ◌∙◌}
-use Rattle.sdls_base.specs.declared.TheConstants.{MOST_ASSOCIATIONS}
+use Rattle.std.proofs.Common.{◌≡◌, true, false, is_some, Some, None, sym, ◌∙◌}
 use Rattle.sa_book.specs.SaBook.{place_of}
 use Rattle.sa_book.specs.SaRefusal.{first_unknown}
 use Rattle.sa_book.proofs.Changes.{create_refusal-taken, create_refusal-unknown, create_refusal-full, create_refusal-none}

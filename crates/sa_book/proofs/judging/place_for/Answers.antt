@@ -1,4 +1,4 @@
-use Rattle.std.proofs.Common.{ap, ◌∙◌, nat_lt, length, ◌≡◌}
+use Rattle.std.proofs.Common.{ap, ◌∙◌, nat_lt, length}
 use Rattle.std.specs.Option.{unwrap_or}
 use Rattle.sa_book.specs.declared.sa_row.SaRow.{SaRow}
 use Rattle.sa_book.proofs.Rows.{or_end}

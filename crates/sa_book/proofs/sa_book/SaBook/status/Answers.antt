@@ -1,16 +1,5 @@
-use Rattle.std.proofs.Common.{rules, arith, ◌≡◌, ℕ, ◌+◌, ◌<◌, List, [], ◌∷◌, length, get_or, Option, Some, None, sym, refl, ap, ◌∙◌, subst}
-use Rattle.std.specs.Result.{result_err}
-use Rattle.sdls_base.specs.declared.states.SaState.TheVariants.{Unkeyed, Keyed, Operational}
-use Rattle.sa_book.specs.declared.sa_row.SaRow.{SaRow}
-use Rattle.sa_book.specs.declared.sa_refusal.SaRefusal.{SaRefusal}
-use Rattle.sa_book.specs.declared.sa_refusal.SaRefusal.TheVariants.{UnknownSpi}
-use Rattle.sa_book.specs.SaRow.{following, with_key, without_key}
+use Rattle.std.proofs.Common.{rules, ◌≡◌, Some, None}
 use Rattle.sa_book.specs.SaBook.{place_of, row_of}
-use Rattle.sa_book.specs.SaRefusal.{first_of, unless_unkeyed, unless_keyed, unless_operational, if_unkeyed, key_refusal, rival_of, taken_channel, number_refusal_of, rekey_refusal, start_refusal, stop_refusal, expire_refusal, delete_refusal, set_number_refusal, set_window_refusal, read_number_refusal}
-use Rattle.sa_book.proofs.Rows.{on_place, on_nowhere, within_place, same_read, set-changed, remove-without, IsSaBook-remove}
-use Rattle.sa_book.proofs.Changes.{IsSaBook-start, IsSaBook-stop, IsSaBook-expire, IsSaBook-rekey, IsSaBook-set_number, IsSaBook-set_window, IsSaBook-accept, next_fits}
-use Rattle.std.proofs.lemmas.Result.{IfErr-at_err}
-use Rattle.sa_book.proofs.Lists.{find_nowhere}
 use Rattle.sa_book.proofs.Rows.{row_of_placed, nowhere_row}
 use Rattle.sa_book.proofs.sa_book.SaBook.status.Goals as goal
 
