@@ -43,6 +43,7 @@ fn put_keys(out: &mut Vec<u8>, keys: &KeyList) -> Result<(), NoMemory>
     Ok(())
 }
 
+#[tactic(auto, using(crate::proofs::Lengths::keys_length))]
 fn keys_message(alloc: Global, tag: u8, keys: &KeyList) -> Result<Vec<u8>, NoMemory>
     requires { IsTrue (is_in_range 1 8 (length keys.now)) }
     ensures { IfOk result (λ out. out.items ≡ message tag (keys_data keys.now)) }
@@ -118,6 +119,7 @@ fn inventory_message(alloc: Global, tag: u8, first: u16, last: u16) -> Result<Ve
     Ok(out)
 }
 
+#[tactic(auto, using(crate::proofs::Lengths::keys_length))]
 fn compose_message(alloc: Global, tag: u8, master: KeyId, keys: &KeyList) -> Result<Vec<u8>, NoMemory>
     requires { IsTrue (is_in_range 1 8 (length keys.now)) }
     ensures { IfOk result (λ out. out.items ≡ message tag (to_be_bytes w16 master ++ keys_data keys.now)) }

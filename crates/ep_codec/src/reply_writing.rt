@@ -11,7 +11,7 @@ use crate::command_writing::{number_message, put_sealed, sealed_message};
 use crate::procedure::Procedure;
 use crate::reply_pdu::ReplyPdu;
 use crate::writing::{begin, put_double_word, put_number, put_word};
-use sdls_base::{Direction, KeyId, KeyRows, NoMemory, Octets, SaState, Spi, Suite};
+use sdls_base::{Direction, KeyId, KeyRows, KeyState, NoMemory, Octets, SaState, Spi, Suite};
 use std::alloc::Global;
 
 /// The type bit of a reply's tag.
@@ -40,16 +40,25 @@ fn cmac_message(alloc: Global, tag: u8, key: KeyId, number: u32, mac: &[u8; 16])
     Ok(out)
 }
 
+fn put_row(out: &mut Vec<u8>, row: &(KeyId, KeyState)) -> Result<(), NoMemory>
+    ensures { OnOk result (out.new.items ≡ out.old.items ++ row_octets row.now) }
+{
+    let (key, state) = row;
+    put_word(out, key.get())?;
+    out.push(*state as u8)?;
+    Ok(())
+}
+
 fn put_rows(out: &mut Vec<u8>, rows: &KeyRows) -> Result<(), NoMemory>
     ensures { OnOk result (out.new.items ≡ out.old.items ++ flat_map row_octets rows.now) }
 {
-    for (key, state) in rows.as_slice() {
-        put_word(out, key.get())?;
-        out.push(*state as u8)?;
+    for row in rows.as_slice() {
+        put_row(out, row)?;
     }
     Ok(())
 }
 
+#[tactic(auto, using(crate::proofs::Lengths::rows_length))]
 fn inventory_message(alloc: Global, tag: u8, total: u16, rows: &KeyRows) -> Result<Vec<u8>, NoMemory>
     requires { length rows.now ≤ 256 }
     ensures { IfOk result (λ out. out.items ≡ message tag (to_be_bytes w16 total ++ flat_map row_octets rows.now)) }

@@ -1,0 +1,23 @@
+-- Tests that find no fault, one after the other.
+use Rattle.std.proofs.Common.{◌≡◌, ℕ, Bool, true, false, cond, List, [], ◌∷◌, ◌++◌, Option, Some, None, refl, sym, ◌∙◌}
+use Rattle.ep_codec.specs.Check.{Check, first_fault}
+
+-- a test that finds none is passed over
+pub passed : (check : Check) (checks : List Check) → first_fault (check ∷ []) ≡ None → first_fault (check ∷ checks) ≡ first_fault checks
+passed (true, offset) checks none = absurd cc
+passed (false, offset) checks none = refl
+
+-- where none finds a fault, the first does not, and the others do not
+pub first_passed : (test : Bool) (offset : ℕ) (checks : List Check) → first_fault ((test, offset) ∷ checks) ≡ None → test ≡ false
+first_passed true offset checks none = absurd cc
+first_passed false offset checks none = refl
+
+pub others_passed : (test : Bool) (offset : ℕ) (checks : List Check) → first_fault ((test, offset) ∷ checks) ≡ None → first_fault checks ≡ None
+others_passed true offset checks none = absurd cc
+others_passed false offset checks none = none
+
+-- six tests, or lists of them, that find none
+pub six_passed : (a b c d e : Check) (rest : List Check) → first_fault (a ∷ []) ≡ None → first_fault (b ∷ []) ≡ None → first_fault (c ∷ []) ≡ None
+    → first_fault (d ∷ []) ≡ None → first_fault (e ∷ []) ≡ None → first_fault rest ≡ None → first_fault (a ∷ b ∷ c ∷ d ∷ e ∷ rest) ≡ None
+six_passed a b c d e rest p q r s t u =
+    passed a (b ∷ c ∷ d ∷ e ∷ rest) p ∙ passed b (c ∷ d ∷ e ∷ rest) q ∙ passed c (d ∷ e ∷ rest) r ∙ passed d (e ∷ rest) s ∙ passed e rest t ∙ u
