@@ -15,13 +15,22 @@ pub enum Command {
     /// Makes keys deactivated.
     Deactivate(KeyList),
     /// Asks for a proof that the unit has a key.
-    Verify { key: KeyId, challenge: [u8; 16] },
+    Verify {
+        key: KeyId,
+        challenge: [u8; 16],
+    },
     /// Destroys keys.
     Destroy(KeyList),
     /// Asks for the states of the keys from `first` to `last`.
-    Inventory { first: u16, last: u16 },
+    Inventory {
+        first: u16,
+        last: u16,
+    },
     /// Asks for a rekeying message for these keys, sealed under a master key.
-    Compose { master: KeyId, keys: KeyList },
+    Compose {
+        master: KeyId,
+        keys: KeyList,
+    },
     /// Asks for the next number of an association.
     ReadNumber(Spi),
     /// Creates an association.
@@ -29,13 +38,23 @@ pub enum Command {
     /// Deletes an association.
     Delete(Spi),
     /// Sets the width of an association's anti-replay window.
-    SetWindow { spi: Spi, window: u64 },
+    SetWindow {
+        spi: Spi,
+        window: u64,
+    },
     /// Gives an association a key, with the first number that it may use or accept.
-    Rekey { spi: Spi, key: KeyId, number: u64 },
+    Rekey {
+        spi: Spi,
+        key: KeyId,
+        number: u64,
+    },
     /// Takes an association's key away.
     Expire(Spi),
     /// Sets the next number of an association.
-    SetNumber { spi: Spi, number: u64 },
+    SetNumber {
+        spi: Spi,
+        number: u64,
+    },
     /// Makes an association operational.
     Start(Spi),
     /// Takes an association out of operation.

@@ -17,6 +17,7 @@ use std::alloc::Global;
 
 /// The octets of a message's vector, and of its tag.
 pub(crate) const VECTOR: usize = 12;
+
 pub(crate) const TAG: usize = 16;
 
 #[tactic(auto, unfolding(crate::specs::MessageFault::command_checks, crate::specs::CommandReading::command_at))]

@@ -101,7 +101,12 @@ fn create_message(alloc: Global, tag: u8, sa: &NewSa) -> Result<Vec<u8>, NoMemor
     Ok(out)
 }
 
-fn verify_message(alloc: Global, tag: u8, key: KeyId, challenge: &[u8; 16]) -> Result<Vec<u8>, NoMemory>
+fn verify_message(
+    alloc: Global,
+    tag: u8,
+    key: KeyId,
+    challenge: &[u8; 16],
+) -> Result<Vec<u8>, NoMemory>
     ensures { IfOk result (λ out. out.items ≡ message tag (to_be_bytes w16 key ++ challenge.now)) }
 {
     let mut out = begin(alloc, tag, 18)?;
@@ -120,7 +125,12 @@ fn inventory_message(alloc: Global, tag: u8, first: u16, last: u16) -> Result<Ve
 }
 
 #[tactic(auto, using(crate::proofs::Lengths::keys_length))]
-fn compose_message(alloc: Global, tag: u8, master: KeyId, keys: &KeyList) -> Result<Vec<u8>, NoMemory>
+fn compose_message(
+    alloc: Global,
+    tag: u8,
+    master: KeyId,
+    keys: &KeyList,
+) -> Result<Vec<u8>, NoMemory>
     requires { IsTrue (is_in_range 1 8 (length keys.now)) }
     ensures { IfOk result (λ out. out.items ≡ message tag (to_be_bytes w16 master ++ keys_data keys.now)) }
 {
@@ -130,7 +140,13 @@ fn compose_message(alloc: Global, tag: u8, master: KeyId, keys: &KeyList) -> Res
     Ok(out)
 }
 
-fn rekey_message(alloc: Global, tag: u8, spi: Spi, key: KeyId, number: u64) -> Result<Vec<u8>, NoMemory>
+fn rekey_message(
+    alloc: Global,
+    tag: u8,
+    spi: Spi,
+    key: KeyId,
+    number: u64,
+) -> Result<Vec<u8>, NoMemory>
     ensures { IfOk result (λ out. out.items ≡ message tag (to_be_bytes w16 spi ++ (to_be_bytes w16 key ++ to_be_bytes w64 number))) }
 {
     let mut out = begin(alloc, tag, 12)?;
@@ -146,22 +162,65 @@ fn octets_of(alloc: Global, command: &Command) -> Result<Vec<u8>, NoMemory>
     ensures { IfOk result (λ out. out.items ≡ command_octets command.now) }
 {
     match command {
-        Command::Rekeying { master, vector, sealed, tag } => {
-            sealed_message(alloc, Procedure::Rekeying.tag(), *master, vector, sealed.as_slice(), tag)
+        Command::Rekeying {
+            master,
+            vector,
+            sealed,
+            tag,
+        } => {
+            sealed_message(
+                alloc,
+                Procedure::Rekeying.tag(),
+                *master,
+                vector,
+                sealed.as_slice(),
+                tag,
+            )
         }
         Command::Activate(keys) => keys_message(alloc, Procedure::Activate.tag(), keys),
         Command::Deactivate(keys) => keys_message(alloc, Procedure::Deactivate.tag(), keys),
-        Command::Verify { key, challenge } => verify_message(alloc, Procedure::Verify.tag(), *key, challenge),
+        Command::Verify { key, challenge } => verify_message(
+            alloc,
+            Procedure::Verify.tag(),
+            *key,
+            challenge,
+        ),
         Command::Destroy(keys) => keys_message(alloc, Procedure::Destroy.tag(), keys),
-        Command::Inventory { first, last } => inventory_message(alloc, Procedure::Inventory.tag(), *first, *last),
-        Command::Compose { master, keys } => compose_message(alloc, Procedure::Compose.tag(), *master, keys),
+        Command::Inventory { first, last } => inventory_message(
+            alloc,
+            Procedure::Inventory.tag(),
+            *first,
+            *last,
+        ),
+        Command::Compose { master, keys } => compose_message(
+            alloc,
+            Procedure::Compose.tag(),
+            *master,
+            keys,
+        ),
         Command::ReadNumber(spi) => spi_message(alloc, Procedure::ReadNumber.tag(), *spi),
         Command::Create(sa) => create_message(alloc, Procedure::Create.tag(), sa),
         Command::Delete(spi) => spi_message(alloc, Procedure::Delete.tag(), *spi),
-        Command::SetWindow { spi, window } => number_message(alloc, Procedure::SetWindow.tag(), *spi, *window),
-        Command::Rekey { spi, key, number } => rekey_message(alloc, Procedure::Rekey.tag(), *spi, *key, *number),
+        Command::SetWindow { spi, window } => number_message(
+            alloc,
+            Procedure::SetWindow.tag(),
+            *spi,
+            *window,
+        ),
+        Command::Rekey { spi, key, number } => rekey_message(
+            alloc,
+            Procedure::Rekey.tag(),
+            *spi,
+            *key,
+            *number,
+        ),
         Command::Expire(spi) => spi_message(alloc, Procedure::Expire.tag(), *spi),
-        Command::SetNumber { spi, number } => number_message(alloc, Procedure::SetNumber.tag(), *spi, *number),
+        Command::SetNumber { spi, number } => number_message(
+            alloc,
+            Procedure::SetNumber.tag(),
+            *spi,
+            *number,
+        ),
         Command::Start(spi) => spi_message(alloc, Procedure::Start.tag(), *spi),
         Command::Stop(spi) => spi_message(alloc, Procedure::Stop.tag(), *spi),
         Command::Status(spi) => spi_message(alloc, Procedure::Status.tag(), *spi),

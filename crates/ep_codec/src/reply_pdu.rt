@@ -29,7 +29,10 @@ pub enum ReplyPdu {
         mac: [u8; 16],
     },
     /// How many keys there are from `first` to `last`, and at most 256 of them with their states.
-    Inventory { total: u16, rows: KeyRows },
+    Inventory {
+        total: u16,
+        rows: KeyRows,
+    },
     /// A rekeying command for the keys that were asked for.
     Compose {
         master: KeyId,
@@ -38,7 +41,10 @@ pub enum ReplyPdu {
         tag: [u8; 16],
     },
     /// The next number of an association.
-    ReadNumber { spi: Spi, number: u64 },
+    ReadNumber {
+        spi: Spi,
+        number: u64,
+    },
     /// An association.
     Status {
         spi: Spi,

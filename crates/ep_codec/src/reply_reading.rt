@@ -9,7 +9,9 @@ ghost use Rattle.ep_codec.specs.Field.{word_at, sealing_key_check, mac_key_check
 
 use crate::command_reading::{TAG, VECTOR};
 use crate::field_lists::rows;
-use crate::fields::{array, direction, double_word, key, number, sa_state, spi, suite, window, word};
+use crate::fields::{
+    array, direction, double_word, key, number, sa_state, spi, suite, window, word,
+};
 use crate::pdu_error::PduError;
 use crate::procedure::Procedure;
 use crate::reply_pdu::ReplyPdu;

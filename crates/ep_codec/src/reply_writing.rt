@@ -30,7 +30,13 @@ fn done_message(alloc: Global, procedure: Procedure) -> Result<Vec<u8>, NoMemory
     begin(alloc, reply_tag(procedure), 0)
 }
 
-fn cmac_message(alloc: Global, tag: u8, key: KeyId, number: u32, mac: &[u8; 16]) -> Result<Vec<u8>, NoMemory>
+fn cmac_message(
+    alloc: Global,
+    tag: u8,
+    key: KeyId,
+    number: u32,
+    mac: &[u8; 16],
+) -> Result<Vec<u8>, NoMemory>
     ensures { IfOk result (λ out. out.items ≡ message tag (to_be_bytes w16 key ++ (to_be_bytes w32 number ++ mac.now))) }
 {
     let mut out = begin(alloc, tag, 22)?;
@@ -59,7 +65,12 @@ fn put_rows(out: &mut Vec<u8>, rows: &KeyRows) -> Result<(), NoMemory>
 }
 
 #[tactic(auto, using(crate::proofs::Lengths::rows_length))]
-fn inventory_message(alloc: Global, tag: u8, total: u16, rows: &KeyRows) -> Result<Vec<u8>, NoMemory>
+fn inventory_message(
+    alloc: Global,
+    tag: u8,
+    total: u16,
+    rows: &KeyRows,
+) -> Result<Vec<u8>, NoMemory>
     requires { length rows.now ≤ 256 }
     ensures { IfOk result (λ out. out.items ≡ message tag (to_be_bytes w16 total ++ flat_map row_octets rows.now)) }
 {
@@ -129,18 +140,63 @@ fn octets_of(alloc: Global, reply: &ReplyPdu) -> Result<Vec<u8>, NoMemory>
         ReplyPdu::SetNumber => done_message(alloc, Procedure::SetNumber),
         ReplyPdu::Start => done_message(alloc, Procedure::Start),
         ReplyPdu::Stop => done_message(alloc, Procedure::Stop),
-        ReplyPdu::VerifyGcm { key, vector, sealed, tag } => {
-            sealed_message(alloc, reply_tag(Procedure::Verify), *key, vector, sealed, tag)
+        ReplyPdu::VerifyGcm {
+            key,
+            vector,
+            sealed,
+            tag,
+        } => {
+            sealed_message(
+                alloc,
+                reply_tag(Procedure::Verify),
+                *key,
+                vector,
+                sealed,
+                tag,
+            )
         }
-        ReplyPdu::VerifyCmac { key, number, mac } => cmac_message(alloc, reply_tag(Procedure::Verify), *key, *number, mac),
-        ReplyPdu::Inventory { total, rows } => inventory_message(alloc, reply_tag(Procedure::Inventory), *total, rows),
-        ReplyPdu::Compose { master, vector, sealed, tag } => {
-            compose_message(alloc, reply_tag(Procedure::Compose), *master, vector, sealed.as_slice(), tag)
+        ReplyPdu::VerifyCmac { key, number, mac } => cmac_message(
+            alloc,
+            reply_tag(Procedure::Verify),
+            *key,
+            *number,
+            mac,
+        ),
+        ReplyPdu::Inventory { total, rows } => inventory_message(
+            alloc,
+            reply_tag(Procedure::Inventory),
+            *total,
+            rows,
+        ),
+        ReplyPdu::Compose {
+            master,
+            vector,
+            sealed,
+            tag,
+        } => {
+            compose_message(
+                alloc,
+                reply_tag(Procedure::Compose),
+                *master,
+                vector,
+                sealed.as_slice(),
+                tag,
+            )
         }
-        ReplyPdu::ReadNumber { spi, number } => number_message(alloc, reply_tag(Procedure::ReadNumber), *spi, *number),
-        ReplyPdu::Status { spi, state, direction, suite, key, window } => {
-            status_message(alloc, *spi, *state, *direction, *suite, *key, *window)
-        }
+        ReplyPdu::ReadNumber { spi, number } => number_message(
+            alloc,
+            reply_tag(Procedure::ReadNumber),
+            *spi,
+            *number,
+        ),
+        ReplyPdu::Status {
+            spi,
+            state,
+            direction,
+            suite,
+            key,
+            window,
+        } => { status_message(alloc, *spi, *state, *direction, *suite, *key, *window) }
     }
 }
 

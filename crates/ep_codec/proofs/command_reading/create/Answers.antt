@@ -17,7 +17,8 @@ returns c =
     let d = c.in_ok-direction.ensures.1 in
     let t = c.in_ok-suite.ensures.1 in
     let w = c.in_ok-window.ensures.1 in
-    let h = channels.1 in
-    (six_passed (spi_check 3 o) (code_check 2 5 o) (code_check 2 6 o) (window_check 7 o) (count_check 15 o) (channel_checks 16 0 (drop 16 o))
-      c.in_ok-spi.ensures.0 c.in_ok-direction.ensures.0 c.in_ok-suite.ensures.0 c.in_ok-window.ensures.0 c.in_ok-count.ensures.0 channels.0,
-    cc)
+    let h = channels.1 in (
+      six_passed (spi_check 3 o) (code_check 2 5 o) (code_check 2 6 o) (window_check 7 o) (count_check 15 o) (channel_checks 16 0 (drop 16 o))
+          c.in_ok-spi.ensures.0 c.in_ok-direction.ensures.0 c.in_ok-suite.ensures.0 c.in_ok-window.ensures.0 c.in_ok-count.ensures.0 channels.0,
+      cc,
+    )
