@@ -1,3 +1,6 @@
 pub mod Faults
+pub mod FieldFacts
+pub mod HeaderFacts
 pub mod Lengths
+pub mod ListFacts
 pub mod Lists
