@@ -21,3 +21,26 @@ pub six_passed : (a b c d e : Check) (rest : List Check) → first_fault (a ∷ 
     → first_fault (d ∷ []) ≡ None → first_fault (e ∷ []) ≡ None → first_fault rest ≡ None → first_fault (a ∷ b ∷ c ∷ d ∷ e ∷ rest) ≡ None
 six_passed a b c d e rest p q r s t u =
     passed a (b ∷ c ∷ d ∷ e ∷ rest) p ∙ passed b (c ∷ d ∷ e ∷ rest) q ∙ passed c (d ∷ e ∷ rest) r ∙ passed d (e ∷ rest) s ∙ passed e rest t ∙ u
+
+-- tests after others that find no fault
+pub passed_append : (front back : List Check) → first_fault front ≡ None → first_fault (front ++ back) ≡ first_fault back
+passed_append [] back none = refl
+passed_append ((true, offset) ∷ front) back none = absurd cc
+passed_append ((false, offset) ∷ front) back none = passed_append front back none
+
+-- tests after others that find one
+pub failed_append : (front back : List Check) (offset : ℕ) → first_fault front ≡ Some offset → first_fault (front ++ back) ≡ Some offset
+failed_append [] back offset some = absurd cc
+failed_append ((true, at) ∷ front) back offset some = some
+failed_append ((false, at) ∷ front) back offset some = failed_append front back offset some
+
+-- the first tests find no fault, where none of all does
+pub front_passed : (front back : List Check) → first_fault (front ++ back) ≡ None → first_fault front ≡ None
+front_passed [] back none = refl
+front_passed ((true, at) ∷ front) back none = absurd cc
+front_passed ((false, at) ∷ front) back none = front_passed front back none
+
+-- a test that finds no fault, before others that find none
+pub passes : (test : Bool) (at : ℕ) (checks : List Check) → test ≡ false → first_fault checks ≡ None → first_fault ((test, at) ∷ checks) ≡ None
+passes true at checks e none = absurd cc
+passes false at checks e none = none

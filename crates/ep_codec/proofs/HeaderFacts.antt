@@ -3,6 +3,7 @@ use Rattle.std.proofs.Common.{◌≡◌, ℕ, zero, suc, ◌+◌, ◌-◌, ◌*�
 use Rattle.std.specs.Prelude.{not, ◌&&◌, ◌==◌, nat_lt, is_none, find}
 use Rattle.std.specs.Int.{w16, from_be_bytes, to_be_bytes}
 use Rattle.std.proofs.lemmas.Bool.{and_parts, and_from, eqb-true, eq-eqb, ltb-false, le-ltb}
+use Rattle.std.proofs.lemmas.List.{length-drop}
 use Rattle.std.proofs.lemmas.Nat.{from_be_bytes-to_be_bytes_2}
 use Rattle.ep_codec.specs.declared.procedure.PduType.{PduType}
 use Rattle.ep_codec.specs.declared.procedure.PduType.TheVariants.{Command, Reply}
@@ -13,7 +14,7 @@ use Rattle.ep_codec.specs.Command.{message}
 use Rattle.ep_codec.specs.Field.{word_at}
 use Rattle.ep_codec.specs.MessageFault.{procedure_in, can_have, end_in, header_checks}
 use Rattle.ep_codec.specs.Procedure.{tag_of, procedures, procedure_of, procedure_tagged, has_length}
-use Rattle.ep_codec.proofs.Faults.{first_passed, others_passed}
+use Rattle.ep_codec.proofs.Faults.{first_passed, others_passed, passes}
 use Rattle.ep_codec.proofs.FieldFacts.{AreOctets, kept, keeps, octet_field, word_field}
 
 -- ---- tags
@@ -95,7 +96,7 @@ header_passed t octets p are none found =
     let low = ltb-false (length octets) (end_in octets) (first_passed (nat_lt (length octets) (end_in octets)) (length octets) five n4) in
     let high = ltb-false (end_in octets) (length octets) (first_passed (nat_lt (end_in octets) (length octets)) (end_in octets) [] n5) in
     let whole : length octets - 3 ≡ bits / 8 = omega arith in
-    let rest : length (drop 3 octets) ≡ bits / 8 = ? in
+    let rest : length (drop 3 octets) ≡ bits / 8 = length-drop 3 octets ∙ whole in
     let length_is : bits ≡ 8 * length (drop 3 octets) = omega (arith, can.0) in
     let first : octets ≡ get_or octets 0 0 ∷ drop 1 octets = octet_field 0 octets (omega arith) in
     let second : drop 1 octets ≡ to_be_bytes w16 (word_at 1 octets) ++ drop 3 octets = word_field 1 octets are (omega arith) in
@@ -105,4 +106,41 @@ header_passed t octets p are none found =
       spelled = first ∙ ap (λ (s : List ℕ). get_or octets 0 0 ∷ s) second
         ∙ ap (λ (n : ℕ). (get_or octets 0 0 ∷ to_be_bytes w16 n) ++ drop 3 octets) length_is
         ∙ ap (λ (tag : ℕ). message tag (drop 3 octets)) (tag_found_for t (get_or octets 0 0) p found);
+    }
+
+-- ---- a header that was written
+
+pub record Passes (t : PduType) (p : Procedure) (octets : List ℕ) : Type 0 where
+  pub none : first_fault (header_checks t octets) ≡ None
+  pub found : procedure_in t octets ≡ Some p
+
+found_for : (t : PduType) (p : Procedure) → procedure_tagged t (tag_for t p) ≡ Some p
+found_for Command p = found_by_tag p
+found_for Reply p =
+    let back : 128 + tag_of p - 128 ≡ tag_of p = omega arith in
+    rw (le-ltb (128 + tag_of p) 128 (omega arith), back) (found_by_tag p)
+
+pub header_again : (t : PduType) (p : Procedure) (body : List ℕ) → has_length t p (length body) ≡ true → length body < 2 ^ 13
+    → Passes t p (message (tag_for t p) body)
+unfolding header_checks procedure_in
+header_again t p body fits few =
+    let octets = message (tag_for t p) body in
+    let n = length body in
+    let bits : word_at 1 octets ≡ 8 * n = from_be_bytes-to_be_bytes_2 (8 * n) (omega arith) in
+    let found : procedure_in t octets ≡ Some p = found_for t p in
+    let eighth : 8 * n / 8 ≡ n = omega arith in
+    let whole : 8 * n % 8 ≡ 0 = omega arith in
+    let can : can_have t (procedure_in t octets) (word_at 1 octets) ≡ true =
+    rw (found, bits) (and_from (8 * n % 8 == 0) (has_length t p (8 * n / 8)) (eq-eqb (8 * n % 8) 0 whole) (ap (has_length t p) eighth ∙ fits)) in
+    let ends : end_in octets ≡ length octets = ap (λ (b : ℕ). 3 + b / 8) bits ∙ omega arith in
+    let five = (nat_lt (end_in octets) (length octets), end_in octets) ∷ [] in
+    let four = (nat_lt (length octets) (end_in octets), length octets) ∷ five in
+    let three = (not (can_have t (procedure_in t octets) (word_at 1 octets)), 1) ∷ four in
+    record {
+      none = passes (nat_lt (length octets) 3) (length octets) ((is_none (procedure_in t octets), 0) ∷ three) (le-ltb (length octets) 3 (omega arith))
+        (passes (is_none (procedure_in t octets)) 0 three (ap is_none found)
+        (keeps (can_have t (procedure_in t octets) (word_at 1 octets)) 1 four can
+        (passes (nat_lt (length octets) (end_in octets)) (length octets) five (le-ltb (length octets) (end_in octets) (omega arith))
+        (passes (nat_lt (end_in octets) (length octets)) (end_in octets) [] (le-ltb (end_in octets) (length octets) (omega arith)) refl))));
+      found = found;
     }

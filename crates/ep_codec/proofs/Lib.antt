@@ -1,3 +1,4 @@
+pub mod CommandFacts
 pub mod Faults
 pub mod FieldFacts
 pub mod HeaderFacts
