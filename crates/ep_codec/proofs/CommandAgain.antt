@@ -52,9 +52,9 @@ sealed_again front vector sealed tag at p v t =
     record {
       vector_again = range_at front vector (sealed ++ tag) at (at + 12) p (omega arith);
       sealed_again = ap (λ (s : List ℕ). slice_range s (at + 12) (length octets - 16)) second
-        ∙ range_at (front ++ vector) sealed tag (at + 12) (length octets - 16) (omega arith) (omega arith);
+          ∙ range_at (front ++ vector) sealed tag (at + 12) (length octets - 16) (omega arith) (omega arith);
       tag_again = ap (λ (s : List ℕ). slice_range s (length octets - 16) (length octets)) third
-        ∙ range_at ((front ++ vector) ++ sealed) tag [] (length octets - 16) (length octets) (omega arith) (omega arith);
+          ∙ range_at ((front ++ vector) ++ sealed) tag [] (length octets - 16) (length octets) (omega arith) (omega arith);
     }
 
 -- ---- fields that are read again
@@ -179,7 +179,7 @@ again (Compose master keys) is bounds =
     let f = keys_read_again keys is.1 in
     record {
       header = header_again types.Command procedures.Compose body
-        (and_from (is_in_range 4 18 (length body)) (length body % 2 == 0) (in_bounds 4 18 (length body) (omega arith) (omega arith)) (eq-eqb (length body % 2) 0 even)) (omega arith);
+          (and_from (is_in_range 4 18 (length body)) (length body % 2 == 0) (in_bounds 4 18 (length body) (omega arith) (omega arith)) (eq-eqb (length body % 2) 0 even)) (omega arith);
       fields = key_passes 3 master is.0 octets e (key_checks 5 (keys_data keys)) (keys_pass 5 keys is.1);
       value = cc;
     }
@@ -206,10 +206,10 @@ again (Create sa) is bounds =
     record {
       header = header_again types.Command procedures.Create body (in_bounds 14 21 (length body) (omega arith) (omega arith)) (omega arith);
       fields = spi_again sa.spi is octets e (code_check 2 5 octets ∷ code_check 2 6 octets ∷ window_check 7 octets ∷ count_check 15 octets ∷ channel_checks 16 0 channels)
-        (keeps (is_in_range 1 2 (direction_code sa.direction)) 5 (code_check 2 6 octets ∷ window_check 7 octets ∷ count_check 15 octets ∷ channel_checks 16 0 channels) (direction_in sa.direction)
-        (keeps (is_in_range 1 2 (suite_code sa.suite)) 6 (window_check 7 octets ∷ count_check 15 octets ∷ channel_checks 16 0 channels) (suite_in sa.suite)
-        (keeps (is_window (number_at 7 octets)) 7 (count_check 15 octets ∷ channel_checks 16 0 channels) (ap is_window f ∙ bounds.0)
-        (keeps (octet_at 15 octets == length octets - 16) 15 (channel_checks 16 0 channels) count pass))));
+          (keeps (is_in_range 1 2 (direction_code sa.direction)) 5 (code_check 2 6 octets ∷ window_check 7 octets ∷ count_check 15 octets ∷ channel_checks 16 0 channels) (direction_in sa.direction)
+          (keeps (is_in_range 1 2 (suite_code sa.suite)) 6 (window_check 7 octets ∷ count_check 15 octets ∷ channel_checks 16 0 channels) (suite_in sa.suite)
+          (keeps (is_window (number_at 7 octets)) 7 (count_check 15 octets ∷ channel_checks 16 0 channels) (ap is_window f ∙ bounds.0)
+          (keeps (octet_at 15 octets == length octets - 16) 15 (channel_checks 16 0 channels) count pass))));
       value = λ i. Create (record { spi = e i; direction = g i; suite = h i; window = f i; channels = channels });
     }
 again (Delete spi) is bounds =

@@ -159,11 +159,14 @@ association_found octets are framed none =
     let n = length-drop 16 octets in
     record {
       types = spi_found octets (code_check 2 5 octets ∷ code_check 2 6 octets ∷ window_check 7 octets ∷ count_check 15 octets ∷ channel_checks 16 0 (drop 16 octets)) none;
-      bounds = (w, record {
-        count = in_bounds 1 8 (length (drop 16 octets)) (omega arith) (omega arith);
-        ascending = channels_ascend 16 0 (drop 16 octets) n5;
-        each = channels_small 16 0 (drop 16 octets) n5;
-      });
+      bounds = (
+        w,
+        record {
+          count = in_bounds 1 8 (length (drop 16 octets)) (omega arith) (omega arith);
+          ascending = channels_ascend 16 0 (drop 16 octets) n5;
+          each = channels_small 16 0 (drop 16 octets) n5;
+        },
+      );
       spelled = spelled_by octets procedures.Create _ framed body;
     }
 
@@ -191,7 +194,7 @@ fields_found octets procedures.Verify are framed none =
       types = (key_found 3 octets [] none, range_length octets 5 21 (omega arith) (omega arith));
       bounds = tt;
       spelled = spelled_by octets procedures.Verify _ framed
-        (word_field 3 octets are (omega arith) ∙ ap (λ (s : List ℕ). to_be_bytes w16 (word_at 3 octets) ++ s) (range_end octets 5 21 (omega arith) (omega arith)));
+          (word_field 3 octets are (omega arith) ∙ ap (λ (s : List ℕ). to_be_bytes w16 (word_at 3 octets) ++ s) (range_end octets 5 21 (omega arith) (omega arith)));
     }
 fields_found octets procedures.Destroy are framed none =
     let keys = keys_alone octets are framed.room framed.fits none in
@@ -202,7 +205,7 @@ fields_found octets procedures.Inventory are framed none =
       types = (word_small 3 octets are, word_small 5 octets are);
       bounds = low_bound (word_at 3 octets) 65535 (word_at 5 octets) (kept (is_in_range (word_at 3 octets) 65535 (word_at 5 octets)) 5 [] none);
       spelled = spelled_by octets procedures.Inventory _ framed
-        (word_field 3 octets are (omega arith) ∙ ap (λ (s : List ℕ). to_be_bytes w16 (word_at 3 octets) ++ s) (word_end 5 octets are (omega arith)));
+          (word_field 3 octets are (omega arith) ∙ ap (λ (s : List ℕ). to_be_bytes w16 (word_at 3 octets) ++ s) (word_end 5 octets are (omega arith)));
     }
 fields_found octets procedures.Compose are framed none =
     let both = and_parts (is_in_range 4 18 (length octets - 3)) ((length octets - 3) % 2 == 0) framed.fits in
@@ -216,7 +219,7 @@ fields_found octets procedures.Compose are framed none =
       types = (key_found 3 octets (key_checks 5 (drop 5 octets)) none, keys.are);
       bounds = keys.count;
       spelled = spelled_by octets procedures.Compose _ framed
-        (word_field 3 octets are (omega arith) ∙ ap (λ (s : List ℕ). to_be_bytes w16 (word_at 3 octets) ++ s) keys.spelled);
+          (word_field 3 octets are (omega arith) ∙ ap (λ (s : List ℕ). to_be_bytes w16 (word_at 3 octets) ++ s) keys.spelled);
     }
 fields_found octets procedures.ReadNumber are framed none =
     let n = whole_length (length octets) 2 framed.room framed.fits in
@@ -235,12 +238,15 @@ fields_found octets procedures.SetWindow are framed none =
 fields_found octets procedures.Rekey are framed none =
     let n = whole_length (length octets) 12 framed.room framed.fits in
     record {
-      types = (spi_found octets (key_check 5 octets ∷ []) none,
-        key_found 5 octets [] (others_passed (not (is_spi (word_at 3 octets))) 3 (key_check 5 octets ∷ []) none), number_small 7 octets are);
+      types = (
+        spi_found octets (key_check 5 octets ∷ []) none,
+        key_found 5 octets [] (others_passed (not (is_spi (word_at 3 octets))) 3 (key_check 5 octets ∷ []) none),
+        number_small 7 octets are,
+      );
       bounds = tt;
       spelled = spelled_by octets procedures.Rekey _ framed
-        (word_field 3 octets are (omega arith) ∙ ap (λ (s : List ℕ). to_be_bytes w16 (word_at 3 octets) ++ s)
-        (word_field 5 octets are (omega arith) ∙ ap (λ (s : List ℕ). to_be_bytes w16 (word_at 5 octets) ++ s) (number_end 7 octets are (omega arith))));
+          (word_field 3 octets are (omega arith) ∙ ap (λ (s : List ℕ). to_be_bytes w16 (word_at 3 octets) ++ s)
+          (word_field 5 octets are (omega arith) ∙ ap (λ (s : List ℕ). to_be_bytes w16 (word_at 5 octets) ++ s) (number_end 7 octets are (omega arith))));
     }
 fields_found octets procedures.Expire are framed none =
     let n = whole_length (length octets) 2 framed.room framed.fits in

@@ -1,6 +1,6 @@
 -- What reading a command answers, header and fields together.
-use Rattle.std.proofs.Common.{◌≡◌, ℕ, List, ◌++◌, Option, Some, None, Result, Ok, Err, refl, sym, ap, subst, ◌∙◌}
-use Rattle.std.specs.Prelude.{IfOk}
+use Rattle.std.proofs.Common.{◌≡◌, ℕ, List, [], ◌∷◌, ◌++◌, length, Option, Some, None, Result, Ok, Err, refl, sym, ap, subst, ◌∙◌}
+use Rattle.std.specs.Prelude.{IfOk, not, nat_lt, is_none}
 use Rattle.ep_codec.specs.declared.command.Command.{Command}
 use Rattle.ep_codec.specs.declared.pdu_error.PduError.{PduError}
 use Rattle.ep_codec.specs.declared.pdu_error.PduError.TheVariants.{Fault, NoMemory}
@@ -9,11 +9,13 @@ use Rattle.ep_codec.specs.declared.procedure.Procedure.{Procedure}
 use Rattle.ep_codec.specs.Check.{first_fault, IsFirst, Judges, IsReadUnlessNoMemory, Carries, HasFault}
 use Rattle.ep_codec.specs.Command.{IsCommandPdu}
 use Rattle.ep_codec.specs.CommandReading.{command_at}
-use Rattle.ep_codec.specs.MessageFault.{procedure_in, header_checks, command_checks, field_checks, message_fault, command_fault}
+use Rattle.ep_codec.specs.MessageFault.{procedure_in, header_checks, command_checks, field_checks, message_fault, command_fault, can_have, end_in}
+use Rattle.ep_codec.specs.Field.{word_at}
 use Rattle.ep_codec.proofs.CommandAgain.{procedure_for, command_again}
 use Rattle.ep_codec.proofs.CommandFacts.{command_found}
-use Rattle.ep_codec.proofs.Faults.{passed_append, failed_append}
+use Rattle.ep_codec.proofs.Faults.{passed_append, failed_append, front_passed, first_passed, others_passed}
 use Rattle.ep_codec.proofs.FieldFacts.{AreOctets}
+use Rattle.ep_codec.proofs.HeaderFacts.{some_of}
 
 -- a fault of the header, where the octets are a command
 pub header_only : (octets : List ℕ) (e : PduError) → IsFirst e (header_checks types.Command octets)
@@ -81,3 +83,21 @@ one_value a b octets p q =
     let second = command_again b octets q in
     let same : procedure_for a ≡ procedure_for b = same_procedure octets (procedure_for b) a second.header.found p in
     sym first.value ∙ ap (λ (r : Procedure). command_at r octets) same ∙ second.value
+
+-- octets without fault have a procedure
+has_procedure : (octets : List ℕ) → first_fault (header_checks types.Command octets) ≡ None
+    → (p : Procedure) × (procedure_in types.Command octets ≡ Some p)
+unfolding header_checks
+has_procedure octets none =
+    let three = (not (can_have types.Command (procedure_in types.Command octets) (word_at 1 octets)), 1)
+    ∷ (nat_lt (length octets) (end_in octets), length octets) ∷ (nat_lt (end_in octets) (length octets), end_in octets) ∷ [] in
+    let two = others_passed (nat_lt (length octets) 3) (length octets) ((is_none (procedure_in types.Command octets), 0) ∷ three) none in
+    some_of (procedure_in types.Command octets) (first_passed (is_none (procedure_in types.Command octets)) 0 three two)
+
+pub none_has_message : (octets : List ℕ) → AreOctets octets → command_fault octets ≡ None → (command : Command) × IsCommandPdu command octets
+unfolding command_fault message_fault
+none_has_message octets are none =
+    let header = front_passed (header_checks types.Command octets) (field_checks types.Command (procedure_in types.Command octets) octets) none in
+    let p = has_procedure octets header in
+    let fields = sym (all_faults octets p.0 header p.1) ∙ none in
+    (command_at p.0 octets, command_found octets p.0 are header p.1 fields)

@@ -104,8 +104,8 @@ header_passed t octets p are none found =
       room = room;
       fits = ap (has_length t p) whole ∙ can.1;
       spelled = first ∙ ap (λ (s : List ℕ). get_or octets 0 0 ∷ s) second
-        ∙ ap (λ (n : ℕ). (get_or octets 0 0 ∷ to_be_bytes w16 n) ++ drop 3 octets) length_is
-        ∙ ap (λ (tag : ℕ). message tag (drop 3 octets)) (tag_found_for t (get_or octets 0 0) p found);
+          ∙ ap (λ (n : ℕ). (get_or octets 0 0 ∷ to_be_bytes w16 n) ++ drop 3 octets) length_is
+          ∙ ap (λ (tag : ℕ). message tag (drop 3 octets)) (tag_found_for t (get_or octets 0 0) p found);
     }
 
 -- ---- a header that was written
@@ -138,9 +138,13 @@ header_again t p body fits few =
     let three = (not (can_have t (procedure_in t octets) (word_at 1 octets)), 1) ∷ four in
     record {
       none = passes (nat_lt (length octets) 3) (length octets) ((is_none (procedure_in t octets), 0) ∷ three) (le-ltb (length octets) 3 (omega arith))
-        (passes (is_none (procedure_in t octets)) 0 three (ap is_none found)
-        (keeps (can_have t (procedure_in t octets) (word_at 1 octets)) 1 four can
-        (passes (nat_lt (length octets) (end_in octets)) (length octets) five (le-ltb (length octets) (end_in octets) (omega arith))
-        (passes (nat_lt (end_in octets) (length octets)) (end_in octets) [] (le-ltb (end_in octets) (length octets) (omega arith)) refl))));
+          (passes (is_none (procedure_in t octets)) 0 three (ap is_none found)
+          (keeps (can_have t (procedure_in t octets) (word_at 1 octets)) 1 four can
+          (passes (nat_lt (length octets) (end_in octets)) (length octets) five (le-ltb (length octets) (end_in octets) (omega arith))
+          (passes (nat_lt (end_in octets) (length octets)) (end_in octets) [] (le-ltb (end_in octets) (length octets) (omega arith)) refl))));
       found = found;
     }
+
+pub some_of : (o : Option Procedure) → is_none o ≡ false → (p : Procedure) × (o ≡ Some p)
+some_of None e = absurd cc
+some_of (Some p) e = (p, refl)

@@ -33,9 +33,10 @@ pub keys_are : (at : ℕ) (octets : List ℕ) → first_fault (key_checks at oct
 keys_are at [] none = tt
 keys_are at (a ∷ []) none = tt
 keys_are at (a ∷ b ∷ octets) none =
-    let key = from_be_bytes w16 (a ∷ b ∷ []) in
-    (kept (is_key key) at (key_checks (at + 2) octets) none,
-    keys_are (at + 2) octets (others_passed (not (is_key key)) at (key_checks (at + 2) octets) none))
+    let key = from_be_bytes w16 (a ∷ b ∷ []) in (
+      kept (is_key key) at (key_checks (at + 2) octets) none,
+      keys_are (at + 2) octets (others_passed (not (is_key key)) at (key_checks (at + 2) octets) none),
+    )
 
 pub key_again : (key : ℕ) → IsTrue (is_key key) → from_be_bytes w16 (to_be_bytes w16 key) ≡ key
 key_again key is = from_be_bytes-to_be_bytes_2 key (omega (arith, high_bound 1 65535 key is))
@@ -101,9 +102,10 @@ rows_are at (a ∷ []) none = tt
 rows_are at (a ∷ b ∷ []) none = tt
 rows_are at (a ∷ b ∷ c ∷ octets) none =
     let key = from_be_bytes w16 (a ∷ b ∷ []) in
-    let others = (not (is_in_range 1 4 c), at + 2) ∷ row_checks (at + 3) octets in
-    (kept (is_key key) at others none,
-    rows_are (at + 3) octets (others_passed (not (is_in_range 1 4 c)) (at + 2) (row_checks (at + 3) octets) (others_passed (not (is_key key)) at others none)))
+    let others = (not (is_in_range 1 4 c), at + 2) ∷ row_checks (at + 3) octets in (
+      kept (is_key key) at others none,
+      rows_are (at + 3) octets (others_passed (not (is_in_range 1 4 c)) (at + 2) (row_checks (at + 3) octets) (others_passed (not (is_key key)) at others none)),
+    )
 
 pub rows_read_again : (rows : List (ℕ × KeyState)) → AllByRecursion (λ row. IsTrue (is_key row.0)) rows → rows_in (flat_map row_octets rows) ≡ rows
 rows_read_again [] are = refl
@@ -125,9 +127,10 @@ rows_pass at (row ∷ rows) are =
 
 pub channels_small : (at least : ℕ) (channels : List ℕ) → first_fault (channel_checks at least channels) ≡ None → AllByRecursion (λ channel. channel ≤ 63) channels
 channels_small at least [] none = tt
-channels_small at least (channel ∷ channels) none =
-    (high_bound least 63 channel (kept (is_in_range least 63 channel) at (channel_checks (at + 1) (channel + 1) channels) none),
-    channels_small (at + 1) (channel + 1) channels (others_passed (not (is_in_range least 63 channel)) at (channel_checks (at + 1) (channel + 1) channels) none))
+channels_small at least (channel ∷ channels) none = (
+  high_bound least 63 channel (kept (is_in_range least 63 channel) at (channel_checks (at + 1) (channel + 1) channels) none),
+  channels_small (at + 1) (channel + 1) channels (others_passed (not (is_in_range least 63 channel)) at (channel_checks (at + 1) (channel + 1) channels) none),
+)
 
 pub channels_ascend : (at least : ℕ) (channels : List ℕ) → first_fault (channel_checks at least channels) ≡ None → IsStrictlyIncreasing channels
 channels_ascend at least [] none k h = absurd (omega arith)

@@ -102,9 +102,9 @@ gcm_again key vector sealed tag is bounds =
     record {
       header = header_again types.Reply procedures.Verify body (or_left (length body == 46) (length body == 22) (eq-eqb (length body) 46 n)) (omega arith);
       fields = ap (λ (c : Check). first_fault (c ∷ [])) (cond-true (length octets == 49) (sealing_key_check 3 octets) (mac_key_check 3 octets) whole)
-        ∙ keeps (is_key (word_at 3 octets) && seals (class_of (word_at 3 octets))) 3 [] kind refl;
+          ∙ keeps (is_key (word_at 3 octets) && seals (class_of (word_at 3 octets))) 3 [] kind refl;
       value = cond-true (length octets == 49) (VerifyGcm (word_at 3 octets) (slice_range octets 5 17) (slice_range octets 17 33) (slice_range octets 33 49))
-        (VerifyCmac (word_at 3 octets) (double_word_at 5 octets) (slice_range octets 9 25)) whole ∙ value;
+          (VerifyCmac (word_at 3 octets) (double_word_at 5 octets) (slice_range octets 9 25)) whole ∙ value;
     }
 
 cmac_again : (key number : ℕ) (mac : List ℕ) → HasTypes (VerifyCmac key number mac) → IsInBounds (VerifyCmac key number mac)
@@ -124,9 +124,9 @@ cmac_again key number mac is bounds =
     record {
       header = header_again types.Reply procedures.Verify body (or_right (length body == 46) (length body == 22) (eq-eqb (length body) 22 n)) (omega arith);
       fields = ap (λ (c : Check). first_fault (c ∷ [])) (cond-false (length octets == 49) (sealing_key_check 3 octets) (mac_key_check 3 octets) other)
-        ∙ keeps (is_key (word_at 3 octets) && not (seals (class_of (word_at 3 octets)))) 3 [] kind refl;
+          ∙ keeps (is_key (word_at 3 octets) && not (seals (class_of (word_at 3 octets)))) 3 [] kind refl;
       value = cond-false (length octets == 49) (VerifyGcm (word_at 3 octets) (slice_range octets 5 17) (slice_range octets 17 33) (slice_range octets 33 49))
-        (VerifyCmac (word_at 3 octets) (double_word_at 5 octets) (slice_range octets 9 25)) other ∙ value;
+          (VerifyCmac (word_at 3 octets) (double_word_at 5 octets) (slice_range octets 9 25)) other ∙ value;
     }
 
 compose_again : (master : ℕ) (vector sealed tag : List ℕ) → HasTypes (Compose master vector sealed tag) → IsInBounds (Compose master vector sealed tag)
@@ -151,7 +151,7 @@ compose_again master vector sealed tag is bounds =
     record {
       header = header_again types.Reply procedures.Compose body (in_bounds 52 313 (length body) (omega arith) (omega arith)) (omega arith);
       fields = keeps (octet_at 3 octets == 1) 3 (inner_length_check 4 octets ∷ key_check 6 octets ∷ []) refl
-        (keeps (word_at 4 octets == 8 * (length octets - 6)) 4 (key_check 6 octets ∷ []) inner_length (key_passes 6 master is.0 octets e [] refl));
+          (keeps (word_at 4 octets == 8 * (length octets - 6)) 4 (key_check 6 octets ∷ []) inner_length (key_passes 6 master is.0 octets e [] refl));
       value = cc;
     }
 
@@ -180,7 +180,7 @@ again (Inventory total rows) is bounds =
     let f = rows_read_again rows is.1 in
     record {
       header = header_again types.Reply procedures.Inventory body
-        (and_from (is_in_range 2 770 (length body)) (length body % 3 == 2) (in_bounds 2 770 (length body) (omega arith) (omega (arith, bounds))) (eq-eqb (length body % 3) 2 thirds)) (omega (arith, bounds));
+          (and_from (is_in_range 2 770 (length body)) (length body % 3 == 2) (in_bounds 2 770 (length body) (omega arith) (omega (arith, bounds))) (eq-eqb (length body % 3) 2 thirds)) (omega (arith, bounds));
       fields = rows_pass 5 rows is.1;
       value = cc;
     }
@@ -211,10 +211,10 @@ again (Status spi state direction suite key window) is bounds =
     record {
       header = header_again types.Reply procedures.Status body refl (omega arith);
       fields = spi_again spi is.0 octets e (code_check 3 5 octets ∷ c2)
-        (keeps (is_in_range 1 3 (sa_state_code state)) 5 c2 (sa_state_in state)
-        (keeps (is_in_range 1 2 (direction_code direction)) 6 c3 (direction_in direction)
-        (keeps (is_in_range 1 2 (suite_code suite)) 7 c4 (suite_in suite)
-        (keeps (is_window (number_at 10 octets)) 10 [] (ap is_window f ∙ bounds) refl))));
+          (keeps (is_in_range 1 3 (sa_state_code state)) 5 c2 (sa_state_in state)
+          (keeps (is_in_range 1 2 (direction_code direction)) 6 c3 (direction_in direction)
+          (keeps (is_in_range 1 2 (suite_code suite)) 7 c4 (suite_in suite)
+          (keeps (is_window (number_at 10 octets)) 10 [] (ap is_window f ∙ bounds) refl))));
       value = λ i. Status (e i) (a i) (d i) (s i) (h i) (f i);
     }
 

@@ -66,9 +66,9 @@ gcm_found octets are framed n none =
       types = (both.0, range_length octets 5 17 (omega arith) (omega arith), range_length octets 17 33 (omega arith) (omega arith), range_length octets 33 49 (omega arith) (omega arith));
       bounds = both.1;
       spelled = spelled_by octets procedures.Verify _ framed
-        (word_field 3 octets are (omega arith) ∙ ap (λ (s : List ℕ). to_be_bytes w16 (word_at 3 octets) ++ s)
-        (range_field octets 5 17 (omega arith) ∙ ap (λ (s : List ℕ). slice_range octets 5 17 ++ s)
-        (range_field octets 17 33 (omega arith) ∙ ap (λ (s : List ℕ). slice_range octets 17 33 ++ s) (range_end octets 33 49 (omega arith) (omega arith)))));
+          (word_field 3 octets are (omega arith) ∙ ap (λ (s : List ℕ). to_be_bytes w16 (word_at 3 octets) ++ s)
+          (range_field octets 5 17 (omega arith) ∙ ap (λ (s : List ℕ). slice_range octets 5 17 ++ s)
+          (range_field octets 17 33 (omega arith) ∙ ap (λ (s : List ℕ). slice_range octets 17 33 ++ s) (range_end octets 33 49 (omega arith) (omega arith)))));
     }
 
 cmac_found : (octets : List ℕ) → AreOctets octets → Framed types.Reply procedures.Verify octets → length octets ≡ 25
@@ -81,8 +81,8 @@ cmac_found octets are framed n none =
       types = (both.0, double_word_small 5 octets are, range_length octets 9 25 (omega arith) (omega arith));
       bounds = both.1;
       spelled = spelled_by octets procedures.Verify _ framed
-        (word_field 3 octets are (omega arith) ∙ ap (λ (s : List ℕ). to_be_bytes w16 (word_at 3 octets) ++ s)
-        (double_word_field 5 octets are (omega arith) ∙ ap (λ (s : List ℕ). to_be_bytes w32 (double_word_at 5 octets) ++ s) (range_end octets 9 25 (omega arith) (omega arith))));
+          (word_field 3 octets are (omega arith) ∙ ap (λ (s : List ℕ). to_be_bytes w16 (word_at 3 octets) ++ s)
+          (double_word_field 5 octets are (omega arith) ∙ ap (λ (s : List ℕ). to_be_bytes w32 (double_word_at 5 octets) ++ s) (range_end octets 9 25 (omega arith) (omega arith))));
     }
 
 verify_found : (octets : List ℕ) → AreOctets octets → Framed types.Reply procedures.Verify octets
@@ -95,9 +95,9 @@ verify_found octets are framed none =
     elim (n == 49) as (λ b. (n == 49) ≡ b → first_fault (cond b (sealing_key_check 3 octets) (mac_key_check 3 octets) ∷ []) ≡ None → IsReplyPdu (cond b gcm cmac) octets) [
       | true ↦ λ e f. gcm_found octets are framed (eqb-true n 49 e) f
       | false ↦ λ e f. (let size : n ≡ 25 = elim (or_cases (n - 3 == 46) (n - 3 == 22) framed.fits) [
-          | inl h ↦ absurd (eqb-false n 49 e (omega (arith, whole_length n 46 framed.room h)))
-          | inr h ↦ whole_length n 22 framed.room h
-        ] in cmac_found octets are framed size f)
+        | inl h ↦ absurd (eqb-false n 49 e (omega (arith, whole_length n 46 framed.room h)))
+        | inr h ↦ whole_length n 22 framed.room h
+      ] in cmac_found octets are framed size f)
     ] refl none
 
 inventory_found : (octets : List ℕ) → AreOctets octets → Framed types.Reply procedures.Inventory octets
@@ -116,7 +116,7 @@ inventory_found octets are framed none =
       types = (word_small 3 octets are, rows_are 5 (drop 5 octets) none);
       bounds = omega arith;
       spelled = spelled_by octets procedures.Inventory _ framed
-        (word_field 3 octets are (omega arith) ∙ ap (λ (s : List ℕ). to_be_bytes w16 (word_at 3 octets) ++ s) (sym (rows_spelled 5 (drop 5 octets) (octets_drop 5 octets are) whole none)));
+          (word_field 3 octets are (omega arith) ∙ ap (λ (s : List ℕ). to_be_bytes w16 (word_at 3 octets) ++ s) (sym (rows_spelled 5 (drop 5 octets) (octets_drop 5 octets are) whole none)));
     }
 
 compose_found : (octets : List ℕ) → AreOctets octets → Framed types.Reply procedures.Compose octets
@@ -139,7 +139,7 @@ compose_found octets are framed none =
       types = (key_found 6 octets [] n2, range_length octets 8 20 (omega arith) (omega arith), tag_length octets (omega arith));
       bounds = sealed_length 6 octets (omega arith) (omega arith);
       spelled = spelled_by octets procedures.Compose _ framed
-        (inner ∙ ap (λ (s : List ℕ). message 1 s) (sealed_spelled 6 octets are (omega arith)));
+          (inner ∙ ap (λ (s : List ℕ). message 1 s) (sealed_spelled 6 octets are (omega arith)));
     }
 
 status_found : (octets : List ℕ) → AreOctets octets → Framed types.Reply procedures.Status octets

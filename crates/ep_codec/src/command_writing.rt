@@ -1,7 +1,7 @@
 //! Commands as octets.
 ghost use Rattle.std.specs.Prelude.{◌≡◌, ◌*◌, ◌+◌, ◌^◌, ◌<◌, ◌≤◌, IsTrue, [], ◌∷◌, ◌++◌, length, OnOk, IfOk};
 ghost use Rattle.std.specs.Int.{w16, w64, to_be_bytes, is_in_range};
-ghost use Rattle.ep_codec.specs.Command.{message, sealed_data, keys_data, association_data, command_octets, IsInBounds, HasTypes};
+ghost use Rattle.ep_codec.specs.Command.{message, sealed_data, keys_data, association_data, command_octets, IsInBounds, HasTypes, IsCommandPdu};
 ghost use Rattle.ep_codec.specs.Procedure.{tag_of};
 
 use crate::command::Command;
@@ -230,7 +230,9 @@ fn octets_of(alloc: Global, command: &Command) -> Result<Vec<u8>, NoMemory>
 /// Writes a command whose values lie in the bounds of their fields.
 pub fn write_pdu(alloc: Global, command: &Command) -> Result<Octets, NoMemory>
     requires { IsInBounds command.now }
-    ensures { IfOk result (λ octets. octets ≡ command_octets command.now) }
+    ensures spelled { IfOk result (λ octets. octets ≡ command_octets command.now) }
+    // What is written is a message, which `read_pdu` reads as this command.
+    ensures message { HasTypes command.now → IfOk result (IsCommandPdu command.now) }
 {
     Ok(Octets::new(octets_of(alloc, command)?))
 }

@@ -12,6 +12,7 @@ mod command_writing;
 mod field_lists;
 mod fields;
 mod header;
+mod laws;
 mod pdu_error;
 mod procedure;
 mod reading;
@@ -22,6 +23,7 @@ mod writing;
 
 pub use command::Command;
 pub use command_writing::write_pdu;
+pub use laws::{command_without_fault, one_command, one_reply, reply_without_fault};
 pub use pdu_error::PduError;
 pub use reading::{read_pdu, read_reply};
 pub use reply_pdu::ReplyPdu;

@@ -4,7 +4,7 @@ ghost use Rattle.std.specs.Int.{w16, w32, w64, to_be_bytes, is_in_range};
 ghost use Rattle.std.specs.List.{flat_map};
 ghost use Rattle.ep_codec.specs.declared.reply_pdu.ReplyPdu.TheVariants.{Status};
 ghost use Rattle.ep_codec.specs.Command.{message, sealed_data};
-ghost use Rattle.ep_codec.specs.ReplyPdu.{row_octets, reply_octets, IsInBounds};
+ghost use Rattle.ep_codec.specs.ReplyPdu.{row_octets, reply_octets, IsInBounds, HasTypes, IsReplyPdu};
 ghost use Rattle.ep_codec.specs.Procedure.{tag_of};
 
 use crate::command_writing::{number_message, put_sealed, sealed_message};
@@ -203,7 +203,9 @@ fn octets_of(alloc: Global, reply: &ReplyPdu) -> Result<Vec<u8>, NoMemory>
 /// Writes a reply whose values lie in the bounds of their fields.
 pub fn write_reply(alloc: Global, reply: &ReplyPdu) -> Result<Octets, NoMemory>
     requires { IsInBounds reply.now }
-    ensures { IfOk result (λ octets. octets ≡ reply_octets reply.now) }
+    ensures spelled { IfOk result (λ octets. octets ≡ reply_octets reply.now) }
+    // What is written is a message, which `read_reply` reads as this reply.
+    ensures message { HasTypes reply.now → IfOk result (IsReplyPdu reply.now) }
 {
     Ok(Octets::new(octets_of(alloc, reply)?))
 }
