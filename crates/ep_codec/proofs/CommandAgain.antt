@@ -14,7 +14,7 @@ use Rattle.ep_codec.specs.declared.command.Command.{Command}
 use Rattle.ep_codec.specs.declared.command.Command.TheVariants.{Rekeying, Activate, Deactivate, Verify, Destroy, Inventory, Compose, ReadNumber, Create, Delete, SetWindow, Rekey, Expire, SetNumber, Start, Stop, Status}
 use Rattle.ep_codec.specs.Check.{Check, first_fault}
 use Rattle.ep_codec.specs.Command.{message, sealed_data, keys_data, association_data, command_octets, IsInBounds, HasTypes, IsCommandPdu, AreChannels}
-use Rattle.ep_codec.specs.CommandReading.{command_at}
+use Rattle.ep_codec.specs.CommandReading.{command_at, command_procedure}
 use Rattle.ep_codec.specs.Field.{octet_at, word_at, number_at, is_key, is_spi, is_window, direction_code, suite_code, direction_of, suite_of, key_check, spi_check, window_check, code_check, last_check, count_check}
 use Rattle.ep_codec.specs.FieldList.{keys_in, key_checks, channel_checks}
 use Rattle.ep_codec.specs.MessageFault.{procedure_in, header_checks, command_checks}
@@ -78,25 +78,6 @@ window_small window is = omega (arith, high_bound 1 (2 ^ 32) window is)
 
 -- ---- commands
 
-abbrev pub procedure_for : Command → Procedure
-procedure_for (Rekeying master vector sealed tag) = procedures.Rekeying
-procedure_for (Activate keys) = procedures.Activate
-procedure_for (Deactivate keys) = procedures.Deactivate
-procedure_for (Verify key challenge) = procedures.Verify
-procedure_for (Destroy keys) = procedures.Destroy
-procedure_for (Inventory first last) = procedures.Inventory
-procedure_for (Compose master keys) = procedures.Compose
-procedure_for (ReadNumber spi) = procedures.ReadNumber
-procedure_for (Create sa) = procedures.Create
-procedure_for (Delete spi) = procedures.Delete
-procedure_for (SetWindow spi window) = procedures.SetWindow
-procedure_for (Rekey spi key number) = procedures.Rekey
-procedure_for (Expire spi) = procedures.Expire
-procedure_for (SetNumber spi number) = procedures.SetNumber
-procedure_for (Start spi) = procedures.Start
-procedure_for (Stop spi) = procedures.Stop
-procedure_for (Status spi) = procedures.Status
-
 -- the octets have no fault, and this value at their places
 pub record ReadAgain (p : Procedure) (command : Command) (octets : List ℕ) : Type 0 where
   pub header : Passes types.Command p octets
@@ -114,7 +95,7 @@ keys_header p keys fits count =
     header_again types.Command p (keys_data keys)
     (fits m ∙ and_from (is_in_range 2 16 m) (m % 2 == 0) (in_bounds 2 16 m (omega arith) (omega arith)) (eq-eqb (m % 2) 0 even)) (omega arith)
 
-again : (command : Command) → HasTypes command → IsInBounds command → ReadAgain (procedure_for command) command (command_octets command)
+again : (command : Command) → HasTypes command → IsInBounds command → ReadAgain (command_procedure command) command (command_octets command)
 unfolding command_checks command_at command_octets HasTypes IsInBounds
 again (Rekeying master vector sealed tag) is bounds =
     let body = sealed_data master vector sealed tag in
@@ -279,5 +260,5 @@ again (Status spi) is bounds =
       value = ap Status e;
     }
 
-pub command_again : (command : Command) (octets : List ℕ) → IsCommandPdu command octets → ReadAgain (procedure_for command) command octets
+pub command_again : (command : Command) (octets : List ℕ) → IsCommandPdu command octets → ReadAgain (command_procedure command) command octets
 command_again command octets is = rw is.spelled (again command is.types is.bounds)

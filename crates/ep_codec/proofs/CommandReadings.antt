@@ -8,10 +8,10 @@ use Rattle.ep_codec.specs.declared.procedure.PduType.TheVariants as types
 use Rattle.ep_codec.specs.declared.procedure.Procedure.{Procedure}
 use Rattle.ep_codec.specs.Check.{first_fault, IsFirst, Judges, IsReadUnlessNoMemory, Carries, HasFault}
 use Rattle.ep_codec.specs.Command.{IsCommandPdu}
-use Rattle.ep_codec.specs.CommandReading.{command_at}
+use Rattle.ep_codec.specs.CommandReading.{command_at, command_procedure}
 use Rattle.ep_codec.specs.MessageFault.{procedure_in, header_checks, command_checks, field_checks, message_fault, command_fault, can_have, end_in}
 use Rattle.ep_codec.specs.Field.{word_at}
-use Rattle.ep_codec.proofs.CommandAgain.{procedure_for, command_again}
+use Rattle.ep_codec.proofs.CommandAgain.{command_again}
 use Rattle.ep_codec.proofs.CommandFacts.{command_found}
 use Rattle.ep_codec.proofs.Faults.{passed_append, failed_append, front_passed, first_passed, others_passed}
 use Rattle.ep_codec.proofs.FieldFacts.{AreOctets}
@@ -41,7 +41,7 @@ fields_found octets p (Ok command) are header found judged = rw judged.1 (comman
 fields_found octets p (Err e) are header found judged = tt
 
 same_procedure : (octets : List ℕ) (p : Procedure) (command : Command) → procedure_in types.Command octets ≡ Some p → IsCommandPdu command octets
-    → procedure_for command ≡ p
+    → command_procedure command ≡ p
 same_procedure octets p command found is =
     let other = (command_again command octets is).header.found in
     cc
@@ -75,13 +75,13 @@ fields_fault octets p (Err NoMemory) header found judged = tt
 pub message_has_none : (command : Command) (octets : List ℕ) → IsCommandPdu command octets → command_fault octets ≡ None
 message_has_none command octets is =
     let again = command_again command octets is in
-    all_faults octets (procedure_for command) again.header.none again.header.found ∙ again.fields
+    all_faults octets (command_procedure command) again.header.none again.header.found ∙ again.fields
 
 pub one_value : (a b : Command) (octets : List ℕ) → IsCommandPdu a octets → IsCommandPdu b octets → a ≡ b
 one_value a b octets p q =
     let first = command_again a octets p in
     let second = command_again b octets q in
-    let same : procedure_for a ≡ procedure_for b = same_procedure octets (procedure_for b) a second.header.found p in
+    let same : command_procedure a ≡ command_procedure b = same_procedure octets (command_procedure b) a second.header.found p in
     sym first.value ∙ ap (λ (r : Procedure). command_at r octets) same ∙ second.value
 
 -- octets without fault have a procedure

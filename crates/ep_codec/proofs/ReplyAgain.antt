@@ -17,7 +17,7 @@ use Rattle.ep_codec.specs.declared.reply_pdu.ReplyPdu.TheVariants.{Rekeying, Act
 use Rattle.ep_codec.specs.Check.{Check, first_fault}
 use Rattle.ep_codec.specs.Command.{message, sealed_data}
 use Rattle.ep_codec.specs.ReplyPdu.{row_octets, reply_octets, IsInBounds, HasTypes, IsReplyPdu}
-use Rattle.ep_codec.specs.ReplyReading.{reply_at}
+use Rattle.ep_codec.specs.ReplyReading.{reply_at, reply_procedure}
 use Rattle.ep_codec.specs.Field.{octet_at, word_at, double_word_at, number_at, is_key, is_spi, is_window, seals, sa_state_code, sa_state_of, direction_code, suite_code, direction_of, suite_of, optional_key, key_check, spi_check, window_check, code_check, sealing_key_check, mac_key_check, inner_tag_check, inner_length_check}
 use Rattle.ep_codec.specs.FieldList.{rows_in, row_checks}
 use Rattle.ep_codec.specs.MessageFault.{procedure_in, header_checks, reply_checks}
@@ -52,26 +52,6 @@ optional_again : (key : Option ℕ) → IfSome key (λ key. IsTrue (is_key key))
 optional_again None is = refl
 optional_again (Some zero) is = absurd (omega (arith, low_bound 1 65535 0 is))
 optional_again (Some (suc n)) is = optional_some n
-
-abbrev pub procedure_for : ReplyPdu → Procedure
-procedure_for Rekeying = procedures.Rekeying
-procedure_for Activate = procedures.Activate
-procedure_for Deactivate = procedures.Deactivate
-procedure_for Destroy = procedures.Destroy
-procedure_for Create = procedures.Create
-procedure_for Delete = procedures.Delete
-procedure_for SetWindow = procedures.SetWindow
-procedure_for Rekey = procedures.Rekey
-procedure_for Expire = procedures.Expire
-procedure_for SetNumber = procedures.SetNumber
-procedure_for Start = procedures.Start
-procedure_for Stop = procedures.Stop
-procedure_for (VerifyGcm key vector sealed tag) = procedures.Verify
-procedure_for (VerifyCmac key number mac) = procedures.Verify
-procedure_for (Inventory total rows) = procedures.Inventory
-procedure_for (Compose master vector sealed tag) = procedures.Compose
-procedure_for (ReadNumber spi number) = procedures.ReadNumber
-procedure_for (Status spi state direction suite key window) = procedures.Status
 
 -- the octets have no fault, and this value at their places
 pub record ReadAgain (p : Procedure) (reply : ReplyPdu) (octets : List ℕ) : Type 0 where
@@ -155,7 +135,7 @@ compose_again master vector sealed tag is bounds =
       value = cc;
     }
 
-again : (reply : ReplyPdu) → HasTypes reply → IsInBounds reply → ReadAgain (procedure_for reply) reply (reply_octets reply)
+again : (reply : ReplyPdu) → HasTypes reply → IsInBounds reply → ReadAgain (reply_procedure reply) reply (reply_octets reply)
 unfolding reply_checks reply_at reply_octets HasTypes IsInBounds
 again Rekeying is bounds = record { header = nothing_header procedures.Rekeying refl; fields = refl; value = refl }
 again Activate is bounds = record { header = nothing_header procedures.Activate refl; fields = refl; value = refl }
@@ -218,5 +198,5 @@ again (Status spi state direction suite key window) is bounds =
       value = λ i. Status (e i) (a i) (d i) (s i) (h i) (f i);
     }
 
-pub reply_again : (reply : ReplyPdu) (octets : List ℕ) → IsReplyPdu reply octets → ReadAgain (procedure_for reply) reply octets
+pub reply_again : (reply : ReplyPdu) (octets : List ℕ) → IsReplyPdu reply octets → ReadAgain (reply_procedure reply) reply octets
 reply_again reply octets is = rw is.spelled (again reply is.types is.bounds)

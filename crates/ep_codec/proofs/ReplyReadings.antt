@@ -8,10 +8,10 @@ use Rattle.ep_codec.specs.declared.procedure.PduType.TheVariants as types
 use Rattle.ep_codec.specs.declared.procedure.Procedure.{Procedure}
 use Rattle.ep_codec.specs.Check.{first_fault, IsFirst, Judges, IsReadUnlessNoMemory, Carries, HasFault}
 use Rattle.ep_codec.specs.ReplyPdu.{IsReplyPdu}
-use Rattle.ep_codec.specs.ReplyReading.{reply_at}
+use Rattle.ep_codec.specs.ReplyReading.{reply_at, reply_procedure}
 use Rattle.ep_codec.specs.MessageFault.{procedure_in, header_checks, reply_checks, field_checks, message_fault, reply_fault, can_have, end_in}
 use Rattle.ep_codec.specs.Field.{word_at}
-use Rattle.ep_codec.proofs.ReplyAgain.{procedure_for, reply_again}
+use Rattle.ep_codec.proofs.ReplyAgain.{reply_again}
 use Rattle.ep_codec.proofs.ReplyFacts.{reply_found}
 use Rattle.ep_codec.proofs.Faults.{passed_append, failed_append, front_passed, first_passed, others_passed}
 use Rattle.ep_codec.proofs.FieldFacts.{AreOctets}
@@ -41,7 +41,7 @@ fields_found octets p (Ok reply) are header found judged = rw judged.1 (reply_fo
 fields_found octets p (Err e) are header found judged = tt
 
 same_procedure : (octets : List ℕ) (p : Procedure) (reply : ReplyPdu) → procedure_in types.Reply octets ≡ Some p → IsReplyPdu reply octets
-    → procedure_for reply ≡ p
+    → reply_procedure reply ≡ p
 same_procedure octets p reply found is =
     let other = (reply_again reply octets is).header.found in
     cc
@@ -75,13 +75,13 @@ fields_fault octets p (Err NoMemory) header found judged = tt
 pub message_has_none : (reply : ReplyPdu) (octets : List ℕ) → IsReplyPdu reply octets → reply_fault octets ≡ None
 message_has_none reply octets is =
     let again = reply_again reply octets is in
-    all_faults octets (procedure_for reply) again.header.none again.header.found ∙ again.fields
+    all_faults octets (reply_procedure reply) again.header.none again.header.found ∙ again.fields
 
 pub one_value : (a b : ReplyPdu) (octets : List ℕ) → IsReplyPdu a octets → IsReplyPdu b octets → a ≡ b
 one_value a b octets p q =
     let first = reply_again a octets p in
     let second = reply_again b octets q in
-    let same : procedure_for a ≡ procedure_for b = same_procedure octets (procedure_for b) a second.header.found p in
+    let same : reply_procedure a ≡ reply_procedure b = same_procedure octets (reply_procedure b) a second.header.found p in
     sym first.value ∙ ap (λ (r : Procedure). reply_at r octets) same ∙ second.value
 
 -- octets without fault have a procedure

@@ -1,4 +1,4 @@
--- What stands at the places of a command's fields.
+-- A command's procedure, and what stands at the places of its fields.
 use Rattle.std.specs.Prelude.{ℕ, ◌-◌, List, length, drop, slice_range}
 use Rattle.sdls_base.specs.declared.change.NewSa.{NewSa}
 use Rattle.ep_codec.specs.declared.procedure.Procedure.{Procedure}
@@ -8,6 +8,27 @@ use Rattle.ep_codec.specs.declared.command.Command.TheVariants.{Rekeying, Activa
 use Rattle.ep_codec.specs.Field.{octet_at, word_at, number_at, direction_of, suite_of}
 use Rattle.ep_codec.specs.FieldList.{keys_in}
 
+-- whose message the command is
+abbrev pub command_procedure : Command → Procedure
+command_procedure (Rekeying master vector sealed tag) = procedures.Rekeying
+command_procedure (Activate keys) = procedures.Activate
+command_procedure (Deactivate keys) = procedures.Deactivate
+command_procedure (Verify key challenge) = procedures.Verify
+command_procedure (Destroy keys) = procedures.Destroy
+command_procedure (Inventory first last) = procedures.Inventory
+command_procedure (Compose master keys) = procedures.Compose
+command_procedure (ReadNumber spi) = procedures.ReadNumber
+command_procedure (Create sa) = procedures.Create
+command_procedure (Delete spi) = procedures.Delete
+command_procedure (SetWindow spi window) = procedures.SetWindow
+command_procedure (Rekey spi key number) = procedures.Rekey
+command_procedure (Expire spi) = procedures.Expire
+command_procedure (SetNumber spi number) = procedures.SetNumber
+command_procedure (Start spi) = procedures.Start
+command_procedure (Stop spi) = procedures.Stop
+command_procedure (Status spi) = procedures.Status
+
+-- the values at the places of the fields
 unfoldable pub command_at : Procedure → List ℕ → Command
 command_at procedures.Rekeying octets = Rekeying (word_at 3 octets) (slice_range octets 5 17)
     (slice_range octets 17 (length octets - 16)) (slice_range octets (length octets - 16) (length octets))

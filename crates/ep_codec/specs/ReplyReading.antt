@@ -1,4 +1,4 @@
--- What stands at the places of a reply's fields.
+-- A reply's procedure, and what stands at the places of its fields.
 use Rattle.std.specs.Prelude.{ℕ, ◌-◌, ◌==◌, if◌then◌else◌, List, length, drop, slice_range}
 use Rattle.ep_codec.specs.declared.procedure.Procedure.{Procedure}
 use Rattle.ep_codec.specs.declared.procedure.Procedure.TheVariants as procedures
@@ -7,6 +7,28 @@ use Rattle.ep_codec.specs.declared.reply_pdu.ReplyPdu.TheVariants.{Rekeying, Act
 use Rattle.ep_codec.specs.Field.{octet_at, word_at, double_word_at, number_at, sa_state_of, direction_of, suite_of, optional_key}
 use Rattle.ep_codec.specs.FieldList.{rows_in}
 
+-- whose message the reply is
+abbrev pub reply_procedure : ReplyPdu → Procedure
+reply_procedure Rekeying = procedures.Rekeying
+reply_procedure Activate = procedures.Activate
+reply_procedure Deactivate = procedures.Deactivate
+reply_procedure Destroy = procedures.Destroy
+reply_procedure Create = procedures.Create
+reply_procedure Delete = procedures.Delete
+reply_procedure SetWindow = procedures.SetWindow
+reply_procedure Rekey = procedures.Rekey
+reply_procedure Expire = procedures.Expire
+reply_procedure SetNumber = procedures.SetNumber
+reply_procedure Start = procedures.Start
+reply_procedure Stop = procedures.Stop
+reply_procedure (VerifyGcm key vector sealed tag) = procedures.Verify
+reply_procedure (VerifyCmac key number mac) = procedures.Verify
+reply_procedure (Inventory total rows) = procedures.Inventory
+reply_procedure (Compose master vector sealed tag) = procedures.Compose
+reply_procedure (ReadNumber spi number) = procedures.ReadNumber
+reply_procedure (Status spi state direction suite key window) = procedures.Status
+
+-- the values at the places of the fields
 unfoldable pub reply_at : Procedure → List ℕ → ReplyPdu
 reply_at procedures.Rekeying octets = Rekeying
 reply_at procedures.Activate octets = Activate

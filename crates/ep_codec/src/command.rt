@@ -1,3 +1,7 @@
+ghost use Rattle.std.specs.Prelude.{◌≡◌};
+ghost use Rattle.ep_codec.specs.CommandReading.{command_procedure};
+
+use crate::procedure::Procedure;
 use sdls_base::{KeyId, KeyList, NewSa, Octets, Spi};
 
 /// A command of a procedure, in the terms of CCSDS 355.1-B.
@@ -61,4 +65,31 @@ pub enum Command {
     Stop(Spi),
     /// Asks for the state of an association.
     Status(Spi),
+}
+
+impl Command {
+    /// The procedure whose message the command is.
+    pub(crate) fn procedure(&self) -> Procedure
+        ensures { result ≡ command_procedure self.now }
+    {
+        match self {
+            Command::Rekeying { .. } => Procedure::Rekeying,
+            Command::Activate(_) => Procedure::Activate,
+            Command::Deactivate(_) => Procedure::Deactivate,
+            Command::Verify { .. } => Procedure::Verify,
+            Command::Destroy(_) => Procedure::Destroy,
+            Command::Inventory { .. } => Procedure::Inventory,
+            Command::Compose { .. } => Procedure::Compose,
+            Command::ReadNumber(_) => Procedure::ReadNumber,
+            Command::Create(_) => Procedure::Create,
+            Command::Delete(_) => Procedure::Delete,
+            Command::SetWindow { .. } => Procedure::SetWindow,
+            Command::Rekey { .. } => Procedure::Rekey,
+            Command::Expire(_) => Procedure::Expire,
+            Command::SetNumber { .. } => Procedure::SetNumber,
+            Command::Start(_) => Procedure::Start,
+            Command::Stop(_) => Procedure::Stop,
+            Command::Status(_) => Procedure::Status,
+        }
+    }
 }

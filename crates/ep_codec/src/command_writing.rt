@@ -2,19 +2,17 @@
 ghost use Rattle.std.specs.Prelude.{◌≡◌, ◌*◌, ◌+◌, ◌^◌, ◌<◌, ◌≤◌, IsTrue, [], ◌∷◌, ◌++◌, length, OnOk, IfOk};
 ghost use Rattle.std.specs.Int.{w16, w64, to_be_bytes, is_in_range};
 ghost use Rattle.ep_codec.specs.Command.{message, sealed_data, keys_data, association_data, command_octets, IsInBounds, HasTypes, IsCommandPdu};
-ghost use Rattle.ep_codec.specs.Procedure.{tag_of};
 
 use crate::command::Command;
-use crate::procedure::Procedure;
 use crate::writing::{begin, put_number, put_word};
 use sdls_base::{KeyId, KeyList, NewSa, NoMemory, Octets, Spi};
 use std::alloc::Global;
 
 /// A message of an association's index alone.
-fn spi_message(alloc: Global, tag: u8, spi: Spi) -> Result<Vec<u8>, NoMemory>
-    ensures { IfOk result (λ out. out.items ≡ message tag (to_be_bytes w16 spi)) }
+fn spi_message(alloc: Global, kind: u8, spi: Spi) -> Result<Vec<u8>, NoMemory>
+    ensures { IfOk result (λ out. out.items ≡ message kind (to_be_bytes w16 spi)) }
 {
-    let mut out = begin(alloc, tag, 2)?;
+    let mut out = begin(alloc, kind, 2)?;
     put_word(&mut out, spi.get())?;
     Ok(out)
 }
@@ -22,13 +20,13 @@ fn spi_message(alloc: Global, tag: u8, spi: Spi) -> Result<Vec<u8>, NoMemory>
 /// A message of an association's index and a number of 8 octets.
 pub(crate) fn number_message(
     alloc: Global,
-    tag: u8,
+    kind: u8,
     spi: Spi,
     number: u64,
 ) -> Result<Vec<u8>, NoMemory>
-    ensures { IfOk result (λ out. out.items ≡ message tag (to_be_bytes w16 spi ++ to_be_bytes w64 number)) }
+    ensures { IfOk result (λ out. out.items ≡ message kind (to_be_bytes w16 spi ++ to_be_bytes w64 number)) }
 {
-    let mut out = begin(alloc, tag, 10)?;
+    let mut out = begin(alloc, kind, 10)?;
     put_word(&mut out, spi.get())?;
     put_number(&mut out, number)?;
     Ok(out)
@@ -44,11 +42,11 @@ fn put_keys(out: &mut Vec<u8>, keys: &KeyList) -> Result<(), NoMemory>
 }
 
 #[tactic(auto, using(crate::proofs::Lengths::keys_length))]
-fn keys_message(alloc: Global, tag: u8, keys: &KeyList) -> Result<Vec<u8>, NoMemory>
+fn keys_message(alloc: Global, kind: u8, keys: &KeyList) -> Result<Vec<u8>, NoMemory>
     requires { IsTrue (is_in_range 1 8 (length keys.now)) }
-    ensures { IfOk result (λ out. out.items ≡ message tag (keys_data keys.now)) }
+    ensures { IfOk result (λ out. out.items ≡ message kind (keys_data keys.now)) }
 {
-    let mut out = begin(alloc, tag, 2 * keys.as_slice().len())?;
+    let mut out = begin(alloc, kind, 2 * keys.as_slice().len())?;
     put_keys(&mut out, keys)?;
     Ok(out)
 }
@@ -72,26 +70,26 @@ pub(crate) fn put_sealed(
 
 pub(crate) fn sealed_message(
     alloc: Global,
-    message_tag: u8,
+    kind: u8,
     key: KeyId,
     vector: &[u8; 12],
     sealed: &[u8],
     tag: &[u8; 16],
 ) -> Result<Vec<u8>, NoMemory>
     requires { length sealed.now ≤ 280 }
-    ensures { IfOk result (λ out. out.items ≡ message message_tag (sealed_data key vector.now sealed.now tag.now)) }
+    ensures { IfOk result (λ out. out.items ≡ message kind (sealed_data key vector.now sealed.now tag.now)) }
 {
-    let mut out = begin(alloc, message_tag, 30 + sealed.len())?;
+    let mut out = begin(alloc, kind, 30 + sealed.len())?;
     put_sealed(&mut out, key, vector, sealed, tag)?;
     Ok(out)
 }
 
-fn create_message(alloc: Global, tag: u8, sa: &NewSa) -> Result<Vec<u8>, NoMemory>
+fn create_message(alloc: Global, kind: u8, sa: &NewSa) -> Result<Vec<u8>, NoMemory>
     requires { IsTrue (is_in_range 1 8 (length sa.now.channels)) }
-    ensures { IfOk result (λ out. out.items ≡ message tag (association_data sa.now)) }
+    ensures { IfOk result (λ out. out.items ≡ message kind (association_data sa.now)) }
 {
     let channels = sa.channels.as_slice();
-    let mut out = begin(alloc, tag, 13 + channels.len())?;
+    let mut out = begin(alloc, kind, 13 + channels.len())?;
     put_word(&mut out, sa.spi.get())?;
     out.push(sa.direction as u8)?;
     out.push(sa.suite as u8)?;
@@ -103,22 +101,22 @@ fn create_message(alloc: Global, tag: u8, sa: &NewSa) -> Result<Vec<u8>, NoMemor
 
 fn verify_message(
     alloc: Global,
-    tag: u8,
+    kind: u8,
     key: KeyId,
     challenge: &[u8; 16],
 ) -> Result<Vec<u8>, NoMemory>
-    ensures { IfOk result (λ out. out.items ≡ message tag (to_be_bytes w16 key ++ challenge.now)) }
+    ensures { IfOk result (λ out. out.items ≡ message kind (to_be_bytes w16 key ++ challenge.now)) }
 {
-    let mut out = begin(alloc, tag, 18)?;
+    let mut out = begin(alloc, kind, 18)?;
     put_word(&mut out, key.get())?;
     out.extend_from_slice(challenge)?;
     Ok(out)
 }
 
-fn inventory_message(alloc: Global, tag: u8, first: u16, last: u16) -> Result<Vec<u8>, NoMemory>
-    ensures { IfOk result (λ out. out.items ≡ message tag (to_be_bytes w16 first ++ to_be_bytes w16 last)) }
+fn inventory_message(alloc: Global, kind: u8, first: u16, last: u16) -> Result<Vec<u8>, NoMemory>
+    ensures { IfOk result (λ out. out.items ≡ message kind (to_be_bytes w16 first ++ to_be_bytes w16 last)) }
 {
-    let mut out = begin(alloc, tag, 4)?;
+    let mut out = begin(alloc, kind, 4)?;
     put_word(&mut out, first)?;
     put_word(&mut out, last)?;
     Ok(out)
@@ -127,14 +125,14 @@ fn inventory_message(alloc: Global, tag: u8, first: u16, last: u16) -> Result<Ve
 #[tactic(auto, using(crate::proofs::Lengths::keys_length))]
 fn compose_message(
     alloc: Global,
-    tag: u8,
+    kind: u8,
     master: KeyId,
     keys: &KeyList,
 ) -> Result<Vec<u8>, NoMemory>
     requires { IsTrue (is_in_range 1 8 (length keys.now)) }
-    ensures { IfOk result (λ out. out.items ≡ message tag (to_be_bytes w16 master ++ keys_data keys.now)) }
+    ensures { IfOk result (λ out. out.items ≡ message kind (to_be_bytes w16 master ++ keys_data keys.now)) }
 {
-    let mut out = begin(alloc, tag, 2 + 2 * keys.as_slice().len())?;
+    let mut out = begin(alloc, kind, 2 + 2 * keys.as_slice().len())?;
     put_word(&mut out, master.get())?;
     put_keys(&mut out, keys)?;
     Ok(out)
@@ -142,14 +140,14 @@ fn compose_message(
 
 fn rekey_message(
     alloc: Global,
-    tag: u8,
+    kind: u8,
     spi: Spi,
     key: KeyId,
     number: u64,
 ) -> Result<Vec<u8>, NoMemory>
-    ensures { IfOk result (λ out. out.items ≡ message tag (to_be_bytes w16 spi ++ (to_be_bytes w16 key ++ to_be_bytes w64 number))) }
+    ensures { IfOk result (λ out. out.items ≡ message kind (to_be_bytes w16 spi ++ (to_be_bytes w16 key ++ to_be_bytes w64 number))) }
 {
-    let mut out = begin(alloc, tag, 12)?;
+    let mut out = begin(alloc, kind, 12)?;
     put_word(&mut out, spi.get())?;
     put_word(&mut out, key.get())?;
     put_number(&mut out, number)?;
@@ -161,69 +159,33 @@ fn octets_of(alloc: Global, command: &Command) -> Result<Vec<u8>, NoMemory>
     requires { IsInBounds command.now }
     ensures { IfOk result (λ out. out.items ≡ command_octets command.now) }
 {
+    let kind = command.procedure().tag();
     match command {
         Command::Rekeying {
             master,
             vector,
             sealed,
             tag,
-        } => {
-            sealed_message(
-                alloc,
-                Procedure::Rekeying.tag(),
-                *master,
-                vector,
-                sealed.as_slice(),
-                tag,
-            )
+        } => sealed_message(alloc, kind, *master, vector, sealed.as_slice(), tag),
+        Command::Activate(keys) | Command::Deactivate(keys) | Command::Destroy(keys) => {
+            keys_message(alloc, kind, keys)
         }
-        Command::Activate(keys) => keys_message(alloc, Procedure::Activate.tag(), keys),
-        Command::Deactivate(keys) => keys_message(alloc, Procedure::Deactivate.tag(), keys),
-        Command::Verify { key, challenge } => verify_message(
-            alloc,
-            Procedure::Verify.tag(),
-            *key,
-            challenge,
-        ),
-        Command::Destroy(keys) => keys_message(alloc, Procedure::Destroy.tag(), keys),
-        Command::Inventory { first, last } => inventory_message(
-            alloc,
-            Procedure::Inventory.tag(),
-            *first,
-            *last,
-        ),
-        Command::Compose { master, keys } => compose_message(
-            alloc,
-            Procedure::Compose.tag(),
-            *master,
-            keys,
-        ),
-        Command::ReadNumber(spi) => spi_message(alloc, Procedure::ReadNumber.tag(), *spi),
-        Command::Create(sa) => create_message(alloc, Procedure::Create.tag(), sa),
-        Command::Delete(spi) => spi_message(alloc, Procedure::Delete.tag(), *spi),
-        Command::SetWindow { spi, window } => number_message(
-            alloc,
-            Procedure::SetWindow.tag(),
-            *spi,
-            *window,
-        ),
-        Command::Rekey { spi, key, number } => rekey_message(
-            alloc,
-            Procedure::Rekey.tag(),
-            *spi,
-            *key,
-            *number,
-        ),
-        Command::Expire(spi) => spi_message(alloc, Procedure::Expire.tag(), *spi),
-        Command::SetNumber { spi, number } => number_message(
-            alloc,
-            Procedure::SetNumber.tag(),
-            *spi,
-            *number,
-        ),
-        Command::Start(spi) => spi_message(alloc, Procedure::Start.tag(), *spi),
-        Command::Stop(spi) => spi_message(alloc, Procedure::Stop.tag(), *spi),
-        Command::Status(spi) => spi_message(alloc, Procedure::Status.tag(), *spi),
+        Command::Verify { key, challenge } => verify_message(alloc, kind, *key, challenge),
+        Command::Inventory { first, last } => inventory_message(alloc, kind, *first, *last),
+        Command::Compose { master, keys } => compose_message(alloc, kind, *master, keys),
+        Command::Create(sa) => create_message(alloc, kind, sa),
+        Command::Rekey { spi, key, number } => rekey_message(alloc, kind, *spi, *key, *number),
+        Command::SetWindow {
+            spi,
+            window: number,
+        }
+        | Command::SetNumber { spi, number } => number_message(alloc, kind, *spi, *number),
+        Command::ReadNumber(spi)
+        | Command::Delete(spi)
+        | Command::Expire(spi)
+        | Command::Start(spi)
+        | Command::Stop(spi)
+        | Command::Status(spi) => spi_message(alloc, kind, *spi),
     }
 }
 

@@ -1,3 +1,7 @@
+ghost use Rattle.std.specs.Prelude.{◌≡◌};
+ghost use Rattle.ep_codec.specs.ReplyReading.{reply_procedure};
+
+use crate::procedure::Procedure;
 use sdls_base::{Direction, KeyId, KeyRows, Octets, SaState, Spi, Suite};
 
 /// The reply of a procedure, in the terms of CCSDS 355.1-B. Those that carry nothing say that the command was done.
@@ -54,4 +58,31 @@ pub enum ReplyPdu {
         key: Option<KeyId>,
         window: u64,
     },
+}
+
+impl ReplyPdu {
+    /// The procedure whose message the reply is.
+    pub(crate) fn procedure(&self) -> Procedure
+        ensures { result ≡ reply_procedure self.now }
+    {
+        match self {
+            ReplyPdu::Rekeying => Procedure::Rekeying,
+            ReplyPdu::Activate => Procedure::Activate,
+            ReplyPdu::Deactivate => Procedure::Deactivate,
+            ReplyPdu::Destroy => Procedure::Destroy,
+            ReplyPdu::Create => Procedure::Create,
+            ReplyPdu::Delete => Procedure::Delete,
+            ReplyPdu::SetWindow => Procedure::SetWindow,
+            ReplyPdu::Rekey => Procedure::Rekey,
+            ReplyPdu::Expire => Procedure::Expire,
+            ReplyPdu::SetNumber => Procedure::SetNumber,
+            ReplyPdu::Start => Procedure::Start,
+            ReplyPdu::Stop => Procedure::Stop,
+            ReplyPdu::VerifyGcm { .. } | ReplyPdu::VerifyCmac { .. } => Procedure::Verify,
+            ReplyPdu::Inventory { .. } => Procedure::Inventory,
+            ReplyPdu::Compose { .. } => Procedure::Compose,
+            ReplyPdu::ReadNumber { .. } => Procedure::ReadNumber,
+            ReplyPdu::Status { .. } => Procedure::Status,
+        }
+    }
 }

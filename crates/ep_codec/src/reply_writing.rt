@@ -17,29 +17,16 @@ use std::alloc::Global;
 /// The type bit of a reply's tag.
 const REPLY: u8 = 0x80;
 
-/// The tag of a procedure's reply.
-fn reply_tag(procedure: Procedure) -> u8
-    ensures { result ≡ 128 + tag_of procedure }
-{
-    REPLY + procedure.tag()
-}
-
-fn done_message(alloc: Global, procedure: Procedure) -> Result<Vec<u8>, NoMemory>
-    ensures { IfOk result (λ out. out.items ≡ message (128 + tag_of procedure) []) }
-{
-    begin(alloc, reply_tag(procedure), 0)
-}
-
 fn cmac_message(
     alloc: Global,
-    tag: u8,
+    kind: u8,
     key: KeyId,
     number: u32,
     mac: &[u8; 16],
 ) -> Result<Vec<u8>, NoMemory>
-    ensures { IfOk result (λ out. out.items ≡ message tag (to_be_bytes w16 key ++ (to_be_bytes w32 number ++ mac.now))) }
+    ensures { IfOk result (λ out. out.items ≡ message kind (to_be_bytes w16 key ++ (to_be_bytes w32 number ++ mac.now))) }
 {
-    let mut out = begin(alloc, tag, 22)?;
+    let mut out = begin(alloc, kind, 22)?;
     put_word(&mut out, key.get())?;
     put_double_word(&mut out, number)?;
     out.extend_from_slice(mac)?;
@@ -67,14 +54,14 @@ fn put_rows(out: &mut Vec<u8>, rows: &KeyRows) -> Result<(), NoMemory>
 #[tactic(auto, using(crate::proofs::Lengths::rows_length))]
 fn inventory_message(
     alloc: Global,
-    tag: u8,
+    kind: u8,
     total: u16,
     rows: &KeyRows,
 ) -> Result<Vec<u8>, NoMemory>
     requires { length rows.now ≤ 256 }
-    ensures { IfOk result (λ out. out.items ≡ message tag (to_be_bytes w16 total ++ flat_map row_octets rows.now)) }
+    ensures { IfOk result (λ out. out.items ≡ message kind (to_be_bytes w16 total ++ flat_map row_octets rows.now)) }
 {
-    let mut out = begin(alloc, tag, 2 + 3 * rows.as_slice().len())?;
+    let mut out = begin(alloc, kind, 2 + 3 * rows.as_slice().len())?;
     put_word(&mut out, total)?;
     put_rows(&mut out, rows)?;
     Ok(out)
@@ -83,17 +70,17 @@ fn inventory_message(
 /// A message that carries a whole rekeying command.
 fn compose_message(
     alloc: Global,
-    message_tag: u8,
+    kind: u8,
     master: KeyId,
     vector: &[u8; 12],
     sealed: &[u8],
     tag: &[u8; 16],
 ) -> Result<Vec<u8>, NoMemory>
     requires { length sealed.now ≤ 280 }
-    ensures { IfOk result (λ out. out.items ≡ message message_tag (message 1 (sealed_data master vector.now sealed.now tag.now))) }
+    ensures { IfOk result (λ out. out.items ≡ message kind (message 1 (sealed_data master vector.now sealed.now tag.now))) }
 {
     let length = 30 + sealed.len();
-    let mut out = begin(alloc, message_tag, 3 + length)?;
+    let mut out = begin(alloc, kind, 3 + length)?;
     out.push(Procedure::Rekeying.tag())?;
     put_word(&mut out, 8 * length as u16)?;
     put_sealed(&mut out, master, vector, sealed, tag)?;
@@ -112,7 +99,7 @@ fn status_message(
 ) -> Result<Vec<u8>, NoMemory>
     ensures { IfOk result (λ out. out.items ≡ reply_octets (Status spi state direction suite key window)) }
 {
-    let mut out = begin(alloc, reply_tag(Procedure::Status), 15)?;
+    let mut out = begin(alloc, REPLY + Procedure::Status.tag(), 15)?;
     put_word(&mut out, spi.get())?;
     out.push(state as u8)?;
     out.push(direction as u8)?;
@@ -127,68 +114,23 @@ fn octets_of(alloc: Global, reply: &ReplyPdu) -> Result<Vec<u8>, NoMemory>
     requires { IsInBounds reply.now }
     ensures { IfOk result (λ out. out.items ≡ reply_octets reply.now) }
 {
+    let kind = REPLY + reply.procedure().tag();
     match reply {
-        ReplyPdu::Rekeying => done_message(alloc, Procedure::Rekeying),
-        ReplyPdu::Activate => done_message(alloc, Procedure::Activate),
-        ReplyPdu::Deactivate => done_message(alloc, Procedure::Deactivate),
-        ReplyPdu::Destroy => done_message(alloc, Procedure::Destroy),
-        ReplyPdu::Create => done_message(alloc, Procedure::Create),
-        ReplyPdu::Delete => done_message(alloc, Procedure::Delete),
-        ReplyPdu::SetWindow => done_message(alloc, Procedure::SetWindow),
-        ReplyPdu::Rekey => done_message(alloc, Procedure::Rekey),
-        ReplyPdu::Expire => done_message(alloc, Procedure::Expire),
-        ReplyPdu::SetNumber => done_message(alloc, Procedure::SetNumber),
-        ReplyPdu::Start => done_message(alloc, Procedure::Start),
-        ReplyPdu::Stop => done_message(alloc, Procedure::Stop),
         ReplyPdu::VerifyGcm {
             key,
             vector,
             sealed,
             tag,
-        } => {
-            sealed_message(
-                alloc,
-                reply_tag(Procedure::Verify),
-                *key,
-                vector,
-                sealed,
-                tag,
-            )
-        }
-        ReplyPdu::VerifyCmac { key, number, mac } => cmac_message(
-            alloc,
-            reply_tag(Procedure::Verify),
-            *key,
-            *number,
-            mac,
-        ),
-        ReplyPdu::Inventory { total, rows } => inventory_message(
-            alloc,
-            reply_tag(Procedure::Inventory),
-            *total,
-            rows,
-        ),
+        } => sealed_message(alloc, kind, *key, vector, sealed, tag),
+        ReplyPdu::VerifyCmac { key, number, mac } => cmac_message(alloc, kind, *key, *number, mac),
+        ReplyPdu::Inventory { total, rows } => inventory_message(alloc, kind, *total, rows),
         ReplyPdu::Compose {
             master,
             vector,
             sealed,
             tag,
-        } => {
-            compose_message(
-                alloc,
-                reply_tag(Procedure::Compose),
-                *master,
-                vector,
-                sealed.as_slice(),
-                tag,
-            )
-        }
-        ReplyPdu::ReadNumber { spi, number } => number_message(
-            alloc,
-            reply_tag(Procedure::ReadNumber),
-            *spi,
-            *number,
-        ),
+        } => compose_message(alloc, kind, *master, vector, sealed.as_slice(), tag),
+        ReplyPdu::ReadNumber { spi, number } => number_message(alloc, kind, *spi, *number),
         ReplyPdu::Status {
             spi,
             state,
@@ -196,7 +138,8 @@ fn octets_of(alloc: Global, reply: &ReplyPdu) -> Result<Vec<u8>, NoMemory>
             suite,
             key,
             window,
-        } => { status_message(alloc, *spi, *state, *direction, *suite, *key, *window) }
+        } => status_message(alloc, *spi, *state, *direction, *suite, *key, *window),
+        _ => begin(alloc, kind, 0),
     }
 }
 
