@@ -9,16 +9,11 @@ ghost use Rattle.ep_codec.specs.Field.{count_check};
 
 use crate::command::Command;
 use crate::field_lists::{channels, keys};
-use crate::fields::{array, direction, key, number, spi, suite, window, word};
+use crate::fields::{TAG, VECTOR, array, direction, key, number, spi, suite, window, word};
 use crate::pdu_error::PduError;
 use crate::procedure::Procedure;
 use sdls_base::{NewSa, Octets};
 use std::alloc::Global;
-
-/// The octets of a message's vector, and of its tag.
-pub(crate) const VECTOR: usize = 12;
-
-pub(crate) const TAG: usize = 16;
 
 #[tactic(auto, unfolding(crate::specs::MessageFault::command_checks, crate::specs::CommandReading::command_at))]
 fn rekeying(alloc: Global, octets: &[u8]) -> Result<Command, PduError>

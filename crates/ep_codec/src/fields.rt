@@ -6,6 +6,12 @@ ghost use Rattle.ep_codec.specs.Field.{word_at, double_word_at, number_at, octet
 use crate::pdu_error::PduError;
 use sdls_base::{Direction, KeyId, SaState, Spi, Suite};
 
+/// The octets of a vector.
+pub(crate) const VECTOR: usize = 12;
+
+/// The octets of the tag behind what is sealed.
+pub(crate) const TAG: usize = 16;
+
 pub(crate) fn word(octets: &[u8], at: usize) -> u16
     requires { at + 2 ≤ length octets.now }
     ensures { result ≡ word_at at octets.now }

@@ -7,10 +7,9 @@ ghost use Rattle.ep_codec.specs.ReplyReading.{reply_at};
 ghost use Rattle.ep_codec.specs.Procedure.{has_reply_length};
 ghost use Rattle.ep_codec.specs.Field.{word_at, sealing_key_check, mac_key_check, inner_tag_check, inner_length_check};
 
-use crate::command_reading::{TAG, VECTOR};
 use crate::field_lists::rows;
 use crate::fields::{
-    array, direction, double_word, key, number, sa_state, spi, suite, window, word,
+    TAG, VECTOR, array, direction, double_word, key, number, sa_state, spi, suite, window, word,
 };
 use crate::pdu_error::PduError;
 use crate::procedure::Procedure;

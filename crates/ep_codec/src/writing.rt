@@ -6,7 +6,7 @@ use byteorder::{BigEndian, ByteOrder};
 use sdls_base::NoMemory;
 use std::alloc::Global;
 
-/// The octets of a message before its data: tag, type bit, and the length of the data in octets.
+/// The octets before the data of a message: its tag, and the length of the data in bits.
 const HEADER: usize = 3;
 
 pub(crate) fn put_word(out: &mut Vec<u8>, n: u16) -> Result<(), NoMemory>
