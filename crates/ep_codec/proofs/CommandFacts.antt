@@ -1,12 +1,10 @@
 -- A command is found where its octets have no fault, and what was written is read again.
-use Rattle.std.proofs.Common.{◌≡◌, ℕ, zero, suc, ◌+◌, ◌-◌, ◌*◌, ◌/◌, ◌%◌, ◌^◌, ◌<◌, ◌≤◌, Bool, true, false, List, [], ◌∷◌, ◌++◌, length, get_or, take, drop, Option, Some, None, refl, sym, ap, ◌∙◌, arith, append_assoc, length-append}
+use Rattle.std.proofs.Common.{◌≡◌, ℕ, zero, suc, ◌+◌, ◌-◌, ◌%◌, ◌≤◌, true, List, [], ◌∷◌, ◌++◌, length, drop, Some, None, refl, sym, ap, ◌∙◌, arith}
 use Rattle.std.specs.Prelude.{not, ◌&&◌, ◌==◌, IsTrue, slice_range}
 use Rattle.std.specs.List.{AllByRecursion}
 use Rattle.std.specs.Int.{w16, w64, to_be_bytes, is_in_range}
-use Rattle.std.proofs.lemmas.Bool.{and_parts, and_from, eqb-true, eq-eqb}
-use Rattle.std.proofs.lemmas.List.{length-drop, drop_at, take_at, append-nil}
-use Rattle.std.proofs.lemmas.Nat.{from_be_bytes-to_be_bytes_2, from_be_bytes-to_be_bytes_8}
-use Rattle.sdls_base.specs.declared.change.NewSa.{NewSa}
+use Rattle.std.proofs.lemmas.Bool.{and_parts, eqb-true}
+use Rattle.std.proofs.lemmas.List.{length-drop}
 use Rattle.sdls_base.specs.declared.states.Direction.{Direction}
 use Rattle.sdls_base.specs.declared.states.Direction.TheVariants.{Send, Receive}
 use Rattle.sdls_base.specs.declared.states.Suite.{Suite}
@@ -14,19 +12,17 @@ use Rattle.sdls_base.specs.declared.states.Suite.TheVariants.{Cmac, Gcm}
 use Rattle.ep_codec.specs.declared.procedure.PduType.TheVariants as types
 use Rattle.ep_codec.specs.declared.procedure.Procedure.{Procedure}
 use Rattle.ep_codec.specs.declared.procedure.Procedure.TheVariants as procedures
-use Rattle.ep_codec.specs.declared.command.Command.{Command}
-use Rattle.ep_codec.specs.declared.command.Command.TheVariants.{Rekeying, Activate, Deactivate, Verify, Destroy, Inventory, Compose, ReadNumber, Create, Delete, SetWindow, Rekey, Expire, SetNumber, Start, Stop, Status}
 use Rattle.ep_codec.specs.Check.{Check, first_fault}
-use Rattle.ep_codec.specs.Command.{message, sealed_data, keys_data, association_data, command_octets, IsInBounds, HasTypes, IsCommandPdu, AreChannels}
+use Rattle.ep_codec.specs.Command.{message, sealed_data, keys_data, association_data, command_octets, IsInBounds, HasTypes, IsCommandPdu}
 use Rattle.ep_codec.specs.CommandReading.{command_at}
-use Rattle.ep_codec.specs.Field.{octet_at, word_at, number_at, is_key, is_spi, is_window, direction_code, suite_code, direction_of, suite_of, key_check, spi_check, window_check, code_check, last_check, count_check}
+use Rattle.ep_codec.specs.Field.{octet_at, word_at, number_at, is_key, is_spi, is_window, direction_code, suite_code, direction_of, suite_of, key_check, spi_check, window_check, code_check, count_check}
 use Rattle.ep_codec.specs.FieldList.{keys_in, key_checks, channel_checks}
 use Rattle.ep_codec.specs.MessageFault.{procedure_in, header_checks, command_checks}
-use Rattle.ep_codec.specs.Procedure.{tag_of, has_command_length}
-use Rattle.ep_codec.proofs.Faults.{first_passed, others_passed}
-use Rattle.ep_codec.proofs.FieldFacts.{AreOctets, low_bound, high_bound, in_bounds, kept, keeps, octet_field, word_field, number_field, range_field, range_length, word_end, number_end, range_end, word_small, number_small, octets_drop}
-use Rattle.ep_codec.proofs.HeaderFacts.{Framed, header_passed, Passes, header_again}
-use Rattle.ep_codec.proofs.ListFacts.{keys_spelled, keys_count, keys_are, keys_read_again, keys_pass, channels_small, channels_ascend, channels_pass}
+use Rattle.ep_codec.specs.Procedure.{tag_of}
+use Rattle.ep_codec.proofs.Faults.{others_passed}
+use Rattle.ep_codec.proofs.FieldFacts.{AreOctets, low_bound, high_bound, in_bounds, kept, octet_field, word_field, number_field, range_field, range_length, word_end, number_end, range_end, word_small, number_small, octets_drop}
+use Rattle.ep_codec.proofs.HeaderFacts.{Framed, header_passed}
+use Rattle.ep_codec.proofs.ListFacts.{keys_spelled, keys_count, keys_are, channels_small, channels_ascend}
 
 -- ---- the shapes of data, found in octets without fault
 

@@ -1,5 +1,5 @@
 -- Tests that find no fault, one after the other.
-use Rattle.std.proofs.Common.{◌≡◌, ℕ, Bool, true, false, cond, List, [], ◌∷◌, ◌++◌, Option, Some, None, refl, sym, ◌∙◌}
+use Rattle.std.proofs.Common.{◌≡◌, ℕ, Bool, true, false, List, [], ◌∷◌, ◌++◌, Some, None, refl, ◌∙◌}
 use Rattle.ep_codec.specs.Check.{Check, first_fault}
 
 -- a test that finds none is passed over

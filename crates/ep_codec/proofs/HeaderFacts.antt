@@ -1,7 +1,7 @@
 -- What stands before the fields of a message.
-use Rattle.std.proofs.Common.{◌≡◌, ℕ, zero, suc, ◌+◌, ◌-◌, ◌*◌, ◌/◌, ◌%◌, ◌^◌, ◌<◌, ◌≤◌, Bool, true, false, List, [], ◌∷◌, ◌++◌, length, get_or, take, drop, Option, Some, None, refl, sym, ap, subst, ◌∙◌, arith, add-one, cond}
-use Rattle.std.specs.Prelude.{not, ◌&&◌, ◌==◌, nat_lt, is_none, find}
-use Rattle.std.specs.Int.{w16, from_be_bytes, to_be_bytes}
+use Rattle.std.proofs.Common.{◌≡◌, ℕ, ◌+◌, ◌-◌, ◌*◌, ◌/◌, ◌%◌, ◌^◌, ◌<◌, ◌≤◌, Bool, true, false, List, [], ◌∷◌, ◌++◌, length, get_or, drop, Option, Some, None, refl, sym, ap, subst, ◌∙◌, arith, cond}
+use Rattle.std.specs.Prelude.{not, ◌==◌, nat_lt, is_none, find}
+use Rattle.std.specs.Int.{w16, to_be_bytes}
 use Rattle.std.proofs.lemmas.Bool.{and_parts, and_from, eqb-true, eq-eqb, ltb-false, le-ltb}
 use Rattle.std.proofs.lemmas.List.{length-drop}
 use Rattle.std.proofs.lemmas.Nat.{from_be_bytes-to_be_bytes_2}
@@ -9,7 +9,7 @@ use Rattle.ep_codec.specs.declared.procedure.PduType.{PduType}
 use Rattle.ep_codec.specs.declared.procedure.PduType.TheVariants.{Command, Reply}
 use Rattle.ep_codec.specs.declared.procedure.Procedure.{Procedure}
 use Rattle.ep_codec.specs.declared.procedure.Procedure.TheVariants.{Rekeying, Activate, Deactivate, Verify, Destroy, Inventory, Compose, ReadNumber, Create, Delete, SetWindow, Rekey, Expire, SetNumber, Start, Stop, Status}
-use Rattle.ep_codec.specs.Check.{Check, first_fault}
+use Rattle.ep_codec.specs.Check.{first_fault}
 use Rattle.ep_codec.specs.Command.{message}
 use Rattle.ep_codec.specs.Field.{word_at}
 use Rattle.ep_codec.specs.MessageFault.{procedure_in, can_have, end_in, header_checks}

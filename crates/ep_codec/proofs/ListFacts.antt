@@ -1,5 +1,5 @@
 -- Lists of fields are what stands there, and what was written is read again.
-use Rattle.std.proofs.Common.{◌≡◌, ℕ, zero, suc, ◌+◌, ◌*◌, ◌%◌, ◌^◌, ◌<◌, ◌≤◌, true, List, [], ◌∷◌, ◌++◌, length, get_or, None, refl, sym, ap, ◌∙◌, arith, add-one}
+use Rattle.std.proofs.Common.{◌≡◌, ℕ, zero, suc, ◌+◌, ◌*◌, ◌%◌, ◌≤◌, true, List, [], ◌∷◌, ◌++◌, length, None, refl, ap, ◌∙◌, arith, add-one}
 use Rattle.std.specs.Prelude.{⊤, not, IsTrue}
 use Rattle.std.specs.List.{flat_map, AllByRecursion}
 use Rattle.std.specs.List.Sorted.{IsStrictlyIncreasing}
@@ -7,7 +7,7 @@ use Rattle.std.specs.Int.{w16, from_be_bytes, to_be_bytes, is_in_range}
 use Rattle.std.proofs.lemmas.Nat.{from_be_bytes-to_be_bytes_2}
 use Rattle.sdls_base.specs.declared.states.KeyState.{KeyState}
 use Rattle.sdls_base.specs.declared.states.KeyState.TheVariants.{PreActive, Active, Deactivated, Destroyed}
-use Rattle.ep_codec.specs.Check.{Check, first_fault}
+use Rattle.ep_codec.specs.Check.{first_fault}
 use Rattle.ep_codec.specs.Command.{keys_data}
 use Rattle.ep_codec.specs.Field.{is_key, key_state_code, key_state_of}
 use Rattle.ep_codec.specs.FieldList.{keys_in, key_checks, rows_in, row_checks, channel_checks}

@@ -1,10 +1,10 @@
 -- A list of fields, taken from its front.
-use Rattle.std.proofs.Common.{◌≡◌, ℕ, ◌+◌, ◌-◌, ◌≤◌, List, [], ◌∷◌, ◌++◌, length, get_or, take, drop, None, refl, sym, ap, ◌∙◌, arith}
+use Rattle.std.proofs.Common.{◌≡◌, ℕ, ◌+◌, ◌-◌, ◌≤◌, List, [], ◌∷◌, ◌++◌, length, get_or, take, drop, None, sym, ap, ◌∙◌, arith}
 use Rattle.std.specs.Prelude.{not}
 use Rattle.std.specs.Int.{w16, from_be_bytes, is_in_range}
 use Rattle.std.proofs.lemmas.List.{take_all, append_assoc}
 use Rattle.sdls_base.specs.declared.states.KeyState.{KeyState}
-use Rattle.ep_codec.specs.Check.{Check, first_fault}
+use Rattle.ep_codec.specs.Check.{first_fault}
 use Rattle.ep_codec.specs.Field.{is_key, key_state_of}
 use Rattle.ep_codec.specs.FieldList.{keys_in, key_checks, rows_in, row_checks}
 use Rattle.ep_codec.proofs.Faults.{passed}

@@ -1,10 +1,10 @@
 -- A reply that was written is read again.
-use Rattle.std.proofs.Common.{◌≡◌, ℕ, zero, suc, ◌+◌, ◌-◌, ◌*◌, ◌/◌, ◌%◌, ◌^◌, ◌<◌, ◌≤◌, Bool, true, false, cond, List, [], ◌∷◌, ◌++◌, length, take, drop, Option, Some, None, refl, sym, ap, subst, ◌∙◌, arith, length-append}
-use Rattle.std.specs.Prelude.{not, ◌&&◌, ◌||◌, ◌==◌, IsTrue, IfSome, slice_range, unwrap_or}
+use Rattle.std.proofs.Common.{◌≡◌, ℕ, zero, suc, ◌+◌, ◌-◌, ◌*◌, ◌%◌, ◌^◌, ◌<◌, true, false, List, [], ◌∷◌, ◌++◌, length, take, Option, Some, None, refl, sym, ap, ◌∙◌, arith, length-append}
+use Rattle.std.specs.Prelude.{not, ◌&&◌, ◌==◌, IsTrue, IfSome, slice_range, unwrap_or}
 use Rattle.std.specs.List.{flat_map}
 use Rattle.std.specs.Int.{w16, w32, w64, to_be_bytes, is_in_range}
 use Rattle.std.proofs.lemmas.Bool.{and_from, or_left, or_right, eq-eqb, ne_eqb, cond-true, cond-false}
-use Rattle.std.proofs.lemmas.List.{take_all, take_at}
+use Rattle.std.proofs.lemmas.List.{take_all}
 use Rattle.std.proofs.lemmas.Nat.{from_be_bytes-to_be_bytes_2, from_be_bytes-to_be_bytes_4, from_be_bytes-to_be_bytes_8}
 use Rattle.sdls_base.specs.declared.states.SaState.{SaState}
 use Rattle.sdls_base.specs.declared.states.SaState.TheVariants.{Unkeyed, Keyed, Operational}
@@ -18,9 +18,8 @@ use Rattle.ep_codec.specs.Check.{Check, first_fault}
 use Rattle.ep_codec.specs.Command.{message, sealed_data}
 use Rattle.ep_codec.specs.ReplyPdu.{row_octets, reply_octets, IsInBounds, HasTypes, IsReplyPdu}
 use Rattle.ep_codec.specs.ReplyReading.{reply_at, reply_procedure}
-use Rattle.ep_codec.specs.Field.{octet_at, word_at, double_word_at, number_at, is_key, is_spi, is_window, seals, sa_state_code, sa_state_of, direction_code, suite_code, direction_of, suite_of, optional_key, key_check, spi_check, window_check, code_check, sealing_key_check, mac_key_check, inner_tag_check, inner_length_check}
-use Rattle.ep_codec.specs.FieldList.{rows_in, row_checks}
-use Rattle.ep_codec.specs.MessageFault.{procedure_in, header_checks, reply_checks}
+use Rattle.ep_codec.specs.Field.{octet_at, word_at, double_word_at, number_at, is_key, is_window, seals, sa_state_code, sa_state_of, direction_code, suite_code, optional_key, key_check, window_check, code_check, sealing_key_check, mac_key_check, inner_length_check}
+use Rattle.ep_codec.specs.MessageFault.{reply_checks}
 use Rattle.ep_codec.specs.Procedure.{tag_of, has_reply_length}
 use Rattle.ep_codec.proofs.FieldFacts.{low_bound, high_bound, in_bounds, keeps}
 use Rattle.ep_codec.proofs.HeaderFacts.{Passes, header_again}

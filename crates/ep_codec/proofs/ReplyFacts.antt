@@ -1,28 +1,23 @@
 -- A reply is found where its octets have no fault.
-use Rattle.std.proofs.Common.{◌≡◌, ℕ, zero, suc, ◌+◌, ◌-◌, ◌*◌, ◌/◌, ◌%◌, ◌^◌, ◌<◌, ◌≤◌, Bool, true, false, cond, List, [], ◌∷◌, ◌++◌, length, get_or, take, drop, Option, Some, None, refl, sym, ap, subst, ◌∙◌, arith, inl, inr}
-use Rattle.std.specs.Prelude.{not, ◌&&◌, ◌||◌, ◌==◌, IsTrue, IfSome, slice_range, unwrap_or}
-use Rattle.std.specs.List.{AllByRecursion, flat_map}
+use Rattle.std.proofs.Common.{◌≡◌, ℕ, zero, suc, ◌+◌, ◌-◌, ◌*◌, ◌%◌, ◌^◌, ◌<◌, true, false, cond, List, [], ◌∷◌, ◌++◌, length, drop, Option, Some, None, refl, sym, ap, subst, ◌∙◌, arith, inl, inr}
+use Rattle.std.specs.Prelude.{not, ◌&&◌, ◌==◌, IsTrue, IfSome, slice_range, unwrap_or}
 use Rattle.std.specs.Int.{w16, w32, w64, to_be_bytes, is_in_range}
-use Rattle.std.proofs.lemmas.Bool.{and_parts, and_from, or_cases, eqb-true, eqb-false, eq-eqb, ne_eqb, cond-false}
+use Rattle.std.proofs.lemmas.Bool.{and_parts, or_cases, eqb-true, eqb-false, ne_eqb, cond-false}
 use Rattle.std.proofs.lemmas.List.{length-drop, drop_all}
-use Rattle.sdls_base.specs.declared.states.SaState.{SaState}
-use Rattle.sdls_base.specs.declared.states.SaState.TheVariants.{Unkeyed, Keyed, Operational}
 use Rattle.sdls_base.specs.KeyId.{class_of}
 use Rattle.ep_codec.specs.declared.procedure.PduType.TheVariants as types
 use Rattle.ep_codec.specs.declared.procedure.Procedure.{Procedure}
 use Rattle.ep_codec.specs.declared.procedure.Procedure.TheVariants as procedures
-use Rattle.ep_codec.specs.declared.reply_pdu.ReplyPdu.{ReplyPdu}
 use Rattle.ep_codec.specs.declared.reply_pdu.ReplyPdu.TheVariants.{VerifyGcm, VerifyCmac}
-use Rattle.ep_codec.specs.Check.{Check, first_fault}
-use Rattle.ep_codec.specs.Command.{message, sealed_data}
-use Rattle.ep_codec.specs.ReplyPdu.{row_octets, reply_octets, IsInBounds, HasTypes, IsReplyPdu}
+use Rattle.ep_codec.specs.Check.{first_fault}
+use Rattle.ep_codec.specs.Command.{message}
+use Rattle.ep_codec.specs.ReplyPdu.{reply_octets, IsInBounds, HasTypes, IsReplyPdu}
 use Rattle.ep_codec.specs.ReplyReading.{reply_at}
-use Rattle.ep_codec.specs.Field.{octet_at, word_at, double_word_at, number_at, is_key, is_spi, is_window, seals, sa_state_code, sa_state_of, direction_code, suite_code, direction_of, suite_of, optional_key, key_check, spi_check, window_check, code_check, sealing_key_check, mac_key_check, inner_tag_check, inner_length_check}
-use Rattle.ep_codec.specs.FieldList.{rows_in, row_checks}
+use Rattle.ep_codec.specs.Field.{octet_at, word_at, double_word_at, number_at, is_key, is_spi, is_window, seals, sa_state_code, sa_state_of, direction_code, suite_code, direction_of, suite_of, optional_key, key_check, window_check, code_check, sealing_key_check, mac_key_check, inner_length_check}
 use Rattle.ep_codec.specs.MessageFault.{procedure_in, header_checks, reply_checks}
-use Rattle.ep_codec.specs.Procedure.{tag_of, has_reply_length}
+use Rattle.ep_codec.specs.Procedure.{tag_of}
 use Rattle.ep_codec.proofs.Faults.{others_passed}
-use Rattle.ep_codec.proofs.FieldFacts.{AreOctets, low_bound, high_bound, in_bounds, kept, octet_field, word_field, double_word_field, number_field, range_field, range_length, word_end, number_end, range_end, word_small, double_word_small, number_small, octets_drop}
+use Rattle.ep_codec.proofs.FieldFacts.{AreOctets, low_bound, high_bound, in_bounds, kept, octet_field, word_field, double_word_field, range_field, range_length, number_end, range_end, word_small, double_word_small, number_small, octets_drop}
 use Rattle.ep_codec.proofs.HeaderFacts.{Framed, header_passed}
 use Rattle.ep_codec.proofs.CommandFacts.{whole_length, spi_found, key_found, spi_number_spelled, sealed_spelled, tag_length, sealed_length, direction_spelled, suite_spelled}
 use Rattle.ep_codec.proofs.ListFacts.{rows_spelled, rows_count, rows_are}

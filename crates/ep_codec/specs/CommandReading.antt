@@ -1,6 +1,5 @@
 -- A command's procedure, and what stands at the places of its fields.
 use Rattle.std.specs.Prelude.{ℕ, ◌-◌, List, length, drop, slice_range}
-use Rattle.sdls_base.specs.declared.change.NewSa.{NewSa}
 use Rattle.ep_codec.specs.declared.procedure.Procedure.{Procedure}
 use Rattle.ep_codec.specs.declared.procedure.Procedure.TheVariants as procedures
 use Rattle.ep_codec.specs.declared.command.Command.{Command}

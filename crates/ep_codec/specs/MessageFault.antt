@@ -1,6 +1,6 @@
 -- The first fault of octets that should be a procedure message (profile). Its tests in their order: that there are
 -- three octets; the tag; the length of the data; too few octets; too many; and the fields, from the first to the last.
-use Rattle.std.specs.Prelude.{ℕ, ◌+◌, ◌/◌, ◌%◌, ◌==◌, ◌&&◌, nat_lt, not, is_none, Bool, true, false, if◌then◌else◌, List, [], ◌∷◌, ◌++◌, length, drop, slice_index, Option, Some, None}
+use Rattle.std.specs.Prelude.{ℕ, ◌+◌, ◌/◌, ◌%◌, ◌==◌, ◌&&◌, nat_lt, not, is_none, Bool, false, if◌then◌else◌, List, [], ◌∷◌, ◌++◌, length, drop, slice_index, Option, Some, None}
 use Rattle.ep_codec.specs.declared.procedure.PduType.{PduType}
 use Rattle.ep_codec.specs.declared.procedure.PduType.TheVariants.{Command, Reply}
 use Rattle.ep_codec.specs.declared.procedure.Procedure.{Procedure}

@@ -1,6 +1,6 @@
 -- The procedures of the key and association management (the procedures are those of CCSDS 355.1-B; tags, layouts and
 -- lengths are profile).
-use Rattle.std.specs.Prelude.{ℕ, ◌-◌, ◌%◌, ◌==◌, ◌&&◌, ◌||◌, nat_lt, if◌then◌else◌, Bool, false, List, [], ◌∷◌, Option, Some, None, find}
+use Rattle.std.specs.Prelude.{ℕ, ◌-◌, ◌%◌, ◌==◌, ◌&&◌, ◌||◌, nat_lt, if◌then◌else◌, Bool, List, [], ◌∷◌, Option, None, find}
 use Rattle.std.specs.Int.{is_in_range}
 use Rattle.ep_codec.specs.declared.procedure.PduType.{PduType}
 use Rattle.ep_codec.specs.declared.procedure.PduType.TheVariants.{Command, Reply}

@@ -1,4 +1,4 @@
-use Rattle.std.proofs.Common.{◌≡◌, ◌++◌, ◌∷◌, [], arith, ◌∙◌, ap, sym}
+use Rattle.std.proofs.Common.{◌≡◌, ◌++◌, ◌∷◌, [], arith, ◌∙◌, ap}
 use Rattle.ep_codec.specs.FieldList.{keys_in}
 use Rattle.ep_codec.proofs.Lists.{behind, word_of, behind_two, keys_faults, keys_read}
 use Rattle.ep_codec.proofs.field_lists.keys.Goals as goal
