@@ -4,44 +4,44 @@ ghost use Rattle.ep_codec.specs.CommandReading.{command_procedure};
 use crate::procedure::Procedure;
 use sdls_base::{KeyId, KeyList, NewSa, Octets, Spi};
 
-/// A command of a procedure, in the terms of CCSDS 355.1-B.
+/// A command of a procedure of the key and association management (CCSDS 355.1-B). The bounds are profile.
 #[derive(Debug, PartialEq, Eq, Drop)]
 pub enum Command {
-    /// Loads the keys that are sealed under a master key (GCM).
+    /// Loads the keys that are sealed under a master key, by GCM: 19 to 280 octets.
     Rekeying {
         master: KeyId,
         vector: [u8; 12],
         sealed: Octets,
         tag: [u8; 16],
     },
-    /// Makes keys active.
+    /// Makes 1 to 8 keys active.
     Activate(KeyList),
-    /// Makes keys deactivated.
+    /// Makes 1 to 8 keys deactivated.
     Deactivate(KeyList),
-    /// Asks for a proof that the unit has a key.
+    /// Asks for the challenge back, sealed or authenticated under a key.
     Verify {
         key: KeyId,
         challenge: [u8; 16],
     },
-    /// Destroys keys.
+    /// Destroys 1 to 8 keys.
     Destroy(KeyList),
-    /// Asks for the states of the keys from `first` to `last`.
+    /// Asks for the states of the keys from `first` to `last`, which is not below it.
     Inventory {
         first: u16,
         last: u16,
     },
-    /// Asks for a rekeying message for these keys, sealed under a master key.
+    /// Asks for a rekeying command with these keys, 1 to 8, sealed under a master key.
     Compose {
         master: KeyId,
         keys: KeyList,
     },
     /// Asks for the next number of an association.
     ReadNumber(Spi),
-    /// Creates an association.
+    /// Creates an association, on 1 to 8 channels in ascending order, with a window from 1 to 2^32.
     Create(NewSa),
     /// Deletes an association.
     Delete(Spi),
-    /// Sets the width of an association's anti-replay window.
+    /// Sets the width of an association's anti-replay window, from 1 to 2^32.
     SetWindow {
         spi: Spi,
         window: u64,
@@ -52,7 +52,7 @@ pub enum Command {
         key: KeyId,
         number: u64,
     },
-    /// Takes an association's key away.
+    /// Takes the key of an association away.
     Expire(Spi),
     /// Sets the next number of an association.
     SetNumber {

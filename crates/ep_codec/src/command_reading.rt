@@ -1,4 +1,6 @@
 //! The fields of commands.
+#![tactic(auto, unfolding(crate::specs::MessageFault::command_checks, crate::specs::CommandReading::command_at))]
+
 ghost use Rattle.std.specs.Prelude.{◌≡◌, ◌-◌, ◌+◌, ◌^◌, ◌<◌, ◌≤◌, IsTrue, length, slice_range, [], ◌∷◌};
 ghost use Rattle.ep_codec.specs.declared.procedure.Procedure.TheVariants.{Rekeying, Verify, Inventory, Compose, Create, SetWindow, Rekey, SetNumber};
 ghost use Rattle.ep_codec.specs.Check.{Judges};
@@ -15,10 +17,10 @@ use crate::procedure::Procedure;
 use sdls_base::{NewSa, Octets};
 use std::alloc::Global;
 
-#[tactic(auto, unfolding(crate::specs::MessageFault::command_checks, crate::specs::CommandReading::command_at))]
 fn rekeying(alloc: Global, octets: &[u8]) -> Result<Command, PduError>
     requires { IsTrue (has_command_length Rekeying (length octets.now - 3)) }
-    ensures { Judges result (command_checks Rekeying octets.now) (λ command. command ≡ command_at Rekeying octets.now) }
+    ensures { Judges result (command_checks Rekeying octets.now)
+        (λ command. command ≡ command_at Rekeying octets.now) }
 {
     let end = octets.len() - TAG;
     Ok(Command::Rekeying {
@@ -29,10 +31,10 @@ fn rekeying(alloc: Global, octets: &[u8]) -> Result<Command, PduError>
     })
 }
 
-#[tactic(auto, unfolding(crate::specs::MessageFault::command_checks, crate::specs::CommandReading::command_at))]
 fn verify(octets: &[u8]) -> Result<Command, PduError>
     requires { length octets.now ≡ 21 }
-    ensures { Judges result (command_checks Verify octets.now) (λ command. command ≡ command_at Verify octets.now) }
+    ensures { Judges result (command_checks Verify octets.now)
+        (λ command. command ≡ command_at Verify octets.now) }
 {
     Ok(Command::Verify {
         key: key(octets, 3)?,
@@ -40,10 +42,10 @@ fn verify(octets: &[u8]) -> Result<Command, PduError>
     })
 }
 
-#[tactic(auto, unfolding(crate::specs::MessageFault::command_checks, crate::specs::CommandReading::command_at))]
 fn inventory(octets: &[u8]) -> Result<Command, PduError>
     requires { length octets.now ≡ 7 }
-    ensures { Judges result (command_checks Inventory octets.now) (λ command. command ≡ command_at Inventory octets.now) }
+    ensures { Judges result (command_checks Inventory octets.now)
+        (λ command. command ≡ command_at Inventory octets.now) }
 {
     let first = word(octets, 3);
     let last = word(octets, 5);
@@ -53,10 +55,10 @@ fn inventory(octets: &[u8]) -> Result<Command, PduError>
     Ok(Command::Inventory { first, last })
 }
 
-#[tactic(auto, unfolding(crate::specs::MessageFault::command_checks, crate::specs::CommandReading::command_at))]
 fn compose(alloc: Global, octets: &[u8]) -> Result<Command, PduError>
     requires { IsTrue (has_command_length Compose (length octets.now - 3)) }
-    ensures { Judges result (command_checks Compose octets.now) (λ command. command ≡ command_at Compose octets.now) }
+    ensures { Judges result (command_checks Compose octets.now)
+        (λ command. command ≡ command_at Compose octets.now) }
 {
     let master = key(octets, 3)?;
     let keys = keys(alloc, &octets[5..], 5)?;
@@ -76,10 +78,10 @@ fn count(octets: &[u8], at: usize) -> Result<(), PduError>
     }
 }
 
-#[tactic(auto, unfolding(crate::specs::MessageFault::command_checks, crate::specs::CommandReading::command_at))]
 fn create(alloc: Global, octets: &[u8]) -> Result<Command, PduError>
     requires { IsTrue (has_command_length Create (length octets.now - 3)) }
-    ensures { Judges result (command_checks Create octets.now) (λ command. command ≡ command_at Create octets.now) }
+    ensures { Judges result (command_checks Create octets.now)
+        (λ command. command ≡ command_at Create octets.now) }
 {
     let spi = spi(octets, 3)?;
     let direction = direction(octets, 5)?;
@@ -96,20 +98,20 @@ fn create(alloc: Global, octets: &[u8]) -> Result<Command, PduError>
     }))
 }
 
-#[tactic(auto, unfolding(crate::specs::MessageFault::command_checks, crate::specs::CommandReading::command_at))]
 fn set_window(octets: &[u8]) -> Result<Command, PduError>
     requires { length octets.now ≡ 13 }
-    ensures { Judges result (command_checks SetWindow octets.now) (λ command. command ≡ command_at SetWindow octets.now) }
+    ensures { Judges result (command_checks SetWindow octets.now)
+        (λ command. command ≡ command_at SetWindow octets.now) }
 {
     let spi = spi(octets, 3)?;
     let window = window(octets, 5)?;
     Ok(Command::SetWindow { spi, window })
 }
 
-#[tactic(auto, unfolding(crate::specs::MessageFault::command_checks, crate::specs::CommandReading::command_at))]
 fn rekey(octets: &[u8]) -> Result<Command, PduError>
     requires { length octets.now ≡ 15 }
-    ensures { Judges result (command_checks Rekey octets.now) (λ command. command ≡ command_at Rekey octets.now) }
+    ensures { Judges result (command_checks Rekey octets.now)
+        (λ command. command ≡ command_at Rekey octets.now) }
 {
     let spi = spi(octets, 3)?;
     let key = key(octets, 5)?;
@@ -120,10 +122,10 @@ fn rekey(octets: &[u8]) -> Result<Command, PduError>
     })
 }
 
-#[tactic(auto, unfolding(crate::specs::MessageFault::command_checks, crate::specs::CommandReading::command_at))]
 fn set_number(octets: &[u8]) -> Result<Command, PduError>
     requires { length octets.now ≡ 13 }
-    ensures { Judges result (command_checks SetNumber octets.now) (λ command. command ≡ command_at SetNumber octets.now) }
+    ensures { Judges result (command_checks SetNumber octets.now)
+        (λ command. command ≡ command_at SetNumber octets.now) }
 {
     Ok(Command::SetNumber {
         spi: spi(octets, 3)?,
@@ -132,7 +134,6 @@ fn set_number(octets: &[u8]) -> Result<Command, PduError>
 }
 
 /// The command of a procedure, of octets whose length is one that its messages have.
-#[tactic(auto, unfolding(crate::specs::MessageFault::command_checks, crate::specs::CommandReading::command_at))]
 pub(crate) fn command(
     alloc: Global,
     procedure: Procedure,
@@ -140,7 +141,8 @@ pub(crate) fn command(
 ) -> Result<Command, PduError>
     requires whole { 3 ≤ length octets.now }
     requires fits { IsTrue (has_command_length procedure (length octets.now - 3)) }
-    ensures { Judges result (command_checks procedure octets.now) (λ command. command ≡ command_at procedure octets.now) }
+    ensures { Judges result (command_checks procedure octets.now)
+        (λ command. command ≡ command_at procedure octets.now) }
 {
     match procedure {
         Procedure::Rekeying => rekeying(alloc, octets),

@@ -24,7 +24,8 @@ pub(crate) fn number_message(
     spi: Spi,
     number: u64,
 ) -> Result<Vec<u8>, NoMemory>
-    ensures { IfOk result (λ out. out.items ≡ message kind (to_be_bytes w16 spi ++ to_be_bytes w64 number)) }
+    ensures { IfOk result (λ out. out.items
+        ≡ message kind (to_be_bytes w16 spi ++ to_be_bytes w64 number)) }
 {
     let mut out = begin(alloc, kind, 10)?;
     put_word(&mut out, spi.get())?;
@@ -59,7 +60,8 @@ pub(crate) fn put_sealed(
     sealed: &[u8],
     tag: &[u8; 16],
 ) -> Result<(), NoMemory>
-    ensures { OnOk result (out.new.items ≡ out.old.items ++ sealed_data key vector.now sealed.now tag.now) }
+    ensures { OnOk result (out.new.items
+        ≡ out.old.items ++ sealed_data key vector.now sealed.now tag.now) }
 {
     put_word(out, key.get())?;
     out.extend_from_slice(vector)?;
@@ -77,7 +79,8 @@ pub(crate) fn sealed_message(
     tag: &[u8; 16],
 ) -> Result<Vec<u8>, NoMemory>
     requires { length sealed.now ≤ 280 }
-    ensures { IfOk result (λ out. out.items ≡ message kind (sealed_data key vector.now sealed.now tag.now)) }
+    ensures { IfOk result (λ out. out.items
+        ≡ message kind (sealed_data key vector.now sealed.now tag.now)) }
 {
     let mut out = begin(alloc, kind, 30 + sealed.len())?;
     put_sealed(&mut out, key, vector, sealed, tag)?;
@@ -114,7 +117,8 @@ fn verify_message(
 }
 
 fn inventory_message(alloc: Global, kind: u8, first: u16, last: u16) -> Result<Vec<u8>, NoMemory>
-    ensures { IfOk result (λ out. out.items ≡ message kind (to_be_bytes w16 first ++ to_be_bytes w16 last)) }
+    ensures { IfOk result (λ out. out.items
+        ≡ message kind (to_be_bytes w16 first ++ to_be_bytes w16 last)) }
 {
     let mut out = begin(alloc, kind, 4)?;
     put_word(&mut out, first)?;
@@ -130,7 +134,8 @@ fn compose_message(
     keys: &KeyList,
 ) -> Result<Vec<u8>, NoMemory>
     requires { IsTrue (is_in_range 1 8 (length keys.now)) }
-    ensures { IfOk result (λ out. out.items ≡ message kind (to_be_bytes w16 master ++ keys_data keys.now)) }
+    ensures { IfOk result (λ out. out.items
+        ≡ message kind (to_be_bytes w16 master ++ keys_data keys.now)) }
 {
     let mut out = begin(alloc, kind, 2 + 2 * keys.as_slice().len())?;
     put_word(&mut out, master.get())?;
@@ -145,7 +150,8 @@ fn rekey_message(
     key: KeyId,
     number: u64,
 ) -> Result<Vec<u8>, NoMemory>
-    ensures { IfOk result (λ out. out.items ≡ message kind (to_be_bytes w16 spi ++ (to_be_bytes w16 key ++ to_be_bytes w64 number))) }
+    ensures { IfOk result (λ out. out.items
+        ≡ message kind (to_be_bytes w16 spi ++ (to_be_bytes w16 key ++ to_be_bytes w64 number))) }
 {
     let mut out = begin(alloc, kind, 12)?;
     put_word(&mut out, spi.get())?;

@@ -29,7 +29,8 @@ pub(crate) fn keys(alloc: Global, octets: &[u8], at: usize) -> Result<KeyList, P
 /// The state of a key that a number names, which stands at a place.
 fn key_state(number: u8, at: usize) -> Result<KeyState, PduError>
     requires { at < 2 ^ 32 }
-    ensures { Judges result ((not (is_in_range 1 4 number), at) ∷ []) (λ state. state ≡ key_state_of number) }
+    ensures { Judges result ((not (is_in_range 1 4 number), at) ∷ [])
+        (λ state. state ≡ key_state_of number) }
 {
     match number {
         1 => Ok(KeyState::PreActive),

@@ -79,7 +79,8 @@ pub(crate) fn spi(octets: &[u8], at: usize) -> Result<Spi, PduError>
 pub(crate) fn window(octets: &[u8], at: usize) -> Result<u64, PduError>
     requires room { at + 8 ≤ length octets.now }
     requires offset { at < 2 ^ 32 }
-    ensures { Judges result (window_check at octets.now ∷ []) (λ window. window ≡ number_at at octets.now) }
+    ensures { Judges result (window_check at octets.now ∷ [])
+        (λ window. window ≡ number_at at octets.now) }
 {
     match number(octets, at) {
         window @ 1..=0x1_0000_0000 => Ok(window),
@@ -90,7 +91,8 @@ pub(crate) fn window(octets: &[u8], at: usize) -> Result<u64, PduError>
 pub(crate) fn sa_state(octets: &[u8], at: usize) -> Result<SaState, PduError>
     requires room { at < length octets.now }
     requires offset { at < 2 ^ 32 }
-    ensures { Judges result (code_check 3 at octets.now ∷ []) (λ state. state ≡ sa_state_of (octet_at at octets.now)) }
+    ensures { Judges result (code_check 3 at octets.now ∷ [])
+        (λ state. state ≡ sa_state_of (octet_at at octets.now)) }
 {
     match octets[at] {
         1 => Ok(SaState::Unkeyed),
@@ -103,7 +105,8 @@ pub(crate) fn sa_state(octets: &[u8], at: usize) -> Result<SaState, PduError>
 pub(crate) fn direction(octets: &[u8], at: usize) -> Result<Direction, PduError>
     requires room { at < length octets.now }
     requires offset { at < 2 ^ 32 }
-    ensures { Judges result (code_check 2 at octets.now ∷ []) (λ direction. direction ≡ direction_of (octet_at at octets.now)) }
+    ensures { Judges result (code_check 2 at octets.now ∷ [])
+        (λ direction. direction ≡ direction_of (octet_at at octets.now)) }
 {
     match octets[at] {
         1 => Ok(Direction::Send),
@@ -115,7 +118,8 @@ pub(crate) fn direction(octets: &[u8], at: usize) -> Result<Direction, PduError>
 pub(crate) fn suite(octets: &[u8], at: usize) -> Result<Suite, PduError>
     requires room { at < length octets.now }
     requires offset { at < 2 ^ 32 }
-    ensures { Judges result (code_check 2 at octets.now ∷ []) (λ suite. suite ≡ suite_of (octet_at at octets.now)) }
+    ensures { Judges result (code_check 2 at octets.now ∷ [])
+        (λ suite. suite ≡ suite_of (octet_at at octets.now)) }
 {
     match octets[at] {
         1 => Ok(Suite::Cmac),

@@ -8,12 +8,14 @@ use crate::fields::word;
 use crate::pdu_error::PduError;
 use crate::procedure::{PduType, Procedure};
 
-/// The procedure of a message of this type, by its tag, where its length is one that the procedure can have and that of
-/// the octets.
+/// The procedure of a message of this type, by its tag. Its length is one that the procedure can
+/// have, and that of the octets.
 #[tactic(auto, unfolding(crate::specs::MessageFault::header_checks, crate::specs::MessageFault::procedure_in))]
 pub(crate) fn procedure(octets: &[u8], pdu_type: PduType) -> Result<Procedure, PduError>
-    ensures judged { Judges result (header_checks pdu_type octets.now) (λ procedure. procedure_in pdu_type octets.now ≡ Some procedure) }
-    ensures framed { IfOk result (λ procedure. IsTrue (has_length pdu_type procedure (length octets.now - 3)) × (3 ≤ length octets.now) × (length octets.now < 2 ^ 16)) }
+    ensures judged { Judges result (header_checks pdu_type octets.now)
+        (λ procedure. procedure_in pdu_type octets.now ≡ Some procedure) }
+    ensures framed { IfOk result (λ procedure. IsTrue (has_length pdu_type procedure (length octets.now - 3))
+        × (3 ≤ length octets.now) × (length octets.now < 2 ^ 16)) }
 {
     let [tag, _, _, ..] = octets else {
         return Err(PduError::Fault(octets.len() as u32));

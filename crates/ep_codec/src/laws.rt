@@ -7,7 +7,8 @@ ghost use Rattle.ep_codec.specs.MessageFault.{command_fault, reply_fault};
 
 /// Law: no two commands share a spelling.
 pub fn one_command()
-    ensures { (a b : Command) (octets : List ℕ) → IsCommandPdu a octets → IsCommandPdu b octets → a ≡ b }
+    ensures { (a b : Command) (octets : List ℕ) → IsCommandPdu a octets
+        → IsCommandPdu b octets → a ≡ b }
 {}
 
 /// Law: octets have no fault exactly where they are the message of a command.
@@ -18,7 +19,8 @@ pub fn command_without_fault()
 
 /// Law: no two replies share a spelling.
 pub fn one_reply()
-    ensures { (a b : ReplyPdu) (octets : List ℕ) → IsReplyPdu a octets → IsReplyPdu b octets → a ≡ b }
+    ensures { (a b : ReplyPdu) (octets : List ℕ) → IsReplyPdu a octets
+        → IsReplyPdu b octets → a ≡ b }
 {}
 
 /// Law: octets have no fault exactly where they are the message of a reply.

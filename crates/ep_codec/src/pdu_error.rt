@@ -7,7 +7,7 @@ use thiserror::Error;
 /// Why octets were not read.
 #[derive(Clone, Copy, Debug, PartialEq, Eq, Error)]
 pub enum PduError {
-    /// The octets are no message. The offset is that of the first fault.
+    /// The octets are no message of this type. The offset of the first fault, in octets from the first.
     #[error("no message, fault at octet {0}")]
     Fault(u32),
     /// Memory was wanting.

@@ -15,13 +15,14 @@ use crate::reply_pdu::ReplyPdu;
 use crate::reply_reading::reply;
 use std::alloc::Global;
 
-/// Reads a command, which is all of the octets. `Fault` carries the offset of the first fault, in octets: of the tag, the
-/// length, the end of the octets or of the message, or of a field whose value is out of its bounds.
+/// Reads a command, which is all of the octets. `Fault` carries the offset of the first fault: the
+/// tag, the length, the end of the octets or of the message, or a field out of its bounds.
 pub fn read_pdu(alloc: Global, octets: &[u8]) -> Result<Command, PduError>
     // What is read is spelled so, all of the octets.
     ensures found { IfOk result (λ command. IsCommandPdu command octets.now) }
     // What is spelled so is read, unless memory runs out.
-    ensures only { (command : Command) → IsCommandPdu command octets.now → IsReadUnlessNoMemory result command }
+    ensures only { (command : Command) → IsCommandPdu command octets.now
+        → IsReadUnlessNoMemory result command }
     // A fault is answered where there is one, and it is the first.
     ensures fault { HasFault result (command_fault octets.now) }
 {
@@ -34,7 +35,8 @@ pub fn read_reply(alloc: Global, octets: &[u8]) -> Result<ReplyPdu, PduError>
     // What is read is spelled so, all of the octets.
     ensures found { IfOk result (λ reply. IsReplyPdu reply octets.now) }
     // What is spelled so is read, unless memory runs out.
-    ensures only { (reply : ReplyPdu) → IsReplyPdu reply octets.now → IsReadUnlessNoMemory result reply }
+    ensures only { (reply : ReplyPdu) → IsReplyPdu reply octets.now
+        → IsReadUnlessNoMemory result reply }
     // A fault is answered where there is one, and it is the first.
     ensures fault { HasFault result (reply_fault octets.now) }
 {

@@ -4,7 +4,8 @@ ghost use Rattle.ep_codec.specs.ReplyReading.{reply_procedure};
 use crate::procedure::Procedure;
 use sdls_base::{Direction, KeyId, KeyRows, Octets, SaState, Spi, Suite};
 
-/// The reply of a procedure, in the terms of CCSDS 355.1-B. Those that carry nothing say that the command was done.
+/// The reply of a procedure (CCSDS 355.1-B). One that carries nothing says that the command was done.
+/// The bounds are profile.
 #[derive(Debug, PartialEq, Eq, Drop)]
 pub enum ReplyPdu {
     Rekeying,
@@ -19,14 +20,14 @@ pub enum ReplyPdu {
     SetNumber,
     Start,
     Stop,
-    /// The challenge, sealed under a key of the GCM class or a master key.
+    /// The challenge, sealed by GCM under a master key or a key of the GCM class.
     VerifyGcm {
         key: KeyId,
         vector: [u8; 12],
         sealed: [u8; 16],
         tag: [u8; 16],
     },
-    /// A MAC over the challenge, by a key of the CMAC class.
+    /// A MAC over the challenge under a key of the CMAC class, with the number that it covers.
     VerifyCmac {
         key: KeyId,
         number: u32,
@@ -37,7 +38,7 @@ pub enum ReplyPdu {
         total: u16,
         rows: KeyRows,
     },
-    /// A rekeying command for the keys that were asked for.
+    /// A rekeying command with the keys that were asked for.
     Compose {
         master: KeyId,
         vector: [u8; 12],
@@ -49,7 +50,7 @@ pub enum ReplyPdu {
         spi: Spi,
         number: u64,
     },
-    /// An association.
+    /// An association, with its key where it has one.
     Status {
         spi: Spi,
         state: SaState,

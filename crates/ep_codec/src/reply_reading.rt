@@ -1,4 +1,6 @@
 //! The fields of replies.
+#![tactic(auto, unfolding(crate::specs::MessageFault::reply_checks, crate::specs::ReplyReading::reply_at))]
+
 ghost use Rattle.std.specs.Prelude.{◌≡◌, ◌-◌, ◌+◌, ◌*◌, ◌^◌, ◌<◌, ◌≤◌, IsTrue, length, [], ◌∷◌};
 ghost use Rattle.ep_codec.specs.declared.procedure.Procedure.TheVariants.{Verify, Inventory, Compose, ReadNumber, Status};
 ghost use Rattle.ep_codec.specs.Check.{Judges};
@@ -21,7 +23,8 @@ use std::alloc::Global;
 fn sealing_key(octets: &[u8], at: usize) -> Result<KeyId, PduError>
     requires room { at + 2 ≤ length octets.now }
     requires offset { at < 2 ^ 32 }
-    ensures { Judges result (sealing_key_check at octets.now ∷ []) (λ key. key ≡ word_at at octets.now) }
+    ensures { Judges result (sealing_key_check at octets.now ∷ [])
+        (λ key. key ≡ word_at at octets.now) }
 {
     let key = key(octets, at)?;
     match key.class() {
@@ -34,7 +37,8 @@ fn sealing_key(octets: &[u8], at: usize) -> Result<KeyId, PduError>
 fn mac_key(octets: &[u8], at: usize) -> Result<KeyId, PduError>
     requires room { at + 2 ≤ length octets.now }
     requires offset { at < 2 ^ 32 }
-    ensures { Judges result (mac_key_check at octets.now ∷ []) (λ key. key ≡ word_at at octets.now) }
+    ensures { Judges result (mac_key_check at octets.now ∷ [])
+        (λ key. key ≡ word_at at octets.now) }
 {
     let key = key(octets, at)?;
     match key.class() {
@@ -43,10 +47,10 @@ fn mac_key(octets: &[u8], at: usize) -> Result<KeyId, PduError>
     }
 }
 
-#[tactic(auto, unfolding(crate::specs::MessageFault::reply_checks, crate::specs::ReplyReading::reply_at))]
 fn verify_gcm(octets: &[u8]) -> Result<ReplyPdu, PduError>
     requires { length octets.now ≡ 49 }
-    ensures { Judges result (reply_checks Verify octets.now) (λ reply. reply ≡ reply_at Verify octets.now) }
+    ensures { Judges result (reply_checks Verify octets.now)
+        (λ reply. reply ≡ reply_at Verify octets.now) }
 {
     Ok(ReplyPdu::VerifyGcm {
         key: sealing_key(octets, 3)?,
@@ -56,10 +60,10 @@ fn verify_gcm(octets: &[u8]) -> Result<ReplyPdu, PduError>
     })
 }
 
-#[tactic(auto, unfolding(crate::specs::MessageFault::reply_checks, crate::specs::ReplyReading::reply_at))]
 fn verify_cmac(octets: &[u8]) -> Result<ReplyPdu, PduError>
     requires { length octets.now ≡ 25 }
-    ensures { Judges result (reply_checks Verify octets.now) (λ reply. reply ≡ reply_at Verify octets.now) }
+    ensures { Judges result (reply_checks Verify octets.now)
+        (λ reply. reply ≡ reply_at Verify octets.now) }
 {
     Ok(ReplyPdu::VerifyCmac {
         key: mac_key(octets, 3)?,
@@ -70,7 +74,8 @@ fn verify_cmac(octets: &[u8]) -> Result<ReplyPdu, PduError>
 
 fn verify(octets: &[u8]) -> Result<ReplyPdu, PduError>
     requires { IsTrue (has_reply_length Verify (length octets.now - 3)) }
-    ensures { Judges result (reply_checks Verify octets.now) (λ reply. reply ≡ reply_at Verify octets.now) }
+    ensures { Judges result (reply_checks Verify octets.now)
+        (λ reply. reply ≡ reply_at Verify octets.now) }
 {
     if octets.len() == 49 {
         verify_gcm(octets)
@@ -79,10 +84,10 @@ fn verify(octets: &[u8]) -> Result<ReplyPdu, PduError>
     }
 }
 
-#[tactic(auto, unfolding(crate::specs::MessageFault::reply_checks, crate::specs::ReplyReading::reply_at))]
 fn inventory(alloc: Global, octets: &[u8]) -> Result<ReplyPdu, PduError>
     requires { IsTrue (has_reply_length Inventory (length octets.now - 3)) }
-    ensures { Judges result (reply_checks Inventory octets.now) (λ reply. reply ≡ reply_at Inventory octets.now) }
+    ensures { Judges result (reply_checks Inventory octets.now)
+        (λ reply. reply ≡ reply_at Inventory octets.now) }
 {
     Ok(ReplyPdu::Inventory {
         total: word(octets, 3),
@@ -94,7 +99,8 @@ fn inventory(alloc: Global, octets: &[u8]) -> Result<ReplyPdu, PduError>
 fn inner_header(octets: &[u8]) -> Result<(), PduError>
     requires room { 6 ≤ length octets.now }
     requires few { length octets.now < 2 ^ 16 }
-    ensures { Judges result (inner_tag_check 3 octets.now ∷ inner_length_check 4 octets.now ∷ []) (λ _. Unit {0}) }
+    ensures { Judges result (inner_tag_check 3 octets.now ∷ inner_length_check 4 octets.now ∷ [])
+        (λ _. Unit {0}) }
 {
     if octets[3] != 1 {
         return Err(PduError::Fault(3));
@@ -105,10 +111,10 @@ fn inner_header(octets: &[u8]) -> Result<(), PduError>
     Ok(())
 }
 
-#[tactic(auto, unfolding(crate::specs::MessageFault::reply_checks, crate::specs::ReplyReading::reply_at))]
 fn compose(alloc: Global, octets: &[u8]) -> Result<ReplyPdu, PduError>
     requires { IsTrue (has_reply_length Compose (length octets.now - 3)) }
-    ensures { Judges result (reply_checks Compose octets.now) (λ reply. reply ≡ reply_at Compose octets.now) }
+    ensures { Judges result (reply_checks Compose octets.now)
+        (λ reply. reply ≡ reply_at Compose octets.now) }
 {
     inner_header(octets)?;
     let end = octets.len() - TAG;
@@ -120,10 +126,10 @@ fn compose(alloc: Global, octets: &[u8]) -> Result<ReplyPdu, PduError>
     })
 }
 
-#[tactic(auto, unfolding(crate::specs::MessageFault::reply_checks, crate::specs::ReplyReading::reply_at))]
 fn read_number(octets: &[u8]) -> Result<ReplyPdu, PduError>
     requires { length octets.now ≡ 13 }
-    ensures { Judges result (reply_checks ReadNumber octets.now) (λ reply. reply ≡ reply_at ReadNumber octets.now) }
+    ensures { Judges result (reply_checks ReadNumber octets.now)
+        (λ reply. reply ≡ reply_at ReadNumber octets.now) }
 {
     Ok(ReplyPdu::ReadNumber {
         spi: spi(octets, 3)?,
@@ -131,10 +137,10 @@ fn read_number(octets: &[u8]) -> Result<ReplyPdu, PduError>
     })
 }
 
-#[tactic(auto, unfolding(crate::specs::MessageFault::reply_checks, crate::specs::ReplyReading::reply_at))]
 fn status(octets: &[u8]) -> Result<ReplyPdu, PduError>
     requires { length octets.now ≡ 18 }
-    ensures { Judges result (reply_checks Status octets.now) (λ reply. reply ≡ reply_at Status octets.now) }
+    ensures { Judges result (reply_checks Status octets.now)
+        (λ reply. reply ≡ reply_at Status octets.now) }
 {
     Ok(ReplyPdu::Status {
         spi: spi(octets, 3)?,
@@ -147,7 +153,6 @@ fn status(octets: &[u8]) -> Result<ReplyPdu, PduError>
 }
 
 /// The reply of a procedure, of octets whose length is one that its messages have.
-#[tactic(auto, unfolding(crate::specs::MessageFault::reply_checks, crate::specs::ReplyReading::reply_at))]
 pub(crate) fn reply(
     alloc: Global,
     procedure: Procedure,
@@ -155,7 +160,8 @@ pub(crate) fn reply(
 ) -> Result<ReplyPdu, PduError>
     requires whole { 3 ≤ length octets.now }
     requires fits { IsTrue (has_reply_length procedure (length octets.now - 3)) }
-    ensures { Judges result (reply_checks procedure octets.now) (λ reply. reply ≡ reply_at procedure octets.now) }
+    ensures { Judges result (reply_checks procedure octets.now)
+        (λ reply. reply ≡ reply_at procedure octets.now) }
 {
     match procedure {
         Procedure::Rekeying => Ok(ReplyPdu::Rekeying),

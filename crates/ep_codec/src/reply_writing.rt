@@ -24,7 +24,8 @@ fn cmac_message(
     number: u32,
     mac: &[u8; 16],
 ) -> Result<Vec<u8>, NoMemory>
-    ensures { IfOk result (λ out. out.items ≡ message kind (to_be_bytes w16 key ++ (to_be_bytes w32 number ++ mac.now))) }
+    ensures { IfOk result (λ out. out.items
+        ≡ message kind (to_be_bytes w16 key ++ (to_be_bytes w32 number ++ mac.now))) }
 {
     let mut out = begin(alloc, kind, 22)?;
     put_word(&mut out, key.get())?;
@@ -59,7 +60,8 @@ fn inventory_message(
     rows: &KeyRows,
 ) -> Result<Vec<u8>, NoMemory>
     requires { length rows.now ≤ 256 }
-    ensures { IfOk result (λ out. out.items ≡ message kind (to_be_bytes w16 total ++ flat_map row_octets rows.now)) }
+    ensures { IfOk result (λ out. out.items
+        ≡ message kind (to_be_bytes w16 total ++ flat_map row_octets rows.now)) }
 {
     let mut out = begin(alloc, kind, 2 + 3 * rows.as_slice().len())?;
     put_word(&mut out, total)?;
@@ -77,7 +79,8 @@ fn compose_message(
     tag: &[u8; 16],
 ) -> Result<Vec<u8>, NoMemory>
     requires { length sealed.now ≤ 280 }
-    ensures { IfOk result (λ out. out.items ≡ message kind (message 1 (sealed_data master vector.now sealed.now tag.now))) }
+    ensures { IfOk result (λ out. out.items
+        ≡ message kind (message 1 (sealed_data master vector.now sealed.now tag.now))) }
 {
     let length = 30 + sealed.len();
     let mut out = begin(alloc, kind, 3 + length)?;
@@ -97,7 +100,8 @@ fn status_message(
     key: Option<KeyId>,
     window: u64,
 ) -> Result<Vec<u8>, NoMemory>
-    ensures { IfOk result (λ out. out.items ≡ reply_octets (Status spi state direction suite key window)) }
+    ensures { IfOk result (λ out. out.items
+        ≡ reply_octets (Status spi state direction suite key window)) }
 {
     let mut out = begin(alloc, REPLY + Procedure::Status.tag(), 15)?;
     put_word(&mut out, spi.get())?;
