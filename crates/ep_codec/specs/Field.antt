@@ -8,7 +8,7 @@ use Rattle.sdls_base.specs.declared.states.Direction.TheVariants.{Send, Receive}
 use Rattle.sdls_base.specs.declared.states.Suite.{Suite}
 use Rattle.sdls_base.specs.declared.states.Suite.TheVariants.{Cmac, Gcm}
 use Rattle.sdls_base.specs.declared.states.KeyState.{KeyState}
-use Rattle.sdls_base.specs.declared.states.KeyState.TheVariants as keys
+use Rattle.sdls_base.specs.declared.states.KeyState.TheVariants as key_states
 use Rattle.sdls_base.specs.declared.states.SaState.{SaState}
 use Rattle.sdls_base.specs.declared.states.SaState.TheVariants.{Unkeyed, Keyed, Operational}
 use Rattle.sdls_base.specs.KeyId.{class_of}
@@ -37,10 +37,10 @@ seals classes.Cmac = false
 -- ---- the numbers of states, directions and suites
 
 abbrev pub key_state_code : KeyState → ℕ
-key_state_code keys.PreActive = 1
-key_state_code keys.Active = 2
-key_state_code keys.Deactivated = 3
-key_state_code keys.Destroyed = 4
+key_state_code key_states.PreActive = 1
+key_state_code key_states.Active = 2
+key_state_code key_states.Deactivated = 3
+key_state_code key_states.Destroyed = 4
 
 abbrev pub sa_state_code : SaState → ℕ
 sa_state_code Unkeyed = 1
@@ -58,7 +58,7 @@ suite_code Gcm = 2
 -- what a number that is in bounds stands for
 
 abbrev pub key_state_of : ℕ → KeyState
-key_state_of n = if n == 1 then keys.PreActive else (if n == 2 then keys.Active else (if n == 3 then keys.Deactivated else keys.Destroyed))
+key_state_of n = if n == 1 then key_states.PreActive else (if n == 2 then key_states.Active else (if n == 3 then key_states.Deactivated else key_states.Destroyed))
 
 abbrev pub sa_state_of : ℕ → SaState
 sa_state_of n = if n == 1 then Unkeyed else (if n == 2 then Keyed else Operational)
