@@ -49,7 +49,7 @@ command_octets (Status spi) = message 0x1f (to_be_bytes w16 spi)
 abbrev pub IsKeyCount : List ℕ → Type 0
 IsKeyCount keys = IsTrue (is_in_range 1 8 (length keys))
 
--- sealed items, 1 to 8, each of 19 or 35 octets
+-- from one sealed item of 19 octets to eight of 35 each, and every length between
 abbrev pub IsSealedLength : List ℕ → Type 0
 IsSealedLength sealed = IsTrue (is_in_range 19 280 (length sealed))
 

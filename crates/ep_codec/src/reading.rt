@@ -23,7 +23,7 @@ pub fn read_pdu(alloc: Global, octets: &[u8]) -> Result<Command, PduError>
     // What is spelled so is read, unless memory runs out.
     ensures only { (command : Command) → IsCommandPdu command octets.now
         → IsReadUnlessNoMemory result command }
-    // A fault is answered where there is one, and it is the first.
+    // Nothing is read where there is a fault, and a fault that is answered is the first.
     ensures fault { HasFault result (command_fault octets.now) }
 {
     let procedure = procedure(octets, PduType::Command)?;
@@ -37,7 +37,7 @@ pub fn read_reply(alloc: Global, octets: &[u8]) -> Result<ReplyPdu, PduError>
     // What is spelled so is read, unless memory runs out.
     ensures only { (reply : ReplyPdu) → IsReplyPdu reply octets.now
         → IsReadUnlessNoMemory result reply }
-    // A fault is answered where there is one, and it is the first.
+    // Nothing is read where there is a fault, and a fault that is answered is the first.
     ensures fault { HasFault result (reply_fault octets.now) }
 {
     let procedure = procedure(octets, PduType::Reply)?;

@@ -52,7 +52,7 @@ impl KeyBook {
         requires { All (λ item. IsKeyLength (length item.bytes)) items.now }
         ensures loaded { OnOk result (self.new ≡ self.old ++ map new_row items.now) }
 
-        // The first refusal that applies, and only where one does.
+        // The first refusal that applies, or want of memory; after Ok none applies.
         ensures accepted { OnOk result (load_refusal self.old items.now ≡ None) }
         ensures refused { IfErr result (λ refusal. IsRefusal refusal (load_refusal self.old items.now)) }
         ensures kept { OnErr result (self.new ≡ self.old) }

@@ -2,7 +2,7 @@
 //! may have been used with.
 //!
 //! A `KeyBook` is seen as the list of its rows in the order of loading. A row never changes its place, and stays when
-//! its key is destroyed, so that no key is loaded twice in a unit's life. `load` and `set_state` judge before they
+//! its key is destroyed, so that no key is loaded into a book twice. `load` and `set_state` judge before they
 //! change anything; read their clauses first. What is stored of the book, and where, is the caller's.
 #![tactic(auto)]
 
