@@ -1,0 +1,12 @@
+pub mod CommandAgain
+pub mod CommandFacts
+pub mod CommandReadings
+pub mod Faults
+pub mod FieldFacts
+pub mod HeaderFacts
+pub mod Lengths
+pub mod ListFacts
+pub mod Lists
+pub mod ReplyAgain
+pub mod ReplyFacts
+pub mod ReplyReadings

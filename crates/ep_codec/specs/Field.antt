@@ -1,0 +1,130 @@
+-- The fields of a procedure message: numbers in whole octets, the most significant first, and their bounds (profile).
+use Rattle.std.specs.Prelude.{ℕ, ◌+◌, ◌*◌, ◌-◌, ◌^◌, ◌==◌, ◌&&◌, not, Bool, true, false, if◌then◌else◌, List, [], ◌∷◌, length, slice_index, Option, Some, None}
+use Rattle.std.specs.Int.{w16, w32, w64, from_be_bytes, is_in_range}
+use Rattle.sdls_base.specs.declared.key_id.KeyClass.{KeyClass}
+use Rattle.sdls_base.specs.declared.key_id.KeyClass.TheVariants as classes
+use Rattle.sdls_base.specs.declared.states.Direction.{Direction}
+use Rattle.sdls_base.specs.declared.states.Direction.TheVariants.{Send, Receive}
+use Rattle.sdls_base.specs.declared.states.Suite.{Suite}
+use Rattle.sdls_base.specs.declared.states.Suite.TheVariants.{Cmac, Gcm}
+use Rattle.sdls_base.specs.declared.states.KeyState.{KeyState}
+use Rattle.sdls_base.specs.declared.states.KeyState.TheVariants as key_states
+use Rattle.sdls_base.specs.declared.states.SaState.{SaState}
+use Rattle.sdls_base.specs.declared.states.SaState.TheVariants.{Unkeyed, Keyed, Operational}
+use Rattle.sdls_base.specs.KeyId.{class_of}
+use Rattle.ep_codec.specs.Check.{Check}
+
+-- ---- bounds
+
+-- a key's identifier
+abbrev pub is_key : ℕ → Bool
+is_key n = is_in_range 1 65535 n
+
+-- a security parameter index that is not reserved
+abbrev pub is_spi : ℕ → Bool
+is_spi n = is_in_range 1 65534 n
+
+-- the width of an anti-replay window
+abbrev pub is_window : ℕ → Bool
+is_window n = is_in_range 1 (2 ^ 32) n
+
+-- whether a key of the class seals, under GCM, or makes MACs
+abbrev pub seals : KeyClass → Bool
+seals classes.Master = true
+seals classes.Gcm = true
+seals classes.Cmac = false
+
+-- ---- the numbers of states, directions and suites
+
+abbrev pub key_state_code : KeyState → ℕ
+key_state_code key_states.PreActive = 1
+key_state_code key_states.Active = 2
+key_state_code key_states.Deactivated = 3
+key_state_code key_states.Destroyed = 4
+
+abbrev pub sa_state_code : SaState → ℕ
+sa_state_code Unkeyed = 1
+sa_state_code Keyed = 2
+sa_state_code Operational = 3
+
+abbrev pub direction_code : Direction → ℕ
+direction_code Send = 1
+direction_code Receive = 2
+
+abbrev pub suite_code : Suite → ℕ
+suite_code Cmac = 1
+suite_code Gcm = 2
+
+-- what a number that is in bounds stands for
+
+abbrev pub key_state_of : ℕ → KeyState
+key_state_of n = if n == 1 then key_states.PreActive else (if n == 2 then key_states.Active else (if n == 3 then key_states.Deactivated else key_states.Destroyed))
+
+abbrev pub sa_state_of : ℕ → SaState
+sa_state_of n = if n == 1 then Unkeyed else (if n == 2 then Keyed else Operational)
+
+abbrev pub direction_of : ℕ → Direction
+direction_of n = if n == 1 then Send else Receive
+
+abbrev pub suite_of : ℕ → Suite
+suite_of n = if n == 1 then Cmac else Gcm
+
+-- a key that may be absent: 0 names none
+abbrev pub optional_key : ℕ → Option ℕ
+optional_key n = if n == 0 then None else Some n
+
+-- ---- the number at a place of a message, in 1, 2, 4 or 8 octets
+
+abbrev pub octet_at : ℕ → List ℕ → ℕ
+octet_at at octets = slice_index octets at
+
+abbrev pub word_at : ℕ → List ℕ → ℕ
+word_at at octets = from_be_bytes w16 (slice_index octets at ∷ slice_index octets (at + 1) ∷ [])
+
+abbrev pub double_word_at : ℕ → List ℕ → ℕ
+double_word_at at octets = from_be_bytes w32
+    (slice_index octets at ∷ slice_index octets (at + 1) ∷ slice_index octets (at + 2) ∷ slice_index octets (at + 3) ∷ [])
+
+abbrev pub number_at : ℕ → List ℕ → ℕ
+number_at at octets = from_be_bytes w64
+    (slice_index octets at ∷ slice_index octets (at + 1) ∷ slice_index octets (at + 2) ∷ slice_index octets (at + 3)
+    ∷ slice_index octets (at + 4) ∷ slice_index octets (at + 5) ∷ slice_index octets (at + 6) ∷ slice_index octets (at + 7) ∷ [])
+
+-- ---- the tests of the field at a place: a value outside of its bounds is a fault there
+
+abbrev pub key_check : ℕ → List ℕ → Check
+key_check at octets = (not (is_key (word_at at octets)), at)
+
+abbrev pub spi_check : ℕ → List ℕ → Check
+spi_check at octets = (not (is_spi (word_at at octets)), at)
+
+abbrev pub window_check : ℕ → List ℕ → Check
+window_check at octets = (not (is_window (number_at at octets)), at)
+
+-- the number of a state, a direction or a suite is from 1 to the most there is
+abbrev pub code_check : ℕ → ℕ → List ℕ → Check
+code_check most at octets = (not (is_in_range 1 most (octet_at at octets)), at)
+
+-- a key whose class seals
+abbrev pub sealing_key_check : ℕ → List ℕ → Check
+sealing_key_check at octets = (not (is_key (word_at at octets) && seals (class_of (word_at at octets))), at)
+
+-- a key whose class makes MACs
+abbrev pub mac_key_check : ℕ → List ℕ → Check
+mac_key_check at octets = (not (is_key (word_at at octets) && not (seals (class_of (word_at at octets)))), at)
+
+-- `last` is not below `first`, which stands before it
+abbrev pub last_check : ℕ → List ℕ → Check
+last_check at octets = (not (is_in_range (word_at (at - 2) octets) 65535 (word_at at octets)), at)
+
+-- the count of the octets behind it, to the end
+abbrev pub count_check : ℕ → List ℕ → Check
+count_check at octets = (not (octet_at at octets == length octets - (at + 1)), at)
+
+-- the tag of a Rekeying command
+abbrev pub inner_tag_check : ℕ → List ℕ → Check
+inner_tag_check at octets = (not (octet_at at octets == 1), at)
+
+-- the length in bits of what stands behind it, to the end
+abbrev pub inner_length_check : ℕ → List ℕ → Check
+inner_length_check at octets = (not (word_at at octets == 8 * (length octets - (at + 2))), at)

@@ -1,0 +1,9 @@
+pub mod Check
+pub mod Field
+pub mod FieldList
+pub mod Procedure
+pub mod Command
+pub mod ReplyPdu
+pub mod MessageFault
+pub mod CommandReading
+pub mod ReplyReading

@@ -1,0 +1,129 @@
+//! The fields of a message, read at their places.
+ghost use Rattle.std.specs.Prelude.{◌≡◌, ◌+◌, ◌^◌, ◌<◌, ◌≤◌, not, length, slice_range, [], ◌∷◌};
+ghost use Rattle.ep_codec.specs.Check.{Judges};
+ghost use Rattle.ep_codec.specs.Field.{word_at, double_word_at, number_at, octet_at, is_key, key_check, spi_check, window_check, code_check, sa_state_of, direction_of, suite_of};
+
+use crate::pdu_error::PduError;
+use sdls_base::{Direction, KeyId, SaState, Spi, Suite};
+
+/// The octets of a vector.
+pub(crate) const VECTOR: usize = 12;
+
+/// The octets of the tag behind what is sealed.
+pub(crate) const TAG: usize = 16;
+
+pub(crate) fn word(octets: &[u8], at: usize) -> u16
+    requires { at + 2 ≤ length octets.now }
+    ensures { result ≡ word_at at octets.now }
+{
+    u16::from_be_bytes([octets[at], octets[at + 1]])
+}
+
+pub(crate) fn double_word(octets: &[u8], at: usize) -> u32
+    requires { at + 4 ≤ length octets.now }
+    ensures { result ≡ double_word_at at octets.now }
+{
+    u32::from_be_bytes([octets[at], octets[at + 1], octets[at + 2], octets[at + 3]])
+}
+
+pub(crate) fn number(octets: &[u8], at: usize) -> u64
+    requires { at + 8 ≤ length octets.now }
+    ensures { result ≡ number_at at octets.now }
+{
+    u64::from_be_bytes([
+        octets[at],
+        octets[at + 1],
+        octets[at + 2],
+        octets[at + 3],
+        octets[at + 4],
+        octets[at + 5],
+        octets[at + 6],
+        octets[at + 7],
+    ])
+}
+
+/// So many octets from a place on.
+pub(crate) fn array<const N: usize>(octets: &[u8], at: usize) -> [u8; N]
+    requires { at + N ≤ length octets.now }
+    ensures { result ≡ slice_range octets.now at (at + N) }
+{
+    let mut array = [0; N];
+    array.copy_from_slice(&octets[at..at + N]);
+    array
+}
+
+/// The key that a number names, which stands at a place.
+pub(crate) fn key_of(number: u16, at: usize) -> Result<KeyId, PduError>
+    requires { at < 2 ^ 32 }
+    ensures { Judges result ((not (is_key number), at) ∷ []) (λ key. key ≡ number) }
+{
+    KeyId::new(number).ok_or(PduError::Fault(at as u32))
+}
+
+pub(crate) fn key(octets: &[u8], at: usize) -> Result<KeyId, PduError>
+    requires room { at + 2 ≤ length octets.now }
+    requires offset { at < 2 ^ 32 }
+    ensures { Judges result (key_check at octets.now ∷ []) (λ key. key ≡ word_at at octets.now) }
+{
+    key_of(word(octets, at), at)
+}
+
+pub(crate) fn spi(octets: &[u8], at: usize) -> Result<Spi, PduError>
+    requires room { at + 2 ≤ length octets.now }
+    requires offset { at < 2 ^ 32 }
+    ensures { Judges result (spi_check at octets.now ∷ []) (λ spi. spi ≡ word_at at octets.now) }
+{
+    Spi::new(word(octets, at)).ok_or(PduError::Fault(at as u32))
+}
+
+pub(crate) fn window(octets: &[u8], at: usize) -> Result<u64, PduError>
+    requires room { at + 8 ≤ length octets.now }
+    requires offset { at < 2 ^ 32 }
+    ensures { Judges result (window_check at octets.now ∷ [])
+        (λ window. window ≡ number_at at octets.now) }
+{
+    match number(octets, at) {
+        window @ 1..=0x1_0000_0000 => Ok(window),
+        _ => Err(PduError::Fault(at as u32)),
+    }
+}
+
+pub(crate) fn sa_state(octets: &[u8], at: usize) -> Result<SaState, PduError>
+    requires room { at < length octets.now }
+    requires offset { at < 2 ^ 32 }
+    ensures { Judges result (code_check 3 at octets.now ∷ [])
+        (λ state. state ≡ sa_state_of (octet_at at octets.now)) }
+{
+    match octets[at] {
+        1 => Ok(SaState::Unkeyed),
+        2 => Ok(SaState::Keyed),
+        3 => Ok(SaState::Operational),
+        _ => Err(PduError::Fault(at as u32)),
+    }
+}
+
+pub(crate) fn direction(octets: &[u8], at: usize) -> Result<Direction, PduError>
+    requires room { at < length octets.now }
+    requires offset { at < 2 ^ 32 }
+    ensures { Judges result (code_check 2 at octets.now ∷ [])
+        (λ direction. direction ≡ direction_of (octet_at at octets.now)) }
+{
+    match octets[at] {
+        1 => Ok(Direction::Send),
+        2 => Ok(Direction::Receive),
+        _ => Err(PduError::Fault(at as u32)),
+    }
+}
+
+pub(crate) fn suite(octets: &[u8], at: usize) -> Result<Suite, PduError>
+    requires room { at < length octets.now }
+    requires offset { at < 2 ^ 32 }
+    ensures { Judges result (code_check 2 at octets.now ∷ [])
+        (λ suite. suite ≡ suite_of (octet_at at octets.now)) }
+{
+    match octets[at] {
+        1 => Ok(Suite::Cmac),
+        2 => Ok(Suite::Gcm),
+        _ => Err(PduError::Fault(at as u32)),
+    }
+}

@@ -1,0 +1,33 @@
+//! Procedure messages of the key and association management: the commands and replies by which the Extended Procedures
+//! (CCSDS 355.1-B) load, activate and destroy keys and create, rekey and delete security associations over the link.
+//! The procedures are the standard's by purpose; tags and layouts are profile.
+//!
+//! [`read_pdu`] and [`read_reply`] take octets apart, or name the offset of the first fault. [`write_pdu`] and
+//! [`write_reply`] are the other direction. Each value has one spelling.
+#![tactic(auto)]
+
+mod command;
+mod command_reading;
+mod command_writing;
+mod field_lists;
+mod fields;
+mod header;
+mod laws;
+mod pdu_error;
+mod procedure;
+mod reading;
+mod reply_pdu;
+mod reply_reading;
+mod reply_writing;
+mod writing;
+
+pub use command::Command;
+pub use command_writing::write_pdu;
+pub use laws::{command_without_fault, one_command, one_reply, reply_without_fault};
+pub use pdu_error::PduError;
+pub use reading::{read_pdu, read_reply};
+pub use reply_pdu::ReplyPdu;
+pub use reply_writing::write_reply;
+
+#[cfg(test)]
+mod tests;

@@ -1,0 +1,6 @@
+pub mod CoveredFacts
+pub mod FoundFacts
+pub mod Lengths
+pub mod OpenFacts
+pub mod ProtectFacts
+pub mod Stretches

@@ -1,0 +1,10 @@
+pub mod AnyFrame
+pub mod Binding
+pub mod Body
+pub mod Found
+pub mod Link
+pub mod Opens
+pub mod Protects
+pub mod Secured
+pub mod Shield
+pub mod ShieldFault

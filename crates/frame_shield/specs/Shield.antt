@@ -1,0 +1,32 @@
+-- How a protected frame is put together, for the private calls.
+use Rattle.std.specs.Prelude.{ℕ, ◌+◌, ◌-◌, ◌*◌, ◌/◌, ◌%◌, ◌^◌, List, [], ◌∷◌, ◌++◌, drop, slice_index}
+use Rattle.sdls_header.specs.declared.pieces.Vector.{Vector}
+use Rattle.sdls_header.specs.SecurityHeader.{header_octets}
+use Rattle.frame_shield.specs.declared.binding.Binding.{Binding}
+use Rattle.frame_shield.specs.declared.link.AnyLayout.{AnyLayout}
+use Rattle.frame_shield.specs.declared.link.AnyLayout.TheVariants.{Tc, Tm, Aos}
+use Rattle.frame_shield.specs.Secured.{covered, header_of, sealed}
+
+-- a TC prefix with the length field of a frame of n octets
+abbrev pub with_length_field : List ℕ → ℕ → List ℕ
+with_length_field prefix n =
+    (slice_index prefix 0 ∷ slice_index prefix 1 ∷ (slice_index prefix 2 / 4 * 4 + (n - 1) / 2 ^ 8) ∷ ((n - 1) % 2 ^ 8)
+    ∷ slice_index prefix 4 ∷ []) ++ drop 5 prefix
+
+-- the most octets of a frame
+abbrev pub most_of : AnyLayout → ℕ
+most_of (Tc layout) = layout.most
+most_of (Tm layout) = layout.length
+most_of (Aos layout) = layout.length
+
+-- the prefix of the protected frame of n octets, from that of the clear frame
+abbrev pub prefix_for : AnyLayout → List ℕ → ℕ → List ℕ
+prefix_for (Tc layout) prefix n = with_length_field prefix n
+prefix_for (Tm layout) prefix n = prefix
+prefix_for (Aos layout) prefix n = prefix
+
+-- the room of a protected frame
+abbrev pub room_for : Binding → Vector → List ℕ → List ℕ → List ℕ
+room_for b vector prefix field =
+    let seal = sealed b.schedule vector (covered b prefix vector) field in
+    header_octets (header_of b vector) ++ (seal.0 ++ seal.1)

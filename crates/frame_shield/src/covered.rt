@@ -1,0 +1,67 @@
+ghost use Rattle.std.specs.Prelude.{◌≡◌, ◌+◌, ◌≤◌, ◌++◌, length, take, drop};
+ghost use Rattle.sdls_header.specs.Authenticated.{authenticated, masked_octets};
+ghost use Rattle.sdls_header.specs.SecurityHeader.{header_octets};
+
+use sdls_base::put;
+use sdls_header::{SecurityHeader, masked, write_header};
+use std::marker::Model;
+
+/// The most octets: a primary header of 6, an insert zone of 64 and a security header of 14.
+const MOST: usize = 84;
+
+/// What a MAC covers before the data field: the masked prefix, then the security header.
+#[derive(Drop)]
+pub struct Covered {
+    octets: [u8; MOST],
+    used: usize,
+}
+
+impl Model for Covered {
+    ghost use Rattle.std.specs.Prelude.{◌≤◌, List, ℕ, take};
+
+    ghost Value = { List ℕ };
+
+    ghost view = { λ covered. take covered.used covered.octets };
+
+    ghost invariant = { λ covered. covered.used ≤ 84 };
+}
+
+/// Writes the prefix under the mask into the front of `out`.
+fn put_masked(out: &mut [u8], prefix: &[u8], mask: &[u8])
+    requires { length prefix.now ≤ length out.old }
+    ensures { out.new ≡ masked_octets prefix.now mask.now ++ drop (length prefix.now) out.old }
+{
+    masked(prefix, mask, &mut out[..prefix.len()]);
+}
+
+/// Writes a security header into `out` from place `at` on, and answers the place after it.
+pub fn put_header(out: &mut [u8], at: usize, header: &SecurityHeader) -> usize
+    requires { at + 14 ≤ length out.old }
+    ensures place { result ≡ at + length (header_octets header.now) }
+    ensures written { take result out.new ≡ take at out.old ++ header_octets header.now }
+    ensures rest { drop result out.new ≡ drop result out.old }
+{
+    let mut octets = [0; 14];
+    let count = write_header(header, &mut octets);
+    put(out, at, &octets[..count])
+}
+
+impl Covered {
+    /// The covered text of a frame with this prefix, of at most 70 octets, and this security header.
+    pub fn new(prefix: &[u8], mask: &[u8], header: &SecurityHeader) -> Covered
+        requires { length prefix.now ≤ 70 }
+        ensures { result ≡ authenticated mask.now prefix.now (header_octets header.now) }
+    {
+        let mut octets = [0; MOST];
+        put_masked(&mut octets, prefix, mask);
+        let used = put_header(&mut octets, prefix.len(), header);
+        Covered { octets, used }
+    }
+
+    pub fn as_slice(&self) -> &[u8]
+        ensures text { result.now ≡ self.now }
+        ensures most { length result.now ≤ 84 }
+    {
+        &self.octets[..self.used]
+    }
+}

@@ -1,0 +1,24 @@
+//! One transfer frame protected and opened by the Space Data Link Security Protocol (CCSDS 355.0-B).
+//!
+//! `shield` makes the protected frame of a clear one, under a number that serves once. `unshield` is its other
+//! direction, where the MAC is right. `fits` says beforehand whether a clear frame has its layout. Which numbers were
+//! used or accepted, and which association a frame is for, is the caller's to know. No call takes memory.
+#![tactic(auto)]
+
+mod binding;
+mod body;
+mod covered;
+mod laws;
+mod link;
+mod opening;
+mod protecting;
+mod sealing;
+
+pub use binding::Binding;
+pub use laws::{opens_once, protected_opens};
+pub use link::{AnyLayout, Link, Mask};
+pub use opening::{Opened, unshield};
+pub use protecting::{ShieldFault, fits, shield};
+
+#[cfg(test)]
+mod tests;

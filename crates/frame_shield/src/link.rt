@@ -1,0 +1,47 @@
+ghost use Rattle.std.specs.Prelude.{◌≡◌, ◌≤◌};
+ghost use Rattle.frame_shield.specs.Link.{mask_octets, has_fecf};
+
+use sdls_base::{AosLayout, TcLayout, TmLayout};
+
+/// The layout of a link's protected frames, of one of three kinds.
+#[derive(Clone, Copy, Debug, PartialEq, Eq)]
+pub enum AnyLayout {
+    Tc(TcLayout),
+    Tm(TmLayout),
+    Aos(AosLayout),
+}
+
+/// The authentication bit mask of a link (CCSDS 355.0-B): the first `length` octets. Past them the mask is 00.
+#[derive(Clone, Copy, Debug, PartialEq, Eq)]
+pub struct Mask {
+    pub octets: [u8; 6],
+    pub length: u8,
+}
+
+/// A physical channel, as both ends of it know it.
+#[derive(Clone, Copy, Debug, PartialEq, Eq)]
+pub struct Link {
+    pub layout: AnyLayout,
+    pub mask: Mask,
+}
+
+impl AnyLayout {
+    pub(crate) fn has_fecf(&self) -> bool
+        ensures { result ≡ has_fecf self.now }
+    {
+        match self {
+            AnyLayout::Tc(layout) => layout.fecf,
+            AnyLayout::Tm(layout) => layout.fecf,
+            AnyLayout::Aos(layout) => layout.fecf,
+        }
+    }
+}
+
+impl Mask {
+    pub(crate) fn as_slice(&self) -> &[u8]
+        requires { self.now.length ≤ 6 }
+        ensures { result.now ≡ mask_octets self.now }
+    {
+        &self.octets[..usize::from(self.length)]
+    }
+}

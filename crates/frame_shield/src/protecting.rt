@@ -1,0 +1,183 @@
+ghost use Rattle.std.specs.Prelude.{◌≡◌, ◌+◌, ◌^◌, ◌<◌, ◌≤◌, [], ◌++◌, unwrap_or, option_copied, None, Some, length, take, drop, MatchResult};
+ghost use Rattle.sdls_base.specs.declared.layout.FrameFault.{FrameFault};
+ghost use Rattle.sdls_base.specs.KeyId.{end_of};
+ghost use Rattle.sdls_base.specs.Suite.{overhead_of};
+ghost use Rattle.sdls_header.specs.SecurityHeader.{IsVectorOf};
+ghost use Rattle.frame_shield.specs.Binding.{IsBinding, clear_fault, clear_layout, gain_of};
+ghost use Rattle.frame_shield.specs.Body.{IsBody};
+ghost use Rattle.frame_shield.specs.Link.{IsInBounds};
+ghost use Rattle.frame_shield.specs.Protects.{Protects};
+ghost use Rattle.frame_shield.specs.Secured.{sealed, vector_for};
+ghost use Rattle.frame_shield.specs.Shield.{most_of, with_length_field, prefix_for, room_for};
+ghost use Rattle.frame_shield.specs.ShieldFault.{fault_number};
+
+use crate::binding::{Binding, clear_layout, gain_of};
+use crate::body::{Body, body_of};
+use crate::covered::{Covered, put_header};
+use crate::link::AnyLayout;
+use crate::sealing::seal;
+use aes_block::Schedule;
+use sdls_base::{Suite, put, put_fecf, put_optional};
+use sdls_header::{SecurityHeader, Vector};
+
+/// Why a frame is not protected.
+#[derive(Clone, Copy, Debug, PartialEq, Eq)]
+pub enum ShieldFault {
+    /// The clear frame has not its layout: the number of the first check that fails.
+    Layout(u8),
+    /// The frame is on no channel of the plan.
+    Channel,
+    /// No operational association covers the channel.
+    State,
+}
+
+/// Whether a clear frame has its layout: that of the link, without frame error control field, and shorter by what the
+/// frame is to gain. The fault is `Layout`, and no other.
+pub fn fits(binding: &Binding, clear: &[u8]) -> Result<(), ShieldFault>
+    requires { IsBinding binding.now }
+    ensures { MatchResult result
+        (λ _. clear_fault binding.now clear.now ≡ None)
+        (λ refusal. (fault : FrameFault) × (clear_fault binding.now clear.now ≡ Some fault)
+        × (refusal ≡ ShieldFault.Layout (fault_number fault))) }
+{
+    match body_of(clear, &clear_layout(binding.suite, &binding.link.layout)) {
+        Ok(_) => Ok(()),
+        Err(fault) => Err(ShieldFault::Layout(fault as u8)),
+    }
+}
+
+/// Writes a TC prefix into the front of `out`, with the length field of a frame of `count` octets.
+fn put_tc_prefix(out: &mut [u8], prefix: &[u8], count: usize) -> usize
+    requires prefix { 5 ≤ length prefix.now }
+    requires count { (1 ≤ count) × (count ≤ 1024) }
+    requires room { length prefix.now ≤ length out.old }
+    ensures place { result ≡ length prefix.now }
+    ensures written { take result out.new ≡ with_length_field prefix.now count }
+    ensures rest { drop result out.new ≡ drop result out.old }
+{
+    let [high, low] = ((count - 1) as u16).to_be_bytes();
+    let header = [
+        prefix[0],
+        prefix[1],
+        (prefix[2] & 0xFC) + high,
+        low,
+        prefix[4],
+    ];
+    let header_end = put(out, 0, &header);
+    put(out, header_end, &prefix[5..])
+}
+
+/// Writes the prefix of the protected frame of `count` octets into the front of `out`.
+fn put_prefix(out: &mut [u8], layout: &AnyLayout, prefix: &[u8], count: usize) -> usize
+    requires prefix { 5 ≤ length prefix.now }
+    requires layout { IsInBounds layout.now }
+    requires count { (1 ≤ count) × (count ≤ most_of layout.now) }
+    requires room { length prefix.now ≤ length out.old }
+    ensures place { result ≡ length prefix.now }
+    ensures written { take result out.new ≡ prefix_for layout.now prefix.now count }
+    ensures rest { drop result out.new ≡ drop result out.old }
+{
+    match layout {
+        AnyLayout::Tc(_) => put_tc_prefix(out, prefix, count),
+        _ => put(out, 0, prefix),
+    }
+}
+
+/// Writes text and MAC of a data field into `out`, from `at` on.
+fn put_sealed(
+    out: &mut [u8],
+    at: usize,
+    key: &Schedule,
+    vector: Vector,
+    covered: &[u8],
+    field: &[u8],
+) -> usize
+    requires covered { length covered.now ≤ 65536 }
+    requires field { length field.now ≤ 65536 }
+    requires room { at + length field.now + 16 ≤ length out.old }
+    ensures place { result ≡ at + length field.now + 16 }
+    ensures written { let seal = sealed key.now vector covered.now field.now in
+        take result out.new ≡ take at out.old ++ (seal.0 ++ seal.1) }
+    ensures rest { drop result out.new ≡ drop result out.old }
+{
+    let text_end = put(out, at, field);
+    let mac = seal(key, vector, covered, &mut out[at..text_end]);
+    put(out, text_end, &mac)
+}
+
+/// Writes security header, text and MAC of a data field into `out`, behind the prefix that ends at `at`.
+fn put_room(out: &mut [u8], at: usize, binding: &Binding, vector: Vector, field: &[u8]) -> usize
+    requires mask { binding.now.link.mask.length ≤ 6 }
+    requires vector { IsVectorOf binding.now.suite vector }
+    requires prefix { at ≤ 70 }
+    requires field { length field.now ≤ 2048 }
+    requires room { at + overhead_of binding.now.suite + length field.now ≤ length out.old }
+    ensures place { result ≡ at + overhead_of binding.now.suite + length field.now }
+    ensures written { take result out.new ≡ take at out.old ++ room_for binding.now vector (take at out.old) field.now }
+    ensures rest { drop result out.new ≡ drop result out.old }
+{
+    let header = SecurityHeader {
+        spi: binding.spi,
+        vector,
+    };
+    let covered = Covered::new(&out[..at], binding.link.mask.as_slice(), &header);
+    let text_start = put_header(out, at, &header);
+    put_sealed(
+        out,
+        text_start,
+        &binding.schedule,
+        vector,
+        covered.as_slice(),
+        field,
+    )
+}
+
+/// The vector of the suite that carries a number.
+fn vector_for(suite: Suite, device: [u8; 4], number: u64) -> Vector
+    requires { suite ≡ Suite.Cmac → number < 2 ^ 32 }
+    ensures vector { result ≡ vector_for suite device number }
+    ensures kind { IsVectorOf suite result }
+{
+    match suite {
+        Suite::Cmac => Vector::Sequence(number as u32),
+        Suite::Gcm => Vector::Wide { device, number },
+    }
+}
+
+/// The body of a clear frame, and how long its parts are.
+fn clear_body<'a>(binding: &Binding, clear: &'a [u8]) -> Body<'a>
+    requires binding { IsBinding binding.now }
+    requires fits { clear_fault binding.now clear.now ≡ None }
+    ensures body { IsBody (clear_layout binding.now.suite binding.now.link.layout) clear.now result }
+    ensures least { 5 ≤ length result.prefix.now }
+    ensures most { length result.prefix.now ≤ 70 }
+    ensures whole { length clear.now ≡ length result.prefix.now + length result.room.now
+        + length (unwrap_or (option_copied result.ocf) []) }
+    ensures gain { length clear.now + gain_of binding.now.suite binding.now.link.layout
+        ≤ most_of binding.now.link.layout }
+    ensures short { most_of binding.now.link.layout ≤ 2048 }
+{
+    body_of(clear, &clear_layout(binding.suite, &binding.link.layout)).unwrap()
+}
+
+/// Protects a clear frame under a number of the key: writes the protected frame into the front of `out`, and answers
+/// the frame's octets. In a TC frame the length field becomes that of the protected frame. The operational control
+/// field is carried over. What `out` has behind the frame stays.
+pub fn shield(binding: &Binding, number: u64, clear: &[u8], out: &mut [u8]) -> usize
+    requires binding { IsBinding binding.now }
+    requires fits { clear_fault binding.now clear.now ≡ None }
+    requires number { (1 ≤ number) × (number < end_of binding.now.key) }
+    requires room { 2048 ≤ length out.old }
+    ensures count { result ≡ length clear.now + gain_of binding.now.suite binding.now.link.layout }
+    ensures protected { Protects binding.now number clear.now (take result out.new) }
+    ensures rest { drop result out.new ≡ drop result out.old }
+{
+    let layout = &binding.link.layout;
+    let body = clear_body(binding, clear);
+    let count = clear.len() + gain_of(binding.suite, layout);
+    let vector = vector_for(binding.suite, binding.device, number);
+    let room_start = put_prefix(out, layout, body.prefix, count);
+    let room_end = put_room(out, room_start, binding, vector, body.room);
+    let body_end = put_optional(out, room_end, body.ocf);
+    put_fecf(out, body_end, layout.has_fecf())
+}

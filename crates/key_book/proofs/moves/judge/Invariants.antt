@@ -1,0 +1,7 @@
+use Rattle.std.proofs.Common.{◌≡◌, take, drop}
+use Rattle.key_book.specs.Moves.{moved, moves_refusal}
+use Rattle.key_book.proofs.moves.judge.Given as goal
+
+abbrev pub invariant-loop-i : goal.invariant-loop-i
+invariant-loop-i l =
+    moves_refusal l.rows l.ids l.to l.in_use ≡ moves_refusal (moved l.rows (take l.i l.ids) l.to) (drop l.i l.ids) l.to l.in_use

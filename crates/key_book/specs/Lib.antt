@@ -1,0 +1,5 @@
+pub mod KeyRow
+pub mod KeyBook
+pub mod KeyRefusal
+pub mod Moves
+pub mod Inventory

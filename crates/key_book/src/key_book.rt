@@ -1,0 +1,197 @@
+ghost use Rattle.std.specs.Prelude.{◌≡◌, ◌+◌, ◌<◌, ◌≤◌, max, ℕ, List, [], ◌∷◌, ◌++◌, length, map, take, slice_index_or, All, IfOk, IfErr, OnOk, OnErr, IsSome, None, Some, MatchOption, vec_len};
+ghost use Rattle.std.specs.List.{slice_get};
+ghost use Rattle.std.specs.Option.{option_map};
+ghost use Rattle.std.specs.Result.{result_err};
+ghost use Rattle.sdls_base.specs.KeyId.{end_of};
+ghost use Rattle.key_book.specs.declared.key_row.KeyRow.{KeyRow};
+ghost use Rattle.key_book.specs.KeyRow.{IsKeyLength, new_row};
+ghost use Rattle.key_book.specs.KeyBook.{IsKeyBook, MayFollow, row_of, place_of, changed};
+ghost use Rattle.key_book.specs.KeyRefusal.{IsRefusal, load_refusal};
+ghost use Rattle.key_book.specs.Moves.{moved, moves_refusal};
+ghost use Rattle.key_book.specs.Inventory.{IsInventory};
+
+use crate::inventory::Inventory;
+use crate::key_refusal::KeyRefusal;
+use crate::key_row::KeyRow;
+use crate::places::place;
+use crate::{loading, moves};
+use sdls_base::{KeyId, KeyItem, KeyList, KeyState, MOST_KEYS, NoMemory, Spi};
+use std::alloc::Global;
+use std::marker::Model;
+
+/// The keys that a unit ever loaded, at most [`MOST_KEYS`]. `Debug` prints no octet of a key.
+#[derive(Debug, Drop)]
+pub struct KeyBook {
+    rows: Vec<KeyRow>,
+}
+
+impl Model for KeyBook {
+    ghost use Rattle.std.specs.Prelude.{List};
+    ghost use Rattle.key_book.specs.declared.key_row.KeyRow.{KeyRow};
+    ghost use Rattle.key_book.specs.KeyBook.{IsKeyBook};
+
+    ghost Value = { List KeyRow };
+
+    ghost view = { λ book. book.rows.items };
+
+    ghost invariant = { λ book. IsKeyBook book.rows.items };
+}
+
+impl KeyBook {
+    /// The empty book, which takes its memory from `alloc` later.
+    pub fn new(alloc: Global) -> KeyBook
+        ensures { result ≡ [] }
+    {
+        KeyBook {
+            rows: Vec::new(alloc),
+        }
+    }
+
+    /// Loads keys of 16 or 32 octets, pre-active, all or none.
+    pub fn load(&mut self, items: &[KeyItem]) -> Result<(), KeyRefusal>
+        requires { All (λ item. IsKeyLength (length item.bytes)) items.now }
+        ensures loaded { OnOk result (self.new ≡ self.old ++ map new_row items.now) }
+
+        // The first refusal that applies, or want of memory; after Ok none applies.
+        ensures accepted { OnOk result (load_refusal self.old items.now ≡ None) }
+        ensures refused { IfErr result (λ refusal. IsRefusal refusal (load_refusal self.old items.now)) }
+        ensures kept { OnErr result (self.new ≡ self.old) }
+    {
+        let before = self.rows.len();
+        match loading::append(&mut self.rows, items) {
+            Ok(()) if self.rows.len() <= MOST_KEYS => Ok(()),
+            Ok(()) => {
+                self.rows.truncate(before);
+                Err(KeyRefusal::BookFull)
+            }
+            Err(refusal) => {
+                self.rows.truncate(before);
+                Err(refusal)
+            }
+        }
+    }
+
+    /// Takes keys one state on, each judged on the state that the earlier ones leave, all or none. `in_use` has a pair
+    /// for each association that holds a key. Takes no memory.
+    pub fn set_state(
+        &mut self,
+        ids: &KeyList,
+        to: KeyState,
+        in_use: &[(KeyId, Spi)],
+    ) -> Result<(), KeyRefusal>
+        ensures moved { OnOk result (self.new ≡ moved self.old ids.now to) }
+        ensures refused { result_err result ≡ moves_refusal self.old ids.now to in_use.now }
+        ensures kept { OnErr result (self.new ≡ self.old) }
+    {
+        moves::judge(&self.rows, ids.as_slice(), to, in_use)?;
+        moves::move_rows(&mut self.rows, ids.as_slice(), to);
+        Ok(())
+    }
+
+    /// The keys with identifiers from `first` to `last`.
+    pub fn inventory(&self, first: u16, last: u16) -> Result<Inventory, NoMemory>
+        ensures { IfOk result (IsInventory self.now first last) }
+    {
+        let alloc = *self.rows.allocator();
+        Inventory::of(alloc, &self.rows, first, last)
+    }
+
+    /// The row of a key and its place.
+    pub fn find(&self, id: KeyId) -> Option<(usize, &KeyRow)>
+        ensures place { option_map (λ found. found.0) result ≡ place_of self.now id }
+        ensures row { option_map (λ found. found.1.now) result ≡ row_of self.now id }
+    {
+        let i = place(&self.rows, id)?;
+        Some((i, &self.rows[i]))
+    }
+
+    /// Numbers below it may have been used for sending under the key.
+    pub fn mark(&self, id: KeyId) -> Option<u64>
+        ensures { result ≡ option_map (λ row. row.mark) (row_of self.now id) }
+    {
+        self.find(id).map(|(_, row)| row.mark)
+    }
+
+    /// Raises the mark of a key that is there to at least `mark`. Takes no memory.
+    pub fn raise_mark(&mut self, id: KeyId, mark: u64)
+        requires there { IsSome (row_of self.old id) }
+        requires from_one { 1 ≤ mark }
+        requires to_end { mark ≤ end_of id }
+        ensures { self.new ≡ changed self.old id (λ row. record row { mark = max row.mark mark }) }
+    {
+        let i = known_place(&self.rows, id);
+        let row = &mut self.rows[i];
+        row.mark = row.mark.max(mark);
+    }
+
+    /// Numbers up to it may have been accepted under the key.
+    pub fn receive_floor(&self, id: KeyId) -> Option<u64>
+        ensures { result ≡ option_map (λ row. row.floor) (row_of self.now id) }
+    {
+        self.find(id).map(|(_, row)| row.floor)
+    }
+
+    /// Raises the floor of a key that is there to at least `floor`. Takes no memory.
+    pub fn raise_floor(&mut self, id: KeyId, floor: u64)
+        requires there { IsSome (row_of self.old id) }
+        requires below_end { floor < end_of id }
+        ensures { self.new ≡ changed self.old id (λ row. record row { floor = max row.floor floor }) }
+    {
+        let i = known_place(&self.rows, id);
+        let row = &mut self.rows[i];
+        row.floor = row.floor.max(floor);
+    }
+
+    /// Sets mark and floor of a key that is there. Takes no memory.
+    pub fn set_marks(&mut self, id: KeyId, mark: u64, floor: u64)
+        requires there { IsSome (row_of self.old id) }
+        requires from_one { 1 ≤ mark }
+        requires to_end { mark ≤ end_of id }
+        requires below_end { floor < end_of id }
+        ensures { self.new ≡ changed self.old id (λ row. record row { mark = mark; floor = floor }) }
+    {
+        let i = known_place(&self.rows, id);
+        let row = &mut self.rows[i];
+        row.mark = mark;
+        row.floor = floor;
+    }
+
+    /// The rows, in the order of loading. They keep the rules of a book.
+    pub fn rows(&self) -> &[KeyRow]
+        ensures rows { result.now ≡ self.now }
+        ensures rules { IsKeyBook self.now }
+    {
+        self.rows.as_slice()
+    }
+
+    /// Puts a row last. Rows put so into an empty book, in order, make an equal book.
+    pub fn add_row(&mut self, row: KeyRow) -> Result<(), NoMemory>
+        requires { MayFollow self.old row }
+        ensures added { OnOk result (self.new ≡ self.old ++ row ∷ []) }
+        ensures kept { OnErr result (self.new ≡ self.old) }
+    {
+        self.rows.push(row)?;
+        Ok(())
+    }
+
+    /// An equal book.
+    pub fn copy(&self) -> Result<KeyBook, NoMemory>
+        ensures { IfOk result (λ book. book ≡ self.now) }
+    {
+        let rows = self.rows.clone()?;
+        Ok(KeyBook { rows })
+    }
+}
+
+fn known_place(rows: &[KeyRow], id: KeyId) -> usize
+    requires { IsSome (row_of rows.now id) }
+    ensures { place_of rows.now id ≡ Some result }
+{
+    place(rows, id).unwrap()
+}
+
+/// Law: each row of a book may follow those before it, so a book can be made again row by row.
+pub fn rows_may_follow()
+    ensures { (rows : List KeyRow) (i : ℕ) (d : KeyRow) → IsKeyBook rows → i < length rows
+        → MayFollow (take i rows) (slice_index_or rows i d) }
+{}

@@ -1,0 +1,3 @@
+pub mod SaRow
+pub mod SaBook
+pub mod SaRefusal

@@ -1,0 +1,58 @@
+-- A security association (CCSDS 355.0-B, Security Associations; bounds and numbers profile).
+use Rattle.std.specs.Prelude.{◌≡◌, ℕ, ◌-◌, ◌<◌, ◌≤◌, ◌↔◌, List, length, Option, Some, None, IfSome, IsNone}
+use Rattle.std.specs.List.Sorted.{IsStrictlyIncreasing}
+use Rattle.sdls_base.specs.KeyId.{class_of, end_of}
+use Rattle.sdls_base.specs.Suite.{class_of_suite}
+use Rattle.sdls_base.specs.declared.change.NewSa.{NewSa}
+use Rattle.sdls_base.specs.declared.states.Direction.{Direction}
+use Rattle.sdls_base.specs.declared.states.Direction.TheVariants.{Send, Receive}
+use Rattle.sdls_base.specs.declared.states.SaState.TheVariants.{Unkeyed, Keyed, Operational}
+use Rattle.replay_window.specs.declared.window.Window.{Window}
+use Rattle.replay_window.specs.Window.{IsWidth, IsFresh}
+use Rattle.sa_book.specs.declared.sa_row.SaRow.{SaRow}
+use Rattle.sa_book.specs.declared.sa_row.TheConstants.{MOST_CHANNELS}
+
+-- one to eight channels, strictly ascending
+pub record AreChannels (channels : List ℕ) : Type 0 where
+  pub one : 1 ≤ length channels
+  pub most : length channels ≤ MOST_CHANNELS
+  pub ascending : IsStrictlyIncreasing channels
+
+-- The highest number accepted: below the key's end where the association receives and has a key, and else 0.
+abbrev pub HasHigh : Direction → Option ℕ → ℕ → Type 0
+HasHigh Receive (Some key) high = high < end_of key
+HasHigh Receive None high = high ≡ 0
+HasHigh Send key high = high ≡ 0
+
+-- the rules of one association
+pub record IsSaRow (row : SaRow) : Type 0 where
+  pub keyless : (row.state ≡ Unkeyed) ↔ IsNone row.key
+  pub suite : IfSome row.key (λ key. class_of key ≡ class_of_suite row.suite)
+  pub high : HasHigh row.direction row.key row.window.high
+  pub width : IsWidth row.window.width
+  pub channels : AreChannels row.channels
+
+-- the row of an association just created
+abbrev pub new_row : NewSa → SaRow
+new_row new = record { spi = new.spi; direction = new.direction; suite = new.suite; state = Unkeyed; key = None; channels = new.channels; window = record { high = 0; width = new.window } }
+
+-- the window when a number is the next to accept; a sending association keeps its window
+abbrev pub following : Direction → ℕ → Window → Window
+following Receive number window = record window { high = number - 1 }
+following Send number window = window
+
+-- a row that took a key, with the next number
+abbrev pub with_key : ℕ → ℕ → SaRow → SaRow
+with_key key number row = record row { state = Keyed; key = Some key; window = following row.direction number row.window }
+
+-- a row whose key was taken away
+abbrev pub without_key : SaRow → SaRow
+without_key row = record row { state = Unkeyed; key = None; window = record row.window { high = 0 } }
+
+-- an operational receiving association may accept the number under its key
+pub record MayAccept (row : SaRow) (number : ℕ) : Type 0 where
+  pub operational : row.state ≡ Operational
+  pub receives : row.direction ≡ Receive
+  pub key : ℕ
+  pub holds : row.key ≡ Some key
+  pub fresh : IsFresh row.window number (end_of key)

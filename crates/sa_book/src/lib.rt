@@ -1,0 +1,18 @@
+//! The security associations of a unit (CCSDS 355.0-B, Security Associations; CCSDS 355.1-B, SA management).
+//!
+//! An `SaBook` is seen as the list of its rows, ascending by security parameter index. Its calls take an association
+//! from unkeyed to keyed to operational and back, one state at a time, and each refuses by the first rule that the
+//! change would break. Keys stand elsewhere: a call is given the state and the floor of the key that it needs.
+#![tactic(auto)]
+
+mod judging;
+mod sa_book;
+mod sa_refusal;
+mod sa_row;
+
+pub use sa_book::{SaBook, rows_may_follow};
+pub use sa_refusal::SaRefusal;
+pub use sa_row::{MOST_CHANNELS, SaRow};
+
+#[cfg(test)]
+mod tests;

@@ -1,0 +1,261 @@
+ghost use Rattle.std.specs.Prelude.{◌≡◌, ℕ, ◌+◌, ◌<◌, ◌≤◌, List, length, take, slice_index_or, [], ◌∷◌, ◌++◌, All, Some, IfOk, IfErr, OnOk, OnErr, IsSomeAnd};
+ghost use Rattle.std.specs.Option.{option_map, ForSome};
+ghost use Rattle.std.specs.Result.{result_err};
+ghost use Rattle.sdls_base.specs.declared.states.Direction.TheVariants.{Receive};
+ghost use Rattle.sdls_base.specs.declared.states.SaState.TheVariants.{Keyed, Operational};
+ghost use Rattle.replay_window.specs.Window.{IsWidth};
+ghost use Rattle.sa_book.specs.declared.sa_row.SaRow.{SaRow};
+ghost use Rattle.sa_book.specs.SaRow.{AreChannels, MayAccept, new_row, with_key, without_key, following};
+ghost use Rattle.sa_book.specs.SaBook.{IsSaBook, MayFollow, row_of, changed, without, with_row, sender_on, in_use};
+ghost use Rattle.sa_book.specs.SaRefusal.{IsRefusal, create_refusal, rekey_refusal, start_refusal, stop_refusal, expire_refusal, delete_refusal, set_number_refusal, set_window_refusal, read_number_refusal};
+
+use crate::judging;
+use crate::sa_refusal::SaRefusal;
+use crate::sa_row::{SaRow, following};
+use replay_window::Window;
+use sdls_base::{ChannelId, Direction, KeyId, KeyState, NewSa, NoMemory, SaState, Spi};
+use std::alloc::Global;
+use std::marker::Model;
+
+/// The security associations of a unit, at most [`sdls_base::MOST_ASSOCIATIONS`] at one time. After a refusal of any
+/// call the rows are as they were.
+#[derive(Debug, Drop)]
+pub struct SaBook {
+    rows: Vec<SaRow>,
+}
+
+impl Model for SaBook {
+    ghost use Rattle.std.specs.Prelude.{List};
+    ghost use Rattle.sa_book.specs.declared.sa_row.SaRow.{SaRow};
+    ghost use Rattle.sa_book.specs.SaBook.{IsSaBook};
+
+    ghost Value = { List SaRow };
+
+    ghost view = { λ book. book.rows.items };
+
+    ghost invariant = { λ book. IsSaBook book.rows.items };
+}
+
+impl SaBook {
+    /// The empty book, which takes its memory from `alloc` later.
+    pub fn new(alloc: Global) -> SaBook
+        ensures { result ≡ [] }
+    {
+        SaBook {
+            rows: Vec::new(alloc),
+        }
+    }
+
+    /// Creates an association, unkeyed. `known` are the unit's channels.
+    pub fn create(&mut self, new: &NewSa, known: &[ChannelId]) -> Result<(), SaRefusal>
+        requires window { IsWidth new.now.window }
+        requires channels { AreChannels new.now.channels }
+        requires numbers { All (λ channel. channel ≤ 63) new.now.channels }
+        ensures created { OnOk result (self.new ≡ with_row self.old (new_row new.now)) }
+        ensures accepted { OnOk result (create_refusal self.old new.now known.now ≡ None) }
+        ensures refused { IfErr result (λ refusal. IsRefusal refusal (create_refusal self.old new.now known.now)) }
+        ensures kept { OnErr result (self.new ≡ self.old) }
+    {
+        judging::judge_create(&self.rows, new, known)?;
+        let row = SaRow::created(new)?;
+        let place = judging::place_for(&self.rows, new.spi);
+        self.rows.insert(place, row)?;
+        Ok(())
+    }
+
+    /// Gives an unkeyed association a key in a state, with `number` as the next. `floor` is the least lawful number.
+    /// Takes no memory.
+    pub fn rekey(
+        &mut self,
+        spi: Spi,
+        key: KeyId,
+        state: KeyState,
+        number: u64,
+        floor: u64,
+    ) -> Result<(), SaRefusal>
+        requires { 1 ≤ floor }
+        ensures keyed { OnOk result (self.new ≡ changed self.old spi (with_key key number)) }
+        ensures refused { result_err result ≡ rekey_refusal self.old spi key state number floor }
+        ensures kept { OnErr result (self.new ≡ self.old) }
+    {
+        let i = judging::place(&self.rows, spi)?;
+        judging::judge_rekey(&self.rows, &self.rows[i], key, state, number, floor)?;
+        let row = &mut self.rows[i];
+        row.state = SaState::Keyed;
+        row.key = Some(key);
+        row.window = following(row.direction, number, row.window);
+        Ok(())
+    }
+
+    /// Makes a keyed association operational. Takes no memory.
+    pub fn start(&mut self, spi: Spi) -> Result<(), SaRefusal>
+        ensures started { OnOk result
+            (self.new ≡ changed self.old spi (λ row. record row { state = Operational })) }
+        ensures refused { result_err result ≡ start_refusal self.old spi }
+        ensures kept { OnErr result (self.new ≡ self.old) }
+    {
+        let i = judging::place(&self.rows, spi)?;
+        judging::judge_start(&self.rows, &self.rows[i])?;
+        let row = &mut self.rows[i];
+        row.state = SaState::Operational;
+        Ok(())
+    }
+
+    /// Makes an operational association keyed. Takes no memory.
+    pub fn stop(&mut self, spi: Spi) -> Result<(), SaRefusal>
+        ensures stopped { OnOk result
+            (self.new ≡ changed self.old spi (λ row. record row { state = Keyed })) }
+        ensures refused { result_err result ≡ stop_refusal self.old spi }
+        ensures kept { OnErr result (self.new ≡ self.old) }
+    {
+        let i = judging::place(&self.rows, spi)?;
+        judging::check_operational(self.rows[i].state)?;
+        let row = &mut self.rows[i];
+        row.state = SaState::Keyed;
+        Ok(())
+    }
+
+    /// Takes the key of a keyed association away, and makes it unkeyed. Takes no memory.
+    pub fn expire(&mut self, spi: Spi) -> Result<(), SaRefusal>
+        ensures expired { OnOk result (self.new ≡ changed self.old spi without_key) }
+        ensures refused { result_err result ≡ expire_refusal self.old spi }
+        ensures kept { OnErr result (self.new ≡ self.old) }
+    {
+        let i = judging::place(&self.rows, spi)?;
+        judging::check_keyed(self.rows[i].state)?;
+        let row = &mut self.rows[i];
+        row.state = SaState::Unkeyed;
+        row.key = None;
+        row.window.high = 0;
+        Ok(())
+    }
+
+    /// Deletes an unkeyed association. Takes no memory.
+    pub fn delete(&mut self, spi: Spi) -> Result<(), SaRefusal>
+        ensures deleted { OnOk result (self.new ≡ without self.old spi) }
+        ensures refused { result_err result ≡ delete_refusal self.old spi }
+        ensures kept { OnErr result (self.new ≡ self.old) }
+    {
+        let i = judging::place(&self.rows, spi)?;
+        judging::check_unkeyed(self.rows[i].state)?;
+        self.rows.remove(i);
+        Ok(())
+    }
+
+    /// Sets the next number of an association that has a key. `floor` is the least lawful number. Of a sending
+    /// association no row changes. Takes no memory.
+    pub fn set_number(&mut self, spi: Spi, number: u64, floor: u64) -> Result<(), SaRefusal>
+        requires { 1 ≤ floor }
+        ensures set { OnOk result (self.new ≡ changed self.old spi
+            (λ row. record row { window = following row.direction number row.window })) }
+        ensures refused { result_err result ≡ set_number_refusal self.old spi number floor }
+        ensures kept { OnErr result (self.new ≡ self.old) }
+    {
+        let i = judging::place(&self.rows, spi)?;
+        judging::judge_set_number(&self.rows[i], number, floor)?;
+        let row = &mut self.rows[i];
+        row.window = following(row.direction, number, row.window);
+        Ok(())
+    }
+
+    /// Sets the width of an association's window. Takes no memory.
+    pub fn set_window(&mut self, spi: Spi, window: u64) -> Result<(), SaRefusal>
+        requires { IsWidth window }
+        ensures set { OnOk result (self.new ≡ changed self.old spi
+            (λ row. record row { window = record row.window { width = window } })) }
+        ensures refused { result_err result ≡ set_window_refusal self.old spi }
+        ensures kept { OnErr result (self.new ≡ self.old) }
+    {
+        let i = judging::place(&self.rows, spi)?;
+        let row = &mut self.rows[i];
+        row.window.width = window;
+        Ok(())
+    }
+
+    /// Takes a fresh number as the highest of an operational receiving association. Takes no memory.
+    pub fn accept(&mut self, spi: Spi, number: u64)
+        requires { IsSomeAnd (row_of self.old spi) (λ row. MayAccept row number) }
+        ensures { self.new ≡ changed self.old spi
+            (λ row. record row { window = record row.window { high = number } }) }
+    {
+        let i = judging::known_place(&self.rows, spi);
+        let row = &mut self.rows[i];
+        row.window.accept(number);
+    }
+
+    /// The next number of a receiving association that has a key: the one after the highest accepted.
+    pub fn read_number(&self, spi: Spi) -> Result<u64, SaRefusal>
+        requires { ForSome (row_of self.now spi) (λ row. row.direction ≡ Receive) }
+        ensures number { IfOk result
+            (λ n. IsSomeAnd (row_of self.now spi) (λ row. n ≡ row.window.high + 1)) }
+        ensures refused { result_err result ≡ read_number_refusal self.now spi }
+    {
+        let i = judging::place(&self.rows, spi)?;
+        judging::next_number(&self.rows[i])
+    }
+
+    /// The row of an association.
+    pub fn status(&self, spi: Spi) -> Result<&SaRow, SaRefusal>
+        ensures row { IfOk result (λ row. row_of self.now spi ≡ Some row.now) }
+        ensures unknown { IfErr result
+            (λ refusal. (refusal ≡ SaRefusal.UnknownSpi) × (row_of self.now spi ≡ None)) }
+    {
+        let i = judging::place(&self.rows, spi)?;
+        Ok(&self.rows[i])
+    }
+
+    /// The operational sending association that covers a channel.
+    pub fn sender_on(&self, channel: ChannelId) -> Option<&SaRow>
+        ensures { option_map (λ row. row.now) result ≡ sender_on self.now channel }
+    {
+        let channel = channel.get();
+        self.rows
+            .iter()
+            .find(|row| judging::covers(row, Direction::Send, channel))
+    }
+
+    /// The keys that associations hold, each with its association's index, ascending by the index.
+    pub fn in_use(&self) -> Result<Vec<(KeyId, Spi)>, NoMemory>
+        ensures { IfOk result (λ pairs. pairs.items ≡ in_use self.now) }
+    {
+        let alloc = *self.rows.allocator();
+        let pairs = self
+            .rows
+            .iter()
+            .filter_map(|row| row.key.map(|key| (key, row.spi)))
+            .collect(alloc)?;
+        Ok(pairs)
+    }
+
+    /// The rows, ascending by index. They keep the rules of a book.
+    pub fn rows(&self) -> &[SaRow]
+        ensures rows { result.now ≡ self.now }
+        ensures rules { IsSaBook self.now }
+    {
+        self.rows.as_slice()
+    }
+
+    /// Puts a row last. Rows put so into an empty book, in order, make an equal book.
+    pub fn add_row(&mut self, row: SaRow) -> Result<(), NoMemory>
+        requires { MayFollow self.old row }
+        ensures added { OnOk result (self.new ≡ self.old ++ row ∷ []) }
+        ensures kept { OnErr result (self.new ≡ self.old) }
+    {
+        self.rows.push(row)?;
+        Ok(())
+    }
+
+    /// An equal book.
+    pub fn copy(&self) -> Result<SaBook, NoMemory>
+        ensures { IfOk result (λ book. book ≡ self.now) }
+    {
+        let rows = self.rows.clone()?;
+        Ok(SaBook { rows })
+    }
+}
+
+/// Law: each row of a book may follow those before it, so a book can be made again row by row.
+pub fn rows_may_follow()
+    ensures { (rows : List SaRow) (i : ℕ) (d : SaRow) → IsSaBook rows → i < length rows
+        → MayFollow (take i rows) (slice_index_or rows i d) }
+{}
