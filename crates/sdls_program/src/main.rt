@@ -34,7 +34,11 @@ fn main(rt: HostRuntime) -> ExitCode {
     };
     let mut source = StdSource::new(rt.stdin());
     let site = FileSite::new(rt);
-    let Outcome { status, site: _ } = run(
+    let Outcome {
+        status,
+        site: _,
+        entries: _,
+    } = run(
         &rt,
         rt.alloc(),
         words.as_slice(),

@@ -44,7 +44,7 @@ fn quiet_site(alloc: Global) -> MemSite {
 fn answer(alloc: Global, texts: &[&str], input: Vec<u8>) -> Result<(Vec<u8>, u8), AllocError> {
     let words = words(alloc, texts)?;
     let mut source = SureSource::new(input);
-    let Outcome { status, site } = run_plain(
+    let Outcome { status, site, .. } = run_plain(
         alloc,
         words.as_slice(),
         &mut source,
@@ -112,7 +112,7 @@ fn refuses_what_is_longer_than_any_frame(rt: HostRuntime) -> Result<(), Fail> {
     let alloc = rt.alloc();
     let words = words(alloc, &["check", KEY])?;
     let mut source = SureSource::new(vec![in alloc; 0x40; 3000]?);
-    let Outcome { status, site } = run_plain(
+    let Outcome { status, site, .. } = run_plain(
         alloc,
         words.as_slice(),
         &mut source,
@@ -154,7 +154,7 @@ fn ends_with_the_fault_of_the_source(rt: HostRuntime) -> Result<(), Fail> {
     for call in [0, 1] {
         let words = words(alloc, &["check", KEY])?;
         let mut source = MemSource::new(hex::decode(alloc, FRAME)?, 1, vec![in alloc; call]?);
-        let Outcome { status, site } = run_plain(
+        let Outcome { status, site, .. } = run_plain(
             alloc,
             words.as_slice(),
             &mut source,
@@ -173,7 +173,7 @@ fn puts_nothing_after_a_failed_put(rt: HostRuntime) -> Result<(), Fail> {
         let words = words(alloc, &["check", KEY])?;
         let mut source = SureSource::new(hex::decode(alloc, FRAME)?);
         let site = MemSite::new(alloc, Vec::new(alloc), vec![in alloc; call]?, None);
-        let Outcome { status, site } = run_plain(alloc, words.as_slice(), &mut source, site);
+        let Outcome { status, site, .. } = run_plain(alloc, words.as_slice(), &mut source, site);
         assert_eq!(rt; site.sunk(), sunk.as_bytes());
         assert_eq!(rt; status, SITE_FAULT);
         assert_eq!(rt; site.faults(), 1);
@@ -187,7 +187,7 @@ fn takes_a_source_of_single_octets(rt: HostRuntime) -> Result<(), Fail> {
     let words = words(alloc, &["check", KEY])?;
     let mut source = MemSource::new(hex::decode(alloc, LONGER_FRAME)?, 1, Vec::new(alloc));
     let site = quiet_site(alloc);
-    let Outcome { status, site } = run(&rt, alloc, words.as_slice(), &mut source, site, &Open);
+    let Outcome { status, site, .. } = run(&rt, alloc, words.as_slice(), &mut source, site, &Open);
     assert_eq!(rt;
         site.sunk(),
         b"ok 7393172aae2d8a571e03ac9c9eb76fac45af8e5130c81c46a35ce411\n".as_slice()
@@ -231,11 +231,11 @@ fn makes_the_image_of_a_plan_once(rt: HostRuntime) -> Result<(), Fail> {
     let words = words(alloc, &["init"])?;
     let mut source = SureSource::new(Vec::from_slice(alloc, PLAN)?);
     let site = quiet_site(alloc);
-    let Outcome { status, site } = run_plain(alloc, words.as_slice(), &mut source, site);
+    let Outcome { status, site, .. } = run_plain(alloc, words.as_slice(), &mut source, site);
     assert_eq!(rt; status, DONE);
     assert!(rt; site.image() == image_of_the_plan(alloc)?.as_slice());
     assert_eq!(rt; site.sunk().len(), 0);
-    let Outcome { status, site } = run_plain(alloc, words.as_slice(), &mut source, site);
+    let Outcome { status, site, .. } = run_plain(alloc, words.as_slice(), &mut source, site);
     assert_eq!(rt; status, NO_STATE);
     assert_eq!(rt; site.sunk(), b"image exists\n".as_slice());
     Ok(())
@@ -249,7 +249,7 @@ fn makes_no_image_of_another_text(rt: HostRuntime) -> Result<(), Fail> {
         text.extend_from_slice(end.as_bytes())?;
         let words = words(alloc, &["init"])?;
         let mut source = SureSource::new(text);
-        let Outcome { status, site } = run_plain(
+        let Outcome { status, site, .. } = run_plain(
             alloc,
             words.as_slice(),
             &mut source,
