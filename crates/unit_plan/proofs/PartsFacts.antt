@@ -4,6 +4,7 @@ use Rattle.std.proofs.lemmas.Bool.{ne_eqb}
 use Rattle.std.proofs.lemmas.Grind.{common_steps}
 use Rattle.std.specs.List.{onto_first}
 use denote.Ref.{Bor}
+use Rattle.unit_plan.specs.Field.{items_of, items_left}
 use Rattle.unit_plan.specs.Lines.{parts, lines_of, words_of, words_left, IsCut}
 
 -- with no mark, a list that is not empty is one part, where the empty list after it counts for nothing
@@ -45,6 +46,12 @@ pub first_word : (line word : List ℕ) (after : Option (Bor (List ℕ)))
     → IsCut 32 line word after → words_of line ≡ word ∷ words_left after
 first_word line word None cut = rw cut.0 (whole_word 32 line cut.1)
 first_word line word (Some rest) cut = cut ([] ∷ [])
+
+-- a list that is cut at its first comma
+pub first_item : (list item : List ℕ) (after : Option (Bor (List ℕ))) → IsCut 44 list item after
+    → items_of list ≡ item ∷ items_left after
+first_item list item None cut = rw cut.0 (whole_word 44 list cut.1)
+first_item list item (Some rest) cut = cut ([] ∷ [])
 
 -- fewer are left behind the first
 pub fewer_left : {X : Type 0} (all : List X) (x : X) (others : List X) → all ≡ x ∷ others → length others < length all

@@ -3,3 +3,8 @@ pub mod Number
 pub mod Reading
 pub mod Telecommand
 pub mod TelecommandReading
+pub mod Field
+pub mod LinkLine
+pub mod ChannelLine
+pub mod KeyLine
+pub mod AssociationLine

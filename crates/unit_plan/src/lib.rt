@@ -5,12 +5,22 @@
 //! [`TelecommandPlan`] is the plan of one telecommand channel protected by CMAC, in nine lines.
 #![tactic(auto)]
 
+mod association_line;
+mod channel_line;
+mod fields;
+mod key_line;
 mod lines;
+mod link;
+mod link_line;
 mod number;
+mod plan_error;
 mod reading;
 mod telecommand;
 
 pub use lines::{Lines, Words};
+pub use channel_line::Place;
+pub use link::{AnyLayout, Link, Mask};
+pub use plan_error::{PlanCause, PlanError, PlanFault};
 pub use telecommand::TelecommandPlan;
 
 /// The most octets of a plan.
