@@ -1,6 +1,6 @@
 -- The first part of a list, and the others.
-use Rattle.std.proofs.Common.{◌≡◌, ◌≢◌, ℕ, zero, suc, ◌+◌, ◌-◌, ◌<◌, List, [], ◌∷◌, length, take, drop, get_or, refl, ap, Option, Some, None, unwrap_or, arith, eq-eqb}
-use Rattle.std.proofs.lemmas.Bool.{ne_eqb}
+use Rattle.std.proofs.Common.{◌≡◌, ◌≢◌, ℕ, zero, suc, ◌+◌, ◌-◌, ◌<◌, ◌≤◌, List, [], ◌∷◌, length, take, drop, get_or, refl, ap, Option, Some, None, unwrap_or, arith, eq-eqb, inl, inr}
+use Rattle.std.proofs.lemmas.Bool.{ne_eqb, cases_eq}
 use Rattle.std.proofs.lemmas.Grind.{common_steps}
 use Rattle.std.specs.List.{onto_first}
 use denote.Ref.{Bor}
@@ -64,3 +64,15 @@ pub first_part_read : (mark : ℕ) (last : List (List ℕ)) (xs : List ℕ) (at 
 first_part_read mark last xs at inside lacks found =
     let whole : take (length xs - (at + 1)) (drop (at + 1) xs) ≡ drop (suc at) xs = grind (arith, common_steps) in
     rw whole (first_part mark last xs at inside lacks found)
+
+-- a text has no more lines than octets
+onto_few : (x n : ℕ) (ps : List (List ℕ)) → length ps ≤ n → length (onto_first x ps) ≤ n + 1
+onto_few x n [] few = omega arith
+onto_few x n (p ∷ ps) few = let one : length ((x ∷ p) ∷ ps) ≡ length ps + 1 = grind arith in let same : length (p ∷ ps) ≡ length ps + 1 = grind arith in omega arith
+
+pub few_parts : (mark : ℕ) (xs : List ℕ) → length (parts mark [] xs) ≤ length xs
+few_parts mark [] = omega arith
+few_parts mark (x ∷ xs) = elim (cases_eq x mark) [
+  | inl is ↦ rw (is, eq-eqb mark mark refl) (let more = few_parts mark xs in grind arith)
+  | inr not ↦ rw (ne_eqb x mark not) (let more = onto_few x (length xs) (parts mark [] xs) (few_parts mark xs) in grind arith)
+]

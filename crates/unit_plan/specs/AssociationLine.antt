@@ -1,5 +1,5 @@
 -- Profile: `sa` lines.
-use Rattle.std.specs.Prelude.{ℕ, ◌+◌, nat_le, Bool, true, false, ◌&&◌, List, [], ◌∷◌, length, codes, Option, Some, None}
+use Rattle.std.specs.Prelude.{ℕ, ◌+◌, nat_le, Bool, true, false, ◌&&◌, List, [], ◌∷◌, length, codes, Option, Some}
 use Rattle.sdls_base.specs.declared.states.Direction.{Direction}
 use Rattle.sdls_base.specs.declared.states.Direction.TheVariants.{Send, Receive}
 use Rattle.sdls_base.specs.declared.states.Suite.{Suite}
@@ -27,14 +27,17 @@ before_list words = do
   window ← decimal_at first.1
   list ← first_of window.1
   ended ← end_of list.1
-  Some (record {
-    spi = spi.0;
-    direction = direction_of sends.0;
-    suite = suite_of is_cmac.0;
-    key = key.0;
-    number = first.0;
-    window = window.0;
-  }, list.0)
+  Some (
+    record {
+      spi = spi.0;
+      direction = direction_of sends.0;
+      suite = suite_of is_cmac.0;
+      key = key.0;
+      number = first.0;
+      window = window.0;
+    },
+    list.0,
+  )
 
 unfoldable pub association_said : List (List ℕ) → Option AssociationLine
 association_said words = do

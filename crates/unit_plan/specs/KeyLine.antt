@@ -1,6 +1,6 @@
 -- Profile: `key` lines.
-use Rattle.std.specs.Prelude.{ℕ, Bool, true, false, List, codes, Option, Some, None}
-use Rattle.std.specs.Option.{option_or, option_map}
+use Rattle.std.specs.Prelude.{ℕ, Bool, true, false, List, codes, Option, Some}
+use Rattle.std.specs.Option.{option_or}
 use Rattle.sdls_base.specs.declared.states.KeyState.{KeyState}
 use Rattle.sdls_base.specs.declared.states.KeyState.TheVariants.{PreActive, Active}
 use Rattle.unit_plan.specs.declared.key_line.KeyLine.{KeyLine}

@@ -8,3 +8,9 @@ pub mod LinkLine
 pub mod ChannelLine
 pub mod KeyLine
 pub mod AssociationLine
+pub mod PlanError
+pub mod Channels
+pub mod Kind
+pub mod PlanLines
+pub mod LineForm
+pub mod Plan

@@ -1,3 +1,7 @@
+ghost use Rattle.std.specs.Prelude.{◌≡◌};
+ghost use Rattle.unit_plan.specs.declared.plan_error.PlanError.TheVariants.{Refused};
+ghost use Rattle.unit_plan.specs.PlanError.{Gives, check};
+
 use std::alloc::{AllocError, AllocFailed};
 
 /// What is wrong with a line of a plan (profile), in the order in which it is tested.
@@ -54,5 +58,22 @@ impl<T: Drop> From<AllocFailed<T>> for PlanError {
 
     fn from(_wanting: AllocFailed<T>) -> PlanError {
         PlanError::NoMemory
+    }
+}
+
+pub(crate) fn refused(line: u32, cause: PlanCause) -> PlanError
+    ensures { result ≡ Refused (record { line = line; cause = cause }) }
+{
+    PlanError::Refused(PlanFault { line, cause })
+}
+
+/// Refuses a line for a cause, unless a rule holds.
+pub(crate) fn check(line: u32, cause: PlanCause, holds: bool) -> Result<(), PlanError>
+    ensures { Gives result (check line cause holds) }
+{
+    if holds {
+        Ok(())
+    } else {
+        Err(refused(line, cause))
     }
 }
