@@ -146,7 +146,8 @@ fn protected(alloc: Global, numbers: &[(u32, &str)]) -> Result<Vec<u8>, Fail> {
         push_head(&mut octets, *number)?;
         octets.extend_from_slice(b"\x00\x2a\x14\x1b\x09\xc3\x00\x07")?;
         octets.extend_from_slice(&number.to_be_bytes())?;
-        octets.extend_from_slice(hex::decode(alloc, mac)?.as_slice())?;
+        let mac = hex::decode(alloc, mac)?;
+        octets.extend_from_slice(mac.as_slice())?;
     }
     Ok(octets)
 }
@@ -199,13 +200,14 @@ fn protects_one_frame(rt: HostRuntime) -> Result<(), Fail> {
 
 /// The answers to the frames of the next test.
 fn mixed_answers(alloc: Global) -> Result<Vec<u8>, Fail> {
+    let mac = hex::decode(alloc, "fe2362d008a70500f7154f9a89bd6b01")?;
     let mut octets = joined(
         alloc,
         &[
             b"\x00\x00\x80\x01\x00\x00\x04\x00\x00\x00\x00\x00\x00\x00\x00\x00\x00\x00\x00\x00\x00\x00\x00\x01",
             b"\x00\x2a\x17\xff\x09\xc3\x00\x07\x00\x00\x00\x01",
             &ZEROS[..996],
-            hex::decode(alloc, "fe2362d008a70500f7154f9a89bd6b01")?.as_slice(),
+            mac.as_slice(),
         ],
     )?;
     for kind in [[0x10, 2], [2, 0], [0x10, 0], [0x10, 1], [0x11, 0]] {
@@ -470,10 +472,29 @@ fn has_served(alloc: Global, sunk: &[u8], number: u32) -> Result<bool, AllocErro
 fn no_number_serves_twice_after_any_fault(rt: HostRuntime) -> Result<(), Fail> {
     let alloc = rt.alloc();
     let image = image_of(alloc, PLAN, 168)?;
+    let full = whole(alloc, &NUMBERS[..5], DONE, 2, 0)?;
+    let (status, _, site) = life_of_frames(
+        &rt,
+        alloc,
+        5,
+        failing_site(alloc, &image, CALLS_OF_FIVE)?,
+    )?;
+    assert_eq!(rt; (status, site.sunk()), (DONE, full.as_slice()));
     for call in 0..CALLS_OF_FIVE {
-        let (status, _, site) = life_of_frames(&rt, alloc, 5, failing_site(alloc, &image, call)?)?;
+        let (status, entries, site) = life_of_frames(
+            &rt,
+            alloc,
+            5,
+            failing_site(alloc, &image, call)?,
+        )?;
         assert_eq!(rt; status, SITE_FAULT, "at call {call}");
+        let mut end = Vec::new(alloc);
+        push_bare(&mut end, [0xff, 5], entries as u64, 1)?;
         let sunk = site.sunk().to_vec(alloc)?;
+        assert!(rt;
+            sunk.ends_with(end.as_slice()) || full.starts_with(sunk.as_slice()),
+            "at call {call}"
+        );
         let (_, _, site) = life_of_frames(&rt, alloc, 1, site.crashed(Crash::Kept))?;
         let next = first_number(site.sunk())?;
         for number in next..6 {
