@@ -20,6 +20,8 @@ mod outcome;
 mod output;
 mod records;
 mod refusal;
+#[cfg(test)]
+mod run_tests;
 mod running;
 mod serving;
 pub mod status;

@@ -20,7 +20,7 @@ const LONG_KEY: &str = "603deb1015ca71be2b73aef0857d77811f352c073b6108d72d9810a3
 
 const FRAME_OF_LONG_KEY: &str = "6bc1bee22e409f96e93d7e117393172a28a7023f452e8f82bd4bf28d8c37c35c";
 
-struct Open;
+pub(crate) struct Open;
 
 impl Gate for Open {
     fn pass(&self, _lane: u8, _index: u64) {}
@@ -28,7 +28,7 @@ impl Gate for Open {
     fn done(&self, _lane: u8, _index: u64) {}
 }
 
-fn words(alloc: Global, texts: &[&str]) -> Result<Vec<String>, AllocError> {
+pub(crate) fn words(alloc: Global, texts: &[&str]) -> Result<Vec<String>, AllocError> {
     let mut words = Vec::new(alloc);
     for text in texts {
         words.push(String::from_str(alloc, text)?)?;
@@ -44,12 +44,11 @@ fn quiet_site(alloc: Global) -> MemSite {
 fn answer(alloc: Global, texts: &[&str], input: Vec<u8>) -> Result<(Vec<u8>, u8), AllocError> {
     let words = words(alloc, texts)?;
     let mut source = SureSource::new(input);
-    let Outcome { status, site, .. } = run_plain(
-        alloc,
-        words.as_slice(),
-        &mut source,
-        quiet_site(alloc),
-    );
+    let Outcome {
+        status,
+        site,
+        entries: _,
+    } = run_plain(alloc, words.as_slice(), &mut source, quiet_site(alloc));
     Ok((Vec::from_slice(alloc, site.sunk())?, status))
 }
 
@@ -112,12 +111,11 @@ fn refuses_what_is_longer_than_any_frame(rt: HostRuntime) -> Result<(), Fail> {
     let alloc = rt.alloc();
     let words = words(alloc, &["check", KEY])?;
     let mut source = SureSource::new(vec![in alloc; 0x40; 3000]?);
-    let Outcome { status, site, .. } = run_plain(
-        alloc,
-        words.as_slice(),
-        &mut source,
-        quiet_site(alloc),
-    );
+    let Outcome {
+        status,
+        site,
+        entries: _,
+    } = run_plain(alloc, words.as_slice(), &mut source, quiet_site(alloc));
     assert_eq!(rt; site.sunk(), b"refused long\n".as_slice());
     assert_eq!(rt; status, REFUSED);
     let mut rest = [0; 1000];
@@ -154,12 +152,11 @@ fn ends_with_the_fault_of_the_source(rt: HostRuntime) -> Result<(), Fail> {
     for call in [0, 1] {
         let words = words(alloc, &["check", KEY])?;
         let mut source = MemSource::new(hex::decode(alloc, FRAME)?, 1, vec![in alloc; call]?);
-        let Outcome { status, site, .. } = run_plain(
-            alloc,
-            words.as_slice(),
-            &mut source,
-            quiet_site(alloc),
-        );
+        let Outcome {
+            status,
+            site,
+            entries: _,
+        } = run_plain(alloc, words.as_slice(), &mut source, quiet_site(alloc));
         assert_eq!(rt; site.sunk(), b"source fault\n".as_slice());
         assert_eq!(rt; status, SOURCE_FAULT);
     }
@@ -173,7 +170,11 @@ fn puts_nothing_after_a_failed_put(rt: HostRuntime) -> Result<(), Fail> {
         let words = words(alloc, &["check", KEY])?;
         let mut source = SureSource::new(hex::decode(alloc, FRAME)?);
         let site = MemSite::new(alloc, Vec::new(alloc), vec![in alloc; call]?, None);
-        let Outcome { status, site, .. } = run_plain(alloc, words.as_slice(), &mut source, site);
+        let Outcome {
+            status,
+            site,
+            entries: _,
+        } = run_plain(alloc, words.as_slice(), &mut source, site);
         assert_eq!(rt; site.sunk(), sunk.as_bytes());
         assert_eq!(rt; status, SITE_FAULT);
         assert_eq!(rt; site.faults(), 1);
@@ -187,7 +188,11 @@ fn takes_a_source_of_single_octets(rt: HostRuntime) -> Result<(), Fail> {
     let words = words(alloc, &["check", KEY])?;
     let mut source = MemSource::new(hex::decode(alloc, LONGER_FRAME)?, 1, Vec::new(alloc));
     let site = quiet_site(alloc);
-    let Outcome { status, site, .. } = run(&rt, alloc, words.as_slice(), &mut source, site, &Open);
+    let Outcome {
+        status,
+        site,
+        entries: _,
+    } = run(&rt, alloc, words.as_slice(), &mut source, site, &Open);
     assert_eq!(rt;
         site.sunk(),
         b"ok 7393172aae2d8a571e03ac9c9eb76fac45af8e5130c81c46a35ce411\n".as_slice()
@@ -197,7 +202,7 @@ fn takes_a_source_of_single_octets(rt: HostRuntime) -> Result<(), Fail> {
 }
 
 /// A plan of one telecommand channel, of 168 octets.
-const PLAN: &[u8] = b"sdls 1
+pub(crate) const PLAN: &[u8] = b"sdls 1
 device d0000001
 slots 16
 block 4
@@ -208,7 +213,7 @@ key 32769 active 2b7e151628aed2a6abf7158809cf4f3c
 sa 7 send cmac 32769 1 1 0
 ";
 
-fn fill_up(image: &mut Vec<u8>, length: usize) -> Result<(), AllocError> {
+pub(crate) fn fill_up(image: &mut Vec<u8>, length: usize) -> Result<(), AllocError> {
     for _ in image.len()..length {
         image.push(0)?;
     }
@@ -216,7 +221,7 @@ fn fill_up(image: &mut Vec<u8>, length: usize) -> Result<(), AllocError> {
 }
 
 /// The image of the plan, octet for octet as its format says: gate, magic, 168 octets of plan, 16 slots.
-fn image_of_the_plan(alloc: Global) -> Result<Vec<u8>, AllocError> {
+pub(crate) fn image_of_the_plan(alloc: Global) -> Result<Vec<u8>, AllocError> {
     let mut image = Vec::new(alloc);
     image.extend_from_slice(b"\x01SDLSIMG1\x00\x00\x00\xa8\x00\x00\x00\x10")?;
     fill_up(&mut image, 512)?;
@@ -231,11 +236,19 @@ fn makes_the_image_of_a_plan_once(rt: HostRuntime) -> Result<(), Fail> {
     let words = words(alloc, &["init"])?;
     let mut source = SureSource::new(Vec::from_slice(alloc, PLAN)?);
     let site = quiet_site(alloc);
-    let Outcome { status, site, .. } = run_plain(alloc, words.as_slice(), &mut source, site);
+    let Outcome {
+        status,
+        site,
+        entries: _,
+    } = run_plain(alloc, words.as_slice(), &mut source, site);
     assert_eq!(rt; status, DONE);
     assert!(rt; site.image() == image_of_the_plan(alloc)?.as_slice());
     assert_eq!(rt; site.sunk().len(), 0);
-    let Outcome { status, site, .. } = run_plain(alloc, words.as_slice(), &mut source, site);
+    let Outcome {
+        status,
+        site,
+        entries: _,
+    } = run_plain(alloc, words.as_slice(), &mut source, site);
     assert_eq!(rt; status, NO_STATE);
     assert_eq!(rt; site.sunk(), b"image exists\n".as_slice());
     Ok(())
@@ -249,12 +262,11 @@ fn makes_no_image_of_another_text(rt: HostRuntime) -> Result<(), Fail> {
         text.extend_from_slice(end.as_bytes())?;
         let words = words(alloc, &["init"])?;
         let mut source = SureSource::new(text);
-        let Outcome { status, site, .. } = run_plain(
-            alloc,
-            words.as_slice(),
-            &mut source,
-            quiet_site(alloc),
-        );
+        let Outcome {
+            status,
+            site,
+            entries: _,
+        } = run_plain(alloc, words.as_slice(), &mut source, quiet_site(alloc));
         assert_eq!(rt; status, MALFORMED);
         assert_eq!(rt; site.sunk(), b"plan line 1 unbuilt\n".as_slice());
         assert_eq!(rt; site.image().len(), 0);
