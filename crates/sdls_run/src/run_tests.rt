@@ -17,7 +17,12 @@ const FENCE: &[u8] = &[0; 6];
 /// A recorded frame of link 0 with an empty data field: the header of the record, then six octets.
 const RECORD: &[u8] = b"\x01\x00\x00\x00\x00\x06\x00\x2a\x14\x05\x09\xc3";
 
-const ZEROS: &[u8] = &[0; 997];
+/// What stands behind the first six octets of longer frames.
+const REST_OF_1002: &[u8] = &[0; 996];
+
+const REST_OF_1003: &[u8] = &[0; 997];
+
+const WHOLE_OF_2049: &[u8] = &[0; 2049];
 
 /// The numbers from 1 on, and the MAC of that frame under each.
 const NUMBERS: [(u32, &str); 16] = [
@@ -61,8 +66,9 @@ fn joined(alloc: Global, pieces: &[&[u8]]) -> Result<Vec<u8>, AllocError> {
 
 /// The image of a plan with 16 slots; `length` is that of the plan.
 fn image_of(alloc: Global, plan: &[u8], length: u8) -> Result<Vec<u8>, AllocError> {
-    let pieces: [&[u8]; 3] = [b"\x01SDLSIMG1\x00\x00\x00", &[length], b"\x00\x00\x00\x10"];
-    let mut image = joined(alloc, &pieces)?;
+    let mut image = Vec::from_slice(alloc, b"\x01SDLSIMG1\x00\x00\x00")?;
+    image.push(length)?;
+    image.extend_from_slice(b"\x00\x00\x00\x10")?;
     fill_up(&mut image, 512)?;
     image.extend_from_slice(plan)?;
     fill_up(&mut image, 66_048 + 16 * 512)?;
@@ -201,15 +207,12 @@ fn protects_one_frame(rt: HostRuntime) -> Result<(), Fail> {
 /// The answers to the frames of the next test.
 fn mixed_answers(alloc: Global) -> Result<Vec<u8>, Fail> {
     let mac = hex::decode(alloc, "fe2362d008a70500f7154f9a89bd6b01")?;
-    let mut octets = joined(
-        alloc,
-        &[
-            b"\x00\x00\x80\x01\x00\x00\x04\x00\x00\x00\x00\x00\x00\x00\x00\x00\x00\x00\x00\x00\x00\x00\x00\x01",
-            b"\x00\x2a\x17\xff\x09\xc3\x00\x07\x00\x00\x00\x01",
-            &ZEROS[..996],
-            mac.as_slice(),
-        ],
-    )?;
+    let mut octets = Vec::new(alloc);
+    octets.extend_from_slice(b"\x00\x00\x80\x01\x00\x00\x04\x00")?;
+    octets.extend_from_slice(&[0; 15])?;
+    octets.extend_from_slice(b"\x01\x00\x2a\x17\xff\x09\xc3\x00\x07\x00\x00\x00\x01")?;
+    octets.extend_from_slice(REST_OF_1002)?;
+    octets.extend_from_slice(mac.as_slice())?;
     for kind in [[0x10, 2], [2, 0], [0x10, 0], [0x10, 1], [0x11, 0]] {
         push_bare(&mut octets, kind, 0, 0)?;
     }
@@ -224,9 +227,9 @@ fn judges_a_frame_before_it_protects_it(rt: HostRuntime) -> Result<(), Fail> {
         BEGINNING,
         // 1,002 octets, the most that a frame in clear can have, and 1,003
         b"\x01\x00\x00\x00\x03\xea\x00\x2a\x17\xe9\x09\xc3",
-        &ZEROS[..996],
+        REST_OF_1002,
         b"\x01\x00\x00\x00\x03\xeb\x00\x2a\x17\xea\x09\xc3",
-        ZEROS,
+        REST_OF_1003,
         // a control command
         b"\x01\x00\x00\x00\x00\x06\x30\x2a\x14\x05\x09\x00",
         // link 1, which the plan does not have
@@ -394,13 +397,7 @@ fn how_an_input_ends(rt: HostRuntime) -> Result<(), Fail> {
         ),
         // 2,049 octets
         (
-            &[
-                BEGINNING,
-                b"\x01\x00\x00\x00\x08\x01",
-                ZEROS,
-                ZEROS,
-                &ZEROS[..55],
-            ],
+            &[BEGINNING, b"\x01\x00\x00\x00\x08\x01", WHOLE_OF_2049],
             0,
             MALFORMED,
             8,
