@@ -38,13 +38,6 @@ fn main(rt: HostRuntime) -> ExitCode {
         status,
         site: _,
         entries: _,
-    } = run(
-        &rt,
-        rt.alloc(),
-        words.as_slice(),
-        &mut source,
-        site,
-        &Open,
-    );
+    } = run(&rt, rt.alloc(), words.as_slice(), &mut source, site, &Open);
     ExitCode::from(status)
 }

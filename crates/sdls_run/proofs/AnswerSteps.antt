@@ -44,7 +44,6 @@ verdict_codes Bound answer bare = absurd bare
 module _ {O : Type 0} (told : Bool) (trace : O → Trace) (faults : O → ℕ) (before : ℕ) (old : BookView O) (binding : BindingParts)
     (next : ℕ) (frames : List Record) (answers : List Answer) (frame : Record)
     (s : IsServing told trace faults before old binding next frames answers) where
-
   near_next : Near old.start (length (frames ++ frame ∷ [])) binding.key next
   near_next =
       let low : mark_of old.start binding.key ≤ next = s.next_low in
@@ -70,8 +69,14 @@ module _ {O : Type 0} (told : Bool) (trace : O → Trace) (faults : O → ℕ) (
       → (SaysFailed answer → Rose (faults old.opened) (faults old.site)) → answer.code ≢ 0x31 → (next_new : ℕ) → next ≤ next_new → next_new ≤ next + 1
       → StepTo told trace faults before old old binding.key next next_new frames frame answer
   stays answer fit none not_1 first failed not_31 next_new low few = record {
-    opened = refl; start = refl; slots = refl; later = omega arith;
-    next_low = low; next_few = few; marks = omega arith; entries = inl refl;
+    opened = refl;
+    start = refl;
+    slots = refl;
+    later = omega arith;
+    next_low = low;
+    next_few = few;
+    marks = omega arith;
+    entries = inl refl;
     fit = fit;
     drawn = λ k number uses. absurd (none k number uses);
     fresh = λ k number uses. absurd (none k number uses);
@@ -106,7 +111,10 @@ module _ {O : Type 0} (told : Bool) (trace : O → Trace) (faults : O → ℕ) (
       let code : answer.code ≡ 0x20 = a.code_is in
       stays answer
       (λ is_told. inr (inr (inl (record {
-        code_is = a.code_is; detail_is = a.detail_is; spi = binding.spi; octets = binding.octets;
+        code_is = a.code_is;
+        detail_is = a.detail_is;
+        spi = binding.spi;
+        octets = binding.octets;
         bound = subst (λ (k : ℕ). IsBoundTo (at_epoch old.start old.entries answer.position) frame binding.spi k binding.octets) (sym a.key_is)
             (bound_to (at_epoch old.start old.entries answer.position) (at_zero old.entries answer.position a.position_is) a.verdict a.bound);
         near = subst (λ (k : ℕ). Near old.start (length (frames ++ frame ∷ [])) k answer.number) (sym a.key_is)
@@ -128,7 +136,11 @@ module _ {O : Type 0} (told : Bool) (trace : O → Trace) (faults : O → ℕ) (
       → after_first course.start course.entries p ≡ old.state → protect_verdict old.start frame.link frame.octets ≡ Bound
       → IsBound old.start frame.link frame.octets → mark_of old.state binding.key ≤ next → next < end_of binding.key → IsDue course p frame
   due course p start_is frames_are state_is verdict bound unmarked below = record {
-    e = 0; earlier = omega arith; spi = binding.spi; key = binding.key; octets = binding.octets;
+    e = 0;
+    earlier = omega arith;
+    spi = binding.spi;
+    key = binding.key;
+    octets = binding.octets;
     bound = bound_to (after_first course.start course.entries 0) start_is verdict bound;
     number = next;
     near = subst (λ (start : State). Near start (length course.frames) binding.key next) (sym start_is)
@@ -141,7 +153,10 @@ module _ {O : Type 0} (told : Bool) (trace : O → Trace) (faults : O → ℕ) (
       → IsBound old.start frame.link frame.octets → next < end_of binding.key → AnswersProtected binding next frame answer
       → Fits (course_of trace faults before new (frames ++ frame ∷ [])) frame answer
   protected_fits new answer start_is verdict bound below a = inl (record {
-    code_is = a.code_is; detail_is = a.detail_is; spi = binding.spi; octets = binding.octets;
+    code_is = a.code_is;
+    detail_is = a.detail_is;
+    spi = binding.spi;
+    octets = binding.octets;
     bound = subst (λ (k : ℕ). IsBoundTo (at_epoch new.start new.entries answer.position) frame binding.spi k binding.octets) (sym a.key_is)
         (bound_to (at_epoch new.start new.entries answer.position) (ap (at_epoch new.start new.entries) a.position_is ∙ start_is) verdict bound);
     near = subst (λ (start : State). Near start (length (frames ++ frame ∷ [])) answer.key answer.number) (sym start_is)
@@ -159,15 +174,20 @@ module _ {O : Type 0} (told : Bool) (trace : O → Trace) (faults : O → ℕ) (
   added new not adds unmarked below =
       let here : old.state ≡ after old.start old.entries = sym (all_stored not) in
       let near : Near old.start (length frames + 1) binding.key next =
-      (s.next_low, let high : next ≤ mark_of old.start binding.key + length frames = s.next_high in omega arith) in
-      (reserve_of old.state binding.key next, adds.entries, record {
-        id = binding.key; number = next;
-        is = ap (λ (state : State). reserve_of state binding.key next) here;
-        known = subst (λ (state : State). IsSome (key_row state.keys binding.key)) here s.ready.known;
-        is_near = near;
-        needed = subst (λ (state : State). mark_of state binding.key ≤ next) here unmarked;
-        below = below;
-      }, not)
+      (s.next_low, let high : next ≤ mark_of old.start binding.key + length frames = s.next_high in omega arith) in (
+        reserve_of old.state binding.key next,
+        adds.entries,
+        record {
+          id = binding.key;
+          number = next;
+          is = ap (λ (state : State). reserve_of state binding.key next) here;
+          known = subst (λ (state : State). IsSome (key_row state.keys binding.key)) here s.ready.known;
+          is_near = near;
+          needed = subst (λ (state : State). mark_of state binding.key ≤ next) here unmarked;
+          below = below;
+        },
+        not,
+      )
 
   -- a protected frame uses the number
   uses_next : (answer : Answer) → AnswersProtected binding next frame answer → (state : State) → next < mark_of state binding.key
@@ -188,8 +208,14 @@ module _ {O : Type 0} (told : Bool) (trace : O → Trace) (faults : O → ℕ) (
   protected_step new answer start opened slots later verdict bound below a marks under entries =
       let code : answer.code ≡ 0 = a.code_is in
       record {
-        opened = opened; start = start; slots = slots; later = later;
-        next_low = omega arith; next_few = omega arith; marks = marks; entries = entries;
+        opened = opened;
+        start = start;
+        slots = slots;
+        later = later;
+        next_low = omega arith;
+        next_few = omega arith;
+        marks = marks;
+        entries = entries;
         fit = λ is_told. protected_fits new answer start verdict bound below a;
         drawn = uses_next answer a new.state under;
         fresh = λ k number uses. let number_is : number ≡ next = sym uses.2 ∙ a.number_is in omega arith;
@@ -240,8 +266,12 @@ module _ {O : Type 0} (told : Bool) (trace : O → Trace) (faults : O → ℕ) (
       rose_earlier (faults old.opened) (faults old.site) (faults new.site) s.ready.kept.later rose in
       let before_old : before ≤ faults old.opened = s.before_low in
       record {
-        opened = adds.opened; start = adds.start; slots = slots; later = later;
-        next_low = omega arith; next_few = omega arith;
+        opened = adds.opened;
+        start = adds.start;
+        slots = slots;
+        later = later;
+        next_low = omega arith;
+        next_few = omega arith;
         marks = subst (λ (state : State). mark_of old.state binding.key ≤ mark_of state binding.key) (sym state_same) (omega arith);
         entries = inr (added new not adds unmarked below);
         fit = λ is_told. inr (inr (inr (inr (inl (record {

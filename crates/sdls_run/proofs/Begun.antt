@@ -42,18 +42,18 @@ begun_octets t (answer ∷ answers) within =
     length-append (answer_octets answer) (answers_octets answers) in
     elim (cases_lt 0 t) [
       | inl low ↦ rw (some t low) (elim (cases_lt (length (answer_octets answer)) t) [
-          | inl beyond ↦
-              let rest : ℕ = t - length (answer_octets answer) in
-              let whole : length (answer_octets answer) + rest ≡ t = omega arith in
-              let split : (octets : List ℕ) → take t (answer_octets answer ++ octets) ≡ answer_octets answer ++ take rest octets =
-              λ octets. ap (λ (n : ℕ). take n (answer_octets answer ++ octets)) (sym whole) ∙ take-append-add (answer_octets answer) octets rest in
-              split (answers_octets answers)
-              ∙ ap (λ (octets : List ℕ). answer_octets answer ++ octets) (begun_octets rest answers (omega arith))
-              ∙ sym (split (answers_octets (begun rest answers)))
-          | inr inside ↦
-              take-append-le t (answer_octets answer) (answers_octets answers) inside
-              ∙ sym (take-append-le t (answer_octets answer) (answers_octets (begun (t - length (answer_octets answer)) answers)) inside)
-        ])
+        | inl beyond ↦
+            let rest : ℕ = t - length (answer_octets answer) in
+            let whole : length (answer_octets answer) + rest ≡ t = omega arith in
+            let split : (octets : List ℕ) → take t (answer_octets answer ++ octets) ≡ answer_octets answer ++ take rest octets =
+            λ octets. ap (λ (n : ℕ). take n (answer_octets answer ++ octets)) (sym whole) ∙ take-append-add (answer_octets answer) octets rest in
+            split (answers_octets answers)
+            ∙ ap (λ (octets : List ℕ). answer_octets answer ++ octets) (begun_octets rest answers (omega arith))
+            ∙ sym (split (answers_octets (begun rest answers)))
+        | inr inside ↦
+            take-append-le t (answer_octets answer) (answers_octets answers) inside
+            ∙ sym (take-append-le t (answer_octets answer) (answers_octets (begun (t - length (answer_octets answer)) answers)) inside)
+      ])
       | inr high ↦
           let zero_octets : t ≡ 0 = omega arith in
           subst (λ (n : ℕ). take n (answers_octets (answer ∷ answers)) ≡ take n (answers_octets (begun n (answer ∷ answers)))) (sym zero_octets) refl

@@ -36,9 +36,11 @@ covered_append start entries places key place [] ys first second =
 covered_append start entries places key place (x ∷ xs) ys (here, rest) second =
     let size : length (answer_octets x ++ answers_octets xs) ≡ length (answer_octets x) + length (answers_octets xs) =
     length-append (answer_octets x) (answers_octets xs) in
-    let same : place + length (answer_octets x ++ answers_octets xs) ≡ place + length (answer_octets x) + length (answers_octets xs) = omega arith in
-    (here, covered_append start entries places key (place + length (answer_octets x)) xs ys rest
-    (subst (λ (n : ℕ). AreCovered start entries places key n ys) same second))
+    let same : place + length (answer_octets x ++ answers_octets xs) ≡ place + length (answer_octets x) + length (answers_octets xs) = omega arith in (
+      here,
+      covered_append start entries places key (place + length (answer_octets x)) xs ys rest
+          (subst (λ (n : ℕ). AreCovered start entries places key n ys) same second),
+    )
 
 -- all places lie below
 all_below : (t : ℕ) (places : List ℕ) → All (λ place. place < t) places → places_below t places ≡ length places
@@ -58,11 +60,12 @@ stored_covered start state entries places key sunk place [] low high is under = 
 stored_covered start state entries places key sunk place (answer ∷ answers) low high is under =
     let all : places_below (place + 1) places ≡ length places =
     all_below (place + 1) places (λ k d within. let here = low k d within in omega arith) in
-    let same : after_first start entries (places_below (place + 1) places) ≡ state = ap (after_first start entries) all ∙ is in
-    ((λ k number uses. subst (λ (s : State). number < mark_of s key) (sym same)
-    (all_head (λ (a : Answer). (k number : ℕ) → Uses a k number → number < mark_of state key) answer answers under k number uses)),
-    stored_covered start state entries places key sunk (place + length (answer_octets answer)) answers low (omega arith) is
-    (all_tail (λ (a : Answer). (k number : ℕ) → Uses a k number → number < mark_of state key) answer answers under))
+    let same : after_first start entries (places_below (place + 1) places) ≡ state = ap (after_first start entries) all ∙ is in (
+      (λ k number uses. subst (λ (s : State). number < mark_of s key) (sym same)
+          (all_head (λ (a : Answer). (k number : ℕ) → Uses a k number → number < mark_of state key) answer answers under k number uses)),
+      stored_covered start state entries places key sunk (place + length (answer_octets answer)) answers low (omega arith) is
+          (all_tail (λ (a : Answer). (k number : ℕ) → Uses a k number → number < mark_of state key) answer answers under),
+    )
 
 -- what was sunk before stays covered, where the entries and places only grow behind it
 pub covered_longer : (start : State) (entries more : List Entry) (places others : List ℕ) (key place sunk : ℕ) (answers : List Answer)
@@ -77,9 +80,10 @@ covered_longer start entries more places others key place sunk (answer ∷ answe
     length-append (answer_octets answer) (answers_octets answers) in
     let low : place + 1 ≤ sunk = omega arith in
     let equal : after_first start more (places_below (place + 1) others) ≡ after_first start entries (places_below (place + 1) places) =
-    ap (after_first start more) (same (place + 1) low) ∙ states (place + 1) low in
-    ((λ k number uses. subst (λ (s : State). number < mark_of s key) (sym equal) (here k number uses)),
-    covered_longer start entries more places others key (place + length (answer_octets answer)) sunk answers same states (omega arith) rest)
+    ap (after_first start more) (same (place + 1) low) ∙ states (place + 1) low in (
+      (λ k number uses. subst (λ (s : State). number < mark_of s key) (sym equal) (here k number uses)),
+      covered_longer start entries more places others key (place + length (answer_octets answer)) sunk answers same states (omega arith) rest,
+    )
 
 pub all_second : {X : Type 0} (P : X → Type 0) (xs ys : List X) → All P (xs ++ ys) → All P ys
 all_second P [] ys all = all
@@ -138,9 +142,9 @@ pub frame_behind : {O : Type 0} (told : Bool) (trace : O → Trace) (faults : O 
 frame_behind {O} told trace faults old new binding next_old next_new frame answer kept (inl here) = behind_same trace old new here.1
 frame_behind {O} told trace faults old new binding next_old next_new frame answer kept (inr here) = elim here.1.outcome [
   | inl done ↦ elim done.0 [
-      | inl low ↦ behind_same trace old new low.1
-      | inr high ↦ behind_stores told trace faults old new binding.key next_old high.1.0 kept high.1.1
-    ]
+    | inl low ↦ behind_same trace old new low.1
+    | inr high ↦ behind_stores told trace faults old new binding.key next_old high.1.0 kept high.1.1
+  ]
   | inr refused ↦ behind_fails told trace faults old new binding.key next_old refused.1.0 kept refused.1.1
 ]
 

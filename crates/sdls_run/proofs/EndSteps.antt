@@ -40,7 +40,6 @@ puts_end o_told A E base old new before o_old o_new due status is low (inr part)
 
 module _ {O : Type 0} (s_told : Bool) (input left : List ℕ) (s_before s_now : ℕ) (o_told : Bool) (trace : O → Trace) (faults : O → ℕ)
     (before : ℕ) (base : List ℕ) (binding : BindingParts) (next : ℕ) where
-
   -- a run that stopped, once End was put
   pub ends_whole : (old new : BookView O) (came told : RunEnd) (status : ℕ)
       → HasStopped s_told input left s_before s_now o_told trace faults before base old binding next came
@@ -54,9 +53,11 @@ module _ {O : Type 0} (s_told : Bool) (input left : List ℕ) (s_before s_now : 
       let before_site : before ≤ faults old.site = omega arith in
       let cause : EndCause s_told input left s_before s_now before (faults new.site) (λ offset. ⊥) stopped.items told = elim tells [
         | inl fault ↦
-            subst (EndCause s_told input left s_before s_now before (faults new.site) (λ offset. ⊥) stopped.items) (sym fault.1)
-            (rose_later before (faults old.site) (faults new.site) low (rose_earlier before (faults old.opened) (faults old.site) opened_low fault.0),
-            rose_earlier before (faults old.opened) (faults old.site) opened_low fault.0, low)
+            subst (EndCause s_told input left s_before s_now before (faults new.site) (λ offset. ⊥) stopped.items) (sym fault.1) (
+              rose_later before (faults old.site) (faults new.site) low (rose_earlier before (faults old.opened) (faults old.site) opened_low fault.0),
+              rose_earlier before (faults old.opened) (faults old.site) opened_low fault.0,
+              low,
+            )
         | inr here ↦
             subst (EndCause s_told input left s_before s_now before (faults new.site) (λ offset. ⊥) stopped.items) (sym here)
             (cause_later s_told input left s_before s_now before (faults old.site) (faults new.site) stopped.items came low stopped.cause)
@@ -94,6 +95,10 @@ module _ {O : Type 0} (s_told : Bool) (input left : List ℕ) (s_before s_now : 
         serving = broken.broken.serving;
         covered = broken.broken.covered;
         cause = (rose, rose, omega arith);
-        put = inr (is, rose, λ is_told. between_wider base (answers_octets broken.answers)
-            (answer_octets (end_answer (SiteFault (faults book.site)) (length book.entries))) (trace book.site).now.sunk (broken.broken.sunk is_told));
+        put = inr (
+          is,
+          rose,
+          λ is_told. between_wider base (answers_octets broken.answers)
+              (answer_octets (end_answer (SiteFault (faults book.site)) (length book.entries))) (trace book.site).now.sunk (broken.broken.sunk is_told),
+        );
       }

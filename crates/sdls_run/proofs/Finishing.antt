@@ -115,7 +115,6 @@ pub record Finished {O : Type 0} (s_told : Bool) (input left : List ℕ) (s_befo
 module _ {O : Type 0} (s_told : Bool) (input left : List ℕ) (s_before s_now : ℕ) (o_told : Bool) (trace : O → Trace)
     (faults : O → ℕ) (entry site : O) (book : BookView O) (entries : List Entry) (status : ℕ)
     (f : Finished s_told input left s_before s_now o_told trace faults entry site book entries status) where
-
   abbrev last : BookView O
   last = f.has.last
 

@@ -95,6 +95,10 @@ put_some answers i answer old mid new low is first between =
 
 pub same_then : {O : Type 0} → (old mid new : BookView O) → SameBook old mid → SameBook mid new → SameBook old new
 same_then {O} old mid new first second = record {
-  opened = second.opened ∙ first.opened; start = second.start ∙ first.start; state = second.state ∙ first.state;
-  journal = second.journal ∙ first.journal; entries = second.entries ∙ first.entries; places = second.places ∙ first.places;
+  opened = second.opened ∙ first.opened;
+  start = second.start ∙ first.start;
+  state = second.state ∙ first.state;
+  journal = second.journal ∙ first.journal;
+  entries = second.entries ∙ first.entries;
+  places = second.places ∙ first.places;
 }

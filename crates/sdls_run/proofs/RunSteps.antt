@@ -74,8 +74,11 @@ front_with : (told : Bool) (input : List ℕ) (items : List Item) (records : Lis
     → HasRead told input items old left_old → IsTrue told → left_old ≡ (due_beginning old.taken ++ records_octets records) ++ rest
     → AreInFront (with_records items records) input
 front_with told input items records old left_old rest read is_told moved =
-    inr (rest, behind told input items records old left_old rest read is_told moved
-    ∙ append_assoc beginning (items_octets (with_records items records)) rest)
+    inr (
+      rest,
+      behind told input items records old left_old rest read is_told moved
+          ∙ append_assoc beginning (items_octets (with_records items records)) rest,
+    )
 
 -- the frames of the next segment stand in front of the input too
 front_of_segment : (told : Bool) (input : List ℕ) (items : List Item) (records : List Record) (old new : Place) (left_old left_new : List ℕ)
@@ -124,7 +127,6 @@ module _ {O : Type 0} (s_told : Bool) (input : List ℕ) (old_place new_place : 
     (o_told : Bool) (trace : O → Trace) (faults : O → ℕ) (before : ℕ) (base : List ℕ) (old new : BookView O) (binding : BindingParts)
     (next_old next_new : ℕ) (records : List Record) (answers : List Answer)
     (way : UnderWay s_told input old_place left_old o_told trace faults before base old binding next_old) where
-
   start_same : old_place.taken ≡ 0 → IsTrue s_told → input ≡ left_old
   start_same zero is_told =
       way.read.moved is_told
@@ -186,11 +188,11 @@ module _ {O : Type 0} (s_told : Bool) (input : List ℕ) (old_place new_place : 
         (λ most. elim next [
           | inl segment ↦ inr (long_malformed s_told input way.items records old_place new_place left_old left_new offset way.read segment is_told most)
           | inr none ↦ inl (inl (
-              (λ rest same. none.ends.1 is_told rest (sym (start_same none.at_start is_told) ∙ same)),
-              ap (λ (first : List Item). first ++ map protect_item records) (nothing_read s_told input way.items old_place left_old way.read none.at_start).1
-              ∙ ap (λ (rs : List Record). map protect_item rs) none.none,
-              none.ends.0,
-            ))
+            (λ rest same. none.ends.1 is_told rest (sym (start_same none.at_start is_told) ∙ same)),
+            ap (λ (first : List Item). first ++ map protect_item records) (nothing_read s_told input way.items old_place left_old way.read none.at_start).1
+                ∙ ap (λ (rs : List Record). map protect_item rs) none.none,
+            none.ends.0,
+          ))
         ])
         (on is_told);
   }

@@ -88,7 +88,6 @@ pub record Answered {O : Type 0} (told : Bool) (trace : O → Trace) (faults : O
 module _ {O : Type 0} (told : Bool) (trace : O → Trace) (faults : O → ℕ) (before : ℕ) (base : List ℕ) (old mid new : BookView O)
     (binding : BindingParts) (next : ℕ) (frames : List Record) (given answers : List Answer)
     (a : Answered told trace faults before base old mid new binding next frames given answers) where
-
   all_serving : IsServing told trace faults before new binding next frames (given ++ answers)
   all_serving = serving_put told trace faults before mid new binding next frames (given ++ answers) a.serving a.kept a.same a.later
 

@@ -41,29 +41,57 @@ near_frame course frame id word near =
 
 due_frame : (course : Course) (more : Record) (p : ℕ) (frame : Record) → IsDue course p frame → IsDue (with_frame course more) p frame
 due_frame course more p frame due = record {
-  e = due.e; earlier = due.earlier; spi = due.spi; key = due.key; octets = due.octets; bound = due.bound; number = due.number;
-  near = near_frame course more due.key due.number due.near; unmarked = due.unmarked; below = due.below;
+  e = due.e;
+  earlier = due.earlier;
+  spi = due.spi;
+  key = due.key;
+  octets = due.octets;
+  bound = due.bound;
+  number = due.number;
+  near = near_frame course more due.key due.number due.near;
+  unmarked = due.unmarked;
+  below = due.below;
 }
 
 tells_frame : (course : Course) (more frame : Record) (answer : Answer) → TellsFault course frame answer
     → TellsFault (with_frame course more) frame answer
 tells_frame course more frame answer tells = record {
-  rose = tells.rose; counted = tells.counted; position_is = tells.position_is; p = tells.p; within = tells.within;
+  rose = tells.rose;
+  counted = tells.counted;
+  position_is = tells.position_is;
+  p = tells.p;
+  within = tells.within;
   due = due_frame course more tells.p frame tells.due;
 }
 
 fits_frame : (course : Course) (more frame : Record) (answer : Answer) → Fits course frame answer → Fits (with_frame course more) frame answer
 fits_frame course more frame answer (inl a) = inl (record {
-  code_is = a.code_is; detail_is = a.detail_is; spi = a.spi; octets = a.octets; bound = a.bound;
-  near = near_frame course more answer.key answer.number a.near; below = a.below; protects = a.protects;
+  code_is = a.code_is;
+  detail_is = a.detail_is;
+  spi = a.spi;
+  octets = a.octets;
+  bound = a.bound;
+  near = near_frame course more answer.key answer.number a.near;
+  below = a.below;
+  protects = a.protects;
 })
 fits_frame course more frame answer (inr (inl a)) = inr (inl (record { number_is = a.number_is; verdict = a.verdict }))
 fits_frame course more frame answer (inr (inr (inl a))) = inr (inr (inl (record {
-  code_is = a.code_is; detail_is = a.detail_is; spi = a.spi; octets = a.octets; bound = a.bound;
-  near = near_frame course more answer.key answer.number a.near; at_end = a.at_end; body_is = a.body_is;
+  code_is = a.code_is;
+  detail_is = a.detail_is;
+  spi = a.spi;
+  octets = a.octets;
+  bound = a.bound;
+  near = near_frame course more answer.key answer.number a.near;
+  at_end = a.at_end;
+  body_is = a.body_is;
 })))
 fits_frame course more frame answer (inr (inr (inr (inl a)))) = inr (inr (inr (inl (record {
-  bare = a.bare; number_is = a.number_is; within = a.within; full = a.full; due = due_frame course more answer.position frame a.due;
+  bare = a.bare;
+  number_is = a.number_is;
+  within = a.within;
+  full = a.full;
+  due = due_frame course more answer.position frame a.due;
 }))))
 fits_frame course more frame answer (inr (inr (inr (inr (inl a))))) =
     inr (inr (inr (inr (inl (record { bare = a.bare; tells = tells_frame course more frame answer a.tells })))))
@@ -81,25 +109,58 @@ tells_faults course faults frame answer low tells = record {
   p = tells.p;
   within = tells.within;
   due = record {
-    e = tells.due.e; earlier = tells.due.earlier; spi = tells.due.spi; key = tells.due.key; octets = tells.due.octets; bound = tells.due.bound;
-    number = tells.due.number; near = tells.due.near; unmarked = tells.due.unmarked; below = tells.due.below;
+    e = tells.due.e;
+    earlier = tells.due.earlier;
+    spi = tells.due.spi;
+    key = tells.due.key;
+    octets = tells.due.octets;
+    bound = tells.due.bound;
+    number = tells.due.number;
+    near = tells.due.near;
+    unmarked = tells.due.unmarked;
+    below = tells.due.below;
   };
 }
 
 pub fits_faults : (course : Course) (faults : ℕ) (frame : Record) (answer : Answer) → course.faults ≤ faults → Fits course frame answer
     → Fits (record course { faults = faults }) frame answer
 fits_faults course faults frame answer low (inl a) = inl (record {
-  code_is = a.code_is; detail_is = a.detail_is; spi = a.spi; octets = a.octets; bound = a.bound; near = a.near; below = a.below; protects = a.protects;
+  code_is = a.code_is;
+  detail_is = a.detail_is;
+  spi = a.spi;
+  octets = a.octets;
+  bound = a.bound;
+  near = a.near;
+  below = a.below;
+  protects = a.protects;
 })
 fits_faults course faults frame answer low (inr (inl a)) = inr (inl (record { number_is = a.number_is; verdict = a.verdict }))
 fits_faults course faults frame answer low (inr (inr (inl a))) = inr (inr (inl (record {
-  code_is = a.code_is; detail_is = a.detail_is; spi = a.spi; octets = a.octets; bound = a.bound; near = a.near; at_end = a.at_end; body_is = a.body_is;
+  code_is = a.code_is;
+  detail_is = a.detail_is;
+  spi = a.spi;
+  octets = a.octets;
+  bound = a.bound;
+  near = a.near;
+  at_end = a.at_end;
+  body_is = a.body_is;
 })))
 fits_faults course faults frame answer low (inr (inr (inr (inl a)))) = inr (inr (inr (inl (record {
-  bare = a.bare; number_is = a.number_is; within = a.within; full = a.full;
+  bare = a.bare;
+  number_is = a.number_is;
+  within = a.within;
+  full = a.full;
   due = record {
-    e = a.due.e; earlier = a.due.earlier; spi = a.due.spi; key = a.due.key; octets = a.due.octets; bound = a.due.bound;
-    number = a.due.number; near = a.due.near; unmarked = a.due.unmarked; below = a.due.below;
+    e = a.due.e;
+    earlier = a.due.earlier;
+    spi = a.due.spi;
+    key = a.due.key;
+    octets = a.due.octets;
+    bound = a.due.bound;
+    number = a.due.number;
+    near = a.due.near;
+    unmarked = a.due.unmarked;
+    below = a.due.below;
   };
 }))))
 fits_faults course faults frame answer low (inr (inr (inr (inr (inl a))))) =
@@ -126,10 +187,15 @@ fits_entry : (course : Course) (entry : Entry) (frame : Record) (answer : Answer
 fits_entry course entry frame answer first not (inl a) =
     let early : TellsEpoch answer = let code : answer.code ≡ 0 = a.code_is in omega arith in
     inl (record {
-      code_is = a.code_is; detail_is = a.detail_is; spi = a.spi; octets = a.octets;
+      code_is = a.code_is;
+      detail_is = a.detail_is;
+      spi = a.spi;
+      octets = a.octets;
       bound = subst (λ (s : State). IsBoundTo s frame a.spi answer.key a.octets)
           (at_start course.start course.entries (course.entries ++ entry ∷ []) answer.position (first early)) a.bound;
-      near = a.near; below = a.below; protects = a.protects;
+      near = a.near;
+      below = a.below;
+      protects = a.protects;
     })
 fits_entry course entry frame answer first not (inr (inl a)) =
     let early : TellsEpoch answer = verdict_early _ answer a.verdict in
@@ -141,24 +207,35 @@ fits_entry course entry frame answer first not (inr (inl a)) =
 fits_entry course entry frame answer first not (inr (inr (inl a))) =
     let early : TellsEpoch answer = let code : answer.code ≡ 0x20 = a.code_is in omega arith in
     inr (inr (inl (record {
-      code_is = a.code_is; detail_is = a.detail_is; spi = a.spi; octets = a.octets;
+      code_is = a.code_is;
+      detail_is = a.detail_is;
+      spi = a.spi;
+      octets = a.octets;
       bound = subst (λ (s : State). IsBoundTo s frame a.spi answer.key a.octets)
           (at_start course.start course.entries (course.entries ++ entry ∷ []) answer.position (first early)) a.bound;
-      near = a.near; at_end = a.at_end; body_is = a.body_is;
+      near = a.near;
+      at_end = a.at_end;
+      body_is = a.body_is;
     })))
 fits_entry course entry frame answer first not (inr (inr (inr (inl a)))) =
     let within : answer.position ≤ length course.entries = a.within in
     let size : length (course.entries ++ entry ∷ []) ≡ length course.entries + 1 = length-append course.entries (entry ∷ []) in
     let earlier : a.due.e ≤ answer.position = a.due.earlier in
     inr (inr (inr (inl (record {
-      bare = a.bare; number_is = a.number_is;
+      bare = a.bare;
+      number_is = a.number_is;
       within = omega arith;
       full = a.full;
       due = record {
-        e = a.due.e; earlier = a.due.earlier; spi = a.due.spi; key = a.due.key; octets = a.due.octets;
+        e = a.due.e;
+        earlier = a.due.earlier;
+        spi = a.due.spi;
+        key = a.due.key;
+        octets = a.due.octets;
         bound = subst (λ (s : State). IsBoundTo s frame a.due.spi a.due.key a.due.octets)
             (sym (first_same course.start course.entries entry a.due.e (omega arith))) a.due.bound;
-        number = a.due.number; near = a.due.near;
+        number = a.due.number;
+        near = a.due.near;
         unmarked = subst (λ (s : State). mark_of s a.due.key ≤ a.due.number)
             (sym (first_same course.start course.entries entry answer.position within)) a.due.unmarked;
         below = a.due.below;
@@ -181,9 +258,10 @@ pub fit_all : (course other : Course) (P : Answer → Type 0)
     → (frames : List Record) (answers : List Answer) → All P answers → FitInTurn course frames answers → FitInTurn other frames answers
 fit_all course other P each frames [] all fit = tt
 fit_all course other P each [] (answer ∷ answers) all fit = fit
-fit_all course other P each (frame ∷ frames) (answer ∷ answers) all (here, rest) =
-    (each frame answer (all_head P answer answers all) here,
-    fit_all course other P each frames answers (all_tail P answer answers all) rest)
+fit_all course other P each (frame ∷ frames) (answer ∷ answers) all (here, rest) = (
+  each frame answer (all_head P answer answers all) here,
+  fit_all course other P each frames answers (all_tail P answer answers all) rest,
+)
 
 -- one more answer to one more frame
 fit_push : (course : Course) (frames : List Record) (answers : List Answer) (frame : Record) (answer : Answer) → length answers ≡ length frames
@@ -193,13 +271,22 @@ fit_push course [] (first ∷ answers) frame answer same fit here = absurd (omeg
 fit_push course (first ∷ frames) [] frame answer same fit here = absurd (omega arith)
 fit_push course (first ∷ frames) (other ∷ answers) frame answer same (head, rest) here =
     (head, fit_push course frames answers frame answer (omega arith) rest here)
+
 reserves_more : (start : State) (count : ℕ) (state : State) (entries : List Entry) → AreReserves (Near start count) state entries
     → AreReserves (Near start (count + 1)) state entries
 reserves_more start count state [] reserves = tt
-reserves_more start count state (entry ∷ entries) (here, rest) = (record {
-  id = here.id; number = here.number; is = here.is; known = here.known; is_near = near_more start count here.id here.number here.is_near;
-  needed = here.needed; below = here.below;
-}, reserves_more start count (applied state entry.change) entries rest)
+reserves_more start count state (entry ∷ entries) (here, rest) = (
+  record {
+    id = here.id;
+    number = here.number;
+    is = here.is;
+    known = here.known;
+    is_near = near_more start count here.id here.number here.is_near;
+    needed = here.needed;
+    below = here.below;
+  },
+  reserves_more start count (applied state entry.change) entries rest,
+)
 
 reserves_push : (near : ℕ → ℕ → Type 0) (state : State) (entries : List Entry) (entry : Entry) → AreReserves near state entries
     → IsReserve near (after state entries) entry → AreReserves near state (entries ++ entry ∷ [])
@@ -234,7 +321,6 @@ module _ {O : Type 0} (told : Bool) (trace : O → Trace) (faults : O → ℕ) (
     (next_old next_new : ℕ) (frames : List Record) (answers : List Answer) (frame : Record) (answer : Answer)
     (s : IsServing told trace faults before old binding next_old frames answers)
     (t : StepTo told trace faults before old new binding.key next_old next_new frames frame answer) where
-
   size : length (frames ++ frame ∷ []) ≡ length frames + 1
   size = length-append frames (frame ∷ [])
 

@@ -32,24 +32,27 @@ pub opening_sound : (entry : Trace) (course : Course) (image sunk : List ℕ) �
     → Leaves entry.now image ⊎ Regates entry.now.image image → AreSunk course.entries [] (sunk_since entry sunk)
     → EarlyOrSound entry course image sunk
 opening_sound entry course image sunk legal (inl leaves) only_end = inl (record { leaves = leaves; only_end = only_end })
-opening_sound entry course image sunk legal (inr regates) only_end = inr ([], record {
-  sunk_are = only_end;
-  history = legal;
-  answers_fit = tt;
-  one_fault = λ i j d low high. absurd (omega arith);
-  pairs = record {
-    differ = λ i j d low high. absurd (omega arith);
-    above = λ k d low. absurd (omega arith);
-    below = λ state shown k d low. absurd (omega arith);
-  };
-  accepted = record {
-    differ = λ i j d low high. absurd (omega arith);
-    above = λ k d low. absurd (omega arith);
-    below = λ state shown k d low. absurd (omega arith);
-  };
-  image_shows = inl (refl, regates);
-  order = λ i j d low high. absurd (omega arith);
-})
+opening_sound entry course image sunk legal (inr regates) only_end = inr (
+  [],
+  record {
+    sunk_are = only_end;
+    history = legal;
+    answers_fit = tt;
+    one_fault = λ i j d low high. absurd (omega arith);
+    pairs = record {
+      differ = λ i j d low high. absurd (omega arith);
+      above = λ k d low. absurd (omega arith);
+      below = λ state shown k d low. absurd (omega arith);
+    };
+    accepted = record {
+      differ = λ i j d low high. absurd (omega arith);
+      above = λ k d low. absurd (omega arith);
+      below = λ state shown k d low. absurd (omega arith);
+    };
+    image_shows = inl (refl, regates);
+    order = λ i j d low high. absurd (omega arith);
+  },
+)
 
 -- what was sunk behind the base, at a moment
 pub since_front : (base octets sunk : List ℕ) → sunk ≡ take (length sunk) (base ++ octets) → drop (length base) sunk ≡ take (length sunk - length base) octets
@@ -81,18 +84,18 @@ sunk_begun : (entries : List Entry) (answers ends : List Answer) (since : List �
     → since ≡ take (length since) (answers_octets answers ++ answers_octets ends) → AreSunk entries (begun (length since) answers) since
 sunk_begun entries answers ends since last front = elim (cases_lt (length (answers_octets answers)) (length since)) [
   | inl beyond ↦ record {
-      ends = ends;
-      last = last;
-      front = subst (λ (all : List Answer). since ≡ take (length since) (answers_octets all ++ answers_octets ends))
-          (sym (all_begun (length since) answers beyond)) front;
-    }
+    ends = ends;
+    last = last;
+    front = subst (λ (all : List Answer). since ≡ take (length since) (answers_octets all ++ answers_octets ends))
+        (sym (all_begun (length since) answers beyond)) front;
+  }
   | inr inside ↦ record {
-      ends = [];
-      last = inl refl;
-      front = front ∙ take-append-le (length since) (answers_octets answers) (answers_octets ends) inside
-          ∙ begun_octets (length since) answers inside
-          ∙ ap (take (length since)) (sym (append-nil (answers_octets (begun (length since) answers))));
-    }
+    ends = [];
+    last = inl refl;
+    front = front ∙ take-append-le (length since) (answers_octets answers) (answers_octets ends) inside
+        ∙ begun_octets (length since) answers inside
+        ∙ ap (take (length since)) (sym (append-nil (answers_octets (begun (length since) answers))));
+  }
 ]
 
 module _ {O : Type 0} (told : Bool) (trace : O → Trace) (faults : O → ℕ) (before : ℕ) (base : List ℕ) (book : BookView O)
@@ -100,7 +103,6 @@ module _ {O : Type 0} (told : Bool) (trace : O → Trace) (faults : O → ℕ) (
     (s : IsServing told trace faults before book binding next frames answers)
     (covered : AreCovered book.start book.entries book.places binding.key (length base) answers)
     (plan : TelecommandPlan) (here : IsTelecommand plan book.start) where
-
   legal : LegalHistory book.start (length frames) book.entries
   legal = record { reserves = s.reserves; few = s.few }
 
@@ -154,40 +156,42 @@ module _ {O : Type 0} (told : Bool) (trace : O → Trace) (faults : O → ℕ) (
       let none_accepts : All (λ (a : Answer). a.code ≢ 1) first =
       first_all (λ (a : Answer). a.code ≢ 1) first rest answers split s.none_accepts in
       let first_epoch : All (λ (a : Answer). TellsEpoch a → a.position ≡ 0) first =
-      first_all (λ (a : Answer). TellsEpoch a → a.position ≡ 0) first rest answers split s.first_epoch in
-      (first, record {
-        sunk_are = sunk_begun book.entries answers ends since last since_own;
-        history = legal;
-        answers_fit = first_fit (course_of trace faults before book frames) frames first rest
-            (subst (FitInTurn (course_of trace faults before book frames) frames) split (s.fit is_told));
-        one_fault = first_pairs (λ (a b : Answer). a.code ≡ 0x31 → b.code ≢ 0x31) first rest answers split s.one_fault;
-        pairs = record {
-          differ = first_pairs (Differ Uses) first rest answers split s.differ;
-          above = λ k d low key number uses.
-              let facts = drawn k d low key number uses in
-              subst (λ (id : ℕ). mark_of book.start id ≤ number) (sym facts.0) facts.1;
-          below = λ state shown k d low key number uses.
-              let facts = drawn k d low key number uses in
-              let (q, by, under) = stored k d low key number uses in
-              let early : places_below (length base + t) book.places ≤ places_below (length sunk) book.places =
-              begun_early t (length base) (length sunk) k book.places answers (omega arith) low in
-              let rises : mark_of (after_first book.start book.entries q) binding.key ≤ mark_of state binding.key =
-              shown_marks image p shows state shown q binding.key (omega arith) in
-              subst (λ (id : ℕ). number < mark_of state id) (sym facts.0) (omega arith);
-        };
-        accepted = record {
-          differ = λ i j d low high key number accepts. absurd (none_accepts i d (omega arith) accepts.0);
-          above = λ k d low key number accepts. absurd (none_accepts k d low accepts.0);
-          below = λ state shown k d low key number accepts. absurd (none_accepts k d low accepts.0);
-        };
-        image_shows = inr (record {
-          p = p;
-          within = shows.within;
-          shows = shows.shows;
-          seen = λ k d low tells.
-              let at_start = first_epoch k d low tells in omega arith;
-          half_open = shows.half_open;
-        });
-        order = λ i j d low high tells_a tells_b.
-            let a_first = first_epoch i d (omega arith) tells_a in omega arith;
-      })
+      first_all (λ (a : Answer). TellsEpoch a → a.position ≡ 0) first rest answers split s.first_epoch in (
+        first,
+        record {
+          sunk_are = sunk_begun book.entries answers ends since last since_own;
+          history = legal;
+          answers_fit = first_fit (course_of trace faults before book frames) frames first rest
+              (subst (FitInTurn (course_of trace faults before book frames) frames) split (s.fit is_told));
+          one_fault = first_pairs (λ (a b : Answer). a.code ≡ 0x31 → b.code ≢ 0x31) first rest answers split s.one_fault;
+          pairs = record {
+            differ = first_pairs (Differ Uses) first rest answers split s.differ;
+            above = λ k d low key number uses.
+                let facts = drawn k d low key number uses in
+                subst (λ (id : ℕ). mark_of book.start id ≤ number) (sym facts.0) facts.1;
+            below = λ state shown k d low key number uses.
+                let facts = drawn k d low key number uses in
+                let (q, by, under) = stored k d low key number uses in
+                let early : places_below (length base + t) book.places ≤ places_below (length sunk) book.places =
+                begun_early t (length base) (length sunk) k book.places answers (omega arith) low in
+                let rises : mark_of (after_first book.start book.entries q) binding.key ≤ mark_of state binding.key =
+                shown_marks image p shows state shown q binding.key (omega arith) in
+                subst (λ (id : ℕ). number < mark_of state id) (sym facts.0) (omega arith);
+          };
+          accepted = record {
+            differ = λ i j d low high key number accepts. absurd (none_accepts i d (omega arith) accepts.0);
+            above = λ k d low key number accepts. absurd (none_accepts k d low accepts.0);
+            below = λ state shown k d low key number accepts. absurd (none_accepts k d low accepts.0);
+          };
+          image_shows = inr (record {
+            p = p;
+            within = shows.within;
+            shows = shows.shows;
+            seen = λ k d low tells.
+                let at_start = first_epoch k d low tells in omega arith;
+            half_open = shows.half_open;
+          });
+          order = λ i j d low high tells_a tells_b.
+              let a_first = first_epoch i d (omega arith) tells_a in omega arith;
+        },
+      )

@@ -63,7 +63,6 @@ status_low (NoState offset) = (omega arith, omega arith, omega arith)
 
 module _ (s_told o_told : Bool) (input left : List ℕ) (s_before s_now o_before o_now : ℕ) (old new : Trace) (status : ℕ) (entries : List Entry)
     (r : RunEnds s_told o_told input left s_before s_now o_before o_now old new status entries) where
-
   abbrev none : ℕ → Type 0
   none offset = IsTrue o_told → ShowsNone old.now.image offset
 
@@ -103,11 +102,13 @@ module _ (s_told o_told : Bool) (input left : List ℕ) (s_before s_now o_before
     ];
     no_state = λ seven. elim r.put [
       | inl whole ↦
-          let (offset, same) = is_no_state r.end (sym whole.0 ∙ seven) in
-          (offset, cause_of (NoState offset) same,
-          λ is_told. due (NoState offset) same whole.1 is_told
-          ∙ ap (λ (answers : List Answer). old.now.sunk ++ (answers_octets answers ++ answer_octets (end_answer (NoState offset) (length entries))))
-          (r.none_shown is_told offset (cause_of (NoState offset) same is_told)).0)
+          let (offset, same) = is_no_state r.end (sym whole.0 ∙ seven) in (
+            offset,
+            cause_of (NoState offset) same,
+            λ is_told. due (NoState offset) same whole.1 is_told
+                ∙ ap (λ (answers : List Answer). old.now.sunk ++ (answers_octets answers ++ answer_octets (end_answer (NoState offset) (length entries))))
+                (r.none_shown is_told offset (cause_of (NoState offset) same is_told)).0,
+          )
       | inr part ↦ absurd (let five : status ≡ 5 = part.0 in omega arith)
     ];
     others = elim r.put [

@@ -59,7 +59,12 @@ end_number (NoState offset) = offset
 -- the End answer
 abbrev pub end_answer : RunEnd → ℕ → Answer
 end_answer end entries = record {
-  code = 0xff; detail = end_status end; key = 0; position = entries; number = end_number end; body = [];
+  code = 0xff;
+  detail = end_status end;
+  key = 0;
+  position = entries;
+  number = end_number end;
+  body = [];
 }
 
 -- Why a run ends so: the input has ended and is well formed; it is malformed behind these items; the source's count of

@@ -119,13 +119,13 @@ pub record Draws {O : Type 0} (trace : O → Trace) (faults : O → ℕ) (bindin
   pub below : number < end_of binding.key
   pub outcome : (Reserves trace faults binding.key number old new × AnswersProtected binding number frame answer)
       ⊎ ((mark_of old.state binding.key ≤ number) × ((fault : BookFault)
-          × ReserveFails faults binding.key number old new fault × TellsRefusal fault (length new.entries) answer))
+      × ReserveFails faults binding.key number old new fault × TellsRefusal fault (length new.entries) answer))
 
 -- one frame is answered: without a number, or with the next one
 abbrev pub AnswersFrame : {O : Type 0} → (O → Trace) → (O → ℕ) → BindingParts → ℕ → ℕ → BookView O → BookView O → Record → Answer → Type 0
 AnswersFrame trace faults binding next_old next_new old new frame answer =
     ((next_new ≡ next_old) × (new ≡ old) × (AnswersVerdict old.start frame answer ⊎ IsWanting answer
-        ⊎ AnswersExhausted old.start binding.key next_old frame answer))
+    ⊎ AnswersExhausted old.start binding.key next_old frame answer))
     ⊎ ((next_new ≡ next_old + 1) × Draws trace faults binding next_old old new frame answer)
 
 -- Each answer's number lies below the mark that was stored when its first octet was sunk. The first answer begins at this
@@ -177,8 +177,8 @@ ServesSegment told trace faults binding old new next_old next_new frames result 
     (before : ℕ) (base : List ℕ) (first : List Record) (given : List Answer)
     → IsServed told trace faults before base old binding next_old first given
     → MatchResult result
-        (λ _. (answers : List Answer) × IsServed told trace faults before base new binding next_new (first ++ frames) (given ++ answers))
-        (Stops told trace faults before base new binding next_new first frames given)
+    (λ _. (answers : List Answer) × IsServed told trace faults before base new binding next_new (first ++ frames) (given ++ answers))
+    (Stops told trace faults before base new binding next_new first frames given)
 
 -- The entries have grown, and what had been stored before an octet was sunk has not changed.
 pub record GrowsBehind {O : Type 0} (trace : O → Trace) (old new : BookView O) : Type 0 where

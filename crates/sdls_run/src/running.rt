@@ -291,11 +291,7 @@ fn refuse<O: Site>(alloc: Global, fault: OpenFault, mut site: O) -> Outcome<O>
 }
 
 /// Runs `run`: protects the telecommand frames of the recorded input.
-pub(crate) fn run_frames<S: Source, O: Site>(
-    alloc: Global,
-    source: &mut S,
-    site: O,
-) -> Outcome<O>
+pub(crate) fn run_frames<S: Source, O: Site>(alloc: Global, source: &mut S, site: O) -> Outcome<O>
     ensures { RunEnds S.told O.told (S.left source.old) (S.left source.new) (S.faults source.old) (S.faults source.new)
         (O.faults site) (O.faults result.site) (O.trace site) (O.trace result.site) result.status result.entries.items }
 {

@@ -57,12 +57,15 @@ at_start : (now : Trace) (plan : TelecommandPlan) (mark floor : ℕ) (journal : 
     → ShowsFrom (telecommand_state plan mark floor) [] 0 image
 at_start now plan mark floor journal settled shows image leaves =
     let same : image ≡ now.now.image = synced_leaves now.now image settled.opened.synced leaves in
-    subst (ShowsFrom (telecommand_state plan mark floor) [] 0) (sym same)
-    (0, omega arith, record {
-      within = omega arith;
-      shows = shows;
-      half_open = λ half. absurd (half.torn (settled.rests half.there));
-    })
+    subst (ShowsFrom (telecommand_state plan mark floor) [] 0) (sym same) (
+      0,
+      omega arith,
+      record {
+        within = omega arith;
+        shows = shows;
+        half_open = λ half. absurd (half.torn (settled.rests half.there));
+      },
+    )
 
 -- the book over it
 pub fresh_kept : {O : Type 0} (told : Bool) (trace : O → Trace) (faults : O → ℕ) (site : O) (plan : TelecommandPlan) (mark floor : ℕ)

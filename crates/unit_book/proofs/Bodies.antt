@@ -61,11 +61,12 @@ refuted body id mark floor unfit marks mark_bounds floor_bounds = elim unfit.bre
 
 read_back : (body : List ℕ) (id mark floor m f : ℕ) → m ≡ from_be_bytes w64 (take 8 (drop 5 body))
     → f ≡ from_be_bytes w64 (take 8 (drop 13 body)) → IsMarks id mark floor body → (m ≡ mark) × (f ≡ floor)
-read_back body id mark floor m f mark_read floor_read marks =
-    (mark_read ∙ ap (λ (octets : List ℕ). from_be_bytes w64 (take 8 (drop 5 octets))) marks.spelled
-    ∙ ap (from_be_bytes w64) (mark_field id mark floor) ∙ from_be_bytes-to_be_bytes_8 mark marks.mark_field,
-    floor_read ∙ ap (λ (octets : List ℕ). from_be_bytes w64 (take 8 (drop 13 octets))) marks.spelled
-    ∙ ap (from_be_bytes w64) (floor_field id mark floor) ∙ from_be_bytes-to_be_bytes_8 floor marks.floor_field)
+read_back body id mark floor m f mark_read floor_read marks = (
+  mark_read ∙ ap (λ (octets : List ℕ). from_be_bytes w64 (take 8 (drop 5 octets))) marks.spelled
+      ∙ ap (from_be_bytes w64) (mark_field id mark floor) ∙ from_be_bytes-to_be_bytes_8 mark marks.mark_field,
+  floor_read ∙ ap (λ (octets : List ℕ). from_be_bytes w64 (take 8 (drop 13 octets))) marks.spelled
+      ∙ ap (from_be_bytes w64) (floor_field id mark floor) ∙ from_be_bytes-to_be_bytes_8 floor marks.floor_field,
+)
 
 -- such a body is no record that the state allows
 pub not_allowed : (body : List ℕ) (id m f : ℕ) → Unfit body id m f → (change : Change) (plan : TelecommandPlan) (mark floor : ℕ)

@@ -164,12 +164,15 @@ next_from : (start : State) (entries : List Entry) (entry : Entry) (old body new
     → Grows old body new → Shows new (applied (after start entries) entry.change) → records new ≡ records old ++ body ∷ []
     → ShowsFrom start (entries ++ entry ∷ []) (length entries + 1) new
 next_from start entries entry old body new next grows shows more =
-    let size : length (entries ++ entry ∷ []) ≡ length entries + 1 = length-append entries (entry ∷ []) in
-    (length entries + 1, omega arith, record {
-      within = omega arith;
-      shows = shows_next start entries entry new shows;
-      half_open = λ half. absurd (grown_rests old new body grows more half);
-    })
+    let size : length (entries ++ entry ∷ []) ≡ length entries + 1 = length-append entries (entry ∷ []) in (
+      length entries + 1,
+      omega arith,
+      record {
+        within = omega arith;
+        shows = shows_next start entries entry new shows;
+        half_open = λ half. absurd (grown_rests old new body grows more half);
+      },
+    )
 
 -- it shows all entries from before, or the next one too
 grown_from : (start : State) (entries : List Entry) (entry : Entry) (old body new : List ℕ) → NextEntry start entries entry old body
@@ -179,11 +182,15 @@ grown_from start entries entry old body new next grows =
     let grown : GrownShows old new body (after start entries) entry.change =
     shows_grown old new body (after start entries) entry.change next.shows grows next.is_record next.allows in
     elim grown.shows [
-      | inl same ↦ (length entries, omega arith, record {
+      | inl same ↦ (
+        length entries,
+        omega arith,
+        record {
           within = omega arith;
           shows = shows_all start entries entry new same.1;
           half_open = λ half. (length entries + 1, omega arith, omega arith, shows_next start entries entry (opened_form new) (grown.half_open half));
-        })
+        },
+      )
       | inr more ↦ shows_from_less start (entries ++ entry ∷ []) (length entries) (length entries + 1) new (omega arith)
           (next_from start entries entry old body new next grows more.1 more.0)
     ]

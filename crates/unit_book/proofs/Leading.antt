@@ -70,13 +70,22 @@ led_next plan bodies index mark floor marks led reads =
 pub unfit_shows_none : (image : List ℕ) (plan : TelecommandPlan) (index mark floor : ℕ) → HasPlan image plan → plan.slots ≡ slot_count image
     → LeadTo (initial plan) (take index (records image)) (telecommand_state plan mark floor) → IsUnfit (records image) index plan.key
     → ShowsNone image (slot_at index)
-unfit_shows_none image plan index mark floor has_plan slots led unfit = inr (inr (inr (plan, has_plan, slots, (index, record {
-  body = unfit.body;
-  there = unfit.there;
-  before = telecommand_state plan mark floor;
-  led = led;
-  bad = λ change is_record. unfit.bad change plan mark floor refl is_record;
-}, refl))))
+unfit_shows_none image plan index mark floor has_plan slots led unfit = inr (inr (inr (
+  plan,
+  has_plan,
+  slots,
+  (
+    index,
+    record {
+      body = unfit.body;
+      there = unfit.there;
+      before = telecommand_state plan mark floor;
+      led = led;
+      bad = λ change is_record. unfit.bad change plan mark floor refl is_record;
+    },
+    refl,
+  ),
+)))
 
 pub only_syncs_image : (old new : Trace) → OnlySyncs old new → new.now.image ≡ old.now.image
 only_syncs_image old new (inl same) = ap (λ (trace : Trace). trace.now.image) same

@@ -46,7 +46,6 @@ floor_there plan mark floor = let test : (plan.key == plan.key) ≡ true = eq-eq
 module _ {O : Type 0} (told : Bool) (trace : O → Trace) (faults : O → ℕ) (old : BookView O) (plan : TelecommandPlan)
     (mark floor key number new_mark new_floor : ℕ) (entry : Entry) (body : List ℕ)
     (r : Ready told trace faults old plan mark floor key number new_mark new_floor entry body) where
-
   pub key_is : plan.key ≡ key
   key_is = one_key plan mark floor key (subst (λ (s : State). IsSome (key_row s.keys key)) r.state r.known)
 
@@ -106,14 +105,14 @@ module _ {O : Type 0} (told : Bool) (trace : O → Trace) (faults : O → ℕ) (
       → (IsTrue told → Leaves (trace site).now (trace site).now.image)
       → (IsTrue told → IsSettled (trace site) (record old.journal { used = old.journal.used + 1 }))
       → IsKept told trace faults (record {
-          site = site;
-          opened = old.opened;
-          start = old.start;
-          state = telecommand_state plan new_mark new_floor;
-          journal = record old.journal { used = old.journal.used + 1 };
-          entries = old.entries ++ entry ∷ [];
-          places = old.places ++ length (trace old.site).now.sunk ∷ [];
-        })
+        site = site;
+        opened = old.opened;
+        start = old.start;
+        state = telecommand_state plan new_mark new_floor;
+        journal = record old.journal { used = old.journal.used + 1 };
+        entries = old.entries ++ entry ∷ [];
+        places = old.places ++ length (trace old.site).now.sunk ∷ [];
+      })
   stored site low each kept stays settled =
       let entries_size : length (old.entries ++ entry ∷ []) ≡ length old.entries + 1 = length-append old.entries (entry ∷ []) in
       let places_size : length (old.places ++ length (trace old.site).now.sunk ∷ []) ≡ length old.places + 1 =
@@ -121,7 +120,7 @@ module _ {O : Type 0} (told : Bool) (trace : O → Trace) (faults : O → ℕ) (
       let whole : length old.entries ≡ length old.places = all_stored in
       let room : length old.entries ≤ old.journal.used = (r.kept.whole r.working).1 in
       let history : IsTrue told → IsHistory (trace old.opened) (trace site) old.start (old.entries ++ entry ∷ [])
-          (old.places ++ length (trace old.site).now.sunk ∷ []) =
+      (old.places ++ length (trace old.site).now.sunk ∷ []) =
       λ is_told. stored_history (trace old.opened) (trace old.site) (trace site) old.start old.entries entry old.places body
       (next is_told) (r.kept.history is_told) whole (each is_told) (kept is_told) in
       record {
@@ -168,7 +167,13 @@ module _ {O : Type 0} (told : Bool) (trace : O → Trace) (faults : O → ℕ) (
 -- a book with these parts
 abbrev pub book_of : {O : Type 0} → O → O → State → State → JournalView → List Entry → List ℕ → BookView O
 book_of site opened start state journal entries places = record {
-  site = site; opened = opened; start = start; state = state; journal = journal; entries = entries; places = places;
+  site = site;
+  opened = opened;
+  start = start;
+  state = state;
+  journal = journal;
+  entries = entries;
+  places = places;
 }
 
 -- parts that are equal make the same book

@@ -39,7 +39,7 @@ abbrev pub ShowsNone : List ℕ → ℕ → Type 0
 ShowsNone image offset =
     (image_fault image ≡ Some offset)
     ⊎ ((image_fault image ≡ None) × ((plan : TelecommandPlan) → ¬ SaysTelecommand (plan_of image) plan)
-        × (offset ≡ HEADER_LENGTH))
+    × (offset ≡ HEADER_LENGTH))
     ⊎ ((plan : TelecommandPlan) × HasPlan image plan × (plan.slots ≢ slot_count image) × (offset ≡ SLOT_COUNT_AT))
     ⊎ ((plan : TelecommandPlan) × HasPlan image plan × (plan.slots ≡ slot_count image)
-        × ((place : ℕ) × IsBadRecord (initial plan) (records image) place × (offset ≡ slot_at place)))
+    × ((place : ℕ) × IsBadRecord (initial plan) (records image) place × (offset ≡ slot_at place)))

@@ -45,10 +45,24 @@ pub record State : Type 0 where
 abbrev pub telecommand_state : TelecommandPlan → ℕ → ℕ → State
 telecommand_state plan mark floor = record {
   plan = plan;
-  keys = (record { id = plan.key; state = Active; bytes = Some plan.key_octets; digest = sha256 plan.key_octets;
-      mark = mark; floor = floor }) ∷ [];
-  associations = (record { spi = plan.spi; direction = Send; suite = Cmac; state = Operational; key = Some plan.key;
-      channels = 0 ∷ []; high = 0; width = 1 }) ∷ [];
+  keys = (record {
+    id = plan.key;
+    state = Active;
+    bytes = Some plan.key_octets;
+    digest = sha256 plan.key_octets;
+    mark = mark;
+    floor = floor;
+  }) ∷ [];
+  associations = (record {
+    spi = plan.spi;
+    direction = Send;
+    suite = Cmac;
+    state = Operational;
+    key = Some plan.key;
+    channels = 0 ∷ [];
+    high = 0;
+    width = 1;
+  }) ∷ [];
 }
 
 -- the state that the lines of a plan say

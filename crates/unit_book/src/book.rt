@@ -52,13 +52,13 @@ impl<O: Site> Model for Book<O> {
     ghost Value = { BookView O };
 
     ghost view = { λ book. record {
-        site = book.site;
-        opened = book.opened.value;
-        start = telecommand_state book.plan book.first.mark book.first.floor;
-        state = telecommand_state book.plan book.now.mark book.now.floor;
-        journal = book.journal;
-        entries = book.entries.items;
-        places = map (λ before. length (O.trace before.value).now.sunk) book.stored.items;
+      site = book.site;
+      opened = book.opened.value;
+      start = telecommand_state book.plan book.first.mark book.first.floor;
+      state = telecommand_state book.plan book.now.mark book.now.floor;
+      journal = book.journal;
+      entries = book.entries.items;
+      places = map (λ before. length (O.trace before.value).now.sunk) book.stored.items;
     } };
 
     ghost invariant = { λ book. (book.faults ≡ O.faults book.opened.value)
@@ -104,13 +104,13 @@ impl<O: Site> Book<O> {
         requires entries { (rooms.entries.items ≡ []) × (MOST_SLOTS ≤ vec_capacity rooms.entries) }
         requires stored { (rooms.stored.items ≡ []) × (MOST_SLOTS ≤ vec_capacity rooms.stored) }
         ensures { result ≡ record {
-            site = site;
-            opened = site;
-            start = telecommand_state found.plan found.marks.mark found.marks.floor;
-            state = telecommand_state found.plan found.marks.mark found.marks.floor;
-            journal = found.journal;
-            entries = [];
-            places = [];
+          site = site;
+          opened = site;
+          start = telecommand_state found.plan found.marks.mark found.marks.floor;
+          state = telecommand_state found.plan found.marks.mark found.marks.floor;
+          journal = found.journal;
+          entries = [];
+          places = [];
         } }
     {
         let Found {
@@ -238,7 +238,10 @@ impl<O: Site> Book<O> {
                 floor: marks.floor,
             },
         };
-        match self.journal.append(&mut self.site, &write_marks(key, marks)) {
+        match self
+            .journal
+            .append(&mut self.site, &write_marks(key, marks))
+        {
             Ok(()) => {
                 push_within(&mut self.entries, entry);
                 push_within(&mut self.stored, before);

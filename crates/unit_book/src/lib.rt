@@ -1,8 +1,11 @@
-//! The book of a unit: its state, over the journal in which each change of it is stored. It serves the plan of one
-//! telecommand channel, which sends under AES-CMAC; the one change that it makes is the reserve of numbers.
+//! The book of a unit: its state, and the journal in which each change of the state is stored before anything rests on it.
 //!
-//! Read [`Book::open`] and [`Book::reserve`] first: a number is put only after a mark above it is on the disk.
-//! [`verdict_on`] makes the checks of a frame in clear, and [`shield`] protects it (CCSDS 355.0-B, ApplySecurity).
+//! [`Book::open`] makes all checks of an image and answers the book over the state that it shows. [`Book::reserve`] stores
+//! a mark above a number that is to be used. [`Book::verdict`] makes the checks of a telecommand frame that is to be
+//! protected (CCSDS 355.0-B), and [`shield`] protects it. [`Book::put`] hands octets to the site's sink.
+//!
+//! The state is stated whole (`specs/State.antt`): the plan's lines and a row for each key and for each association. The
+//! code serves the plan of one telecommand channel under CMAC alone.
 #![tactic(auto)]
 
 mod binding;
@@ -16,3 +19,6 @@ pub use binding::{Binding, Verdict, verdict_on};
 pub use book::Book;
 pub use fault::{BookFault, OpenFault};
 pub use shielding::shield;
+
+#[cfg(test)]
+mod tests;

@@ -18,6 +18,7 @@ const DATA_LENGTH: u16 = 18;
 
 /// Where the mark stands in a Marks record, and where the floor.
 const MARK_AT: usize = 5;
+
 const FLOOR_AT: usize = 13;
 
 /// A key's mark and floor.

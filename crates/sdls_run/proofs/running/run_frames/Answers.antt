@@ -22,8 +22,8 @@ returns-in-Ok g c =
     λ is_told. (opened_now (trace entry) (trace book.site) (c.in-Ok.ensures.any_moment is_told) (trace book.site).now.image
     (g.met.O.Site.image_may_stay book.site is_told)).1 in
     let here : Finished g.S.Source.told (g.S.Source.left c.args.source.now) (g.S.Source.left c.serve.new.source)
-        (g.S.Source.faults c.args.source.now) (g.S.Source.faults c.serve.new.source) told trace faults entry c.serve.result.site book
-        c.serve.result.entries.items c.serve.result.status = record {
+    (g.S.Source.faults c.args.source.now) (g.S.Source.faults c.serve.new.source) told trace faults entry c.serve.result.site book
+    c.serve.result.entries.items c.serve.result.status = record {
       has = c.serve.ensures (faults entry) (trace entry).now.sunk low c.in-Ok.ensures.begun.0 c.in-Ok.ensures.begun.2 sunk;
       shows = λ is_told. (c.in-Ok.ensures.shows is_told).0;
       journal = λ is_told. (c.in-Ok.ensures.shows is_told).1;

@@ -31,9 +31,10 @@ returns g c = λ before base low none state sunk.
           (g.S.Source.faults c.args.source.now) (g.S.Source.faults c.serve_all-status.new.source) told trace faults before base last.book binding last.next
           c.serve_all-status.result) c.new-session.ensures.binding (c.serve_all-status.ensures.served before base start);
       slots = c.serve_all-status.ensures.slots ∙ ap (λ (b : B). b.journal.slots) is;
-      same_run = λ is_told.
-          ((c.serve_all-status.ensures.same_run is_told).0 ∙ ap (λ (b : B). b.opened) is,
-          (c.serve_all-status.ensures.same_run is_told).1 ∙ ap (λ (b : B). b.start) is);
+      same_run = λ is_told. (
+        (c.serve_all-status.ensures.same_run is_told).0 ∙ ap (λ (b : B). b.opened) is,
+        (c.serve_all-status.ensures.same_run is_told).1 ∙ ap (λ (b : B). b.start) is,
+      );
       site_is = c.into_site-site.ensures.site;
       entries_are = c.into_site-site.ensures.entries;
     }

@@ -27,12 +27,14 @@ returns-in-Ok-put_answers-clause-served g c = λ before base first given start.
       kept = c.in-Ok-put_answers.ensures.kept;
       same = c.in-Ok-put_answers.ensures.same;
       later = c.in-Ok-put_answers.ensures.later;
-    } in
-    (answers, subst (λ (n : ℕ). IsServed told trace faults before base new.book old.binding n frames (given ++ answers))
-    (sym c.in-Ok-put_answers.ensures.others.1)
-    (served told trace faults before base old.book mid.book new.book old.binding mid.next frames given answers step
-    (λ is_told. subst (λ (all : List Answer). (trace new.book.site).now.sunk ≡ (trace mid.book.site).now.sunk ++ answers_octets all)
-    c.deref.ensures.value (c.in-Ok-put_answers.ensures.put is_told))))
+    } in (
+      answers,
+      subst (λ (n : ℕ). IsServed told trace faults before base new.book old.binding n frames (given ++ answers))
+          (sym c.in-Ok-put_answers.ensures.others.1)
+          (served told trace faults before base old.book mid.book new.book old.binding mid.next frames given answers step
+          (λ is_told. subst (λ (all : List Answer). (trace new.book.site).now.sunk ≡ (trace mid.book.site).now.sunk ++ answers_octets all)
+          c.deref.ensures.value (c.in-Ok-put_answers.ensures.put is_told))),
+    )
 
 pub returns-clause-served : goal.returns-clause-served
 returns-clause-served g c = λ before base first given start.
@@ -57,9 +59,11 @@ returns-clause-served g c = λ before base first given start.
     let risen : Rose (faults new.book.opened) (faults new.book.site) =
     rose_earlier (faults new.book.opened) (faults mid.book.site) (faults new.book.site)
     (subst (λ (opened : g.row.O.Denot). faults opened ≤ faults mid.book.site) (sym c.in-Err-put_answers.ensures.same.opened) c.in-Ok.ensures.ready.kept.later)
-    c.in-Err-put_answers.ensures.fault in
-    (answers, subst (λ (n : ℕ). IsBroken told trace faults before base new.book old.binding n frames (given ++ answers))
-    (sym c.in-Err-put_answers.ensures.others.1)
-    (broken told trace faults before base old.book mid.book new.book old.binding mid.next frames given answers step
-    (λ is_told. subst (λ (all : List Answer). Between (trace mid.book.site).now.sunk ((trace mid.book.site).now.sunk ++ answers_octets all) (trace new.book.site).now.sunk)
-    c.deref.ensures.value (c.in-Err-put_answers.ensures.put is_told)) risen))
+    c.in-Err-put_answers.ensures.fault in (
+      answers,
+      subst (λ (n : ℕ). IsBroken told trace faults before base new.book old.binding n frames (given ++ answers))
+          (sym c.in-Err-put_answers.ensures.others.1)
+          (broken told trace faults before base old.book mid.book new.book old.binding mid.next frames given answers step
+          (λ is_told. subst (λ (all : List Answer). Between (trace mid.book.site).now.sunk ((trace mid.book.site).now.sunk ++ answers_octets all) (trace new.book.site).now.sunk)
+          c.deref.ensures.value (c.in-Err-put_answers.ensures.put is_told)) risen),
+    )

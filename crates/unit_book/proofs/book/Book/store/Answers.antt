@@ -18,7 +18,7 @@ returns-in-Ok-clause-kept g c =
     let B : Type 0 = BookView g.row.O.Denot in
     let same = sym c.self.view_is in
     let ready : Ready told trace faults _ c.self.inside.plan c.self.inside.now.mark c.self.inside.now.floor c.args.key c.args.number
-        c.reserved-marks.result.mark c.reserved-marks.result.floor _ c.write_marks.result = record {
+    c.reserved-marks.result.mark c.reserved-marks.result.floor _ c.write_marks.result = record {
       kept = subst (IsKept told trace faults) same c.requires.kept;
       state = refl;
       known = subst (λ (b : B). IsSome (key_row b.state.keys c.args.key)) same c.requires.known;
@@ -48,7 +48,7 @@ returns-in-Err-SiteFault-clause-kept g c =
     let B : Type 0 = BookView g.row.O.Denot in
     let same = sym c.self.view_is in
     let ready : Ready told trace faults _ c.self.inside.plan c.self.inside.now.mark c.self.inside.now.floor c.args.key c.args.number
-        c.reserved-marks.result.mark c.reserved-marks.result.floor _ c.write_marks.result = record {
+    c.reserved-marks.result.mark c.reserved-marks.result.floor _ c.write_marks.result = record {
       kept = subst (IsKept told trace faults) same c.requires.kept;
       state = refl;
       known = subst (λ (b : B). IsSome (key_row b.state.keys c.args.key)) same c.requires.known;
