@@ -1,21 +1,19 @@
 -- A book that is opened.
-use Rattle.std.proofs.Common.{◌≡◌, ◌≢◌, ℕ, ◌+◌, ◌<◌, ◌≤◌, ◌⊎◌, Bool, IsTrue, List, [], ◌∷◌, ◌++◌, length, take, None, refl, sym, ◌∙◌, ap, subst, inl, inr, arith}
+use Rattle.std.proofs.Common.{◌≡◌, ℕ, Bool, IsTrue, List, [], length, None, refl, sym, ◌∙◌, ap, subst, inl, inr, arith}
 use Rattle.std.proofs.lemmas.List.{take_all}
 use Rattle.std.proofs.lemmas.List.Elements.{All-nil}
-use Rattle.sdls_base.specs.declared.entry.Entry.{Entry}
 use Rattle.sdls_outside.specs.Disk.{Leaves}
-use Rattle.sdls_outside.specs.Faults.{Rose}
-use Rattle.sdls_outside.specs.Moments.{Trace, clock, EachMoment}
+use Rattle.sdls_outside.specs.Moments.{Trace, clock}
 use Rattle.sdls_outside.proofs.Moments.{each_same, moment_now, synced_leaves}
 use Rattle.unit_plan.specs.declared.telecommand.TelecommandPlan.{TelecommandPlan}
-use Rattle.disk_journal.specs.Image.{records, slot_count, IsHalfOpen, IsAtRest}
+use Rattle.disk_journal.specs.Image.{records, slot_count}
 use Rattle.disk_journal.specs.Fault.{image_fault}
 use Rattle.disk_journal.specs.Journal.{JournalView, IsOpen, IsSettled}
 use Rattle.disk_journal.specs.Changes.{EachImage, OnlySyncs, Regates}
 use Rattle.disk_journal.proofs.Growing.{KeepsPlan, regated_keeps_plan}
-use Rattle.unit_book.specs.State.{State, telecommand_state, restarted}
+use Rattle.unit_book.specs.State.{State, telecommand_state}
 use Rattle.unit_book.specs.Shows.{Shows}
-use Rattle.unit_book.specs.Book.{BookView, ShowsFrom, Placed, IsHistory, IsCurrent, IsKept, SameJournal}
+use Rattle.unit_book.specs.Book.{ShowsFrom, Placed, IsKept, SameJournal}
 use Rattle.unit_book.proofs.Leading.{only_syncs_image}
 use Rattle.unit_book.proofs.Showing.{shows_regated, shows_led}
 use Rattle.unit_book.proofs.Storing.{book_of}

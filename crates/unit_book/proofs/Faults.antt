@@ -1,5 +1,5 @@
 -- Faults of an opening.
-use Rattle.std.proofs.Common.{◌≡◌, ℕ, ◌+◌, ◌^◌, ◌-◌, ◌≤◌, min, arith, Result, Ok, Err}
+use Rattle.std.proofs.Common.{ℕ, ◌≤◌, arith, Result, Ok, Err}
 use Rattle.sdls_outside.specs.Faults.{Rose}
 use Rattle.unit_book.specs.declared.fault.OpenFault.{OpenFault}
 use Rattle.unit_book.specs.declared.fault.OpenFault.TheVariants.{SiteFault, Image, NoMemory}

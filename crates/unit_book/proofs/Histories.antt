@@ -1,25 +1,25 @@
 -- The run of a book: what its calls do to the moments.
-use Rattle.std.proofs.Common.{◌≡◌, ◌≢◌, ℕ, suc, zero, ◌+◌, ◌-◌, ◌^◌, ◌<◌, ◌≤◌, ◌⊎◌, nat_lt, Bool, true, false, if◌then◌else◌, IsTrue, min, List, [], ◌∷◌, ◌++◌, length, take, refl, sym, ◌∙◌, ap, subst, inl, inr, arith, length-append, get_or, Result, Ok, Err}
+use Rattle.std.proofs.Common.{◌≡◌, ℕ, ◌+◌, ◌<◌, ◌≤◌, ◌⊎◌, nat_lt, Bool, true, false, if◌then◌else◌, IsTrue, min, List, [], ◌∷◌, ◌++◌, length, take, refl, sym, ◌∙◌, ap, subst, inl, inr, arith, length-append, get_or, Result, Ok, Err}
 use Rattle.std.specs.List.{All}
 use Rattle.std.proofs.lemmas.List.{take_all, take_at, take-take, length-take}
 use Rattle.std.proofs.lemmas.List.Elements.{All-push, All-weaker}
 use Rattle.std.proofs.lemmas.Bool.{cases_lt}
 use Rattle.std.proofs.lemmas.Bool.Decides.{nat_tests}
 use Rattle.sdls_base.specs.declared.entry.Entry.{Entry}
-use Rattle.sdls_outside.specs.Disk.{Disk, Leaves, IsSynced, Outside}
+use Rattle.sdls_outside.specs.Disk.{Disk, Leaves, Outside}
 use Rattle.sdls_outside.specs.Faults.{Rose}
-use Rattle.sdls_outside.specs.Moments.{Trace, clock, Between, MomentSince, EachMoment}
+use Rattle.sdls_outside.specs.Moments.{Trace, clock, Between, EachMoment}
 use Rattle.sdls_outside.specs.Site.{Sank, Puts}
 use Rattle.sdls_outside.proofs.Moments.{each_then, each_weaker, each_passes, moment_now, sank_synced}
-use Rattle.disk_journal.specs.Image.{records, IsHalfOpen, IsAtRest, opened_form}
-use Rattle.disk_journal.specs.Journal.{JournalView, IsJournalOf, IsSettled}
+use Rattle.disk_journal.specs.Image.{records, IsAtRest, opened_form}
+use Rattle.disk_journal.specs.Journal.{JournalView, IsJournalOf}
 use Rattle.disk_journal.specs.Changes.{EachImage, Grows}
 use Rattle.unit_book.specs.State.{State, applied, restarted}
 use Rattle.unit_book.specs.Record.{IsRecord, Allows}
 use Rattle.unit_book.specs.Shows.{Shows}
 use Rattle.unit_book.specs.History.{after, after_first}
-use Rattle.unit_book.specs.Book.{BookView, places_below, ShowsAfter, ShowsFrom, Placed, IsHistory, IsCurrent, IsKept, SameBook}
-use Rattle.unit_book.proofs.Showing.{GrownShows, shows_grown, shows_more, grown_rests, shown_same, after_more, first_same, first_all, shows_after_more, shows_from_less}
+use Rattle.unit_book.specs.Book.{BookView, places_below, ShowsFrom, Placed, IsHistory, IsCurrent, IsKept}
+use Rattle.unit_book.proofs.Showing.{GrownShows, shows_grown, grown_rests, shown_same, after_more, first_same, first_all, shows_after_more, shows_from_less}
 
 pub few_below : (t : ℕ) (places : List ℕ) → places_below t places ≤ length places
 few_below t [] = omega arith

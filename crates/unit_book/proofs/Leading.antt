@@ -1,24 +1,22 @@
 -- Where the records of a journal lead to.
-use Rattle.std.proofs.Common.{◌≡◌, ℕ, suc, ◌+◌, ◌<◌, ◌≤◌, ◌==◌, true, not, List, [], ◌∷◌, ◌++◌, length, take, Some, None, refl, sym, ◌∙◌, ap, subst, inl, inr, arith, get_or}
+use Rattle.std.proofs.Common.{◌≡◌, ℕ, suc, ◌+◌, ◌<◌, ◌≤◌, ◌==◌, true, List, [], ◌∷◌, ◌++◌, take, Some, refl, sym, ◌∙◌, ap, subst, inl, inr, arith}
 use Rattle.std.specs.List.{slice_get}
 use Rattle.std.specs.Option.{IsSome}
 use Rattle.std.proofs.Math.Seq.{take-suc}
 use Rattle.std.proofs.lemmas.Option.{slice_get_within, get_or_from_slice_get}
 use Rattle.std.proofs.lemmas.Bool.{eq-eqb}
-use Rattle.std.proofs.lemmas.List.{take_all}
 use Rattle.sdls_base.specs.declared.change.Change.{Change}
-use Rattle.sdls_base.specs.declared.change.Change.TheVariants.{Marks, Load, KeyStates, Create, Rekey, SaTo, SetNumber, SetWindow, Accepted, Nothing}
+use Rattle.sdls_base.specs.declared.change.Change.TheVariants.{Marks}
 use Rattle.sdls_base.specs.KeyId.{end_of}
 use Rattle.sdls_outside.specs.Moments.{Trace}
 use Rattle.unit_plan.specs.declared.telecommand.TelecommandPlan.{TelecommandPlan}
-use Rattle.unit_plan.specs.Telecommand.{SaysTelecommand, IsInBounds}
 use Rattle.disk_journal.specs.Slots.{slot_at}
-use Rattle.disk_journal.specs.Image.{plan_of, slot_count, records}
+use Rattle.disk_journal.specs.Image.{slot_count, records}
 use Rattle.disk_journal.specs.Changes.{OnlySyncs}
 use Rattle.unit_book.specs.declared.record.Marks.{Marks as MarksOf}
 use Rattle.unit_book.specs.State.{State, telecommand_state, initial, key_row, applied}
-use Rattle.unit_book.specs.Record.{IsMarks, IsRecord, Allows, AllowsMarks, LeadTo}
-use Rattle.unit_book.specs.Shows.{HasPlan, Shows, ShowsNone, IsBadRecord}
+use Rattle.unit_book.specs.Record.{IsRecord, Allows, LeadTo}
+use Rattle.unit_book.specs.Shows.{HasPlan, ShowsNone}
 use Rattle.unit_book.specs.Opening.{ReadsMarks, IsUnfit}
 
 -- one record more

@@ -1,15 +1,15 @@
 -- The state that an image shows, and how it grows.
-use Rattle.std.proofs.Common.{◌≡◌, ◌≢◌, ℕ, suc, ◌+◌, ◌<◌, ◌≤◌, ◌⊎◌, ◌==◌, List, [], ◌∷◌, ◌++◌, length, take, Some, None, refl, sym, ◌∙◌, ap, subst, inl, inr, arith, length-append}
-use Rattle.std.proofs.lemmas.List.{take_all, take_at, take-append-le}
+use Rattle.std.proofs.Common.{◌≡◌, ℕ, ◌+◌, ◌≤◌, ◌⊎◌, List, [], ◌∷◌, ◌++◌, length, None, refl, sym, ◌∙◌, ap, subst, inl, inr, arith, length-append}
+use Rattle.std.proofs.lemmas.List.{take_all, take-append-le}
 use Rattle.sdls_base.specs.declared.change.Change.{Change}
 use Rattle.sdls_base.specs.declared.change.Change.TheVariants.{Marks, Load, KeyStates, Create, Rekey, SaTo, SetNumber, SetWindow, Accepted, Nothing}
 use Rattle.sdls_base.specs.declared.entry.Entry.{Entry}
 use Rattle.unit_plan.specs.declared.telecommand.TelecommandPlan.{TelecommandPlan}
 use Rattle.unit_plan.specs.Telecommand.{SaysTelecommand}
 use Rattle.disk_journal.specs.declared.layout.TheConstants.{OPEN}
-use Rattle.disk_journal.specs.Image.{plan_of, slot_count, records, first_closed, IsHalfOpen, IsAtRest, regated, opened_form}
+use Rattle.disk_journal.specs.Image.{slot_count, records, first_closed, IsHalfOpen, opened_form}
 use Rattle.disk_journal.specs.Fault.{image_fault}
-use Rattle.disk_journal.specs.Changes.{Grows, Regates}
+use Rattle.disk_journal.specs.Changes.{Grows}
 use Rattle.disk_journal.proofs.Growing.{KeepsPlan, keeps_plan, regated_keeps_plan, FormOpens, form_opens}
 use Rattle.unit_book.specs.State.{State, telecommand_state, initial, applied, restarted}
 use Rattle.unit_book.specs.Record.{IsRecord, Allows, LeadTo}

@@ -1,13 +1,13 @@
 -- An image that shows a state is refused by no check.
-use Rattle.std.proofs.Common.{◌≡◌, ◌≢◌, ℕ, suc, zero, ◌⊎◌, List, [], ◌∷◌, length, take, Option, Some, None, refl, sym, ◌∙◌, ap, subst, inl, inr}
+use Rattle.std.proofs.Common.{◌≡◌, ℕ, suc, zero, List, [], ◌∷◌, take, Option, Some, None, refl, sym, ◌∙◌, ap, subst, inl, inr}
 use Rattle.std.specs.List.{slice_get}
 use Rattle.std.proofs.lemmas.Option.{none-some}
 use Rattle.sdls_base.specs.declared.change.Change.{Change}
 use Rattle.unit_plan.specs.declared.telecommand.TelecommandPlan.{TelecommandPlan}
-use Rattle.disk_journal.specs.Image.{plan_of, slot_count, records}
+use Rattle.disk_journal.specs.Image.{plan_of, records}
 use Rattle.unit_book.specs.State.{State, initial, applied}
 use Rattle.unit_book.specs.Record.{IsRecord, Allows, LeadTo}
-use Rattle.unit_book.specs.Shows.{HasPlan, Shows, IsBadRecord, ShowsNone}
+use Rattle.unit_book.specs.Shows.{Shows, IsBadRecord, ShowsNone}
 use Rattle.unit_book.proofs.ShownOnce.{plan_once, led_once}
 
 -- a record on the way, in the state before it

@@ -1,9 +1,8 @@
 -- A book that stores an entry.
-use Rattle.std.proofs.Common.{◌≡◌, ℕ, ◌+◌, ◌-◌, ◌^◌, ◌<◌, ◌≤◌, ◌==◌, Bool, true, IsTrue, min, List, [], ◌∷◌, ◌++◌, length, map, refl, sym, ◌∙◌, ap, subst, arith, length-append, None}
+use Rattle.std.proofs.Common.{◌≡◌, ℕ, ◌+◌, ◌<◌, ◌≤◌, ◌==◌, Bool, true, IsTrue, min, List, [], ◌∷◌, ◌++◌, length, refl, sym, ◌∙◌, ap, subst, arith, length-append, None}
 use Rattle.std.specs.Option.{IsSome}
 use Rattle.std.proofs.lemmas.Bool.{eq-eqb}
 use Rattle.sdls_base.specs.KeyId.{end_of}
-use Rattle.sdls_base.specs.declared.change.Change.{Change}
 use Rattle.sdls_base.specs.declared.change.Change.TheVariants.{Marks}
 use Rattle.sdls_base.specs.declared.entry.Entry.{Entry}
 use Rattle.sdls_base.specs.declared.entry.Seen.TheVariants.{Number}
@@ -17,13 +16,13 @@ use Rattle.disk_journal.specs.Changes.{EachImage, Grows}
 use Rattle.unit_book.specs.State.{State, telecommand_state, key_row, floor_of, applied, restarted}
 use Rattle.unit_book.specs.Record.{IsMarks, IsRecord, Allows}
 use Rattle.unit_book.specs.Shows.{Shows}
-use Rattle.unit_book.specs.History.{after, after_first, reserve_of}
-use Rattle.unit_book.specs.Book.{BookView, ShowsFrom, IsHistory, IsCurrent, IsKept}
+use Rattle.unit_book.specs.History.{after}
+use Rattle.unit_book.specs.Book.{BookView, IsHistory, IsKept}
 use Rattle.unit_book.proofs.Bodies.{one_key}
 use Rattle.unit_book.proofs.Faults.{rose_earlier}
 use Rattle.unit_book.proofs.Leading.{allows_marks, applied_marks}
-use Rattle.unit_book.proofs.Showing.{after_more, first_same, first_all, shown_same}
-use Rattle.unit_book.proofs.Histories.{NextEntry, failed_history, stored_history, not_rose_earlier}
+use Rattle.unit_book.proofs.Showing.{after_more, first_same, first_all}
+use Rattle.unit_book.proofs.Histories.{NextEntry, failed_history, stored_history}
 
 -- what is known when a book stores the reserve of a number
 pub record Ready {O : Type 0} (told : Bool) (trace : O → Trace) (faults : O → ℕ) (old : BookView O) (plan : TelecommandPlan)

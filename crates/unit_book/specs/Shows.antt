@@ -1,5 +1,5 @@
 -- The state that an image shows (profile), or the offset that it is refused with.
-use Rattle.std.specs.Prelude.{◌≡◌, ◌≢◌, ℕ, ◌<◌, ◌⊎◌, List, length, take, Some, None}
+use Rattle.std.specs.Prelude.{◌≡◌, ◌≢◌, ℕ, ◌⊎◌, List, take, Some, None}
 use Rattle.std.specs.List.{slice_get}
 use Rattle.sdls_base.specs.declared.change.Change.{Change}
 use Rattle.unit_plan.specs.declared.telecommand.TelecommandPlan.{TelecommandPlan}

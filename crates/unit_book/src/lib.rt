@@ -19,6 +19,3 @@ pub use binding::{Binding, Verdict, verdict_on};
 pub use book::Book;
 pub use fault::{BookFault, OpenFault};
 pub use shielding::shield;
-
-#[cfg(test)]
-mod tests;

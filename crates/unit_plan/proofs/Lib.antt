@@ -3,3 +3,4 @@ pub mod NumberFacts
 pub mod ReadingFacts
 pub mod TelecommandLaws
 pub mod TelecommandPlans
+pub mod ChannelFacts

@@ -1,9 +1,10 @@
 -- The first part of a list, and the others.
-use Rattle.std.proofs.Common.{◌≡◌, ◌≢◌, ℕ, zero, suc, ◌+◌, ◌-◌, ◌<◌, List, [], ◌∷◌, length, take, drop, get_or, refl, ap, Option, Some, None, unwrap_or, arith, eq-eqb}
-use Rattle.std.proofs.lemmas.Bool.{ne_eqb}
+use Rattle.std.proofs.Common.{◌≡◌, ◌≢◌, ℕ, zero, suc, ◌+◌, ◌-◌, ◌<◌, ◌≤◌, List, [], ◌∷◌, length, take, drop, get_or, refl, ap, Option, Some, None, unwrap_or, arith, eq-eqb, inl, inr}
+use Rattle.std.proofs.lemmas.Bool.{ne_eqb, cases_eq}
 use Rattle.std.proofs.lemmas.Grind.{common_steps}
 use Rattle.std.specs.List.{onto_first}
 use denote.Ref.{Bor}
+use Rattle.unit_plan.specs.Field.{items_of, items_left}
 use Rattle.unit_plan.specs.Lines.{parts, lines_of, words_of, words_left, IsCut}
 
 -- with no mark, a list that is not empty is one part, where the empty list after it counts for nothing
@@ -46,6 +47,12 @@ pub first_word : (line word : List ℕ) (after : Option (Bor (List ℕ)))
 first_word line word None cut = rw cut.0 (whole_word 32 line cut.1)
 first_word line word (Some rest) cut = cut ([] ∷ [])
 
+-- a list that is cut at its first comma
+pub first_item : (list item : List ℕ) (after : Option (Bor (List ℕ))) → IsCut 44 list item after
+    → items_of list ≡ item ∷ items_left after
+first_item list item None cut = rw cut.0 (whole_word 44 list cut.1)
+first_item list item (Some rest) cut = cut ([] ∷ [])
+
 -- fewer are left behind the first
 pub fewer_left : {X : Type 0} (all : List X) (x : X) (others : List X) → all ≡ x ∷ others → length others < length all
 fewer_left all x others is = let counted = ap length is in omega arith
@@ -57,3 +64,15 @@ pub first_part_read : (mark : ℕ) (last : List (List ℕ)) (xs : List ℕ) (at 
 first_part_read mark last xs at inside lacks found =
     let whole : take (length xs - (at + 1)) (drop (at + 1) xs) ≡ drop (suc at) xs = grind (arith, common_steps) in
     rw whole (first_part mark last xs at inside lacks found)
+
+-- a text has no more lines than octets
+onto_few : (x n : ℕ) (ps : List (List ℕ)) → length ps ≤ n → length (onto_first x ps) ≤ n + 1
+onto_few x n [] few = omega arith
+onto_few x n (p ∷ ps) few = let one : length ((x ∷ p) ∷ ps) ≡ length ps + 1 = grind arith in let same : length (p ∷ ps) ≡ length ps + 1 = grind arith in omega arith
+
+pub few_parts : (mark : ℕ) (xs : List ℕ) → length (parts mark [] xs) ≤ length xs
+few_parts mark [] = omega arith
+few_parts mark (x ∷ xs) = elim (cases_eq x mark) [
+  | inl is ↦ rw (is, eq-eqb mark mark refl) (let more = few_parts mark xs in grind arith)
+  | inr not ↦ rw (ne_eqb x mark not) (let more = onto_few x (length xs) (parts mark [] xs) (few_parts mark xs) in grind arith)
+]

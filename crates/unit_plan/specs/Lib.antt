@@ -3,3 +3,14 @@ pub mod Number
 pub mod Reading
 pub mod Telecommand
 pub mod TelecommandReading
+pub mod Field
+pub mod LinkLine
+pub mod ChannelLine
+pub mod KeyLine
+pub mod AssociationLine
+pub mod PlanError
+pub mod Channels
+pub mod Kind
+pub mod PlanLines
+pub mod LineForm
+pub mod Plan

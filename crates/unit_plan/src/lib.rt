@@ -5,16 +5,33 @@
 //! [`TelecommandPlan`] is the plan of one telecommand channel protected by CMAC, in nine lines.
 #![tactic(auto)]
 
+mod association_line;
+mod channel_line;
+mod channels;
+mod fields;
+mod key_line;
+mod kind;
 mod lines;
+mod link;
+mod link_line;
 mod number;
+mod plan;
+mod plan_error;
 mod reading;
+mod taking;
 mod telecommand;
 
+pub use channel_line::Place;
 pub use lines::{Lines, Words};
+pub use link::{AnyLayout, Link, Mask};
+pub use plan::{Plan, PlanKey, PlanSa};
+pub use plan_error::{PlanCause, PlanError, PlanFault};
 pub use telecommand::TelecommandPlan;
 
 /// The most octets of a plan.
 pub const MOST_OCTETS: usize = 65_536;
 
+#[cfg(test)]
+mod plan_tests;
 #[cfg(test)]
 mod tests;

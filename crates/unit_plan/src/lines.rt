@@ -1,5 +1,6 @@
 ghost use Rattle.std.specs.Prelude.{◌≡◌, ◌≢◌, ℕ, ◌<◌, ◌≤◌, length, slice_index};
 ghost use Rattle.unit_plan.specs.Lines.{IsCut, lines_of, words_of};
+ghost use Rattle.unit_plan.specs.Field.{items_of};
 
 use std::marker::Model;
 
@@ -106,5 +107,44 @@ impl<'a> Iterator for Words<'a> {
         let (word, rest) = cut(self.rest?, b' ');
         self.rest = rest;
         Some(word)
+    }
+}
+
+/// The items of a list that are left. One comma stands between two items.
+#[derive(Drop)]
+pub(crate) struct Items<'a> {
+    rest: Option<&'a [u8]>,
+}
+
+impl<'a> Model for Items<'a> {
+    ghost use Rattle.std.specs.Prelude.{List, ℕ};
+    ghost use Rattle.unit_plan.specs.Field.{items_left};
+
+    ghost Value = { List (List ℕ) };
+
+    ghost view = { λ list. items_left list.rest };
+}
+
+impl<'a> Items<'a> {
+    pub(crate) fn of(word: &'a [u8]) -> Items<'a>
+        ensures { result ≡ items_of word.now }
+    {
+        Items { rest: Some(word) }
+    }
+}
+
+impl<'a> Iterator for Items<'a> {
+    type Item = &'a [u8];
+
+    ghost use Rattle.std.specs.Iterator.{YieldsFirstBy, item_count};
+
+    ghost next_gives = { YieldsFirstBy (λ item. item.now) (λ list. list) };
+
+    ghost remaining = { item_count (λ list. list) };
+
+    fn next(&mut self) -> Option<&'a [u8]> {
+        let (item, rest) = cut(self.rest?, b',');
+        self.rest = rest;
+        Some(item)
     }
 }

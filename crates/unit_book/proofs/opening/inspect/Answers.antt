@@ -1,4 +1,4 @@
-use Rattle.std.proofs.Common.{◌≡◌, List, ℕ, IsTrue, subst, arith}
+use Rattle.std.proofs.Common.{List, ℕ, IsTrue, subst}
 use Rattle.unit_book.specs.Shows.{ShowsNone}
 use Rattle.unit_book.proofs.Leading.{only_syncs_image}
 use Rattle.unit_book.proofs.Faults.{fault_later}

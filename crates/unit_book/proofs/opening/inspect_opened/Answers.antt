@@ -1,4 +1,4 @@
-use Rattle.std.proofs.Common.{◌≡◌, ◌≤◌, List, ℕ, IsTrue, subst, arith}
+use Rattle.std.proofs.Common.{◌≤◌, IsTrue, subst, arith}
 use Rattle.sdls_outside.specs.Moments.{Trace}
 use Rattle.unit_book.specs.Shows.{ShowsNone}
 use Rattle.unit_book.proofs.Faults.{later_cause}

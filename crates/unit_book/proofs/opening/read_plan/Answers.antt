@@ -1,4 +1,4 @@
-use Rattle.std.proofs.Common.{◌≡◌, List, ℕ, refl, sym, subst, inl, inr}
+use Rattle.std.proofs.Common.{List, ℕ, refl, sym, subst, inl, inr}
 use Rattle.unit_plan.specs.Telecommand.{SaysTelecommand}
 use Rattle.unit_book.proofs.opening.read_plan.Goals as goal
 

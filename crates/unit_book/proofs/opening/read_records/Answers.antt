@@ -1,4 +1,4 @@
-use Rattle.std.proofs.Common.{◌≡◌, ℕ, ◌∙◌, ap, subst, sym, arith}
+use Rattle.std.proofs.Common.{◌∙◌, subst, arith}
 use Rattle.disk_journal.specs.Image.{records}
 use Rattle.sdls_outside.specs.Moments.{Trace}
 use Rattle.unit_book.specs.Opening.{ReadsMarks}

@@ -1,4 +1,4 @@
-use Rattle.std.proofs.Common.{◌∙◌, subst, sym}
+use Rattle.std.proofs.Common.{subst, sym}
 use Rattle.unit_book.specs.Book.{IsKept}
 use Rattle.unit_book.proofs.Beginning.{fresh_kept}
 use Rattle.unit_book.proofs.book.Book.open.Goals as goal

@@ -1,13 +1,12 @@
-use Rattle.std.proofs.Common.{◌≡◌, ℕ, ◌+◌, ◌<◌, List, [], ◌∷◌, ◌++◌, length, map, min, refl, sym, ◌∙◌, ap, subst}
+use Rattle.std.proofs.Common.{◌≡◌, ℕ, ◌+◌, [], ◌∷◌, ◌++◌, length, map, min, refl, sym, ◌∙◌, ap, subst}
 use Rattle.std.specs.Option.{IsSome}
 use Rattle.std.proofs.lemmas.List.{map_push}
 use Rattle.sdls_base.specs.KeyId.{end_of}
 use Rattle.sdls_outside.specs.Faults.{Rose}
-use Rattle.sdls_outside.specs.Moments.{Trace}
 use Rattle.disk_journal.specs.Journal.{JournalView, IsSettled}
 use Rattle.unit_book.specs.State.{key_row, floor_of}
-use Rattle.unit_book.specs.Book.{BookView, IsKept, CanAdd}
-use Rattle.unit_book.proofs.Storing.{Ready, stored, failed, book_of, kept_parts}
+use Rattle.unit_book.specs.Book.{BookView, IsKept}
+use Rattle.unit_book.proofs.Storing.{Ready, stored, failed, kept_parts}
 use Rattle.unit_book.proofs.book.Book.store.Goals as goal
 
 pub returns-in-Ok-clause-kept : goal.returns-in-Ok-clause-kept

@@ -1,0 +1,107 @@
+//! `sa` lines.
+ghost use Rattle.std.specs.Prelude.{◌≡◌, IfOk};
+ghost use Rattle.std.specs.Option.{option_map};
+ghost use Rattle.unit_plan.specs.AssociationLine.{direction_of, suite_of, before_list, association_said, channels_from, are_channels};
+
+use crate::fields::{channels, choice, decimal};
+use crate::lines::Words;
+use crate::reading::ended;
+use sdls_base::{Direction, Octets, Suite};
+use std::alloc::{AllocError, Global};
+
+/// What an `sa` line says before its list.
+#[derive(Clone, Copy)]
+pub(crate) struct BeforeList {
+    pub(crate) spi: u64,
+    pub(crate) direction: Direction,
+    pub(crate) suite: Suite,
+    pub(crate) key: u64,
+    pub(crate) number: u64,
+    pub(crate) window: u64,
+}
+
+/// What an `sa` line says.
+#[derive(Drop)]
+pub(crate) struct AssociationLine {
+    pub(crate) before: BeforeList,
+    pub(crate) channels: Octets,
+}
+
+fn direction_of(sends: bool) -> Direction
+    ensures { result ≡ direction_of sends }
+{
+    if sends {
+        Direction::Send
+    } else {
+        Direction::Receive
+    }
+}
+
+fn suite_of(is_cmac: bool) -> Suite
+    ensures { result ≡ suite_of is_cmac }
+{
+    if is_cmac { Suite::Cmac } else { Suite::Gcm }
+}
+
+/// The words before the list, and the word of the list.
+#[tactic(auto, unfolding(crate::specs::AssociationLine::before_list))]
+fn before_list<'a>(words: &mut Words<'a>) -> Option<(BeforeList, &'a [u8])>
+    ensures { option_map (λ read. (read.0, read.1.now)) result ≡ before_list words.old }
+{
+    let spi = decimal(words)?;
+    let direction = direction_of(choice(words, b"send", b"receive")?);
+    let suite = suite_of(choice(words, b"cmac", b"gcm")?);
+    let key = decimal(words)?;
+    let number = decimal(words)?;
+    let window = decimal(words)?;
+    let list = words.next()?;
+    ended(words)?;
+    let before = BeforeList {
+        spi,
+        direction,
+        suite,
+        key,
+        number,
+        window,
+    };
+    Some((before, list))
+}
+
+#[tactic(auto, unfolding(crate::specs::AssociationLine::association_said))]
+pub(crate) fn association(
+    alloc: Global,
+    words: &mut Words<'_>,
+) -> Result<Option<AssociationLine>, AllocError>
+    ensures { IfOk result (λ read. read ≡ association_said words.old) }
+{
+    let Some((before, list)) = before_list(words) else {
+        return Ok(None);
+    };
+    let Some(numbers) = channels(alloc, list)? else {
+        return Ok(None);
+    };
+    Ok(Some(AssociationLine {
+        before,
+        channels: Octets::new(numbers),
+    }))
+}
+
+fn ascend(numbers: &[u8]) -> bool
+    ensures { result ≡ channels_from 0 numbers.now }
+{
+    let mut least = 0;
+    for number in numbers {
+        if *number < least || *number > 63 {
+            return false;
+        }
+        least = *number + 1;
+    }
+    true
+}
+
+/// Whether these are one to eight channel numbers, ascending.
+pub(crate) fn are_channels(numbers: &[u8]) -> bool
+    ensures { result ≡ are_channels numbers.now }
+{
+    !numbers.is_empty() && numbers.len() <= 8 && ascend(numbers)
+}

@@ -1,0 +1,87 @@
+//! `channel` lines.
+ghost use Rattle.std.specs.Prelude.{◌≡◌};
+ghost use Rattle.unit_plan.specs.ChannelLine.{channel_said, is_same_number, is_same_place, is_map, is_place};
+
+use crate::fields::{octet, optional, short};
+use crate::lines::Words;
+use crate::link::{AnyLayout, Link};
+use crate::reading::ended;
+
+/// Where a channel lies.
+#[derive(Clone, Copy, Debug, PartialEq, Eq)]
+pub struct Place {
+    /// The number of its link.
+    pub link: u8,
+    pub spacecraft: u16,
+    pub channel: u8,
+    /// The multiplexer access point, on a TC link with segment headers.
+    pub map: Option<u8>,
+}
+
+/// The number of a channel, and its place.
+#[tactic(auto, unfolding(crate::specs::ChannelLine::channel_said))]
+pub(crate) fn channel(words: &mut Words<'_>) -> Option<(u8, Place)>
+    ensures { result ≡ channel_said words.old }
+{
+    let number = octet(words)?;
+    let link = octet(words)?;
+    let spacecraft = short(words)?;
+    let channel = octet(words)?;
+    let map = optional(words)?;
+    ended(words)?;
+    Some((
+        number,
+        Place {
+            link,
+            spacecraft,
+            channel,
+            map,
+        },
+    ))
+}
+
+fn is_same_number(a: Option<u8>, b: Option<u8>) -> bool
+    ensures { result ≡ is_same_number a b }
+{
+    match (a, b) {
+        (None, None) => true,
+        (Some(a), Some(b)) => a == b,
+        _ => false,
+    }
+}
+
+pub(crate) fn is_same_place(a: &Place, b: &Place) -> bool
+    ensures { result ≡ is_same_place a.now b.now }
+{
+    a.link == b.link
+        && a.spacecraft == b.spacecraft
+        && a.channel == b.channel
+        && is_same_number(a.map, b.map)
+}
+
+/// Whether an access point is there exactly where the link wants one, and in bounds.
+fn is_map(wanted: bool, map: Option<u8>) -> bool
+    ensures { result ≡ is_map wanted map }
+{
+    match map {
+        Some(map) => wanted && map <= 63,
+        None => !wanted,
+    }
+}
+
+/// Whether the place is one on the link.
+pub(crate) fn is_place(link: &Link, place: &Place) -> bool
+    ensures { result ≡ is_place link.now.layout place.now }
+{
+    match &link.layout {
+        AnyLayout::Tc(layout) => {
+            place.spacecraft <= 1_023 && place.channel <= 63 && is_map(layout.segment, place.map)
+        }
+        AnyLayout::Tm(_) => {
+            place.spacecraft <= 1_023 && place.channel <= 7 && is_map(false, place.map)
+        }
+        AnyLayout::Aos(_) => {
+            place.spacecraft <= 255 && place.channel <= 62 && is_map(false, place.map)
+        }
+    }
+}

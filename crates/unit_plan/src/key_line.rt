@@ -1,0 +1,67 @@
+//! `key` lines.
+ghost use Rattle.std.specs.Prelude.{◌≡◌, IfOk};
+ghost use Rattle.std.specs.Option.{option_map};
+ghost use Rattle.unit_plan.specs.KeyLine.{state_of, key_octets, before_octets, key_said};
+
+use crate::fields::{choice, decimal, decode};
+use crate::lines::Words;
+use crate::reading::ended;
+use sdls_base::{KeyState, Octets};
+use std::alloc::{AllocError, Global};
+
+/// What a `key` line says.
+#[derive(Drop)]
+pub(crate) struct KeyLine {
+    pub(crate) id: u64,
+    pub(crate) state: KeyState,
+    pub(crate) octets: Octets,
+}
+
+fn state_of(is_preactive: bool) -> KeyState
+    ensures { result ≡ state_of is_preactive }
+{
+    if is_preactive {
+        KeyState::PreActive
+    } else {
+        KeyState::Active
+    }
+}
+
+/// The key that 32 or 64 digits spell.
+fn key_octets(alloc: Global, word: &[u8]) -> Result<Option<Octets>, AllocError>
+    ensures { IfOk result (λ read. read ≡ key_octets word.now) }
+{
+    if let Some(octets) = decode::<16>(word) {
+        return Ok(Some(Octets::new(Vec::from_slice(alloc, &octets)?)));
+    }
+    if let Some(octets) = decode::<32>(word) {
+        return Ok(Some(Octets::new(Vec::from_slice(alloc, &octets)?)));
+    }
+    Ok(None)
+}
+
+/// The words before the key, and the word of the key.
+#[tactic(auto, unfolding(crate::specs::KeyLine::before_octets))]
+fn before_octets<'a>(words: &mut Words<'a>) -> Option<(u64, KeyState, &'a [u8])>
+    ensures { option_map (λ read. (read.0, read.1, read.2.now)) result ≡ before_octets words.old }
+{
+    let id = decimal(words)?;
+    let is_preactive = choice(words, b"preactive", b"active")?;
+    let state = state_of(is_preactive);
+    let word = words.next()?;
+    ended(words)?;
+    Some((id, state, word))
+}
+
+#[tactic(auto, unfolding(crate::specs::KeyLine::key_said))]
+pub(crate) fn key(alloc: Global, words: &mut Words<'_>) -> Result<Option<KeyLine>, AllocError>
+    ensures { IfOk result (λ read. read ≡ key_said words.old) }
+{
+    let Some((id, state, word)) = before_octets(words) else {
+        return Ok(None);
+    };
+    let Some(octets) = key_octets(alloc, word)? else {
+        return Ok(None);
+    };
+    Ok(Some(KeyLine { id, state, octets }))
+}

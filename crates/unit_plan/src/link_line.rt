@@ -1,0 +1,160 @@
+//! `link` lines.
+ghost use Rattle.std.specs.Prelude.{◌≡◌, ◌≤◌};
+ghost use Rattle.unit_plan.specs.Reading.{Reads};
+ghost use Rattle.unit_plan.specs.LinkLine.{usual_tc, usual_tm, usual_aos, mask_at, tc_at, tm_at, aos_at, frame_at, link_said, is_link};
+
+use crate::fields::{choice, octet, short};
+use crate::lines::Words;
+use crate::link::{AnyLayout, Link, Mask};
+use crate::reading::ended;
+use sdls_base::{AosLayout, TcLayout, TmLayout};
+
+fn usual_tc(segment: bool) -> Mask
+    ensures { result ≡ usual_tc segment }
+{
+    if segment {
+        Mask {
+            octets: [0xC3, 0xFF, 0xFC, 0, 0, 0xFF],
+            length: 6,
+        }
+    } else {
+        Mask {
+            octets: [0xC3, 0xFF, 0xFC, 0, 0, 0],
+            length: 5,
+        }
+    }
+}
+
+fn usual_tm() -> Mask
+    ensures { result ≡ usual_tm }
+{
+    Mask {
+        octets: [0xFF, 0xFE, 0, 0, 0, 0],
+        length: 6,
+    }
+}
+
+fn usual_aos() -> Mask
+    ensures { result ≡ usual_aos }
+{
+    Mask {
+        octets: [0xFF, 0xFF, 0, 0, 0, 0],
+        length: 6,
+    }
+}
+
+/// Takes a mask as long as the usual one, for which `-` stands.
+#[tactic(auto, unfolding(crate::specs::LinkLine::mask_at))]
+fn mask(words: &mut Words<'_>, usual: Mask) -> Option<Mask>
+    requires { usual.length ≤ 6 }
+    ensures { Reads result (mask_at usual words.old) words.new }
+{
+    let word = words.next()?;
+    if word == b"-".as_slice() {
+        return Some(usual);
+    }
+    let mut octets = [0; 6];
+    match hex::decode_to_slice(word, &mut octets[..usize::from(usual.length)]) {
+        Ok(()) => Some(Mask {
+            octets,
+            length: usual.length,
+        }),
+        Err(_) => None,
+    }
+}
+
+#[tactic(auto, unfolding(crate::specs::LinkLine::tc_at))]
+fn tc(words: &mut Words<'_>) -> Option<Link>
+    ensures { Reads result (tc_at words.old) words.new }
+{
+    let segment = choice(words, b"seg", b"noseg")?;
+    let fecf = choice(words, b"fecf", b"nofecf")?;
+    let mask = mask(words, usual_tc(segment))?;
+    Some(Link {
+        layout: AnyLayout::Tc(TcLayout {
+            segment,
+            fecf,
+            most: 1_024,
+        }),
+        mask,
+    })
+}
+
+#[tactic(auto, unfolding(crate::specs::LinkLine::tm_at))]
+fn tm(words: &mut Words<'_>) -> Option<Link>
+    ensures { Reads result (tm_at words.old) words.new }
+{
+    let length = short(words)?;
+    let fecf = choice(words, b"fecf", b"nofecf")?;
+    let mask = mask(words, usual_tm())?;
+    Some(Link {
+        layout: AnyLayout::Tm(TmLayout { length, fecf }),
+        mask,
+    })
+}
+
+#[tactic(auto, unfolding(crate::specs::LinkLine::aos_at))]
+fn aos(words: &mut Words<'_>) -> Option<Link>
+    ensures { Reads result (aos_at words.old) words.new }
+{
+    let length = short(words)?;
+    let insert = octet(words)?;
+    let ocf = choice(words, b"ocf", b"noocf")?;
+    let fecf = choice(words, b"fecf", b"nofecf")?;
+    let mask = mask(words, usual_aos())?;
+    Some(Link {
+        layout: AnyLayout::Aos(AosLayout {
+            length,
+            insert,
+            ocf,
+            fecf,
+        }),
+        mask,
+    })
+}
+
+#[tactic(auto, unfolding(crate::specs::LinkLine::frame_at))]
+fn frame(words: &mut Words<'_>) -> Option<Link>
+    ensures { Reads result (frame_at words.old) words.new }
+{
+    let kind = words.next()?;
+    if kind == b"tc".as_slice() {
+        return tc(words);
+    }
+    if kind == b"tm".as_slice() {
+        return tm(words);
+    }
+    if kind == b"aos".as_slice() {
+        return aos(words);
+    }
+    None
+}
+
+/// The number of a link, and what its line says of it.
+#[tactic(auto, unfolding(crate::specs::LinkLine::link_said))]
+pub(crate) fn link(words: &mut Words<'_>) -> Option<(u8, Link)>
+    ensures { result ≡ link_said words.old }
+{
+    let number = octet(words)?;
+    let link = frame(words)?;
+    ended(words)?;
+    Some((number, link))
+}
+
+/// Whether number and lengths are within their bounds.
+pub(crate) fn is_link(number: u8, link: &Link) -> bool
+    ensures { result ≡ is_link number link.now }
+{
+    if number > 15 {
+        return false;
+    }
+    match &link.layout {
+        AnyLayout::Tc(_) => true,
+        AnyLayout::Tm(layout) => layout.length >= 48 && layout.length <= 2_048,
+        AnyLayout::Aos(layout) => {
+            layout.insert <= 64
+                && layout.length >= 48 + u16::from(layout.insert)
+                && layout.length <= 2_048
+        }
+    }
+}

@@ -1,0 +1,314 @@
+//! How a plan takes its lines one after the other: the tests of a line, in order, and what it then says.
+ghost use Rattle.std.specs.Prelude.{◌≡◌, ◌≤◌, IfSome};
+ghost use Rattle.unit_plan.specs.Lines.{words_of};
+ghost use Rattle.unit_plan.specs.PlanError.{Gives};
+ghost use Rattle.unit_plan.specs.LineForm.{bounded, channel_id, version_said, device_said, number_said, association_of};
+ghost use Rattle.unit_plan.specs.Plan.{Takes, in_order, is_on_link, version_taken, device_taken, slots_taken, block_taken, accept_taken, link_taken, channel_taken, key_taken, admitted, association_added, association_taken, taken_as, taken, is_skipped, line_taken};
+
+use crate::association_line::{AssociationLine, are_channels, association};
+use crate::channel_line::{Place, channel, is_place};
+use crate::fields::{decimal, decode};
+use crate::key_line::key;
+use crate::kind::{Kind, kind_of};
+use crate::lines::Words;
+use crate::link_line::{is_link, link};
+use crate::plan::{Plan, PlanKey, PlanSa};
+use crate::plan_error::{PlanCause, PlanError, check, refused};
+use crate::reading::{ended, pass};
+use sdls_base::{ChannelId, KeyId, KeyItem, NewSa, Spi};
+use std::alloc::Global;
+
+fn bounded(n: u64, least: u64, most: u64) -> Option<u64>
+    ensures same { result ≡ bounded least most n }
+    ensures within { IfSome result (λ n. (least ≤ n) × (n ≤ most)) }
+{
+    if n < least || most < n {
+        return None;
+    }
+    Some(n)
+}
+
+fn channel_id(n: u8) -> Option<ChannelId>
+    ensures { result ≡ channel_id n }
+{
+    ChannelId::new(n)
+}
+
+fn key_id(n: u64) -> Option<KeyId>
+    ensures { result ≡ bounded 1 65535 n }
+{
+    let n = bounded(n, 1, 65_535)?;
+    KeyId::new(n as u16)
+}
+
+fn spi(n: u64) -> Option<Spi>
+    ensures { result ≡ bounded 1 65534 n }
+{
+    let n = bounded(n, 1, 65_534)?;
+    Spi::new(n as u16)
+}
+
+fn version(words: &mut Words<'_>) -> Option<()>
+    ensures { result ≡ version_said words.old }
+{
+    pass(words, b"1")?;
+    ended(words)
+}
+
+fn device(words: &mut Words<'_>) -> Option<[u8; 4]>
+    ensures { result ≡ device_said words.old }
+{
+    let word = words.next()?;
+    let octets = decode(word)?;
+    ended(words)?;
+    Some(octets)
+}
+
+fn number(words: &mut Words<'_>) -> Option<u64>
+    ensures { result ≡ number_said words.old }
+{
+    let n = decimal(words)?;
+    ended(words)?;
+    Some(n)
+}
+
+/// The association of a line whose numbers and list are within their bounds.
+#[tactic(auto, unfolding(crate::specs::LineForm::association_of))]
+fn association_of(line: u32, said: AssociationLine) -> Option<PlanSa>
+    ensures { result ≡ association_of line said }
+{
+    let before = said.before;
+    let spi = spi(before.spi)?;
+    let key = key_id(before.key)?;
+    let number = bounded(before.number, 0, 1 << 48)?;
+    let window = bounded(before.window, 1, 1 << 32)?;
+    if !are_channels(said.channels.as_slice()) {
+        return None;
+    }
+    Some(PlanSa {
+        line,
+        sa: NewSa {
+            spi,
+            direction: before.direction,
+            suite: before.suite,
+            window,
+            channels: said.channels,
+        },
+        key,
+        number,
+    })
+}
+
+fn is_skipped(line: &[u8]) -> bool
+    ensures { result ≡ is_skipped line.now }
+{
+    line.is_empty() || line[0] == b'#'
+}
+
+impl Plan {
+    fn in_order(&self, line: u32, heads: u8) -> Result<(), PlanError>
+        ensures { Gives result (in_order line self.now heads) }
+    {
+        check(line, PlanCause::Order, self.heads == heads)
+    }
+
+    #[tactic(auto, unfolding(crate::specs::Plan::version_taken))]
+    fn take_version(&mut self, line: u32, words: &mut Words<'_>) -> Result<(), PlanError>
+        ensures { Takes result (version_taken line self.old words.old) self.new }
+    {
+        version(words).ok_or(refused(line, PlanCause::Form))?;
+        self.in_order(line, 0)?;
+        self.heads = 1;
+        Ok(())
+    }
+
+    #[tactic(auto, unfolding(crate::specs::Plan::device_taken))]
+    fn take_device(&mut self, line: u32, words: &mut Words<'_>) -> Result<(), PlanError>
+        ensures { Takes result (device_taken line self.old words.old) self.new }
+    {
+        let device = device(words).ok_or(refused(line, PlanCause::Form))?;
+        self.in_order(line, 1)?;
+        self.heads = 2;
+        self.device = device;
+        Ok(())
+    }
+
+    #[tactic(auto, unfolding(crate::specs::Plan::slots_taken))]
+    fn take_slots(&mut self, line: u32, words: &mut Words<'_>) -> Result<(), PlanError>
+        ensures { Takes result (slots_taken line self.old words.old) self.new }
+    {
+        let n = number(words).ok_or(refused(line, PlanCause::Form))?;
+        self.in_order(line, 2)?;
+        let n = bounded(n, 16, 65_536).ok_or(refused(line, PlanCause::Range))?;
+        self.heads = 3;
+        self.slots = n as u32;
+        Ok(())
+    }
+
+    #[tactic(auto, unfolding(crate::specs::Plan::block_taken))]
+    fn take_block(&mut self, line: u32, words: &mut Words<'_>) -> Result<(), PlanError>
+        ensures { Takes result (block_taken line self.old words.old) self.new }
+    {
+        let n = number(words).ok_or(refused(line, PlanCause::Form))?;
+        self.in_order(line, 3)?;
+        let n = bounded(n, 1, 65_536).ok_or(refused(line, PlanCause::Range))?;
+        self.heads = 4;
+        self.block = n;
+        Ok(())
+    }
+
+    #[tactic(auto, unfolding(crate::specs::Plan::accept_taken))]
+    fn take_accept(&mut self, line: u32, words: &mut Words<'_>) -> Result<(), PlanError>
+        ensures { Takes result (accept_taken line self.old words.old) self.new }
+    {
+        let n = number(words).ok_or(refused(line, PlanCause::Form))?;
+        self.in_order(line, 4)?;
+        let n = bounded(n, 1, 65_536).ok_or(refused(line, PlanCause::Range))?;
+        self.heads = 5;
+        self.accept = n;
+        Ok(())
+    }
+
+    #[tactic(auto, unfolding(crate::specs::Plan::link_taken))]
+    fn take_link(&mut self, line: u32, words: &mut Words<'_>) -> Result<(), PlanError>
+        ensures { Takes result (link_taken line self.old words.old) self.new }
+    {
+        let said = link(words).ok_or(refused(line, PlanCause::Form))?;
+        self.in_order(line, 5)?;
+        check(line, PlanCause::Range, is_link(said.0, &said.1))?;
+        check(line, PlanCause::Twice, !self.has_link(said.0))?;
+        self.links.push(said)?;
+        Ok(())
+    }
+
+    /// Whether the place is one on its link, where that has a line.
+    fn is_on_link(&self, place: &Place) -> bool
+        ensures { result ≡ is_on_link self.now.links place.now }
+    {
+        match self.link(place.link) {
+            Some(link) => is_place(link, place),
+            None => true,
+        }
+    }
+
+    #[tactic(auto, unfolding(crate::specs::Plan::channel_taken))]
+    fn take_channel(&mut self, line: u32, words: &mut Words<'_>) -> Result<(), PlanError>
+        ensures { Takes result (channel_taken line self.old words.old) self.new }
+    {
+        let (n, place) = channel(words).ok_or(refused(line, PlanCause::Form))?;
+        self.in_order(line, 5)?;
+        let id = channel_id(n).ok_or(refused(line, PlanCause::Range))?;
+        check(line, PlanCause::Range, place.link <= 15)?;
+        check(line, PlanCause::Range, self.is_on_link(&place))?;
+        check(line, PlanCause::Twice, !self.channels.has(n))?;
+        check(line, PlanCause::Twice, !self.channels.has_place(&place))?;
+        check(line, PlanCause::Unknown, self.has_link(place.link))?;
+        self.channels.push(id, place)?;
+        Ok(())
+    }
+
+    #[tactic(auto, unfolding(crate::specs::Plan::key_taken))]
+    fn take_key(&mut self, alloc: Global, line: u32, words: &mut Words<'_>) -> Result<(), PlanError>
+        ensures { Takes result (key_taken line self.old words.old) self.new }
+    {
+        let said = key(alloc, words)?.ok_or(refused(line, PlanCause::Form))?;
+        self.in_order(line, 5)?;
+        let id = key_id(said.id).ok_or(refused(line, PlanCause::Range))?;
+        check(line, PlanCause::Twice, !self.has_key(id))?;
+        self.keys.push(PlanKey {
+            line,
+            item: KeyItem {
+                id,
+                bytes: said.octets,
+            },
+            state: said.state,
+        })?;
+        Ok(())
+    }
+
+    /// Refuses an association that has a line already, or names what has none.
+    fn admit(&self, found: &PlanSa) -> Result<(), PlanError>
+        ensures { Gives result (admitted self.now found.now) }
+    {
+        let knows_channels = self.channels.are_known(found.sa.channels.as_slice());
+        check(
+            found.line,
+            PlanCause::Twice,
+            !self.has_association(found.sa.spi),
+        )?;
+        check(found.line, PlanCause::Unknown, self.has_key(found.key))?;
+        check(found.line, PlanCause::Unknown, knows_channels)
+    }
+
+    #[tactic(auto, unfolding(crate::specs::Plan::association_added))]
+    fn add_association(&mut self, found: PlanSa) -> Result<(), PlanError>
+        ensures { Takes result (association_added self.old found) self.new }
+    {
+        self.admit(&found)?;
+        self.associations.push(found)?;
+        Ok(())
+    }
+
+    #[tactic(auto, unfolding(crate::specs::Plan::association_taken))]
+    fn take_association(
+        &mut self,
+        alloc: Global,
+        line: u32,
+        words: &mut Words<'_>,
+    ) -> Result<(), PlanError>
+        ensures { Takes result (association_taken line self.old words.old) self.new }
+    {
+        let said = association(alloc, words)?.ok_or(refused(line, PlanCause::Form))?;
+        self.in_order(line, 5)?;
+        match association_of(line, said) {
+            Some(found) => self.add_association(found),
+            None => Err(refused(line, PlanCause::Range)),
+        }
+    }
+
+    fn take_as(
+        &mut self,
+        alloc: Global,
+        line: u32,
+        kind: Kind,
+        words: &mut Words<'_>,
+    ) -> Result<(), PlanError>
+        ensures { Takes result (taken_as line self.old kind words.old) self.new }
+    {
+        match kind {
+            Kind::Version => self.take_version(line, words),
+            Kind::Device => self.take_device(line, words),
+            Kind::Slots => self.take_slots(line, words),
+            Kind::Block => self.take_block(line, words),
+            Kind::Accept => self.take_accept(line, words),
+            Kind::Link => self.take_link(line, words),
+            Kind::Channel => self.take_channel(line, words),
+            Kind::Key => self.take_key(alloc, line, words),
+            Kind::Association => self.take_association(alloc, line, words),
+        }
+    }
+
+    #[tactic(auto, unfolding(crate::specs::Plan::taken))]
+    fn take(&mut self, alloc: Global, line: u32, words: &mut Words<'_>) -> Result<(), PlanError>
+        ensures { Takes result (taken line self.old words.old) self.new }
+    {
+        let word = words.next().ok_or(refused(line, PlanCause::Form))?;
+        let kind = kind_of(word).ok_or(refused(line, PlanCause::Form))?;
+        self.take_as(alloc, line, kind, words)
+    }
+
+    /// Takes a line, unless it is skipped.
+    pub(crate) fn pass_line(
+        &mut self,
+        alloc: Global,
+        line: u32,
+        text: &[u8],
+    ) -> Result<(), PlanError>
+        ensures { Takes result (line_taken line self.old text.now) self.new }
+    {
+        if is_skipped(text) {
+            return Ok(());
+        }
+        self.take(alloc, line, &mut Words::of(text))
+    }
+}
