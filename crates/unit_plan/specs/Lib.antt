@@ -14,3 +14,4 @@ pub mod Kind
 pub mod PlanLines
 pub mod LineForm
 pub mod Plan
+pub mod PlanRules

@@ -20,13 +20,14 @@ pub record PlanLines : Type 0 where
   pub keys : List PlanKey
   pub associations : List PlanSa
 
+-- before their lines, the numbers are the least
 abbrev pub no_lines : PlanLines
 no_lines = record {
   heads = 0;
   device = 0 ∷ 0 ∷ 0 ∷ 0 ∷ [];
-  slots = 0;
-  block = 0;
-  accept = 0;
+  slots = 16;
+  block = 1;
+  accept = 1;
   links = [];
   channels = [];
   keys = [];

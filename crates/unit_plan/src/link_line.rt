@@ -1,5 +1,5 @@
 //! `link` lines.
-ghost use Rattle.std.specs.Prelude.{◌≡◌, ◌≤◌};
+ghost use Rattle.std.specs.Prelude.{◌≡◌, ◌≤◌, IfSome};
 ghost use Rattle.unit_plan.specs.Reading.{Reads};
 ghost use Rattle.unit_plan.specs.LinkLine.{usual_tc, usual_tm, usual_aos, mask_at, tc_at, tm_at, aos_at, frame_at, link_said, is_link};
 
@@ -47,7 +47,8 @@ fn usual_aos() -> Mask
 #[tactic(auto, unfolding(crate::specs::LinkLine::mask_at))]
 fn mask(words: &mut Words<'_>, usual: Mask) -> Option<Mask>
     requires { usual.length ≤ 6 }
-    ensures { Reads result (mask_at usual words.old) words.new }
+    ensures read { Reads result (mask_at usual words.old) words.new }
+    ensures within { IfSome result (λ mask. mask.length ≤ 6) }
 {
     let word = words.next()?;
     if word == b"-".as_slice() {
@@ -65,7 +66,8 @@ fn mask(words: &mut Words<'_>, usual: Mask) -> Option<Mask>
 
 #[tactic(auto, unfolding(crate::specs::LinkLine::tc_at))]
 fn tc(words: &mut Words<'_>) -> Option<Link>
-    ensures { Reads result (tc_at words.old) words.new }
+    ensures read { Reads result (tc_at words.old) words.new }
+    ensures mask { IfSome result (λ link. link.mask.length ≤ 6) }
 {
     let segment = choice(words, b"seg", b"noseg")?;
     let fecf = choice(words, b"fecf", b"nofecf")?;
@@ -82,7 +84,8 @@ fn tc(words: &mut Words<'_>) -> Option<Link>
 
 #[tactic(auto, unfolding(crate::specs::LinkLine::tm_at))]
 fn tm(words: &mut Words<'_>) -> Option<Link>
-    ensures { Reads result (tm_at words.old) words.new }
+    ensures read { Reads result (tm_at words.old) words.new }
+    ensures mask { IfSome result (λ link. link.mask.length ≤ 6) }
 {
     let length = short(words)?;
     let fecf = choice(words, b"fecf", b"nofecf")?;
@@ -95,7 +98,8 @@ fn tm(words: &mut Words<'_>) -> Option<Link>
 
 #[tactic(auto, unfolding(crate::specs::LinkLine::aos_at))]
 fn aos(words: &mut Words<'_>) -> Option<Link>
-    ensures { Reads result (aos_at words.old) words.new }
+    ensures read { Reads result (aos_at words.old) words.new }
+    ensures mask { IfSome result (λ link. link.mask.length ≤ 6) }
 {
     let length = short(words)?;
     let insert = octet(words)?;
@@ -115,7 +119,8 @@ fn aos(words: &mut Words<'_>) -> Option<Link>
 
 #[tactic(auto, unfolding(crate::specs::LinkLine::frame_at))]
 fn frame(words: &mut Words<'_>) -> Option<Link>
-    ensures { Reads result (frame_at words.old) words.new }
+    ensures read { Reads result (frame_at words.old) words.new }
+    ensures mask { IfSome result (λ link. link.mask.length ≤ 6) }
 {
     let kind = words.next()?;
     if kind == b"tc".as_slice() {
@@ -133,7 +138,8 @@ fn frame(words: &mut Words<'_>) -> Option<Link>
 /// The number of a link, and what its line says of it.
 #[tactic(auto, unfolding(crate::specs::LinkLine::link_said))]
 pub(crate) fn link(words: &mut Words<'_>) -> Option<(u8, Link)>
-    ensures { result ≡ link_said words.old }
+    ensures said { result ≡ link_said words.old }
+    ensures mask { IfSome result (λ said. said.1.mask.length ≤ 6) }
 {
     let number = octet(words)?;
     let link = frame(words)?;

@@ -1,9 +1,10 @@
-ghost use Rattle.std.specs.Prelude.{◌≡◌, ◌≤◌, length, map};
+ghost use Rattle.std.specs.Prelude.{◌≡◌, ◌≤◌, length, map, All, IfSome};
 ghost use Rattle.std.specs.Option.{option_map};
 ghost use Rattle.unit_plan.specs.Lines.{lines_of};
 ghost use Rattle.unit_plan.specs.PlanError.{Gives};
 ghost use Rattle.unit_plan.specs.Channels.{channel_at};
 ghost use Rattle.unit_plan.specs.PlanLines.{no_lines, link_of, has_link, has_key, has_association};
+ghost use Rattle.unit_plan.specs.PlanRules.{IsLink, IsKey, IsAssociation};
 ghost use Rattle.unit_plan.specs.Plan.{plan_of, after};
 
 use crate::MOST_OCTETS;
@@ -54,6 +55,7 @@ pub struct Plan {
 
 impl Model for Plan {
     ghost use Rattle.unit_plan.specs.PlanLines.{PlanLines};
+    ghost use Rattle.unit_plan.specs.PlanRules.{IsPlan};
 
     ghost Value = { PlanLines };
 
@@ -68,6 +70,18 @@ impl Model for Plan {
       keys = plan.keys.items;
       associations = plan.associations.items;
     } };
+
+    ghost invariant = { λ plan. IsPlan (record {
+      heads = plan.heads;
+      device = plan.device;
+      slots = plan.slots;
+      block = plan.block;
+      accept = plan.accept;
+      links = plan.links.items;
+      channels = plan.channels;
+      keys = plan.keys.items;
+      associations = plan.associations.items;
+    }) };
 }
 
 impl Plan {
@@ -77,9 +91,9 @@ impl Plan {
         Plan {
             heads: 0,
             device: [0; 4],
-            slots: 0,
-            block: 0,
-            accept: 0,
+            slots: 16,
+            block: 1,
+            accept: 1,
             links: Vec::new(alloc),
             channels: Channels::new(alloc),
             keys: Vec::new(alloc),
@@ -121,28 +135,32 @@ impl Plan {
 
     /// The slots of the image.
     pub fn slots(&self) -> u32
-        ensures { result ≡ self.now.slots }
+        ensures line { result ≡ self.now.slots }
+        ensures bounds { (16 ≤ result) × (result ≤ 65536) }
     {
         self.slots
     }
 
     /// How many numbers a reserve takes.
     pub fn block(&self) -> u64
-        ensures { result ≡ self.now.block }
+        ensures line { result ≡ self.now.block }
+        ensures bounds { (1 ≤ result) × (result ≤ 65536) }
     {
         self.block
     }
 
     /// After how many accepted numbers a floor is stored.
     pub fn accept(&self) -> u64
-        ensures { result ≡ self.now.accept }
+        ensures line { result ≡ self.now.accept }
+        ensures bounds { (1 ≤ result) × (result ≤ 65536) }
     {
         self.accept
     }
 
     /// What the line of a link says.
     pub fn link(&self, link: u8) -> Option<&Link>
-        ensures { option_map (λ found. found.now) result ≡ link_of self.now.links link }
+        ensures line { option_map (λ found. found.now) result ≡ link_of self.now.links link }
+        ensures bounds { IfSome result (λ found. IsLink found.now) }
     {
         let entry = self.links.iter().find(|entry| entry.0 == link)?;
         Some(&entry.1)
@@ -176,14 +194,16 @@ impl Plan {
 
     /// The keys, in the order of the lines.
     pub fn keys(&self) -> &[PlanKey]
-        ensures { result.now ≡ self.now.keys }
+        ensures lines { result.now ≡ self.now.keys }
+        ensures lengths { All IsKey result.now }
     {
         self.keys.as_slice()
     }
 
     /// The security associations, in the order of the lines.
     pub fn associations(&self) -> &[PlanSa]
-        ensures { result.now ≡ self.now.associations }
+        ensures lines { result.now ≡ self.now.associations }
+        ensures bounds { All IsAssociation result.now }
     {
         self.associations.as_slice()
     }

@@ -1,6 +1,7 @@
 //! How a plan takes its lines one after the other: the tests of a line, in order, and what it then says.
 ghost use Rattle.std.specs.Prelude.{◌≡◌, ◌≤◌, IfSome};
 ghost use Rattle.unit_plan.specs.Lines.{words_of};
+ghost use Rattle.unit_plan.specs.PlanRules.{IsAssociation};
 ghost use Rattle.unit_plan.specs.PlanError.{Gives};
 ghost use Rattle.unit_plan.specs.LineForm.{bounded, channel_id, version_said, device_said, number_said, association_of};
 ghost use Rattle.unit_plan.specs.Plan.{Takes, in_order, is_on_link, version_taken, device_taken, slots_taken, block_taken, accept_taken, link_taken, channel_taken, key_taken, admitted, association_added, association_taken, taken_as, taken, is_skipped, line_taken};
@@ -75,7 +76,8 @@ fn number(words: &mut Words<'_>) -> Option<u64>
 /// The association of a line whose numbers and list are within their bounds.
 #[tactic(auto, unfolding(crate::specs::LineForm::association_of))]
 fn association_of(line: u32, said: AssociationLine) -> Option<PlanSa>
-    ensures { result ≡ association_of line said }
+    ensures said { result ≡ association_of line said }
+    ensures bounds { IfSome result IsAssociation }
 {
     let before = said.before;
     let spi = spi(before.spi)?;
@@ -242,6 +244,7 @@ impl Plan {
 
     #[tactic(auto, unfolding(crate::specs::Plan::association_added))]
     fn add_association(&mut self, found: PlanSa) -> Result<(), PlanError>
+        requires { IsAssociation found }
         ensures { Takes result (association_added self.old found) self.new }
     {
         self.admit(&found)?;
