@@ -25,7 +25,7 @@ pub record IsEnd (entries : List Entry) (answer : Answer) : Type 0 where
   pub position_is : answer.position ≡ length entries
   pub body_is : answer.body ≡ []
 
--- Of these answers, and of End behind them, the octets were sunk, the last answer perhaps cut.
+-- What was sunk is a front of the octets of these answers, and of End where it follows them.
 pub record AreSunk (entries : List Entry) (answers : List Answer) (sunk : List ℕ) : Type 0 where
   pub ends : List Answer
   pub last : (ends ≡ []) ⊎ ((end : Answer) × (ends ≡ end ∷ []) × IsEnd entries end)

@@ -23,6 +23,6 @@ IsInit words = map string_bytes words ≡ codes "init" ∷ []
 abbrev pub IsRun : List (String Global) → Type 0
 IsRun words = map string_bytes words ≡ codes "run" ∷ []
 
--- the words are neither `check KEY` nor `init`
+-- the words are neither `check KEY` nor `init`; they may be `run`
 abbrev pub IsNoCommand : List (String Global) → Type 0
 IsNoCommand words = ((key : List ℕ) → ¬ IsCheck words key) × (¬ IsInit words)

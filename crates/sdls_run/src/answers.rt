@@ -9,7 +9,7 @@ use sdls_base::{Octets, put};
 pub struct Answer {
     pub code: u8,
     pub detail: u8,
-    /// The identifier of the key that was used, or 0.
+    /// The identifier of the key that was used or that had no number left, or 0.
     pub key: u16,
     /// How many entries or epochs of the run the answer has seen.
     pub position: u64,
@@ -40,7 +40,7 @@ mod tests {
     use super::*;
     use std::test::*;
 
-    // The answer to the first frame of the plan of one telecommand channel, by hand from the formats; its body cut short.
+    // An answer with a value in each place, by hand from the formats.
     #[test]
     fn an_answer_begins_so(rt: HostRuntime) -> Result<(), Fail> {
         let body = Octets::new(b"\x00\x2a\x14".to_vec(rt.alloc())?);

@@ -15,7 +15,7 @@ use unit_plan::TelecommandPlan;
 pub enum Verdict {
     /// No such link, or the frame is not in the link's layout of frames in clear.
     Layout(u8),
-    /// A control command frame, which is sent as it stands.
+    /// A control command frame, which has no security.
     Clear,
     /// No channel of the plan has the link and the frame's identifiers.
     Channel,

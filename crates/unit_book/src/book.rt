@@ -27,7 +27,7 @@ use unit_plan::TelecommandPlan;
 
 /// A unit's state, with the journal in which each change of it is stored, and the site that holds both.
 ///
-/// No call on a book takes memory.
+/// No call on an open book takes memory.
 pub struct Book<O: Site> {
     pub(crate) site: O,
     /// The site as it was when the book was opened, and the count of its faults then.
@@ -71,8 +71,8 @@ impl<O: Site> Book<O> {
     /// Opens the image of a site: starts a run on it, reserves the room for the entries, makes all checks of the image, and
     /// brings its journal to rest.
     ///
-    /// It is refused with `Image` and the offset of the first check that fails exactly where the image shows no state;
-    /// nothing is written then. After a fault of the site the image shows what it showed.
+    /// An answer `Image`, with the offset of the first check that fails, says that the image shows no state; nothing is
+    /// written then. Each other refusal is a fault of the site or want of memory.
     pub fn open(alloc: Global, mut site: O) -> Result<Book<O>, (OpenFault, O)>
         ensures kept { IfOk result (IsKept O.told O.trace O.faults) }
         ensures begun { IfOk result (λ book. (book.entries ≡ []) × (book.site ≡ book.opened) × (book.state ≡ book.start)) }

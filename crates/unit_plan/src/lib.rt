@@ -2,6 +2,7 @@
 //! associations.
 //!
 //! A text is its lines, and a line its words: [`Lines`] and [`Words`] walk them without memory.
+//! [`Plan`] is what a whole text says, or there is the first line with a cause: read `specs/Plan.antt` first.
 //! [`TelecommandPlan`] is the plan of one telecommand channel protected by CMAC, in nine lines.
 #![tactic(auto)]
 
