@@ -270,22 +270,17 @@ fn crash_after_the_fourth_answer(rt: HostRuntime) -> Result<(), Fail> {
 fn crash_before_the_gate_is_synced(rt: HostRuntime) -> Result<(), Fail> {
     let alloc = rt.alloc();
     let cases = [
-        (Crash::Kept, 4),
-        (Crash::Lost, 0),
-        (Crash::Filled(0), 0),
-        (Crash::Filled(255), 0),
-        (Crash::Filled(1), 4),
+        (Crash::Kept, &NUMBERS[4..5]),
+        (Crash::Lost, &NUMBERS[..1]),
+        (Crash::Filled(0), &NUMBERS[..1]),
+        (Crash::Filled(255), &NUMBERS[..1]),
+        (Crash::Filled(1), &NUMBERS[4..5]),
     ];
-    for (crash, skipped) in cases {
+    for (crash, numbers) in cases {
         let (status, _, site) = life_of_frames(&rt, alloc, 1, dead_site(alloc, SYNC_OF_THE_GATE)?)?;
         assert_eq!(rt; (status, site.sunk().len()), (SITE_FAULT, 0));
         assert_eq!(rt; site.image().get(66_048), Some(&1));
-        goes_on_with(
-            &rt,
-            alloc,
-            site.crashed(crash),
-            &NUMBERS[skipped..skipped + 1],
-        )?;
+        goes_on_with(&rt, alloc, site.crashed(crash), numbers)?;
     }
     Ok(())
 }
@@ -336,17 +331,12 @@ fn a_fault_of_the_disk_stops_the_book(rt: HostRuntime) -> Result<(), Fail> {
         push_bare(&mut answers, kind, 1, 1)?;
     }
     let image = image_of(alloc, PLAN, 168)?;
-    for (crash, skipped) in [(Crash::Kept, 4), (Crash::Lost, 0)] {
+    for (crash, numbers) in [(Crash::Kept, &NUMBERS[4..5]), (Crash::Lost, &NUMBERS[..1])] {
         let site = failing_site(alloc, &image, SYNC_OF_THE_GATE)?;
         let (status, entries, site) = life_of(&rt, alloc, &[BEGINNING, RECORD, RECORD], site)?;
         assert_eq!(rt; site.sunk(), answers.as_slice());
         assert_eq!(rt; (status, entries), (SITE_FAULT, 1));
-        goes_on_with(
-            &rt,
-            alloc,
-            site.crashed(crash),
-            &NUMBERS[skipped..skipped + 1],
-        )?;
+        goes_on_with(&rt, alloc, site.crashed(crash), numbers)?;
     }
     Ok(())
 }
@@ -440,8 +430,9 @@ fn answers_the_frames_before_a_fault_of_the_source(rt: HostRuntime) -> Result<()
         );
         let (status, _, site) = life(&rt, alloc, &mut source, site)?;
         let frames = frames_within(call);
+        let numbers = NUMBERS.get(..frames).ok_or("more frames than numbers")?;
         let position = if frames == 0 { 0 } else { 1 };
-        let answers = whole(alloc, &NUMBERS[..frames], SOURCE_FAULT, position, 1)?;
+        let answers = whole(alloc, numbers, SOURCE_FAULT, position, 1)?;
         assert_eq!(rt; site.sunk(), answers.as_slice(), "at call {call}");
         assert_eq!(rt; status, SOURCE_FAULT, "at call {call}");
     }
