@@ -4,7 +4,7 @@ use Rattle.sdls_base.specs.declared.layout.AosLayout.{AosLayout}
 use Rattle.sdls_base.specs.declared.layout.FrameFault.{FrameFault}
 use Rattle.sdls_base.specs.declared.layout.FrameFault.TheVariants.{Short, Long, Version, Spare, Fecf}
 use Rattle.sdls_base.specs.ErrorControl.{fails_error_control}
-use Rattle.sdls_base.specs.FrameFault.{Check, first_failing}
+use Rattle.sdls_base.specs.FirstFailing.{Check, first_failing}
 
 -- the first two bits
 abbrev pub version_of : List ℕ → ℕ
@@ -14,7 +14,7 @@ version_of frame = slice_index frame 0 / 64
 abbrev pub spare_of : List ℕ → ℕ
 spare_of frame = slice_index frame 5 / 16 % 4
 
-abbrev pub checks : AosLayout → List ℕ → List Check
+abbrev pub checks : AosLayout → List ℕ → List (Check FrameFault)
 checks layout frame =
     (nat_lt (length frame) layout.length, Short)
     ∷ (nat_lt layout.length (length frame), Long)

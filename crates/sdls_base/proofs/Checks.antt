@@ -3,20 +3,19 @@ use Rattle.std.proofs.Common.{◌≡◌, ℕ, Bool, true, false, refl, sym, eq-e
 use Rattle.std.proofs.lemmas.Bool.Decides.{nat_tests}
 use Rattle.std.proofs.Common.{arith}
 use Rattle.std.specs.Prelude.{Option, Some, None, not, ◌==◌, if◌then◌else◌}
-use Rattle.sdls_base.specs.declared.layout.FrameFault.{FrameFault}
 
 -- no fault is found where this check does not fail and no later one does
-pub passes : (fails : Bool) (fault : FrameFault) (later : Option FrameFault) → fails ≡ false → later ≡ None → (if fails then Some fault else later) ≡ None
+pub passes : {A : Type 0} (fails : Bool) (fault : A) (later : Option A) → fails ≡ false → later ≡ None → (if fails then Some fault else later) ≡ None
 passes true fault later e f = absurd (cc)
 passes false fault later e f = f
 
 -- where no fault is found, this check does not fail
-pub passed : (fails : Bool) (fault : FrameFault) (later : Option FrameFault) → (if fails then Some fault else later) ≡ None → fails ≡ false
+pub passed : {A : Type 0} (fails : Bool) (fault : A) (later : Option A) → (if fails then Some fault else later) ≡ None → fails ≡ false
 passed true fault later e = absurd (cc)
 passed false fault later e = refl
 
 -- and no later one does
-pub passed_later : (fails : Bool) (fault : FrameFault) (later : Option FrameFault) → (if fails then Some fault else later) ≡ None → later ≡ None
+pub passed_later : {A : Type 0} (fails : Bool) (fault : A) (later : Option A) → (if fails then Some fault else later) ≡ None → later ≡ None
 passed_later true fault later e = absurd (cc)
 passed_later false fault later e = e
 

@@ -2,5 +2,8 @@ pub mod KeyId
 pub mod Suite
 pub mod ErrorControl
 pub mod Fields
-pub mod FrameFault
+pub mod FirstFailing
 pub mod ControlField
+pub mod Link
+pub mod Bounds
+pub mod Numbers

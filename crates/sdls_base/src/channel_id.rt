@@ -33,7 +33,8 @@ impl ChannelId {
     }
 
     pub fn get(&self) -> u8
-        ensures { result ≡ self.now }
+        ensures number { result ≡ self.now }
+        ensures bounds { result ≤ 63 }
     {
         self.number
     }

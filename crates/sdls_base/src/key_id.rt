@@ -1,4 +1,4 @@
-ghost use Rattle.std.specs.Prelude.{◌≡◌, ◌≢◌};
+ghost use Rattle.std.specs.Prelude.{◌≡◌, ◌≢◌, ◌<◌};
 ghost use Rattle.std.specs.Option.{SomeIff};
 ghost use Rattle.sdls_base.specs.KeyId.{class_of, end_of};
 
@@ -44,7 +44,8 @@ impl KeyId {
     }
 
     pub fn get(&self) -> u16
-        ensures { result ≡ self.now }
+        ensures number { result ≡ self.now }
+        ensures bounds { 0 < result }
     {
         self.number
     }

@@ -1,19 +1,28 @@
+use thiserror::Error;
+
 /// Why octets are no frame of a layout: the first check that fails. `as u8` gives its number in the formats.
-#[derive(Clone, Copy, Debug, PartialEq, Eq)]
+#[derive(Clone, Copy, Debug, PartialEq, Eq, Error)]
 pub enum FrameFault {
     /// Too few octets.
+    #[error("frame has too few octets")]
     Short = 1,
     /// Too many octets.
+    #[error("frame has too many octets")]
     Long = 2,
     /// The TC length field is not the number of octets minus 1.
+    #[error("length field is not the number of octets minus 1")]
     LengthField = 3,
     /// The transfer frame version number is not the frame kind's.
+    #[error("version number is another kind's")]
     Version = 4,
     /// A spare bit is set.
+    #[error("spare bit is set")]
     Spare = 5,
     /// The TM secondary header has another version, or no room.
+    #[error("secondary header has another version, or no room")]
     SecondaryHeader = 6,
     /// The frame error control field is not the remainder.
+    #[error("frame error control field is not the remainder")]
     Fecf = 7,
 }
 

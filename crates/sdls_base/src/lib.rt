@@ -7,11 +7,13 @@
 
 mod change;
 mod channel_id;
+mod comparing;
 mod entry;
 mod error_control;
 mod key_id;
 mod key_item;
 mod layout;
+mod link;
 mod lists;
 mod no_memory;
 mod ocf;
@@ -22,11 +24,13 @@ mod writing;
 
 pub use change::{Change, NewSa};
 pub use channel_id::ChannelId;
+pub use comparing::same_octets;
 pub use entry::{Entry, Logged, Seen};
 pub use error_control::fecf;
 pub use key_id::{KeyClass, KeyId};
 pub use key_item::KeyItem;
 pub use layout::{AosLayout, FrameFault, TcLayout, TmLayout};
+pub use link::{AnyLayout, Link, Mask};
 pub use lists::{ChannelList, KeyItems, KeyList, KeyRows};
 pub use no_memory::NoMemory;
 pub use ocf::cut_ocf;
@@ -40,6 +44,12 @@ pub const MOST_KEYS: usize = 512;
 
 /// The most security associations that a unit has at one time (profile).
 pub const MOST_ASSOCIATIONS: usize = 64;
+
+/// The most channels that a security association covers (profile). The least is 1.
+pub const MOST_CHANNELS: usize = 8;
+
+/// The widest anti-replay window (profile). The narrowest is 1.
+pub const MOST_WINDOW: u64 = 1 << 32;
 
 #[cfg(test)]
 mod tests;

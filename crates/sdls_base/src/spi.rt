@@ -1,4 +1,4 @@
-ghost use Rattle.std.specs.Prelude.{◌≡◌, ◌≢◌};
+ghost use Rattle.std.specs.Prelude.{◌≡◌, ◌≢◌, ◌<◌};
 ghost use Rattle.std.specs.Option.{SomeIff};
 
 use std::marker::Model;
@@ -32,7 +32,8 @@ impl Spi {
     }
 
     pub fn get(&self) -> u16
-        ensures { result ≡ self.now }
+        ensures number { result ≡ self.now }
+        ensures bounds { (0 < result) × (result < 65535) }
     {
         self.number
     }

@@ -72,3 +72,23 @@ fn numbers_of_the_formats(rt: HostRuntime) {
     assert_eq!(rt; Suite::Gcm as u8, 2);
     assert_eq!(rt; FrameFault::Fecf as u8, 7);
 }
+
+#[test]
+fn octets_that_differ_at_one_place(rt: HostRuntime) {
+    assert!(rt; same_octets(&[], &[]));
+    assert!(rt; same_octets(b"0123456789abcdef", b"0123456789abcdef"));
+    assert!(rt; !same_octets(b"0123456789abcdef", b"1123456789abcdef"));
+    assert!(rt; !same_octets(b"0123456789abcdef", b"0123456789abcdeg"));
+    assert!(rt; !same_octets(b"0123456789abcdef", b"0123456789abcde"));
+}
+
+#[test]
+fn faults_as_texts(rt: HostRuntime) -> Result<(), Fail> {
+    let alloc = rt.alloc();
+    assert_eq!(rt;
+        format!(in alloc; "{}", FrameFault::Spare)?.as_str(),
+        "spare bit is set"
+    );
+    assert_eq!(rt; format!(in alloc; "{NoMemory}")?.as_str(), "no memory");
+    Ok(())
+}

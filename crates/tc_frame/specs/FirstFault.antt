@@ -4,7 +4,7 @@ use Rattle.sdls_base.specs.declared.layout.TcLayout.{TcLayout}
 use Rattle.sdls_base.specs.declared.layout.FrameFault.{FrameFault}
 use Rattle.sdls_base.specs.declared.layout.FrameFault.TheVariants.{Short, Long, LengthField, Version, Spare, Fecf}
 use Rattle.sdls_base.specs.ErrorControl.{error_control_length, fails_error_control}
-use Rattle.sdls_base.specs.FrameFault.{Check, first_failing}
+use Rattle.sdls_base.specs.FirstFailing.{Check, first_failing}
 use Rattle.tc_frame.specs.TcFrame.{has_segment}
 
 -- bit 3
@@ -31,7 +31,7 @@ version_of frame = slice_index frame 0 / 64
 abbrev pub spare_of : List ℕ → ℕ
 spare_of frame = slice_index frame 0 / 4 % 4
 
-abbrev pub checks : TcLayout → List ℕ → List Check
+abbrev pub checks : TcLayout → List ℕ → List (Check FrameFault)
 checks layout frame =
     (nat_lt (length frame) 5 || nat_lt (length frame) (least layout frame), Short)
     ∷ (nat_lt layout.most (length frame), Long)

@@ -5,7 +5,7 @@ use Rattle.sdls_base.specs.declared.layout.FrameFault.{FrameFault}
 use Rattle.sdls_base.specs.declared.layout.FrameFault.TheVariants.{Short, Long, Version, SecondaryHeader, Fecf}
 use Rattle.sdls_base.specs.ControlField.{ocf_length}
 use Rattle.sdls_base.specs.ErrorControl.{error_control_length, fails_error_control}
-use Rattle.sdls_base.specs.FrameFault.{Check, first_failing}
+use Rattle.sdls_base.specs.FirstFailing.{Check, first_failing}
 use Rattle.tm_frame.specs.TmFrame.{has_secondary}
 
 -- the first two bits
@@ -30,7 +30,7 @@ fails_secondary layout frame =
     has_secondary (status_of frame)
     && (not (slice_index frame 6 / 64 == 0) || nat_lt (data_length layout frame) (slice_index frame 6 % 64 + 1))
 
-abbrev pub checks : TmLayout → List ℕ → List Check
+abbrev pub checks : TmLayout → List ℕ → List (Check FrameFault)
 checks layout frame =
     (nat_lt (length frame) layout.length, Short)
     ∷ (nat_lt layout.length (length frame), Long)
