@@ -16,9 +16,9 @@ use Rattle.counter_table.specs.Numbers.{times, count_of, amount, top, no_numbers
 use Rattle.counter_table.specs.Turn.{stands, no_turn}
 use Rattle.counter_table.specs.Rule.{total, greatest, one_if, once_below, next_at, KnowsBook, IsAtHome, IsKept}
 use Rattle.counter_table.specs.Play.{IsCovered}
-use Rattle.counter_table.specs.Whole.{RowStands, IsWhole}
-use Rattle.counter_table.proofs.Sums.{total_two, total_only, greatest_least}
-use Rattle.counter_table.proofs.Rows.{once_below_more}
+use Rattle.counter_table.specs.Whole.{RowStands, IsWhole, Look}
+use Rattle.counter_table.proofs.Sums.{total_at, total_two, total_only, greatest_least}
+use Rattle.counter_table.proofs.Rows.{once_below_more, once_below_one}
 use Rattle.counter_table.proofs.Knowing.{append-nil}
 use Rattle.counter_table.proofs.Booking.{is_zero, home_free}
 use Rattle.counter_table.proofs.Keeping.{numbers_of, turns_of, at_numbers, at_turn}
@@ -41,6 +41,15 @@ module _ {B : Type 0} (told : B → Known) (count : ℕ) (s : State (Option B) V
   -- what was spent is below the marks
   pub covers : IsCovered count v.numbers kept.book
   covers row x b = le_trans (((kept.numbers.rows row b).each id v.numbers mine).spent x) (once_below_more x _ _ (kept.turn.limits row b))
+
+  -- no place was made twice
+  pub made_once : (place : ℕ) → stands place v.turn.made ≤ 1
+  made_once place =
+      let t = total_at (λ (u : Turn). stands place u.made) (turns_of s.views) id v.turn its_turn in
+      let m = kept.turn.made place in let o = once_below_one place (length kept.book.log) in omega arith
+
+  pub look : Look v.turn
+  look = record { made = made_once; book = kept.book; known = knows.earlier; one = knows.one; other = knows.other; opening = λ f. (knows.opening f).1 }
 
   module _ (all : v.numbers.shares ≡ 1024) where
     -- with all shares, each other worker ended

@@ -13,7 +13,7 @@ use Rattle.counter_table.specs.Known.{mark_of, Earlier, KeepsMarks, MayGive, May
 use Rattle.counter_table.specs.Turn.{places, stands, no_turn, beginner, merged, taking, giving, filling, learning, seeing, turning}
 use Rattle.counter_table.specs.Rule.{total, one_if, once_below, limit_at, KnowsBook, IsAtHome, IsUnfilled, IsOut, TurnFits}
 use Rattle.counter_table.proofs.Sums.{at_below, total-append, total_set, total_at, total_two, total_only, each_set, each_snoc, each_apart, zero_of}
-use Rattle.counter_table.proofs.Knowing.{earlier_itself, earlier_further, earlier_length, earlier_later, longer_length, stands-append, places_next, places_low, ended_knows, beginner_knows}
+use Rattle.counter_table.proofs.Knowing.{earlier_itself, earlier_further, earlier_length, earlier_first, earlier_later, longer_length, stands-append, places_next, places_low, ended_knows, beginner_knows}
 
 none_below : (p : ℕ) → once_below p 0 ≡ 0
 none_below p = grind (arith, nat_tests)
@@ -93,7 +93,7 @@ module _ {B : Type 0} (told : B → Known) (count : ℕ) (words : List ℕ) (hom
           made = λ p. let m = total_set (λ u. stands p u.made) turns id v w at in let o = fits.made p in omega arith;
           known = λ f. let m = total_set (λ u. one_if u.filled) turns id v w at in let o = fits.known f in omega arith;
           each = each_set (KnowsBook book filled) turns id w
-              (let k = fits.each id v at in record { earlier = k.earlier; epoch = let e = fits.epoch in omega arith; opening = k.opening; blank = k.blank; made = k.made }) fits.each;
+              (let k = fits.each id v at in record { earlier = k.earlier; epoch = let e = fits.epoch in omega arith; opening = k.opening; blank = k.blank; made = k.made; one = k.one; other = k.other }) fits.each;
         }
 
     pub take_fits : (words' : List ℕ) (b : B) → get_or words' 0 0 ≡ 2 → get_or words' 1 0 ≡ get_or words 1 0
@@ -126,6 +126,8 @@ module _ {B : Type 0} (told : B → Known) (count : ℕ) (words : List ℕ) (hom
                 opening = λ f. (home.filled, ap (λ z. z.opening) is);
                 blank = λ e. absurd (false≢true (sym e ∙ full));
                 made = λ p h. let a = k.made p h in let l = earlier_length v.known book k.earlier in let same : length (told b).log ≡ length book.log = ap (λ z. length z.log) is in omega arith;
+                one = k.one;
+                other = k.other;
               } fits.each;
         }
 
@@ -170,6 +172,8 @@ module _ {B : Type 0} (told : B → Known) (count : ℕ) (words : List ℕ) (hom
                     let a = stands-append p v.made (places (length v.known.log) (length (told b).log - length v.known.log)) in
                     given p (stands p v.made) (stands p (places (length v.known.log) (length (told b).log - length v.known.log))) (omega arith)
                     (λ s. let l = k.made p s in omega arith) (λ s. let l = places_low p (length v.known.log) (length (told b).log - length v.known.log) s in omega arith);
+                one = earlier_further v.one book (told b) k.one may'.earlier may'.opening;
+                other = earlier_further v.other book (told b) k.other may'.earlier may'.opening;
               }
               (λ j u e. let old = fits.each j u e in
               record {
@@ -178,6 +182,8 @@ module _ {B : Type 0} (told : B → Known) (count : ℕ) (words : List ℕ) (hom
                 opening = λ f. ((old.opening f).0, (old.opening f).1 ∙ sym may'.opening);
                 blank = old.blank;
                 made = old.made;
+                one = earlier_further u.one book (told b) old.one may'.earlier may'.opening;
+                other = earlier_further u.other book (told b) old.other may'.earlier may'.opening;
               });
         }
       where
@@ -224,6 +230,8 @@ module _ {B : Type 0} (told : B → Known) (count : ℕ) (words : List ℕ) (hom
                 opening = k.opening;
                 blank = λ e. absurd (false≢true (sym e ∙ full));
                 made = k.made;
+                one = record { log = k.one.log; changes = k.one.changes; faults = k.one.faults; stopped = k.one.stopped };
+                other = record { log = k.other.log; changes = k.other.changes; faults = k.other.faults; stopped = k.other.stopped };
               }
               (λ j u e. let old = fits.each j u e in
               record {
@@ -232,6 +240,8 @@ module _ {B : Type 0} (told : B → Known) (count : ℕ) (words : List ℕ) (hom
                 opening = old.opening;
                 blank = old.blank;
                 made = old.made;
+                one = record { log = old.one.log; changes = old.one.changes; faults = old.one.faults; stopped = old.one.stopped };
+                other = record { log = old.other.log; changes = old.other.changes; faults = old.other.faults; stopped = old.other.stopped };
               });
         }
 
@@ -269,6 +279,8 @@ module _ {B : Type 0} (told : B → Known) (count : ℕ) (words : List ℕ) (hom
                 opening = k.opening;
                 blank = λ e. absurd (false≢true (sym e ∙ full));
                 made = k.made;
+                one = record { log = k.one.log; changes = let c = k.one.changes in omega arith; faults = k.one.faults; stopped = k.one.stopped };
+                other = record { log = k.other.log; changes = let c = k.other.changes in omega arith; faults = k.other.faults; stopped = k.other.stopped };
               }
               (λ j u e. let old = fits.each j u e in
               record {
@@ -277,6 +289,8 @@ module _ {B : Type 0} (told : B → Known) (count : ℕ) (words : List ℕ) (hom
                 opening = old.opening;
                 blank = old.blank;
                 made = old.made;
+                one = record { log = old.one.log; changes = let c = old.one.changes in omega arith; faults = old.one.faults; stopped = old.one.stopped };
+                other = record { log = old.other.log; changes = let c = old.other.changes in omega arith; faults = old.other.faults; stopped = old.other.stopped };
               });
         }
 
@@ -324,7 +338,7 @@ module _ {B : Type 0} (told : B → Known) (count : ℕ) (words : List ℕ) (hom
             made = λ p. let m = total_set (λ u. stands p u.made) turns id v w at in let o = fits.made p in omega arith;
             known = λ f. let m = total_set (λ u. one_if u.filled) turns id v w at in let o = fits.known f in omega arith;
             each = each_set (KnowsBook book filled) turns id w
-                record { earlier = k.earlier; epoch = k.epoch; opening = k.opening; blank = k.blank; made = k.made } fits.each;
+                record { earlier = k.earlier; epoch = k.epoch; opening = k.opening; blank = k.blank; made = k.made; one = k.one; other = k.other } fits.each;
           }
 
       pub fill_fits : (words' : List ℕ) (b : B) → get_or words' 0 0 ≡ 0 → get_or words' 1 0 ≡ get_or words 1 0
@@ -364,6 +378,8 @@ module _ {B : Type 0} (told : B → Known) (count : ℕ) (words : List ℕ) (hom
                       let a = stands-append p v.made (places 0 (length (told b).log)) in
                       let none_yet : stands p v.made ≡ 0 = nothing_made p in
                       let l = places_low p 0 (length (told b).log) (omega arith) in omega arith;
+                  one = earlier_first v.one (told b) (subst (Earlier v.one) none k.one);
+                  other = earlier_first v.other (told b) (subst (Earlier v.other) none k.other);
                 }
                 (λ j u e n. subst (KnowsBook (told b) true) (sym (alone j u e n)) (ended_knows (told b) true));
           }
@@ -458,6 +474,8 @@ module _ {B : Type 0} (told : B → Known) (count : ℕ) (words : List ℕ) (hom
           opening = opening_both v.holds v.filled w.filled refl refl refl;
           blank = blank_both v.holds v.filled w.filled refl refl;
           made = made_both;
+          one = (fits.each id v at).earlier;
+          other = (fits.each other w there).earlier;
         }
 
     none_left : (f g : Bool) (t total' : ℕ) → total' + one_if f + one_if g ≡ t + one_if (f || g) → one_if f + one_if g ≤ t → 0 < t → 0 < total'

@@ -21,7 +21,7 @@ use Rattle.counter_table.specs.Play.{no_view, takes, IsCovered, gives, empties, 
 use Rattle.counter_table.proofs.Fitting.{limit_apart, limit_set, drawn_once, lift_fits as numbers_lift}
 use Rattle.counter_table.proofs.Sharing.{cut_fits, met_fits}
 use Rattle.counter_table.proofs.Booking.{home_free, word_taken, holder_knows, see_fits, take_fits, give_fits, lift_fits, turn_fits, empty_fits, fill_fits, free_of, beginner_fits, united_fits}
-use Rattle.counter_table.proofs.Alone.{covers, alone, is_whole}
+use Rattle.counter_table.proofs.Alone.{covers, alone, is_whole, look}
 use Rattle.counter_table.proofs.Keeping.{numbers_of, turns_of, words_fit, at_numbers, at_turn, both_parts}
 
 map-snoc : {A C : Type 0} (f : A → C) (l : List A) (a : A) → map f (l ++ a ∷ []) ≡ map f l ++ f a ∷ []
@@ -266,7 +266,7 @@ module _ {B : Type 0} (told : B → Known) (count : ℕ) where
           keeps,
           tt,
           (let P : List ℕ → List View → Type 0 = λ x y. IsKept told count record { words = x; homes = s.homes; views = y } in subst (λ x. P x (set s.views id v)) (sym same) (subst (P s.words) (sym views) kept)),
-          (refl, (λ row x b. once_each s id v at kept row b x), (λ all. is_whole told count s id v at kept all)),
+          (refl, (λ row x b. once_each s id v at kept row b x), (λ all. is_whole told count s id v at kept all), look told count s id v at kept),
         )
 
   pub splits_keep : (id : ℕ) (v : View) → 1 < v.numbers.shares

@@ -60,6 +60,46 @@ earlier_further a b c ab bc same =
 pub earlier_length : (a b : Known) → Earlier a b → length a.log ≤ length b.log
 earlier_length a b e = let h : length b.log ≡ length (a.log ++ e.log.0) = ap length e.log.1 in let l = length-append a.log e.log.0 in omega arith
 
+no_rest : (xs r : List Logged) → [] ≡ xs ++ r → xs ≡ []
+no_rest [] r e = refl
+no_rest (x ∷ xs) r e = cc
+
+-- what is of an earlier time than nothing is of an earlier time than any book
+pub earlier_first : (a k : Known) → Earlier a unknown → Earlier a k
+earlier_first a k h =
+    let empty : a.log ≡ [] = no_rest a.log h.log.0 h.log.1 in
+    let c = h.changes in let f = h.faults in
+    record {
+      log = (k.log, ap (λ (l : List Logged). l ++ k.log) (sym empty));
+      changes = omega arith;
+      faults = omega arith;
+      stopped = λ r. absurd (⊎_elim (λ x. omega arith) (λ x. omega arith) r);
+    }
+
+-- of two earlier times the one that knows less is the earlier
+pub earlier_between : (a b k : Known) → Earlier a k → Earlier b k → b.opening ≡ k.opening → length a.log ≤ length b.log
+    → a.changes ≤ b.changes → a.faults ≤ b.faults → Earlier a b
+earlier_between a b k ak bk same shorter fewer less =
+    record {
+      log = prefix a.log b.log ak.log.0 bk.log.0 (sym ak.log.1 ∙ bk.log.1) shorter;
+      changes = fewer;
+      faults = less;
+      stopped = λ r.
+          let o : b.opening.faults ≡ k.opening.faults = ap (λ (z : Opening). z.faults) same in
+          let r' : HasRisen k.opening.faults a.faults = subst (λ (z : ℕ). HasRisen z a.faults) o r in
+          let e = ak.stopped r' in
+          let low = entries_shorter a.log b.log ak.log.0 bk.log.0 (sym ak.log.1 ∙ bk.log.1) shorter in
+          let whole : entries k.log ≡ entries b.log + entries bk.log.0 = ap entries bk.log.1 ∙ entries-append b.log bk.log.0 in omega arith;
+    }
+  where
+    prefix : (xs ys r s : List Logged) → xs ++ r ≡ ys ++ s → length xs ≤ length ys → (rest : List Logged) × (ys ≡ xs ++ rest)
+    prefix [] ys r s e h = (ys, refl)
+    prefix (x ∷ xs) [] r s e h = absurd (omega arith)
+    prefix (x ∷ xs) (y ∷ ys) r s e h =
+        let head : y ≡ x = cc in let tail : xs ++ r ≡ ys ++ s = cc in
+        let (rest, is) = prefix xs ys r s tail (omega arith) in
+        (rest, ap (λ (z : Logged). z ∷ ys) head ∙ ap (λ (l : List Logged). x ∷ l) is)
+
 -- what two workers know together is of an earlier time too
 pub earlier_later : (o : Opening) (a b k : Known) → Earlier a k → Earlier b k → Earlier (later o a b) k
 earlier_later o a b k ak bk = go (ltb (length a.log) (length b.log)) refl
@@ -112,11 +152,11 @@ places_low p from count h = let e = places_next p from count in lemma (stands p 
 -- a worker that ended
 pub ended_knows : (book : Known) (filled : Bool) → KnowsBook book filled no_turn
 ended_knows book filled =
-    record { earlier = earlier_unknown book; epoch = omega arith; opening = λ e. absurd (false≢true e); blank = λ e. refl; made = λ p h. absurd (omega arith) }
+    record { earlier = earlier_unknown book; epoch = omega arith; opening = λ e. absurd (false≢true e); blank = λ e. refl; made = λ p h. absurd (omega arith); one = earlier_unknown book; other = earlier_unknown book }
   where
     false≢true : false ≡ true → ⊥
     false≢true e = cc
 
 -- a worker that was split off
 pub beginner_knows : (book : Known) (filled : Bool) (v : Turn) → KnowsBook book filled v → KnowsBook book filled (beginner v)
-beginner_knows book filled v k = record { earlier = k.earlier; epoch = k.epoch; opening = k.opening; blank = k.blank; made = λ p h. absurd (omega arith) }
+beginner_knows book filled v k = record { earlier = k.earlier; epoch = k.epoch; opening = k.opening; blank = k.blank; made = λ p h. absurd (omega arith); one = earlier_unknown book; other = earlier_unknown book }

@@ -10,3 +10,4 @@ pub mod Rows
 pub mod Sharing
 pub mod Slots
 pub mod Sums
+mod Meeting

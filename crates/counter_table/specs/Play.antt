@@ -8,7 +8,7 @@ use Rattle.counter_table.specs.declared.view.View.{View}
 use Rattle.counter_table.specs.Known.{Earlier, mark_of}
 use Rattle.counter_table.specs.Numbers.{times, top, arming, drawing, peeking, raising, lifting, first_numbers, no_numbers}
 use Rattle.counter_table.specs.Rule.{once_below}
-use Rattle.counter_table.specs.Whole.{IsWhole}
+use Rattle.counter_table.specs.Whole.{IsWhole, Look}
 use Rattle.counter_table.specs.Turn.{epoch_seen, taking, giving, filling, learning, seeing, turning, no_turn}
 
 abbrev pub first_view : View
@@ -52,6 +52,7 @@ module _ {S : Type 0} where
   looks count m n w =
       (w ≡ m) × ((row x : ℕ) → row < count → times row x m.0.numbers.drawn ≤ 1)
       × (m.0.numbers.shares ≡ 1024 → IsWhole count m.0)
+      × Look m.0.turn
 
 -- the book that was found follows what was known of it
 pub record Follows (v : Turn) (book : Known) : Type 0 where

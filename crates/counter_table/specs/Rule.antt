@@ -78,6 +78,8 @@ pub record KnowsBook (book : Known) (filled : Bool) (v : Turn) : Type 0 where
   pub opening : v.filled ≡ true → (filled ≡ true) × (v.known.opening ≡ book.opening)
   pub blank : v.filled ≡ false → v.known ≡ unknown
   pub made : (place : ℕ) → 0 < stands place v.made → place < length v.known.log
+  pub one : Earlier v.one book
+  pub other : Earlier v.other book
 
 module _ {B : Type 0} (told : B → Known) where
   -- where the book is

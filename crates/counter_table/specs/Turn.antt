@@ -19,7 +19,7 @@ abbrev pub epoch_seen : Turn → ℕ
 epoch_seen v = max v.epoch v.known.changes
 
 abbrev pub no_turn : Turn
-no_turn = record { holds = false; filled = false; turns = 0; epoch = 0; known = unknown; made = [] }
+no_turn = record { holds = false; filled = false; turns = 0; epoch = 0; known = unknown; made = []; one = unknown; other = unknown }
 
 -- after the first book was filled in
 abbrev pub filling : Known → Turn → Turn
@@ -58,6 +58,8 @@ merged v w =
       turns = v.turns + w.turns;
       epoch = max v.epoch w.epoch;
       made = v.made ++ w.made;
+      one = v.known;
+      other = w.known;
       known = if v.holds then v.known else later (if v.filled then v.known.opening else w.known.opening) v.known w.known;
     }
 

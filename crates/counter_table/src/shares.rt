@@ -8,7 +8,7 @@ ghost use Rattle.counter_table.specs.Turn.{beginner, merged};
 ghost use Rattle.counter_table.specs.Rule.{next_at};
 ghost use Rattle.counter_table.specs.Play.{first_view};
 ghost use Rattle.counter_table.specs.Close.{Closes};
-ghost use Rattle.counter_table.specs.Whole.{IsWhole};
+ghost use Rattle.counter_table.specs.Whole.{IsWhole, Look, Meet};
 ghost use Rattle.counter_table.specs.Worker.{view, rows_of, IsOf, IsSame};
 
 use crate::counters::{Counters, Worker};
@@ -69,6 +69,10 @@ impl<B: Counted> Counters<B> {
         ensures apart { (row x : ℕ) → row < rows_of self.now
             → times row x (view worker.old).numbers.drawn + times row x (view other).numbers.drawn ≤ 1 }
 
+        // What both knew is of an earlier time, and no place was made twice.
+        ensures meet { (view worker.old).turn.holds ≡ false → (view worker.old).turn.filled ≡ true
+            → Meet (view worker.old).turn (view other).turn }
+
         // Who has all shares did all.
         ensures whole { (view worker.new).numbers.shares ≡ 1024 → IsWhole (rows_of self.now) (view worker.new) }
     {
@@ -104,6 +108,7 @@ impl<B: Counted> Counters<B> {
         ensures view { view worker.new ≡ view worker.old }
         ensures apart { (row x : ℕ) → row < rows → times row x (view worker.old).numbers.drawn ≤ 1 }
         ensures whole { (view worker.old).numbers.shares ≡ 1024 → IsWhole rows (view worker.old) }
+        ensures look { Look (view worker.old).turn }
     {
         let _rows = rows;
         self.table.shared.load::<Looks<T>>(&mut worker.seat, 1);

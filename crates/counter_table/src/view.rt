@@ -62,6 +62,9 @@ pub struct Turn {
     pub known: Known,
     /// The places of the log that it made.
     pub made: LinkedList<u64>,
+    /// What the two workers knew that became this one last.
+    pub one: Known,
+    pub other: Known,
 }
 
 /// What a worker knows.

@@ -1,6 +1,8 @@
 use Rattle.std.proofs.Common.{rules, ℕ, List, ◌≡◌, ◌≤◌, ◌++◌, ◌∙◌, ap, arith, subst}
 use Rattle.counter_table.specs.Numbers.{times}
 use Rattle.counter_table.proofs.Sums.{times-append}
+use Rattle.counter_table.specs.Turn.{merged}
+use Rattle.counter_table.proofs.Meeting.{meets}
 use Rattle.counter_table.proofs.Slots.{no_slots}
 use Rattle.counter_table.proofs.Holding.{joins_keep}
 use Rattle.counter_table.proofs.counters.Counters.join.Goals as goal
@@ -19,3 +21,10 @@ returns-clause-apart g c row x below =
     ap (λ m. m.0.numbers.drawn) c.join_seat.ensures.2 ∙ ap (λ s. mine ++ s.me.0.numbers.drawn) c.into_seat-seat.ensures in
     let once : times row x (mine ++ its) ≤ 1 = subst (λ (z : List (ℕ × ℕ)). times row x z ≤ 1) drawn (c.look.ensures.apart row x below) in
     omega (arith, times-append row x mine its)
+
+pub returns-clause-meet : goal.returns-clause-meet
+returns-clause-meet g c free filled =
+    let mine = c.args.worker.now.seat.me.0.turn in
+    let is : c.join_seat.new.seat.me.0.turn ≡ merged mine c.args.other.seat.me.0.turn =
+    ap (λ m. m.0.turn) c.join_seat.ensures.2 ∙ ap (λ s. merged mine s.me.0.turn) c.into_seat-seat.ensures in
+    meets mine c.args.other.seat.me.0.turn c.join_seat.new.seat.me.0.turn is free filled c.look.ensures.look
