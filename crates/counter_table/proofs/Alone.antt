@@ -12,9 +12,10 @@ use Rattle.counter_table.specs.declared.view.Known.{Known}
 use Rattle.counter_table.specs.declared.view.Numbers.{Numbers}
 use Rattle.counter_table.specs.declared.view.Turn.{Turn}
 use Rattle.counter_table.specs.declared.view.View.{View}
-use Rattle.counter_table.specs.Numbers.{times, count_of, amount, top, no_numbers}
+use Rattle.sdls_base.specs.Numbers.{one_if, times, total, once_below}
+use Rattle.counter_table.specs.Numbers.{count_of, amount, top, no_numbers}
 use Rattle.counter_table.specs.Turn.{stands, no_turn}
-use Rattle.counter_table.specs.Rule.{total, greatest, one_if, once_below, next_at, KnowsBook, IsAtHome, IsKept}
+use Rattle.counter_table.specs.Rule.{greatest, next_at, KnowsBook, IsAtHome, IsKept}
 use Rattle.counter_table.specs.Play.{IsCovered}
 use Rattle.counter_table.specs.Whole.{RowStands, IsWhole, Look}
 use Rattle.counter_table.proofs.Sums.{total_at, total_two, total_only, greatest_least}

@@ -11,7 +11,8 @@ use Rattle.counter_table.specs.declared.view.Known.{Known}
 use Rattle.counter_table.specs.declared.view.Turn.{Turn}
 use Rattle.counter_table.specs.Known.{mark_of, Earlier, KeepsMarks, MayGive, MayFill, unknown, later}
 use Rattle.counter_table.specs.Turn.{places, stands, no_turn, beginner, merged, taking, giving, filling, learning, seeing, turning}
-use Rattle.counter_table.specs.Rule.{total, one_if, once_below, limit_at, KnowsBook, IsAtHome, IsUnfilled, IsOut, TurnFits}
+use Rattle.sdls_base.specs.Numbers.{one_if, total, once_below}
+use Rattle.counter_table.specs.Rule.{limit_at, KnowsBook, IsAtHome, IsUnfilled, IsOut, TurnFits}
 use Rattle.counter_table.proofs.Sums.{at_below, total-append, total_set, total_at, total_two, total_only, each_set, each_snoc, each_apart, zero_of}
 use Rattle.counter_table.proofs.Knowing.{earlier_itself, earlier_further, earlier_length, earlier_first, earlier_later, longer_length, stands-append, places_next, places_low, ended_knows, beginner_knows}
 

@@ -12,7 +12,8 @@ use Rattle.counter_table.specs.declared.view.View.{View}
 use Rattle.counter_table.specs.Known.{unknown}
 use Rattle.counter_table.specs.Numbers.{first_numbers}
 use Rattle.counter_table.specs.Turn.{no_turn}
-use Rattle.counter_table.specs.Rule.{total, greatest, one_if, once_below, next_at, limit_at, SeatFits, RowFits, IsSane, NumbersFit, TurnFits, IsKept, IsAtHome}
+use Rattle.sdls_base.specs.Numbers.{once_below}
+use Rattle.counter_table.specs.Rule.{greatest, next_at, limit_at, SeatFits, RowFits, IsSane, NumbersFit, TurnFits, IsKept, IsAtHome}
 use Rattle.counter_table.specs.Play.{first_view}
 use Rattle.counter_table.specs.Close.{Closes}
 use Rattle.counter_table.proofs.Sums.{each_snoc}

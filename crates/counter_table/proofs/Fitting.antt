@@ -7,8 +7,9 @@ use lib.ListN.{get_elem?}
 use Rattle.atomic_table.proofs.Lists.{at_set}
 use borrow.Author.Tests.{ltb-true}
 use Rattle.counter_table.specs.declared.view.Numbers.{Numbers}
-use Rattle.counter_table.specs.Numbers.{times, is_armed, no_numbers, arming, drawing, spending, returning, peeking, raising, lifting}
-use Rattle.counter_table.specs.Rule.{total, most, next_at, limit_at, SeatFits, RowFits, IsSane, NumbersFit}
+use Rattle.sdls_base.specs.Numbers.{times, total}
+use Rattle.counter_table.specs.Numbers.{is_armed, no_numbers, arming, drawing, spending, returning, peeking, raising, lifting}
+use Rattle.counter_table.specs.Rule.{most, next_at, limit_at, SeatFits, RowFits, IsSane, NumbersFit}
 use Rattle.counter_table.proofs.Sums.{total_set, total_at, total_less}
 use Rattle.counter_table.proofs.Rows.{Moves, Quiet, quiet_moves, row_step, once_below_one}
 use Rattle.counter_table.proofs.Moving.{arm_moves, draw_moves, raise_moves, lift_moves, return_moves, spend_moves, spend_sane, arm_quiet, draw_quiet, raise_quiet, lift_quiet, spend_quiet, return_quiet, arm_sane, raise_sane, lift_sane, return_sane, draw_sane}

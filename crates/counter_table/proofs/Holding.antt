@@ -65,7 +65,7 @@ module _ {B : Type 0} (told : B → Known) (count : ℕ) where
     turn_at = at_turn told count s id v v at kept
 
     -- the row's part for a worker
-    pub once_each : (row : ℕ) → row < count → (x : ℕ) → Rattle.counter_table.specs.Numbers.times row x v.numbers.drawn ≤ 1
+    pub once_each : (row : ℕ) → row < count → (x : ℕ) → Rattle.sdls_base.specs.Numbers.times row x v.numbers.drawn ≤ 1
     once_each row b x = drawn_once count s.words s.words (numbers_of s.views) id v.numbers v.numbers row (at_numbers told count s id v v at kept) kept.numbers b x
 
   first_set : (words : List ℕ) (size : length words ≡ 16 * count + 16) (n : ℕ) → get_or (set words 0 n) 0 0 ≡ n

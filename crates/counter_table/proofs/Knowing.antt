@@ -7,7 +7,8 @@ use Rattle.counter_table.specs.declared.view.Known.{Known}
 use Rattle.counter_table.specs.declared.view.Turn.{Turn}
 use Rattle.counter_table.specs.Known.{entries, is_entry, HasRisen, Earlier, unknown, longer, later}
 use Rattle.counter_table.specs.Turn.{places, stands, no_turn, beginner}
-use Rattle.counter_table.specs.Rule.{once_below, KnowsBook}
+use Rattle.sdls_base.specs.Numbers.{once_below}
+use Rattle.counter_table.specs.Rule.{KnowsBook}
 
 pub append-nil : (xs : List Logged) → xs ++ [] ≡ xs
 append-nil [] = refl

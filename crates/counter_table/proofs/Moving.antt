@@ -2,8 +2,9 @@
 use Rattle.std.proofs.Common.{◌≡◌, ◌≢◌, ◌⊎◌, ℕ, ◌+◌, ◌-◌, ◌<◌, ◌≤◌, max, eqb, ltb, nat_lt, true, false, cond, ◌&&◌, List, [], ◌∷◌, ◌++◌, sym, refl, ap, ◌∙◌, subst, inl, inr, ⊎_elim, le_trans, arith, eq-eqb, ne_eqb, Some, None, ◌==◌, if◌then◌else◌}
 use Rattle.std.proofs.lemmas.Bool.Decides.{nat_tests}
 use Rattle.counter_table.specs.declared.view.Numbers.{Numbers}
-use Rattle.counter_table.specs.Numbers.{times, top, is_armed, is_last, arming, drawing, spending, returning, raising, lifting}
-use Rattle.counter_table.specs.Rule.{once_below, SeatFits, IsSane}
+use Rattle.sdls_base.specs.Numbers.{times, once_below}
+use Rattle.counter_table.specs.Numbers.{top, is_armed, is_last, arming, drawing, spending, returning, raising, lifting}
+use Rattle.counter_table.specs.Rule.{SeatFits, IsSane}
 use Rattle.counter_table.proofs.Sums.{times-append, top-append, times_here, count_of_here, amount_here, top_here, times_else, count_of_else, amount_else, top_else}
 use Rattle.counter_table.proofs.Rows.{once_below_more, Moves, Quiet}
 

@@ -7,8 +7,9 @@ use native.Mathlib.Decide.{ℕ_discrete}
 use lib.ListN.{get_elem?}
 use Rattle.atomic_table.proofs.Lists.{at_set, set_here, set_else}
 use Rattle.counter_table.specs.declared.view.Numbers.{Numbers}
-use Rattle.counter_table.specs.Numbers.{times, count_of, amount, top, is_armed}
-use Rattle.counter_table.specs.Rule.{total, greatest, once_below, most, SeatFits, RowFits}
+use Rattle.sdls_base.specs.Numbers.{times, total, once_below}
+use Rattle.counter_table.specs.Numbers.{count_of, amount, top, is_armed}
+use Rattle.counter_table.specs.Rule.{greatest, most, SeatFits, RowFits}
 use Rattle.counter_table.proofs.Sums.{at_below, total_set, total_at, greatest_at, greatest_least}
 
 pub once_below_one : (x n : ℕ) → once_below x n ≤ 1

@@ -6,8 +6,9 @@ use native.Mathlib.Decide.{ℕ_discrete}
 use lib.ListN.{get_elem?}
 use Rattle.atomic_table.proofs.Lists.{at_set, at_snoc, at_longer, set_here, set_else}
 use Rattle.counter_table.specs.declared.view.Numbers.{Numbers}
-use Rattle.counter_table.specs.Numbers.{times, count_of, amount, top, is_armed, no_numbers, keeper, newcomer, joined}
-use Rattle.counter_table.specs.Rule.{total, greatest, once_below, SeatFits, RowFits, IsSane, NumbersFit}
+use Rattle.sdls_base.specs.Numbers.{times, total, once_below}
+use Rattle.counter_table.specs.Numbers.{count_of, amount, top, is_armed, no_numbers, keeper, newcomer, joined}
+use Rattle.counter_table.specs.Rule.{greatest, SeatFits, RowFits, IsSane, NumbersFit}
 use Rattle.counter_table.proofs.Sums.{at_below, total-append, total_set, total_two, greatest_at, greatest_least, times-append, count_of-append, amount-append, top-append}
 use Rattle.counter_table.proofs.Rows.{once_below_one}
 

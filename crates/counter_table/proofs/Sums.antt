@@ -3,8 +3,9 @@ use Rattle.std.proofs.Common.{◌≡◌, ◌≢◌, ℕ, zero, suc, ◌+◌, ◌
 use mathlib.Core.Option.{some, some-injective, some-ne-none}
 use lib.ListN.{get_elem?}
 use Rattle.atomic_table.proofs.Lists.{at_set, at_snoc}
-use Rattle.counter_table.specs.Numbers.{times, count_of, amount, top}
-use Rattle.counter_table.specs.Rule.{total, greatest}
+use Rattle.sdls_base.specs.Numbers.{times, total}
+use Rattle.counter_table.specs.Numbers.{count_of, amount, top}
+use Rattle.counter_table.specs.Rule.{greatest}
 
 pub at_below : {V : Type 0} (xs : List V) (i : ℕ) (v : V) → get_elem? xs i ≡ some v → i < length xs
 at_below [] i v e = absurd (some-ne-none v (sym e))

@@ -3,7 +3,7 @@ use Rattle.std.specs.Prelude.{◌≡◌, ℕ, ◌<◌, List, length, slice_index
 use Rattle.counter_table.specs.declared.view.Known.{Known}
 use Rattle.counter_table.specs.declared.view.View.{View}
 use Rattle.counter_table.specs.Turn.{stands}
-use Rattle.counter_table.specs.Rule.{once_below}
+use Rattle.sdls_base.specs.Numbers.{once_below}
 use Rattle.counter_table.specs.Play.{Follows, IsCovered}
 use Rattle.counter_table.specs.Whole.{RowStands}
 

@@ -2,11 +2,6 @@
 use Rattle.std.specs.Prelude.{ℕ, ◌+◌, ◌-◌, ◌==◌, ◌&&◌, max, false, true, nat_lt, List, [], ◌∷◌, ◌++◌, Option, Some, None, if◌then◌else◌}
 use Rattle.counter_table.specs.declared.view.Numbers.{Numbers}
 
--- how often the number x of the row stands in the list
-abbrev pub times : ℕ → ℕ → List (ℕ × ℕ) → ℕ
-times row x [] = 0
-times row x (p ∷ ps) = (if (p.0 == row) && (p.1 == x) then 1 else 0) + times row x ps
-
 -- how many pairs are of the row
 abbrev pub count_of : ℕ → List (ℕ × ℕ) → ℕ
 count_of row [] = 0

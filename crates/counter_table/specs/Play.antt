@@ -6,8 +6,8 @@ use Rattle.counter_table.specs.declared.view.Numbers.{Numbers}
 use Rattle.counter_table.specs.declared.view.Turn.{Turn}
 use Rattle.counter_table.specs.declared.view.View.{View}
 use Rattle.counter_table.specs.Known.{Earlier, mark_of}
-use Rattle.counter_table.specs.Numbers.{times, top, arming, drawing, peeking, raising, lifting, first_numbers, no_numbers}
-use Rattle.counter_table.specs.Rule.{once_below}
+use Rattle.sdls_base.specs.Numbers.{times, once_below}
+use Rattle.counter_table.specs.Numbers.{top, arming, drawing, peeking, raising, lifting, first_numbers, no_numbers}
 use Rattle.counter_table.specs.Whole.{IsWhole, Look}
 use Rattle.counter_table.specs.Turn.{epoch_seen, taking, giving, filling, learning, seeing, turning, no_turn}
 

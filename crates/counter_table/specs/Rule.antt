@@ -1,6 +1,6 @@
 -- Profile: the rule of the counters, which holds between any two steps of any workers.
 -- The words are the turn (0 free, 2 taken), the epoch, and from word 16 on 16 words for each row, of which the first is `next` and the second `limit`.
-use Rattle.std.specs.Prelude.{◌≡◌, ◌⊎◌, ℕ, ◌+◌, ◌*◌, ◌<◌, ◌≤◌, max, nat_lt, Bool, true, false, List, [], ◌∷◌, length, map, slice_index, Some, None, Option, if◌then◌else◌}
+use Rattle.std.specs.Prelude.{◌≡◌, ◌⊎◌, ℕ, ◌+◌, ◌*◌, ◌<◌, ◌≤◌, max, Bool, true, false, List, [], ◌∷◌, length, map, slice_index, Some, None, Option}
 use mathlib.Core.Option as slot
 use lib.ListN.{get_elem?}
 use Rattle.atomic_table.specs.Table.{State}
@@ -9,24 +9,14 @@ use Rattle.counter_table.specs.declared.view.Numbers.{Numbers}
 use Rattle.counter_table.specs.declared.view.Turn.{Turn}
 use Rattle.counter_table.specs.declared.view.View.{View}
 use Rattle.counter_table.specs.Known.{mark_of, Earlier, unknown}
-use Rattle.counter_table.specs.Numbers.{times, count_of, amount, top, is_armed, is_last, no_numbers}
+use Rattle.sdls_base.specs.Numbers.{one_if, times, total, once_below}
+use Rattle.counter_table.specs.Numbers.{count_of, amount, top, is_armed, is_last, no_numbers}
 use Rattle.counter_table.specs.Turn.{stands, no_turn}
 
--- a sum over all workers, and a greatest
-abbrev pub total : {V : Type 0} → (V → ℕ) → List V → ℕ
-total f [] = 0
-total f (v ∷ vs) = f v + total f vs
-
+-- the greatest over all workers
 abbrev pub greatest : {V : Type 0} → (V → ℕ) → List V → ℕ
 greatest f [] = 0
 greatest f (v ∷ vs) = max (f v) (greatest f vs)
-
--- 1 for each number below n, else 0
-abbrev pub once_below : ℕ → ℕ → ℕ
-once_below x n = if nat_lt x n then 1 else 0
-
-abbrev pub one_if : Bool → ℕ
-one_if b = if b then 1 else 0
 
 abbrev pub next_at : ℕ → ℕ
 next_at row = 16 * row + 16

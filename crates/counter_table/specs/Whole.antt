@@ -2,9 +2,9 @@
 use Rattle.std.specs.Prelude.{◌≡◌, ◌⊎◌, ℕ, ◌+◌, ◌<◌, ◌≤◌, max, length}
 use Rattle.counter_table.specs.declared.view.Numbers.{Numbers}
 use Rattle.counter_table.specs.declared.view.View.{View}
-use Rattle.counter_table.specs.Numbers.{times, count_of, amount, top}
+use Rattle.sdls_base.specs.Numbers.{times, once_below}
+use Rattle.counter_table.specs.Numbers.{count_of, amount, top}
 use Rattle.counter_table.specs.Turn.{stands}
-use Rattle.counter_table.specs.Rule.{once_below}
 use Rattle.counter_table.specs.declared.view.Known.{Known}
 use Rattle.counter_table.specs.declared.view.Turn.{Turn}
 use Rattle.counter_table.specs.Known.{Earlier}

@@ -3,7 +3,8 @@ ghost use Rattle.std.specs.Prelude.{◌≡◌, ◌+◌, ◌*◌, ◌<◌, ◌≤
 ghost use mathlib.Core.Option.{some};
 ghost use lib.ListN.{get_elem?};
 ghost use Rattle.std.specs.Mem.Slots.{slots_items, slots_len, IsFull};
-ghost use Rattle.counter_table.specs.Numbers.{joined, keeper, newcomer, times};
+ghost use Rattle.sdls_base.specs.Numbers.{times};
+ghost use Rattle.counter_table.specs.Numbers.{joined, keeper, newcomer};
 ghost use Rattle.counter_table.specs.Turn.{beginner, merged};
 ghost use Rattle.counter_table.specs.Rule.{next_at};
 ghost use Rattle.counter_table.specs.Play.{first_view};

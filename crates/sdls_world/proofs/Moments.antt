@@ -1,12 +1,13 @@
 -- Each step keeps what holds of the pure core.
-use Rattle.std.proofs.Common.{◌≡◌, ◌≢◌, ℕ, ◌+◌, ◌<◌, ◌≤◌, max, eqb, ltb, leb, length, true, false, Bool, ◌&&◌, List, [], ◌∷◌, ◌++◌, map, set, length-set, get_or, take, Result, Ok, Err, OnOk, OnErr, zero, suc, sym, refl, ap, ◌∙◌, subst, ⊎_elim, le_trans, arith, Some, None, Option, slice_get, if◌then◌else◌, nat_lt}
+use Rattle.std.proofs.Common.{◌≡◌, ◌≢◌, ℕ, ◌+◌, ◌<◌, ◌≤◌, max, eqb, ltb, leb, length, true, false, Bool, ◌&&◌, List, [], ◌∷◌, ◌++◌, map, set, length-set, get_or, take, Result, Ok, Err, OnOk, OnErr, zero, suc, sym, refl, ap, ◌∙◌, subst, ⊎_elim, le_trans, arith, Some, None, Option, slice_get, if◌then◌else◌, nat_lt, ◌==◌}
 use Rattle.std.proofs.lemmas.Bool.Decides.{nat_tests}
 use Rattle.sdls_base.specs.KeyId.{end_of}
 use Rattle.sdls_world.specs.declared.key.Key.{Key}
 use Rattle.sdls_world.specs.declared.step.Step.{Step}
 use Rattle.sdls_world.specs.declared.step.Step.TheVariants.{Arm, Draw, Peek, Spend, See, Take, Give, Write, Sync, Lift, RaiseNext, Turn, Crash}
 use Rattle.sdls_world.specs.Core.{Doer, idle, Core, key_of, doer_of, on_found, holds_turn, drawing, funding, spending, arm_found, arm_step, draw_at, draw_step, peek_at, peek_step, spend_step, take_step, write_step, lift_step, raise_step, synced, restarted, after, after_all, begun, beginning}
-use Rattle.sdls_world.specs.Kept.{one_if, times, total, once_below, is_last, unused, KeyKept, DoerKept, IsKept}
+use Rattle.sdls_base.specs.Numbers.{one_if, times, total, once_below}
+use Rattle.sdls_world.specs.Kept.{is_last, unused, KeyKept, DoerKept, IsKept}
 use Rattle.sdls_world.proofs.Places.{get_set, get_snoc, get_map, total_set, total_at, total-snoc, found_at, times-append, once_below_one, once_below_more, once_below_last, once_below_yes, is_pair, same_pair, some_same, length-mapped}
 
 false≢true : false ≡ true → ⊥
@@ -101,14 +102,14 @@ draw_keeps w i row a k at k_at kept =
           (λ o. kept.actors j b o.1) (get_set w.actors i j a' b e);
     }
   where
-    next_one : (row x n : ℕ) → one_if row x (row, n) + once_below x n ≤ once_below x (n + 1)
+    next_one : (row x n : ℕ) → one_if ((row == row) && (n == x)) + once_below x n ≤ once_below x (n + 1)
     next_one row x n = ⊎_elim (λ y. let l = once_below_last x n y.1 in let z = y.2 in omega arith) (λ z. let m = once_below_more x n (n + 1) (omega arith) in omega arith) (is_pair row x (row, n))
 
-    other_row : (row q x n o : ℕ) → row ≢ q → one_if q x (row, n) + o ≤ o
+    other_row : (row q x n o : ℕ) → row ≢ q → one_if ((row == q) && (n == x)) + o ≤ o
     other_row row q x n o apart = ⊎_elim (λ y. absurd (apart y.0)) (λ z. omega arith) (is_pair q x (row, n))
 
     key_drawn : (w : Core) (i row : ℕ) (a : Doer) (k : Key) → slice_get w.actors i ≡ Some a → IsKept w → (q : ℕ) (c c' : Key) → KeyKept q c w → c'.limit ≡ c.limit → c'.durable ≡ c.durable → c'.mark ≡ c.mark
-        → ((x : ℕ) → one_if q x (row, k.next) + once_below x c.next ≤ once_below x c'.next)
+        → ((x : ℕ) → one_if ((row == q) && (k.next == x)) + once_below x c.next ≤ once_below x c'.next)
         → KeyKept q c' record w { keys = set w.keys row (record k { next = k.next + 1 }); actors = set w.actors i (drawing row k.next a) }
     key_drawn w i row a k at kept q c c' old same_limit same_durable same_mark more =
         let sane = kept.actors i a at in
@@ -155,7 +156,7 @@ spend_keeps : (w : Core) (i : ℕ) (a : Doer) (p : ℕ × ℕ) → slice_get w.a
 spend_keeps w i a p at last is_funded kept =
     let sane = kept.actors i a at in
     let a' = spending p a in
-    let is : (q x : ℕ) → is_last q x a.last ≡ one_if q x p = λ q x. ap (is_last q x) last in
+    let is : (q x : ℕ) → is_last q x a.last ≡ one_if ((p.0 == q) && (p.1 == x)) = λ q x. ap (is_last q x) last in
     record {
       keys = λ q c c_at. let old = kept.keys q c c_at in
           record {

@@ -1,10 +1,10 @@
 -- Lists by place, sums over them, and lists of pairs.
-use Rattle.std.proofs.Common.{◌≡◌, ◌≢◌, ◌⊎◌, ℕ, zero, suc, ◌+◌, ◌<◌, ◌≤◌, eqb, true, false, Bool, ◌&&◌, List, [], ◌∷◌, ◌++◌, map, set, length, get_or, get_or-set_same, get_or-set_other, sym, refl, ap, ◌∙◌, subst, inl, inr, ⊎_elim, arith, Some, None, Option, slice_get, if◌then◌else◌, eq-eqb}
+use Rattle.std.proofs.Common.{◌≡◌, ◌≢◌, ◌⊎◌, ℕ, zero, suc, ◌+◌, ◌<◌, ◌≤◌, eqb, true, false, Bool, ◌&&◌, List, [], ◌∷◌, ◌++◌, map, set, length, get_or, get_or-set_same, get_or-set_other, sym, refl, ap, ◌∙◌, subst, inl, inr, ⊎_elim, arith, Some, None, Option, slice_get, if◌then◌else◌, eq-eqb, ◌==◌}
 use Rattle.std.proofs.lemmas.Bool.Decides.{nat_tests}
 use mathlib.Core.Logic.{dite}
 use native.Mathlib.Decide.{ℕ_discrete}
 use Rattle.sdls_world.specs.Core.{find_place, further}
-use Rattle.sdls_world.specs.Kept.{one_if, times, total, once_below}
+use Rattle.sdls_base.specs.Numbers.{one_if, times, total, once_below}
 
 pub some_same : {A : Type 0} {a b : A} → Some a ≡ Some b → a ≡ b
 some_same e = cc
@@ -79,7 +79,7 @@ eqb-eq : (m n : ℕ) → eqb m n ≡ true → m ≡ n
 eqb-eq m n e = grind (arith, nat_tests)
 
 -- the pair is x of the row, or it is not
-pub is_pair : (row x : ℕ) (p : ℕ × ℕ) → ((p.0 ≡ row) × (p.1 ≡ x) × (one_if row x p ≡ 1)) ⊎ (one_if row x p ≡ 0)
+pub is_pair : (row x : ℕ) (p : ℕ × ℕ) → ((p.0 ≡ row) × (p.1 ≡ x) × (one_if ((p.0 == row) && (p.1 == x)) ≡ 1)) ⊎ (one_if ((p.0 == row) && (p.1 == x)) ≡ 0)
 is_pair row x p = go (eqb p.0 row) (eqb p.1 x) refl refl
   where
     go : (a b : Bool) → eqb p.0 row ≡ a → eqb p.1 x ≡ b → ((p.0 ≡ row) × (p.1 ≡ x) × ((let n : ℕ = if a && b then 1 else 0 in n) ≡ 1)) ⊎ ((let n : ℕ = if a && b then 1 else 0 in n) ≡ 0)
@@ -88,7 +88,7 @@ is_pair row x p = go (eqb p.0 row) (eqb p.1 x) refl refl
     go false true e f = inr refl
     go false false e f = inr refl
 
-pub same_pair : (p : ℕ × ℕ) → one_if p.0 p.1 p ≡ 1
+pub same_pair : (p : ℕ × ℕ) → one_if ((p.0 == p.0) && (p.1 == p.1)) ≡ 1
 same_pair p = rw (eq-eqb p.0 p.0 refl, eq-eqb p.1 p.1 refl) refl
 
 -- a search that ended at a place, and one that found nothing

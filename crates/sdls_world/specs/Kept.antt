@@ -1,30 +1,13 @@
 -- Profile: what holds of the pure core at every moment.
-use Rattle.std.specs.Prelude.{◌≡◌, ℕ, ◌+◌, ◌-◌, ◌<◌, ◌≤◌, ◌==◌, ◌&&◌, nat_lt, true, List, [], ◌∷◌, Option, Some, None, slice_get, if◌then◌else◌}
+use Rattle.std.specs.Prelude.{◌≡◌, ℕ, ◌+◌, ◌-◌, ◌<◌, ◌≤◌, ◌==◌, ◌&&◌, true, Option, Some, None, slice_get}
+use Rattle.sdls_base.specs.Numbers.{one_if, times, total, once_below}
 use Rattle.sdls_world.specs.declared.key.Key.{Key}
 use Rattle.sdls_world.specs.Core.{Doer, Core}
-
--- 1 where the pair is the number x of the row, else 0
-abbrev pub one_if : ℕ → ℕ → ℕ × ℕ → ℕ
-one_if row x p = if (p.0 == row) && (p.1 == x) then 1 else 0
-
--- how often the number x of the row stands in the list
-abbrev pub times : ℕ → ℕ → List (ℕ × ℕ) → ℕ
-times row x [] = 0
-times row x (p ∷ ps) = one_if row x p + times row x ps
-
--- a sum over all actors
-abbrev pub total : {V : Type 0} → (V → ℕ) → List V → ℕ
-total f [] = 0
-total f (v ∷ vs) = f v + total f vs
-
--- 1 for each number below n, else 0
-abbrev pub once_below : ℕ → ℕ → ℕ
-once_below x n = if nat_lt x n then 1 else 0
 
 -- 1 where the number drawn last is x of the row
 abbrev pub is_last : ℕ → ℕ → Option (ℕ × ℕ) → ℕ
 is_last row x None = 0
-is_last row x (Some p) = one_if row x p
+is_last row x (Some p) = one_if ((p.0 == row) && (p.1 == x))
 
 -- how often the actor drew the number and did not use it
 abbrev pub unused : ℕ → ℕ → Doer → ℕ

@@ -2,7 +2,8 @@
 ghost use Rattle.std.specs.Prelude.{◌<◌, ◌≤◌, ℕ, List, length};
 ghost use Rattle.sdls_world.specs.declared.step.Step.{Step};
 ghost use Rattle.sdls_world.specs.Core.{Core, after_all, beginning};
-ghost use Rattle.sdls_world.specs.Kept.{IsKept, times};
+ghost use Rattle.sdls_base.specs.Numbers.{times};
+ghost use Rattle.sdls_world.specs.Kept.{IsKept};
 
 /// Law: what holds of the core at the beginning, and is kept by each step, holds after every list of steps.
 #[tactic(auto, using(crate::proofs::Moments::steps_keep, crate::proofs::Moments::beginning_kept))]

@@ -1,5 +1,5 @@
 use Rattle.std.proofs.Common.{rules, ℕ, List, ◌≡◌, ◌≤◌, ◌++◌, ◌∙◌, ap, arith, subst}
-use Rattle.counter_table.specs.Numbers.{times}
+use Rattle.sdls_base.specs.Numbers.{times}
 use Rattle.counter_table.proofs.Sums.{times-append}
 use Rattle.counter_table.specs.Turn.{merged}
 use Rattle.counter_table.proofs.Meeting.{meets}
