@@ -12,7 +12,8 @@ use Rattle.byteorder.specs.Numbers.{big_number-reads_back}
 use Rattle.disk_journal.specs.declared.layout.TheConstants.{HEADER_LENGTH, PLAN_ROOM, LEAST_SLOTS, MOST_SLOTS, MAGIC, MAGIC_AT, PLAN_LENGTH_AT, SLOT_COUNT_AT, ZEROS_AT, FIELD_LENGTH, OPEN, CLOSED}
 use Rattle.disk_journal.specs.Slots.{slot_at, gate_at}
 use Rattle.disk_journal.specs.Image.{header_of, plan_length_in, slot_count_in, slot_count, plan_of, records, first_closed, IsAtRest}
-use Rattle.disk_journal.specs.Fault.{first_failing, header_checks}
+use Rattle.sdls_base.specs.FirstFailing.{first_failing}
+use Rattle.disk_journal.specs.Fault.{header_checks}
 use Rattle.disk_journal.specs.Initial.{zeros, empty_image, initial_image}
 use Rattle.disk_journal.specs.Journal.{IsJournalOf}
 use Rattle.disk_journal.proofs.Images.{of_passes, is_records}

@@ -8,7 +8,8 @@ use Rattle.std.proofs.lemmas.List.{get_or-set_same}
 use Rattle.disk_journal.specs.declared.layout.TheConstants.{HEADER_LENGTH, PLAN_ROOM, SLOTS_AT, SLOT_LENGTH, BODY_LENGTH, LEAST_SLOTS, MOST_SLOTS, MAGIC, MAGIC_AT, PLAN_LENGTH_AT, SLOT_COUNT_AT, ZEROS_AT, OPEN, CLOSED}
 use Rattle.disk_journal.specs.Slots.{slot_at, gate_at, body_at}
 use Rattle.disk_journal.specs.Image.{header_of, plan_length_in, slot_count_in, slot_count, plan_of, records, first_closed}
-use Rattle.disk_journal.specs.Fault.{Check, first_failing, header_checks, gate_checks, image_fault}
+use Rattle.sdls_base.specs.FirstFailing.{Check, first_failing}
+use Rattle.disk_journal.specs.Fault.{header_checks, gate_checks, image_fault}
 use Rattle.disk_journal.specs.Changes.{AllBut, Grows}
 use Rattle.disk_journal.proofs.Gating.{AreRecords, records_are, records_is, SameBefore, records_stay, records_grow}
 use Rattle.disk_journal.proofs.Failing.{all_passed, passed_first, passed_append, front_passed, closed_pass, pass_closed}
@@ -85,10 +86,10 @@ after_quiet gate n f closed = closed_pass gate (n - (f + 1)) (f + 1) (λ k below
     closed (f + 1 + k) above high)
 
 -- the checks of the header, and those of the gates
-abbrev pub header_part : List ℕ → List Check
+abbrev pub header_part : List ℕ → List (Check ℕ)
 header_part image = header_checks (header_of image) (length image)
 
-abbrev pub gate_part : List ℕ → List Check
+abbrev pub gate_part : List ℕ → List (Check ℕ)
 gate_part image = gate_checks (gate_at image) (slot_count image - (first_closed image + 1)) (first_closed image + 1)
 
 pub passes_of : (image : List ℕ) → image_fault image ≡ None → Passes image

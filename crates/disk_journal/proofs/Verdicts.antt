@@ -10,7 +10,8 @@ use Rattle.disk_journal.specs.declared.layout.TheConstants.{HEADER_LENGTH, PLAN_
 use Rattle.disk_journal.specs.Slots.{slot_at, gate_at, body_at}
 use Rattle.disk_journal.specs.Gates.{IsFirstClosed}
 use Rattle.disk_journal.specs.Image.{header_of, plan_length_in, slot_count_in, slot_count, plan_of, records, first_closed}
-use Rattle.disk_journal.specs.Fault.{first_failing, header_checks, gate_checks, image_fault}
+use Rattle.sdls_base.specs.FirstFailing.{first_failing}
+use Rattle.disk_journal.specs.Fault.{header_checks, gate_checks, image_fault}
 use Rattle.disk_journal.specs.Journal.{JournalView, IsJournalOf, IsHeaderOf, IsVerdict, IsOpen}
 use Rattle.disk_journal.proofs.Gating.{AreRecords}
 use Rattle.disk_journal.proofs.Failing.{passed_first, failed_first, passed_append, failed_append}

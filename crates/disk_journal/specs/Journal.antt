@@ -7,7 +7,8 @@ use Rattle.disk_journal.specs.declared.fault.JournalFault.{JournalFault}
 use Rattle.disk_journal.specs.declared.fault.JournalFault.TheVariants.{SiteFault, Full, Image}
 use Rattle.disk_journal.specs.declared.layout.TheConstants.{HEADER_LENGTH}
 use Rattle.disk_journal.specs.Image.{header_of, plan_length_in, slot_count_in, plan_of, slot_count, records, IsAtRest}
-use Rattle.disk_journal.specs.Fault.{first_failing, header_checks, image_fault}
+use Rattle.sdls_base.specs.FirstFailing.{first_failing}
+use Rattle.disk_journal.specs.Fault.{header_checks, image_fault}
 
 -- what a journal knows of its image: the octets of the plan, the slots, and how many of them hold records
 pub record JournalView : Type 0 where

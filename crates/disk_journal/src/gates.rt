@@ -2,7 +2,8 @@
 ghost use Rattle.std.specs.Prelude.{◌≡◌, ◌-◌, ◌<◌, ◌≤◌, IsTrue, IfOk, length};
 ghost use Rattle.sdls_outside.specs.Faults.{HasCause};
 ghost use Rattle.disk_journal.specs.Slots.{slot_at, gate_at};
-ghost use Rattle.disk_journal.specs.Fault.{first_failing, gate_checks};
+ghost use Rattle.sdls_base.specs.FirstFailing.{first_failing};
+ghost use Rattle.disk_journal.specs.Fault.{gate_checks};
 ghost use Rattle.disk_journal.specs.Gates.{IsFirstClosed};
 
 use crate::layout::{CLOSED, OPEN, slot_offset};

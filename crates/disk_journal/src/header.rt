@@ -3,7 +3,8 @@ ghost use Rattle.std.specs.Prelude.{◌≡◌, ◌+◌, ◌≤◌, ◌==◌, not
 ghost use Rattle.std.specs.List.{list_any};
 ghost use Rattle.byteorder.specs.Endian.{big_number};
 ghost use Rattle.disk_journal.specs.Image.{plan_length_in, slot_count_in};
-ghost use Rattle.disk_journal.specs.Fault.{first_failing, header_checks};
+ghost use Rattle.sdls_base.specs.FirstFailing.{first_failing};
+ghost use Rattle.disk_journal.specs.Fault.{header_checks};
 
 use crate::layout::{
     FIELD_LENGTH, HEADER_LENGTH, LEAST_SLOTS, MAGIC, MAGIC_AT, MOST_SLOTS, OPEN, PLAN_LENGTH_AT,
