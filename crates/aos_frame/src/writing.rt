@@ -3,7 +3,7 @@ ghost use Rattle.sdls_base.specs.Fields.{packed};
 ghost use Rattle.aos_frame.specs.AosFrame.{FitsLayout, IsLayout, view, primary_header, frame_of};
 
 use crate::parts::Parts;
-use sdls_base::{AosLayout, put, put_fecf, put_optional};
+use sdls_base::{AosLayout, put_frame};
 
 fn header_of(parts: &Parts<'_>) -> [u8; 6]
     requires spacecraft { parts.now.spacecraft < 2 ^ 8 }
@@ -28,9 +28,12 @@ pub fn write(parts: &Parts<'_>, layout: &AosLayout, out: &mut [u8]) -> usize
     ensures count { result ≡ layout.now.length }
     ensures written { out.new ≡ frame_of layout.now (view parts.now) ++ drop result out.old }
 {
-    let header_end = put(out, 0, &header_of(parts));
-    let room_start = put(out, header_end, parts.insert);
-    let room_end = put(out, room_start, parts.room);
-    let body_end = put_optional(out, room_end, parts.ocf);
-    put_fecf(out, body_end, layout.fecf)
+    put_frame(
+        out,
+        &header_of(parts),
+        parts.insert,
+        parts.room,
+        parts.ocf,
+        layout.fecf,
+    )
 }

@@ -37,7 +37,7 @@ pub use ocf::cut_ocf;
 pub use octets::Octets;
 pub use spi::Spi;
 pub use states::{Direction, KeyState, SaState, Suite};
-pub use writing::{before_fecf, fecf_fails, flag, put, put_fecf, put_optional};
+pub use writing::{before_fecf, fecf_fails, flag, put, put_fecf, put_frame, put_optional};
 
 /// The most keys that a unit loads in its life (profile).
 pub const MOST_KEYS: usize = 512;

@@ -76,3 +76,28 @@ pub fn put_optional(out: &mut [u8], at: usize, field: Option<&[u8]>) -> usize
         None => at,
     }
 }
+
+/// Writes the frame of a link whose frames have one length: the primary header, what stands between it and the room,
+/// the room, the operational control field where there is one, and the frame error control field where the layout has
+/// one (CCSDS 132.0-B and 732.0-B, Transfer Frame). Answers the frame's octets.
+pub fn put_frame(
+    out: &mut [u8],
+    header: &[u8],
+    between: &[u8],
+    room: &[u8],
+    ocf: Option<&[u8]>,
+    has_fecf: bool,
+) -> usize
+    requires { length header.now + length between.now + length room.now
+        + length (unwrap_or (option_copied ocf) []) + error_control_length has_fecf ≤ length out.old }
+    ensures count { result ≡ length header.now + length between.now + length room.now
+        + length (unwrap_or (option_copied ocf.entry) []) + error_control_length has_fecf }
+    ensures written { out.new ≡ with_error_control has_fecf
+        ((header.now ++ between.now) ++ room.now ++ unwrap_or (option_copied ocf.entry) []) ++ drop result out.old }
+{
+    let header_end = put(out, 0, header);
+    let room_start = put(out, header_end, between);
+    let room_end = put(out, room_start, room);
+    let body_end = put_optional(out, room_end, ocf);
+    put_fecf(out, body_end, has_fecf)
+}
