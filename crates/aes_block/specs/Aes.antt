@@ -1,7 +1,7 @@
 -- The block cipher AES (FIPS 197, 2023), with keys of 128 and 256 bits. An octet is an element of GF(2^8):
 -- a number whose bit i is the coefficient of x^i. A word is four octets, the first highest. The state
 -- is a list of 16 octets, column by column.
-use Rattle.std.specs.Prelude.{◌≡◌, ◌⊎◌, ℕ, zero, suc, ◌+◌, ◌-◌, ◌*◌, ◌/◌, ◌%◌, ◌^◌, ◌==◌, ◌&&◌, if◌then◌else◌, List, [], ◌∷◌, ◌++◌, map, length, slice_index, bit_xor}
+use Rattle.std.specs.Prelude.{ℕ, zero, suc, ◌+◌, ◌-◌, ◌*◌, ◌/◌, ◌%◌, ◌^◌, ◌==◌, ◌&&◌, if◌then◌else◌, List, [], ◌∷◌, ◌++◌, map, length, slice_index, bit_xor}
 use Rattle.std.specs.List.{range_with_len}
 use Rattle.std.specs.Int.{w32, bit_at, rotate_left, to_be_bytes, from_be_bytes}
 
@@ -147,10 +147,6 @@ schedule nk key zero = first_words key nk
 schedule nk key (suc n) = schedule nk key n ++ next_word nk (schedule nk key n) (nk + n) ∷ []
 
 -- ---- AES
-
--- a key of 128 or 256 bits has this many octets
-abbrev pub IsKeyLength : ℕ → Type 0
-IsKeyLength n = (n ≡ 16) ⊎ (n ≡ 32)
 
 -- the block enciphered under the key: 10 rounds for 16 octets of key, 14 for 32, and four words for
 -- each round and one round more

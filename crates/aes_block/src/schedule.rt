@@ -1,24 +1,16 @@
-ghost use Rattle.std.specs.Prelude.{◌≡◌, ◌↔◌, length, Some, codes, IfOk, IfErr, IsOk};
-ghost use Rattle.aes_block.specs.Aes.{IsKeyLength, encrypted};
+ghost use Rattle.std.specs.Prelude.{◌≡◌, ◌↔◌, length, IfOk, IfErr, IsOk};
+ghost use Rattle.sdls_base.specs.Bounds.{IsKeyLength};
+ghost use Rattle.aes_block.specs.Aes.{encrypted};
 
 use crate::cipher::encrypt_words;
 use crate::expansion::expand;
-use std::fmt;
 use std::marker::Model;
+use thiserror::Error;
 
 /// A key of a length that is neither 16 nor 32 octets: its length.
-#[derive(Clone, Copy, Debug, PartialEq, Eq)]
+#[derive(Clone, Copy, Debug, PartialEq, Eq, Error)]
+#[error("key of {0} octets is neither of 16 nor of 32")]
 pub struct KeyLength(pub usize);
-
-impl fmt::Display for KeyLength {
-    ghost output = { λ _. Some (codes "the key has neither 16 nor 32 octets") };
-
-    fn fmt<W: fmt::Write>(&self, f: &mut fmt::Formatter<W>) -> fmt::Result {
-        f.write_str("the key has neither 16 nor 32 octets")
-    }
-}
-
-impl std::error::Error for KeyLength {}
 
 /// A key, expanded. It has no `Debug`, so that no log shows it.
 #[derive(Drop)]

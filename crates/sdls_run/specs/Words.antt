@@ -2,7 +2,7 @@
 use Rattle.std.specs.Prelude.{◌≡◌, ℕ, List, [], ◌∷◌, length, codes, Ok, map, String, string_bytes}
 use Rattle.std.specs.declared.alloc.Global.{Global}
 use Rattle.hex.specs.Hex.{decode_of}
-use Rattle.aes_block.specs.Aes.{IsKeyLength}
+use Rattle.sdls_base.specs.Bounds.{IsKeyLength}
 
 -- the digits are the hexadecimal spelling of this key, in either case
 pub record IsKey (digits key : List ℕ) : Type 0 where
