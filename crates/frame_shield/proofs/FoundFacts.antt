@@ -10,7 +10,7 @@ use Rattle.frame_shield.specs.declared.opening.Found.{Found}
 use Rattle.frame_shield.specs.AnyFrame.{AnyParts, IsFrame, prefix_of, room_of}
 use Rattle.frame_shield.specs.Body.{ocf_of}
 use Rattle.frame_shield.specs.Found.{IsFound}
-use Rattle.frame_shield.specs.Link.{has_fecf}
+use Rattle.sdls_base.specs.Link.{has_fecf}
 use Rattle.frame_shield.specs.Opens.{Opens}
 use Rattle.frame_shield.specs.Secured.{IsSecured, sealed, covered, number_of}
 use Rattle.frame_shield.proofs.Lengths.{frame_is}

@@ -19,11 +19,11 @@ use Rattle.frame_shield.specs.Secured.{sealed}
 use Rattle.tc_frame.specs.TcFrame as tc_frames
 use Rattle.tm_frame.specs.TmFrame as tm_frames
 use Rattle.aos_frame.specs.AosFrame as aos_frames
-use Rattle.frame_shield.specs.declared.link.AnyLayout.{AnyLayout}
-use Rattle.frame_shield.specs.declared.link.AnyLayout.TheVariants.{Tc, Tm, Aos}
+use Rattle.sdls_base.specs.declared.link.AnyLayout.{AnyLayout}
+use Rattle.sdls_base.specs.declared.link.AnyLayout.TheVariants.{Tc, Tm, Aos}
 use Rattle.frame_shield.specs.AnyFrame.{AnyParts, tc, tm, aos, IsFrame, prefix_of, room_of}
 use Rattle.frame_shield.specs.Body.{ocf_of}
-use Rattle.frame_shield.specs.Link.{has_fecf, IsInBounds}
+use Rattle.sdls_base.specs.Link.{has_fecf, IsInBounds}
 use Rattle.frame_shield.specs.Binding.{clear_layout, gain_of}
 use Rattle.frame_shield.specs.Shield.{most_of}
 

@@ -11,8 +11,8 @@ use Rattle.tc_frame.proofs.Frames as tc_facts
 use Rattle.tm_frame.proofs.Frames as tm_facts
 use Rattle.aos_frame.proofs.Frames as aos_facts
 use Rattle.frame_shield.specs.declared.binding.Binding.{Binding}
-use Rattle.frame_shield.specs.declared.link.AnyLayout.{AnyLayout}
-use Rattle.frame_shield.specs.declared.link.AnyLayout.TheVariants.{Tc, Tm, Aos}
+use Rattle.sdls_base.specs.declared.link.AnyLayout.{AnyLayout}
+use Rattle.sdls_base.specs.declared.link.AnyLayout.TheVariants.{Tc, Tm, Aos}
 use Rattle.frame_shield.specs.AnyFrame.{AnyParts, tc, tm, aos, IsFrame, first_fault, prefix_of, room_of}
 use Rattle.frame_shield.specs.Secured.{sealed, IsSecured, number_of}
 use Rattle.frame_shield.specs.Opens.{Opens}

@@ -21,11 +21,11 @@ use Rattle.tm_frame.specs.TmFrame as tm_frames
 use Rattle.aos_frame.specs.AosFrame as aos_frames
 use Rattle.tc_frame.proofs.Words.{cells_of, header_cells}
 use Rattle.frame_shield.specs.declared.binding.Binding.{Binding}
-use Rattle.frame_shield.specs.declared.link.AnyLayout.{AnyLayout}
-use Rattle.frame_shield.specs.declared.link.AnyLayout.TheVariants.{Tc, Tm, Aos}
+use Rattle.sdls_base.specs.declared.link.AnyLayout.{AnyLayout}
+use Rattle.sdls_base.specs.declared.link.AnyLayout.TheVariants.{Tc, Tm, Aos}
 use Rattle.frame_shield.specs.AnyFrame.{AnyParts, tc, tm, aos, IsFrame, prefix_of, room_of, with_room}
 use Rattle.frame_shield.specs.Body.{ocf_of}
-use Rattle.frame_shield.specs.Link.{has_fecf, IsInBounds}
+use Rattle.sdls_base.specs.Link.{has_fecf, IsInBounds}
 use Rattle.frame_shield.specs.Binding.{IsBinding, clear_layout, gain_of}
 use Rattle.frame_shield.specs.Shield.{with_length_field, prefix_for, room_for}
 use Rattle.frame_shield.specs.Secured.{IsSecured, sealed, covered, header_of, vector_for}
@@ -193,7 +193,7 @@ pub protects : (b : Binding) (n : ℕ) (clear : List ℕ) (p : AnyParts) (vector
 protects b n clear p vector front room binds is kind carries front_is room_is longer =
     let fecf = has_fecf b.link.layout in
     let tail : List ℕ = unwrap_or (ocf_of p) [] in
-    let same : front ≡ prefix_of b.link.layout (with_room p room) = front_is ∙ prefix_kept b.suite b.link.layout p clear room binds.layout is longer in
+    let same : front ≡ prefix_of b.link.layout (with_room p room) = front_is ∙ prefix_kept b.suite b.link.layout p clear room binds.link.layout is longer in
     let secured : IsSecured b front room (pieces_for b vector front (room_of p)) (room_of p) =
     subst (λ (r : List ℕ). IsSecured b front r (pieces_for b vector front (room_of p)) (room_of p)) (sym room_is) (secured_for b vector front (room_of p) kind) in
     record {
@@ -201,7 +201,7 @@ protects b n clear p vector front room binds is kind carries front_is room_is lo
       room = room;
       pieces = pieces_for b vector front (room_of p);
       clear_framed = is;
-      framed = subst (λ (l : List ℕ). IsFrame b.link.layout (with_room p room) (with_error_control fecf ((l ++ room) ++ tail))) (sym same) (framed b.suite b.link.layout p clear room binds.layout is longer);
+      framed = subst (λ (l : List ℕ). IsFrame b.link.layout (with_room p room) (with_error_control fecf ((l ++ room) ++ tail))) (sym same) (framed b.suite b.link.layout p clear room binds.link.layout is longer);
       vector = carries;
       secured = subst (λ (l : List ℕ). IsSecured b l room (pieces_for b vector front (room_of p)) (room_of p)) same secured;
     }

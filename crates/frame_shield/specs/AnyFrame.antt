@@ -7,8 +7,8 @@ use Rattle.aos_frame.specs.AosFrame as aos_frames
 use Rattle.tc_frame.specs.FirstFault as tc_faults
 use Rattle.tm_frame.specs.FirstFault as tm_faults
 use Rattle.aos_frame.specs.FirstFault as aos_faults
-use Rattle.frame_shield.specs.declared.link.AnyLayout.{AnyLayout}
-use Rattle.frame_shield.specs.declared.link.AnyLayout.TheVariants.{Tc, Tm, Aos}
+use Rattle.sdls_base.specs.declared.link.AnyLayout.{AnyLayout}
+use Rattle.sdls_base.specs.declared.link.AnyLayout.TheVariants.{Tc, Tm, Aos}
 
 -- the parts of a frame
 pub data AnyParts : Type 0 where

@@ -1,21 +1,20 @@
 -- What binds a frame to its association (profile).
-use Rattle.std.specs.Prelude.{◌≡◌, ℕ, ◌+◌, ◌-◌, ◌≤◌, false, List, Option}
+use Rattle.std.specs.Prelude.{◌≡◌, ℕ, ◌+◌, ◌-◌, false, List, Option}
 use Rattle.sdls_base.specs.declared.states.Suite.{Suite}
 use Rattle.sdls_base.specs.KeyId.{class_of}
 use Rattle.sdls_base.specs.Suite.{overhead_of, class_of_suite}
 use Rattle.sdls_base.specs.ErrorControl.{error_control_length}
 use Rattle.frame_shield.specs.declared.binding.Binding.{Binding}
-use Rattle.frame_shield.specs.declared.link.AnyLayout.{AnyLayout}
-use Rattle.frame_shield.specs.declared.link.AnyLayout.TheVariants.{Tc, Tm, Aos}
+use Rattle.sdls_base.specs.declared.link.AnyLayout.{AnyLayout}
+use Rattle.sdls_base.specs.declared.link.AnyLayout.TheVariants.{Tc, Tm, Aos}
 use Rattle.sdls_base.specs.declared.layout.FrameFault.{FrameFault}
 use Rattle.frame_shield.specs.AnyFrame.{first_fault}
-use Rattle.frame_shield.specs.Link.{IsInBounds, has_fecf}
+use Rattle.sdls_base.specs.Link.{IsLink, has_fecf}
 
 -- the parts of a binding go together
 pub record IsBinding (b : Binding) : Type 0 where
   pub class : class_of b.key ≡ class_of_suite b.suite
-  pub layout : IsInBounds b.link.layout
-  pub mask : b.link.mask.length ≤ 6
+  pub link : IsLink b.link
 
 -- how many octets a frame gains: security header and trailer, and the frame error control field
 abbrev pub gain_of : Suite → AnyLayout → ℕ

@@ -2,8 +2,8 @@
 use Rattle.std.specs.Prelude.{◌≡◌, ℕ, List, Option, None, option_copied}
 use Rattle.tm_frame.specs.TmFrame as tm_frames
 use Rattle.aos_frame.specs.AosFrame as aos_frames
-use Rattle.frame_shield.specs.declared.link.AnyLayout.{AnyLayout}
-use Rattle.frame_shield.specs.declared.link.AnyLayout.TheVariants.{Tc, Tm, Aos}
+use Rattle.sdls_base.specs.declared.link.AnyLayout.{AnyLayout}
+use Rattle.sdls_base.specs.declared.link.AnyLayout.TheVariants.{Tc, Tm, Aos}
 use Rattle.frame_shield.specs.declared.body.Body.{Body}
 use Rattle.frame_shield.specs.AnyFrame.{AnyParts, tc, tm, aos, IsFrame, prefix_of, room_of}
 

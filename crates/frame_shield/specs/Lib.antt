@@ -2,7 +2,6 @@ pub mod AnyFrame
 pub mod Binding
 pub mod Body
 pub mod Found
-pub mod Link
 pub mod Opens
 pub mod Protects
 pub mod Secured

@@ -11,7 +11,7 @@ use Rattle.sdls_header.specs.declared.pieces.SecurityHeader.{SecurityHeader}
 use Rattle.sdls_header.specs.SecurityHeader.{Pieces, SplitsInto, header_octets}
 use Rattle.sdls_header.specs.Authenticated.{authenticated}
 use Rattle.frame_shield.specs.declared.binding.Binding.{Binding}
-use Rattle.frame_shield.specs.Link.{mask_octets}
+use Rattle.sdls_base.specs.Link.{mask_octets}
 
 -- the vector of the suite that carries a number
 abbrev pub vector_for : Suite → List ℕ → ℕ → Vector

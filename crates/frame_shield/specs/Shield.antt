@@ -3,8 +3,8 @@ use Rattle.std.specs.Prelude.{ℕ, ◌+◌, ◌-◌, ◌*◌, ◌/◌, ◌%◌, 
 use Rattle.sdls_header.specs.declared.pieces.Vector.{Vector}
 use Rattle.sdls_header.specs.SecurityHeader.{header_octets}
 use Rattle.frame_shield.specs.declared.binding.Binding.{Binding}
-use Rattle.frame_shield.specs.declared.link.AnyLayout.{AnyLayout}
-use Rattle.frame_shield.specs.declared.link.AnyLayout.TheVariants.{Tc, Tm, Aos}
+use Rattle.sdls_base.specs.declared.link.AnyLayout.{AnyLayout}
+use Rattle.sdls_base.specs.declared.link.AnyLayout.TheVariants.{Tc, Tm, Aos}
 use Rattle.frame_shield.specs.Secured.{covered, header_of, sealed}
 
 -- a TC prefix with the length field of a frame of n octets

@@ -1,10 +1,9 @@
 ghost use Rattle.std.specs.Prelude.{◌≡◌};
-ghost use Rattle.frame_shield.specs.Link.{IsInBounds};
+ghost use Rattle.sdls_base.specs.Link.{IsInBounds};
 ghost use Rattle.frame_shield.specs.Binding.{gain_of, clear_layout};
 
-use crate::link::{AnyLayout, Link};
 use aes_block::Schedule;
-use sdls_base::{AosLayout, KeyId, Spi, Suite, TcLayout, TmLayout};
+use sdls_base::{AnyLayout, AosLayout, KeyId, Link, Spi, Suite, TcLayout, TmLayout};
 
 /// A security association with its key, on a link: what protects a frame, or opens it.
 #[derive(Drop)]

@@ -2,8 +2,7 @@ ghost use Rattle.std.specs.Prelude.{◌≡◌, ◌↔◌, None, Some, IfOk, IsOk
 ghost use Rattle.frame_shield.specs.AnyFrame.{first_fault};
 ghost use Rattle.frame_shield.specs.Body.{IsLayout, IsBody};
 
-use crate::link::AnyLayout;
-use sdls_base::{AosLayout, FrameFault, TcLayout, TmLayout};
+use sdls_base::{AnyLayout, AosLayout, FrameFault, TcLayout, TmLayout};
 
 /// The octets of a frame of any kind before its frame error control field.
 #[derive(Clone, Copy)]

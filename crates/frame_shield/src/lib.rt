@@ -9,16 +9,15 @@ mod binding;
 mod body;
 mod covered;
 mod laws;
-mod link;
 mod opening;
 mod protecting;
 mod sealing;
 
 pub use binding::Binding;
 pub use laws::{opens_once, protected_opens};
-pub use link::{AnyLayout, Link, Mask};
 pub use opening::{Opened, unshield};
 pub use protecting::{ShieldFault, fits, shield};
+pub use sdls_base::{AnyLayout, Link, Mask};
 
 #[cfg(test)]
 mod tests;

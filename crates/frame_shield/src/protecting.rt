@@ -5,7 +5,7 @@ ghost use Rattle.sdls_base.specs.Suite.{overhead_of};
 ghost use Rattle.sdls_header.specs.SecurityHeader.{IsVectorOf};
 ghost use Rattle.frame_shield.specs.Binding.{IsBinding, clear_fault, clear_layout, gain_of};
 ghost use Rattle.frame_shield.specs.Body.{IsBody};
-ghost use Rattle.frame_shield.specs.Link.{IsInBounds};
+ghost use Rattle.sdls_base.specs.Link.{IsInBounds};
 ghost use Rattle.frame_shield.specs.Protects.{Protects};
 ghost use Rattle.frame_shield.specs.Secured.{sealed, vector_for};
 ghost use Rattle.frame_shield.specs.Shield.{most_of, with_length_field, prefix_for, room_for};
@@ -14,20 +14,23 @@ ghost use Rattle.frame_shield.specs.ShieldFault.{fault_number};
 use crate::binding::{Binding, clear_layout, gain_of};
 use crate::body::{Body, body_of};
 use crate::covered::{Covered, put_header};
-use crate::link::AnyLayout;
 use crate::sealing::seal;
 use aes_block::Schedule;
-use sdls_base::{Suite, put, put_fecf, put_optional};
+use sdls_base::{AnyLayout, Suite, put, put_fecf, put_optional};
 use sdls_header::{SecurityHeader, Vector};
+use thiserror::Error;
 
 /// Why a frame is not protected.
-#[derive(Clone, Copy, Debug, PartialEq, Eq)]
+#[derive(Clone, Copy, Debug, PartialEq, Eq, Error)]
 pub enum ShieldFault {
     /// The clear frame has not its layout: the number of the first check that fails.
+    #[error("clear frame has not its layout: check {0} fails")]
     Layout(u8),
     /// The frame is on no channel of the plan.
+    #[error("frame is on no channel of the plan")]
     Channel,
     /// No operational association covers the channel.
+    #[error("channel has no operational association")]
     State,
 }
 

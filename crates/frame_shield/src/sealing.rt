@@ -7,7 +7,7 @@ ghost use Rattle.frame_shield.specs.Secured.{sealed, number_of};
 use aes_block::Schedule;
 use cmac::Running;
 use gcm::{BadTag, open_in_place, opens_what_was_sealed, seal_in_place};
-use sdls_base::put;
+use sdls_base::{put, same_octets};
 use sdls_header::Vector;
 
 /// The MAC over one text followed by another.
@@ -64,7 +64,7 @@ pub fn open(key: &Schedule, vector: Vector, covered: &[u8], text: &mut [u8], mac
     ensures unchanged { OnFalse result (text.new ≡ text.old) }
 {
     match vector {
-        Vector::Sequence(_) => mac_over(key, covered, text) == *mac,
+        Vector::Sequence(_) => same_octets(&mac_over(key, covered, text), mac),
         Vector::Wide { device, number } => {
             opens_what_was_sealed();
             match open_in_place(key, &vector_octets(device, number), covered, text, mac) {

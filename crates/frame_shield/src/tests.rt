@@ -1,6 +1,6 @@
-ghost use Rattle.std.specs.Prelude.{◌≡◌, ◌+◌, ◌≤◌, IfSome};
+ghost use Rattle.std.specs.Prelude.{◌+◌, ◌≤◌, IfSome};
 ghost use Rattle.frame_shield.specs.Binding.{IsBinding};
-ghost use Rattle.frame_shield.specs.Link.{IsInBounds};
+ghost use Rattle.sdls_base.specs.Link.{IsLink};
 
 use super::*;
 use crate::body::body_of;
@@ -15,44 +15,33 @@ const CMAC_KEY: [u8; 16] = *b"\x2b\x7e\x15\x16\x28\xae\xd2\xa6\xab\xf7\x15\x88\x
 
 const GCM_KEY: [u8; 16] = *b"\x00\x01\x02\x03\x04\x05\x06\x07\x08\x09\x0a\x0b\x0c\x0d\x0e\x0f";
 
-const TELECOMMAND: Link = Link {
-    layout: AnyLayout::Tc(TcLayout {
-        segment: true,
-        fecf: false,
-        most: 1024,
-    }),
-    mask: Mask {
-        octets: [0xC3, 0xFF, 0xFC, 0, 0, 0xFF],
-        length: 6,
-    },
-};
-
-const TM_MASK: Mask = Mask {
-    octets: [0xFF, 0xFE, 0, 0, 0, 0],
-    length: 6,
-};
-
-const AOS_MASK: Mask = Mask {
-    octets: [0xFF, 0xFF, 0, 0, 0, 0],
-    length: 6,
-};
+fn telecommand() -> Link
+    ensures { IsLink result }
+{
+    Link {
+        layout: AnyLayout::Tc(TcLayout {
+            segment: true,
+            fecf: false,
+            most: 1024,
+        }),
+        mask: Mask::usual_tc(true),
+    }
+}
 
 fn telemetry(length: u16, fecf: bool) -> Link
     requires { (48 ≤ length) × (length ≤ 2048) }
-    ensures bounds { IsInBounds result.layout }
-    ensures mask { result.mask.length ≤ 6 }
+    ensures { IsLink result }
 {
     Link {
         layout: AnyLayout::Tm(TmLayout { length, fecf }),
-        mask: TM_MASK,
+        mask: Mask::usual_tm(),
     }
 }
 
 fn space_to_space(length: u16, insert: u8, fields: bool, mask: Mask) -> Link
     requires bounds { (insert ≤ 64) × (48 + insert ≤ length) × (length ≤ 2048) }
     requires mask { mask.length ≤ 6 }
-    ensures bounds { IsInBounds result.layout }
-    ensures mask { result.mask.length ≤ 6 }
+    ensures { IsLink result }
 {
     Link {
         layout: AnyLayout::Aos(AosLayout {
@@ -66,8 +55,7 @@ fn space_to_space(length: u16, insert: u8, fields: bool, mask: Mask) -> Link
 }
 
 fn binding(spi: u16, key: u16, octets: &[u8], link: Link) -> Option<Binding>
-    requires bounds { IsInBounds link.layout }
-    requires mask { link.mask.length ≤ 6 }
+    requires { IsLink link }
     ensures { IfSome result IsBinding }
 {
     let key = KeyId::new(key)?;
@@ -138,7 +126,7 @@ const SMALLEST: [u8; 28] =
 // Worked by hand from CCSDS 232.0-B and 355.0-B; the MAC by another program.
 #[test]
 fn smallest_telecommand_frame(rt: HostRuntime) -> Result<(), Fail> {
-    let binding = binding(7, 32_769, &CMAC_KEY, TELECOMMAND).ok_or("a binding")?;
+    let binding = binding(7, 32_769, &CMAC_KEY, telecommand()).ok_or("a binding")?;
     let clear = b"\x00\x2a\x14\x05\x09\xc3";
     let frame = protected(rt.alloc(), &binding, 1, clear).ok_or("a frame")?;
     assert_eq!(rt; frame.as_slice(), SMALLEST.as_slice());
@@ -171,7 +159,7 @@ fn smallest_telecommand_frame(rt: HostRuntime) -> Result<(), Fail> {
 // The clear frame of 1,002 octets has the length field 3e9, the protected one 3ff.
 #[test]
 fn greatest_telecommand_frame(rt: HostRuntime) -> Result<(), Fail> {
-    let binding = binding(7, 32_769, &CMAC_KEY, TELECOMMAND).ok_or("a binding")?;
+    let binding = binding(7, 32_769, &CMAC_KEY, telecommand()).ok_or("a binding")?;
     let mut clear = [0; 1002];
     clear[..6].copy_from_slice(b"\x00\x2a\x17\xe9\x09\xc3");
     let frame = protected(rt.alloc(), &binding, 1, &clear).ok_or("a frame")?;
@@ -185,7 +173,7 @@ fn greatest_telecommand_frame(rt: HostRuntime) -> Result<(), Fail> {
 
 #[test]
 fn frames_that_do_not_fit(rt: HostRuntime) -> Result<(), Fail> {
-    let binding = binding(7, 32_769, &CMAC_KEY, TELECOMMAND).ok_or("a binding")?;
+    let binding = binding(7, 32_769, &CMAC_KEY, telecommand()).ok_or("a binding")?;
     let mut clear = [0; 1003];
     clear[..6].copy_from_slice(b"\x00\x2a\x17\xea\x09\xc3");
     assert_eq!(rt; fits(&binding, &clear), Err(ShieldFault::Layout(2)));
@@ -259,7 +247,7 @@ fn a_published_mac_in_a_frame(rt: HostRuntime) -> Result<(), Fail> {
 // The first two octets of the header are under the mask, and the others are not; bits 0, 1, 42 and 43 belong to the layout.
 #[test]
 fn each_bit_of_an_aos_header(rt: HostRuntime) -> Result<(), Fail> {
-    let link = space_to_space(48, 0, false, AOS_MASK);
+    let link = space_to_space(48, 0, false, Mask::usual_aos());
     let binding = binding(7, 32_769, &CMAC_KEY, link).ok_or("a binding")?;
     let mut clear = [0; 26];
     clear[..6].copy_from_slice(b"\x6b\xc1\xbe\xe2\x2e\x40");
@@ -321,7 +309,7 @@ fn greatest_frames_of_fixed_length(rt: HostRuntime) -> Result<(), Fail> {
 
     clear[..70].copy_from_slice(&[0x77; 70]);
     clear[..6].copy_from_slice(b"\x6b\xc1\xbe\xe2\x2e\x40");
-    let link = space_to_space(2048, 64, true, AOS_MASK);
+    let link = space_to_space(2048, 64, true, Mask::usual_aos());
     let aos = binding(7, 32_769, &CMAC_KEY, link).ok_or("a binding")?;
     let frame = protected(rt.alloc(), &aos, 1, &clear).ok_or("a frame")?;
     assert_eq!(rt; frame.len(), 2048);

@@ -4,6 +4,7 @@ ghost use Rattle.gcm.specs.Gcm.{gcm_open, gcm_seal, tag_of};
 use crate::counter::{count_over, counter_block};
 use crate::hash::hash;
 use aes_block::Schedule;
+use sdls_base::same_octets;
 use std::fmt;
 
 /// The tag is not the ciphertext's.
@@ -62,7 +63,8 @@ pub fn open_in_place(
     ensures refused { IsErr result ↔ (gcm_open key.now iv.now aad.now text.old tag.now ≡ None) }
     ensures unchanged { OnErr result (text.new ≡ text.old) }
 {
-    if tag_of(key, iv, aad, text) != *tag {
+    let right = tag_of(key, iv, aad, text);
+    if !same_octets(tag, &right) {
         return Err(BadTag);
     }
     count_over(key, iv, text);

@@ -9,7 +9,7 @@ use Rattle.frame_shield.specs.declared.binding.Binding.{Binding}
 use Rattle.frame_shield.specs.declared.body.Body.{Body}
 use Rattle.frame_shield.specs.AnyFrame.{AnyParts, room_of}
 use Rattle.frame_shield.specs.Body.{IsBody}
-use Rattle.frame_shield.specs.Link.{mask_octets}
+use Rattle.sdls_base.specs.Link.{mask_octets}
 use Rattle.frame_shield.specs.Secured.{header_of}
 use Rattle.frame_shield.proofs.FoundFacts.{text_at}
 use Rattle.frame_shield.proofs.Lengths.{bounded_insert, prefix_bounds}
@@ -31,7 +31,7 @@ pub new-requires : goal.new-requires
 new-requires c =
     let b : Binding = c.args.binding.now in
     let is = subst (λ (r : Result Body FrameFault). IfOk r (IsBody b.link.layout c.args.frame.now)) c.unwrap-body.ensures c.body_of.ensures.body in
-    let bounds = prefix_bounds b.link.layout is.parts c.args.frame.now (bounded_insert b.link.layout c.requires.binding.layout) is.framed in
+    let bounds = prefix_bounds b.link.layout is.parts c.args.frame.now (bounded_insert b.link.layout c.requires.binding.link.layout) is.framed in
     omega (arith, bounds.1, ap length is.prefix)
 
 pub returns-clause-found : goal.returns-clause-found

@@ -3,7 +3,7 @@ use Rattle.std.specs.Prelude.{IfOk, unwrap_or, Option}
 use Rattle.sdls_base.specs.ErrorControl.{error_control_length}
 use Rattle.sdls_base.specs.declared.layout.FrameFault.{FrameFault}
 use Rattle.frame_shield.specs.declared.body.Body.{Body}
-use Rattle.frame_shield.specs.declared.link.AnyLayout.{AnyLayout}
+use Rattle.sdls_base.specs.declared.link.AnyLayout.{AnyLayout}
 use Rattle.frame_shield.specs.Binding.{clear_layout}
 use Rattle.frame_shield.specs.Body.{IsBody}
 use Rattle.frame_shield.proofs.Lengths.{length-frame, prefix_bounds, clear_insert, gains, most_short, no_clear_fecf}
@@ -18,14 +18,14 @@ pub returns-clause-least : goal.returns-clause-least
 returns-clause-least c =
     let b = returns-clause-body c in
     let layout : AnyLayout = clear_layout c.args.binding.now.suite c.args.binding.now.link.layout in
-    let bounds = prefix_bounds layout b.parts c.args.clear.now (clear_insert c.args.binding.now.suite c.args.binding.now.link.layout c.requires.binding.layout) b.framed in
+    let bounds = prefix_bounds layout b.parts c.args.clear.now (clear_insert c.args.binding.now.suite c.args.binding.now.link.layout c.requires.binding.link.layout) b.framed in
     omega (arith, bounds.0, ap length b.prefix)
 
 pub returns-clause-most : goal.returns-clause-most
 returns-clause-most c =
     let b = returns-clause-body c in
     let layout : AnyLayout = clear_layout c.args.binding.now.suite c.args.binding.now.link.layout in
-    let bounds = prefix_bounds layout b.parts c.args.clear.now (clear_insert c.args.binding.now.suite c.args.binding.now.link.layout c.requires.binding.layout) b.framed in
+    let bounds = prefix_bounds layout b.parts c.args.clear.now (clear_insert c.args.binding.now.suite c.args.binding.now.link.layout c.requires.binding.link.layout) b.framed in
     omega (arith, bounds.1, ap length b.prefix)
 
 pub returns-clause-whole : goal.returns-clause-whole
@@ -39,7 +39,7 @@ returns-clause-whole c =
 pub returns-clause-gain : goal.returns-clause-gain
 returns-clause-gain c =
     let b = returns-clause-body c in
-    gains c.args.binding.now.suite c.args.binding.now.link.layout b.parts c.args.clear.now c.requires.binding.layout b.framed
+    gains c.args.binding.now.suite c.args.binding.now.link.layout b.parts c.args.clear.now c.requires.binding.link.layout b.framed
 
 pub returns-clause-short : goal.returns-clause-short
-returns-clause-short c = most_short c.args.binding.now.link.layout c.requires.binding.layout
+returns-clause-short c = most_short c.args.binding.now.link.layout c.requires.binding.link.layout

@@ -6,7 +6,7 @@ use Rattle.frame_shield.specs.declared.binding.Binding.{Binding}
 use Rattle.frame_shield.specs.AnyFrame.{prefix_of, room_of}
 use Rattle.frame_shield.specs.Binding.{clear_layout}
 use Rattle.frame_shield.specs.Body.{ocf_of}
-use Rattle.frame_shield.specs.Link.{has_fecf}
+use Rattle.sdls_base.specs.Link.{has_fecf}
 use Rattle.frame_shield.specs.Protects.{Protects}
 use Rattle.frame_shield.specs.Shield.{prefix_for, room_for}
 use Rattle.frame_shield.proofs.ProtectFacts.{protects}

@@ -10,5 +10,5 @@ unshield-requires-clause-frame c =
       framed = body.framed;
       index = λ enough.
           ap (λ (room : List ℕ). take 2 room) (sym body.room)
-          ∙ sym c.in-Some.ensures.found ∙ ap (λ n. to_be_bytes w16 n) (c.if-spi-get.true ∙ c.get.ensures);
+          ∙ sym c.in-Some.ensures.found ∙ ap (λ n. to_be_bytes w16 n) (c.if-spi-get.true ∙ c.get.ensures.number);
     }
