@@ -4,3 +4,4 @@ pub mod ReadingFacts
 pub mod TelecommandLaws
 pub mod TelecommandPlans
 pub mod ChannelFacts
+pub mod Ascending

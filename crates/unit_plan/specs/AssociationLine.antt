@@ -4,6 +4,7 @@ use Rattle.sdls_base.specs.declared.states.Direction.{Direction}
 use Rattle.sdls_base.specs.declared.states.Direction.TheVariants.{Send, Receive}
 use Rattle.sdls_base.specs.declared.states.Suite.{Suite}
 use Rattle.sdls_base.specs.declared.states.Suite.TheVariants.{Cmac, Gcm}
+use Rattle.sdls_base.specs.declared.TheConstants.{MOST_CHANNELS}
 use Rattle.unit_plan.specs.declared.association_line.BeforeList.{BeforeList}
 use Rattle.unit_plan.specs.declared.association_line.AssociationLine.{AssociationLine}
 use Rattle.unit_plan.specs.Reading.{◌>>=◌, first_of, end_of}
@@ -45,11 +46,11 @@ association_said words = do
   channels ← channel_numbers before.1
   Some (record { before = before.0; channels = channels })
 
--- channel numbers, each above the one before it
+-- the test of a list of channels: numbers from `least` to 63, each above the one before it
 abbrev pub channels_from : ℕ → List ℕ → Bool
 channels_from least [] = true
 channels_from least (n ∷ ns) = nat_le least n && (nat_le n 63 && channels_from (n + 1) ns)
 
 -- one to eight of them
 abbrev pub are_channels : List ℕ → Bool
-are_channels ns = nat_le 1 (length ns) && (nat_le (length ns) 8 && channels_from 0 ns)
+are_channels ns = nat_le 1 (length ns) && (nat_le (length ns) MOST_CHANNELS && channels_from 0 ns)

@@ -1,7 +1,7 @@
 -- Profile: `channel` lines.
 use Rattle.std.specs.Prelude.{ℕ, ◌==◌, nat_le, Bool, true, false, not, ◌&&◌, List, Option, Some, None}
-use Rattle.unit_plan.specs.declared.link.AnyLayout.{AnyLayout}
-use Rattle.unit_plan.specs.declared.link.AnyLayout.TheVariants.{Tc, Tm, Aos}
+use Rattle.sdls_base.specs.declared.link.AnyLayout.{AnyLayout}
+use Rattle.sdls_base.specs.declared.link.AnyLayout.TheVariants.{Tc, Tm, Aos}
 use Rattle.unit_plan.specs.declared.channel_line.Place.{Place}
 use Rattle.unit_plan.specs.Reading.{◌>>=◌, end_of}
 use Rattle.unit_plan.specs.Field.{capped_at, optional_at}

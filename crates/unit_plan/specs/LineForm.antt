@@ -1,5 +1,6 @@
 -- Profile: the values of lines, and their bounds.
 use Rattle.std.specs.Prelude.{ℕ, ◌^◌, nat_le, ◌&&◌, List, codes, Option, Some, None, if◌then◌else◌}
+use Rattle.sdls_base.specs.declared.TheConstants.{MOST_WINDOW}
 use Rattle.unit_plan.specs.declared.association_line.AssociationLine.{AssociationLine}
 use Rattle.unit_plan.specs.declared.plan.PlanSa.{PlanSa}
 use Rattle.unit_plan.specs.AssociationLine.{are_channels}
@@ -40,7 +41,7 @@ association_of line said = do
   spi ← bounded 1 65534 said.before.spi
   key ← bounded 1 65535 said.before.key
   first ← bounded 0 (2 ^ 48) said.before.number
-  window ← bounded 1 (2 ^ 32) said.before.window
+  window ← bounded 1 MOST_WINDOW said.before.window
   if are_channels said.channels then Some (record {
     line = line;
     sa = record {

@@ -1,25 +1,14 @@
 -- Profile: `link` lines.
-use Rattle.std.specs.Prelude.{ℕ, ◌+◌, nat_le, Bool, true, false, ◌&&◌, List, [], ◌∷◌, ◌++◌, drop, codes, Option, Some, None, if◌then◌else◌}
+use Rattle.std.specs.Prelude.{ℕ, ◌+◌, ◌==◌, nat_le, Bool, ◌&&◌, List, [], ◌∷◌, ◌++◌, drop, codes, Option, Some, None, if◌then◌else◌}
 use Rattle.std.specs.Option.{option_map}
 use Rattle.std.specs.Str.{bytes_eq}
-use Rattle.unit_plan.specs.declared.link.AnyLayout.{AnyLayout}
-use Rattle.unit_plan.specs.declared.link.AnyLayout.TheVariants.{Tc, Tm, Aos}
-use Rattle.unit_plan.specs.declared.link.Mask.{Mask}
-use Rattle.unit_plan.specs.declared.link.Link.{Link}
+use Rattle.sdls_base.specs.declared.link.AnyLayout.{AnyLayout}
+use Rattle.sdls_base.specs.declared.link.AnyLayout.TheVariants.{Tc, Tm, Aos}
+use Rattle.sdls_base.specs.declared.link.Mask.{Mask}
+use Rattle.sdls_base.specs.declared.link.Link.{Link}
+use Rattle.sdls_base.specs.Link.{usual_tc, usual_tm, usual_aos}
 use Rattle.unit_plan.specs.Reading.{◌>>=◌, first_of, end_of}
 use Rattle.unit_plan.specs.Field.{capped_at, choice_at, decoded}
-
--- The usual masks: of the TC primary header all but bypass and control flags, length and sequence number; of TM and AOS
--- version, spacecraft and virtual channel; the TC segment header whole.
-abbrev pub usual_tc : Bool → Mask
-usual_tc true = record { octets = 0xC3 ∷ 0xFF ∷ 0xFC ∷ 0 ∷ 0 ∷ 0xFF ∷ []; length = 6 }
-usual_tc false = record { octets = 0xC3 ∷ 0xFF ∷ 0xFC ∷ 0 ∷ 0 ∷ 0 ∷ []; length = 5 }
-
-abbrev pub usual_tm : Mask
-usual_tm = record { octets = 0xFF ∷ 0xFE ∷ 0 ∷ 0 ∷ 0 ∷ 0 ∷ []; length = 6 }
-
-abbrev pub usual_aos : Mask
-usual_aos = record { octets = 0xFF ∷ 0xFF ∷ 0 ∷ 0 ∷ 0 ∷ 0 ∷ []; length = 6 }
 
 -- so many octets of a mask, 00 behind them
 abbrev pub mask_of : ℕ → List ℕ → Mask
@@ -79,9 +68,9 @@ link_said words = do
   ended ← end_of link.1
   Some (n.0, link.0)
 
--- the bounds of the lengths
+-- the test of a layout's bounds
 abbrev pub is_layout : AnyLayout → Bool
-is_layout (Tc layout) = true
+is_layout (Tc layout) = layout.most == 1024
 is_layout (Tm layout) = nat_le 48 layout.length && nat_le layout.length 2048
 is_layout (Aos layout) = nat_le layout.insert 64 && (nat_le (48 + layout.insert) layout.length && nat_le layout.length 2048)
 

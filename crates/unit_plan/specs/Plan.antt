@@ -3,7 +3,7 @@ use Rattle.std.specs.Prelude.{◌≡◌, ⊤, ℕ, ◌+◌, ◌==◌, nat_le, na
 use Rattle.unit_plan.specs.declared.channel_line.Place.{Place}
 use Rattle.unit_plan.specs.declared.kind.Kind.{Kind}
 use Rattle.unit_plan.specs.declared.kind.Kind.TheVariants as kinds
-use Rattle.unit_plan.specs.declared.link.Link.{Link}
+use Rattle.sdls_base.specs.declared.link.Link.{Link}
 use Rattle.unit_plan.specs.declared.plan.PlanSa.{PlanSa}
 use Rattle.unit_plan.specs.declared.plan_error.PlanCause.TheVariants.{Long, Form, Order, Range, Twice, Unknown}
 use Rattle.unit_plan.specs.declared.plan_error.PlanFault.{PlanFault}

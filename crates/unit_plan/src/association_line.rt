@@ -1,12 +1,14 @@
 //! `sa` lines.
-ghost use Rattle.std.specs.Prelude.{◌≡◌, IfOk};
+ghost use Rattle.std.specs.Prelude.{◌≡◌, ◌≤◌, All, IfOk, IsTrue};
+ghost use Rattle.std.specs.List.Sorted.{IsStrictlyIncreasing};
 ghost use Rattle.std.specs.Option.{option_map};
+ghost use Rattle.sdls_base.specs.Bounds.{AreChannels};
 ghost use Rattle.unit_plan.specs.AssociationLine.{direction_of, suite_of, before_list, association_said, channels_from, are_channels};
 
 use crate::fields::{channels, choice, decimal};
 use crate::lines::Words;
 use crate::reading::ended;
-use sdls_base::{Direction, Octets, Suite};
+use sdls_base::{Direction, MOST_CHANNELS, Octets, Suite};
 use std::alloc::{AllocError, Global};
 
 /// What an `sa` line says before its list.
@@ -87,7 +89,9 @@ pub(crate) fn association(
 }
 
 fn ascend(numbers: &[u8]) -> bool
-    ensures { result ≡ channels_from 0 numbers.now }
+    ensures tested { result ≡ channels_from 0 numbers.now }
+    ensures ascending { IsTrue result → IsStrictlyIncreasing numbers.now }
+    ensures identifiers { IsTrue result → All (λ n. n ≤ 63) numbers.now }
 {
     let mut least = 0;
     for number in numbers {
@@ -101,7 +105,9 @@ fn ascend(numbers: &[u8]) -> bool
 
 /// Whether these are one to eight channel numbers, ascending.
 pub(crate) fn are_channels(numbers: &[u8]) -> bool
-    ensures { result ≡ are_channels numbers.now }
+    ensures tested { result ≡ are_channels numbers.now }
+    ensures bounds { IsTrue result → AreChannels numbers.now }
+    ensures identifiers { IsTrue result → All (λ n. n ≤ 63) numbers.now }
 {
-    !numbers.is_empty() && numbers.len() <= 8 && ascend(numbers)
+    !numbers.is_empty() && numbers.len() <= MOST_CHANNELS && ascend(numbers)
 }

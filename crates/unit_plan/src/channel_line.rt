@@ -4,8 +4,8 @@ ghost use Rattle.unit_plan.specs.ChannelLine.{channel_said, is_same_number, is_s
 
 use crate::fields::{octet, optional, short};
 use crate::lines::Words;
-use crate::link::{AnyLayout, Link};
 use crate::reading::ended;
+use sdls_base::{AnyLayout, Link};
 
 /// Where a channel lies.
 #[derive(Clone, Copy, Debug, PartialEq, Eq)]

@@ -1,6 +1,7 @@
 //! `key` lines.
-ghost use Rattle.std.specs.Prelude.{◌≡◌, ◌⊎◌, length, IfOk, IfSome};
+ghost use Rattle.std.specs.Prelude.{◌≡◌, length, IfOk, IfSome};
 ghost use Rattle.std.specs.Option.{option_map};
+ghost use Rattle.sdls_base.specs.Bounds.{IsKeyLength};
 ghost use Rattle.unit_plan.specs.KeyLine.{state_of, key_octets, before_octets, key_said};
 
 use crate::fields::{choice, decimal, decode};
@@ -30,7 +31,7 @@ fn state_of(is_preactive: bool) -> KeyState
 /// The key that 32 or 64 digits spell.
 fn key_octets(alloc: Global, word: &[u8]) -> Result<Option<Octets>, AllocError>
     ensures said { IfOk result (λ read. read ≡ key_octets word.now) }
-    ensures bits { IfOk result (λ read. IfSome read (λ octets. (length octets ≡ 16) ⊎ (length octets ≡ 32))) }
+    ensures bits { IfOk result (λ read. IfSome read (λ octets. IsKeyLength (length octets))) }
 {
     if let Some(octets) = decode::<16>(word) {
         return Ok(Some(Octets::new(Vec::from_slice(alloc, &octets)?)));
@@ -57,7 +58,7 @@ fn before_octets<'a>(words: &mut Words<'a>) -> Option<(u64, KeyState, &'a [u8])>
 #[tactic(auto, unfolding(crate::specs::KeyLine::key_said))]
 pub(crate) fn key(alloc: Global, words: &mut Words<'_>) -> Result<Option<KeyLine>, AllocError>
     ensures said { IfOk result (λ read. read ≡ key_said words.old) }
-    ensures bits { IfOk result (λ read. IfSome read (λ line. (length line.octets ≡ 16) ⊎ (length line.octets ≡ 32))) }
+    ensures bits { IfOk result (λ read. IfSome read (λ line. IsKeyLength (length line.octets))) }
 {
     let Some((id, state, word)) = before_octets(words) else {
         return Ok(None);

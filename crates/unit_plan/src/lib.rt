@@ -13,7 +13,6 @@ mod fields;
 mod key_line;
 mod kind;
 mod lines;
-mod link;
 mod link_line;
 mod number;
 mod plan;
@@ -24,9 +23,9 @@ mod telecommand;
 
 pub use channel_line::Place;
 pub use lines::{Lines, Words};
-pub use link::{AnyLayout, Link, Mask};
 pub use plan::{Plan, PlanKey, PlanSa};
 pub use plan_error::{PlanCause, PlanError, PlanFault};
+pub use sdls_base::{AnyLayout, Link, Mask};
 pub use telecommand::TelecommandPlan;
 
 /// The most octets of a plan.

@@ -1,47 +1,13 @@
 //! `link` lines.
-ghost use Rattle.std.specs.Prelude.{◌≡◌, ◌≤◌, IfSome};
+ghost use Rattle.std.specs.Prelude.{◌≡◌, ◌≤◌, IfSome, IsTrue};
+ghost use Rattle.sdls_base.specs.Link.{IsInBounds};
 ghost use Rattle.unit_plan.specs.Reading.{Reads};
-ghost use Rattle.unit_plan.specs.LinkLine.{usual_tc, usual_tm, usual_aos, mask_at, tc_at, tm_at, aos_at, frame_at, link_said, is_link};
+ghost use Rattle.unit_plan.specs.LinkLine.{mask_at, tc_at, tm_at, aos_at, frame_at, link_said, is_link};
 
 use crate::fields::{choice, octet, short};
 use crate::lines::Words;
-use crate::link::{AnyLayout, Link, Mask};
 use crate::reading::ended;
-use sdls_base::{AosLayout, TcLayout, TmLayout};
-
-fn usual_tc(segment: bool) -> Mask
-    ensures { result ≡ usual_tc segment }
-{
-    if segment {
-        Mask {
-            octets: [0xC3, 0xFF, 0xFC, 0, 0, 0xFF],
-            length: 6,
-        }
-    } else {
-        Mask {
-            octets: [0xC3, 0xFF, 0xFC, 0, 0, 0],
-            length: 5,
-        }
-    }
-}
-
-fn usual_tm() -> Mask
-    ensures { result ≡ usual_tm }
-{
-    Mask {
-        octets: [0xFF, 0xFE, 0, 0, 0, 0],
-        length: 6,
-    }
-}
-
-fn usual_aos() -> Mask
-    ensures { result ≡ usual_aos }
-{
-    Mask {
-        octets: [0xFF, 0xFF, 0, 0, 0, 0],
-        length: 6,
-    }
-}
+use sdls_base::{AnyLayout, AosLayout, Link, Mask, TcLayout, TmLayout};
 
 /// Takes a mask as long as the usual one, for which `-` stands.
 #[tactic(auto, unfolding(crate::specs::LinkLine::mask_at))]
@@ -71,7 +37,7 @@ fn tc(words: &mut Words<'_>) -> Option<Link>
 {
     let segment = choice(words, b"seg", b"noseg")?;
     let fecf = choice(words, b"fecf", b"nofecf")?;
-    let mask = mask(words, usual_tc(segment))?;
+    let mask = mask(words, Mask::usual_tc(segment))?;
     Some(Link {
         layout: AnyLayout::Tc(TcLayout {
             segment,
@@ -89,7 +55,7 @@ fn tm(words: &mut Words<'_>) -> Option<Link>
 {
     let length = short(words)?;
     let fecf = choice(words, b"fecf", b"nofecf")?;
-    let mask = mask(words, usual_tm())?;
+    let mask = mask(words, Mask::usual_tm())?;
     Some(Link {
         layout: AnyLayout::Tm(TmLayout { length, fecf }),
         mask,
@@ -105,7 +71,7 @@ fn aos(words: &mut Words<'_>) -> Option<Link>
     let insert = octet(words)?;
     let ocf = choice(words, b"ocf", b"noocf")?;
     let fecf = choice(words, b"fecf", b"nofecf")?;
-    let mask = mask(words, usual_aos())?;
+    let mask = mask(words, Mask::usual_aos())?;
     Some(Link {
         layout: AnyLayout::Aos(AosLayout {
             length,
@@ -149,13 +115,14 @@ pub(crate) fn link(words: &mut Words<'_>) -> Option<(u8, Link)>
 
 /// Whether number and lengths are within their bounds.
 pub(crate) fn is_link(number: u8, link: &Link) -> bool
-    ensures { result ≡ is_link number link.now }
+    ensures tested { result ≡ is_link number link.now }
+    ensures bounds { IsTrue result → IsInBounds link.now.layout }
 {
     if number > 15 {
         return false;
     }
     match &link.layout {
-        AnyLayout::Tc(_) => true,
+        AnyLayout::Tc(layout) => layout.most == 1_024,
         AnyLayout::Tm(layout) => layout.length >= 48 && layout.length <= 2_048,
         AnyLayout::Aos(layout) => {
             layout.insert <= 64

@@ -4,16 +4,17 @@ ghost use Rattle.unit_plan.specs.Lines.{lines_of};
 ghost use Rattle.unit_plan.specs.PlanError.{Gives};
 ghost use Rattle.unit_plan.specs.Channels.{channel_at};
 ghost use Rattle.unit_plan.specs.PlanLines.{no_lines, link_of, has_link, has_key, has_association};
-ghost use Rattle.unit_plan.specs.PlanRules.{IsLink, IsKey, IsAssociation};
+ghost use Rattle.sdls_base.specs.Bounds.{IsKeyLength};
+ghost use Rattle.sdls_base.specs.Link.{IsLink};
+ghost use Rattle.unit_plan.specs.PlanRules.{IsAssociation};
 ghost use Rattle.unit_plan.specs.Plan.{plan_of, after};
 
 use crate::MOST_OCTETS;
 use crate::channel_line::Place;
 use crate::channels::Channels;
 use crate::lines::Lines;
-use crate::link::Link;
 use crate::plan_error::{PlanCause, PlanError, check, refused};
-use sdls_base::{ChannelId, KeyId, KeyItem, KeyState, NewSa, Spi};
+use sdls_base::{ChannelId, KeyId, KeyItem, KeyState, Link, NewSa, Spi};
 use std::alloc::Global;
 use std::marker::Model;
 
@@ -195,7 +196,7 @@ impl Plan {
     /// The keys, in the order of the lines.
     pub fn keys(&self) -> &[PlanKey]
         ensures lines { result.now ≡ self.now.keys }
-        ensures lengths { All IsKey result.now }
+        ensures lengths { All (λ key. IsKeyLength (length key.item.bytes)) result.now }
     {
         self.keys.as_slice()
     }

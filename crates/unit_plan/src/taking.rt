@@ -16,7 +16,7 @@ use crate::link_line::{is_link, link};
 use crate::plan::{Plan, PlanKey, PlanSa};
 use crate::plan_error::{PlanCause, PlanError, check, refused};
 use crate::reading::{ended, pass};
-use sdls_base::{ChannelId, KeyId, KeyItem, NewSa, Spi};
+use sdls_base::{ChannelId, KeyId, KeyItem, MOST_WINDOW, NewSa, Spi};
 use std::alloc::Global;
 
 fn bounded(n: u64, least: u64, most: u64) -> Option<u64>
@@ -83,7 +83,7 @@ fn association_of(line: u32, said: AssociationLine) -> Option<PlanSa>
     let spi = spi(before.spi)?;
     let key = key_id(before.key)?;
     let number = bounded(before.number, 0, 1 << 48)?;
-    let window = bounded(before.window, 1, 1 << 32)?;
+    let window = bounded(before.window, 1, MOST_WINDOW)?;
     if !are_channels(said.channels.as_slice()) {
         return None;
     }
