@@ -1,5 +1,5 @@
 // A disk and a sink in memory, with all that they have held.
-ghost use Rattle.std.specs.Prelude.{◌≡◌, ◌<◌, ◌≤◌, [], ◌∷◌, ◌++◌, length, OnErr, vec_len, vec_capacity};
+ghost use Rattle.std.specs.Prelude.{◌≡◌, ◌≤◌, length, OnErr};
 ghost use Rattle.sdls_outside.specs.Crash.{LeftBy, fresh};
 ghost use Rattle.sdls_outside.specs.Disk.{Leaves};
 ghost use Rattle.sdls_outside.specs.Site.{Writes, Syncs, Puts};
@@ -56,7 +56,7 @@ impl History {
         self.past.reserve(1)?;
         let before = Snapshot::of(&self.held);
         self.held.write(self.alloc, at, octets)?;
-        push_within(&mut self.past, before);
+        self.past.push_reserved(before);
         Ok(())
     }
 
@@ -67,7 +67,7 @@ impl History {
         self.past.reserve(1)?;
         let before = Snapshot::of(&self.held);
         self.held.sync();
-        push_within(&mut self.past, before);
+        self.past.push_reserved(before);
         Ok(())
     }
 
@@ -93,17 +93,7 @@ impl History {
         self.past.reserve(1)?;
         let before = Snapshot::of(&self.held);
         self.held.sunk.extend_from_slice(octets)?;
-        push_within(&mut self.past, before);
+        self.past.push_reserved(before);
         Ok(())
     }
-}
-
-// Pushes an element for which there is room.
-fn push_within<T: Drop>(items: &mut Vec<T>, item: T)
-    requires { vec_len items.old < vec_capacity items.old }
-    ensures { items.new.items ≡ items.old.items ++ item ∷ [] }
-{
-    let Ok(()) = items.push(item) else {
-        unreachable!()
-    };
 }

@@ -1,8 +1,9 @@
 -- Protecting a TC transfer frame by CMAC (CCSDS 355.0-B, ApplySecurity; the layout, the mask and the widths are profile).
-use Rattle.std.specs.Prelude.{◌≡◌, ℕ, ◌-◌, true, false, List, [], ◌∷◌, ◌++◌}
+use Rattle.std.specs.Prelude.{◌≡◌, ℕ, ◌-◌, true, false, List, ◌++◌}
 use Rattle.cmac.specs.Cmac.{mac}
 use Rattle.sdls_base.specs.declared.layout.TcLayout.{TcLayout}
 use Rattle.sdls_base.specs.declared.states.Suite.TheVariants.{Cmac}
+use Rattle.sdls_base.specs.Link.{mask_octets, usual_tc}
 use Rattle.sdls_base.specs.Suite.{overhead_of}
 use Rattle.sdls_base.specs.ErrorControl.{error_control_length}
 use Rattle.sdls_header.specs.declared.pieces.Vector.TheVariants.{Sequence}
@@ -21,9 +22,9 @@ clear_layout layout = record layout {
   most = layout.most - overhead_of Cmac - error_control_length layout.fecf;
 }
 
--- the authentication bit mask of link 0: that of the primary header, then that of the segment header
+-- the authentication bit mask of link 0, the usual one with segment headers
 abbrev pub link_mask : List ℕ
-link_mask = 0xC3 ∷ 0xFF ∷ 0xFC ∷ 0x00 ∷ 0x00 ∷ 0xFF ∷ []
+link_mask = mask_octets (usual_tc true)
 
 -- Security Header: the security parameter index, and the number in 4 octets
 abbrev pub sequence_header : ℕ → ℕ → List ℕ

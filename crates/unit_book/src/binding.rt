@@ -3,7 +3,7 @@ ghost use Rattle.sdls_base.specs.declared.change.Change.TheVariants.{Marks};
 ghost use Rattle.unit_book.specs.State.{State, initial, applied};
 ghost use Rattle.unit_book.specs.Verdict.{IsBinding, IsOfPlan, clear_fault, is_on_channel, lacks_header, protect_verdict};
 
-use crate::shielding::CLEAR_LAYOUT;
+use crate::shielding::clear_layout;
 use aes_block::Schedule;
 use sdls_base::{KeyId, Spi, flag};
 use std::marker::Model;
@@ -120,7 +120,7 @@ pub fn verdict_on(plan: &TelecommandPlan, link: u8, clear: &[u8]) -> Verdict
     if !has_channel(plan, clear) {
         return Verdict::Channel;
     }
-    match tc_frame::read(clear, &CLEAR_LAYOUT) {
+    match tc_frame::read(clear, &clear_layout()) {
         Ok(_) => Verdict::Bound,
         Err(fault) => Verdict::Layout(fault as u8),
     }

@@ -1,5 +1,5 @@
 // The book.
-ghost use Rattle.std.specs.Prelude.{◌≡◌, ℕ, ◌+◌, ◌^◌, ◌<◌, ◌≤◌, ◌↔◌, IsTrue, MatchResult, IfOk, IfErr, Ok, None, min, length, [], ◌∷◌, ◌++◌, vec_len, vec_capacity};
+ghost use Rattle.std.specs.Prelude.{◌≡◌, ◌+◌, ◌^◌, ◌<◌, ◌≤◌, ◌↔◌, IsTrue, MatchResult, IfOk, IfErr, Ok, None, min, length, [], vec_capacity};
 ghost use Rattle.std.specs.Option.{IsSome};
 ghost use Rattle.sdls_base.specs.KeyId.{end_of};
 ghost use Rattle.sdls_outside.specs.Faults.{Rose};
@@ -243,13 +243,13 @@ impl<O: Site> Book<O> {
             .append(&mut self.site, &write_marks(key, marks))
         {
             Ok(()) => {
-                push_within(&mut self.entries, entry);
-                push_within(&mut self.stored, before);
+                self.entries.push_reserved(entry);
+                self.stored.push_reserved(before);
                 self.now = marks;
                 Ok(marks.mark)
             }
             Err(JournalFault::SiteFault(count)) => {
-                push_within(&mut self.entries, entry);
+                self.entries.push_reserved(entry);
                 Err(BookFault::SiteFault(count))
             }
             Err(_) => unreachable!(),
@@ -298,15 +298,4 @@ impl<O: Site> Book<O> {
             Err(Failed) => Err(BookFault::SiteFault(self.site.faults())),
         }
     }
-}
-
-/// Pushes an element for which there is room.
-fn push_within<T: Drop>(items: &mut Vec<T>, item: T)
-    requires { vec_len items.old < vec_capacity items.old }
-    ensures items { items.new.items ≡ items.old.items ++ item ∷ [] }
-    ensures capacity { vec_capacity items.old ≤ vec_capacity items.new }
-{
-    let Ok(()) = items.push(item) else {
-        unreachable!()
-    };
 }

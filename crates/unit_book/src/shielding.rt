@@ -1,5 +1,6 @@
 ghost use Rattle.std.specs.Prelude.{◌≡◌, ◌+◌, ◌≤◌, ◌<◌, ◌^◌, ◌++◌, None, length, take, drop, replicate};
 ghost use Rattle.cmac.specs.Cmac.{mac};
+ghost use Rattle.sdls_base.specs.Suite.{overhead_of};
 ghost use Rattle.sdls_header.specs.Authenticated.{authenticated};
 ghost use Rattle.sdls_header.specs.SecurityHeader.{header_octets};
 ghost use Rattle.std.specs.Option.{option_to_list};
@@ -10,7 +11,7 @@ ghost use Rattle.unit_book.specs.Verdict.{clear_fault};
 use crate::binding::Binding;
 use aes_block::Schedule;
 use cmac::Running;
-use sdls_base::{Spi, TcLayout, put};
+use sdls_base::{Mask, Spi, Suite, TcLayout, put};
 use sdls_header::{SecurityHeader, Vector, masked, write_header};
 use tc_frame::Parts;
 
@@ -27,15 +28,15 @@ const LINK_LAYOUT: TcLayout = TcLayout {
     most: 1024,
 };
 
-/// The frames of link 0 in clear, 22 octets shorter.
-pub(crate) const CLEAR_LAYOUT: TcLayout = TcLayout {
-    segment: true,
-    fecf: false,
-    most: 1002,
-};
-
-/// The authentication bit mask of link 0: the primary header's, then the segment header's.
-const MASK: [u8; 6] = [0xC3, 0xFF, 0xFC, 0x00, 0x00, 0xFF];
+/// The frames of link 0 in clear, shorter by security header and trailer.
+pub(crate) fn clear_layout() -> TcLayout
+    ensures { result ≡ clear_layout link_layout }
+{
+    TcLayout {
+        most: LINK_LAYOUT.most - Suite::Cmac.overhead() as u16,
+        ..LINK_LAYOUT
+    }
+}
 
 /// The parts of a frame in clear that has no fault.
 fn clear_parts(clear: &[u8]) -> Parts<'_>
@@ -46,14 +47,14 @@ fn clear_parts(clear: &[u8]) -> Parts<'_>
     ensures whole { length clear.now ≡ length result.prefix.now + length result.room.now }
     ensures most { length clear.now ≤ 1002 }
 {
-    tc_frame::read(clear, &CLEAR_LAYOUT).unwrap()
+    tc_frame::read(clear, &clear_layout()).unwrap()
 }
 
 /// Writes security header and data field into the front of `room`, and zeros in the MAC's place, and answers their
 /// octets.
 fn lay_room(spi: Spi, number: u32, field: &[u8], room: &mut [u8]) -> usize
-    requires { length field.now + 22 ≤ length room.old }
-    ensures count { result ≡ length field.now + 22 }
+    requires { length field.now + overhead_of Suite.Cmac ≤ length room.old }
+    ensures count { result ≡ length field.now + overhead_of Suite.Cmac }
     ensures written { take result room.new ≡ sequence_header spi number ++ field.now ++ replicate 16 0 }
 {
     let header = SecurityHeader {
@@ -73,7 +74,8 @@ fn mac_of(key: &Schedule, prefix: &[u8], text: &[u8]) -> [u8; 16]
 {
     let mut covered = [0; 6];
     let covered = &mut covered[..prefix.len()];
-    masked(prefix, &MASK, covered);
+    let mask = Mask::usual_tc(true);
+    masked(prefix, mask.as_slice(), covered);
     let mut running = Running::new(key);
     running.update(covered);
     running.update(text);
@@ -83,13 +85,13 @@ fn mac_of(key: &Schedule, prefix: &[u8], text: &[u8]) -> [u8; 16]
 /// Protects a frame in clear of link 0 under a number, and writes the protected frame into the front of `out`; answers its
 /// octets. Takes no memory. What `out` has behind the frame stays.
 ///
-/// The data field stays in clear (AES-CMAC). Security header and trailer add 22 octets, which the length field counts.
+/// The data field stays in clear (AES-CMAC). The length field counts the octets of security header and trailer.
 pub fn shield(binding: &Binding, number: u64, clear: &[u8], out: &mut [u8]) -> usize
     requires faultless { clear_fault clear.now ≡ None }
     requires least { 1 ≤ number }
     requires most { number < 2 ^ 32 }
-    requires room { length clear.now + 22 ≤ length out.old }
-    ensures count { result ≡ length clear.now + 22 }
+    requires room { length clear.now + overhead_of Suite.Cmac ≤ length out.old }
+    ensures count { result ≡ length clear.now + overhead_of Suite.Cmac }
     ensures short { result ≤ 1024 }
     ensures protected { Protects binding.now.spi binding.now.octets number clear.now (take result out.new) }
     ensures rest { drop result out.new ≡ drop result out.old }

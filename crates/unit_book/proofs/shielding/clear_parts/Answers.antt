@@ -7,8 +7,8 @@ use Rattle.unit_book.proofs.shielding.clear_parts.Goals as goal
 pub returns : goal.returns
 returns c =
     let p = view c.unwrap.result in
-    let is : TcFrame (clear_layout link_layout) p c.args.clear.now = rw c.unwrap.ensures at c.read.ensures.found in
-    let front : c.unwrap.result.prefix.now ≡ prefix_of (clear_layout link_layout) p = rw c.unwrap.ensures at c.read.ensures.prefix in
+    let is : TcFrame (clear_layout link_layout) p c.args.clear.now = rw (c.unwrap.ensures, c.clear_layout.ensures) at c.read.ensures.found in
+    let front : c.unwrap.result.prefix.now ≡ prefix_of (clear_layout link_layout) p = rw (c.unwrap.ensures, c.clear_layout.ensures) at c.read.ensures.prefix in
     let lengths : Lengths p c.args.clear.now c.unwrap.result.prefix.now = lengths_of p _ _ is front in
     record {
       frame = is;

@@ -31,9 +31,9 @@ returns-in-Ok-clause-kept g c =
       body_is = c.write_marks.ensures;
     } in
     let place : g.row.O.Denot → ℕ = λ site. length (trace site).now.sunk in
-    kept_parts told trace faults _ _ _ _ _ c.append.new.self _ c.push_within.new.items.items _ _
-    c.in-Ok.ensures.counted c.push_within.ensures.items
-    (ap (map (λ before. place before.value)) c.push_within-in-Ok.ensures.items ∙ map_push _ _ _
+    kept_parts told trace faults _ _ _ _ _ c.append.new.self _ c.push_reserved.new.self.items _ _
+    c.in-Ok.ensures.counted c.push_reserved.ensures.items
+    (ap (map (λ before. place before.value)) c.push_reserved-in-Ok.ensures.items ∙ map_push _ _ _
     ∙ ap (λ (site : g.row.O.Denot). map (λ before. place before.value) c.self.inside.stored.items ++ place site ∷ []) c.of-before.ensures)
     (stored told trace faults _ _ _ _ _ _ _ _ _ c.write_marks.result ready c.append.new.site c.in-Ok.ensures.fault.later
     c.in-Ok.ensures.any_moment (λ is_told. c.in-Ok.ensures.kept is_told) (λ is_told. g.met.O.Site.image_may_stay c.append.new.site is_told)
@@ -60,7 +60,7 @@ returns-in-Err-SiteFault-clause-kept g c =
       entry_is = refl;
       body_is = c.write_marks.ensures;
     } in
-    kept_parts told trace faults _ _ _ _ _ c.append.new.self _ c.push_within-in-Err-SiteFault.new.items.items _ _
-    c.in-Err-SiteFault.ensures.not_counted c.push_within-in-Err-SiteFault.ensures.items refl
+    kept_parts told trace faults _ _ _ _ _ c.append.new.self _ c.push_reserved-in-Err-SiteFault.new.self.items _ _
+    c.in-Err-SiteFault.ensures.not_counted c.push_reserved-in-Err-SiteFault.ensures.items refl
     (failed told trace faults _ _ _ _ _ _ _ _ _ c.write_marks.result ready c.append.new.site
     (rw c.in-Err-SiteFault.field-0-is at c.in-Err-SiteFault.ensures.fault.cause).0 c.in-Err-SiteFault.ensures.fault.later c.in-Err-SiteFault.ensures.any_moment)
