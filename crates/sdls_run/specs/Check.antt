@@ -1,14 +1,16 @@
 -- One AOS transfer frame of the CMAC suite, judged under a key.
 -- CCSDS 732.0-B, Transfer Frame Primary Header; CCSDS 355.0-B, Security Header and Security Trailer.
-use Rattle.std.specs.Prelude.{◌≡◌, ◌≢◌, ℕ, ◌-◌, ◌<◌, ◌⊎◌, List, [], ◌∷◌, length, take, drop}
+use Rattle.std.specs.Prelude.{◌≡◌, ◌≢◌, ℕ, ◌+◌, ◌-◌, ◌<◌, ◌⊎◌, List, [], ◌∷◌, length, take, drop}
 use Rattle.aos_frame.specs.FirstFault.{version_of, spare_of}
 use Rattle.cmac.specs.Cmac.{mac}
+use Rattle.sdls_base.specs.declared.states.Suite.TheVariants.{Cmac}
+use Rattle.sdls_base.specs.Suite.{overhead_of}
 use Rattle.sdls_run.specs.declared.refusal.Refusal.{Refusal}
 use Rattle.sdls_run.specs.declared.refusal.Refusal.TheVariants.{Short, Long, Version, Spare, Spi, Mac}
 
--- the octets of primary header (6), security header (6) and security trailer (16): profile
+-- the octets of primary header, security header and security trailer: profile
 abbrev pub least_length : ℕ
-least_length = 28
+least_length = 6 + overhead_of Cmac
 
 -- the most octets of a frame: profile
 abbrev pub greatest_length : ℕ

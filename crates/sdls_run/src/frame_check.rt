@@ -1,12 +1,14 @@
 ghost use Rattle.std.specs.Prelude.{◌≡◌, ◌↔◌, ◌-◌, ◌≤◌, List, ℕ, length, drop, take, IfOk, IfErr, IsTrue};
 ghost use Rattle.cmac.specs.Cmac.{mac};
+ghost use Rattle.sdls_base.specs.Suite.{overhead_of};
 ghost use Rattle.sdls_run.specs.Check.{Passes, PassesBefore, IsFirstFault, IsReserved, data_field};
 
 use crate::refusal::Refusal;
 use aes_block::Schedule;
-use sdls_base::{AosLayout, FrameFault, Suite};
+use sdls_base::{AosLayout, FrameFault, Suite, same_octets};
 
-const LEAST_LENGTH: usize = 28;
+/// The octets of the primary header.
+const HEADER_LENGTH: usize = 6;
 
 pub(crate) const GREATEST_LENGTH: usize = 2048;
 
@@ -17,7 +19,7 @@ fn room_of(frame: &[u8]) -> Result<&[u8], Refusal>
     ensures accepted { IfOk result (λ room. PassesBefore 4 frame.now × (room.now ≡ drop 6 frame.now)) }
     ensures refused { IfErr result (λ fault. (key : List ℕ) → IsFirstFault key frame.now fault) }
 {
-    if frame.len() < LEAST_LENGTH {
+    if frame.len() < HEADER_LENGTH + Suite::Cmac.overhead() {
         return Err(Refusal::Short);
     }
     if frame.len() > GREATEST_LENGTH {
@@ -46,7 +48,7 @@ fn has_reserved_spi(room: &[u8]) -> bool
 
 /// The data field and the MAC in a room of the CMAC suite.
 fn field_and_mac(room: &[u8]) -> (&[u8], &[u8])
-    requires { 22 ≤ length room.now }
+    requires { overhead_of Suite.Cmac ≤ length room.now }
     ensures field { result.0.now ≡ drop 6 (take (length room.now - 16) room.now) }
     ensures mac { result.1.now ≡ drop (length room.now - 16) room.now }
 {
@@ -58,7 +60,7 @@ fn field_and_mac(room: &[u8]) -> (&[u8], &[u8])
 fn is_mac(key: &Schedule, text: &[u8], trailer: &[u8]) -> bool
     ensures { IsTrue result ↔ (mac key.now text.now ≡ trailer.now) }
 {
-    cmac::mac(key, text).as_slice() == trailer
+    same_octets(&cmac::mac(key, text), trailer)
 }
 
 /// Judges one AOS transfer frame of the CMAC suite, and answers its data field.

@@ -1,6 +1,7 @@
 // Frames of one telecommand channel, protected and answered.
-ghost use Rattle.std.specs.Prelude.{◌≡◌, ◌≢◌, ◌+◌, ◌^◌, ◌<◌, ◌≤◌, [], ◌∷◌, ◌++◌, IsTrue, IfOk, OnErr, None, length, vec_len, vec_capacity};
+ghost use Rattle.std.specs.Prelude.{◌≡◌, ◌≢◌, ◌+◌, ◌^◌, ◌<◌, ◌≤◌, IsTrue, IfOk, OnErr, None, length, vec_len};
 ghost use Rattle.sdls_base.specs.KeyId.{end_of};
+ghost use Rattle.sdls_base.specs.Suite.{overhead_of};
 ghost use Rattle.unit_book.specs.declared.binding.Verdict.{Verdict};
 ghost use Rattle.unit_book.specs.Verdict.{protect_verdict, binding_of, IsBound, clear_fault};
 ghost use Rattle.unit_book.specs.Book.{IsKept};
@@ -16,13 +17,10 @@ ghost use Rattle.sdls_run.specs.Serving.{Adds, GrowsBehind, ServesOn, ServesSegm
 
 use crate::answers::{Answer, answer_header};
 use crate::records::Record;
-use sdls_base::{NoMemory, Octets};
+use sdls_base::{NoMemory, Octets, Suite};
 use sdls_outside::Site;
 use std::alloc::{AllocError, Global};
 use unit_book::{Binding, Book, BookFault, Verdict, shield};
-
-/// The octets of security header and trailer.
-const OVERHEAD: usize = 22;
 
 /// A book whose channel is served: what its frames are protected under, and the next number of the key.
 pub(crate) struct Session<O: Site> {
@@ -88,7 +86,7 @@ fn protected(binding: &Binding, number: u64, frame: &Record, mut body: Vec<u8>) 
     requires faultless { clear_fault frame.now.octets ≡ None }
     requires least { 1 ≤ number }
     requires most { number < 2 ^ 32 }
-    requires room { vec_len body ≡ length frame.now.octets + OVERHEAD }
+    requires room { vec_len body ≡ length frame.now.octets + overhead_of Suite.Cmac }
     ensures protected { AnswersProtected binding.now number frame.now result }
     ensures short { length result.body ≤ 1024 }
 {
@@ -122,7 +120,7 @@ impl<O: Site> Session<O> {
         requires verdict { protect_verdict self.old.book.start frame.now.link frame.now.octets ≡ Verdict.Bound }
         requires bound { IsBound self.old.book.start frame.now.link frame.now.octets }
         requires faultless { clear_fault frame.now.octets ≡ None }
-        requires room { vec_len body ≡ length frame.now.octets + OVERHEAD }
+        requires room { vec_len body ≡ length frame.now.octets + overhead_of Suite.Cmac }
         ensures kept { IsKept O.told O.trace O.faults self.new.book }
         ensures binding { self.new.binding ≡ self.old.binding }
         ensures known { IsSome (key_row self.new.book.state.keys self.new.binding.key) }
@@ -167,7 +165,10 @@ impl<O: Site> Session<O> {
                 body: Octets::new(Vec::new(alloc)),
             };
         }
-        match zeros(alloc, frame.octets.as_slice().len() + OVERHEAD) {
+        match zeros(
+            alloc,
+            frame.octets.as_slice().len() + Suite::Cmac.overhead(),
+        ) {
             Ok(body) => self.use_number(alloc, frame, body),
             Err(_) => bare(alloc, 0x33, 0, 0, 0),
         }
@@ -210,7 +211,7 @@ impl<O: Site> Session<O> {
         };
         for frame in frames {
             let answer = self.answer_frame(alloc, frame);
-            push_within(&mut answers, answer);
+            answers.push_reserved(answer);
         }
         Ok(answers)
     }
@@ -274,15 +275,4 @@ impl<O: Site> Session<O> {
             Err(_) => Err(Stop::PutFailed),
         }
     }
-}
-
-/// Pushes an element for which there is room.
-fn push_within<T: Drop>(items: &mut Vec<T>, item: T)
-    requires { vec_len items.old < vec_capacity items.old }
-    ensures items { items.new.items ≡ items.old.items ++ item ∷ [] }
-    ensures capacity { vec_capacity items.old ≤ vec_capacity items.new }
-{
-    let Ok(()) = items.push(item) else {
-        unreachable!()
-    };
 }

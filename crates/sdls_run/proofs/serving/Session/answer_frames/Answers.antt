@@ -17,10 +17,10 @@ loop-frame-preserved g c =
     let here = c.answer_frame-answer.ensures in
     let old = c.loop-frame.invariant in
     let new = c.answer_frame-answer.new.self in
-    let items : c.push_within.new.items.items ≡ c.loop-frame.answers.items ++ c.answer_frame-answer.result ∷ [] = c.push_within.ensures.items in
+    let items : c.push_reserved.new.self.items ≡ c.loop-frame.answers.items ++ c.answer_frame-answer.result ∷ [] = c.push_reserved.ensures.items in
     let size : length (c.loop-frame.answers.items ++ c.answer_frame-answer.result ∷ []) ≡ length c.loop-frame.answers.items + 1 =
     length-append c.loop-frame.answers.items (c.answer_frame-answer.result ∷ []) in
-    let many : length c.push_within.new.items.items ≡ length c.loop-frame.answers.items + 1 =
+    let many : length c.push_reserved.new.self.items ≡ length c.loop-frame.answers.items + 1 =
     ap (λ (answers : List Answer). length answers) items ∙ size in
     let low : c.loop-frame.frame-index < length c.args.frames.now = omega arith in
     record {
@@ -40,7 +40,7 @@ loop-frame-preserved g c =
           c.frame-item.result c.answer_frame-answer.result old.ready.kept here.answers);
       slots = here.slots ∙ old.slots;
       many = omega (arith, many, old.many);
-      room = omega (arith, old.room, c.push_within.ensures.capacity);
+      room = omega (arith, old.room, c.push_reserved.ensures.capacity);
       short = subst (All (λ (answer : Answer). length answer.body ≤ 1024)) (sym items)
           (All-push (λ (answer : Answer). length answer.body ≤ 1024) c.loop-frame.answers.items c.answer_frame-answer.result old.short here.short);
       sunk = λ is_told. here.sunk is_told ∙ old.sunk is_told;
