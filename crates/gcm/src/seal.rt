@@ -1,25 +1,16 @@
-ghost use Rattle.std.specs.Prelude.{◌≡◌, ℕ, ◌≤◌, ◌↔◌, List, length, Some, None, codes, IsErr, OnOk, OnErr};
+ghost use Rattle.std.specs.Prelude.{◌≡◌, ℕ, ◌≤◌, ◌↔◌, List, length, Some, None, IsErr, OnOk, OnErr};
 ghost use Rattle.gcm.specs.Gcm.{gcm_open, gcm_seal, tag_of};
 
 use crate::counter::{count_over, counter_block};
 use crate::hash::hash;
 use aes_block::Schedule;
 use sdls_base::same_octets;
-use std::fmt;
+use thiserror::Error;
 
 /// The tag is not the ciphertext's.
-#[derive(Clone, Copy, Debug, PartialEq, Eq)]
+#[derive(Clone, Copy, Debug, PartialEq, Eq, Error)]
+#[error("tag is not the ciphertext's")]
 pub struct BadTag;
-
-impl fmt::Display for BadTag {
-    ghost output = { λ _. Some (codes "the tag is not the ciphertext's") };
-
-    fn fmt<W: fmt::Write>(&self, f: &mut fmt::Formatter<W>) -> fmt::Result {
-        f.write_str("the tag is not the ciphertext's")
-    }
-}
-
-impl std::error::Error for BadTag {}
 
 /// Law: what was sealed opens to what was sealed, and nothing else opens.
 pub fn opens_what_was_sealed()
