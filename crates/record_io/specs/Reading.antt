@@ -1,0 +1,83 @@
+-- What a segment says of the whole input (profile).
+use Rattle.std.specs.Prelude.{◌≡◌, ℕ, ◌+◌, ◌≤◌, ⊤, Bool, IsTrue, List, [], ◌++◌, length}
+use Rattle.std.specs.List.{All}
+use Rattle.sdls_outside.specs.Faults.{Rose}
+use Rattle.record_io.specs.declared.records.Record.{Record}
+use Rattle.record_io.specs.declared.records.SegmentEnd.{SegmentEnd}
+use Rattle.record_io.specs.declared.records.SegmentEnd.TheVariants.{More, End, Malformed, SourceFault}
+use Rattle.record_io.specs.Input.{Item, IsItem, AreRead, LacksNext, MOST_OCTETS, IsInput, Whole, MalformedAt}
+use Rattle.record_io.specs.Places.{first_count, counted, places_from, records_of}
+
+-- a source: whether it tells what it has, the octets that it has left, and its count of faults
+pub record SourceSeen : Type 0 where
+  pub told : Bool
+  pub left : List ℕ
+  pub faults : ℕ
+
+-- how far a reader has come: how many octets it took, and how many records it read
+pub record Standing : Type 0 where
+  pub taken : ℕ
+  pub records : ℕ
+
+abbrev pub first_standing : Standing
+first_standing = record { taken = 0; records = 0 }
+
+-- What was taken from the start on: the beginning, these items, and a part of what is behind them, in which what is due
+-- there does not stand whole.
+pub record Takes (start now : SourceSeen) (items : List Item) (read part : List ℕ) : Type 0 where
+  pub items_are : All IsItem items
+  pub read_are : AreRead read items
+  pub taken : IsTrue start.told → start.left ≡ read ++ (part ++ now.left)
+  pub few : length read + length part ≤ MOST_OCTETS
+  pub no_whole : LacksNext read part
+
+-- from the start on these items were read, with the end of a segment, and nothing behind them was taken
+pub record IsReading (start now : SourceSeen) (standing : Standing) (items : List Item) (read : List ℕ) : Type 0 where
+  pub items_are : All IsItem items
+  pub read_are : AreRead read items
+  pub told : now.told ≡ start.told
+  pub taken : IsTrue start.told → start.left ≡ read ++ now.left
+  pub few : length read ≤ MOST_OCTETS
+  pub taken_is : standing.taken ≡ length read
+  pub records_are : standing.records ≡ (counted first_count items).index
+  pub closed : (counted first_count items).inside ≡ 0
+
+-- one more segment was read to its end, behind these items: its records have the number of that segment
+pub record ReadsMore (start now : SourceSeen) (standing : Standing) (items : List Item) (records : List Record) : Type 0 where
+  pub more : List Item
+  pub read : List ℕ
+  pub reading : IsReading start now standing (items ++ more) read
+  pub records_are : records ≡ records_of (places_from (counted first_count items) more)
+  pub one_segment : (counted first_count (items ++ more)).segment ≡ (counted first_count items).segment + 1
+
+-- the last records were read behind these items, all of one segment, which was not ended
+pub record ReadsLast (start now : SourceSeen) (items : List Item) (records : List Record) : Type 0 where
+  pub more : List Item
+  pub read : List ℕ
+  pub part : List ℕ
+  pub takes : Takes start now (items ++ more) read part
+  pub records_are : records ≡ records_of (places_from (counted first_count items) more)
+  pub one_segment : (counted first_count (items ++ more)).segment ≡ (counted first_count items).segment
+
+-- what one more segment says, by its end
+abbrev pub ReadsTo : SourceSeen → SourceSeen → Standing → List Item → List Record → SegmentEnd → Type 0
+ReadsTo start now standing items records More = ReadsMore start now standing items records
+ReadsTo start now standing items records End = (last : ReadsLast start now items records)
+    × (last.part ≡ []) × (IsTrue start.told → IsInput start.left (items ++ last.more) Whole)
+ReadsTo start now standing items records (Malformed offset) = (last : ReadsLast start now items records)
+    × (offset ≡ length last.read) × (IsTrue start.told → IsInput start.left (items ++ last.more) (MalformedAt offset))
+ReadsTo start now standing items records (SourceFault count) = ReadsLast start now items records × (count ≡ now.faults)
+
+-- where memory was wanting, what was taken: more items, whose records are lost, and a part of another
+pub record Loses (start now : SourceSeen) (items : List Item) : Type 0 where
+  pub more : List Item
+  pub read : List ℕ
+  pub part : List ℕ
+  pub takes : Takes start now (items ++ more) read part
+
+-- a fault of the source comes with its count, and only where that rose
+abbrev pub HasFaultCause : ℕ → ℕ → SegmentEnd → Type 0
+HasFaultCause before now More = ⊤
+HasFaultCause before now End = ⊤
+HasFaultCause before now (Malformed offset) = ⊤
+HasFaultCause before now (SourceFault count) = (count ≡ now) × Rose before now

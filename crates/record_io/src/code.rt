@@ -1,0 +1,58 @@
+//! The codes of answers.
+
+/// The frame is protected: the body is the protected frame.
+pub const PROTECTED: u8 = 0x00;
+
+/// The frame is accepted: the body is its data field.
+pub const ACCEPTED: u8 = 0x01;
+
+/// The frame is left in clear: its channel has no security.
+pub const CLEAR: u8 = 0x02;
+
+/// The command is done: the body is its reply.
+pub const DONE: u8 = 0x03;
+
+/// The command is refused: the detail says why.
+pub const REFUSED: u8 = 0x04;
+
+/// The frame breaks its layout: the detail is the fault, or 0 where there is no such link.
+pub const LAYOUT: u8 = 0x10;
+
+/// The frame's channel is none of the plan.
+pub const CHANNEL: u8 = 0x11;
+
+/// No association has the frame's index.
+pub const SPI: u8 = 0x12;
+
+/// The association is of the other direction.
+pub const DIRECTION: u8 = 0x13;
+
+/// The association is not operational.
+pub const STATE: u8 = 0x14;
+
+/// The association does not cover the channel.
+pub const COVERAGE: u8 = 0x15;
+
+/// The frame's MAC is wrong.
+pub const MAC: u8 = 0x16;
+
+/// The frame's number is old or too far ahead: the body is the highest number accepted and the window's width.
+pub const NUMBER: u8 = 0x17;
+
+/// The key's numbers have come to their end.
+pub const EXHAUSTED: u8 = 0x20;
+
+/// All slots of the image are used.
+pub const JOURNAL_FULL: u8 = 0x30;
+
+/// The site failed while the entry was stored.
+pub const SITE_FAULT: u8 = 0x31;
+
+/// The site had failed before.
+pub const STOPPED: u8 = 0x32;
+
+/// Memory is wanting.
+pub const NO_MEMORY: u8 = 0x33;
+
+/// The run ends: the detail is its status. It stands behind all other answers.
+pub const END: u8 = 0xff;

@@ -1,0 +1,22 @@
+//! The recorded input of `run` and its answers, octet for octet.
+//!
+//! [`Reader::next_segment`] reads the records of the input, a segment a call, and says how the segment ends.
+//! [`answer_header`] writes what stands before an answer's body. The numbers that the formats give to kinds, answers
+//! and ends are named in `kinds`, [`code`] and [`status`].
+#![tactic(auto)]
+
+mod answers;
+pub mod code;
+mod heads;
+mod intake;
+mod kinds;
+mod laws;
+mod reader;
+mod records;
+pub mod status;
+
+pub use answers::{Answer, answer_header};
+pub use kinds::{ItemKind, RecordKind};
+pub use laws::{answers_are_shown, answers_shown_once, begins_reading, input_reads_once};
+pub use reader::Reader;
+pub use records::{Record, SegmentEnd};

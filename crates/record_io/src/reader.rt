@@ -1,0 +1,286 @@
+// The recorded input, read in segments.
+ghost use Rattle.std.specs.Prelude.{ℕ, List, ◌≡◌, ◌+◌, ◌-◌, ◌*◌, ◌≤◌, ◌<◌, ◌++◌, [], length, take, IsTrue, IfOk, OnErr, IfErr, IfNone, IfSome, MatchResult, vec_len};
+ghost use Rattle.sdls_outside.specs.Faults.{HasCause};
+ghost use Rattle.record_io.specs.Input.{Item, MOST_OCTETS};
+ghost use Rattle.record_io.specs.Reading.{SourceSeen, Standing, first_standing, IsReading, ReadsTo, Loses, HasFaultCause};
+ghost use Rattle.record_io.specs.Steps.{still_counted, Fails, Moves, ReadsItem, Wants, IsFaultRead, IsCounted, Segment, due_beginning, EndsBefore};
+
+use crate::heads::{Head, head_of};
+use crate::intake::collect;
+use crate::kinds::{ItemKind, RecordKind};
+use crate::records::{Record, SegmentEnd};
+use sdls_base::{NoMemory, Octets};
+use sdls_outside::{Failed, Source};
+use std::alloc::Global;
+use std::marker::Model;
+
+/// The octets that the input begins with.
+const BEGINNING: [u8; 8] = *b"SDLSREC1";
+
+/// The most records of a segment.
+pub const SEGMENT_RECORDS: usize = 1024;
+
+/// What was read next.
+#[derive(Drop)]
+pub(crate) enum Read {
+    Next {
+        kind: RecordKind,
+        lane: u8,
+        link: u8,
+        octets: Octets,
+    },
+    Ends(SegmentEnd),
+}
+
+/// Reads the recorded input from a source, a segment a call. It counts the octets that it takes, up to 2^64 - 1, where
+/// the input counts as ended.
+#[derive(Drop)]
+pub struct Reader {
+    taken: u64,
+    records: u64,
+}
+
+impl Model for Reader {
+    ghost use Rattle.std.specs.Prelude.{◌*◌, ◌≤◌};
+    ghost use Rattle.record_io.specs.Input.{MOST_OCTETS};
+    ghost use Rattle.record_io.specs.Reading.{Standing};
+
+    ghost Value = { Standing };
+
+    ghost view = { λ r. record { taken = r.taken; records = r.records } };
+
+    ghost invariant = { λ r. (6 * r.records ≤ r.taken) × (r.taken ≤ MOST_OCTETS) };
+}
+
+impl Reader {
+    /// A reader before the first octet.
+    pub fn new() -> Reader
+        ensures { result ≡ first_standing }
+    {
+        Reader {
+            taken: 0,
+            records: 0,
+        }
+    }
+
+    /// How many octets were taken.
+    pub fn taken(&self) -> u64
+        ensures { result ≡ self.now.taken }
+    {
+        self.taken
+    }
+
+    /// Takes octets until the room is full or the input ends, and answers how many.
+    fn take<S: Source>(&mut self, source: &mut S, room: &mut [u8]) -> Result<usize, Failed>
+        ensures within { IfOk result (λ count. count ≤ length room.old) }
+        ensures counted { IfOk result (λ count. self.new
+            ≡ record { taken = self.old.taken + count; records = self.old.records }) }
+        ensures moved { IsTrue S.told
+            → IfOk result (λ count. S.left source.old ≡ take count room.new ++ S.left source.new) }
+        ensures ended { IsTrue S.told → IfOk result (λ count.
+            count < length room.old → still_counted self.new.taken (S.left source.new) ≡ []) }
+
+        ensures few { IfOk result (λ _. self.new.taken ≤ MOST_OCTETS) }
+        ensures uncounted { OnErr result (self.new ≡ self.old) }
+        ensures short { OnErr result (Fails S.told (length room.old) self.old.taken (S.left source.old) (S.left source.new)) }
+        ensures cause { HasCause (S.faults source.old) (S.faults source.new) result }
+    {
+        let most = room.len().min((u64::MAX - self.taken) as usize);
+        let count = collect(source, &mut room[..most])?;
+        self.taken += count as u64;
+        Ok(count)
+    }
+
+    /// Takes so many octets, or as many as are left.
+    fn take_octets<S: Source>(
+        &mut self,
+        alloc: Global,
+        source: &mut S,
+        len: u16,
+    ) -> Result<Result<Vec<u8>, Failed>, NoMemory>
+        ensures within { IfOk result (λ taken. IfOk taken (λ octets. vec_len octets ≤ len)) }
+        ensures counted { IfOk result (λ taken. IfOk taken (λ octets. self.new
+            ≡ record { taken = self.old.taken + vec_len octets; records = self.old.records })) }
+        ensures moved { IsTrue S.told → IfOk result (λ taken. IfOk taken (λ octets.
+            S.left source.old ≡ octets.items ++ S.left source.new)) }
+        ensures ended { IsTrue S.told → IfOk result (λ taken. IfOk taken (λ octets.
+            vec_len octets < len → still_counted self.new.taken (S.left source.new) ≡ [])) }
+
+        ensures few { IfOk result (λ taken. IfOk taken (λ _. self.new.taken ≤ MOST_OCTETS)) }
+        ensures uncounted { IfOk result (λ taken. OnErr taken (self.new ≡ self.old)) }
+        ensures short { IfOk result (λ taken. OnErr taken (
+            Fails S.told len self.old.taken (S.left source.old) (S.left source.new))) }
+        ensures untaken { OnErr result ((self.new ≡ self.old) × (S.left source.new ≡ S.left source.old)) }
+        ensures later { S.faults source.old ≤ S.faults source.new }
+        ensures cause { IfOk result (HasCause (S.faults source.old) (S.faults source.new)) }
+    {
+        let mut octets = vec![in alloc; 0; usize::from(len)]?;
+        match self.take(source, octets.as_mut_slice()) {
+            Ok(count) => {
+                octets.truncate(count);
+                Ok(Ok(octets))
+            }
+            Err(Failed) => Ok(Err(Failed)),
+        }
+    }
+
+    /// Reads on behind the first six octets of an item.
+    fn read_behind<S: Source>(
+        &mut self,
+        alloc: Global,
+        source: &mut S,
+        header: [u8; 6],
+    ) -> Result<Read, NoMemory>
+        requires { 6 ≤ self.old.taken }
+        ensures read { IfOk result (ReadsItem S.told (self.old.taken - 6) self.new.taken
+            (header ++ S.left source.old) (S.left source.new)) }
+        ensures wants { OnErr result (Wants S.told (self.old.taken - 6) (header ++ S.left source.old) (S.left source.new)) }
+        ensures taken { IfOk result (λ _. self.old.taken ≤ self.new.taken) }
+        ensures same_records { IfOk result (λ _. self.new.records ≡ self.old.records) }
+        ensures later { S.faults source.old ≤ S.faults source.new }
+        ensures cause { IfOk result (IsFaultRead (S.faults source.old) (S.faults source.new)) }
+    {
+        let offset = self.taken - 6;
+        match head_of(header) {
+            None => Ok(Read::Ends(SegmentEnd::Malformed(offset))),
+            Some(
+                Head {
+                    kind: ItemKind::Fence,
+                    ..
+                },
+            ) => Ok(Read::Ends(SegmentEnd::More)),
+            Some(
+                Head {
+                    kind: ItemKind::Recorded(kind),
+                    lane,
+                    link,
+                    len,
+                },
+            ) => match self.take_octets(alloc, source, len)? {
+                Err(Failed) => Ok(Read::Ends(SegmentEnd::SourceFault(source.faults()))),
+                Ok(octets) if octets.len() < usize::from(len) => {
+                    Ok(Read::Ends(SegmentEnd::Malformed(offset)))
+                }
+                Ok(octets) => Ok(Read::Next {
+                    kind,
+                    lane,
+                    link,
+                    octets: Octets::new(octets),
+                }),
+            },
+        }
+    }
+
+    /// Reads the next item: a record, or what ends the segment.
+    fn read_item<S: Source>(&mut self, alloc: Global, source: &mut S) -> Result<Read, NoMemory>
+        ensures read { IfOk result (ReadsItem S.told self.old.taken self.new.taken (S.left source.old) (S.left source.new)) }
+        ensures wants { OnErr result (Wants S.told self.old.taken (S.left source.old) (S.left source.new)) }
+        ensures counted { IfOk result (λ read. IsCounted self.old self.new read) }
+        ensures later { S.faults source.old ≤ S.faults source.new }
+        ensures cause { IfOk result (IsFaultRead (S.faults source.old) (S.faults source.new)) }
+    {
+        let offset = self.taken;
+        let mut header = [0; 6];
+        match self.take(source, &mut header) {
+            Err(Failed) => Ok(Read::Ends(SegmentEnd::SourceFault(source.faults()))),
+            Ok(0) => Ok(Read::Ends(SegmentEnd::End)),
+            Ok(6) => self.read_behind(alloc, source, header),
+            Ok(_) => Ok(Read::Ends(SegmentEnd::Malformed(offset))),
+        }
+    }
+
+    /// Numbers one more record.
+    fn number(&mut self) -> u64
+        requires { 6 * (self.old.records + 1) ≤ self.old.taken }
+        ensures number { result ≡ self.old.records }
+        ensures counted { self.new ≡ record self.old { records = self.old.records + 1 } }
+    {
+        let number = self.records;
+        self.records += 1;
+        number
+    }
+
+    /// Reads items up to the end of a segment.
+    fn read_items<S: Source>(
+        &mut self,
+        alloc: Global,
+        source: &mut S,
+    ) -> Result<(Vec<Record>, SegmentEnd), NoMemory>
+        requires { self.old.taken ≤ MOST_OCTETS }
+        ensures segment { IfOk result (λ read. Segment S.told self.old self.new
+            (S.left source.old) (S.left source.new) read.0.items read.1) }
+        ensures wants { OnErr result (Wants S.told self.old.taken (S.left source.old) (S.left source.new)) }
+        ensures later { S.faults source.old ≤ S.faults source.new }
+        ensures cause { IfOk result (λ read. HasFaultCause (S.faults source.old) (S.faults source.new) read.1) }
+    {
+        let mut records = Vec::new(alloc);
+        'items: while records.len() < SEGMENT_RECORDS {
+            match self.read_item(alloc, source)? {
+                Read::Next {
+                    kind,
+                    lane,
+                    link,
+                    octets,
+                } => {
+                    let index = self.number();
+                    records.push(Record {
+                        index,
+                        kind,
+                        lane,
+                        link,
+                        octets,
+                    })?;
+                }
+                Read::Ends(end) => return Ok((records, end)),
+            }
+        }
+        Ok((records, SegmentEnd::More))
+    }
+
+    /// Reads the beginning where it is due, or says how the segment ends where there is none.
+    fn begin<S: Source>(&mut self, source: &mut S) -> Option<SegmentEnd>
+        ensures begun { IfNone result (Moves S.told (due_beginning self.old.taken) self.old.taken self.new.taken (S.left source.old) (S.left source.new)) }
+        ensures few { self.new.taken ≤ MOST_OCTETS }
+        ensures refused { IfSome result (EndsBefore S.told self.old.taken (S.left source.old) (S.left source.new)) }
+        ensures same_records { self.new.records ≡ self.old.records }
+        ensures later { S.faults source.old ≤ S.faults source.new }
+        ensures cause { IfSome result (HasFaultCause (S.faults source.old) (S.faults source.new)) }
+    {
+        if self.taken > 0 {
+            return None;
+        }
+        let mut octets = [0; 8];
+        match self.take(source, &mut octets) {
+            Err(Failed) => Some(SegmentEnd::SourceFault(source.faults())),
+            Ok(8) if octets == BEGINNING => None,
+            Ok(_) => Some(SegmentEnd::Malformed(0)),
+        }
+    }
+
+    /// Reads the next segment: its records in their order, numbered on, and how it ends. Octets behind it are not taken.
+    ///
+    /// The first segment stands behind the beginning. Each earlier call on this reader is to have answered `More`: then
+    /// the clauses `reads` and `loses` speak of the whole input, from where the reader began.
+    pub fn next_segment<S: Source>(
+        &mut self,
+        alloc: Global,
+        source: &mut S,
+    ) -> Result<(Vec<Record>, SegmentEnd), NoMemory>
+        ensures reads { let before : SourceSeen = record { told = S.told; left = S.left source.old; faults = S.faults source.old } in
+            let now : SourceSeen = record { told = S.told; left = S.left source.new; faults = S.faults source.new } in
+            IfOk result (λ segment. (start : SourceSeen) (items : List Item) (read : List ℕ) → IsReading start before self.old items read
+            → ReadsTo start now self.new items segment.0.items segment.1) }
+        ensures loses { let before : SourceSeen = record { told = S.told; left = S.left source.old; faults = S.faults source.old } in
+            let now : SourceSeen = record { told = S.told; left = S.left source.new; faults = S.faults source.new } in
+            OnErr result ((start : SourceSeen) (items : List Item) (read : List ℕ) → IsReading start before self.old items read
+            → Loses start now items) }
+        ensures forth { IfOk result (λ segment. segment.1 ≡ SegmentEnd.More → self.old.taken < self.new.taken) }
+        ensures later { S.faults source.old ≤ S.faults source.new }
+        ensures cause { IfOk result (λ segment. HasFaultCause (S.faults source.old) (S.faults source.new) segment.1) }
+    {
+        match self.begin(source) {
+            Some(end) => Ok((Vec::new(alloc), end)),
+            None => self.read_items(alloc, source),
+        }
+    }
+}

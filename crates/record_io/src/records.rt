@@ -1,0 +1,29 @@
+use crate::kinds::RecordKind;
+use sdls_base::Octets;
+
+/// A record of the input, which is answered.
+#[derive(Debug, PartialEq, Eq, Drop)]
+pub struct Record {
+    /// Its number among the records of the input, from 0; fences are not counted.
+    pub index: u64,
+    pub kind: RecordKind,
+    /// The lane that handles it, below 16.
+    pub lane: u8,
+    /// The link that the frame belongs to; of a command it is not looked at.
+    pub link: u8,
+    /// At most 2,048 octets.
+    pub octets: Octets,
+}
+
+/// How a segment ends.
+#[derive(Clone, Copy, Debug, PartialEq, Eq)]
+pub enum SegmentEnd {
+    /// After a fence, or after 1,024 records.
+    More,
+    /// At the end of the input.
+    End,
+    /// Before an item that is malformed: the offset of its first octet, or 0 for another beginning.
+    Malformed(u64),
+    /// At a fault of the source: its count of faults.
+    SourceFault(u64),
+}
