@@ -1,4 +1,3 @@
-pub mod Collecting
 pub mod Items
 pub mod Counting
 pub mod Takings

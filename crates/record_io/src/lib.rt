@@ -8,7 +8,6 @@
 mod answers;
 pub mod code;
 mod heads;
-mod intake;
 mod kinds;
 mod laws;
 mod reader;

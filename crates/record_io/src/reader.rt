@@ -6,11 +6,10 @@ ghost use Rattle.record_io.specs.Reading.{SourceSeen, Standing, first_standing, 
 ghost use Rattle.record_io.specs.Steps.{still_counted, Fails, Moves, ReadsItem, Wants, IsFaultRead, IsCounted, Segment, due_beginning, EndsBefore};
 
 use crate::heads::{Head, head_of};
-use crate::intake::collect;
 use crate::kinds::{ItemKind, RecordKind};
 use crate::records::{Record, SegmentEnd};
 use sdls_base::{NoMemory, Octets};
-use sdls_outside::{Failed, Source};
+use sdls_outside::{Failed, Source, collect};
 use std::alloc::Global;
 use std::marker::Model;
 

@@ -12,3 +12,4 @@ pub mod Crash
 pub mod MemSite
 pub mod StdSource
 pub mod FileSite
+pub mod Intake

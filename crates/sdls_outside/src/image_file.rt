@@ -1,10 +1,13 @@
 // The image in a file of the system.
-use std::fs::File;
+use std::fs::{File, Permissions};
 use std::io;
 use std::io::ErrorKind;
 use std::os::fd::AsRawFd;
-use std::os::unix::fs::FileExt;
+use std::os::unix::fs::{FileExt, OpenOptionsExt, PermissionsExt};
 use std::path::Path;
+
+// Readable and writable by the owner, and by nobody else.
+const OWNER_ALONE: u32 = 0o600;
 
 // A file that is opened when it is found, and made at the first write where there was none.
 #[derive(Drop)]
@@ -54,8 +57,9 @@ impl ImageFile {
         octets: &[u8],
     ) -> io::Result<()> {
         if self.file.is_none() {
-            let file = File::create_new(files, path)?;
-            self.file = Some(beside_the_streams(file)?);
+            let file = beside_the_streams(make(files, path)?)?;
+            file.set_permissions(Permissions::from_mode(OWNER_ALONE))?;
+            self.file = Some(file);
             self.is_new = true;
         }
         match &self.file {
@@ -82,6 +86,17 @@ impl ImageFile {
         self.is_suspect = false;
         Ok(())
     }
+}
+
+// Makes the file, for its owner alone from its first moment: keys stand in it in clear. What the umask takes
+// from the owner is set later.
+fn make(files: &HostRuntime, path: &str) -> io::Result<File> {
+    File::options()
+        .read(true)
+        .write(true)
+        .create_new(true)
+        .mode(OWNER_ALONE)
+        .open(files, path)
 }
 
 // The folder that a file lies in.

@@ -13,6 +13,7 @@ mod file_site;
 mod held;
 mod history;
 mod image_file;
+mod intake;
 mod laws;
 mod mem_site;
 mod mem_source;
@@ -23,6 +24,7 @@ mod sure_source;
 
 pub use crash::Crash;
 pub use file_site::FileSite;
+pub use intake::collect;
 pub use laws::{
     crash_is_a_moment, moment_of_a_part, moment_of_now, moment_since_earlier, rose,
     synced_until_written,

@@ -1,19 +1,27 @@
 // Standard input.
-ghost use Rattle.std.specs.Prelude.{◌≡◌, ◌≤◌, [], false, IfOk, length};
+ghost use Rattle.std.specs.Prelude.{◌≡◌, ◌≤◌, [], false, IfOk, OnErr, length};
+ghost use Rattle.sdls_outside.specs.Source.{FillsFront};
+ghost use Rattle.sdls_outside.specs.Faults.{HasCause};
 
 use crate::edge::counted;
 use crate::{Failed, Source};
 use std::io::{Read, Stdin};
 
-// The most octets that are read at once.
-const PIECE: usize = 4096;
+// The most octets that are read ahead.
+const AHEAD: usize = 65536;
 
-/// Standard input, which tells nothing of its content. Its count of faults rises at each error of
-/// the system.
+/// Standard input, which tells nothing of its content. It reads ahead into a buffer of its own, with
+/// one read of the system a refill, and never waits for more while it has an octet. Its count of
+/// faults rises at each error of the system, after what was read before it is taken.
 #[derive(Drop)]
 pub struct StdSource {
     stdin: Stdin,
+    // What was read ahead and is not taken stands from `taken` to `read`.
+    ahead: [u8; AHEAD],
+    taken: usize,
+    read: usize,
     faults: u64,
+    ghost within: { (taken ≤ read) × (read ≤ length ahead) },
 }
 
 impl StdSource {
@@ -23,7 +31,36 @@ impl StdSource {
     pub fn new(stdin: Stdin) -> Self
         ensures { input_faults result ≡ 0 }
     {
-        StdSource { stdin, faults: 0 }
+        StdSource {
+            stdin,
+            ahead: [0; AHEAD],
+            taken: 0,
+            read: 0,
+            faults: 0,
+        }
+    }
+
+    // Reads ahead, where all that was read is taken.
+    fn refill(&mut self) -> Result<(), Failed>
+        ensures cause { HasCause (input_faults self.old) (input_faults self.new) result }
+    {
+        let read = self.stdin.read(&mut self.ahead);
+        let count = counted(read, &mut self.faults)?;
+        self.taken = 0;
+        self.read = count;
+        Ok(())
+    }
+
+    // Moves what was read ahead and fits, and answers how much.
+    fn give(&mut self, into: &mut [u8]) -> usize
+        ensures filled { FillsFront into.old into.new result }
+        ensures faults { input_faults self.new ≡ input_faults self.old }
+    {
+        let ahead = &self.ahead[self.taken..self.read];
+        let count = into.len().min(ahead.len());
+        into[..count].copy_from_slice(&ahead[..count]);
+        self.taken += count;
+        count
     }
 }
 
@@ -36,15 +73,11 @@ impl Source for StdSource {
 
     ghost faults = { λ source. input_faults source };
 
-    // What is read comes through an array of its own, since the system may touch all of the
-    // array that it is given.
     fn take(&mut self, into: &mut [u8]) -> Result<usize, Failed> {
-        let mut piece = [0; PIECE];
-        let most = into.len().min(PIECE);
-        let read = self.stdin.read(&mut piece[..most]);
-        let count = counted(read, &mut self.faults)?;
-        into[..count].copy_from_slice(&piece[..count]);
-        Ok(count)
+        if self.taken == self.read && !into.is_empty() {
+            self.refill()?;
+        }
+        Ok(self.give(into))
     }
 
     fn faults(&self) -> u64 {

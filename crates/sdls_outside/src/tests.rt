@@ -2,6 +2,7 @@
 use crate::{Crash, Failed, FileSite, MemSite, MemSource, Site, Source, StdSource, SureSource};
 use std::alloc::{AllocError, Global};
 use std::fs;
+use std::os::unix::fs::PermissionsExt;
 use std::process::Abort;
 use std::test::Fail;
 
@@ -214,6 +215,8 @@ fn file_in_a_folder_of_its_own(rt: HostRuntime) -> Result<(), Fail> {
     let site_in_memory = MemSite::new(rt.alloc(), Vec::new(rt.alloc()), Vec::new(rt.alloc()), None);
     assert!(rt; is_send(&site_in_memory));
 
+    let found = fs::metadata(&rt, "file_site_test/unit.img")?;
+    assert_eq!(rt; found.permissions().mode() & 0o777, 0o600);
     let octets = fs::read(&rt, "file_site_test/unit.img")?;
     assert_eq!(rt; octets.as_slice(), b"abXYZ".as_slice());
     fs::remove_dir_all(&rt, "file_site_test")?;

@@ -1,6 +1,6 @@
 use Rattle.std.proofs.Common.{◌≡◌, ◌≤◌, ◌-◌, length, arith, rules}
-use Rattle.record_io.proofs.Collecting.{collected_more}
-use Rattle.record_io.proofs.intake.collect.Goals as goal
+use Rattle.sdls_outside.proofs.Collecting.{collected_more}
+use Rattle.sdls_outside.proofs.intake.collect.Goals as goal
 
 pub loop-filled-preserved : goal.loop-filled-preserved
 loop-filled-preserved g c =
