@@ -3,7 +3,7 @@ use Rattle.std.specs.Prelude.{◌≡◌, ℕ, ◌^◌, ◌<◌, List, [], ◌∷
 use Rattle.std.specs.List.{All}
 use Rattle.std.specs.Int.{w16, w32, w64, to_be_bytes}
 use Rattle.record_io.specs.declared.answers.Answer.{Answer}
-use Rattle.record_io.specs.declared.answers.TheConstants.{HEADER}
+use Rattle.record_io.specs.declared.answers.TheConstants.{ANSWER_HEADER}
 
 -- what the header of an answer says; the body has so many octets
 pub record Header : Type 0 where
@@ -65,7 +65,7 @@ pub record IsCut (cut : Cut) : Type 0 where
 
 -- what stands behind the whole answers: less than a header, or a cut answer
 abbrev pub EndsWith : List ℕ → Option Cut → Type 0
-EndsWith behind last = MatchOption last (length behind < HEADER) (λ cut. IsCut cut × (behind ≡ cut_octets cut))
+EndsWith behind last = MatchOption last (length behind < ANSWER_HEADER) (λ cut. IsCut cut × (behind ≡ cut_octets cut))
 
 -- The answers that the octets show: whole ones, one after the other, and a cut one once its header is whole.
 pub record ShowsAnswers (octets : List ℕ) (answers : List Answer) (last : Option Cut) : Type 0 where

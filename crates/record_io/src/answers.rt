@@ -6,7 +6,7 @@ use byteorder::{BigEndian, ByteOrder};
 use sdls_base::Octets;
 
 /// The octets of an answer before its body.
-pub const HEADER: usize = 24;
+pub const ANSWER_HEADER: usize = 24;
 
 /// An answer, by the fields of the formats.
 #[derive(Debug, PartialEq, Eq, Drop)]
@@ -26,13 +26,13 @@ pub struct Answer {
 
 /// The first 24 octets of an answer, which its body follows.
 #[tactic(auto, unfolding(crate::specs::Answers::answer_octets))]
-pub fn answer_header(answer: &Answer) -> [u8; HEADER]
+pub fn answer_header(answer: &Answer) -> [u8; ANSWER_HEADER]
     requires { length answer.now.body < 2 ^ 32 }
     ensures header { result ≡ header_octets (header_of answer.now) }
     ensures whole { result ++ answer.now.body ≡ answer_octets answer.now }
 {
     let len = answer.body.as_slice().len() as u32;
-    let mut header = [0; HEADER];
+    let mut header = [0; ANSWER_HEADER];
     header[0] = answer.code;
     header[1] = answer.detail;
     BigEndian::write_u16(&mut header[2..4], answer.key);

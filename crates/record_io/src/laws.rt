@@ -2,7 +2,7 @@
 ghost use Rattle.std.specs.Prelude.{◌≡◌, ℕ, ◌+◌, ◌<◌, ◌++◌, List, [], length, take, Option, Some, None};
 ghost use Rattle.std.specs.List.{All};
 ghost use Rattle.record_io.specs.declared.answers.Answer.{Answer};
-ghost use Rattle.record_io.specs.declared.answers.TheConstants.{HEADER};
+ghost use Rattle.record_io.specs.declared.answers.TheConstants.{ANSWER_HEADER};
 ghost use Rattle.record_io.specs.Answers.{Cut, IsAnswer, ShowsAnswers, answer_octets, answers_octets, header_of};
 ghost use Rattle.record_io.specs.Input.{Item, InputEnd, IsInput};
 ghost use Rattle.record_io.specs.Reading.{SourceSeen, IsReading, first_standing};
@@ -28,6 +28,6 @@ pub fn answers_shown_once()
 pub fn answers_are_shown()
     ensures whole { (answers : List Answer) → All IsAnswer answers → ShowsAnswers (answers_octets answers) answers None }
     ensures cut { (answers : List Answer) (last : Answer) (n : ℕ) → All IsAnswer answers → IsAnswer last → n < length last.body
-        → ShowsAnswers (answers_octets answers ++ take (HEADER + n) (answer_octets last)) answers
+        → ShowsAnswers (answers_octets answers ++ take (ANSWER_HEADER + n) (answer_octets last)) answers
         (Some (record { header = header_of last; front = take n last.body })) }
 {}

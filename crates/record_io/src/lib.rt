@@ -14,7 +14,7 @@ mod reader;
 mod records;
 pub mod status;
 
-pub use answers::{Answer, answer_header};
+pub use answers::{ANSWER_HEADER, Answer, answer_header};
 pub use kinds::{ItemKind, RecordKind};
 pub use laws::{answers_are_shown, answers_shown_once, begins_reading, input_reads_once};
 pub use reader::Reader;

@@ -19,7 +19,7 @@ use Rattle.unit_book.specs.Book.{BookView, IsKept, CanAdd, Adds, Stores, Reserve
 use Rattle.unit_book.proofs.Faults.{rose_earlier}
 use Rattle.unit_book.proofs.Showing.{first_same, first_all}
 use Rattle.sdls_run.specs.declared.records.Record.{Record}
-use Rattle.sdls_run.specs.declared.answers.Answer.{Answer}
+use Rattle.record_io.specs.declared.answers.Answer.{Answer}
 use Rattle.sdls_run.specs.Fits.{Course, IsBare, IsVerdict, IsWanting, IsBoundTo, IsDue, TellsFault, IsProtected, IsRefused, IsExhausted, IsFull, IsFaulted, IsStopped, Fits}
 use Rattle.sdls_run.specs.Sound.{Uses, TellsEpoch}
 use Rattle.sdls_run.specs.Serving.{course_of, IsDrawn, SaysFailed, IsReady, IsServing, AnswersVerdict, AnswersExhausted, AnswersProtected, Reserves, TellsRefusal, Draws, AnswersFrame}

@@ -5,7 +5,7 @@ use Rattle.sdls_outside.specs.Moments.{Trace}
 use Rattle.unit_book.specs.Binding.{BindingParts}
 use Rattle.unit_book.specs.Book.{BookView}
 use Rattle.sdls_run.specs.declared.records.Record.{Record}
-use Rattle.sdls_run.specs.declared.answers.Answer.{Answer}
+use Rattle.record_io.specs.declared.answers.Answer.{Answer}
 use Rattle.sdls_run.specs.Serving.{IsReady, IsServing, AnswersFrame, ServesOn}
 use Rattle.sdls_run.proofs.ServingSteps.{StepTo, serving_step}
 use Rattle.sdls_run.proofs.AnswerSteps.{frame_step}

@@ -11,10 +11,11 @@ use Rattle.unit_book.specs.State.{State, mark_of}
 use Rattle.unit_book.specs.History.{after_first}
 use Rattle.unit_book.specs.Book.{places_below}
 use Rattle.sdls_run.specs.declared.records.Record.{Record}
-use Rattle.sdls_run.specs.declared.answers.Answer.{Answer}
-use Rattle.sdls_run.specs.AnswerOctets.{answer_octets}
+use Rattle.record_io.specs.declared.answers.Answer.{Answer}
+use Rattle.record_io.specs.Answers.{answer_octets}
 use Rattle.sdls_run.specs.Fits.{Course, FitInTurn}
-use Rattle.sdls_run.specs.Sound.{Uses, answers_octets}
+use Rattle.sdls_run.specs.Sound.{Uses}
+use Rattle.record_io.specs.Answers.{answers_octets}
 use Rattle.sdls_run.specs.Serving.{AreCovered}
 use Rattle.sdls_run.proofs.ServingSteps.{all_head, all_tail}
 

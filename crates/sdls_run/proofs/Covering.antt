@@ -15,9 +15,10 @@ use Rattle.unit_book.specs.Book.{BookView, IsKept, Adds, Stores, ReserveFails, S
 use Rattle.unit_book.proofs.Showing.{first_same}
 use Rattle.sdls_run.specs.declared.records.Record.{Record}
 use Rattle.unit_book.proofs.Histories.{few_below, not_below}
-use Rattle.sdls_run.specs.declared.answers.Answer.{Answer}
-use Rattle.sdls_run.specs.AnswerOctets.{answer_octets}
-use Rattle.sdls_run.specs.Sound.{Uses, answers_octets}
+use Rattle.record_io.specs.declared.answers.Answer.{Answer}
+use Rattle.record_io.specs.Answers.{answer_octets}
+use Rattle.sdls_run.specs.Sound.{Uses}
+use Rattle.record_io.specs.Answers.{answers_octets}
 use Rattle.sdls_run.specs.Serving.{IsServing, AnswersFrame, AreCovered, GrowsBehind}
 use Rattle.sdls_run.proofs.ServingSteps.{all_head, all_tail}
 use Rattle.sdls_run.proofs.Putting.{answers_append}

@@ -7,12 +7,12 @@ use Rattle.unit_book.specs.Binding.{BindingParts}
 use Rattle.unit_book.specs.Book.{BookView, IsKept, SameBook}
 use Rattle.unit_book.proofs.Faults.{rose_earlier}
 use Rattle.sdls_run.specs.declared.records.Record.{Record}
-use Rattle.sdls_run.specs.declared.answers.Answer.{Answer}
+use Rattle.record_io.specs.declared.answers.Answer.{Answer}
 use Rattle.sdls_run.specs.declared.running.RunEnd.{RunEnd}
 use Rattle.sdls_run.specs.declared.running.RunEnd.TheVariants.{Ended, Malformed, SourceFault, SiteFault, NoMemory, NoState}
 use Rattle.sdls_run.specs.Records.{Item}
-use Rattle.sdls_run.specs.AnswerOctets.{answer_octets}
-use Rattle.sdls_run.specs.Sound.{answers_octets}
+use Rattle.record_io.specs.Answers.{answer_octets}
+use Rattle.record_io.specs.Answers.{answers_octets}
 use Rattle.sdls_run.specs.Run.{EndCause, PutsAll, TellsEnd, HasStopped, HasBroken, ServedAll, end_answer, end_status}
 use Rattle.sdls_run.proofs.Putting.{between_wider, between_later}
 use Rattle.sdls_run.proofs.ServingSteps.{rose_later}

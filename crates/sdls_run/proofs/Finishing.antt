@@ -25,13 +25,14 @@ use Rattle.unit_book.proofs.Showing.{LedTo, shows_led, led_ends}
 use Rattle.unit_book.proofs.ShownOnce.{shown_once}
 use Rattle.unit_book.proofs.ShownNone.{shows_some}
 use Rattle.sdls_run.specs.declared.records.Record.{Record}
-use Rattle.sdls_run.specs.declared.answers.Answer.{Answer}
+use Rattle.record_io.specs.declared.answers.Answer.{Answer}
 use Rattle.sdls_run.specs.declared.running.RunEnd.{RunEnd}
 use Rattle.sdls_run.specs.declared.running.RunEnd.TheVariants.{Ended, Malformed, SourceFault, SiteFault, NoMemory, NoState}
 use Rattle.sdls_run.specs.Records.{Item}
-use Rattle.sdls_run.specs.AnswerOctets.{answer_octets}
+use Rattle.record_io.specs.Answers.{answer_octets}
 use Rattle.sdls_run.specs.Fits.{Course}
-use Rattle.sdls_run.specs.Sound.{answers_octets, IsEnd, AreSunk, Uses, Differ, TellsEpoch, Sound, sunk_since, EarlyOrSound}
+use Rattle.sdls_run.specs.Sound.{IsEnd, AreSunk, Uses, Differ, TellsEpoch, Sound, sunk_since, EarlyOrSound}
+use Rattle.record_io.specs.Answers.{answers_octets}
 use Rattle.sdls_run.specs.Serving.{course_of, IsDrawn, SaysFailed, IsReady, IsServing, IsServed, AreCovered}
 use Rattle.sdls_run.specs.Run.{EndCause, PutsAll, ServedAll, HasServed, RunEnds, whole_course, end_answer, end_status, end_of_open, end_number}
 use Rattle.sdls_run.proofs.Putting.{nothing_between}

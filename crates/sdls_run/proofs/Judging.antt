@@ -3,9 +3,9 @@ use Rattle.std.proofs.lemmas.Bool.{cases_lt, false≢true}
 use Rattle.std.proofs.lemmas.List.{length-take-le, length-append}
 use Rattle.sdls_run.specs.declared.refusal.Refusal.{Refusal}
 use Rattle.sdls_run.specs.declared.refusal.Refusal.TheVariants.{Short, Long, Version, Spare, Spi, Mac}
-use Rattle.sdls_run.specs.declared.status.TheConstants.{DONE, REFUSED}
+use Rattle.record_io.specs.declared.status.TheConstants.{DONE, REFUSED}
 use Rattle.sdls_run.specs.Check.{Passes, IsFirstFault, data_field}
-use Rattle.sdls_run.specs.Intake.{Collects}
+use Rattle.sdls_outside.specs.Intake.{Collects}
 use Rattle.std.specs.Result.{IfOk, IfErr}
 use Rattle.sdls_outside.specs.Moments.{Trace}
 use Rattle.sdls_run.specs.Answer.{CheckDue, Answers, accepted_text, refused_text}

@@ -1,7 +1,6 @@
 pub mod Begun
 pub mod CheckWords
 pub mod Covering
-pub mod Collecting
 pub mod Delivering
 pub mod EndSteps
 pub mod Finishing

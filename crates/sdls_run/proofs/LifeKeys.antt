@@ -17,7 +17,7 @@ use Rattle.unit_book.specs.History.{Near, AreReserves, at_epoch, counts}
 use Rattle.unit_book.proofs.Showing.{IsTelecommand, LedTo, shows_led, led_ends}
 use Rattle.unit_book.proofs.ShownOnce.{plan_once}
 use Rattle.unit_book.proofs.Marks.{first_telecommand}
-use Rattle.sdls_run.specs.declared.answers.Answer.{Answer}
+use Rattle.record_io.specs.declared.answers.Answer.{Answer}
 use Rattle.sdls_run.specs.declared.records.Record.{Record}
 use Rattle.sdls_run.specs.Fits.{Course, IsVerdict, IsProtected, Fits, FitInTurn}
 use Rattle.sdls_run.specs.Sound.{IsShown, Uses}

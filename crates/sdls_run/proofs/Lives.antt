@@ -21,7 +21,7 @@ use Rattle.unit_book.specs.History.{Near, AreReserves, after_first}
 use Rattle.unit_book.proofs.Showing.{IsTelecommand, LedTo, shows_led, led_ends, shows_regated}
 use Rattle.unit_book.proofs.ShownOnce.{shown_once}
 use Rattle.unit_book.proofs.Marks.{all_marks_rise, floors_stay, first_telecommand}
-use Rattle.sdls_run.specs.declared.answers.Answer.{Answer}
+use Rattle.record_io.specs.declared.answers.Answer.{Answer}
 use Rattle.sdls_run.specs.Fits.{Course}
 use Rattle.sdls_run.specs.Sound.{PairsDiffer, AcceptedOnce, IsShown, ShowsServed, Uses, Accepts, Differ}
 use Rattle.sdls_run.specs.Life.{LifeRun, IsRun, FollowFrom, IsLife, UsesOnce, answers_of}

@@ -6,7 +6,7 @@ use Rattle.unit_plan.specs.Telecommand.{SaysTelecommand}
 use Rattle.sdls_outside.specs.Moments.{Trace}
 use Rattle.sdls_run.specs.declared.init.InitEnd.{InitEnd}
 use Rattle.sdls_run.specs.declared.init.InitEnd.TheVariants.{Made, ImageExists, Unbuilt, SourceFault, SiteFault, NoMemory}
-use Rattle.sdls_run.specs.Intake.{Collects}
+use Rattle.sdls_outside.specs.Intake.{Collects}
 use Rattle.sdls_run.specs.Init.{InitEnds}
 use Rattle.std.proofs.Common.{inl, inr, ◌⊎◌}
 

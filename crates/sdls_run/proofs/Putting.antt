@@ -6,10 +6,10 @@ use Rattle.sdls_outside.specs.Moments.{Trace, Between}
 use Rattle.sdls_outside.specs.Site.{Sank, Puts}
 use Rattle.sdls_outside.proofs.Moments.{between-old}
 use Rattle.unit_book.specs.Book.{BookView, SameBook}
-use Rattle.sdls_run.specs.declared.answers.Answer.{Answer}
-use Rattle.sdls_run.specs.AnswerOctets.{answer_octets}
-use Rattle.sdls_run.specs.Sound.{answers_octets}
-use Rattle.sdls_run.specs.Serving.{Adds}
+use Rattle.record_io.specs.declared.answers.Answer.{Answer}
+use Rattle.record_io.specs.Answers.{answer_octets}
+use Rattle.record_io.specs.Answers.{answers_octets}
+use Rattle.sdls_run.specs.Serving.{Adds, TakesOver}
 
 front_short : (old whole s : List ℕ) → Between old whole s → length s ≤ length whole
 front_short old whole s between =
@@ -77,13 +77,19 @@ put_more answers i answer old mid new low is first second =
     (ap (λ (octets : List ℕ). answers_octets (take i answers) ++ octets) (sym (one_answer answer))
     ∙ sym (answers_append (take i answers) (answer ∷ [])) ∙ ap answers_octets (sym (next_answer answers i answer low is)))
 
--- some of an answer, behind the others
-pub put_some : (answers : List Answer) (i : ℕ) (answer : Answer) (old mid new : List ℕ) → i < length answers → answer ≡ get_or answers i answer
-    → mid ≡ old ++ answers_octets (take i answers) → Between mid (mid ++ answer_octets answer) new
-    → Between old (old ++ answers_octets answers) new
-put_some answers i answer old mid new low is first between =
-    let here : Between old (old ++ (answers_octets (take i answers) ++ answer_octets answer)) new =
-    between_later old (answers_octets (take i answers)) (answer_octets answer) mid new first between in
+-- a front of a piece and of an answer behind it, where the piece follows what was sunk
+pub put_some : (answers : List Answer) (i : ℕ) (answer : Answer) (old mid piece new : List ℕ) → i < length answers → answer ≡ get_or answers i answer
+    → mid ++ piece ≡ old ++ answers_octets (take i answers) → length old ≤ length mid
+    → Between mid (mid ++ (piece ++ answer_octets answer)) new → Between old (old ++ answers_octets answers) new
+put_some answers i answer old mid piece new low is first least between =
+    let joined : mid ++ (piece ++ answer_octets answer) ≡ old ++ (answers_octets (take i answers) ++ answer_octets answer) =
+    sym (append_assoc mid piece (answer_octets answer)) ∙ ap (λ (octets : List ℕ). octets ++ answer_octets answer) first
+    ∙ append_assoc old (answers_octets (take i answers)) (answer_octets answer) in
+    let longer : length mid ≤ length new = between.least in
+    let here : Between old (old ++ (answers_octets (take i answers) ++ answer_octets answer)) new = record {
+      least = omega arith;
+      prefix = between.prefix ∙ ap (take (length new)) joined;
+    } in
     let front : answers_octets (take i answers) ++ answer_octets answer ≡ answers_octets (take (i + 1) answers) =
     ap (λ (octets : List ℕ). answers_octets (take i answers) ++ octets) (sym (one_answer answer))
     ∙ sym (answers_append (take i answers) (answer ∷ [])) ∙ ap answers_octets (sym (next_answer answers i answer low is)) in
@@ -92,6 +98,23 @@ put_some answers i answer old mid new low is first between =
     subst (λ (octets : List ℕ). Between old (old ++ octets) new) whole
     (between_wider old (answers_octets (take (i + 1) answers)) (answers_octets (drop (i + 1) answers)) new
     (subst (λ (octets : List ℕ). Between old (old ++ octets) new) front here))
+
+-- the last piece
+pub put_last : {T E : Type 0} → (octets old mid piece : List ℕ) (result : Result T E) (new : List ℕ) → mid ++ piece ≡ old ++ octets → length old ≤ length mid
+    → Adds piece result mid new → Adds octets result old new
+put_last octets old mid piece (Ok value) new is least adds = adds ∙ is
+put_last octets old mid piece (Err error) new is least adds =
+    let longer : length mid ≤ length new = adds.least in
+    record { least = omega arith; prefix = adds.prefix ∙ ap (take (length new)) is }
+
+-- the piece put, and an answer taken over behind it
+pub takes_behind : {T E : Type 0} → (octets old mid new piece_old piece_new : List ℕ) (result : Result T E) → mid ≡ old ++ piece_old
+    → TakesOver octets result [] piece_new mid new → TakesOver octets result piece_old piece_new old new
+takes_behind octets old mid new piece_old piece_new (Ok value) is (least, whole) = (
+  omega (arith, least, ap length is, length-append old piece_old),
+  whole ∙ ap (λ (l : List ℕ). l ++ octets) (append-nil mid ∙ is),
+)
+takes_behind octets old mid new piece_old piece_new (Err error) is between = between_later old piece_old octets mid new is between
 
 pub same_then : {O : Type 0} → (old mid new : BookView O) → SameBook old mid → SameBook mid new → SameBook old new
 same_then {O} old mid new first second = record {

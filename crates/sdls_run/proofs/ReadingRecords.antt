@@ -10,7 +10,7 @@ use Rattle.sdls_run.specs.declared.records.SegmentEnd.TheVariants.{More, End, Ma
 use Rattle.sdls_run.specs.declared.records.Read.{Read}
 use Rattle.sdls_run.specs.declared.records.Read.TheVariants as reads
 use Rattle.sdls_run.specs.Records.{Item, Place, Moves, Continues, Breaks, Fails, EndsBehind, AreNumbered, HasEnded, IsMalformedRest, LacksItem, IsFence, IsItem, item_header, item_octets, items_octets, protect_item, records_octets}
-use Rattle.sdls_run.specs.Intake.{TakesAtMost}
+use Rattle.sdls_outside.specs.Intake.{TakesAtMost}
 use Rattle.sdls_run.specs.RecordSteps.{IsNoHead, ReadsItem}
 
 length-header : (item : Item) → length (item_header item) ≡ 6

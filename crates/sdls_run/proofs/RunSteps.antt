@@ -11,7 +11,7 @@ use Rattle.unit_book.proofs.Faults.{rose_earlier}
 use Rattle.sdls_run.specs.declared.records.Record.{Record}
 use Rattle.sdls_run.specs.declared.records.SegmentEnd.{SegmentEnd}
 use Rattle.sdls_run.specs.declared.records.SegmentEnd.TheVariants.{More, End, Malformed, SourceFault}
-use Rattle.sdls_run.specs.declared.answers.Answer.{Answer}
+use Rattle.record_io.specs.declared.answers.Answer.{Answer}
 use Rattle.sdls_run.specs.declared.running.Step.{Step}
 use Rattle.sdls_run.specs.declared.running.Step.TheVariants.{On, Ends, Broken}
 use Rattle.sdls_run.specs.declared.running.RunEnd.TheVariants as run_ends

@@ -12,9 +12,9 @@ use Rattle.unit_book.specs.History.{Near, AreReserves}
 use Rattle.unit_book.specs.Verdict.{binding_of}
 use Rattle.unit_book.specs.Book.{BookView, IsKept, SameBook}
 use Rattle.sdls_run.specs.declared.records.Record.{Record}
-use Rattle.sdls_run.specs.declared.answers.Answer.{Answer}
+use Rattle.record_io.specs.declared.answers.Answer.{Answer}
 use Rattle.sdls_run.specs.Fits.{Course, Fits, FitInTurn}
-use Rattle.sdls_run.specs.Sound.{answers_octets}
+use Rattle.record_io.specs.Answers.{answers_octets}
 use Rattle.sdls_run.specs.Serving.{course_of, IsDrawn, SaysFailed, IsReady, IsServing, AreCovered, GrowsBehind, IsServed, IsBroken}
 use Rattle.sdls_run.proofs.ServingSteps.{fits_faults, fit_all, rose_later}
 use Rattle.sdls_run.proofs.Putting.{answers_append, between_later}

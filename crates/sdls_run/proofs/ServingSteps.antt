@@ -20,7 +20,7 @@ use Rattle.unit_book.specs.History.{Near, IsReserve, AreReserves, after, after_f
 use Rattle.unit_book.specs.Book.{BookView, IsKept, CanAdd, Adds, Stores, ReserveFails}
 use Rattle.unit_book.proofs.Showing.{after_more, first_same, first_all}
 use Rattle.sdls_run.specs.declared.records.Record.{Record}
-use Rattle.sdls_run.specs.declared.answers.Answer.{Answer}
+use Rattle.record_io.specs.declared.answers.Answer.{Answer}
 use Rattle.sdls_run.specs.Fits.{Course, IsBare, IsVerdict, IsWanting, IsBoundTo, IsDue, TellsFault, IsProtected, IsRefused, IsExhausted, IsFull, IsFaulted, IsStopped, Fits, FitInTurn}
 use Rattle.sdls_run.specs.Sound.{Uses, Differ, TellsEpoch, OneFault}
 use Rattle.sdls_run.specs.Serving.{course_of, IsDrawn, SaysFailed, IsReady, IsServing, AnswersVerdict, AnswersExhausted, AnswersProtected, Reserves, TellsRefusal, Draws, AnswersFrame}

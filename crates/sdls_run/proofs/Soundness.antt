@@ -20,10 +20,11 @@ use Rattle.unit_book.proofs.Showing.{IsTelecommand, restarts_same, shows_led, le
 use Rattle.unit_book.proofs.ShownOnce.{shown_once}
 use Rattle.unit_book.proofs.Marks.{all_marks_rise, first_telecommand}
 use Rattle.sdls_run.specs.declared.records.Record.{Record}
-use Rattle.sdls_run.specs.declared.answers.Answer.{Answer}
-use Rattle.sdls_run.specs.AnswerOctets.{answer_octets}
+use Rattle.record_io.specs.declared.answers.Answer.{Answer}
+use Rattle.record_io.specs.Answers.{answer_octets}
 use Rattle.sdls_run.specs.Fits.{Course, FitInTurn}
-use Rattle.sdls_run.specs.Sound.{answers_octets, IsEnd, AreSunk, Uses, Accepts, Differ, IsShown, PairsDiffer, AcceptedOnce, TellsEpoch, ShowsServed, ImageShows, EpochsAscend, OneFault, IsSound, Sound, IsEarly, sunk_since, EarlyOrSound}
+use Rattle.sdls_run.specs.Sound.{IsEnd, AreSunk, Uses, Accepts, Differ, IsShown, PairsDiffer, AcceptedOnce, TellsEpoch, ShowsServed, ImageShows, EpochsAscend, OneFault, IsSound, Sound, IsEarly, sunk_since, EarlyOrSound}
+use Rattle.record_io.specs.Answers.{answers_octets}
 use Rattle.sdls_run.specs.Serving.{course_of, IsDrawn, IsServing, AreCovered}
 use Rattle.sdls_run.proofs.Begun.{begun, begun_octets, all_begun, begun_first, first_all, first_pairs, first_fit, StoredBy, covered_begun, begun_early}
 

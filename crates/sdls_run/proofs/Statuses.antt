@@ -5,12 +5,12 @@ use Rattle.sdls_outside.specs.Faults.{Rose}
 use Rattle.sdls_outside.specs.Moments.{Trace}
 use Rattle.unit_book.specs.Shows.{ShowsNone}
 use Rattle.sdls_run.specs.declared.records.Record.{Record}
-use Rattle.sdls_run.specs.declared.answers.Answer.{Answer}
+use Rattle.record_io.specs.declared.answers.Answer.{Answer}
 use Rattle.sdls_run.specs.declared.running.RunEnd.{RunEnd}
 use Rattle.sdls_run.specs.declared.running.RunEnd.TheVariants.{Ended, Malformed, SourceFault, SiteFault, NoMemory, NoState}
 use Rattle.sdls_run.specs.Records.{Item}
-use Rattle.sdls_run.specs.AnswerOctets.{answer_octets}
-use Rattle.sdls_run.specs.Sound.{answers_octets}
+use Rattle.record_io.specs.Answers.{answer_octets}
+use Rattle.record_io.specs.Answers.{answers_octets}
 use Rattle.sdls_run.specs.Run.{EndCause, PutsAll, RunEnds, StatusSays, end_answer, end_status}
 
 is_ended : (end : RunEnd) → end_status end ≡ 0 → end ≡ Ended

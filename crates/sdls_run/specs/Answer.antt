@@ -4,7 +4,7 @@ use Rattle.hex.specs.Hex.{encode_lower}
 use Rattle.sdls_outside.specs.Moments.{Trace}
 use Rattle.sdls_run.specs.declared.refusal.Refusal.{Refusal}
 use Rattle.sdls_run.specs.declared.refusal.Refusal.TheVariants.{Short, Long, Version, Spare, Spi, Mac}
-use Rattle.sdls_run.specs.declared.status.TheConstants.{DONE, REFUSED, SOURCE_FAULT, SITE_FAULT}
+use Rattle.record_io.specs.declared.status.TheConstants.{DONE, REFUSED, SOURCE_FAULT, SITE_FAULT}
 use Rattle.sdls_run.specs.Check.{Passes, IsFirstFault, data_field}
 use Rattle.sdls_run.specs.Output.{Sinks, SinksFront, Delivers}
 

@@ -10,7 +10,8 @@ use Rattle.unit_book.specs.Protects.{Protects}
 use Rattle.unit_book.specs.State.{State, mark_of}
 use Rattle.unit_book.specs.History.{Near, after_first, at_epoch}
 use Rattle.sdls_run.specs.declared.records.Record.{Record}
-use Rattle.sdls_run.specs.declared.answers.Answer.{Answer}
+use Rattle.record_io.specs.declared.answers.Answer.{Answer}
+use Rattle.record_io.specs.declared.code.TheConstants as codes
 
 -- What the answers of a run speak of: the state that the image shows at the start, the slots of the image and those used
 -- then, the site's count of faults at the start and now, the entries, and the frames to be protected, in their order.
@@ -33,10 +34,10 @@ pub record IsBare (code detail : ℕ) (answer : Answer) : Type 0 where
 -- a frame that is not bound is answered with the verdict on it: 02 clear, 10 layout with the fault's number, 11 channel,
 -- 14 no operational association
 abbrev pub IsVerdict : Verdict → Answer → Type 0
-IsVerdict Clear answer = IsBare 0x02 0 answer
-IsVerdict (Layout fault) answer = IsBare 0x10 fault answer
-IsVerdict Channel answer = IsBare 0x11 0 answer
-IsVerdict NoSender answer = IsBare 0x14 0 answer
+IsVerdict Clear answer = IsBare codes.CLEAR 0 answer
+IsVerdict (Layout fault) answer = IsBare codes.LAYOUT fault answer
+IsVerdict Channel answer = IsBare codes.CHANNEL 0 answer
+IsVerdict NoSender answer = IsBare codes.STATE 0 answer
 IsVerdict Bound answer = ⊥
 
 -- the frame is bound in this state to a key with these octets, under this index
@@ -69,7 +70,7 @@ pub record TellsFault (course : Course) (frame : Record) (answer : Answer) : Typ
 
 -- code 00: the body is the frame protected under a number that the key's next number can have been
 pub record IsProtected (course : Course) (frame : Record) (answer : Answer) : Type 0 where
-  pub code_is : answer.code ≡ 0
+  pub code_is : answer.code ≡ codes.PROTECTED
   pub detail_is : answer.detail ≡ 0
   pub spi : ℕ
   pub octets : List ℕ
@@ -85,7 +86,7 @@ pub record IsRefused (course : Course) (frame : Record) (answer : Answer) : Type
 
 -- code 20: the key's numbers have come to their end
 pub record IsExhausted (course : Course) (frame : Record) (answer : Answer) : Type 0 where
-  pub code_is : answer.code ≡ 0x20
+  pub code_is : answer.code ≡ codes.EXHAUSTED
   pub detail_is : answer.detail ≡ 0
   pub spi : ℕ
   pub octets : List ℕ
@@ -96,7 +97,7 @@ pub record IsExhausted (course : Course) (frame : Record) (answer : Answer) : Ty
 
 -- code 30: all slots are used
 pub record IsFull (course : Course) (frame : Record) (answer : Answer) : Type 0 where
-  pub bare : IsBare 0x30 0 answer
+  pub bare : IsBare codes.JOURNAL_FULL 0 answer
   pub number_is : answer.number ≡ course.slots
   pub within : answer.position ≤ length course.entries
   pub full : course.used + answer.position ≡ course.slots
@@ -104,17 +105,17 @@ pub record IsFull (course : Course) (frame : Record) (answer : Answer) : Type 0 
 
 -- code 31: the site failed while the entry was stored
 pub record IsFaulted (course : Course) (frame : Record) (answer : Answer) : Type 0 where
-  pub bare : IsBare 0x31 0 answer
+  pub bare : IsBare codes.SITE_FAULT 0 answer
   pub tells : TellsFault course frame answer
 
 -- code 32: the site had failed before
 pub record IsStopped (course : Course) (frame : Record) (answer : Answer) : Type 0 where
-  pub bare : IsBare 0x32 0 answer
+  pub bare : IsBare codes.STOPPED 0 answer
   pub tells : TellsFault course frame answer
 
 -- code 33: memory was wanting
 pub record IsWanting (answer : Answer) : Type 0 where
-  pub bare : IsBare 0x33 0 answer
+  pub bare : IsBare codes.NO_MEMORY 0 answer
   pub number_is : answer.number ≡ 0
   pub position_is : answer.position ≡ 0
 

@@ -7,7 +7,7 @@ use Rattle.unit_plan.specs.Telecommand.{SaysTelecommand}
 use Rattle.disk_journal.specs.Initial.{initial_image}
 use Rattle.sdls_run.specs.declared.init.InitEnd.{InitEnd}
 use Rattle.sdls_run.specs.declared.init.InitEnd.TheVariants.{Made, ImageExists, Unbuilt, SourceFault, SiteFault, NoMemory}
-use Rattle.sdls_run.specs.declared.status.TheConstants as statuses
+use Rattle.record_io.specs.declared.status.TheConstants as statuses
 use Rattle.sdls_run.specs.Answer.{Ends, line, source_fault_text}
 
 -- the text that is due; where the image is made, there is none

@@ -1,9 +1,7 @@
 pub mod Answer
-pub mod AnswerOctets
 pub mod Check
 pub mod Fits
 pub mod Init
-pub mod Intake
 pub mod Life
 pub mod Output
 pub mod Records

@@ -12,18 +12,20 @@ use Rattle.unit_book.specs.declared.fault.OpenFault.TheVariants as open_faults
 use Rattle.unit_book.specs.State.{State}
 use Rattle.unit_book.specs.Shows.{Shows, ShowsNone}
 use Rattle.sdls_run.specs.declared.records.Record.{Record}
-use Rattle.sdls_run.specs.declared.answers.Answer.{Answer}
+use Rattle.record_io.specs.declared.answers.Answer.{Answer}
+use Rattle.record_io.specs.declared.code.TheConstants as codes
 use Rattle.sdls_run.specs.declared.running.RunEnd.{RunEnd}
 use Rattle.sdls_run.specs.declared.running.RunEnd.TheVariants.{Ended, Malformed, SourceFault, SiteFault, NoMemory, NoState}
 use Rattle.sdls_run.specs.declared.running.Step.{Step}
 use Rattle.sdls_run.specs.declared.running.Step.TheVariants.{On, Ends, Broken}
 use Rattle.sdls_run.specs.declared.records.SegmentEnd.{SegmentEnd}
 use Rattle.sdls_run.specs.declared.records.SegmentEnd.TheVariants as ends
-use Rattle.sdls_run.specs.declared.status.TheConstants as statuses
+use Rattle.record_io.specs.declared.status.TheConstants as statuses
 use Rattle.sdls_run.specs.Records.{Item, Place, IsWellFormed, IsMalformedAfter, HasRead, items_octets, protect_item, beginning}
-use Rattle.sdls_run.specs.AnswerOctets.{answer_octets}
+use Rattle.record_io.specs.Answers.{answer_octets}
 use Rattle.sdls_run.specs.Fits.{Course}
-use Rattle.sdls_run.specs.Sound.{answers_octets, EarlyOrSound}
+use Rattle.sdls_run.specs.Sound.{EarlyOrSound}
+use Rattle.record_io.specs.Answers.{answers_octets}
 use Rattle.sdls_run.specs.Serving.{IsServing, IsServed, IsBroken, AreCovered}
 
 -- the items that are frames to be protected
@@ -59,7 +61,7 @@ end_number (NoState offset) = offset
 -- the End answer
 abbrev pub end_answer : RunEnd → ℕ → Answer
 end_answer end entries = record {
-  code = 0xff;
+  code = codes.END;
   detail = end_status end;
   key = 0;
   position = entries;

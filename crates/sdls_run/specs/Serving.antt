@@ -17,10 +17,12 @@ use Rattle.unit_book.specs.State.{State, key_row, mark_of}
 use Rattle.unit_book.specs.History.{Near, AreReserves, after_first}
 use Rattle.unit_book.specs.Book.{BookView, IsKept, Stores, ReserveFails, places_below}
 use Rattle.sdls_run.specs.declared.records.Record.{Record}
-use Rattle.sdls_run.specs.declared.answers.Answer.{Answer}
-use Rattle.sdls_run.specs.AnswerOctets.{answer_octets}
+use Rattle.record_io.specs.declared.answers.Answer.{Answer}
+use Rattle.record_io.specs.declared.code.TheConstants as codes
+use Rattle.record_io.specs.Answers.{answer_octets}
 use Rattle.sdls_run.specs.Fits.{Course, IsBare, IsVerdict, IsWanting, FitInTurn}
-use Rattle.sdls_run.specs.Sound.{answers_octets, Uses, Differ, TellsEpoch, OneFault}
+use Rattle.sdls_run.specs.Sound.{Uses, Differ, TellsEpoch, OneFault}
+use Rattle.record_io.specs.Answers.{answers_octets}
 use Rattle.sdls_run.specs.declared.serving.Stop.{Stop}
 use Rattle.sdls_run.specs.declared.serving.Stop.TheVariants.{NoMemory, PutFailed}
 
@@ -43,7 +45,7 @@ IsDrawn start state key next answer = (k number : ℕ) → Uses answer k number
 
 -- the answer says that the site failed
 abbrev pub SaysFailed : Answer → Type 0
-SaysFailed answer = (answer.code ≡ 0x31) ⊎ (answer.code ≡ 0x32)
+SaysFailed answer = (answer.code ≡ codes.SITE_FAULT) ⊎ (answer.code ≡ codes.STOPPED)
 
 -- a book with what its channel is bound to, and a next number that may be drawn or is past the end
 pub record IsReady {O : Type 0} (told : Bool) (trace : O → Trace) (faults : O → ℕ) (book : BookView O) (binding : BindingParts) (next : ℕ)
@@ -67,7 +69,7 @@ pub record IsServing {O : Type 0} (told : Bool) (trace : O → Trace) (faults : 
   pub fit : IsTrue told → FitInTurn (course_of trace faults before book frames) frames answers
   pub drawn : All (IsDrawn book.start book.state binding.key next) answers
   pub differ : AllPairs (Differ Uses) answers
-  pub none_accepts : All (λ answer. answer.code ≢ 1) answers
+  pub none_accepts : All (λ answer. answer.code ≢ codes.ACCEPTED) answers
   pub first_epoch : All (λ answer. TellsEpoch answer → answer.position ≡ 0) answers
   pub failed : All (λ answer. SaysFailed answer → Rose (faults book.opened) (faults book.site)) answers
   pub one_fault : OneFault answers
@@ -83,7 +85,7 @@ pub record AnswersExhausted (start : State) (key next : ℕ) (frame : Record) (a
   pub verdict : protect_verdict start frame.link frame.octets ≡ Bound
   pub bound : IsBound start frame.link frame.octets
   pub at_end : end_of key ≤ next
-  pub code_is : answer.code ≡ 0x20
+  pub code_is : answer.code ≡ codes.EXHAUSTED
   pub detail_is : answer.detail ≡ 0
   pub key_is : answer.key ≡ key
   pub number_is : answer.number ≡ next
@@ -92,7 +94,7 @@ pub record AnswersExhausted (start : State) (key next : ℕ) (frame : Record) (a
 
 -- the frame is protected under the number
 pub record AnswersProtected (binding : BindingParts) (number : ℕ) (frame : Record) (answer : Answer) : Type 0 where
-  pub code_is : answer.code ≡ 0
+  pub code_is : answer.code ≡ codes.PROTECTED
   pub detail_is : answer.detail ≡ 0
   pub key_is : answer.key ≡ binding.key
   pub number_is : answer.number ≡ number
@@ -107,9 +109,9 @@ Reserves trace faults key number old new =
 
 -- the answer that a refusal of the book is given
 abbrev pub TellsRefusal : BookFault → ℕ → Answer → Type 0
-TellsRefusal (SiteFault count) position answer = IsBare 0x31 0 answer × (answer.number ≡ count) × (answer.position ≡ position)
-TellsRefusal (Stopped count) position answer = IsBare 0x32 0 answer × (answer.number ≡ count) × (answer.position ≡ position)
-TellsRefusal (JournalFull slots) position answer = IsBare 0x30 0 answer × (answer.number ≡ slots) × (answer.position ≡ position)
+TellsRefusal (SiteFault count) position answer = IsBare codes.SITE_FAULT 0 answer × (answer.number ≡ count) × (answer.position ≡ position)
+TellsRefusal (Stopped count) position answer = IsBare codes.STOPPED 0 answer × (answer.number ≡ count) × (answer.position ≡ position)
+TellsRefusal (JournalFull slots) position answer = IsBare codes.JOURNAL_FULL 0 answer × (answer.number ≡ slots) × (answer.position ≡ position)
 
 -- a number is drawn for the frame
 pub record Draws {O : Type 0} (trace : O → Trace) (faults : O → ℕ) (binding : BindingParts) (number : ℕ)
@@ -146,6 +148,13 @@ ServesOn told trace faults binding old new next_old next_new frames answers = (b
 -- Ok: the octets were added to what is sunk. Err: a front of them.
 abbrev pub Adds : {T E : Type 0} → List ℕ → Result T E → List ℕ → List ℕ → Type 0
 Adds octets result old new = MatchResult result (λ _. new ≡ old ++ octets) (λ _. Between old (old ++ octets) new)
+
+-- The octets were taken over behind those of a piece that is to be put. Ok: what is sunk, and the piece behind it, have grown
+-- by them. Err: a front was sunk.
+abbrev pub TakesOver : {T E : Type 0} → List ℕ → Result T E → List ℕ → List ℕ → List ℕ → List ℕ → Type 0
+TakesOver octets result piece_old piece_new old new = MatchResult result
+    (λ _. (length old ≤ length new) × (new ++ piece_new ≡ (old ++ piece_old) ++ octets))
+    (λ _. Between old (old ++ (piece_old ++ octets)) new)
 
 -- The frames were answered, and the answers stand among the octets sunk behind the octets at the base.
 pub record IsServed {O : Type 0} (told : Bool) (trace : O → Trace) (faults : O → ℕ) (before : ℕ) (base : List ℕ) (book : BookView O)

@@ -9,18 +9,14 @@ use Rattle.disk_journal.specs.Changes.{Regates}
 use Rattle.unit_book.specs.State.{State, mark_of, floor_of, restarted}
 use Rattle.unit_book.specs.Shows.{Shows}
 use Rattle.unit_book.specs.History.{LegalHistory, after_first, epoch_after}
-use Rattle.sdls_run.specs.declared.answers.Answer.{Answer}
-use Rattle.sdls_run.specs.AnswerOctets.{answer_octets}
+use Rattle.record_io.specs.declared.answers.Answer.{Answer}
+use Rattle.record_io.specs.declared.code.TheConstants as codes
+use Rattle.record_io.specs.Answers.{answer_octets, answers_octets}
 use Rattle.sdls_run.specs.Fits.{Course, FitInTurn}
-
--- the octets of answers, one after the other
-abbrev pub answers_octets : List Answer → List ℕ
-answers_octets [] = []
-answers_octets (answer ∷ answers) = answer_octets answer ++ answers_octets answers
 
 -- the End answer, code ff: its detail is the status, and its position the count of entries
 pub record IsEnd (entries : List Entry) (answer : Answer) : Type 0 where
-  pub code_is : answer.code ≡ 0xff
+  pub code_is : answer.code ≡ codes.END
   pub key_is : answer.key ≡ 0
   pub position_is : answer.position ≡ length entries
   pub body_is : answer.body ≡ []
@@ -34,11 +30,11 @@ pub record AreSunk (entries : List Entry) (answers : List Answer) (sunk : List �
 -- the answer uses a number under a key: 00, and 03 where it has a key
 abbrev pub Uses : Answer → ℕ → ℕ → Type 0
 Uses answer key number =
-    ((answer.code ≡ 0) ⊎ ((answer.code ≡ 3) × (answer.key ≢ 0))) × (answer.key ≡ key) × (answer.number ≡ number)
+    ((answer.code ≡ codes.PROTECTED) ⊎ ((answer.code ≡ codes.DONE) × (answer.key ≢ 0))) × (answer.key ≡ key) × (answer.number ≡ number)
 
 -- the answer accepts a number under a key: 01
 abbrev pub Accepts : Answer → ℕ → ℕ → Type 0
-Accepts answer key number = (answer.code ≡ 1) × (answer.key ≡ key) × (answer.number ≡ number)
+Accepts answer key number = (answer.code ≡ codes.ACCEPTED) × (answer.key ≡ key) × (answer.number ≡ number)
 
 -- two answers that use, or accept, a number under a key differ in key or number
 abbrev pub Differ : (Answer → ℕ → ℕ → Type 0) → Answer → Answer → Type 0
@@ -64,7 +60,7 @@ pub record AcceptedOnce (start : State) (image : List ℕ) (answers : List Answe
 
 -- the answer has one of the codes from 00 to 20 whose position is an epoch
 abbrev pub TellsEpoch : Answer → Type 0
-TellsEpoch answer = answer.code ≤ 0x20
+TellsEpoch answer = answer.code ≤ codes.EXHAUSTED
 
 -- The image while the book serves: it shows the state after the first p entries, whose epoch no answer is beyond; half
 -- open, its opened form shows the state after more of them.
@@ -88,7 +84,7 @@ EpochsAscend answers = AllPairs (λ a b. TellsEpoch a → TellsEpoch b → a.pos
 
 -- at most one answer says that the site failed while an entry was stored
 abbrev pub OneFault : List Answer → Type 0
-OneFault answers = AllPairs (λ a b. a.code ≡ 0x31 → b.code ≢ 0x31) answers
+OneFault answers = AllPairs (λ a b. a.code ≡ codes.SITE_FAULT → b.code ≢ codes.SITE_FAULT) answers
 
 -- What a crash at this moment leaves is sound, with these answers: start is the image at the start, sunk is what the run has
 -- sunk.

@@ -1,15 +1,14 @@
 ghost use Rattle.std.specs.Prelude.{◌≡◌, ℕ, ◌+◌, IsTrue, List};
 ghost use Rattle.sdls_outside.specs.Faults.{HasCause, Rose};
 ghost use Rattle.sdls_run.specs.Answer.{Answers, CheckDue};
-ghost use Rattle.sdls_run.specs.Intake.{TakesAtMost};
+ghost use Rattle.sdls_outside.specs.Intake.{TakesAtMost};
 
 use crate::answer::put_verdict;
 use crate::frame_check::{GREATEST_LENGTH, check_frame};
-use crate::intake::collect;
 use crate::output::put_text;
 use crate::status::SOURCE_FAULT;
 use aes_block::Schedule;
-use sdls_outside::{Failed, Site, Source};
+use sdls_outside::{Failed, Site, Source, collect};
 
 /// Reads the whole input as one frame, puts the verdict on it under `key`, and answers the status.
 ///

@@ -1,15 +1,14 @@
 ghost use Rattle.std.specs.Prelude.{◌≡◌, ◌+◌, ◌≤◌, [], length, vec_len, IsTrue, IfOk};
 ghost use Rattle.sdls_outside.specs.Faults.{HasCause, Rose};
 ghost use Rattle.sdls_run.specs.Init.{EndsInit, InitEnds, init_status, init_text};
-ghost use Rattle.sdls_run.specs.Intake.{TakesAtMost};
+ghost use Rattle.sdls_outside.specs.Intake.{TakesAtMost};
 ghost use Rattle.sdls_run.specs.Output.{Delivers};
 
-use crate::intake::collect;
 use crate::outcome::Outcome;
 use crate::output::put_text;
 use crate::status::{DONE, MALFORMED, NO_MEMORY, NO_STATE, SITE_FAULT, SOURCE_FAULT};
 use disk_journal::create;
-use sdls_outside::{Failed, Site, Source};
+use sdls_outside::{Failed, Site, Source, collect};
 use std::alloc::{AllocError, Global};
 use unit_plan::{MOST_OCTETS, TelecommandPlan};
 

@@ -12,12 +12,10 @@
 #![tactic(auto)]
 
 mod answer;
-mod answers;
 mod check;
 mod frame_check;
 mod gate;
 mod init;
-mod intake;
 mod laws;
 mod outcome;
 mod output;
@@ -27,7 +25,6 @@ mod refusal;
 mod run_tests;
 mod running;
 mod serving;
-pub mod status;
 #[cfg(test)]
 mod tests;
 mod top;
@@ -38,5 +35,6 @@ pub use gate::Gate;
 pub use init::InitEnd;
 pub use laws::{covered_in_a_life, used_once_in_a_life};
 pub use outcome::Outcome;
+pub use record_io::status;
 pub use refusal::Refusal;
 pub use top::{run, run_plain};

@@ -1,13 +1,12 @@
 // The recorded input, read in segments.
 ghost use Rattle.std.specs.Prelude.{ℕ, List, ◌≡◌, ◌↔◌, ◌+◌, ◌-◌, ◌*◌, ◌≤◌, ◌<◌, ◌++◌, [], length, take, IsTrue, IfOk, OnErr, IfNone, IfSome, MatchOption, vec_len};
 ghost use Rattle.sdls_outside.specs.Faults.{HasCause, Rose};
-ghost use Rattle.sdls_run.specs.Intake.{TakesAtMost};
+ghost use Rattle.sdls_outside.specs.Intake.{TakesAtMost};
 ghost use Rattle.sdls_run.specs.Records.{EndsBefore, EndsBehind, HasEnded, HasFaultCause, HasRead, Item, Moves, NextSegment, NoBeginning, Place, ReadsOn, Segment, beginning};
 ghost use Rattle.sdls_run.specs.RecordSteps.{IsHead, IsNoHead, IsCounted, IsFaultRead, ReadsItem};
 
-use crate::intake::collect;
 use sdls_base::{NoMemory, Octets};
-use sdls_outside::{Failed, Source};
+use sdls_outside::{Failed, Source, collect};
 use std::alloc::Global;
 use std::marker::Model;
 

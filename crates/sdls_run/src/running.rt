@@ -6,18 +6,21 @@ ghost use Rattle.unit_book.specs.Book.{IsKept, SameBook};
 ghost use Rattle.unit_book.specs.Verdict.{binding_of};
 ghost use Rattle.unit_book.specs.State.{mark_of};
 ghost use Rattle.sdls_outside.specs.Site.{Sank};
-ghost use Rattle.sdls_run.specs.AnswerOctets.{answer_octets};
+ghost use Rattle.record_io.specs.Answers.{answer_octets};
 ghost use Rattle.sdls_run.specs.Serving.{IsReady, IsServed};
 
-use crate::answers::{Answer, answer_header};
 use crate::outcome::Outcome;
 use crate::records::{Reader, SegmentEnd};
 use crate::serving::{Session, Stop};
 use crate::status::{DONE, MALFORMED, NO_MEMORY, NO_STATE, SITE_FAULT, SOURCE_FAULT};
+use record_io::{Answer, answer_header, code};
 use sdls_base::{Entry, NoMemory, Octets};
 use sdls_outside::{Failed, Site, Source};
-use std::alloc::Global;
+use std::alloc::{AllocError, Global};
 use unit_book::{Book, OpenFault};
+
+/// The octets of answers that are put at once, at most.
+const PIECE: usize = 65536;
 
 /// Why `run` ends.
 #[derive(Clone, Copy, Debug, PartialEq, Eq)]
@@ -194,7 +197,7 @@ fn answer_of(alloc: Global, end: RunEnd, entries: u64) -> Answer
     ensures { result ≡ end_answer end entries }
 {
     Answer {
-        code: 0xff,
+        code: code::END,
         detail: end.status(),
         key: 0,
         position: entries,
@@ -203,9 +206,17 @@ fn answer_of(alloc: Global, end: RunEnd, entries: u64) -> Answer
     }
 }
 
+/// Room for a piece of answers. Where memory is wanting for it there is none, and answers are put alone.
+fn room_for_answers(alloc: Global) -> Vec<u8> {
+    match Vec::with_capacity(alloc, PIECE) {
+        Ok(room) => room,
+        Err(AllocError) => Vec::new(alloc),
+    }
+}
+
 impl<O: Site> Session<O> {
     /// A session over a book that was opened.
-    fn new(book: Book<O>) -> Session<O>
+    fn new(alloc: Global, book: Book<O>) -> Session<O>
         requires { IsKept O.told O.trace O.faults book }
         ensures book { result.book ≡ book }
         ensures binding { result.binding ≡ binding_of book.start }
@@ -218,6 +229,7 @@ impl<O: Site> Session<O> {
             book,
             binding,
             next,
+            piece: room_for_answers(alloc),
         }
     }
 
@@ -230,6 +242,7 @@ impl<O: Site> Session<O> {
             book,
             binding: _binding,
             next: _next,
+            piece: _piece,
         } = self;
         book.into_site()
     }
@@ -243,7 +256,7 @@ fn serve<S: Source, O: Site>(alloc: Global, source: &mut S, book: Book<O>) -> Ou
         → HasServed S.told (S.left source.old) (S.left source.new) (S.faults source.old) (S.faults source.new)
         O.told O.trace O.faults before base book result.site result.entries.items result.status }
 {
-    let mut session = Session::new(book);
+    let mut session = Session::new(alloc, book);
     let status = session.serve_all(alloc, source);
     let (site, entries) = session.into_site();
     Outcome {

@@ -1,5 +1,5 @@
 // Frames of one telecommand channel, protected and answered.
-ghost use Rattle.std.specs.Prelude.{◌≡◌, ◌≢◌, ◌+◌, ◌^◌, ◌<◌, ◌≤◌, IsTrue, IfOk, OnErr, None, length, vec_len};
+ghost use Rattle.std.specs.Prelude.{◌≡◌, ◌≢◌, ◌↔◌, ◌+◌, ◌^◌, ◌<◌, ◌≤◌, [], ◌++◌, IsTrue, IfOk, OnErr, None, length, vec_len, vec_capacity};
 ghost use Rattle.sdls_base.specs.KeyId.{end_of};
 ghost use Rattle.sdls_base.specs.Suite.{overhead_of};
 ghost use Rattle.unit_book.specs.declared.binding.Verdict.{Verdict};
@@ -11,22 +11,23 @@ ghost use Rattle.sdls_run.specs.Fits.{IsBare, IsVerdict};
 ghost use Rattle.std.specs.List.{All};
 ghost use Rattle.sdls_outside.specs.Faults.{Rose};
 ghost use Rattle.unit_book.specs.Book.{SameBook};
-ghost use Rattle.sdls_run.specs.AnswerOctets.{answer_octets};
-ghost use Rattle.sdls_run.specs.Sound.{answers_octets};
-ghost use Rattle.sdls_run.specs.Serving.{Adds, GrowsBehind, ServesOn, ServesSegment, AnswersFrame, AnswersProtected, Draws, IsReady, TellsRefusal};
+ghost use Rattle.record_io.specs.Answers.{answer_octets, answers_octets};
+ghost use Rattle.sdls_run.specs.Serving.{Adds, TakesOver, GrowsBehind, ServesOn, ServesSegment, AnswersFrame, AnswersProtected, Draws, IsReady, TellsRefusal};
 
-use crate::answers::{Answer, answer_header};
 use crate::records::Record;
+use record_io::{ANSWER_HEADER, Answer, answer_header, code};
 use sdls_base::{NoMemory, Octets, Suite};
 use sdls_outside::Site;
 use std::alloc::{AllocError, Global};
 use unit_book::{Binding, Book, BookFault, Verdict, shield};
 
-/// A book whose channel is served: what its frames are protected under, and the next number of the key.
+/// A book whose channel is served: what its frames are protected under, the next number of the key, and the octets of
+/// answers that are to be put in one piece.
 pub(crate) struct Session<O: Site> {
     pub(crate) book: Book<O>,
     pub(crate) binding: Binding,
     pub(crate) next: u64,
+    pub(crate) piece: Vec<u8>,
 }
 
 /// Why no more frames are served.
@@ -62,10 +63,10 @@ fn unbound(alloc: Global, verdict: Verdict) -> Answer
     ensures number { result.number ≡ 0 }
 {
     match verdict {
-        Verdict::Clear => bare(alloc, 0x02, 0, 0, 0),
-        Verdict::Layout(fault) => bare(alloc, 0x10, fault, 0, 0),
-        Verdict::Channel => bare(alloc, 0x11, 0, 0, 0),
-        Verdict::State => bare(alloc, 0x14, 0, 0, 0),
+        Verdict::Clear => bare(alloc, code::CLEAR, 0, 0, 0),
+        Verdict::Layout(fault) => bare(alloc, code::LAYOUT, fault, 0, 0),
+        Verdict::Channel => bare(alloc, code::CHANNEL, 0, 0, 0),
+        Verdict::State => bare(alloc, code::STATE, 0, 0, 0),
         Verdict::Bound => unreachable!(),
     }
 }
@@ -75,9 +76,9 @@ fn refused(alloc: Global, fault: BookFault, position: u64) -> Answer
     ensures { TellsRefusal fault position result }
 {
     match fault {
-        BookFault::SiteFault(count) => bare(alloc, 0x31, 0, position, count),
-        BookFault::Stopped(count) => bare(alloc, 0x32, 0, position, count),
-        BookFault::JournalFull(slots) => bare(alloc, 0x30, 0, position, slots as u64),
+        BookFault::SiteFault(count) => bare(alloc, code::SITE_FAULT, 0, position, count),
+        BookFault::Stopped(count) => bare(alloc, code::STOPPED, 0, position, count),
+        BookFault::JournalFull(slots) => bare(alloc, code::JOURNAL_FULL, 0, position, slots as u64),
     }
 }
 
@@ -92,7 +93,7 @@ fn protected(binding: &Binding, number: u64, frame: &Record, mut body: Vec<u8>) 
 {
     shield(binding, number, frame.octets.as_slice(), &mut body);
     Answer {
-        code: 0x00,
+        code: code::PROTECTED,
         detail: 0,
         key: binding.key().get(),
         position: 0,
@@ -157,7 +158,7 @@ impl<O: Site> Session<O> {
         let key = self.binding.key();
         if self.next >= key.end() {
             return Answer {
-                code: 0x20,
+                code: code::EXHAUSTED,
                 detail: 0,
                 key: key.get(),
                 position: 0,
@@ -170,7 +171,7 @@ impl<O: Site> Session<O> {
             frame.octets.as_slice().len() + Suite::Cmac.overhead(),
         ) {
             Ok(body) => self.use_number(alloc, frame, body),
-            Err(_) => bare(alloc, 0x33, 0, 0, 0),
+            Err(_) => bare(alloc, code::NO_MEMORY, 0, 0, 0),
         }
     }
 
@@ -223,6 +224,7 @@ impl<O: Site> Session<O> {
         ensures kept { IsKept O.told O.trace O.faults self.new.book }
         ensures same { SameBook self.old.book self.new.book }
         ensures others { (self.new.binding ≡ self.old.binding) × (self.new.next ≡ self.old.next) }
+        ensures piece { self.new.piece ≡ self.old.piece }
         ensures put { IsTrue O.told → Adds (answer_octets answer.now) result (O.trace self.old.book.site).now.sunk
             (O.trace self.new.book.site).now.sunk }
         ensures later { O.faults self.old.book.site ≤ O.faults self.new.book.site }
@@ -234,7 +236,87 @@ impl<O: Site> Session<O> {
         }
     }
 
-    /// Puts answers, one after the other.
+    /// Whether the piece has room for an answer.
+    fn has_room(&self, answer: &Answer) -> bool
+        requires { length answer.now.body ≤ 1024 }
+        ensures { IsTrue result ↔ (vec_len self.now.piece + (ANSWER_HEADER + length answer.now.body) ≤ vec_capacity self.now.piece) }
+    {
+        let room = self.piece.capacity() - self.piece.len();
+        ANSWER_HEADER + answer.body.as_slice().len() <= room
+    }
+
+    /// Adds an answer to the piece, its header before its body.
+    fn keep_answer(&mut self, answer: &Answer)
+        requires short { length answer.now.body ≤ 1024 }
+        requires room { vec_len self.old.piece + (ANSWER_HEADER + length answer.now.body) ≤ vec_capacity self.old.piece }
+        ensures piece { self.new.piece.items ≡ self.old.piece.items ++ answer_octets answer.now }
+        ensures book { self.new.book ≡ self.old.book }
+        ensures others { (self.new.binding ≡ self.old.binding) × (self.new.next ≡ self.old.next) }
+    {
+        extend_within(&mut self.piece, &answer_header(answer));
+        extend_within(&mut self.piece, answer.body.as_slice());
+    }
+
+    /// Puts the piece, and begins another.
+    fn put_piece(&mut self) -> Result<(), BookFault>
+        requires kept { IsKept O.told O.trace O.faults self.old.book }
+        ensures kept { IsKept O.told O.trace O.faults self.new.book }
+        ensures same { SameBook self.old.book self.new.book }
+        ensures others { (self.new.binding ≡ self.old.binding) × (self.new.next ≡ self.old.next) }
+        ensures put { IsTrue O.told → Adds self.old.piece.items result (O.trace self.old.book.site).now.sunk
+            (O.trace self.new.book.site).now.sunk }
+        ensures begun { self.new.piece.items ≡ [] }
+        ensures later { O.faults self.old.book.site ≤ O.faults self.new.book.site }
+        ensures fault { OnErr result (Rose (O.faults self.old.book.site) (O.faults self.new.book.site)) }
+    {
+        let put = self.book.put(&self.piece);
+        self.piece.clear();
+        put
+    }
+
+    /// Takes an answer over: into the piece, which is put before where it has no room, or alone where it never has.
+    fn take_answer(&mut self, answer: &Answer) -> Result<(), BookFault>
+        requires kept { IsKept O.told O.trace O.faults self.old.book }
+        requires short { length answer.now.body ≤ 1024 }
+        ensures kept { IsKept O.told O.trace O.faults self.new.book }
+        ensures same { SameBook self.old.book self.new.book }
+        ensures others { (self.new.binding ≡ self.old.binding) × (self.new.next ≡ self.old.next) }
+        ensures put { IsTrue O.told → TakesOver (answer_octets answer.now) result self.old.piece.items self.new.piece.items
+            (O.trace self.old.book.site).now.sunk (O.trace self.new.book.site).now.sunk }
+        ensures later { O.faults self.old.book.site ≤ O.faults self.new.book.site }
+        ensures fault { OnErr result (Rose (O.faults self.old.book.site) (O.faults self.new.book.site)) }
+    {
+        if self.has_room(answer) {
+            self.keep_answer(answer);
+            return Ok(());
+        }
+        match self.put_piece() {
+            Ok(()) => self.take_first(answer),
+            Err(fault) => Err(fault),
+        }
+    }
+
+    /// Takes an answer over behind an empty piece.
+    fn take_first(&mut self, answer: &Answer) -> Result<(), BookFault>
+        requires kept { IsKept O.told O.trace O.faults self.old.book }
+        requires short { length answer.now.body ≤ 1024 }
+        requires empty { self.old.piece.items ≡ [] }
+        ensures kept { IsKept O.told O.trace O.faults self.new.book }
+        ensures same { SameBook self.old.book self.new.book }
+        ensures others { (self.new.binding ≡ self.old.binding) × (self.new.next ≡ self.old.next) }
+        ensures put { IsTrue O.told → TakesOver (answer_octets answer.now) result [] self.new.piece.items
+            (O.trace self.old.book.site).now.sunk (O.trace self.new.book.site).now.sunk }
+        ensures later { O.faults self.old.book.site ≤ O.faults self.new.book.site }
+        ensures fault { OnErr result (Rose (O.faults self.old.book.site) (O.faults self.new.book.site)) }
+    {
+        if self.has_room(answer) {
+            self.keep_answer(answer);
+            return Ok(());
+        }
+        self.put_answer(answer)
+    }
+
+    /// Puts answers, one after the other, in pieces.
     fn put_answers(&mut self, answers: &[Answer]) -> Result<(), BookFault>
         requires kept { IsKept O.told O.trace O.faults self.old.book }
         requires short { All (λ answer. length answer.body ≤ 1024) answers.now }
@@ -246,13 +328,14 @@ impl<O: Site> Session<O> {
         ensures later { O.faults self.old.book.site ≤ O.faults self.new.book.site }
         ensures fault { OnErr result (Rose (O.faults self.old.book.site) (O.faults self.new.book.site)) }
     {
+        self.piece.clear();
         for answer in answers {
-            match self.put_answer(answer) {
+            match self.take_answer(answer) {
                 Ok(()) => {}
                 Err(fault) => return Err(fault),
             }
         }
-        Ok(())
+        self.put_piece()
     }
 
     /// Answers the frames of a segment and puts the answers, in their order.
@@ -275,4 +358,16 @@ impl<O: Site> Session<O> {
             Err(_) => Err(Stop::PutFailed),
         }
     }
+}
+
+/// Adds octets for which there is room.
+fn extend_within(items: &mut Vec<u8>, octets: &[u8])
+    requires { vec_len items.old + length octets.now ≤ vec_capacity items.old }
+    ensures items { items.new.items ≡ items.old.items ++ octets.now }
+    ensures len { vec_len items.new ≡ vec_len items.old + length octets.now }
+    ensures capacity { vec_capacity items.old ≤ vec_capacity items.new }
+{
+    let Ok(()) = items.extend_from_slice(octets) else {
+        unreachable!()
+    };
 }

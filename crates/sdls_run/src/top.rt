@@ -2,7 +2,7 @@ ghost use Rattle.std.specs.Prelude.{◌≡◌, ℕ, ◌+◌, ◌≤◌, List, []
 ghost use Rattle.sdls_outside.specs.Faults.{Rose};
 ghost use Rattle.sdls_run.specs.Answer.{Ends, EndsCheck, usage_text};
 ghost use Rattle.sdls_run.specs.Init.{EndsInit};
-ghost use Rattle.sdls_run.specs.Intake.{TakesAtMost};
+ghost use Rattle.sdls_outside.specs.Intake.{TakesAtMost};
 ghost use Rattle.sdls_run.specs.Words.{IsCheck, IsInit, IsNoCommand, IsRun};
 ghost use Rattle.sdls_run.specs.Run.{RunEnds, StatusSays};
 

@@ -3,7 +3,7 @@ use Rattle.std.specs.List.{All}
 use Rattle.std.specs.Prelude.{vec_capacity}
 use Rattle.std.proofs.lemmas.List.Elements.{All-push}
 use Rattle.unit_book.specs.Binding.{BindingParts}
-use Rattle.sdls_run.specs.declared.answers.Answer.{Answer}
+use Rattle.record_io.specs.declared.answers.Answer.{Answer}
 use Rattle.sdls_run.specs.Serving.{IsReady, AnswersFrame, ServesOn}
 use Rattle.sdls_run.proofs.Answering.{serves_more}
 use Rattle.sdls_run.proofs.Covering.{behind_then, frame_behind}

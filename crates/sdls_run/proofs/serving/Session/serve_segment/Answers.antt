@@ -2,8 +2,8 @@ use Rattle.std.proofs.Common.{◌≡◌, ◌≤◌, ◌++◌, ℕ, List, IsTrue,
 use Rattle.sdls_outside.specs.Faults.{Rose}
 use Rattle.sdls_outside.specs.Moments.{Between}
 use Rattle.unit_book.proofs.Faults.{rose_earlier}
-use Rattle.sdls_run.specs.declared.answers.Answer.{Answer}
-use Rattle.sdls_run.specs.Sound.{answers_octets}
+use Rattle.record_io.specs.declared.answers.Answer.{Answer}
+use Rattle.record_io.specs.Answers.{answers_octets}
 use Rattle.sdls_run.specs.Serving.{IsServed, IsBroken}
 use Rattle.sdls_run.proofs.SegmentSteps.{Answered, served, broken}
 use Rattle.sdls_run.proofs.serving.Session.serve_segment.Goals as goal
