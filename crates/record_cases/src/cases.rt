@@ -1,0 +1,123 @@
+// One case: an input, and how its source gives it.
+use record_io::{Reader, Record, RecordKind, SegmentEnd};
+use sdls_outside::MemSource;
+use std::alloc::{AllocError, Global};
+
+/// The most segments that are read of a case.
+const MOST_SEGMENTS: u32 = 64;
+
+/// An input, in pieces, with a call that fails.
+#[derive(Drop)]
+pub struct Case {
+    piece: usize,
+    failing: Option<u64>,
+    pub octets: Vec<u8>,
+}
+
+impl Case {
+    /// Reads the words of a case.
+    pub fn read(alloc: Global, text: &str) -> anyhow::Result<Case> {
+        let mut words = text.split_whitespace();
+        let piece = words.next().and_then(|word| word.parse().ok()).unwrap_or(1);
+        let failing = words.next().and_then(|word| word.parse().ok());
+        let mut octets = Vec::new(alloc);
+        let mut times: u16 = 1;
+        for word in words {
+            match word.strip_prefix("x") {
+                Some(count) => times = count.parse().unwrap_or(1),
+                None => {
+                    let part = hex::decode(alloc, word)?;
+                    for _ in 0..times {
+                        octets.extend_from_slice(&part)?;
+                    }
+                    times = 1;
+                }
+            }
+        }
+        Ok(Case {
+            piece,
+            failing,
+            octets,
+        })
+    }
+
+    /// A source of the first octets of the case.
+    fn source(&self, alloc: Global, len: usize) -> Result<MemSource, AllocError> {
+        let octets = self.octets.as_slice();
+        let front = Vec::from_slice(alloc, &octets[..len.min(octets.len())])?;
+        let mut failing = Vec::new(alloc);
+        if let Some(call) = self.failing {
+            failing.push(call)?;
+        }
+        Ok(MemSource::new(front, self.piece.max(1), failing))
+    }
+}
+
+/// The word for a kind.
+fn word(kind: RecordKind) -> &'static str {
+    match kind {
+        RecordKind::Protect => "protect",
+        RecordKind::Open => "open",
+        RecordKind::Command => "command",
+    }
+}
+
+/// Writes a record: number, kind, lane, link and length.
+fn push_record(
+    alloc: Global,
+    text: &mut String,
+    record: Option<&Record>,
+) -> Result<(), AllocError> {
+    if let Some(record) = record {
+        let Record {
+            index,
+            kind,
+            lane,
+            link,
+            octets,
+        } = record;
+        let len = octets.as_slice().len();
+        let kind = word(*kind);
+        let shown = format!(in alloc; " [{index} {kind} {lane} {link} {len}]")?;
+        text.push_str(shown.as_str())?;
+    }
+    Ok(())
+}
+
+/// Writes a segment: how many records, the first and the last, and how it ends.
+fn push_segment(
+    alloc: Global,
+    text: &mut String,
+    records: &[Record],
+    end: SegmentEnd,
+) -> Result<(), AllocError> {
+    let count = records.len();
+    let shown = format!(in alloc; "{count}")?;
+    text.push_str(shown.as_str())?;
+    push_record(alloc, text, records.first())?;
+    if count > 1 {
+        push_record(alloc, text, records.last())?;
+    }
+    let shown = match end {
+        SegmentEnd::More => format!(in alloc; " more, ")?,
+        SegmentEnd::End => format!(in alloc; " end")?,
+        SegmentEnd::Malformed(offset) => format!(in alloc; " malformed {offset}")?,
+        SegmentEnd::SourceFault(faults) => format!(in alloc; " fault {faults}")?,
+    };
+    text.push_str(shown.as_str())
+}
+
+/// What the reader answers to the first octets of a case, segment by segment.
+pub fn answer(alloc: Global, case: &Case, len: usize) -> anyhow::Result<String> {
+    let mut source = case.source(alloc, len)?;
+    let mut reader = Reader::new();
+    let mut text = String::new(alloc);
+    for _ in 0..MOST_SEGMENTS {
+        let (records, end) = reader.next_segment(alloc, &mut source)?;
+        push_segment(alloc, &mut text, &records, end)?;
+        if end != SegmentEnd::More {
+            break;
+        }
+    }
+    Ok(text)
+}
