@@ -3,8 +3,11 @@ ghost use Rattle.std.specs.Prelude.{◌≡◌, ℕ, List, Bool, IsTrue, IfOk, On
 ghost use Rattle.sdls_outside.specs.Faults.{HasCause};
 ghost use Rattle.sdls_outside.specs.Source.{FillsFront, Takes};
 
+use thiserror::Error;
+
 /// A device has failed. Its count of faults rose in the call that says so.
-#[derive(Clone, Copy, Debug, PartialEq, Eq)]
+#[derive(Clone, Copy, Debug, PartialEq, Eq, Error)]
+#[error("device failed")]
 pub struct Failed;
 
 /// A source of octets, taken from the front. A clause speaks of the octets that are left only
