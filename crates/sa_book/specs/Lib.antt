@@ -1,3 +1,4 @@
 pub mod SaRow
 pub mod SaBook
 pub mod SaRefusal
+pub mod Numbers

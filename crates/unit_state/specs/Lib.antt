@@ -1,0 +1,6 @@
+pub mod State
+pub mod Applied
+pub mod Allows
+pub mod Restart
+pub mod History
+pub mod Initial

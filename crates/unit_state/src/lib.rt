@@ -1,0 +1,10 @@
+//! The state of a space link security unit (CCSDS 355.0-B and 355.1-B): its keys, its security associations, and the
+//! changes that commands, frames and reserves make of them.
+//!
+//! Read `specs/Applied.antt` first: what each change makes of a state. `State::allows` tells whether a state allows a
+//! change, and `State::apply` makes it. Nothing here decides on commands, and nothing is stored.
+#![tactic(auto)]
+
+mod state;
+
+pub use state::State;
