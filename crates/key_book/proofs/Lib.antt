@@ -2,3 +2,4 @@ pub mod Lists
 pub mod Rows
 pub mod Moved
 pub mod Listed
+mod Judged

@@ -13,6 +13,7 @@ mod key_row;
 mod loading;
 mod moves;
 mod places;
+mod refusals;
 
 pub use inventory::{Inventory, MOST_LISTED};
 pub use key_book::{KeyBook, rows_may_follow};

@@ -1,3 +1,4 @@
 pub mod Lists
 pub mod Rows
 pub mod Changes
+mod HighRules

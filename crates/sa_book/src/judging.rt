@@ -128,7 +128,7 @@ pub(crate) fn judge_create(
 }
 
 /// Whether an association receives with a key.
-fn receives_with(row: &SaRow, key: KeyId) -> bool
+pub(crate) fn receives_with(row: &SaRow, key: KeyId) -> bool
     ensures { result ≡ receives_with key row.now }
 {
     row.direction == Direction::Receive && row.key == Some(key)

@@ -7,11 +7,13 @@ ghost use Rattle.replay_window.specs.Window.{IsWidth};
 ghost use Rattle.sa_book.specs.declared.sa_row.SaRow.{SaRow};
 ghost use Rattle.sa_book.specs.SaRow.{AreChannels, MayAccept, new_row, with_key, without_key, following};
 ghost use Rattle.sa_book.specs.SaBook.{IsSaBook, MayFollow, row_of, changed, without, with_row, sender_on, in_use};
+ghost use Rattle.sa_book.specs.Numbers.{lowered, all_high};
+ghost use Rattle.sdls_base.specs.KeyId.{end_of};
 ghost use Rattle.sa_book.specs.SaRefusal.{IsRefusal, create_refusal, rekey_refusal, start_refusal, stop_refusal, expire_refusal, delete_refusal, set_number_refusal, set_window_refusal, read_number_refusal};
 
-use crate::judging;
 use crate::sa_refusal::SaRefusal;
 use crate::sa_row::{SaRow, following};
+use crate::{highs, judging};
 use replay_window::Window;
 use sdls_base::{ChannelId, Direction, KeyId, KeyState, NewSa, NoMemory, SaState, Spi};
 use std::alloc::Global;
@@ -181,6 +183,22 @@ impl SaBook {
         let i = judging::known_place(&self.rows, spi);
         let row = &mut self.rows[i];
         row.window.accept(number);
+    }
+
+    /// Lowers the highest number of the associations that receive with a key to a floor, where it is above. Takes no
+    /// memory.
+    pub fn lower(&mut self, key: KeyId, floor: u64)
+        ensures { self.new ≡ lowered self.old key floor }
+    {
+        highs::lower(&mut self.rows, key, floor);
+    }
+
+    /// Sets the highest number of the associations that receive with a key. Takes no memory.
+    pub fn set_high(&mut self, key: KeyId, high: u64)
+        requires { high < end_of key }
+        ensures { self.new ≡ all_high self.old key high }
+    {
+        highs::set(&mut self.rows, key, high);
     }
 
     /// The next number of a receiving association that has a key: the one after the highest accepted.

@@ -5,6 +5,7 @@
 //! change, and `State::apply` makes it. Nothing here decides on commands, and nothing is stored.
 #![tactic(auto)]
 
+mod changing;
 mod state;
 
 pub use state::State;

@@ -1,16 +1,12 @@
 ghost use Rattle.std.specs.Prelude.{◌≡◌, ◌↔◌, true, IfOk, OnOk, OnErr};
-ghost use Rattle.unit_plan.specs.PlanError.{Gives};
 ghost use Rattle.unit_state.specs.State.{KeepsRules};
 ghost use Rattle.unit_state.specs.Applied.{applied};
 ghost use Rattle.unit_state.specs.Allows.{Allows};
 ghost use Rattle.unit_state.specs.Restart.{IsLight};
-ghost use Rattle.unit_state.specs.Initial.{initial};
 
 use key_book::KeyBook;
 use sa_book::SaBook;
 use sdls_base::{Change, ChannelList, NoMemory};
-use std::alloc::Global;
-use unit_plan::{Plan, PlanError};
 
 /// What a unit knows: its keys, its security associations, and what the plan says of channels and device.
 #[derive(Debug, Drop)]
@@ -21,4 +17,63 @@ pub struct State {
     pub channels: ChannelList,
     /// The device field of the vectors.
     pub device: [u8; 4],
+}
+
+impl State {
+    /// Makes a change that the state allows. After want of memory the state is as it was.
+    pub fn apply(&mut self, change: &Change) -> Result<(), NoMemory>
+        requires rules { KeepsRules self.old }
+        requires allowed { Allows self.old change.now }
+        ensures applied { OnOk result (self.new ≡ applied self.old change.now) }
+        ensures kept { OnErr result (self.new ≡ self.old) }
+    {
+        match change {
+            Change::Marks { key, mark, floor } => self.set_marks(*key, *mark, *floor),
+            Change::Load(items) => self.load(items)?,
+            Change::KeyStates { ids, to } => self.set_key_states(ids, *to)?,
+            Change::Create(new) => self.create(new)?,
+            Change::Rekey { spi, key, number } => self.rekey(*spi, *key, *number),
+            Change::SaTo { spi, to } => self.take_state(*spi, *to),
+            Change::SetNumber { spi, number } => self.set_number(*spi, *number),
+            Change::SetWindow { spi, window } => self.set_window(*spi, *window),
+            Change::Accepted {
+                spi,
+                key,
+                number,
+                floor,
+            } => self.accept(*spi, *key, *number, *floor),
+            Change::Nothing => {}
+        }
+        Ok(())
+    }
+
+    /// Makes a change that moves numbers alone, and that the state allows. Takes no memory, and is never refused.
+    pub fn apply_here(&mut self, change: &Change)
+        requires light { IsLight change.now }
+        requires allowed { Allows self.old change.now }
+        ensures { self.new ≡ applied self.old change.now }
+    {
+        match change {
+            Change::Marks { key, mark, floor } => self.set_marks(*key, *mark, *floor),
+            Change::Accepted {
+                spi,
+                key,
+                number,
+                floor,
+            } => self.accept(*spi, *key, *number, *floor),
+            _ => {}
+        }
+    }
+
+    /// An equal state.
+    pub fn copy(&self) -> Result<State, NoMemory>
+        ensures { IfOk result (λ state. state ≡ self.now) }
+    {
+        Ok(State {
+            keys: self.keys.copy()?,
+            associations: self.associations.copy()?,
+            channels: self.channels.clone()?,
+            device: self.device,
+        })
+    }
 }
