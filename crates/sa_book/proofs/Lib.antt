@@ -1,4 +1,4 @@
 pub mod Lists
 pub mod Rows
 pub mod Changes
-mod HighRules
+pub mod HighRules

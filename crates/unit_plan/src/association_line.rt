@@ -104,7 +104,7 @@ fn ascend(numbers: &[u8]) -> bool
 }
 
 /// Whether these are one to eight channel numbers, ascending.
-pub(crate) fn are_channels(numbers: &[u8]) -> bool
+pub fn are_channels(numbers: &[u8]) -> bool
     ensures tested { result ≡ are_channels numbers.now }
     ensures bounds { IsTrue result → AreChannels numbers.now }
     ensures identifiers { IsTrue result → All (λ n. n ≤ 63) numbers.now }

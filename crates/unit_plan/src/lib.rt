@@ -21,6 +21,7 @@ mod reading;
 mod taking;
 mod telecommand;
 
+pub use association_line::are_channels;
 pub use channel_line::Place;
 pub use lines::{Lines, Words};
 pub use plan::{Plan, PlanKey, PlanSa};

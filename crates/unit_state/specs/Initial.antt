@@ -1,5 +1,5 @@
 -- The state that the lines of a plan make, in their order, or the first line that the books refuse (profile).
-use Rattle.std.specs.Prelude.{ℕ, ◌+◌, Bool, false, nat_le, List, [], ◌∷◌, map, take, drop, Some, is_none, Result, Ok}
+use Rattle.std.specs.Prelude.{◌≡◌, ⊤, ℕ, ◌+◌, Bool, false, nat_le, List, [], ◌∷◌, map, take, drop, Option, Some, is_none, Result, Ok, Err}
 use Rattle.std.specs.List.{position_or_len}
 use Rattle.std.specs.Option.{option_map_or}
 use Rattle.sdls_base.specs.declared.change.Change.TheVariants.{Load, KeyStates, Create, Rekey, SaTo}
@@ -10,33 +10,45 @@ use Rattle.sdls_base.specs.declared.states.KeyState.TheVariants.{PreActive, Acti
 use Rattle.sdls_base.specs.declared.states.SaState.TheVariants.{Operational}
 use Rattle.key_book.specs.declared.key_row.KeyRow.{KeyRow}
 use Rattle.key_book.specs.KeyRefusal.{load_refusal}
+use Rattle.key_book.specs.Moves.{moves_refusal}
+use Rattle.sa_book.specs.declared.sa_row.SaRow.{SaRow}
+use Rattle.sa_book.specs.declared.sa_refusal.SaRefusal.{SaRefusal}
 use Rattle.sa_book.specs.SaRefusal.{create_refusal, rekey_refusal, start_refusal}
 use Rattle.unit_plan.specs.declared.plan.PlanKey.{PlanKey}
 use Rattle.unit_plan.specs.declared.plan.PlanSa.{PlanSa}
 use Rattle.unit_plan.specs.declared.plan_error.PlanCause.TheVariants.{Refused}
 use Rattle.unit_plan.specs.declared.plan_error.PlanFault.{PlanFault}
+use Rattle.unit_plan.specs.declared.plan_error.PlanError.{PlanError}
+use Rattle.unit_plan.specs.declared.plan_error.PlanError.TheVariants.{Refused as RefusedAt, NoMemory}
 use Rattle.unit_plan.specs.PlanError.{◌>>=◌, check}
 use Rattle.unit_plan.specs.PlanLines.{PlanLines}
 use Rattle.unit_state.specs.declared.state.State.{State}
-use Rattle.unit_state.specs.State.{key_row}
+use Rattle.unit_state.specs.State.{key_row, association_row}
 use Rattle.unit_state.specs.Applied.{applied}
 
 -- before its keys and associations
 abbrev pub bare : PlanLines → State
 bare plan = record { keys = []; associations = []; channels = map (λ row. row.0) plan.channels; device = plan.device }
 
--- a key that was loaded becomes active where its line says so
-abbrev pub activated : State → ℕ → KeyState → State
-activated state id Active = applied state (KeyStates (id ∷ []) Active)
-activated state id PreActive = state
-activated state id Deactivated = state
-activated state id Destroyed = state
-
--- a `key` line
-abbrev pub key_made : State → PlanKey → Result State PlanFault
-key_made state key = do
+-- a `key` line loads the key, and makes it active where it says so
+abbrev pub loaded : State → PlanKey → Result State PlanFault
+loaded state key = do
   taken ← check key.line Refused (is_none (load_refusal state.keys (key.item ∷ [])))
-  Ok (activated (applied state (Load (key.item ∷ []))) key.item.id key.state)
+  Ok (applied state (Load (key.item ∷ [])))
+
+abbrev pub activated : State → PlanKey → Result State PlanFault
+activated state key = do
+  taken ← check key.line Refused (is_none (moves_refusal state.keys (key.item.id ∷ []) Active []))
+  Ok (applied state (KeyStates (key.item.id ∷ []) Active))
+
+abbrev pub activated_if : State → PlanKey → KeyState → Result State PlanFault
+activated_if state key Active = activated state key
+activated_if state key PreActive = Ok state
+activated_if state key Deactivated = Ok state
+activated_if state key Destroyed = Ok state
+
+abbrev pub key_made : State → PlanKey → Result State PlanFault
+key_made state key = loaded state key >>= λ next. activated_if next key key.state
 
 abbrev pub keys_made : State → List PlanKey → Result State PlanFault
 keys_made state [] = Ok state
@@ -47,10 +59,15 @@ abbrev pub least_first : Direction → KeyRow → ℕ
 least_first Send held = held.mark
 least_first Receive held = held.floor + 1
 
+-- what decides on a key for an association
+abbrev pub line_refusal : State → PlanSa → SaRow → KeyRow → Option SaRefusal
+line_refusal state found row held = rekey_refusal state.associations found.sa.spi found.key held.state found.number
+    (least_first row.direction held)
+
 abbrev pub takes_key : State → PlanSa → Bool
-takes_key state found = option_map_or (λ held. is_none
-    (rekey_refusal state.associations found.sa.spi found.key held.state found.number (least_first found.sa.direction held)))
-    (key_row state found.key) false
+takes_key state found = option_map_or
+    (λ row. option_map_or (λ held. is_none (line_refusal state found row held)) (key_row state found.key) false)
+    (association_row state found.sa.spi) false
 
 -- an `sa` line does what creating, rekeying and starting do
 abbrev pub created : State → PlanSa → Result State PlanFault
@@ -69,10 +86,7 @@ started state found = do
   Ok (applied state (SaTo found.sa.spi (Some Operational)))
 
 abbrev pub association_made : State → PlanSa → Result State PlanFault
-association_made state found = do
-  unkeyed ← created state found
-  stopped ← keyed unkeyed found
-  started stopped found
+association_made state found = created state found >>= λ unkeyed. keyed unkeyed found >>= λ stopped. started stopped found
 
 -- how many of the keys have their line before another
 abbrev pub count_before : ℕ → List PlanKey → ℕ
@@ -89,3 +103,9 @@ lines_made state keys (found ∷ associations) = do
 -- a whole plan
 abbrev pub initial : PlanLines → Result State PlanFault
 initial plan = lines_made (bare plan) plan.keys plan.associations
+
+-- what a call answers, and the state that it left, is what lines make, unless memory was wanting
+abbrev pub Makes : Result (Unit {0}) PlanError → Result State PlanFault → State → Type 0
+Makes (Ok u) said state = said ≡ Ok state
+Makes (Err (RefusedAt first)) said state = said ≡ Err first
+Makes (Err NoMemory) said state = ⊤

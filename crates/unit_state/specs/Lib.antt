@@ -4,3 +4,4 @@ pub mod Allows
 pub mod Restart
 pub mod History
 pub mod Initial
+pub mod Laws

@@ -2,8 +2,9 @@
 
 ghost use Rattle.std.specs.Prelude.{◌≡◌, ◌<◌, ◌≤◌, ◌-◌, Some, None, OnOk, OnErr, IsSome};
 ghost use Rattle.sdls_base.specs.KeyId.{end_of};
+ghost use Rattle.key_book.specs.KeyRow.{IsKeyRow};
 ghost use Rattle.sdls_base.specs.declared.change.Change.TheVariants.{Marks, Load, KeyStates, Create, Rekey, SaTo, SetNumber, SetWindow, Accepted};
-ghost use Rattle.unit_state.specs.State.{KeepsRules, key_row, association_row};
+ghost use Rattle.unit_state.specs.State.{key_row, association_row};
 ghost use Rattle.unit_state.specs.Applied.{applied, numbered, direction_of, key_held};
 ghost use Rattle.unit_state.specs.Allows.{AllowsMarks, AllowsLoad, AllowsStates, AllowsCreate, AllowsRekey, AllowsNumber, AllowsWindow, AllowsAccepted, state_refusal, least_number};
 
@@ -13,7 +14,7 @@ use sdls_base::{Direction, KeyId, KeyItems, KeyList, KeyState, NewSa, NoMemory, 
 
 /// The least number that an association may be given with a key.
 pub(crate) fn least_number(direction: Direction, held: &KeyRow) -> u64
-    requires { held.now.floor < end_of held.now.id }
+    requires { IsKeyRow held.now }
     ensures { result ≡ least_number direction held.now }
 {
     match direction {
@@ -26,13 +27,14 @@ impl State {
     /// The row of a key that is there.
     fn held(&self, key: KeyId) -> &KeyRow
         requires { IsSome (key_row self.now key) }
-        ensures { key_row self.now key ≡ Some result.now }
+        ensures row { key_row self.now key ≡ Some result.now }
+        ensures rules { IsKeyRow result.now }
     {
-        self.keys.find(key).unwrap().1
+        self.key(key).unwrap()
     }
 
     /// The direction of an association that is there.
-    fn direction(&self, spi: Spi) -> Direction
+    pub(crate) fn direction(&self, spi: Spi) -> Direction
         requires { IsSome (association_row self.now spi) }
         ensures { direction_of self.now spi ≡ Some result }
     {
@@ -76,12 +78,13 @@ impl State {
     }
 
     /// Raises what a number of an association raises of its key.
-    fn raise(&mut self, direction: Direction, key: KeyId, number: u64)
+    pub(crate) fn raise(&mut self, direction: Direction, key: KeyId, number: u64)
         requires there { IsSome (key_row self.old key) }
         requires from_one { 1 ≤ number }
         requires below_end { number < end_of key }
         ensures { self.new ≡ record self.old {
-            keys = numbered self.old.keys (Some direction) (Some key) number } }
+          keys = numbered self.old.keys (Some direction) (Some key) number;
+        } }
     {
         match direction {
             Direction::Send => self.keys.raise_mark(key, number),
@@ -90,15 +93,16 @@ impl State {
     }
 
     pub(crate) fn rekey(&mut self, spi: Spi, key: KeyId, number: u64)
-        requires rules { KeepsRules self.old }
-        requires allowed { AllowsRekey self.old spi key number }
+        requires { AllowsRekey self.old spi key number }
         ensures { self.new ≡ applied self.old (Rekey spi key number) }
     {
         let direction = self.direction(spi);
         let held = self.held(key);
         let least = least_number(direction, held);
         let state = held.state;
-        self.associations.rekey(spi, key, state, number, least).unwrap();
+        self.associations
+            .rekey(spi, key, state, number, least)
+            .unwrap();
         self.raise(direction, key, number);
     }
 
@@ -123,8 +127,7 @@ impl State {
     }
 
     pub(crate) fn set_number(&mut self, spi: Spi, number: u64)
-        requires rules { KeepsRules self.old }
-        requires allowed { AllowsNumber self.old spi number }
+        requires { AllowsNumber self.old spi number }
         ensures { self.new ≡ applied self.old (SetNumber spi number) }
     {
         let direction = self.direction(spi);

@@ -5,7 +5,13 @@
 //! change, and `State::apply` makes it. Nothing here decides on commands, and nothing is stored.
 #![tactic(auto)]
 
+mod allowing;
 mod changing;
+mod laws;
+mod starting;
 mod state;
 
+pub use laws::{
+    numbers_rise, octets_differ, places_stay, rest_stays, restarts_once, rules_stay, serve_alike,
+};
 pub use state::State;

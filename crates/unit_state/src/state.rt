@@ -1,5 +1,4 @@
-ghost use Rattle.std.specs.Prelude.{◌≡◌, ◌↔◌, true, IfOk, OnOk, OnErr};
-ghost use Rattle.unit_state.specs.State.{KeepsRules};
+ghost use Rattle.std.specs.Prelude.{◌≡◌, IfOk, OnOk, OnErr};
 ghost use Rattle.unit_state.specs.Applied.{applied};
 ghost use Rattle.unit_state.specs.Allows.{Allows};
 ghost use Rattle.unit_state.specs.Restart.{IsLight};
@@ -22,8 +21,7 @@ pub struct State {
 impl State {
     /// Makes a change that the state allows. After want of memory the state is as it was.
     pub fn apply(&mut self, change: &Change) -> Result<(), NoMemory>
-        requires rules { KeepsRules self.old }
-        requires allowed { Allows self.old change.now }
+        requires { Allows self.old change.now }
         ensures applied { OnOk result (self.new ≡ applied self.old change.now) }
         ensures kept { OnErr result (self.new ≡ self.old) }
     {

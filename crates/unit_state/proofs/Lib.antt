@@ -1,0 +1,10 @@
+pub mod Found
+pub mod Moves
+pub mod Channels
+pub mod Lines
+pub mod Held
+pub mod KeyRules
+pub mod SaRules
+pub mod RulesKept
+pub mod Starts
+pub mod StateLaws

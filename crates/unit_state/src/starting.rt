@@ -1,0 +1,192 @@
+//! The state that a plan's lines make.
+
+ghost use Rattle.std.specs.Prelude.{◌≡◌, nat_le, length, position, IfOk, All};
+ghost use Rattle.key_book.specs.KeyRow.{IsKeyRow};
+ghost use Rattle.unit_plan.specs.declared.plan_error.PlanError.TheVariants as errors;
+ghost use Rattle.unit_plan.specs.declared.plan_error.PlanCause.TheVariants as causes;
+ghost use Rattle.unit_plan.specs.PlanError.{Gives};
+ghost use Rattle.sdls_base.specs.Bounds.{IsKeyLength};
+ghost use Rattle.unit_plan.specs.PlanRules.{IsAssociation};
+ghost use Rattle.unit_state.specs.State.{KeepsRules};
+ghost use Rattle.unit_state.specs.Initial.{Makes, bare, loaded, activated, activated_if, key_made, keys_made, least_first, created, keyed, started, association_made, count_before, lines_made, initial};
+
+use crate::state::State;
+use key_book::{KeyBook, KeyRefusal, KeyRow};
+use sa_book::{SaBook, SaRefusal};
+use sdls_base::{ChannelList, Direction, KeyList, KeyState};
+use std::alloc::{AllocError, Global};
+use unit_plan::{Plan, PlanCause, PlanError, PlanFault, PlanKey, PlanSa};
+
+fn refused(line: u32) -> PlanError
+    ensures { result ≡ errors.Refused (record { line = line; cause = causes.Refused }) }
+{
+    PlanError::Refused(PlanFault {
+        line,
+        cause: PlanCause::Refused,
+    })
+}
+
+/// The least number that an `sa` line may give.
+fn least_first(direction: Direction, held: &KeyRow) -> u64
+    requires { IsKeyRow held.now }
+    ensures { result ≡ least_first direction held.now }
+{
+    match direction {
+        Direction::Send => held.mark,
+        Direction::Receive => held.floor + 1,
+    }
+}
+
+fn first_behind(line: u32, keys: &[PlanKey]) -> Option<usize>
+    ensures { result ≡ position (λ key. nat_le line key.line) keys.now }
+{
+    keys.iter().position(|key| line <= key.line)
+}
+
+/// How many of the keys have their line before another.
+fn count_before(line: u32, keys: &[PlanKey]) -> usize
+    ensures { result ≡ count_before line keys.now }
+{
+    first_behind(line, keys).unwrap_or(keys.len())
+}
+
+impl State {
+    fn bare(alloc: Global, plan: &Plan) -> Result<State, AllocError>
+        ensures { IfOk result (λ state. state ≡ bare plan.now) }
+    {
+        Ok(State {
+            keys: KeyBook::new(alloc),
+            associations: SaBook::new(alloc),
+            channels: ChannelList::new(Vec::from_slice(alloc, plan.channels())?),
+            device: plan.device(),
+        })
+    }
+
+    fn load_line(&mut self, alloc: Global, key: &PlanKey) -> Result<(), PlanError>
+        requires { IsKeyLength (length key.now.item.bytes) }
+        ensures { Makes result (loaded self.old key.now) self.new }
+    {
+        let items = vec![in alloc; key.item.clone()?]?;
+        match self.keys.load(items.as_slice()) {
+            Ok(()) => Ok(()),
+            Err(KeyRefusal::NoMemory) => Err(PlanError::NoMemory),
+            Err(_) => Err(refused(key.line)),
+        }
+    }
+
+    fn activate_line(&mut self, alloc: Global, key: &PlanKey) -> Result<(), PlanError>
+        ensures { Makes result (activated self.old key.now) self.new }
+    {
+        let ids = KeyList::new(vec![in alloc; key.item.id]?);
+        match self.keys.set_state(&ids, KeyState::Active, &[]) {
+            Ok(()) => Ok(()),
+            Err(_) => Err(refused(key.line)),
+        }
+    }
+
+    fn make_key(&mut self, alloc: Global, key: &PlanKey) -> Result<(), PlanError>
+        requires { IsKeyLength (length key.now.item.bytes) }
+        ensures { Makes result (key_made self.old key.now) self.new }
+    {
+        self.load_line(alloc, key)?;
+        match key.state {
+            KeyState::Active => self.activate_line(alloc, key),
+            _ => Ok(()),
+        }
+    }
+
+    fn create_line(&mut self, found: &PlanSa) -> Result<(), PlanError>
+        requires { IsAssociation found.now }
+        ensures { Makes result (created self.old found.now) self.new }
+    {
+        match self
+            .associations
+            .create(&found.sa, self.channels.as_slice())
+        {
+            Ok(()) => Ok(()),
+            Err(SaRefusal::NoMemory) => Err(PlanError::NoMemory),
+            Err(_) => Err(refused(found.line)),
+        }
+    }
+
+    fn key_line(&mut self, found: &PlanSa) -> Result<(), PlanError>
+        ensures { Makes result (keyed self.old found.now) self.new }
+    {
+        let spi = found.sa.spi;
+        let Ok(row) = self.associations.status(spi) else {
+            return Err(refused(found.line));
+        };
+        let direction = row.direction;
+        let Some(held) = self.key(found.key) else {
+            return Err(refused(found.line));
+        };
+        let least = least_first(direction, held);
+        let state = held.state;
+        let taken = self
+            .associations
+            .rekey(spi, found.key, state, found.number, least);
+        if taken.is_err() {
+            return Err(refused(found.line));
+        }
+        self.raise(direction, found.key, found.number);
+        Ok(())
+    }
+
+    fn start_line(&mut self, found: &PlanSa) -> Result<(), PlanError>
+        ensures { Makes result (started self.old found.now) self.new }
+    {
+        match self.associations.start(found.sa.spi) {
+            Ok(()) => Ok(()),
+            Err(_) => Err(refused(found.line)),
+        }
+    }
+
+    fn make_association(&mut self, found: &PlanSa) -> Result<(), PlanError>
+        requires { IsAssociation found.now }
+        ensures { Makes result (association_made self.old found.now) self.new }
+    {
+        self.create_line(found)?;
+        self.key_line(found)?;
+        self.start_line(found)
+    }
+
+    fn make_keys(&mut self, alloc: Global, keys: &[PlanKey]) -> Result<(), PlanError>
+        requires { All (λ key. IsKeyLength (length key.item.bytes)) keys.now }
+        ensures { Makes result (keys_made self.old keys.now) self.new }
+    {
+        for key in keys {
+            self.make_key(alloc, key)?;
+        }
+        Ok(())
+    }
+
+    fn make_lines(
+        &mut self,
+        alloc: Global,
+        keys: &[PlanKey],
+        associations: &[PlanSa],
+    ) -> Result<(), PlanError>
+        requires keys { All (λ key. IsKeyLength (length key.item.bytes)) keys.now }
+        requires associations { All IsAssociation associations.now }
+        ensures { Makes result (lines_made self.old keys.now associations.now) self.new }
+    {
+        let mut rest = keys;
+        for found in associations {
+            let (before, behind) = rest.split_at(count_before(found.line, rest));
+            self.make_keys(alloc, before)?;
+            self.make_association(found)?;
+            rest = behind;
+        }
+        self.make_keys(alloc, rest)
+    }
+
+    /// The state that the lines of a plan make, or the first line that the books refuse.
+    pub fn initial(alloc: Global, plan: &Plan) -> Result<State, PlanError>
+        ensures made { Gives result (initial plan.now) }
+        ensures rules { IfOk result KeepsRules }
+    {
+        let mut state = State::bare(alloc, plan)?;
+        state.make_lines(alloc, plan.keys(), plan.associations())?;
+        Ok(state)
+    }
+}
