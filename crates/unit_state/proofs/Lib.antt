@@ -8,3 +8,4 @@ pub mod SaRules
 pub mod RulesKept
 pub mod Starts
 pub mod StateLaws
+pub mod Alike

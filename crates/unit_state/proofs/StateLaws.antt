@@ -1,14 +1,13 @@
 -- Laws of states, one case for each change.
-use Rattle.std.proofs.Common.{◌≡◌, ◌≢◌, ℕ, zero, suc, ◌+◌, ◌-◌, ◌<◌, ◌≤◌, max, min, Bool, true, false, cond, ◌&&◌, nat_eq, List, [], ◌∷◌, ◌++◌, length, get_or, map, Option, Some, None, IsSomeAnd, sym, refl, ap, ◌∙◌, subst, arith}
+use Rattle.std.proofs.Common.{◌≡◌, ◌≢◌, ℕ, ◌-◌, ◌<◌, ◌≤◌, max, min, Bool, true, false, cond, nat_eq, List, [], ◌∷◌, ◌++◌, length, get_or, map, Option, Some, None, IsSomeAnd, sym, refl, ap, ◌∙◌, subst, arith}
 use Rattle.std.specs.Prelude.{IfSome}
-use Rattle.std.specs.List.{find, position, position_or_len, All, AllPairs}
+use Rattle.std.specs.List.{find, position, position_or_len}
 use Rattle.std.specs.Option.{option_map, option_map_or, option_or}
 use Rattle.std.proofs.lemmas.Bool.Decides.{nat_tests}
 use Rattle.std.proofs.lemmas.List.{length-map, length-append, get_or-map, get_or_append_left}
 use Rattle.std.proofs.lemmas.List.Folds.{find-append}
 use Rattle.std.proofs.lemmas.List.Sums.{position_or_len_is}
 use Rattle.std.proofs.lemmas.List.Quantifiers.{position-Some}
-use Rattle.sha2.specs.Sha256.{sha256}
 use Rattle.sdls_base.proofs.Searches.{find-map}
 use Rattle.sdls_base.specs.declared.change.Change.{Change}
 use Rattle.sdls_base.specs.declared.change.Change.TheVariants.{Marks, Load, KeyStates, Create, Rekey, SaTo, SetNumber, SetWindow, Accepted, Nothing}
@@ -19,15 +18,13 @@ use Rattle.sdls_base.specs.declared.states.KeyState.TheVariants.{PreActive, Acti
 use Rattle.key_book.specs.declared.key_row.KeyRow.{KeyRow}
 use Rattle.key_book.specs.KeyRow.{HasBytes, new_row, in_state}
 use Rattle.key_book.specs.KeyBook.{IsKeyBook, row_of, place_of, changed}
-use Rattle.key_book.specs.Moves.{moved}
 use Rattle.key_book.proofs.Moved.{moved_row}
 use Rattle.sa_book.specs.declared.sa_row.SaRow.{SaRow}
 use Rattle.unit_state.specs.declared.state.State.{State}
-use Rattle.unit_state.specs.State.{KeepsRules, key_row}
 use Rattle.unit_state.specs.Applied.{applied, numbered, direction_of, key_held}
 use Rattle.sa_book.specs.SaBook.{covers}
 use Rattle.sa_book.specs.SaRefusal.{receives_with}
-use Rattle.unit_state.specs.Restart.{restarted_high, restarted_row, restarted, AreAlike, IsLight, still_key, still_association, still}
+use Rattle.unit_state.specs.Restart.{restarted_high, restarted_row, restarted, IsLight, still_key, still_association, still}
 use Rattle.unit_state.specs.Laws.{HasRisen, Rises, IsNoMarks, KeepsPlaces, HaveOwnBytes, ServeAlike}
 use Rattle.unit_state.proofs.Held.{row_of_changed}
 use Rattle.unit_state.proofs.KeyRules.{row_of_moved}

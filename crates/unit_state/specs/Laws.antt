@@ -1,5 +1,5 @@
 -- What the laws of states say.
-use Rattle.std.specs.Prelude.{◌≡◌, ℕ, ◌≤◌, ⊤, List, [], All, AllPairs, Some, IfSome, IsSomeAnd}
+use Rattle.std.specs.Prelude.{◌≡◌, ℕ, ◌≤◌, ⊤, List, [], AllPairs, Some, IfSome, IsSomeAnd}
 use Rattle.std.specs.Option.{option_map}
 use Rattle.key_book.specs.declared.key_row.KeyRow.{KeyRow}
 use Rattle.key_book.specs.KeyBook.{place_of}
@@ -8,7 +8,9 @@ use Rattle.sdls_base.specs.declared.change.Change.{Change}
 use Rattle.sdls_base.specs.declared.change.Change.TheVariants.{Marks, Load, KeyStates, Create, Rekey, SaTo, SetNumber, SetWindow, Accepted, Nothing}
 use Rattle.unit_state.specs.declared.state.State.{State}
 use Rattle.unit_state.specs.State.{key_row}
-use Rattle.unit_state.specs.Restart.{still_key, still_association, still}
+use Rattle.unit_state.specs.Applied.{applied}
+use Rattle.unit_state.specs.Allows.{Allows}
+use Rattle.unit_state.specs.Restart.{AreAlike, IsStorable, still_key, still_association}
 
 -- numbers of a key that did not fall
 pub record HasRisen (old new : KeyRow) : Type 0 where
@@ -44,3 +46,9 @@ HaveOwnBytes rows = AllPairs (λ a b. a.bytes ≡ b.bytes → a.bytes ≡ []) ro
 pub record ServeAlike (one other : State) : Type 0 where
   pub sender : (channel : ℕ) → option_map still_association (sender_on one.associations channel) ≡ option_map still_association (sender_on other.associations channel)
   pub key : (id : ℕ) → option_map still_key (key_row one id) ≡ option_map still_key (key_row other id)
+
+-- the change that is stored for another may be stored, is allowed, and after a restart leaves the same
+pub record StoresWell (state : State) (change stored : Change) : Type 0 where
+  pub storable : IsStorable stored
+  pub allowed : Allows state stored
+  pub alike : AreAlike (applied state change) (applied state stored)

@@ -1,13 +1,13 @@
 //! Laws of states and changes.
 
-ghost use Rattle.std.specs.Prelude.{◌≡◌};
+ghost use Rattle.std.specs.Prelude.{◌≡◌, Some, None};
 ghost use Rattle.sdls_base.specs.declared.change.Change.{Change};
 ghost use Rattle.unit_state.specs.declared.state.State.{State};
 ghost use Rattle.unit_state.specs.State.{KeepsRules};
 ghost use Rattle.unit_state.specs.Applied.{applied};
 ghost use Rattle.unit_state.specs.Allows.{Allows};
-ghost use Rattle.unit_state.specs.Restart.{restarted, still, IsLight};
-ghost use Rattle.unit_state.specs.Laws.{Rises, IsNoMarks, KeepsPlaces, HaveOwnBytes, ServeAlike};
+ghost use Rattle.unit_state.specs.Restart.{AreAlike, IsLight, restarted, still, stored_as};
+ghost use Rattle.unit_state.specs.Laws.{Rises, IsNoMarks, KeepsPlaces, HaveOwnBytes, ServeAlike, StoresWell};
 
 /// Law: a change that a state allows leaves the rules.
 pub fn rules_stay()
@@ -43,4 +43,16 @@ pub fn serve_alike()
 /// Law: a restart of a restarted state changes nothing.
 pub fn restarts_once()
     ensures { (state : State) → restarted (restarted state) ≡ restarted state }
+{}
+
+/// Law: a change that is not stored leaves what a restart leaves without it.
+pub fn unstored_stays()
+    ensures { (state : State) (change : Change) → KeepsRules state → Allows state change
+        → stored_as state change ≡ None → AreAlike (applied state change) state }
+{}
+
+/// Law: the change that is stored for another may be stored, is allowed, and after a restart leaves the same.
+pub fn stored_well()
+    ensures { (state : State) (change stored : Change) → KeepsRules state → Allows state change
+        → stored_as state change ≡ Some stored → StoresWell state change stored }
 {}

@@ -13,5 +13,6 @@ mod state;
 
 pub use laws::{
     numbers_rise, octets_differ, places_stay, rest_stays, restarts_once, rules_stay, serve_alike,
+    stored_well, unstored_stays,
 };
 pub use state::State;
