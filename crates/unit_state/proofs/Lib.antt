@@ -9,3 +9,4 @@ pub mod RulesKept
 pub mod Starts
 pub mod StateLaws
 pub mod Alike
+pub mod Histories

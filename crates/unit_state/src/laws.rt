@@ -1,12 +1,14 @@
 //! Laws of states and changes.
 
-ghost use Rattle.std.specs.Prelude.{◌≡◌, Some, None};
+ghost use Rattle.std.specs.Prelude.{◌≡◌, ℕ, ◌+◌, ◌≤◌, List, ◌++◌, Some, None};
+ghost use Rattle.sdls_base.specs.declared.entry.Entry.{Entry};
 ghost use Rattle.sdls_base.specs.declared.change.Change.{Change};
 ghost use Rattle.unit_state.specs.declared.state.State.{State};
 ghost use Rattle.unit_state.specs.State.{KeepsRules};
 ghost use Rattle.unit_state.specs.Applied.{applied};
 ghost use Rattle.unit_state.specs.Allows.{Allows};
 ghost use Rattle.unit_state.specs.Restart.{AreAlike, IsLight, restarted, still, stored_as};
+ghost use Rattle.unit_state.specs.History.{after, at_epoch, epoch_after};
 ghost use Rattle.unit_state.specs.Laws.{Rises, IsNoMarks, KeepsPlaces, HaveOwnBytes, ServeAlike, StoresWell};
 
 /// Law: a change that a state allows leaves the rules.
@@ -55,4 +57,22 @@ pub fn unstored_stays()
 pub fn stored_well()
     ensures { (state : State) (change stored : Change) → KeepsRules state → Allows state change
         → stored_as state change ≡ Some stored → StoresWell state change stored }
+{}
+
+/// Law: a history that goes on goes on from the state that it reached.
+pub fn histories_go_on()
+    ensures { (state : State) (entries more : List Entry)
+        → after state (entries ++ more) ≡ after (after state entries) more }
+{}
+
+/// Law: the epoch of a history is the sum of those of its parts.
+pub fn epochs_add()
+    ensures { (entries more : List Entry)
+        → epoch_after (entries ++ more) ≡ epoch_after entries + epoch_after more }
+{}
+
+/// Law: an epoch that was reached keeps its state.
+pub fn epochs_stay()
+    ensures { (state : State) (entries more : List Entry) (epoch : ℕ) → epoch ≤ epoch_after entries
+        → at_epoch state (entries ++ more) epoch ≡ at_epoch state entries epoch }
 {}

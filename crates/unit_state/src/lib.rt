@@ -12,7 +12,7 @@ mod starting;
 mod state;
 
 pub use laws::{
-    numbers_rise, octets_differ, places_stay, rest_stays, restarts_once, rules_stay, serve_alike,
-    stored_well, unstored_stays,
+    epochs_add, epochs_stay, histories_go_on, numbers_rise, octets_differ, places_stay, rest_stays,
+    restarts_once, rules_stay, serve_alike, stored_well, unstored_stays,
 };
 pub use state::State;
