@@ -5,13 +5,14 @@ use Rattle.std.specs.Option.{option_map, option_or}
 use Rattle.std.specs.Str.{bytes_eq}
 use Rattle.std.proofs.lemmas.List.Folds.{find-append}
 use Rattle.sha2.specs.Sha256.{sha256}
+use Rattle.sdls_base.specs.FirstFailing.{fails_if}
 use Rattle.sdls_base.specs.declared.key_item.KeyItem.{KeyItem}
 use Rattle.key_book.specs.declared.key_row.KeyRow.{KeyRow}
 use Rattle.key_book.specs.declared.key_refusal.KeyRefusal.TheVariants.{AlreadyLoaded, DuplicateKey}
 use Rattle.key_book.specs.KeyRow.{new_row}
 use Rattle.key_book.specs.KeyBook.{row_of, place_of}
-use Rattle.key_book.specs.KeyRefusal.{refuse_if, row_with, place_with, key_refusal}
-use Rattle.key_book.proofs.Lists.{find_placed, find_nowhere, is_some-find}
+use Rattle.key_book.specs.KeyRefusal.{row_with, place_with, key_refusal}
+use Rattle.sdls_base.proofs.Searches.{find_placed, find_nowhere, is_some-find}
 
 -- searches among the rows of items
 
@@ -90,12 +91,12 @@ twin (Some row) = refl
 
 pub judged-taken : (rows : List KeyRow) (items : List KeyItem) (id : ℕ) (digest : List ℕ) → is_some (row_of (rows ++ map new_row items) id) ≡ true → key_refusal (rows ++ map new_row items) id digest ≡ Some (AlreadyLoaded id)
 judged-taken rows items id digest taken =
-    ap (λ b. option_or (refuse_if b (AlreadyLoaded id)) (option_map (λ (row : KeyRow). DuplicateKey row.id) (row_with (rows ++ map new_row items) digest))) taken
+    ap (λ b. option_or (fails_if b (AlreadyLoaded id)) (option_map (λ (row : KeyRow). DuplicateKey row.id) (row_with (rows ++ map new_row items) digest))) taken
 
 pub judged-free : (rows : List KeyRow) (items : List KeyItem) (id : ℕ) (digest : List ℕ) → is_some (row_of (rows ++ map new_row items) id) ≡ false → key_refusal (rows ++ map new_row items) id digest ≡ option_map DuplicateKey (option_or (named (row_with rows digest)) (named (row_with (map new_row items) digest)))
 judged-free rows items id digest free =
     let p : KeyRow → Bool = λ row. bytes_eq row.digest digest in
-    ap (λ b. option_or (refuse_if b (AlreadyLoaded id)) (option_map (λ (row : KeyRow). DuplicateKey row.id) (row_with (rows ++ map new_row items) digest))) free
+    ap (λ b. option_or (fails_if b (AlreadyLoaded id)) (option_map (λ (row : KeyRow). DuplicateKey row.id) (row_with (rows ++ map new_row items) digest))) free
     ∙ twin (row_with (rows ++ map new_row items) digest)
     ∙ ap (λ o. option_map DuplicateKey (named o)) (find-append p rows (map new_row items))
     ∙ ap (option_map DuplicateKey) (map-or (λ (row : KeyRow). row.id) (row_with rows digest) (row_with (map new_row items) digest))

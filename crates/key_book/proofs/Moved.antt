@@ -15,9 +15,9 @@ use Rattle.key_book.specs.declared.key_refusal.KeyRefusal.{KeyRefusal}
 use Rattle.key_book.specs.declared.key_refusal.KeyRefusal.TheVariants.{WrongState, UnknownKey}
 use Rattle.key_book.specs.KeyRow.{HasBytes, IsKeyRow, in_state, bytes_in}
 use Rattle.key_book.specs.KeyBook.{AreKeyRows, IsKeyBook, row_of, place_of}
-use Rattle.key_book.specs.KeyRefusal.{refuse_if}
+use Rattle.sdls_base.specs.FirstFailing.{fails_if}
 use Rattle.key_book.specs.Moves.{is_next, least, lowest_holder, state_refusal, move_refusal, moved, moves_refusal}
-use Rattle.key_book.proofs.Lists.{find_placed, find_nowhere, find_none, find-map, chosen, left_out, pairs_map}
+use Rattle.sdls_base.proofs.Searches.{find_placed, find_nowhere, find_none, find-map, chosen, left_out, pairs_map}
 use Rattle.key_book.proofs.Rows.{same_number, eqb-same, other_identifier}
 
 -- the lowest index
@@ -186,7 +186,7 @@ IsKeyRow-in_state row to ok next =
       floor_below_end = ok.floor_below_end;
     }
 
-next_if_free : (b : Bool) (from : KeyState) (o : Option KeyRefusal) → option_or (refuse_if (not b) (WrongState from)) o ≡ None → b ≡ true
+next_if_free : (b : Bool) (from : KeyState) (o : Option KeyRefusal) → option_or (fails_if (not b) (WrongState from)) o ≡ None → b ≡ true
 next_if_free true from o h = refl
 next_if_free false from o h = absurd (cc)
 

@@ -13,15 +13,17 @@ use Rattle.sdls_base.specs.KeyId.{end_of}
 use Rattle.sdls_base.specs.declared.TheConstants.{MOST_KEYS}
 use Rattle.sdls_base.specs.declared.key_item.KeyItem.{KeyItem}
 use Rattle.key_book.specs.declared.key_row.KeyRow.{KeyRow}
-use Rattle.key_book.specs.KeyRow.{IsKeyLength, IsKeyRow, new_row}
+use Rattle.sdls_base.specs.Bounds.{IsKeyLength}
+use Rattle.sdls_base.specs.FirstFailing.{fails_if}
+use Rattle.key_book.specs.KeyRow.{IsKeyRow, new_row}
 use Rattle.key_book.specs.KeyBook.{AreKeyRows, IsKeyBook, MayFollow, row_of, place_of, changed}
-use Rattle.key_book.specs.KeyRefusal.{refuse_if, key_refusal, items_refusal, row_with, place_with}
+use Rattle.key_book.specs.KeyRefusal.{key_refusal, items_refusal, row_with, place_with}
 use Rattle.sdls_base.specs.KeyId.{class_of, end_of_class}
 use Rattle.sdls_base.specs.declared.key_id.KeyClass.{KeyClass}
 use Rattle.sdls_base.specs.declared.key_id.KeyClass.TheVariants.{Master, Gcm, Cmac}
 use Rattle.key_book.specs.declared.key_refusal.KeyRefusal.{KeyRefusal}
 use Rattle.key_book.specs.declared.key_refusal.KeyRefusal.TheVariants.{AlreadyLoaded, DuplicateKey}
-use Rattle.key_book.proofs.Lists.{find_placed, find_nowhere, find_none, is_some-find, chosen, left_out, pairs_set}
+use Rattle.sdls_base.proofs.Searches.{find_placed, find_nowhere, find_none, is_some-find, chosen, left_out, pairs_set}
 
 pub same_number : (a b : ℕ) → nat_eq a b ≡ true → a ≡ b
 same_number a b h = grind (arith, nat_tests)
@@ -168,12 +170,12 @@ placed_if_there rows id h = there rows id (place_of rows id) refl h
 
 pub key_refusal-taken : (rows : List KeyRow) (id : ℕ) (digest : List ℕ) → is_some (place_of rows id) ≡ true → key_refusal rows id digest ≡ Some (AlreadyLoaded id)
 key_refusal-taken rows id digest h =
-    ap (λ b. option_or (refuse_if b (AlreadyLoaded id)) (option_map (λ (row : KeyRow). DuplicateKey row.id) (row_with rows digest)))
+    ap (λ b. option_or (fails_if b (AlreadyLoaded id)) (option_map (λ (row : KeyRow). DuplicateKey row.id) (row_with rows digest)))
     (is_some-find (λ (row : KeyRow). nat_eq row.id id) rows ∙ h)
 
 key_refusal-free : (rows : List KeyRow) (id : ℕ) (digest : List ℕ) → is_some (place_of rows id) ≡ false → key_refusal rows id digest ≡ option_map (λ (row : KeyRow). DuplicateKey row.id) (row_with rows digest)
 key_refusal-free rows id digest h =
-    ap (λ b. option_or (refuse_if b (AlreadyLoaded id)) (option_map (λ (row : KeyRow). DuplicateKey row.id) (row_with rows digest)))
+    ap (λ b. option_or (fails_if b (AlreadyLoaded id)) (option_map (λ (row : KeyRow). DuplicateKey row.id) (row_with rows digest)))
     (is_some-find (λ (row : KeyRow). nat_eq row.id id) rows ∙ h)
 
 pub key_refusal-twin : (rows : List KeyRow) (id i : ℕ) (digest : List ℕ) (d : KeyRow) → is_some (place_of rows id) ≡ false → place_with rows digest ≡ Some i → key_refusal rows id digest ≡ Some (DuplicateKey (get_or rows i d).id)
@@ -188,7 +190,7 @@ key_refusal-none rows id digest free nowhere =
 
 -- a key that is not refused
 
-none_taken : (b : Bool) (id : ℕ) (r : Option KeyRow) → option_or (refuse_if b (AlreadyLoaded id)) (option_map (λ (row : KeyRow). DuplicateKey row.id) r) ≡ None → (b ≡ false) × (r ≡ None)
+none_taken : (b : Bool) (id : ℕ) (r : Option KeyRow) → option_or (fails_if b (AlreadyLoaded id)) (option_map (λ (row : KeyRow). DuplicateKey row.id) r) ≡ None → (b ≡ false) × (r ≡ None)
 none_taken true id r h = absurd (cc)
 none_taken false id None h = (refl, refl)
 none_taken false id (Some row) h = absurd (cc)

@@ -1,9 +1,10 @@
 -- Which refusal comes first (order profile).
-use Rattle.std.specs.Prelude.{◌≡◌, ℕ, ◌+◌, ◌⊎◌, Bool, true, false, nat_lt, List, [], ◌∷◌, ◌++◌, length, Option, Some, None, is_some, position}
+use Rattle.std.specs.Prelude.{◌≡◌, ℕ, ◌+◌, ◌⊎◌, nat_lt, List, [], ◌∷◌, ◌++◌, length, Option, Some, None, is_some, position}
 use Rattle.std.specs.List.{find}
 use Rattle.std.specs.Option.{option_or, option_map}
 use Rattle.std.specs.Str.{bytes_eq}
 use Rattle.sha2.specs.Sha256.{sha256}
+use Rattle.sdls_base.specs.FirstFailing.{fails_if}
 use Rattle.sdls_base.specs.declared.TheConstants.{MOST_KEYS}
 use Rattle.sdls_base.specs.declared.key_item.KeyItem.{KeyItem}
 use Rattle.key_book.specs.declared.key_row.KeyRow.{KeyRow}
@@ -11,10 +12,6 @@ use Rattle.key_book.specs.declared.key_refusal.KeyRefusal.{KeyRefusal}
 use Rattle.key_book.specs.declared.key_refusal.KeyRefusal.TheVariants.{AlreadyLoaded, DuplicateKey, BookFull, NoMemory}
 use Rattle.key_book.specs.KeyRow.{new_row}
 use Rattle.key_book.specs.KeyBook.{row_of}
-
-abbrev pub refuse_if : Bool → KeyRefusal → Option KeyRefusal
-refuse_if true refusal = Some refusal
-refuse_if false refusal = None
 
 -- a refusal is want of memory, or the first that applies
 abbrev pub IsRefusal : KeyRefusal → Option KeyRefusal → Type 0
@@ -31,7 +28,7 @@ place_with rows digest = position (λ row. bytes_eq row.digest digest) rows
 -- a key to be loaded: its identifier is taken, or another key has its digest
 abbrev pub key_refusal : List KeyRow → ℕ → List ℕ → Option KeyRefusal
 key_refusal rows id digest =
-    option_or (refuse_if (is_some (row_of rows id)) (AlreadyLoaded id))
+    option_or (fails_if (is_some (row_of rows id)) (AlreadyLoaded id))
     (option_map (λ row. DuplicateKey row.id) (row_with rows digest))
 
 -- keys to be loaded, each judged on the rows that the earlier ones leave
@@ -43,4 +40,4 @@ items_refusal rows (item ∷ items) =
 -- the keys, and then the room
 abbrev pub load_refusal : List KeyRow → List KeyItem → Option KeyRefusal
 load_refusal rows items =
-    option_or (items_refusal rows items) (refuse_if (nat_lt MOST_KEYS (length rows + length items)) BookFull)
+    option_or (items_refusal rows items) (fails_if (nat_lt MOST_KEYS (length rows + length items)) BookFull)

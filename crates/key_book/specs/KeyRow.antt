@@ -1,15 +1,12 @@
 -- A key's row (profile; digests FIPS 180-4).
-use Rattle.std.specs.Prelude.{◌≡◌, ℕ, ◌<◌, ◌≤◌, ◌⊎◌, List, [], length}
+use Rattle.std.specs.Prelude.{◌≡◌, ℕ, ◌<◌, ◌≤◌, List, [], length}
 use Rattle.sha2.specs.Sha256.{sha256}
+use Rattle.sdls_base.specs.Bounds.{IsKeyLength}
 use Rattle.sdls_base.specs.KeyId.{end_of}
 use Rattle.sdls_base.specs.declared.key_item.KeyItem.{KeyItem}
 use Rattle.sdls_base.specs.declared.states.KeyState.{KeyState}
 use Rattle.sdls_base.specs.declared.states.KeyState.TheVariants.{PreActive, Active, Deactivated, Destroyed}
 use Rattle.key_book.specs.declared.key_row.KeyRow.{KeyRow}
-
--- a key has 128 or 256 bits
-abbrev pub IsKeyLength : ℕ → Type 0
-IsKeyLength n = (n ≡ 16) ⊎ (n ≡ 32)
 
 -- The octets of a key in a state: a destroyed key has none, and every other those of its digest.
 abbrev pub HasBytes : KeyState → List ℕ → List ℕ → Type 0

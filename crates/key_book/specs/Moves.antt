@@ -2,6 +2,7 @@
 use Rattle.std.specs.Prelude.{ℕ, Bool, true, false, not, ◌==◌, if◌then◌else◌, min, List, [], ◌∷◌, map, filter, Option, Some, None}
 use Rattle.std.specs.List.{list_any}
 use Rattle.std.specs.Option.{option_or, option_map_or}
+use Rattle.sdls_base.specs.FirstFailing.{fails_if}
 use Rattle.sdls_base.specs.declared.states.KeyState.{KeyState}
 use Rattle.sdls_base.specs.declared.states.KeyState.TheVariants.{PreActive, Active, Deactivated, Destroyed}
 use Rattle.key_book.specs.declared.key_row.KeyRow.{KeyRow}
@@ -9,7 +10,6 @@ use Rattle.key_book.specs.declared.key_refusal.KeyRefusal.{KeyRefusal}
 use Rattle.key_book.specs.declared.key_refusal.KeyRefusal.TheVariants.{WrongState, KeyInUse, UnknownKey}
 use Rattle.key_book.specs.KeyRow.{in_state}
 use Rattle.key_book.specs.KeyBook.{row_of}
-use Rattle.key_book.specs.KeyRefusal.{refuse_if}
 
 -- whether a state is the one after another: each change takes a key one state on
 abbrev pub is_next : KeyState → KeyState → Bool
@@ -34,7 +34,7 @@ in_use_refusal _ _ = None
 
 -- a key in a state, to take another
 abbrev pub state_refusal : KeyState → KeyState → Option ℕ → Option KeyRefusal
-state_refusal from to holder = option_or (refuse_if (not (is_next from to)) (WrongState from)) (in_use_refusal to holder)
+state_refusal from to holder = option_or (fails_if (not (is_next from to)) (WrongState from)) (in_use_refusal to holder)
 
 abbrev pub move_refusal : List KeyRow → ℕ → KeyState → List (ℕ × ℕ) → Option KeyRefusal
 move_refusal rows id to in_use =

@@ -2,9 +2,10 @@ ghost use Rattle.std.specs.Prelude.{◌≡◌, ◌+◌, ◌<◌, ◌≤◌, max,
 ghost use Rattle.std.specs.List.{slice_get};
 ghost use Rattle.std.specs.Option.{option_map};
 ghost use Rattle.std.specs.Result.{result_err};
+ghost use Rattle.sdls_base.specs.Bounds.{IsKeyLength};
 ghost use Rattle.sdls_base.specs.KeyId.{end_of};
 ghost use Rattle.key_book.specs.declared.key_row.KeyRow.{KeyRow};
-ghost use Rattle.key_book.specs.KeyRow.{IsKeyLength, new_row};
+ghost use Rattle.key_book.specs.KeyRow.{new_row};
 ghost use Rattle.key_book.specs.KeyBook.{IsKeyBook, MayFollow, row_of, place_of, changed};
 ghost use Rattle.key_book.specs.KeyRefusal.{IsRefusal, load_refusal};
 ghost use Rattle.key_book.specs.Moves.{moved, moves_refusal};

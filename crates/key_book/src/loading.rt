@@ -2,7 +2,8 @@
 
 ghost use Rattle.std.specs.Prelude.{◌≡◌, ◌++◌, length, map, take, All, IfErr, OnOk, None, vec_len};
 ghost use Rattle.std.specs.Result.{result_err};
-ghost use Rattle.key_book.specs.KeyRow.{IsKeyLength, new_row};
+ghost use Rattle.sdls_base.specs.Bounds.{IsKeyLength};
+ghost use Rattle.key_book.specs.KeyRow.{new_row};
 ghost use Rattle.key_book.specs.KeyBook.{AreKeyRows};
 ghost use Rattle.key_book.specs.KeyRefusal.{IsRefusal, key_refusal, items_refusal};
 

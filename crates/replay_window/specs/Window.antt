@@ -1,12 +1,6 @@
 -- The anti-replay window (CCSDS 355.0-B, anti-replay sequence number; widths and ends profile).
 use Rattle.std.specs.Prelude.{ℕ, ◌+◌, ◌<◌, ◌≤◌, ⊤, List, [], ◌∷◌}
 use Rattle.replay_window.specs.declared.window.Window.{Window}
-use Rattle.replay_window.specs.declared.window.TheConstants.{MOST_WIDTH}
-
--- a window has such a width
-pub record IsWidth (width : ℕ) : Type 0 where
-  pub least : 1 ≤ width
-  pub most : width ≤ MOST_WIDTH
 
 -- n may be accepted next, under a key whose numbers end below end
 pub record IsFresh (window : Window) (n end : ℕ) : Type 0 where

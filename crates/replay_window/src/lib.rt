@@ -6,7 +6,7 @@
 
 mod window;
 
-pub use window::{MOST_WIDTH, Verdict, Window, accepted_once};
+pub use window::{Verdict, Window, accepted_once};
 
 #[cfg(test)]
 mod tests;

@@ -1,4 +1,5 @@
 use super::*;
+use sdls_base::MOST_WINDOW;
 use std::test::*;
 
 const END: u64 = 1 << 32;
@@ -27,20 +28,20 @@ fn a_refused_number_leaves_the_window(rt: HostRuntime) {
 fn a_window_past_the_last_number(rt: HostRuntime) {
     let window = Window {
         high: u64::MAX - 1,
-        width: MOST_WIDTH,
+        width: MOST_WINDOW,
     };
     assert_eq!(rt;
         window.judge(u64::MAX - 2, u64::MAX),
         Verdict::Refused {
             high: u64::MAX - 1,
-            width: MOST_WIDTH
+            width: MOST_WINDOW
         }
     );
     assert_eq!(rt;
         window.judge(u64::MAX, u64::MAX),
         Verdict::Refused {
             high: u64::MAX - 1,
-            width: MOST_WIDTH
+            width: MOST_WINDOW
         }
     );
 }

@@ -1,15 +1,12 @@
 ghost use Rattle.std.specs.Prelude.{◌≡◌, ◌≢◌, ℕ, ◌↔◌, List};
 ghost use Rattle.replay_window.specs.Window.{IsFresh, AcceptsInTurn, IsAscendingAbove};
 
-/// The widest window (profile). The narrowest is 1.
-pub const MOST_WIDTH: u64 = 1 << 32;
-
 /// What a receiving security association knows of the numbers that it accepted.
 #[derive(Clone, Copy, Debug, PartialEq, Eq)]
 pub struct Window {
     /// The highest number accepted, 0 where there is none.
     pub high: u64,
-    /// How far above `high` a number may lie.
+    /// How far above `high` a number may lie, 1 to [`sdls_base::MOST_WINDOW`].
     pub width: u64,
 }
 

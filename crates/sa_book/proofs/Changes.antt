@@ -15,26 +15,27 @@ use Rattle.sdls_base.specs.declared.states.Direction.{Direction}
 use Rattle.sdls_base.specs.declared.states.Direction.TheVariants.{Send, Receive}
 use Rattle.sdls_base.specs.declared.TheConstants.{MOST_ASSOCIATIONS}
 use Rattle.sdls_base.specs.declared.states.KeyState.{KeyState}
+use Rattle.sdls_base.specs.Bounds.{AreChannels, IsWidth}
+use Rattle.sdls_base.specs.FirstFailing.{fails_if, first_told}
 use Rattle.sdls_base.specs.declared.states.SaState.{SaState}
 use Rattle.sdls_base.specs.declared.states.SaState.TheVariants.{Unkeyed, Keyed, Operational}
 use Rattle.replay_window.specs.declared.window.Window.{Window}
-use Rattle.replay_window.specs.Window.{IsWidth}
 use Rattle.sa_book.specs.declared.sa_row.SaRow.{SaRow}
 use Rattle.sa_book.specs.declared.sa_refusal.SaRefusal.{SaRefusal}
 use Rattle.sa_book.specs.declared.sa_refusal.SaRefusal.TheVariants.{SpiTaken, UnknownChannel, TableFull, WrongSuite}
-use Rattle.sa_book.specs.SaRow.{IsSaRow, HasHigh, following, with_key, without_key, new_row, AreChannels, MayAccept}
+use Rattle.sa_book.specs.SaRow.{IsSaRow, HasHigh, following, with_key, without_key, new_row, MayAccept}
 use Rattle.sa_book.specs.SaBook.{IsSaBook, row_of, place_of, covers, is_operational, is_same_direction, with_row}
-use Rattle.sa_book.specs.SaRefusal.{first_of, refuse_if, unless_unkeyed, unless_keyed, unless_operational, unless_active, if_unkeyed, is_same_class, is_receiving, is_key, taken_key, receives_with, receiver_with, number_refusal, number_refusal_of, key_refusal, rival_of, taken_channel, create_refusal, first_unknown}
-use Rattle.sa_book.proofs.Lists.{find_none, is_some-find}
+use Rattle.sa_book.specs.SaRefusal.{unless_unkeyed, unless_keyed, unless_operational, unless_active, if_unkeyed, is_same_class, is_receiving, is_key, taken_key, receives_with, receiver_with, number_refusal, number_refusal_of, key_refusal, rival_of, taken_channel, create_refusal, first_unknown}
+use Rattle.sdls_base.proofs.Searches.{find_none, is_some-find}
 use Rattle.sa_book.proofs.Rows.{IsSaBook-set, IsSaBook-insert, rules_at}
 
 -- what no refusal says
 
-none_both : (r : Option SaRefusal) (rs : List (Option SaRefusal)) → first_of (r ∷ rs) ≡ None → (r ≡ None) × (first_of rs ≡ None)
+none_both : (r : Option SaRefusal) (rs : List (Option SaRefusal)) → first_told (r ∷ rs) ≡ None → (r ≡ None) × (first_told rs ≡ None)
 none_both None rs h = (refl, h)
 none_both (Some r) rs h = absurd (cc)
 
-not_refused : (b : Bool) (refusal : SaRefusal) → refuse_if b refusal ≡ None → b ≡ false
+not_refused : (b : Bool) (refusal : SaRefusal) → fails_if b refusal ≡ None → b ≡ false
 not_refused true refusal h = absurd (cc)
 not_refused false refusal h = refl
 
@@ -109,7 +110,7 @@ no_rival : (o : Option SaRow) → taken_channel o ≡ None → o ≡ None
 no_rival None h = refl
 no_rival (Some r) h = absurd (cc)
 
-pub IsSaBook-start : (rows : List SaRow) (i : ℕ) (row : SaRow) → IsSaBook rows → i < length rows → row ≡ get_or rows i row → first_of (unless_keyed row.state ∷ taken_channel (rival_of rows row) ∷ []) ≡ None → IsSaBook (set rows i (record row { state = Operational }))
+pub IsSaBook-start : (rows : List SaRow) (i : ℕ) (row : SaRow) → IsSaBook rows → i < length rows → row ≡ get_or rows i row → first_told (unless_keyed row.state ∷ taken_channel (rival_of rows row) ∷ []) ≡ None → IsSaBook (set rows i (record row { state = Operational }))
 IsSaBook-start rows i row ok within read free =
     let parts = none_both (unless_keyed row.state) (taken_channel (rival_of rows row) ∷ []) free in
     let state : row.state ≡ Keyed = is_keyed_state row.state parts.0 in
@@ -159,7 +160,7 @@ below_of : (a b : ℕ) → nat_le b a ≡ false → a < b
 below_of a b h = grind (arith, nat_tests)
 
 -- three of five refusals that do not apply
-key_parts : (a b c d e : Option SaRefusal) → first_of (a ∷ b ∷ c ∷ d ∷ e ∷ []) ≡ None → (b ≡ None) × (d ≡ None) × (e ≡ None)
+key_parts : (a b c d e : Option SaRefusal) → first_told (a ∷ b ∷ c ∷ d ∷ e ∷ []) ≡ None → (b ≡ None) × (d ≡ None) × (e ≡ None)
 key_parts None None None None None h = (refl, refl, refl)
 key_parts None None None None (Some r) h = absurd (cc)
 key_parts None None None (Some r) e h = absurd (cc)
@@ -167,7 +168,7 @@ key_parts None None (Some r) d e h = absurd (cc)
 key_parts None (Some r) c d e h = absurd (cc)
 key_parts (Some r) b c d e h = absurd (cc)
 
-create_parts : (a b c : Option SaRefusal) → first_of (a ∷ b ∷ c ∷ []) ≡ None → (a ≡ None) × (c ≡ None)
+create_parts : (a b c : Option SaRefusal) → first_told (a ∷ b ∷ c ∷ []) ≡ None → (a ≡ None) × (c ≡ None)
 create_parts None None None h = (refl, refl)
 create_parts None None (Some r) h = absurd (cc)
 create_parts None (Some r) c h = absurd (cc)
@@ -198,7 +199,7 @@ not_taken Send holder e h = absurd (cc)
 pub IsSaBook-rekey : (rows : List SaRow) (i : ℕ) (row : SaRow) (key : ℕ) (state : KeyState) (number floor : ℕ) → IsSaBook rows → i < length rows → row ≡ get_or rows i row → key_refusal rows row key state number floor ≡ None → IsSaBook (set rows i (with_key key number row))
 IsSaBook-rekey rows i row key state number floor ok within read free =
     let rules = rules_at rows i row ok within read in
-    let parts = key_parts (unless_unkeyed row.state) (refuse_if (not (is_same_class (class_of key) (class_of_suite row.suite))) WrongSuite) (unless_active state) (taken_key row.direction (receiver_with rows key)) (number_refusal key number floor) free in
+    let parts = key_parts (unless_unkeyed row.state) (fails_if (not (is_same_class (class_of key) (class_of_suite row.suite))) WrongSuite) (unless_active state) (taken_key row.direction (receiver_with rows key)) (number_refusal key number floor) free in
     let below : number < end_of key = number_below key number floor parts.2 in
     IsSaBook-set rows i row (with_key key number row) ok within read
     (record {
@@ -238,7 +239,7 @@ high_set Send key number floor window h keyed free = h
 high_set Receive None number floor window h keyed free = absurd (keyed refl)
 high_set Receive (Some key) number floor window h keyed free = let below = number_below key number floor free in omega arith
 
-pub IsSaBook-set_number : (rows : List SaRow) (i : ℕ) (row : SaRow) (number floor : ℕ) → IsSaBook rows → i < length rows → row ≡ get_or rows i row → first_of (if_unkeyed row.state ∷ number_refusal_of row.key number floor ∷ []) ≡ None → IsSaBook (set rows i (record row { window = following row.direction number row.window }))
+pub IsSaBook-set_number : (rows : List SaRow) (i : ℕ) (row : SaRow) (number floor : ℕ) → IsSaBook rows → i < length rows → row ≡ get_or rows i row → first_told (if_unkeyed row.state ∷ number_refusal_of row.key number floor ∷ []) ≡ None → IsSaBook (set rows i (record row { window = following row.direction number row.window }))
 IsSaBook-set_number rows i row number floor ok within read free =
     let rules = rules_at rows i row ok within read in
     let parts = none_both _ _ free in
@@ -286,7 +287,7 @@ none_some (Some x) h = absurd (false≢true (sym h))
 
 pub IsSaBook-create : (rows : List SaRow) (new : NewSa) (known : List ℕ) → IsSaBook rows → IsWidth new.window → AreChannels new.channels → create_refusal rows new known ≡ None → IsSaBook (with_row rows (new_row new))
 IsSaBook-create rows new known ok wide channels free =
-    let parts = create_parts (refuse_if (is_some (row_of rows new.spi)) SpiTaken) (option_map UnknownChannel (first_unknown new.channels known)) (refuse_if (nat_le MOST_ASSOCIATIONS (length rows)) TableFull) free in
+    let parts = create_parts (fails_if (is_some (row_of rows new.spi)) SpiTaken) (option_map UnknownChannel (first_unknown new.channels known)) (fails_if (nat_le MOST_ASSOCIATIONS (length rows)) TableFull) free in
     let alone = find_none (λ (row : SaRow). nat_eq row.spi new.spi) rows (none_some (row_of rows new.spi) (not_refused _ SpiTaken parts.0)) in
     let room : length rows < MOST_ASSOCIATIONS = below_of _ _ (not_refused _ TableFull parts.1) in
     IsSaBook-insert rows (new_row new) ok (omega arith)
@@ -302,9 +303,9 @@ IsSaBook-create rows new known ok wide channels free =
 
 -- judging a creation
 
-create-taken : (rows : List SaRow) (new : NewSa) (known : List ℕ) (b : Bool) → is_some (place_of rows new.spi) ≡ b → create_refusal rows new known ≡ first_of (refuse_if b SpiTaken ∷ option_map UnknownChannel (first_unknown new.channels known) ∷ refuse_if (nat_le MOST_ASSOCIATIONS (length rows)) TableFull ∷ [])
+create-taken : (rows : List SaRow) (new : NewSa) (known : List ℕ) (b : Bool) → is_some (place_of rows new.spi) ≡ b → create_refusal rows new known ≡ first_told (fails_if b SpiTaken ∷ option_map UnknownChannel (first_unknown new.channels known) ∷ fails_if (nat_le MOST_ASSOCIATIONS (length rows)) TableFull ∷ [])
 create-taken rows new known b h =
-    ap (λ t. first_of (refuse_if t SpiTaken ∷ option_map UnknownChannel (first_unknown new.channels known) ∷ refuse_if (nat_le MOST_ASSOCIATIONS (length rows)) TableFull ∷ []))
+    ap (λ t. first_told (fails_if t SpiTaken ∷ option_map UnknownChannel (first_unknown new.channels known) ∷ fails_if (nat_le MOST_ASSOCIATIONS (length rows)) TableFull ∷ []))
     (is_some-find (λ (row : SaRow). nat_eq row.spi new.spi) rows ∙ h)
 
 pub create_refusal-taken : (rows : List SaRow) (new : NewSa) (known : List ℕ) → is_some (place_of rows new.spi) ≡ true → create_refusal rows new known ≡ Some SpiTaken
@@ -313,13 +314,13 @@ create_refusal-taken rows new known h = create-taken rows new known true h
 pub create_refusal-unknown : (rows : List SaRow) (new : NewSa) (known : List ℕ) (channel : ℕ) → is_some (place_of rows new.spi) ≡ false → first_unknown new.channels known ≡ Some channel → create_refusal rows new known ≡ Some (UnknownChannel channel)
 create_refusal-unknown rows new known channel free unknown =
     create-taken rows new known false free
-    ∙ ap (λ (o : Option ℕ). first_of (option_map UnknownChannel o ∷ refuse_if (nat_le MOST_ASSOCIATIONS (length rows)) TableFull ∷ [])) unknown
+    ∙ ap (λ (o : Option ℕ). first_told (option_map UnknownChannel o ∷ fails_if (nat_le MOST_ASSOCIATIONS (length rows)) TableFull ∷ [])) unknown
 
-create-known : (rows : List SaRow) (new : NewSa) (known : List ℕ) (b : Bool) → is_some (place_of rows new.spi) ≡ false → first_unknown new.channels known ≡ None → nat_le MOST_ASSOCIATIONS (length rows) ≡ b → create_refusal rows new known ≡ first_of (refuse_if b TableFull ∷ [])
+create-known : (rows : List SaRow) (new : NewSa) (known : List ℕ) (b : Bool) → is_some (place_of rows new.spi) ≡ false → first_unknown new.channels known ≡ None → nat_le MOST_ASSOCIATIONS (length rows) ≡ b → create_refusal rows new known ≡ first_told (fails_if b TableFull ∷ [])
 create-known rows new known b free all_known h =
     create-taken rows new known false free
-    ∙ ap (λ (o : Option ℕ). first_of (option_map UnknownChannel o ∷ refuse_if (nat_le MOST_ASSOCIATIONS (length rows)) TableFull ∷ [])) all_known
-    ∙ ap (λ t. first_of (refuse_if t TableFull ∷ [])) h
+    ∙ ap (λ (o : Option ℕ). first_told (option_map UnknownChannel o ∷ fails_if (nat_le MOST_ASSOCIATIONS (length rows)) TableFull ∷ [])) all_known
+    ∙ ap (λ t. first_told (fails_if t TableFull ∷ [])) h
 
 at_most : (a b : ℕ) → a ≤ b → nat_le a b ≡ true
 at_most a b h = grind (arith, nat_tests)

@@ -12,7 +12,7 @@ use Rattle.sa_book.specs.SaRow.{IsSaRow, HasHigh}
 use Rattle.sa_book.specs.SaBook.{AreApart, IsSaBook}
 use Rattle.sa_book.specs.SaRefusal.{receives_with, is_receiving, is_key}
 use Rattle.sa_book.specs.Numbers.{with_high, lowered, all_high}
-use Rattle.sa_book.proofs.Lists.{pairs_map}
+use Rattle.sdls_base.proofs.Searches.{pairs_map}
 
 same_high : (b : Bool) (row : SaRow) (high : ℕ) → cond b (with_high row high) row ≡ with_high row (cond b high row.window.high)
 same_high true row high = refl

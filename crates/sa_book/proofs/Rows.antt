@@ -18,7 +18,7 @@ use Rattle.sa_book.specs.declared.sa_refusal.SaRefusal.TheVariants.{UnknownSpi}
 use Rattle.sa_book.specs.SaRow.{IsSaRow}
 use Rattle.sa_book.specs.SaBook.{AreApart, IsSaBook, MayFollow, row_of, place_of, changed, without, with_row}
 use Rattle.sa_book.specs.SaRefusal.{on_row}
-use Rattle.sa_book.proofs.Lists.{find_placed, find_nowhere, chosen, left_out, pairs_set}
+use Rattle.sdls_base.proofs.Searches.{find_placed, find_nowhere, chosen, left_out, pairs_set}
 
 pub same_number : (a b : ℕ) → nat_eq a b ≡ true → a ≡ b
 same_number a b h = grind (arith, nat_tests)

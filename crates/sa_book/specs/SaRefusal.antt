@@ -2,6 +2,7 @@
 use Rattle.std.specs.Prelude.{◌≡◌, ℕ, ◌⊎◌, Bool, true, false, not, ◌&&◌, ◌==◌, nat_lt, nat_le, List, [], ◌∷◌, length, Option, Some, None, is_some}
 use Rattle.std.specs.List.{find, list_any}
 use Rattle.std.specs.Option.{option_map, option_map_or}
+use Rattle.sdls_base.specs.FirstFailing.{fails_if, first_told}
 use Rattle.sdls_base.specs.KeyId.{class_of, end_of}
 use Rattle.sdls_base.specs.Suite.{class_of_suite}
 use Rattle.sdls_base.specs.declared.TheConstants.{MOST_ASSOCIATIONS}
@@ -18,16 +19,6 @@ use Rattle.sa_book.specs.declared.sa_row.SaRow.{SaRow}
 use Rattle.sa_book.specs.declared.sa_refusal.SaRefusal.{SaRefusal}
 use Rattle.sa_book.specs.declared.sa_refusal.SaRefusal.TheVariants.{UnknownSpi, SpiTaken, WrongState, ChannelTaken, KeyNotActive, BelowFloor, TableFull, WrongSuite, PastEnd, UnknownChannel, KeyTaken, NoMemory}
 use Rattle.sa_book.specs.SaBook.{row_of, covers}
-
-abbrev pub refuse_if : Bool → SaRefusal → Option SaRefusal
-refuse_if true refusal = Some refusal
-refuse_if false refusal = None
-
--- the first of some refusals, in order, that applies
-abbrev pub first_of : List (Option SaRefusal) → Option SaRefusal
-first_of [] = None
-first_of (None ∷ refusals) = first_of refusals
-first_of (Some refusal ∷ refusals) = Some refusal
 
 -- a refusal is want of memory, or the first that applies
 abbrev pub IsRefusal : SaRefusal → Option SaRefusal → Type 0
@@ -65,10 +56,10 @@ abbrev pub first_unknown : List ℕ → List ℕ → Option ℕ
 first_unknown channels known = find (λ channel. not (list_any (λ other. other == channel) known)) channels
 
 abbrev pub create_refusal : List SaRow → NewSa → List ℕ → Option SaRefusal
-create_refusal rows new known = first_of
-    (refuse_if (is_some (row_of rows new.spi)) SpiTaken
+create_refusal rows new known = first_told
+    (fails_if (is_some (row_of rows new.spi)) SpiTaken
     ∷ option_map UnknownChannel (first_unknown new.channels known)
-    ∷ refuse_if (nat_le MOST_ASSOCIATIONS (length rows)) TableFull
+    ∷ fails_if (nat_le MOST_ASSOCIATIONS (length rows)) TableFull
     ∷ [])
 
 -- rekeying
@@ -111,16 +102,16 @@ taken_key Send holder = None
 
 -- a number that the key does not reach, or that is below the least lawful one
 abbrev pub number_refusal : ℕ → ℕ → ℕ → Option SaRefusal
-number_refusal key number floor = first_of
-    (refuse_if (nat_le (end_of key) number) (PastEnd (end_of key))
-    ∷ refuse_if (nat_lt number floor) (BelowFloor floor)
+number_refusal key number floor = first_told
+    (fails_if (nat_le (end_of key) number) (PastEnd (end_of key))
+    ∷ fails_if (nat_lt number floor) (BelowFloor floor)
     ∷ [])
 
 -- a row that is to take a key in a state
 abbrev pub key_refusal : List SaRow → SaRow → ℕ → KeyState → ℕ → ℕ → Option SaRefusal
-key_refusal rows row key state number floor = first_of
+key_refusal rows row key state number floor = first_told
     (unless_unkeyed row.state
-    ∷ refuse_if (not (is_same_class (class_of key) (class_of_suite row.suite))) WrongSuite
+    ∷ fails_if (not (is_same_class (class_of key) (class_of_suite row.suite))) WrongSuite
     ∷ unless_active state
     ∷ taken_key row.direction (receiver_with rows key)
     ∷ number_refusal key number floor
@@ -140,7 +131,7 @@ abbrev pub taken_channel : Option SaRow → Option SaRefusal
 taken_channel rival = option_map (λ other. ChannelTaken other.spi) rival
 
 abbrev pub start_refusal : List SaRow → ℕ → Option SaRefusal
-start_refusal rows spi = on_row (row_of rows spi) (λ row. first_of
+start_refusal rows spi = on_row (row_of rows spi) (λ row. first_told
     (unless_keyed row.state ∷ taken_channel (rival_of rows row) ∷ []))
 
 -- back, one state at a time
@@ -160,7 +151,7 @@ abbrev pub number_refusal_of : Option ℕ → ℕ → ℕ → Option SaRefusal
 number_refusal_of held number floor = option_map_or (λ key. number_refusal key number floor) held None
 
 abbrev pub set_number_refusal : List SaRow → ℕ → ℕ → ℕ → Option SaRefusal
-set_number_refusal rows spi number floor = on_row (row_of rows spi) (λ row. first_of
+set_number_refusal rows spi number floor = on_row (row_of rows spi) (λ row. first_told
     (if_unkeyed row.state ∷ number_refusal_of row.key number floor ∷ []))
 
 abbrev pub set_window_refusal : List SaRow → ℕ → Option SaRefusal

@@ -1,6 +1,6 @@
 -- A security association (CCSDS 355.0-B, Security Associations; bounds and numbers profile).
-use Rattle.std.specs.Prelude.{◌≡◌, ℕ, ◌-◌, ◌<◌, ◌≤◌, ◌↔◌, List, length, Option, Some, None, IfSome, IsNone}
-use Rattle.std.specs.List.Sorted.{IsStrictlyIncreasing}
+use Rattle.std.specs.Prelude.{◌≡◌, ℕ, ◌-◌, ◌<◌, ◌↔◌, Option, Some, None, IfSome, IsNone}
+use Rattle.sdls_base.specs.Bounds.{AreChannels, IsWidth}
 use Rattle.sdls_base.specs.KeyId.{class_of, end_of}
 use Rattle.sdls_base.specs.Suite.{class_of_suite}
 use Rattle.sdls_base.specs.declared.change.NewSa.{NewSa}
@@ -8,15 +8,8 @@ use Rattle.sdls_base.specs.declared.states.Direction.{Direction}
 use Rattle.sdls_base.specs.declared.states.Direction.TheVariants.{Send, Receive}
 use Rattle.sdls_base.specs.declared.states.SaState.TheVariants.{Unkeyed, Keyed, Operational}
 use Rattle.replay_window.specs.declared.window.Window.{Window}
-use Rattle.replay_window.specs.Window.{IsWidth, IsFresh}
+use Rattle.replay_window.specs.Window.{IsFresh}
 use Rattle.sa_book.specs.declared.sa_row.SaRow.{SaRow}
-use Rattle.sa_book.specs.declared.sa_row.TheConstants.{MOST_CHANNELS}
-
--- one to eight channels, strictly ascending
-pub record AreChannels (channels : List ℕ) : Type 0 where
-  pub one : 1 ≤ length channels
-  pub most : length channels ≤ MOST_CHANNELS
-  pub ascending : IsStrictlyIncreasing channels
 
 -- The highest number accepted: below the key's end where the association receives and has a key, and else 0.
 abbrev pub HasHigh : Direction → Option ℕ → ℕ → Type 0

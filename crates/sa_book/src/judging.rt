@@ -3,8 +3,9 @@
 ghost use Rattle.std.specs.Prelude.{◌≡◌, ◌+◌, ◌^◌, ◌<◌, ◌≤◌, ◌==◌, nat_lt, [], ◌∷◌, not, position, All, None, Some, IsSome, IfOk, MatchResult};
 ghost use Rattle.std.specs.List.{list_any, position_or_len};
 ghost use Rattle.std.specs.Result.{result_err};
+ghost use Rattle.sdls_base.specs.FirstFailing.{first_told};
 ghost use Rattle.sa_book.specs.SaBook.{row_of, place_of, covers};
-ghost use Rattle.sa_book.specs.SaRefusal.{create_refusal, first_of, first_unknown, receives_with, receiver_with, held_by, taken_key, key_refusal, number_refusal, rival_of, taken_channel, unless_unkeyed, unless_keyed, unless_operational, if_unkeyed, number_refusal_of};
+ghost use Rattle.sa_book.specs.SaRefusal.{create_refusal, first_unknown, receives_with, receiver_with, held_by, taken_key, key_refusal, number_refusal, rival_of, taken_channel, unless_unkeyed, unless_keyed, unless_operational, if_unkeyed, number_refusal_of};
 
 use crate::sa_refusal::SaRefusal;
 use crate::sa_row::SaRow;
@@ -213,7 +214,7 @@ fn judge_channels(rows: &[SaRow], row: &SaRow) -> Result<(), SaRefusal>
 }
 
 pub(crate) fn judge_start(rows: &[SaRow], row: &SaRow) -> Result<(), SaRefusal>
-    ensures { result_err result ≡ first_of
+    ensures { result_err result ≡ first_told
         (unless_keyed row.now.state ∷ taken_channel (rival_of rows.now row.now) ∷ []) }
 {
     check_keyed(row.state)?;
@@ -221,7 +222,7 @@ pub(crate) fn judge_start(rows: &[SaRow], row: &SaRow) -> Result<(), SaRefusal>
 }
 
 pub(crate) fn judge_set_number(row: &SaRow, number: u64, floor: u64) -> Result<(), SaRefusal>
-    ensures { result_err result ≡ first_of
+    ensures { result_err result ≡ first_told
         (if_unkeyed row.now.state ∷ number_refusal_of row.now.key number floor ∷ []) }
 {
     check_has_key(row.state)?;

@@ -14,7 +14,7 @@ mod sa_row;
 
 pub use sa_book::{SaBook, rows_may_follow};
 pub use sa_refusal::SaRefusal;
-pub use sa_row::{MOST_CHANNELS, SaRow};
+pub use sa_row::SaRow;
 
 #[cfg(test)]
 mod tests;

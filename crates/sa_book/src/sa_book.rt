@@ -1,11 +1,11 @@
 ghost use Rattle.std.specs.Prelude.{◌≡◌, ℕ, ◌+◌, ◌<◌, ◌≤◌, List, length, take, slice_index_or, [], ◌∷◌, ◌++◌, All, Some, IfOk, IfErr, OnOk, OnErr, IsSomeAnd};
 ghost use Rattle.std.specs.Option.{option_map, ForSome};
 ghost use Rattle.std.specs.Result.{result_err};
+ghost use Rattle.sdls_base.specs.Bounds.{AreChannels, IsWidth};
 ghost use Rattle.sdls_base.specs.declared.states.Direction.TheVariants.{Receive};
 ghost use Rattle.sdls_base.specs.declared.states.SaState.TheVariants.{Keyed, Operational};
-ghost use Rattle.replay_window.specs.Window.{IsWidth};
 ghost use Rattle.sa_book.specs.declared.sa_row.SaRow.{SaRow};
-ghost use Rattle.sa_book.specs.SaRow.{AreChannels, MayAccept, new_row, with_key, without_key, following};
+ghost use Rattle.sa_book.specs.SaRow.{MayAccept, new_row, with_key, without_key, following};
 ghost use Rattle.sa_book.specs.SaBook.{IsSaBook, MayFollow, row_of, changed, without, with_row, sender_on, in_use};
 ghost use Rattle.sa_book.specs.Numbers.{lowered, all_high};
 ghost use Rattle.sdls_base.specs.KeyId.{end_of};

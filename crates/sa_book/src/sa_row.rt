@@ -5,9 +5,6 @@ use crate::sa_refusal::SaRefusal;
 use replay_window::Window;
 use sdls_base::{Direction, KeyId, NewSa, Octets, SaState, Spi, Suite};
 
-/// The most channels that an association covers (profile).
-pub const MOST_CHANNELS: usize = 8;
-
 /// A security association.
 #[derive(Clone, Debug, PartialEq, Eq, Drop)]
 pub struct SaRow {
@@ -17,7 +14,7 @@ pub struct SaRow {
     pub state: SaState,
     /// The key that it holds; none where it is unkeyed.
     pub key: Option<KeyId>,
-    /// The numbers of the channels that it covers, one to [`MOST_CHANNELS`], strictly ascending.
+    /// The numbers of the channels that it covers, one to [`sdls_base::MOST_CHANNELS`], strictly ascending.
     pub channels: Octets,
     /// The numbers that it accepts. `high` is 0 where it sends or has no key.
     pub window: Window,

@@ -1,9 +1,10 @@
 ghost use Rattle.std.specs.Prelude.{◌≡◌};
 
 use super::*;
-use replay_window::{MOST_WIDTH, Verdict};
+use replay_window::Verdict;
 use sdls_base::{
-    ChannelId, Direction, KeyId, KeyState, MOST_ASSOCIATIONS, NewSa, Octets, SaState, Spi, Suite,
+    ChannelId, Direction, KeyId, KeyState, MOST_ASSOCIATIONS, MOST_WINDOW, NewSa, Octets, SaState,
+    Spi, Suite,
 };
 use std::alloc::Global;
 use std::process::Abort;
@@ -109,10 +110,10 @@ fn a_life_of_a_receiving_association(rt: HostRuntime) -> Result<(), Fail> {
     assert!(rt; accept(&mut book, seven, 15));
     assert_eq!(rt; next_number(&book, seven), Ok(16));
     book.set_number(seven, 21, 20)?;
-    book.set_window(seven, MOST_WIDTH)?;
+    book.set_window(seven, MOST_WINDOW)?;
     let row = book.status(seven)?;
     assert_eq!(rt; row.window.high, 20);
-    assert_eq!(rt; row.window.width, MOST_WIDTH);
+    assert_eq!(rt; row.window.width, MOST_WINDOW);
     book.stop(seven)?;
     book.expire(seven)?;
     let row = book.status(seven)?;

@@ -6,6 +6,8 @@ use Rattle.std.proofs.lemmas.Bool.{false≢true}
 use Rattle.std.proofs.lemmas.Bool.Decides.{nat_tests}
 use Rattle.std.proofs.lemmas.List.{length-map, length-append}
 use Rattle.std.proofs.lemmas.Option.{same_Some}
+use Rattle.sdls_base.specs.Bounds.{IsKeyLength}
+use Rattle.sdls_base.specs.FirstFailing.{fails_if}
 use Rattle.sdls_base.proofs.Searches.{find-map, find_placed, find_nowhere}
 use Rattle.sdls_base.specs.KeyId.{end_of}
 use Rattle.sdls_base.specs.declared.TheConstants.{MOST_KEYS}
@@ -14,9 +16,9 @@ use Rattle.sdls_base.specs.declared.states.KeyState.{KeyState}
 use Rattle.sdls_base.specs.declared.states.KeyState.TheVariants.{PreActive, Active, Deactivated, Destroyed}
 use Rattle.key_book.specs.declared.key_row.KeyRow.{KeyRow}
 use Rattle.key_book.specs.declared.key_refusal.KeyRefusal.TheVariants.{UnknownKey, BookFull}
-use Rattle.key_book.specs.KeyRow.{IsKeyLength, new_row, in_state}
+use Rattle.key_book.specs.KeyRow.{new_row, in_state}
 use Rattle.key_book.specs.KeyBook.{AreKeyRows, IsKeyBook, row_of, place_of, changed}
-use Rattle.key_book.specs.KeyRefusal.{refuse_if, items_refusal, load_refusal}
+use Rattle.key_book.specs.KeyRefusal.{items_refusal, load_refusal}
 use Rattle.key_book.specs.Moves.{lowest_holder, state_refusal, move_refusal, moves_refusal, moved}
 use Rattle.key_book.proofs.Rows.{AreKeyRows-push, set-changed, IsKeyBook-raise_mark, IsKeyBook-raise_floor, IsKeyBook-set_marks}
 use Rattle.key_book.proofs.Moved.{moved_row}
@@ -77,10 +79,10 @@ rows_loaded keys (item ∷ items) ok long free =
     subst AreKeyRows (append_assoc keys (new_row item ∷ []) (map new_row items))
     (rows_loaded (keys ++ new_row item ∷ []) items here (λ k d low. long (suc k) d (omega arith)) parts.1)
 
-not_full : (most n : ℕ) → refuse_if (nat_lt most n) BookFull ≡ None → n ≤ most
+not_full : (most n : ℕ) → fails_if (nat_lt most n) BookFull ≡ None → n ≤ most
 not_full most n free = by (nat_lt most n) refl free
   where
-    by : (b : Bool) → nat_lt most n ≡ b → refuse_if b BookFull ≡ None → n ≤ most
+    by : (b : Bool) → nat_lt most n ≡ b → fails_if b BookFull ≡ None → n ≤ most
     by true e free = absurd (cc)
     by false e free = grind (arith, nat_tests)
 

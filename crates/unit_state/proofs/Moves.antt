@@ -3,12 +3,12 @@ use Rattle.std.proofs.Common.{◌≡◌, ◌≢◌, ℕ, Bool, true, false, cond
 use Rattle.std.specs.List.{filter, filter_map, list_any}
 use Rattle.std.specs.Option.{option_map, option_or, option_map_or}
 use Rattle.std.proofs.lemmas.Bool.{false≢true}
+use Rattle.sdls_base.specs.FirstFailing.{fails_if}
 use Rattle.sdls_base.specs.declared.states.KeyState.{KeyState}
 use Rattle.sdls_base.specs.declared.states.KeyState.TheVariants.{PreActive, Active, Deactivated, Destroyed}
 use Rattle.key_book.specs.declared.key_row.KeyRow.{KeyRow}
 use Rattle.key_book.specs.declared.key_refusal.KeyRefusal.TheVariants.{WrongState, UnknownKey}
 use Rattle.key_book.specs.KeyBook.{row_of}
-use Rattle.key_book.specs.KeyRefusal.{refuse_if}
 use Rattle.key_book.specs.Moves.{is_next, least, lowest_holder, in_use_refusal, state_refusal, move_refusal, moves_refusal, moved}
 use Rattle.sa_book.specs.declared.sa_row.SaRow.{SaRow}
 use Rattle.sa_book.specs.SaBook.{in_use}
@@ -25,7 +25,7 @@ none_or a b e f = ap (λ o. option_or o b) e ∙ f
 
 move_any : (o : Option KeyRow) (id : ℕ) (to : KeyState) (a b : Option ℕ) → in_use_refusal to a ≡ in_use_refusal to b → option_map_or (λ (row : KeyRow). state_refusal row.state to a) o (Some (UnknownKey id)) ≡ option_map_or (λ (row : KeyRow). state_refusal row.state to b) o (Some (UnknownKey id))
 move_any None id to a b e = refl
-move_any (Some row) id to a b e = ap (option_or (refuse_if (not (is_next row.state to)) (WrongState row.state))) e
+move_any (Some row) id to a b e = ap (option_or (fails_if (not (is_next row.state to)) (WrongState row.state))) e
 
 pub moves_any : (rows : List KeyRow) (ids : List ℕ) (to : KeyState) (U V : List (ℕ × ℕ)) → ((a b : Option ℕ) → in_use_refusal to a ≡ in_use_refusal to b) → moves_refusal rows ids to U ≡ moves_refusal rows ids to V
 moves_any rows [] to U V any = refl

@@ -8,6 +8,8 @@ use Rattle.std.proofs.lemmas.Bool.Decides.{nat_tests}
 use Rattle.std.proofs.lemmas.List.Elements.{All-map, All-filter, All-append, All-take, All-drop, All-cons}
 use Rattle.std.proofs.lemmas.List.Folds.{list_any_at}
 use Rattle.std.proofs.lemmas.Option.{same_Some}
+use Rattle.sdls_base.specs.Bounds.{IsKeyLength}
+use Rattle.sdls_base.specs.FirstFailing.{fails_if, first_told}
 use Rattle.sdls_base.specs.KeyId.{end_of}
 use Rattle.sdls_base.specs.declared.change.Change.{Change}
 use Rattle.sdls_base.specs.declared.change.Change.TheVariants.{Marks, Load, KeyStates, Create, Rekey, SaTo, SetNumber, SetWindow, Accepted, Nothing}
@@ -31,7 +33,7 @@ use Rattle.sa_book.specs.declared.sa_refusal.SaRefusal.TheVariants.{PastEnd, Bel
 use Rattle.sa_book.specs.SaRow.{IsSaRow, HasHigh, new_row, with_key, without_key, following}
 use Rattle.sa_book.specs.SaBook as association_rows
 use Rattle.sa_book.specs.SaBook.{IsSaBook, with_row, in_use}
-use Rattle.sa_book.specs.SaRefusal.{is_receiving, is_key, receives_with, first_of, unless_active, refuse_if, number_refusal, number_refusal_of, key_refusal, rekey_refusal}
+use Rattle.sa_book.specs.SaRefusal.{is_receiving, is_key, receives_with, unless_active, number_refusal, number_refusal_of, key_refusal, rekey_refusal}
 use Rattle.sa_book.specs.Numbers.{with_high}
 use Rattle.sa_book.proofs.HighRules.{IsSaBook-lowered}
 use Rattle.sa_book.proofs.Changes.{IsSaBook-create}
@@ -122,7 +124,7 @@ marks_kept state key mark floor ok allowed =
 
 -- keys loaded, and keys that take a state
 
-pub loaded_kept : (state : State) (items : List KeyItem) → KeepsRules state → All (λ item. key_row.IsKeyLength (length item.bytes)) items → load_refusal state.keys items ≡ None → KeepsRules (applied state (Load items))
+pub loaded_kept : (state : State) (items : List KeyItem) → KeepsRules state → All (λ item. IsKeyLength (length item.bytes)) items → load_refusal state.keys items ≡ None → KeepsRules (applied state (Load items))
 loaded_kept state items ok long free =
     record {
       keys = rules_loaded state.keys items ok.keys long free;
@@ -225,11 +227,11 @@ raised_row direction keys key number held is =
 number_free : (key number floor : ℕ) → number_refusal key number floor ≡ None → number < end_of key
 number_free key number floor free = by (nat_le (end_of key) number) refl free
   where
-    by : (b : Bool) → nat_le (end_of key) number ≡ b → first_of (refuse_if b (PastEnd (end_of key)) ∷ refuse_if (nat_lt number floor) (BelowFloor floor) ∷ []) ≡ None → number < end_of key
+    by : (b : Bool) → nat_le (end_of key) number ≡ b → first_told (fails_if b (PastEnd (end_of key)) ∷ fails_if (nat_lt number floor) (BelowFloor floor) ∷ []) ≡ None → number < end_of key
     by true e free = absurd (cc)
     by false e free = grind (arith, nat_tests)
 
-key_parts : (a b c d e : Option SaRefusal) → first_of (a ∷ b ∷ c ∷ d ∷ e ∷ []) ≡ None → (c ≡ None) × (e ≡ None)
+key_parts : (a b c d e : Option SaRefusal) → first_told (a ∷ b ∷ c ∷ d ∷ e ∷ []) ≡ None → (c ≡ None) × (e ≡ None)
 key_parts None None None None None h = (refl, refl)
 key_parts None None None None (Some r) h = absurd (cc)
 key_parts None None None (Some r) e h = absurd (cc)
@@ -237,7 +239,7 @@ key_parts None None (Some r) d e h = absurd (cc)
 key_parts None (Some r) c d e h = absurd (cc)
 key_parts (Some r) b c d e h = absurd (cc)
 
-two_parts : (a b : Option SaRefusal) → first_of (a ∷ b ∷ []) ≡ None → b ≡ None
+two_parts : (a b : Option SaRefusal) → first_told (a ∷ b ∷ []) ≡ None → b ≡ None
 two_parts None None h = refl
 two_parts None (Some r) h = absurd (cc)
 two_parts (Some r) b h = absurd (cc)

@@ -2,11 +2,11 @@
 use Rattle.std.proofs.Common.{◌≡◌, ◌≢◌, ℕ, ◌<◌, true, nat_eq, List, length, get_or, set, Option, Some, None, inl, inr, ⊎_elim, ◌⊎◌, sym, refl, ap, ◌∙◌, subst, arith}
 use Rattle.std.proofs.lemmas.Bool.{cases_eq, cases_lt, false≢true}
 use Rattle.std.proofs.lemmas.List.Quantifiers.{position-Some}
+use Rattle.sdls_base.specs.Bounds.{IsWidth}
 use Rattle.sdls_base.proofs.Searches.{find_placed, find_nowhere, find_none}
 use Rattle.sdls_base.specs.declared.states.KeyState.{KeyState}
 use Rattle.sdls_base.specs.declared.states.SaState.{SaState}
 use Rattle.sdls_base.specs.declared.states.SaState.TheVariants.{Unkeyed, Keyed, Operational}
-use Rattle.replay_window.specs.Window.{IsWidth}
 use Rattle.sa_book.specs.declared.sa_row.SaRow.{SaRow}
 use Rattle.sa_book.specs.declared.sa_refusal.SaRefusal.{SaRefusal}
 use Rattle.sa_book.specs.SaRow.{MayAccept, with_key, without_key, following}

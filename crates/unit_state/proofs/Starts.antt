@@ -4,12 +4,12 @@ use Rattle.std.specs.List.{All}
 use Rattle.std.specs.Option.{option_map_or}
 use Rattle.std.proofs.lemmas.Bool.{false≢true}
 use Rattle.std.proofs.lemmas.List.Elements.{All-take, All-drop, All-cons, All-nil}
+use Rattle.sdls_base.specs.Bounds.{IsKeyLength}
 use Rattle.sdls_base.specs.declared.change.Change.TheVariants.{Load, KeyStates, Create, Rekey, SaTo}
 use Rattle.sdls_base.specs.declared.states.KeyState.{KeyState}
 use Rattle.sdls_base.specs.declared.states.KeyState.TheVariants.{PreActive, Active, Deactivated, Destroyed}
 use Rattle.sdls_base.specs.declared.states.SaState.TheVariants.{Operational}
 use Rattle.key_book.specs.declared.key_row.KeyRow.{KeyRow}
-use Rattle.key_book.specs.KeyRow.{IsKeyLength}
 use Rattle.key_book.specs.KeyRefusal.{load_refusal}
 use Rattle.key_book.specs.Moves.{moves_refusal}
 use Rattle.sa_book.specs.declared.sa_row.SaRow.{SaRow}

@@ -1,5 +1,6 @@
 -- The changes that a state allows: those that a command, a frame or a reserve may make there (profile).
 use Rattle.std.specs.Prelude.{◌≡◌, ◌≢◌, ⊤, ℕ, ◌+◌, ◌<◌, ◌≤◌, List, length, Option, Some, None, IsSome, IsSomeAnd, All}
+use Rattle.sdls_base.specs.Bounds.{AreChannels, IsKeyLength, IsWidth}
 use Rattle.sdls_base.specs.KeyId.{class_of, end_of}
 use Rattle.sdls_base.specs.declared.key_id.KeyClass.TheVariants.{Master}
 use Rattle.sdls_base.specs.declared.key_item.KeyItem.{KeyItem}
@@ -11,14 +12,12 @@ use Rattle.sdls_base.specs.declared.states.Direction.TheVariants.{Send, Receive}
 use Rattle.sdls_base.specs.declared.states.KeyState.{KeyState}
 use Rattle.sdls_base.specs.declared.states.SaState.{SaState}
 use Rattle.sdls_base.specs.declared.states.SaState.TheVariants.{Unkeyed, Keyed, Operational}
-use Rattle.replay_window.specs.Window.{IsWidth}
 use Rattle.key_book.specs.declared.key_row.KeyRow.{KeyRow}
-use Rattle.key_book.specs.KeyRow.{IsKeyLength}
 use Rattle.key_book.specs.KeyRefusal.{load_refusal}
 use Rattle.key_book.specs.Moves.{moves_refusal}
 use Rattle.sa_book.specs.declared.sa_refusal.SaRefusal.{SaRefusal}
 use Rattle.sa_book.specs.declared.sa_row.SaRow.{SaRow}
-use Rattle.sa_book.specs.SaRow.{AreChannels, MayAccept}
+use Rattle.sa_book.specs.SaRow.{MayAccept}
 use Rattle.sa_book.specs.SaBook.{in_use}
 use Rattle.sa_book.specs.SaRefusal.{create_refusal, rekey_refusal, start_refusal, stop_refusal, expire_refusal, delete_refusal, set_number_refusal, set_window_refusal}
 use Rattle.unit_state.specs.declared.state.State.{State}

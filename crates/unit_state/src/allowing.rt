@@ -3,24 +3,22 @@
 ghost use Rattle.std.specs.Prelude.{◌≡◌, ◌↔◌, ◌<◌, ◌≤◌, true, [], Some, None, IfSome, All};
 ghost use Rattle.std.specs.List.{list_any};
 ghost use Rattle.std.specs.Option.{option_map};
+ghost use Rattle.sdls_base.specs.Bounds.{AreChannels, IsWidth};
 ghost use Rattle.key_book.specs.KeyRow.{IsKeyRow};
 ghost use Rattle.sdls_base.specs.declared.states.KeyState.TheVariants.{Deactivated};
 ghost use Rattle.key_book.specs.Moves.{moves_refusal};
 ghost use Rattle.sa_book.specs.SaBook.{in_use};
 ghost use Rattle.sa_book.specs.SaRefusal.{is_key};
-ghost use Rattle.replay_window.specs.Window.{IsWidth};
-ghost use Rattle.sa_book.specs.SaRow.{AreChannels, MayAccept};
+ghost use Rattle.sa_book.specs.SaRow.{MayAccept};
 ghost use Rattle.unit_state.specs.State.{key_row};
 ghost use Rattle.unit_state.specs.Allows.{Allows, IsCount, IsSessionKey, AllowsMarks, AllowsLoad, AllowsStates, AllowsCreate, AllowsRekey, AllowsNumber, AllowsWindow, AllowsAccepted, state_refusal};
 
 use crate::changing::least_number;
 use crate::state::State;
 use key_book::KeyRow;
-use replay_window::{MOST_WIDTH, Verdict};
+use replay_window::Verdict;
 use sa_book::SaRow;
-use sdls_base::{
-    Change, Direction, KeyClass, KeyId, KeyItem, KeyItems, KeyList, KeyState, NewSa, SaState, Spi,
-};
+use sdls_base::{Change, Direction, KeyClass, KeyId, KeyItem, KeyItems, KeyList, KeyState, MOST_WINDOW, NewSa, SaState, Spi};
 
 fn is_count(count: usize) -> bool
     ensures { (result ≡ true) ↔ IsCount count }
@@ -55,7 +53,7 @@ fn are_channels(channels: &[u8]) -> bool
 fn is_width(width: u64) -> bool
     ensures { (result ≡ true) ↔ IsWidth width }
 {
-    1 <= width && width <= MOST_WIDTH
+    1 <= width && width <= MOST_WINDOW
 }
 
 fn may_accept(row: &SaRow, key: KeyId, number: u64) -> bool

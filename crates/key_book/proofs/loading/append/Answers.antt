@@ -1,8 +1,9 @@
 use Rattle.std.proofs.Common.{◌≡◌, List, [], ◌∷◌, ◌++◌, length, None, sym, ap, ◌∙◌, subst}
 use Rattle.sha2.specs.Sha256.{sha256}
 use Rattle.sdls_base.specs.declared.key_item.KeyItem.{KeyItem}
+use Rattle.sdls_base.specs.Bounds.{IsKeyLength}
 use Rattle.key_book.specs.declared.key_row.KeyRow.{KeyRow}
-use Rattle.key_book.specs.KeyRow.{IsKeyLength, new_row}
+use Rattle.key_book.specs.KeyRow.{new_row}
 use Rattle.key_book.specs.KeyRefusal.{key_refusal}
 use Rattle.key_book.proofs.Rows.{AreKeyRows-push, loaded_more, loaded_row}
 use Rattle.key_book.proofs.loading.append.Goals as goal

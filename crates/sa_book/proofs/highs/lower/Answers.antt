@@ -3,7 +3,7 @@ use Rattle.std.proofs.lemmas.List.Edits.{map_over_more}
 use Rattle.sa_book.specs.declared.sa_row.SaRow.{SaRow}
 use Rattle.sa_book.specs.SaRefusal.{receives_with}
 use Rattle.sa_book.specs.Numbers.{with_high}
-use Rattle.sa_book.proofs.Lists.{chosen, left_out}
+use Rattle.sdls_base.proofs.Searches.{chosen, left_out}
 use Rattle.sa_book.proofs.highs.lower.Goals as goal
 use Rattle.sa_book.proofs.highs.lower.Goals.{then-receives_with, else-receives_with}
 

@@ -1,7 +1,7 @@
 use Rattle.std.proofs.Common.{◌≡◌, ℕ, Bool, not, nat_eq, Some, get_or, sym, ◌∙◌}
 use Rattle.std.specs.List.{list_any, position}
 use Rattle.std.proofs.lemmas.List.Quantifiers.{position-Some}
-use Rattle.sa_book.proofs.Lists.{find_placed, find_nowhere}
+use Rattle.sdls_base.proofs.Searches.{find_placed, find_nowhere}
 use Rattle.sa_book.proofs.Changes.{named_channel}
 use Rattle.sa_book.proofs.judging.first_unknown.Goals as goal
 

@@ -1,5 +1,5 @@
 use Rattle.std.proofs.Common.{◌≡◌, nat_eq, get_or, Some, None, sym, ap, ◌∙◌}
-use Rattle.key_book.proofs.Lists.{find_placed, find_nowhere}
+use Rattle.sdls_base.proofs.Searches.{find_placed, find_nowhere}
 use Rattle.key_book.specs.declared.key_row.KeyRow.{KeyRow}
 use Rattle.key_book.specs.KeyBook.{place_of}
 use Rattle.key_book.proofs.key_book.KeyBook.find.Goals as goal

@@ -3,7 +3,8 @@ use Rattle.sa_book.specs.declared.sa_row.SaRow.{SaRow}
 use Rattle.sa_book.specs.declared.sa_refusal.SaRefusal.{SaRefusal}
 use Rattle.sa_book.specs.SaRow.{following}
 use Rattle.sa_book.specs.SaBook.{place_of}
-use Rattle.sa_book.specs.SaRefusal.{first_of, if_unkeyed, number_refusal_of, set_number_refusal}
+use Rattle.sdls_base.specs.FirstFailing.{first_told}
+use Rattle.sa_book.specs.SaRefusal.{if_unkeyed, number_refusal_of, set_number_refusal}
 use Rattle.sa_book.proofs.Rows.{on_place, on_nowhere, within_place, same_read, set-changed}
 use Rattle.sa_book.proofs.Changes.{IsSaBook-set_number}
 use Rattle.sa_book.proofs.sa_book.SaBook.set_number.Goals as goal
@@ -34,7 +35,7 @@ invariant_of-self c =
     let place : place_of c.self.inside.rows.items c.args.spi ≡ Some c.in_ok-i.i = rw c.deref.ensures.value at c.in_ok-i.ensures in
     let within : c.in_ok-i.i < length c.self.inside.rows.items = within_place c.self.inside.rows.items c.args.spi c.in_ok-i.i c.index_mut-row.result.now place in
     let same : c.index.result.now ≡ c.index_mut-row.result.now = same_read c.self.inside.rows.items c.in_ok-i.i c.index.result.now c.index_mut-row.result.now within c.index.ensures c.index_mut-row.ensures.value in
-    let free : first_of (if_unkeyed c.index_mut-row.result.now.state ∷ number_refusal_of c.index_mut-row.result.now.key c.args.number c.args.floor ∷ []) ≡ None = subst (λ (r : SaRow). first_of (if_unkeyed r.state ∷ number_refusal_of r.key c.args.number c.args.floor ∷ []) ≡ None) same (sym c.in_ok-judge_set_number.ensures) in
+    let free : first_told (if_unkeyed c.index_mut-row.result.now.state ∷ number_refusal_of c.index_mut-row.result.now.key c.args.number c.args.floor ∷ []) ≡ None = subst (λ (r : SaRow). first_told (if_unkeyed r.state ∷ number_refusal_of r.key c.args.number c.args.floor ∷ []) ≡ None) same (sym c.in_ok-judge_set_number.ensures) in
     rw c.following-row.ensures (IsSaBook-set_number c.self.inside.rows.items c.in_ok-i.i c.index_mut-row.result.now c.args.number c.args.floor c.self.invariant within c.index_mut-row.ensures.value free)
 
 pub returns-clause-set : goal.returns-clause-set

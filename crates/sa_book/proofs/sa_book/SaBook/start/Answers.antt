@@ -3,7 +3,8 @@ use Rattle.sdls_base.specs.declared.states.SaState.TheVariants.{Operational}
 use Rattle.sa_book.specs.declared.sa_row.SaRow.{SaRow}
 use Rattle.sa_book.specs.declared.sa_refusal.SaRefusal.{SaRefusal}
 use Rattle.sa_book.specs.SaBook.{place_of}
-use Rattle.sa_book.specs.SaRefusal.{first_of, unless_keyed, rival_of, taken_channel, start_refusal}
+use Rattle.sdls_base.specs.FirstFailing.{first_told}
+use Rattle.sa_book.specs.SaRefusal.{unless_keyed, rival_of, taken_channel, start_refusal}
 use Rattle.sa_book.proofs.Rows.{on_place, on_nowhere, within_place, same_read, set-changed}
 use Rattle.sa_book.proofs.Changes.{IsSaBook-start}
 use Rattle.sa_book.proofs.sa_book.SaBook.start.Goals as goal
@@ -34,7 +35,7 @@ invariant_of-self c =
     let place : place_of c.self.inside.rows.items c.args.spi ≡ Some c.in_ok-i.i = rw c.deref.ensures.value at c.in_ok-i.ensures in
     let within : c.in_ok-i.i < length c.self.inside.rows.items = within_place c.self.inside.rows.items c.args.spi c.in_ok-i.i c.index_mut-row.result.now place in
     let same : c.index.result.now ≡ c.index_mut-row.result.now = same_read c.self.inside.rows.items c.in_ok-i.i c.index.result.now c.index_mut-row.result.now within c.index.ensures c.index_mut-row.ensures.value in
-    let free : first_of (unless_keyed c.index_mut-row.result.now.state ∷ taken_channel (rival_of c.self.inside.rows.items c.index_mut-row.result.now) ∷ []) ≡ None = subst (λ (r : SaRow). first_of (unless_keyed r.state ∷ taken_channel (rival_of c.self.inside.rows.items r) ∷ []) ≡ None) same (sym (rw c.deref-2.ensures.value at c.in_ok-judge_start.ensures)) in
+    let free : first_told (unless_keyed c.index_mut-row.result.now.state ∷ taken_channel (rival_of c.self.inside.rows.items c.index_mut-row.result.now) ∷ []) ≡ None = subst (λ (r : SaRow). first_told (unless_keyed r.state ∷ taken_channel (rival_of c.self.inside.rows.items r) ∷ []) ≡ None) same (sym (rw c.deref-2.ensures.value at c.in_ok-judge_start.ensures)) in
     (IsSaBook-start c.self.inside.rows.items c.in_ok-i.i c.index_mut-row.result.now c.self.invariant within c.index_mut-row.ensures.value free)
 
 pub returns-clause-started : goal.returns-clause-started
