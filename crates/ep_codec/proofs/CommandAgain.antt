@@ -5,12 +5,14 @@ use Rattle.std.specs.Int.{w16, w64, to_be_bytes, is_in_range}
 use Rattle.std.proofs.lemmas.Bool.{and_from, eq-eqb}
 use Rattle.std.proofs.lemmas.List.{take_all, drop_at, take_at, append-nil}
 use Rattle.std.proofs.lemmas.Nat.{from_be_bytes-to_be_bytes_2, from_be_bytes-to_be_bytes_8}
+use Rattle.sdls_base.specs.Bounds.{IsWidth}
+use Rattle.sdls_base.specs.declared.TheConstants.{MOST_WINDOW}
 use Rattle.ep_codec.specs.declared.procedure.PduType.TheVariants as types
 use Rattle.ep_codec.specs.declared.procedure.Procedure.{Procedure}
 use Rattle.ep_codec.specs.declared.procedure.Procedure.TheVariants as procedures
 use Rattle.ep_codec.specs.declared.command.Command.{Command}
 use Rattle.ep_codec.specs.declared.command.Command.TheVariants.{Rekeying, Activate, Deactivate, Verify, Destroy, Inventory, Compose, ReadNumber, Create, Delete, SetWindow, Rekey, Expire, SetNumber, Start, Stop, Status}
-use Rattle.ep_codec.specs.Check.{Check, first_fault}
+use Rattle.sdls_base.specs.FirstFailing.{Check, first_failing}
 use Rattle.ep_codec.specs.Command.{message, sealed_data, keys_data, association_data, command_octets, IsInBounds, HasTypes, IsCommandPdu}
 use Rattle.ep_codec.specs.CommandReading.{command_at, command_procedure}
 use Rattle.ep_codec.specs.Field.{octet_at, word_at, number_at, is_key, is_spi, is_window, direction_code, suite_code, key_check, spi_check, window_check, code_check, count_check}
@@ -57,12 +59,12 @@ sealed_again front vector sealed tag at p v t =
 
 -- ---- fields that are read again
 
-pub spi_again : (spi : ℕ) → IsTrue (is_spi spi) → (octets : List ℕ) → word_at 3 octets ≡ spi → (checks : List Check) → first_fault checks ≡ None
-    → first_fault (spi_check 3 octets ∷ checks) ≡ None
+pub spi_again : (spi : ℕ) → IsTrue (is_spi spi) → (octets : List ℕ) → word_at 3 octets ≡ spi → (checks : List (Check ℕ)) → first_failing checks ≡ None
+    → first_failing (spi_check 3 octets ∷ checks) ≡ None
 spi_again spi is octets e checks none = keeps (is_spi (word_at 3 octets)) 3 checks (ap is_spi e ∙ is) none
 
-pub key_passes : (at key : ℕ) → IsTrue (is_key key) → (octets : List ℕ) → word_at at octets ≡ key → (checks : List Check) → first_fault checks ≡ None
-    → first_fault (key_check at octets ∷ checks) ≡ None
+pub key_passes : (at key : ℕ) → IsTrue (is_key key) → (octets : List ℕ) → word_at at octets ≡ key → (checks : List (Check ℕ)) → first_failing checks ≡ None
+    → first_failing (key_check at octets ∷ checks) ≡ None
 key_passes at key is octets e checks none = keeps (is_key (word_at at octets)) at checks (ap is_key e ∙ is) none
 
 pub spi_small : (spi : ℕ) → IsTrue (is_spi spi) → spi < 2 ^ 16
@@ -71,15 +73,18 @@ spi_small spi is = omega (arith, high_bound 1 65534 spi is)
 pub key_small : (key : ℕ) → IsTrue (is_key key) → key < 2 ^ 16
 key_small key is = omega (arith, high_bound 1 65535 key is)
 
-pub window_small : (window : ℕ) → IsTrue (is_window window) → window < 2 ^ 64
-window_small window is = omega (arith, high_bound 1 (2 ^ 32) window is)
+pub window_small : (window : ℕ) → IsWidth window → window < 2 ^ 64
+window_small window is = omega arith
+
+pub window_passes : (window : ℕ) → IsWidth window → is_window window ≡ true
+window_passes window is = in_bounds 1 MOST_WINDOW window is.least is.most
 
 -- ---- commands
 
 -- the octets have no fault, and this value at their places
 pub record ReadAgain (p : Procedure) (command : Command) (octets : List ℕ) : Type 0 where
   pub header : Passes types.Command p octets
-  pub fields : first_fault (command_checks p octets) ≡ None
+  pub fields : first_failing (command_checks p octets) ≡ None
   pub value : command_at p octets ≡ command
 
 keys_header : (p : Procedure) (keys : List ℕ) → ((n : ℕ) → has_command_length p n ≡ (is_in_range 2 16 n && n % 2 == 0)) → IsTrue (is_in_range 1 8 (length keys))
@@ -173,21 +178,21 @@ again (Create sa) is bounds =
     let body = association_data sa in
     let octets = message 0x11 body in
     let channels = sa.channels in
-    let low = low_bound 1 8 (length channels) bounds.1.count in
-    let high = high_bound 1 8 (length channels) bounds.1.count in
+    let low = bounds.1.one in
+    let high = bounds.1.most in
     let e : word_at 3 octets ≡ sa.spi = from_be_bytes-to_be_bytes_2 sa.spi (spi_small sa.spi is) in
     let f : number_at 7 octets ≡ sa.window = from_be_bytes-to_be_bytes_8 sa.window (window_small sa.window bounds.0) in
     let g = direction_again sa.direction in
     let h = suite_again sa.suite in
     let whole : length octets ≡ 16 + length channels = omega arith in
     let count : (octet_at 15 octets == length octets - 16) ≡ true = eq-eqb (length channels) (length octets - 16) (omega arith) in
-    let pass : first_fault (channel_checks 16 0 channels) ≡ None = channels_pass 16 channels bounds.1.ascending bounds.1.each in
+    let pass : first_failing (channel_checks 16 0 channels) ≡ None = channels_pass 16 channels bounds.1.ascending bounds.2 in
     record {
       header = header_again types.Command procedures.Create body (in_bounds 14 21 (length body) (omega arith) (omega arith)) (omega arith);
       fields = spi_again sa.spi is octets e (code_check 2 5 octets ∷ code_check 2 6 octets ∷ window_check 7 octets ∷ count_check 15 octets ∷ channel_checks 16 0 channels)
           (keeps (is_in_range 1 2 (direction_code sa.direction)) 5 (code_check 2 6 octets ∷ window_check 7 octets ∷ count_check 15 octets ∷ channel_checks 16 0 channels) (direction_in sa.direction)
           (keeps (is_in_range 1 2 (suite_code sa.suite)) 6 (window_check 7 octets ∷ count_check 15 octets ∷ channel_checks 16 0 channels) (suite_in sa.suite)
-          (keeps (is_window (number_at 7 octets)) 7 (count_check 15 octets ∷ channel_checks 16 0 channels) (ap is_window f ∙ bounds.0)
+          (keeps (is_window (number_at 7 octets)) 7 (count_check 15 octets ∷ channel_checks 16 0 channels) (ap is_window f ∙ window_passes sa.window bounds.0)
           (keeps (octet_at 15 octets == length octets - 16) 15 (channel_checks 16 0 channels) count pass))));
       value = λ i. Create (record { spi = e i; direction = g i; suite = h i; window = f i; channels = channels });
     }
@@ -205,7 +210,7 @@ again (SetWindow spi window) is bounds =
     let f : number_at 5 octets ≡ window = from_be_bytes-to_be_bytes_8 window (window_small window bounds) in
     record {
       header = header_again types.Command procedures.SetWindow body refl (omega arith);
-      fields = spi_again spi is octets e (window_check 5 octets ∷ []) (keeps (is_window (number_at 5 octets)) 5 [] (ap is_window f ∙ bounds) refl);
+      fields = spi_again spi is octets e (window_check 5 octets ∷ []) (keeps (is_window (number_at 5 octets)) 5 [] (ap is_window f ∙ window_passes window bounds) refl);
       value = cc;
     }
 again (Rekey spi key number) is bounds =

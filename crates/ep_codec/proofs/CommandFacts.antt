@@ -12,7 +12,7 @@ use Rattle.sdls_base.specs.declared.states.Suite.TheVariants.{Cmac, Gcm}
 use Rattle.ep_codec.specs.declared.procedure.PduType.TheVariants as types
 use Rattle.ep_codec.specs.declared.procedure.Procedure.{Procedure}
 use Rattle.ep_codec.specs.declared.procedure.Procedure.TheVariants as procedures
-use Rattle.ep_codec.specs.Check.{Check, first_fault}
+use Rattle.sdls_base.specs.FirstFailing.{Check, first_failing}
 use Rattle.ep_codec.specs.Command.{message, sealed_data, keys_data, association_data, command_octets, IsInBounds, HasTypes, IsCommandPdu}
 use Rattle.ep_codec.specs.CommandReading.{command_at}
 use Rattle.ep_codec.specs.Field.{octet_at, word_at, number_at, is_key, is_spi, is_window, direction_code, suite_code, direction_of, suite_of, key_check, spi_check, window_check, code_check, count_check}
@@ -20,7 +20,7 @@ use Rattle.ep_codec.specs.FieldList.{keys_in, key_checks, channel_checks}
 use Rattle.ep_codec.specs.MessageFault.{procedure_in, header_checks, command_checks}
 use Rattle.ep_codec.specs.Procedure.{tag_of}
 use Rattle.ep_codec.proofs.Faults.{others_passed}
-use Rattle.ep_codec.proofs.FieldFacts.{AreOctets, low_bound, high_bound, in_bounds, kept, octet_field, word_field, number_field, range_field, range_length, word_end, number_end, range_end, word_small, number_small, octets_drop}
+use Rattle.ep_codec.proofs.FieldFacts.{AreOctets, width_found, low_bound, high_bound, in_bounds, kept, octet_field, word_field, number_field, range_field, range_length, word_end, number_end, range_end, word_small, number_small, octets_drop}
 use Rattle.ep_codec.proofs.HeaderFacts.{Framed, header_passed}
 use Rattle.ep_codec.proofs.ListFacts.{keys_spelled, keys_count, keys_are, channels_small, channels_ascend}
 
@@ -30,10 +30,10 @@ use Rattle.ep_codec.proofs.ListFacts.{keys_spelled, keys_count, keys_are, channe
 pub whole_length : (n m : ℕ) → 3 ≤ n → (n - 3 == m) ≡ true → n ≡ m + 3
 whole_length n m room e = omega (arith, eqb-true (n - 3) m e)
 
-pub spi_found : (octets : List ℕ) (checks : List Check) → first_fault (spi_check 3 octets ∷ checks) ≡ None → IsTrue (is_spi (word_at 3 octets))
+pub spi_found : (octets : List ℕ) (checks : List (Check ℕ)) → first_failing (spi_check 3 octets ∷ checks) ≡ None → IsTrue (is_spi (word_at 3 octets))
 spi_found octets checks none = kept (is_spi (word_at 3 octets)) 3 checks none
 
-pub key_found : (at : ℕ) (octets : List ℕ) (checks : List Check) → first_fault (key_check at octets ∷ checks) ≡ None → IsTrue (is_key (word_at at octets))
+pub key_found : (at : ℕ) (octets : List ℕ) (checks : List (Check ℕ)) → first_failing (key_check at octets ∷ checks) ≡ None → IsTrue (is_key (word_at at octets))
 key_found at octets checks none = kept (is_key (word_at at octets)) at checks none
 
 -- an association's index, and a number
@@ -71,7 +71,7 @@ pub record KeysFound (keys octets : List ℕ) : Type 0 where
   pub spelled : octets ≡ keys_data keys
 
 pub keys_found : (at : ℕ) (octets : List ℕ) → AreOctets octets → 2 ≤ length octets → length octets ≤ 16 → length octets % 2 ≡ 0
-    → first_fault (key_checks at octets) ≡ None → KeysFound (keys_in octets) octets
+    → first_failing (key_checks at octets) ≡ None → KeysFound (keys_in octets) octets
 keys_found at octets are low high even none =
     let n = keys_count octets even in
     record {
@@ -82,7 +82,7 @@ keys_found at octets are low high even none =
 
 -- what a list of keys alone needs of the length
 pub keys_alone : (octets : List ℕ) → AreOctets octets → 3 ≤ length octets → (is_in_range 2 16 (length octets - 3) && (length octets - 3) % 2 == 0) ≡ true
-    → first_fault (key_checks 3 (drop 3 octets)) ≡ None → KeysFound (keys_in (drop 3 octets)) (drop 3 octets)
+    → first_failing (key_checks 3 (drop 3 octets)) ≡ None → KeysFound (keys_in (drop 3 octets)) (drop 3 octets)
 keys_alone octets are room fits none =
     let both = and_parts (is_in_range 2 16 (length octets - 3)) ((length octets - 3) % 2 == 0) fits in
     let n = length-drop 3 octets in
@@ -127,7 +127,7 @@ spelled_by : (octets : List ℕ) (p : Procedure) (body : List ℕ) → Framed ty
 spelled_by octets p body framed e = framed.spelled ∙ ap (λ (s : List ℕ). message (tag_of p) s) e
 
 association_found : (octets : List ℕ) → AreOctets octets → Framed types.Command procedures.Create octets
-    → first_fault (command_checks procedures.Create octets) ≡ None → IsCommandPdu (command_at procedures.Create octets) octets
+    → first_failing (command_checks procedures.Create octets) ≡ None → IsCommandPdu (command_at procedures.Create octets) octets
 unfolding command_checks command_at command_octets HasTypes IsInBounds
 association_found octets are framed none =
     let n1 = others_passed (not (is_spi (word_at 3 octets))) 3 (code_check 2 5 octets ∷ code_check 2 6 octets ∷ window_check 7 octets ∷ count_check 15 octets ∷ channel_checks 16 0 (drop 16 octets)) none in
@@ -156,18 +156,15 @@ association_found octets are framed none =
     record {
       types = spi_found octets (code_check 2 5 octets ∷ code_check 2 6 octets ∷ window_check 7 octets ∷ count_check 15 octets ∷ channel_checks 16 0 (drop 16 octets)) none;
       bounds = (
-        w,
-        record {
-          count = in_bounds 1 8 (length (drop 16 octets)) (omega arith) (omega arith);
-          ascending = channels_ascend 16 0 (drop 16 octets) n5;
-          each = channels_small 16 0 (drop 16 octets) n5;
-        },
+        width_found (number_at 7 octets) w,
+        record { one = omega arith; most = omega arith; ascending = channels_ascend 16 0 (drop 16 octets) n5 },
+        channels_small 16 0 (drop 16 octets) n5,
       );
       spelled = spelled_by octets procedures.Create _ framed body;
     }
 
 fields_found : (octets : List ℕ) (p : Procedure) → AreOctets octets → Framed types.Command p octets
-    → first_fault (command_checks p octets) ≡ None → IsCommandPdu (command_at p octets) octets
+    → first_failing (command_checks p octets) ≡ None → IsCommandPdu (command_at p octets) octets
 unfolding command_checks command_at command_octets HasTypes IsInBounds
 fields_found octets procedures.Rekeying are framed none =
     let low = low_bound 49 310 (length octets - 3) framed.fits in
@@ -228,7 +225,7 @@ fields_found octets procedures.SetWindow are framed none =
     let n = whole_length (length octets) 10 framed.room framed.fits in
     record {
       types = spi_found octets (window_check 5 octets ∷ []) none;
-      bounds = kept (is_window (number_at 5 octets)) 5 [] (others_passed (not (is_spi (word_at 3 octets))) 3 (window_check 5 octets ∷ []) none);
+      bounds = width_found (number_at 5 octets) (kept (is_window (number_at 5 octets)) 5 [] (others_passed (not (is_spi (word_at 3 octets))) 3 (window_check 5 octets ∷ []) none));
       spelled = spelled_by octets procedures.SetWindow _ framed (spi_number_spelled octets are n);
     }
 fields_found octets procedures.Rekey are framed none =
@@ -260,6 +257,6 @@ fields_found octets procedures.Status are framed none =
     let n = whole_length (length octets) 2 framed.room framed.fits in
     record { types = spi_found octets [] none; bounds = tt; spelled = spelled_by octets procedures.Status _ framed (word_end 3 octets are (omega arith)) }
 
-pub command_found : (octets : List ℕ) (p : Procedure) → AreOctets octets → first_fault (header_checks types.Command octets) ≡ None
-    → procedure_in types.Command octets ≡ Some p → first_fault (command_checks p octets) ≡ None → IsCommandPdu (command_at p octets) octets
+pub command_found : (octets : List ℕ) (p : Procedure) → AreOctets octets → first_failing (header_checks types.Command octets) ≡ None
+    → procedure_in types.Command octets ≡ Some p → first_failing (command_checks p octets) ≡ None → IsCommandPdu (command_at p octets) octets
 command_found octets p are header found none = fields_found octets p are (header_passed types.Command octets p are header found) none

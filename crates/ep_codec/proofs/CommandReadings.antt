@@ -6,7 +6,8 @@ use Rattle.ep_codec.specs.declared.pdu_error.PduError.{PduError}
 use Rattle.ep_codec.specs.declared.pdu_error.PduError.TheVariants.{Fault, NoMemory}
 use Rattle.ep_codec.specs.declared.procedure.PduType.TheVariants as types
 use Rattle.ep_codec.specs.declared.procedure.Procedure.{Procedure}
-use Rattle.ep_codec.specs.Check.{first_fault, IsFirst, Judges, IsReadUnlessNoMemory, Carries, HasFault}
+use Rattle.sdls_base.specs.FirstFailing.{first_failing}
+use Rattle.ep_codec.specs.Check.{IsFirst, Judges, IsReadUnlessNoMemory, Carries, HasFault}
 use Rattle.ep_codec.specs.Command.{IsCommandPdu}
 use Rattle.ep_codec.specs.CommandReading.{command_at, command_procedure}
 use Rattle.ep_codec.specs.MessageFault.{procedure_in, header_checks, command_checks, field_checks, message_fault, command_fault, can_have, end_in}
@@ -35,7 +36,7 @@ header_fault octets NoMemory first = tt
 abbrev pub JudgesCommand : Result Command PduError → Procedure → List ℕ → Type 0
 JudgesCommand r p octets = Judges r (command_checks p octets) (λ command. command ≡ command_at p octets)
 
-pub fields_found : (octets : List ℕ) (p : Procedure) (r : Result Command PduError) → AreOctets octets → first_fault (header_checks types.Command octets) ≡ None
+pub fields_found : (octets : List ℕ) (p : Procedure) (r : Result Command PduError) → AreOctets octets → first_failing (header_checks types.Command octets) ≡ None
     → procedure_in types.Command octets ≡ Some p → JudgesCommand r p octets → IfOk r (λ command. IsCommandPdu command octets)
 fields_found octets p (Ok command) are header found judged = rw judged.1 (command_found octets p are header found judged.0)
 fields_found octets p (Err e) are header found judged = tt
@@ -51,19 +52,19 @@ pub fields_only : (octets : List ℕ) (p : Procedure) (r : Result Command PduErr
 fields_only octets p (Ok read) found judged command is =
     judged.1 ∙ ap (λ (q : Procedure). command_at q octets) (sym (same_procedure octets p command found is)) ∙ (command_again command octets is).value
 fields_only octets p (Err (Fault offset)) found judged command is =
-    let none : first_fault (command_checks p octets) ≡ None =
-    subst (λ (q : Procedure). first_fault (command_checks q octets) ≡ None) (same_procedure octets p command found is) (command_again command octets is).fields in
+    let none : first_failing (command_checks p octets) ≡ None =
+    subst (λ (q : Procedure). first_failing (command_checks q octets) ≡ None) (same_procedure octets p command found is) (command_again command octets is).fields in
     absurd cc
 fields_only octets p (Err NoMemory) found judged command is = refl
 
-all_faults : (octets : List ℕ) (p : Procedure) → first_fault (header_checks types.Command octets) ≡ None → procedure_in types.Command octets ≡ Some p
-    → command_fault octets ≡ first_fault (command_checks p octets)
+all_faults : (octets : List ℕ) (p : Procedure) → first_failing (header_checks types.Command octets) ≡ None → procedure_in types.Command octets ≡ Some p
+    → command_fault octets ≡ first_failing (command_checks p octets)
 unfolding command_fault message_fault
 all_faults octets p header found =
     passed_append (header_checks types.Command octets) (field_checks types.Command (procedure_in types.Command octets) octets) header
-    ∙ ap (λ (o : Option Procedure). first_fault (field_checks types.Command o octets)) found
+    ∙ ap (λ (o : Option Procedure). first_failing (field_checks types.Command o octets)) found
 
-pub fields_fault : (octets : List ℕ) (p : Procedure) (r : Result Command PduError) → first_fault (header_checks types.Command octets) ≡ None
+pub fields_fault : (octets : List ℕ) (p : Procedure) (r : Result Command PduError) → first_failing (header_checks types.Command octets) ≡ None
     → procedure_in types.Command octets ≡ Some p → JudgesCommand r p octets → HasFault r (command_fault octets)
 fields_fault octets p (Ok command) header found judged = all_faults octets p header found ∙ judged.0
 fields_fault octets p (Err (Fault offset)) header found judged = all_faults octets p header found ∙ judged
@@ -85,7 +86,7 @@ one_value a b octets p q =
     sym first.value ∙ ap (λ (r : Procedure). command_at r octets) same ∙ second.value
 
 -- octets without fault have a procedure
-has_procedure : (octets : List ℕ) → first_fault (header_checks types.Command octets) ≡ None
+has_procedure : (octets : List ℕ) → first_failing (header_checks types.Command octets) ≡ None
     → (p : Procedure) × (procedure_in types.Command octets ≡ Some p)
 unfolding header_checks
 has_procedure octets none =

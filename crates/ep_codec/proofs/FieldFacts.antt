@@ -5,8 +5,10 @@ use Rattle.std.specs.Int.{w16, w32, w64, from_be_bytes, to_be_bytes, is_in_range
 use Rattle.std.proofs.lemmas.Bool.{and_parts, and_from, leb-true, le-leb}
 use Rattle.std.proofs.lemmas.List.{drop_more, drop_all, take-append-drop, append-nil, drop-drop, length-take, length-drop}
 use Rattle.std.proofs.lemmas.Nat.{be_bytes_2, be_bytes_4, be_bytes_8}
-use Rattle.ep_codec.specs.Check.{Check, first_fault}
-use Rattle.ep_codec.specs.Field.{octet_at, word_at, double_word_at, number_at}
+use Rattle.sdls_base.specs.FirstFailing.{Check, first_failing}
+use Rattle.sdls_base.specs.Bounds.{IsWidth}
+use Rattle.sdls_base.specs.declared.TheConstants.{MOST_WINDOW}
+use Rattle.ep_codec.specs.Field.{is_window, octet_at, word_at, double_word_at, number_at}
 use Rattle.ep_codec.proofs.Faults.{first_passed}
 
 -- octets, each below 256
@@ -21,6 +23,10 @@ low_bound low high n h = leb-true low n (and_parts _ _ h).0
 pub high_bound : (low high n : ℕ) → is_in_range low high n ≡ true → n ≤ high
 high_bound low high n h = leb-true n high (and_parts _ _ h).1
 
+-- the width of a window, as a test and as a fact
+pub width_found : (n : ℕ) → is_window n ≡ true → IsWidth n
+width_found n is = record { least = low_bound 1 MOST_WINDOW n is; most = high_bound 1 MOST_WINDOW n is }
+
 pub in_bounds : (low high n : ℕ) → low ≤ n → n ≤ high → is_in_range low high n ≡ true
 in_bounds low high n p q = and_from _ _ (le-leb low n p) (le-leb n high q)
 
@@ -29,11 +35,11 @@ not_not true e = refl
 not_not false e = sym e
 
 -- a bound whose test finds no fault is kept
-pub kept : (b : Bool) (at : ℕ) (checks : List Check) → first_fault ((not b, at) ∷ checks) ≡ None → b ≡ true
+pub kept : (b : Bool) (at : ℕ) (checks : List (Check ℕ)) → first_failing ((not b, at) ∷ checks) ≡ None → b ≡ true
 kept b at checks none = not_not b (first_passed (not b) at checks none)
 
 -- a bound that is kept finds no fault
-pub keeps : (b : Bool) (at : ℕ) (checks : List Check) → b ≡ true → first_fault checks ≡ None → first_fault ((not b, at) ∷ checks) ≡ None
+pub keeps : (b : Bool) (at : ℕ) (checks : List (Check ℕ)) → b ≡ true → first_failing checks ≡ None → first_failing ((not b, at) ∷ checks) ≡ None
 keeps true at checks e none = none
 keeps false at checks e none = absurd cc
 

@@ -9,7 +9,7 @@ use Rattle.ep_codec.specs.declared.procedure.PduType.{PduType}
 use Rattle.ep_codec.specs.declared.procedure.PduType.TheVariants.{Command, Reply}
 use Rattle.ep_codec.specs.declared.procedure.Procedure.{Procedure}
 use Rattle.ep_codec.specs.declared.procedure.Procedure.TheVariants.{Rekeying, Activate, Deactivate, Verify, Destroy, Inventory, Compose, ReadNumber, Create, Delete, SetWindow, Rekey, Expire, SetNumber, Start, Stop, Status}
-use Rattle.ep_codec.specs.Check.{Check, first_fault}
+use Rattle.sdls_base.specs.FirstFailing.{Check, first_failing}
 use Rattle.ep_codec.specs.Command.{message}
 use Rattle.ep_codec.specs.Field.{word_at}
 use Rattle.ep_codec.specs.MessageFault.{procedure_in, can_have, end_in, header_checks}
@@ -78,15 +78,15 @@ some_can t o p bits e can =
     let both = and_parts (bits % 8 == 0) (has_length t p (bits / 8)) at_p in
     (eqb-true (bits % 8) 0 both.0, both.1)
 
-pub header_passed : (t : PduType) (octets : List ℕ) (p : Procedure) → AreOctets octets → first_fault (header_checks t octets) ≡ None
+pub header_passed : (t : PduType) (octets : List ℕ) (p : Procedure) → AreOctets octets → first_failing (header_checks t octets) ≡ None
     → procedure_in t octets ≡ Some p → Framed t p octets
 unfolding header_checks procedure_in
 header_passed t octets p are none found =
     let bits = word_at 1 octets in
-    let five : List Check = (nat_lt (end_in octets) (length octets), end_in octets) ∷ [] in
-    let four : List Check = (nat_lt (length octets) (end_in octets), length octets) ∷ five in
-    let three : List Check = (not (can_have t (procedure_in t octets) bits), 1) ∷ four in
-    let two : List Check = (is_none (procedure_in t octets), 0) ∷ three in
+    let five : List (Check ℕ) = (nat_lt (end_in octets) (length octets), end_in octets) ∷ [] in
+    let four : List (Check ℕ) = (nat_lt (length octets) (end_in octets), length octets) ∷ five in
+    let three : List (Check ℕ) = (not (can_have t (procedure_in t octets) bits), 1) ∷ four in
+    let two : List (Check ℕ) = (is_none (procedure_in t octets), 0) ∷ three in
     let n2 = others_passed (nat_lt (length octets) 3) (length octets) two none in
     let n3 = others_passed (is_none (procedure_in t octets)) 0 three n2 in
     let n4 = others_passed (not (can_have t (procedure_in t octets) bits)) 1 four n3 in
@@ -111,7 +111,7 @@ header_passed t octets p are none found =
 -- ---- a header that was written
 
 pub record Passes (t : PduType) (p : Procedure) (octets : List ℕ) : Type 0 where
-  pub none : first_fault (header_checks t octets) ≡ None
+  pub none : first_failing (header_checks t octets) ≡ None
   pub found : procedure_in t octets ≡ Some p
 
 found_for : (t : PduType) (p : Procedure) → procedure_tagged t (tag_for t p) ≡ Some p
@@ -133,9 +133,9 @@ header_again t p body fits few =
     let can : can_have t (procedure_in t octets) (word_at 1 octets) ≡ true =
     rw (found, bits) (and_from (8 * n % 8 == 0) (has_length t p (8 * n / 8)) (eq-eqb (8 * n % 8) 0 whole) (ap (has_length t p) eighth ∙ fits)) in
     let ends : end_in octets ≡ length octets = ap (λ (b : ℕ). 3 + b / 8) bits ∙ omega arith in
-    let five : List Check = (nat_lt (end_in octets) (length octets), end_in octets) ∷ [] in
-    let four : List Check = (nat_lt (length octets) (end_in octets), length octets) ∷ five in
-    let three : List Check = (not (can_have t (procedure_in t octets) (word_at 1 octets)), 1) ∷ four in
+    let five : List (Check ℕ) = (nat_lt (end_in octets) (length octets), end_in octets) ∷ [] in
+    let four : List (Check ℕ) = (nat_lt (length octets) (end_in octets), length octets) ∷ five in
+    let three : List (Check ℕ) = (not (can_have t (procedure_in t octets) (word_at 1 octets)), 1) ∷ four in
     record {
       none = passes (nat_lt (length octets) 3) (length octets) ((is_none (procedure_in t octets), 0) ∷ three) (le-ltb (length octets) 3 (omega arith))
           (passes (is_none (procedure_in t octets)) 0 three (ap is_none found)

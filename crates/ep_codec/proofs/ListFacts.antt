@@ -7,7 +7,7 @@ use Rattle.std.specs.Int.{w16, from_be_bytes, to_be_bytes, is_in_range}
 use Rattle.std.proofs.lemmas.Nat.{from_be_bytes-to_be_bytes_2}
 use Rattle.sdls_base.specs.declared.states.KeyState.{KeyState}
 use Rattle.sdls_base.specs.declared.states.KeyState.TheVariants.{PreActive, Active, Deactivated, Destroyed}
-use Rattle.ep_codec.specs.Check.{first_fault}
+use Rattle.sdls_base.specs.FirstFailing.{first_failing}
 use Rattle.ep_codec.specs.Command.{keys_data}
 use Rattle.ep_codec.specs.Field.{is_key, key_state_code, key_state_of}
 use Rattle.ep_codec.specs.FieldList.{keys_in, key_checks, rows_in, row_checks, channel_checks}
@@ -29,7 +29,7 @@ keys_count [] even = refl
 keys_count (a ∷ []) even = absurd (omega arith)
 keys_count (a ∷ b ∷ octets) even = omega (arith, keys_count octets (omega arith))
 
-pub keys_are : (at : ℕ) (octets : List ℕ) → first_fault (key_checks at octets) ≡ None → AllByRecursion (λ key. IsTrue (is_key key)) (keys_in octets)
+pub keys_are : (at : ℕ) (octets : List ℕ) → first_failing (key_checks at octets) ≡ None → AllByRecursion (λ key. IsTrue (is_key key)) (keys_in octets)
 keys_are at [] none = tt
 keys_are at (a ∷ []) none = tt
 keys_are at (a ∷ b ∷ octets) none =
@@ -48,7 +48,7 @@ keys_read_again (key ∷ keys) are =
     let f = keys_read_again keys are.1 in
     cc
 
-pub keys_pass : (at : ℕ) (keys : List ℕ) → AllByRecursion (λ key. IsTrue (is_key key)) keys → first_fault (key_checks at (keys_data keys)) ≡ None
+pub keys_pass : (at : ℕ) (keys : List ℕ) → AllByRecursion (λ key. IsTrue (is_key key)) keys → first_failing (key_checks at (keys_data keys)) ≡ None
 keys_pass at [] are = refl
 keys_pass at (key ∷ keys) are =
     keeps (is_key (from_be_bytes w16 (to_be_bytes w16 key))) at (key_checks (at + 2) (keys_data keys)) (ap is_key (key_again key are.0) ∙ are.0) (keys_pass (at + 2) keys are.1)
@@ -75,7 +75,7 @@ state_in Active = refl
 state_in Deactivated = refl
 state_in Destroyed = refl
 
-pub rows_spelled : (at : ℕ) (octets : List ℕ) → AreOctets octets → length octets % 3 ≡ 0 → first_fault (row_checks at octets) ≡ None
+pub rows_spelled : (at : ℕ) (octets : List ℕ) → AreOctets octets → length octets % 3 ≡ 0 → first_failing (row_checks at octets) ≡ None
     → flat_map row_octets (rows_in octets) ≡ octets
 rows_spelled at [] are whole none = refl
 rows_spelled at (a ∷ []) are whole none = absurd (omega arith)
@@ -96,7 +96,7 @@ rows_count (a ∷ []) whole = absurd (omega arith)
 rows_count (a ∷ b ∷ []) whole = absurd (omega arith)
 rows_count (a ∷ b ∷ c ∷ octets) whole = omega (arith, rows_count octets (omega arith))
 
-pub rows_are : (at : ℕ) (octets : List ℕ) → first_fault (row_checks at octets) ≡ None → AllByRecursion (λ row. IsTrue (is_key row.0)) (rows_in octets)
+pub rows_are : (at : ℕ) (octets : List ℕ) → first_failing (row_checks at octets) ≡ None → AllByRecursion (λ row. IsTrue (is_key row.0)) (rows_in octets)
 rows_are at [] none = tt
 rows_are at (a ∷ []) none = tt
 rows_are at (a ∷ b ∷ []) none = tt
@@ -116,7 +116,7 @@ rows_read_again (row ∷ rows) are =
     let first : (from_be_bytes w16 (to_be_bytes w16 row.0), key_state_of (key_state_code row.1)) ≡ row = λ i. (e i, f i) in
     cc
 
-pub rows_pass : (at : ℕ) (rows : List (ℕ × KeyState)) → AllByRecursion (λ row. IsTrue (is_key row.0)) rows → first_fault (row_checks at (flat_map row_octets rows)) ≡ None
+pub rows_pass : (at : ℕ) (rows : List (ℕ × KeyState)) → AllByRecursion (λ row. IsTrue (is_key row.0)) rows → first_failing (row_checks at (flat_map row_octets rows)) ≡ None
 rows_pass at [] are = refl
 rows_pass at (row ∷ rows) are =
     let others = row_checks (at + 3) (flat_map row_octets rows) in
@@ -125,14 +125,14 @@ rows_pass at (row ∷ rows) are =
 
 -- ---- channels
 
-pub channels_small : (at least : ℕ) (channels : List ℕ) → first_fault (channel_checks at least channels) ≡ None → AllByRecursion (λ channel. channel ≤ 63) channels
+pub channels_small : (at least : ℕ) (channels : List ℕ) → first_failing (channel_checks at least channels) ≡ None → AllByRecursion (λ channel. channel ≤ 63) channels
 channels_small at least [] none = tt
 channels_small at least (channel ∷ channels) none = (
   high_bound least 63 channel (kept (is_in_range least 63 channel) at (channel_checks (at + 1) (channel + 1) channels) none),
   channels_small (at + 1) (channel + 1) channels (others_passed (not (is_in_range least 63 channel)) at (channel_checks (at + 1) (channel + 1) channels) none),
 )
 
-pub channels_ascend : (at least : ℕ) (channels : List ℕ) → first_fault (channel_checks at least channels) ≡ None → IsStrictlyIncreasing channels
+pub channels_ascend : (at least : ℕ) (channels : List ℕ) → first_failing (channel_checks at least channels) ≡ None → IsStrictlyIncreasing channels
 channels_ascend at least [] none k h = absurd (omega arith)
 channels_ascend at least (a ∷ []) none k h = absurd (omega arith)
 channels_ascend at least (a ∷ b ∷ channels) none zero h =
@@ -157,7 +157,7 @@ rest_ascends a channels up k h =
     rw add-one (rw add-one at rest)
 
 passing : (at least : ℕ) (channels : List ℕ) → IsStrictlyIncreasing channels → AllByRecursion (λ channel. channel ≤ 63) channels → BeginsFrom least channels
-    → first_fault (channel_checks at least channels) ≡ None
+    → first_failing (channel_checks at least channels) ≡ None
 passing at least [] up small begins = refl
 passing at least (a ∷ channels) up small begins =
     keeps (is_in_range least 63 a) at (channel_checks (at + 1) (a + 1) channels) (in_bounds least 63 a begins small.0)
@@ -168,5 +168,5 @@ begins_anywhere [] = tt
 begins_anywhere (a ∷ channels) = omega arith
 
 pub channels_pass : (at : ℕ) (channels : List ℕ) → IsStrictlyIncreasing channels → AllByRecursion (λ channel. channel ≤ 63) channels
-    → first_fault (channel_checks at 0 channels) ≡ None
+    → first_failing (channel_checks at 0 channels) ≡ None
 channels_pass at channels up small = passing at 0 channels up small (begins_anywhere channels)

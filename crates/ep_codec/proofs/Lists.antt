@@ -4,7 +4,7 @@ use Rattle.std.specs.Prelude.{not}
 use Rattle.std.specs.Int.{w16, from_be_bytes, is_in_range}
 use Rattle.std.proofs.lemmas.List.{take_all, append_assoc}
 use Rattle.sdls_base.specs.declared.states.KeyState.{KeyState}
-use Rattle.ep_codec.specs.Check.{first_fault}
+use Rattle.sdls_base.specs.FirstFailing.{first_failing}
 use Rattle.ep_codec.specs.Field.{is_key, key_state_of}
 use Rattle.ep_codec.specs.FieldList.{keys_in, key_checks, rows_in, row_checks}
 use Rattle.ep_codec.proofs.Faults.{passed}
@@ -33,21 +33,21 @@ behind_two rest h = omega (arith, ap length (two rest h))
 pub behind_three : (rest : List ℕ) → 3 ≤ length rest → length rest ≡ 3 + length (behind 3 rest)
 behind_three rest h = omega (arith, ap length (three rest h))
 
-pub keys_faults : (at : ℕ) (rest : List ℕ) → 2 ≤ length rest → first_fault ((not (is_key (word_of rest)), at) ∷ []) ≡ None
-    → first_fault (key_checks (at + 2) (behind 2 rest)) ≡ first_fault (key_checks at rest)
+pub keys_faults : (at : ℕ) (rest : List ℕ) → 2 ≤ length rest → first_failing ((not (is_key (word_of rest)), at) ∷ []) ≡ None
+    → first_failing (key_checks (at + 2) (behind 2 rest)) ≡ first_failing (key_checks at rest)
 keys_faults at rest h none =
-    sym (ap (λ (s : List ℕ). first_fault (key_checks at s)) (two rest h) ∙ passed (not (is_key (word_of rest)), at) (key_checks (at + 2) (behind 2 rest)) none)
+    sym (ap (λ (s : List ℕ). first_failing (key_checks at s)) (two rest h) ∙ passed (not (is_key (word_of rest)), at) (key_checks (at + 2) (behind 2 rest)) none)
 
 pub keys_read : (keys : List ℕ) (rest : List ℕ) → 2 ≤ length rest
     → (keys ++ word_of rest ∷ []) ++ keys_in (behind 2 rest) ≡ keys ++ keys_in rest
 keys_read keys rest h = append_assoc keys (word_of rest ∷ []) (keys_in (behind 2 rest)) ∙ ap (λ (s : List ℕ). keys ++ keys_in s) (sym (two rest h))
 
-pub rows_faults : (at : ℕ) (rest : List ℕ) → 3 ≤ length rest → first_fault ((not (is_key (word_of rest)), at) ∷ []) ≡ None
-    → first_fault ((not (is_in_range 1 4 (get_or rest 2 0)), at + 2) ∷ []) ≡ None
-    → first_fault (row_checks (at + 3) (behind 3 rest)) ≡ first_fault (row_checks at rest)
+pub rows_faults : (at : ℕ) (rest : List ℕ) → 3 ≤ length rest → first_failing ((not (is_key (word_of rest)), at) ∷ []) ≡ None
+    → first_failing ((not (is_in_range 1 4 (get_or rest 2 0)), at + 2) ∷ []) ≡ None
+    → first_failing (row_checks (at + 3) (behind 3 rest)) ≡ first_failing (row_checks at rest)
 rows_faults at rest h key state =
     let last = row_checks (at + 3) (behind 3 rest) in
-    sym (ap (λ (s : List ℕ). first_fault (row_checks at s)) (three rest h)
+    sym (ap (λ (s : List ℕ). first_failing (row_checks at s)) (three rest h)
     ∙ passed (not (is_key (word_of rest)), at) ((not (is_in_range 1 4 (get_or rest 2 0)), at + 2) ∷ last) key
     ∙ passed (not (is_in_range 1 4 (get_or rest 2 0)), at + 2) last state)
 

@@ -14,7 +14,7 @@ use Rattle.ep_codec.specs.declared.procedure.Procedure.{Procedure}
 use Rattle.ep_codec.specs.declared.procedure.Procedure.TheVariants as procedures
 use Rattle.ep_codec.specs.declared.reply_pdu.ReplyPdu.{ReplyPdu}
 use Rattle.ep_codec.specs.declared.reply_pdu.ReplyPdu.TheVariants.{Rekeying, Activate, Deactivate, Destroy, Create, Delete, SetWindow, Rekey, Expire, SetNumber, Start, Stop, VerifyGcm, VerifyCmac, Inventory, Compose, ReadNumber, Status}
-use Rattle.ep_codec.specs.Check.{Check, first_fault}
+use Rattle.sdls_base.specs.FirstFailing.{Check, first_failing}
 use Rattle.ep_codec.specs.Command.{message, sealed_data}
 use Rattle.ep_codec.specs.ReplyPdu.{row_octets, reply_octets, IsInBounds, HasTypes, IsReplyPdu}
 use Rattle.ep_codec.specs.ReplyReading.{reply_at, reply_procedure}
@@ -24,7 +24,7 @@ use Rattle.ep_codec.specs.Procedure.{tag_of, has_reply_length}
 use Rattle.ep_codec.proofs.FieldFacts.{low_bound, high_bound, in_bounds, keeps}
 use Rattle.ep_codec.proofs.HeaderFacts.{Passes, header_again}
 use Rattle.ep_codec.proofs.CommandFacts.{direction_again, suite_again, direction_in, suite_in}
-use Rattle.ep_codec.proofs.CommandAgain.{range_at, sealed_again, spi_again, key_passes, spi_small, key_small, window_small}
+use Rattle.ep_codec.proofs.CommandAgain.{range_at, sealed_again, spi_again, key_passes, spi_small, key_small, window_small, window_passes}
 use Rattle.ep_codec.proofs.Lengths.{rows_length}
 use Rattle.ep_codec.proofs.ListFacts.{rows_read_again, rows_pass}
 use Rattle.ep_codec.proofs.ReplyFacts.{optional_some}
@@ -55,7 +55,7 @@ optional_again (Some (suc n)) is = optional_some n
 -- the octets have no fault, and this value at their places
 pub record ReadAgain (p : Procedure) (reply : ReplyPdu) (octets : List ℕ) : Type 0 where
   pub header : Passes types.Reply p octets
-  pub fields : first_fault (reply_checks p octets) ≡ None
+  pub fields : first_failing (reply_checks p octets) ≡ None
   pub value : reply_at p octets ≡ reply
 
 nothing_header : (p : Procedure) → has_reply_length p 0 ≡ true → Passes types.Reply p (message (128 + tag_of p) [])
@@ -80,7 +80,7 @@ gcm_again key vector sealed tag is bounds =
     and_from (is_key (word_at 3 octets)) (seals (class_of (word_at 3 octets))) (ap is_key e ∙ is.0) (ap (λ (k : ℕ). seals (class_of k)) e ∙ bounds) in
     record {
       header = header_again types.Reply procedures.Verify body (or_left (length body == 46) (length body == 22) (eq-eqb (length body) 46 n)) (omega arith);
-      fields = ap (λ (c : Check). first_fault (c ∷ [])) (cond-true (length octets == 49) (sealing_key_check 3 octets) (mac_key_check 3 octets) whole)
+      fields = ap (λ (c : Check ℕ). first_failing (c ∷ [])) (cond-true (length octets == 49) (sealing_key_check 3 octets) (mac_key_check 3 octets) whole)
           ∙ keeps (is_key (word_at 3 octets) && seals (class_of (word_at 3 octets))) 3 [] kind refl;
       value = cond-true (length octets == 49) (VerifyGcm (word_at 3 octets) (slice_range octets 5 17) (slice_range octets 17 33) (slice_range octets 33 49))
           (VerifyCmac (word_at 3 octets) (double_word_at 5 octets) (slice_range octets 9 25)) whole ∙ value;
@@ -102,7 +102,7 @@ cmac_again key number mac is bounds =
     and_from (is_key (word_at 3 octets)) (not (seals (class_of (word_at 3 octets)))) (ap is_key e ∙ is.0) (ap (λ (k : ℕ). not (seals (class_of k))) e ∙ bounds) in
     record {
       header = header_again types.Reply procedures.Verify body (or_right (length body == 46) (length body == 22) (eq-eqb (length body) 22 n)) (omega arith);
-      fields = ap (λ (c : Check). first_fault (c ∷ [])) (cond-false (length octets == 49) (sealing_key_check 3 octets) (mac_key_check 3 octets) other)
+      fields = ap (λ (c : Check ℕ). first_failing (c ∷ [])) (cond-false (length octets == 49) (sealing_key_check 3 octets) (mac_key_check 3 octets) other)
           ∙ keeps (is_key (word_at 3 octets) && not (seals (class_of (word_at 3 octets)))) 3 [] kind refl;
       value = cond-false (length octets == 49) (VerifyGcm (word_at 3 octets) (slice_range octets 5 17) (slice_range octets 17 33) (slice_range octets 33 49))
           (VerifyCmac (word_at 3 octets) (double_word_at 5 octets) (slice_range octets 9 25)) other ∙ value;
@@ -193,7 +193,7 @@ again (Status spi state direction suite key window) is bounds =
           (keeps (is_in_range 1 3 (sa_state_code state)) 5 c2 (sa_state_in state)
           (keeps (is_in_range 1 2 (direction_code direction)) 6 c3 (direction_in direction)
           (keeps (is_in_range 1 2 (suite_code suite)) 7 c4 (suite_in suite)
-          (keeps (is_window (number_at 10 octets)) 10 [] (ap is_window f ∙ bounds) refl))));
+          (keeps (is_window (number_at 10 octets)) 10 [] (ap is_window f ∙ window_passes window bounds) refl))));
       value = λ i. Status (e i) (a i) (d i) (s i) (h i) (f i);
     }
 

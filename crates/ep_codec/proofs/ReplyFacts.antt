@@ -9,7 +9,7 @@ use Rattle.ep_codec.specs.declared.procedure.PduType.TheVariants as types
 use Rattle.ep_codec.specs.declared.procedure.Procedure.{Procedure}
 use Rattle.ep_codec.specs.declared.procedure.Procedure.TheVariants as procedures
 use Rattle.ep_codec.specs.declared.reply_pdu.ReplyPdu.TheVariants.{VerifyGcm, VerifyCmac}
-use Rattle.ep_codec.specs.Check.{first_fault}
+use Rattle.sdls_base.specs.FirstFailing.{first_failing}
 use Rattle.ep_codec.specs.Command.{message}
 use Rattle.ep_codec.specs.ReplyPdu.{reply_octets, IsInBounds, HasTypes, IsReplyPdu}
 use Rattle.ep_codec.specs.ReplyReading.{reply_at}
@@ -17,7 +17,7 @@ use Rattle.ep_codec.specs.Field.{octet_at, word_at, double_word_at, number_at, i
 use Rattle.ep_codec.specs.MessageFault.{procedure_in, header_checks, reply_checks}
 use Rattle.ep_codec.specs.Procedure.{tag_of}
 use Rattle.ep_codec.proofs.Faults.{others_passed}
-use Rattle.ep_codec.proofs.FieldFacts.{AreOctets, low_bound, high_bound, in_bounds, kept, octet_field, word_field, double_word_field, range_field, range_length, number_end, range_end, word_small, double_word_small, number_small, octets_drop}
+use Rattle.ep_codec.proofs.FieldFacts.{AreOctets, width_found, low_bound, high_bound, in_bounds, kept, octet_field, word_field, double_word_field, range_field, range_length, number_end, range_end, word_small, double_word_small, number_small, octets_drop}
 use Rattle.ep_codec.proofs.HeaderFacts.{Framed, header_passed}
 use Rattle.ep_codec.proofs.CommandFacts.{whole_length, spi_found, key_found, spi_number_spelled, sealed_spelled, tag_length, sealed_length, direction_spelled, suite_spelled}
 use Rattle.ep_codec.proofs.ListFacts.{rows_spelled, rows_count, rows_are}
@@ -52,7 +52,7 @@ nothing_spelled octets p framed fits =
 
 -- a Verify reply, by its length
 gcm_found : (octets : List ℕ) → AreOctets octets → Framed types.Reply procedures.Verify octets → length octets ≡ 49
-    → first_fault (sealing_key_check 3 octets ∷ []) ≡ None
+    → first_failing (sealing_key_check 3 octets ∷ []) ≡ None
     → IsReplyPdu (VerifyGcm (word_at 3 octets) (slice_range octets 5 17) (slice_range octets 17 33) (slice_range octets 33 49)) octets
 unfolding reply_octets HasTypes IsInBounds
 gcm_found octets are framed n none =
@@ -67,7 +67,7 @@ gcm_found octets are framed n none =
     }
 
 cmac_found : (octets : List ℕ) → AreOctets octets → Framed types.Reply procedures.Verify octets → length octets ≡ 25
-    → first_fault (mac_key_check 3 octets ∷ []) ≡ None
+    → first_failing (mac_key_check 3 octets ∷ []) ≡ None
     → IsReplyPdu (VerifyCmac (word_at 3 octets) (double_word_at 5 octets) (slice_range octets 9 25)) octets
 unfolding reply_octets HasTypes IsInBounds
 cmac_found octets are framed n none =
@@ -81,13 +81,13 @@ cmac_found octets are framed n none =
     }
 
 verify_found : (octets : List ℕ) → AreOctets octets → Framed types.Reply procedures.Verify octets
-    → first_fault (reply_checks procedures.Verify octets) ≡ None → IsReplyPdu (reply_at procedures.Verify octets) octets
+    → first_failing (reply_checks procedures.Verify octets) ≡ None → IsReplyPdu (reply_at procedures.Verify octets) octets
 unfolding reply_checks reply_at
 verify_found octets are framed none =
     let n = length octets in
     let gcm = VerifyGcm (word_at 3 octets) (slice_range octets 5 17) (slice_range octets 17 33) (slice_range octets 33 49) in
     let cmac = VerifyCmac (word_at 3 octets) (double_word_at 5 octets) (slice_range octets 9 25) in
-    elim (n == 49) as (λ b. (n == 49) ≡ b → first_fault (cond b (sealing_key_check 3 octets) (mac_key_check 3 octets) ∷ []) ≡ None → IsReplyPdu (cond b gcm cmac) octets) [
+    elim (n == 49) as (λ b. (n == 49) ≡ b → first_failing (cond b (sealing_key_check 3 octets) (mac_key_check 3 octets) ∷ []) ≡ None → IsReplyPdu (cond b gcm cmac) octets) [
       | true ↦ λ e f. gcm_found octets are framed (eqb-true n 49 e) f
       | false ↦ λ e f. (let size : n ≡ 25 = elim (or_cases (n - 3 == 46) (n - 3 == 22) framed.fits) [
         | inl h ↦ absurd (eqb-false n 49 e (omega (arith, whole_length n 46 framed.room h)))
@@ -96,7 +96,7 @@ verify_found octets are framed none =
     ] refl none
 
 inventory_found : (octets : List ℕ) → AreOctets octets → Framed types.Reply procedures.Inventory octets
-    → first_fault (reply_checks procedures.Inventory octets) ≡ None → IsReplyPdu (reply_at procedures.Inventory octets) octets
+    → first_failing (reply_checks procedures.Inventory octets) ≡ None → IsReplyPdu (reply_at procedures.Inventory octets) octets
 unfolding reply_checks reply_at reply_octets HasTypes IsInBounds
 inventory_found octets are framed none =
     let both = and_parts (is_in_range 2 770 (length octets - 3)) ((length octets - 3) % 3 == 2) framed.fits in
@@ -115,7 +115,7 @@ inventory_found octets are framed none =
     }
 
 compose_found : (octets : List ℕ) → AreOctets octets → Framed types.Reply procedures.Compose octets
-    → first_fault (reply_checks procedures.Compose octets) ≡ None → IsReplyPdu (reply_at procedures.Compose octets) octets
+    → first_failing (reply_checks procedures.Compose octets) ≡ None → IsReplyPdu (reply_at procedures.Compose octets) octets
 unfolding reply_checks reply_at reply_octets HasTypes IsInBounds
 compose_found octets are framed none =
     let low = low_bound 52 313 (length octets - 3) framed.fits in
@@ -138,7 +138,7 @@ compose_found octets are framed none =
     }
 
 status_found : (octets : List ℕ) → AreOctets octets → Framed types.Reply procedures.Status octets
-    → first_fault (reply_checks procedures.Status octets) ≡ None → IsReplyPdu (reply_at procedures.Status octets) octets
+    → first_failing (reply_checks procedures.Status octets) ≡ None → IsReplyPdu (reply_at procedures.Status octets) octets
 unfolding reply_checks reply_at reply_octets HasTypes IsInBounds
 status_found octets are framed none =
     let n = whole_length (length octets) 15 framed.room framed.fits in
@@ -167,12 +167,12 @@ status_found octets are framed none =
     λ i. to_be_bytes w16 (word_at 3 octets) ++ sym a i ∷ sym d i ∷ sym s i ∷ (to_be_bytes w16 (sym k i) ++ to_be_bytes w64 (number_at 10 octets)) in
     record {
       types = (spi_found octets c1 none, optional_found (word_at 8 octets) (word_small 8 octets are));
-      bounds = kept (is_window (number_at 10 octets)) 10 [] n4;
+      bounds = width_found (number_at 10 octets) (kept (is_window (number_at 10 octets)) 10 [] n4);
       spelled = spelled_by octets procedures.Status _ framed (body ∙ named);
     }
 
 fields_found : (octets : List ℕ) (p : Procedure) → AreOctets octets → Framed types.Reply p octets
-    → first_fault (reply_checks p octets) ≡ None → IsReplyPdu (reply_at p octets) octets
+    → first_failing (reply_checks p octets) ≡ None → IsReplyPdu (reply_at p octets) octets
 unfolding reply_checks reply_at reply_octets HasTypes IsInBounds
 fields_found octets procedures.Rekeying are framed none = record { types = tt; bounds = tt; spelled = nothing_spelled octets procedures.Rekeying framed framed.fits }
 fields_found octets procedures.Activate are framed none = record { types = tt; bounds = tt; spelled = nothing_spelled octets procedures.Activate framed framed.fits }
@@ -194,6 +194,6 @@ fields_found octets procedures.Start are framed none = record { types = tt; boun
 fields_found octets procedures.Stop are framed none = record { types = tt; bounds = tt; spelled = nothing_spelled octets procedures.Stop framed framed.fits }
 fields_found octets procedures.Status are framed none = status_found octets are framed none
 
-pub reply_found : (octets : List ℕ) (p : Procedure) → AreOctets octets → first_fault (header_checks types.Reply octets) ≡ None
-    → procedure_in types.Reply octets ≡ Some p → first_fault (reply_checks p octets) ≡ None → IsReplyPdu (reply_at p octets) octets
+pub reply_found : (octets : List ℕ) (p : Procedure) → AreOctets octets → first_failing (header_checks types.Reply octets) ≡ None
+    → procedure_in types.Reply octets ≡ Some p → first_failing (reply_checks p octets) ≡ None → IsReplyPdu (reply_at p octets) octets
 reply_found octets p are header found none = fields_found octets p are (header_passed types.Reply octets p are header found) none

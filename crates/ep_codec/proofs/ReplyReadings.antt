@@ -6,7 +6,8 @@ use Rattle.ep_codec.specs.declared.pdu_error.PduError.{PduError}
 use Rattle.ep_codec.specs.declared.pdu_error.PduError.TheVariants.{Fault, NoMemory}
 use Rattle.ep_codec.specs.declared.procedure.PduType.TheVariants as types
 use Rattle.ep_codec.specs.declared.procedure.Procedure.{Procedure}
-use Rattle.ep_codec.specs.Check.{first_fault, IsFirst, Judges, IsReadUnlessNoMemory, Carries, HasFault}
+use Rattle.sdls_base.specs.FirstFailing.{first_failing}
+use Rattle.ep_codec.specs.Check.{IsFirst, Judges, IsReadUnlessNoMemory, Carries, HasFault}
 use Rattle.ep_codec.specs.ReplyPdu.{IsReplyPdu}
 use Rattle.ep_codec.specs.ReplyReading.{reply_at, reply_procedure}
 use Rattle.ep_codec.specs.MessageFault.{procedure_in, header_checks, reply_checks, field_checks, message_fault, reply_fault, can_have, end_in}
@@ -35,7 +36,7 @@ header_fault octets NoMemory first = tt
 abbrev pub JudgesReply : Result ReplyPdu PduError → Procedure → List ℕ → Type 0
 JudgesReply r p octets = Judges r (reply_checks p octets) (λ reply. reply ≡ reply_at p octets)
 
-pub fields_found : (octets : List ℕ) (p : Procedure) (r : Result ReplyPdu PduError) → AreOctets octets → first_fault (header_checks types.Reply octets) ≡ None
+pub fields_found : (octets : List ℕ) (p : Procedure) (r : Result ReplyPdu PduError) → AreOctets octets → first_failing (header_checks types.Reply octets) ≡ None
     → procedure_in types.Reply octets ≡ Some p → JudgesReply r p octets → IfOk r (λ reply. IsReplyPdu reply octets)
 fields_found octets p (Ok reply) are header found judged = rw judged.1 (reply_found octets p are header found judged.0)
 fields_found octets p (Err e) are header found judged = tt
@@ -51,19 +52,19 @@ pub fields_only : (octets : List ℕ) (p : Procedure) (r : Result ReplyPdu PduEr
 fields_only octets p (Ok read) found judged reply is =
     judged.1 ∙ ap (λ (q : Procedure). reply_at q octets) (sym (same_procedure octets p reply found is)) ∙ (reply_again reply octets is).value
 fields_only octets p (Err (Fault offset)) found judged reply is =
-    let none : first_fault (reply_checks p octets) ≡ None =
-    subst (λ (q : Procedure). first_fault (reply_checks q octets) ≡ None) (same_procedure octets p reply found is) (reply_again reply octets is).fields in
+    let none : first_failing (reply_checks p octets) ≡ None =
+    subst (λ (q : Procedure). first_failing (reply_checks q octets) ≡ None) (same_procedure octets p reply found is) (reply_again reply octets is).fields in
     absurd cc
 fields_only octets p (Err NoMemory) found judged reply is = refl
 
-all_faults : (octets : List ℕ) (p : Procedure) → first_fault (header_checks types.Reply octets) ≡ None → procedure_in types.Reply octets ≡ Some p
-    → reply_fault octets ≡ first_fault (reply_checks p octets)
+all_faults : (octets : List ℕ) (p : Procedure) → first_failing (header_checks types.Reply octets) ≡ None → procedure_in types.Reply octets ≡ Some p
+    → reply_fault octets ≡ first_failing (reply_checks p octets)
 unfolding reply_fault message_fault
 all_faults octets p header found =
     passed_append (header_checks types.Reply octets) (field_checks types.Reply (procedure_in types.Reply octets) octets) header
-    ∙ ap (λ (o : Option Procedure). first_fault (field_checks types.Reply o octets)) found
+    ∙ ap (λ (o : Option Procedure). first_failing (field_checks types.Reply o octets)) found
 
-pub fields_fault : (octets : List ℕ) (p : Procedure) (r : Result ReplyPdu PduError) → first_fault (header_checks types.Reply octets) ≡ None
+pub fields_fault : (octets : List ℕ) (p : Procedure) (r : Result ReplyPdu PduError) → first_failing (header_checks types.Reply octets) ≡ None
     → procedure_in types.Reply octets ≡ Some p → JudgesReply r p octets → HasFault r (reply_fault octets)
 fields_fault octets p (Ok reply) header found judged = all_faults octets p header found ∙ judged.0
 fields_fault octets p (Err (Fault offset)) header found judged = all_faults octets p header found ∙ judged
@@ -85,7 +86,7 @@ one_value a b octets p q =
     sym first.value ∙ ap (λ (r : Procedure). reply_at r octets) same ∙ second.value
 
 -- octets without fault have a procedure
-has_procedure : (octets : List ℕ) → first_fault (header_checks types.Reply octets) ≡ None
+has_procedure : (octets : List ℕ) → first_failing (header_checks types.Reply octets) ≡ None
     → (p : Procedure) × (procedure_in types.Reply octets ≡ Some p)
 unfolding header_checks
 has_procedure octets none =

@@ -1,25 +1,17 @@
--- The tests of a procedure message, in an order (profile).
-use Rattle.std.specs.Prelude.{◌≡◌, ⊤, ℕ, Bool, if◌then◌else◌, List, [], ◌∷◌, Option, Some, None, Result, Ok, Err}
+-- The tests of a procedure message, in an order (profile): each tells the offset of its fault.
+use Rattle.std.specs.Prelude.{◌≡◌, ⊤, ℕ, List, Option, Some, None, Result, Ok, Err}
+use Rattle.sdls_base.specs.FirstFailing.{Check, first_failing}
 use Rattle.ep_codec.specs.declared.pdu_error.PduError.{PduError}
 use Rattle.ep_codec.specs.declared.pdu_error.PduError.TheVariants.{Fault, NoMemory}
 
--- a test: whether it finds a fault, and the offset of that fault in the message
-abbrev pub Check : Type 0
-Check = Bool × ℕ
-
--- the offset of the first fault
-abbrev pub first_fault : List Check → Option ℕ
-first_fault [] = None
-first_fault (check ∷ checks) = if check.0 then Some check.1 else first_fault checks
-
 -- the error is the first fault; want of memory needs no cause
-abbrev pub IsFirst : PduError → List Check → Type 0
-IsFirst (Fault offset) checks = first_fault checks ≡ Some offset
+abbrev pub IsFirst : PduError → List (Check ℕ) → Type 0
+IsFirst (Fault offset) checks = first_failing checks ≡ Some offset
 IsFirst NoMemory checks = ⊤
 
 -- What a reader answers: where no test finds a fault, a value that is as P says, and else the first fault.
-abbrev pub Judges : {X : Type 0} → Result X PduError → List Check → (X → Type 0) → Type 0
-Judges (Ok x) checks P = (first_fault checks ≡ None) × P x
+abbrev pub Judges : {X : Type 0} → Result X PduError → List (Check ℕ) → (X → Type 0) → Type 0
+Judges (Ok x) checks P = (first_failing checks ≡ None) × P x
 Judges (Err e) checks P = IsFirst e checks
 
 -- The value is read, unless memory ran out.

@@ -1,12 +1,12 @@
 -- The commands of the procedures, as messages (the procedures are those of CCSDS 355.1-B; tags and layouts are profile).
 use Rattle.std.specs.Prelude.{◌≡◌, ⊤, ℕ, ◌*◌, ◌^◌, ◌<◌, ◌≤◌, IsTrue, List, ◌∷◌, ◌++◌, length}
 use Rattle.std.specs.List.{flat_map, AllByRecursion}
-use Rattle.std.specs.List.Sorted.{IsStrictlyIncreasing}
 use Rattle.std.specs.Int.{w16, w64, to_be_bytes, is_in_range}
+use Rattle.sdls_base.specs.Bounds.{AreChannels, IsWidth}
 use Rattle.sdls_base.specs.declared.change.NewSa.{NewSa}
 use Rattle.ep_codec.specs.declared.command.Command.{Command}
 use Rattle.ep_codec.specs.declared.command.Command.TheVariants.{Rekeying, Activate, Deactivate, Verify, Destroy, Inventory, Compose, ReadNumber, Create, Delete, SetWindow, Rekey, Expire, SetNumber, Start, Stop, Status}
-use Rattle.ep_codec.specs.Field.{is_key, is_spi, is_window, direction_code, suite_code}
+use Rattle.ep_codec.specs.Field.{is_key, is_spi, direction_code, suite_code}
 
 -- a message: its tag, the length of its data in bits, and its data
 abbrev pub message : ℕ → List ℕ → List ℕ
@@ -53,12 +53,6 @@ IsKeyCount keys = IsTrue (is_in_range 1 8 (length keys))
 abbrev pub IsSealedLength : List ℕ → Type 0
 IsSealedLength sealed = IsTrue (is_in_range 19 280 (length sealed))
 
--- 1 to 8 channels, strictly ascending
-pub record AreChannels (channels : List ℕ) : Type 0 where
-  pub count : IsTrue (is_in_range 1 8 (length channels))
-  pub ascending : IsStrictlyIncreasing channels
-  pub each : AllByRecursion (λ channel. channel ≤ 63) channels
-
 -- the values lie in the bounds of their fields, where their types leave that open
 unfoldable pub IsInBounds : Command → Type 0
 IsInBounds (Rekeying master vector sealed tag) = IsSealedLength sealed
@@ -69,9 +63,9 @@ IsInBounds (Destroy keys) = IsKeyCount keys
 IsInBounds (Inventory first last) = first ≤ last
 IsInBounds (Compose master keys) = IsKeyCount keys
 IsInBounds (ReadNumber spi) = ⊤
-IsInBounds (Create sa) = IsTrue (is_window sa.window) × AreChannels sa.channels
+IsInBounds (Create sa) = IsWidth sa.window × AreChannels sa.channels × AllByRecursion (λ channel. channel ≤ 63) sa.channels
 IsInBounds (Delete spi) = ⊤
-IsInBounds (SetWindow spi window) = IsTrue (is_window window)
+IsInBounds (SetWindow spi window) = IsWidth window
 IsInBounds (Rekey spi key number) = ⊤
 IsInBounds (Expire spi) = ⊤
 IsInBounds (SetNumber spi number) = ⊤
@@ -79,15 +73,19 @@ IsInBounds (Start spi) = ⊤
 IsInBounds (Stop spi) = ⊤
 IsInBounds (Status spi) = ⊤
 
+-- each is a key's identifier
+abbrev pub AreKeys : List ℕ → Type 0
+AreKeys keys = AllByRecursion (λ key. IsTrue (is_key key)) keys
+
 -- the values are values of their types: keys are not 0, indexes not reserved, numbers and arrays of their widths
 unfoldable pub HasTypes : Command → Type 0
 HasTypes (Rekeying master vector sealed tag) = IsTrue (is_key master) × (length vector ≡ 12) × (length tag ≡ 16)
-HasTypes (Activate keys) = AllByRecursion (λ key. IsTrue (is_key key)) keys
-HasTypes (Deactivate keys) = AllByRecursion (λ key. IsTrue (is_key key)) keys
+HasTypes (Activate keys) = AreKeys keys
+HasTypes (Deactivate keys) = AreKeys keys
 HasTypes (Verify key challenge) = IsTrue (is_key key) × (length challenge ≡ 16)
-HasTypes (Destroy keys) = AllByRecursion (λ key. IsTrue (is_key key)) keys
+HasTypes (Destroy keys) = AreKeys keys
 HasTypes (Inventory first last) = (first < 2 ^ 16) × (last < 2 ^ 16)
-HasTypes (Compose master keys) = IsTrue (is_key master) × AllByRecursion (λ key. IsTrue (is_key key)) keys
+HasTypes (Compose master keys) = IsTrue (is_key master) × AreKeys keys
 HasTypes (ReadNumber spi) = IsTrue (is_spi spi)
 HasTypes (Create sa) = IsTrue (is_spi sa.spi)
 HasTypes (Delete spi) = IsTrue (is_spi spi)

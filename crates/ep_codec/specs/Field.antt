@@ -1,6 +1,7 @@
 -- The fields of a procedure message: numbers in whole octets, the most significant first, and their bounds (profile).
-use Rattle.std.specs.Prelude.{ℕ, ◌+◌, ◌*◌, ◌-◌, ◌^◌, ◌==◌, ◌&&◌, not, Bool, true, false, if◌then◌else◌, List, [], ◌∷◌, length, slice_index, Option, Some, None}
+use Rattle.std.specs.Prelude.{ℕ, ◌+◌, ◌*◌, ◌-◌, ◌==◌, ◌&&◌, not, Bool, true, false, if◌then◌else◌, List, [], ◌∷◌, length, slice_index, Option, Some, None}
 use Rattle.std.specs.Int.{w16, w32, w64, from_be_bytes, is_in_range}
+use Rattle.sdls_base.specs.declared.TheConstants.{MOST_WINDOW}
 use Rattle.sdls_base.specs.declared.key_id.KeyClass.{KeyClass}
 use Rattle.sdls_base.specs.declared.key_id.KeyClass.TheVariants as classes
 use Rattle.sdls_base.specs.declared.states.Direction.{Direction}
@@ -12,7 +13,7 @@ use Rattle.sdls_base.specs.declared.states.KeyState.TheVariants as key_states
 use Rattle.sdls_base.specs.declared.states.SaState.{SaState}
 use Rattle.sdls_base.specs.declared.states.SaState.TheVariants.{Unkeyed, Keyed, Operational}
 use Rattle.sdls_base.specs.KeyId.{class_of}
-use Rattle.ep_codec.specs.Check.{Check}
+use Rattle.sdls_base.specs.FirstFailing.{Check}
 
 -- ---- bounds
 
@@ -26,7 +27,7 @@ is_spi n = is_in_range 1 65534 n
 
 -- the width of an anti-replay window
 abbrev pub is_window : ℕ → Bool
-is_window n = is_in_range 1 (2 ^ 32) n
+is_window n = is_in_range 1 MOST_WINDOW n
 
 -- whether a key of the class seals, under GCM, or makes MACs
 abbrev pub seals : KeyClass → Bool
@@ -92,39 +93,39 @@ number_at at octets = from_be_bytes w64
 
 -- ---- the tests of the field at a place: a value outside of its bounds is a fault there
 
-abbrev pub key_check : ℕ → List ℕ → Check
+abbrev pub key_check : ℕ → List ℕ → Check ℕ
 key_check at octets = (not (is_key (word_at at octets)), at)
 
-abbrev pub spi_check : ℕ → List ℕ → Check
+abbrev pub spi_check : ℕ → List ℕ → Check ℕ
 spi_check at octets = (not (is_spi (word_at at octets)), at)
 
-abbrev pub window_check : ℕ → List ℕ → Check
+abbrev pub window_check : ℕ → List ℕ → Check ℕ
 window_check at octets = (not (is_window (number_at at octets)), at)
 
 -- the number of a state, a direction or a suite is from 1 to the most there is
-abbrev pub code_check : ℕ → ℕ → List ℕ → Check
+abbrev pub code_check : ℕ → ℕ → List ℕ → Check ℕ
 code_check most at octets = (not (is_in_range 1 most (octet_at at octets)), at)
 
 -- a key whose class seals
-abbrev pub sealing_key_check : ℕ → List ℕ → Check
+abbrev pub sealing_key_check : ℕ → List ℕ → Check ℕ
 sealing_key_check at octets = (not (is_key (word_at at octets) && seals (class_of (word_at at octets))), at)
 
 -- a key whose class makes MACs
-abbrev pub mac_key_check : ℕ → List ℕ → Check
+abbrev pub mac_key_check : ℕ → List ℕ → Check ℕ
 mac_key_check at octets = (not (is_key (word_at at octets) && not (seals (class_of (word_at at octets)))), at)
 
 -- `last` is not below `first`, which stands before it
-abbrev pub last_check : ℕ → List ℕ → Check
+abbrev pub last_check : ℕ → List ℕ → Check ℕ
 last_check at octets = (not (is_in_range (word_at (at - 2) octets) 65535 (word_at at octets)), at)
 
 -- the count of the octets behind it, to the end
-abbrev pub count_check : ℕ → List ℕ → Check
+abbrev pub count_check : ℕ → List ℕ → Check ℕ
 count_check at octets = (not (octet_at at octets == length octets - (at + 1)), at)
 
 -- the tag of a Rekeying command
-abbrev pub inner_tag_check : ℕ → List ℕ → Check
+abbrev pub inner_tag_check : ℕ → List ℕ → Check ℕ
 inner_tag_check at octets = (not (octet_at at octets == 1), at)
 
 -- the length in bits of what stands behind it, to the end
-abbrev pub inner_length_check : ℕ → List ℕ → Check
+abbrev pub inner_length_check : ℕ → List ℕ → Check ℕ
 inner_length_check at octets = (not (word_at at octets == 8 * (length octets - (at + 2))), at)

@@ -5,7 +5,7 @@ use Rattle.ep_codec.specs.declared.procedure.PduType.{PduType}
 use Rattle.ep_codec.specs.declared.procedure.PduType.TheVariants.{Command, Reply}
 use Rattle.ep_codec.specs.declared.procedure.Procedure.{Procedure}
 use Rattle.ep_codec.specs.declared.procedure.Procedure.TheVariants.{Rekeying, Activate, Deactivate, Verify, Destroy, Inventory, Compose, ReadNumber, Create, Delete, SetWindow, Rekey, Expire, SetNumber, Start, Stop, Status}
-use Rattle.ep_codec.specs.Check.{Check, first_fault}
+use Rattle.sdls_base.specs.FirstFailing.{Check, first_failing}
 use Rattle.ep_codec.specs.Field.{word_at, key_check, spi_check, window_check, code_check, sealing_key_check, mac_key_check, last_check, count_check, inner_tag_check, inner_length_check}
 use Rattle.ep_codec.specs.FieldList.{key_checks, row_checks, channel_checks}
 use Rattle.ep_codec.specs.Procedure.{procedure_tagged, has_length}
@@ -24,7 +24,7 @@ abbrev pub end_in : List ℕ → ℕ
 end_in octets = 3 + word_at 1 octets / 8
 
 -- the tests before the fields
-unfoldable pub header_checks : PduType → List ℕ → List Check
+unfoldable pub header_checks : PduType → List ℕ → List (Check ℕ)
 header_checks pdu_type octets =
     (nat_lt (length octets) 3, length octets)
     ∷ (is_none (procedure_in pdu_type octets), 0)
@@ -33,7 +33,7 @@ header_checks pdu_type octets =
     ∷ (nat_lt (end_in octets) (length octets), end_in octets) ∷ []
 
 -- the tests of a command's fields
-unfoldable pub command_checks : Procedure → List ℕ → List Check
+unfoldable pub command_checks : Procedure → List ℕ → List (Check ℕ)
 command_checks Rekeying octets = key_check 3 octets ∷ []
 command_checks Activate octets = key_checks 3 (drop 3 octets)
 command_checks Deactivate octets = key_checks 3 (drop 3 octets)
@@ -55,7 +55,7 @@ command_checks Stop octets = spi_check 3 octets ∷ []
 command_checks Status octets = spi_check 3 octets ∷ []
 
 -- the tests of a reply's fields
-unfoldable pub reply_checks : Procedure → List ℕ → List Check
+unfoldable pub reply_checks : Procedure → List ℕ → List (Check ℕ)
 reply_checks Rekeying octets = []
 reply_checks Activate octets = []
 reply_checks Deactivate octets = []
@@ -76,7 +76,7 @@ reply_checks Status octets =
     spi_check 3 octets ∷ code_check 3 5 octets ∷ code_check 2 6 octets ∷ code_check 2 7 octets ∷ window_check 10 octets ∷ []
 
 -- the tests of the fields, by the type of the message
-abbrev pub field_checks : PduType → Option Procedure → List ℕ → List Check
+abbrev pub field_checks : PduType → Option Procedure → List ℕ → List (Check ℕ)
 field_checks pdu_type None octets = []
 field_checks Command (Some procedure) octets = command_checks procedure octets
 field_checks Reply (Some procedure) octets = reply_checks procedure octets
@@ -84,7 +84,7 @@ field_checks Reply (Some procedure) octets = reply_checks procedure octets
 -- the offset of the first fault of the octets as a message of this type; there is none where they are one
 unfoldable pub message_fault : PduType → List ℕ → Option ℕ
 message_fault pdu_type octets =
-    first_fault (header_checks pdu_type octets ++ field_checks pdu_type (procedure_in pdu_type octets) octets)
+    first_failing (header_checks pdu_type octets ++ field_checks pdu_type (procedure_in pdu_type octets) octets)
 
 unfoldable pub command_fault : List ℕ → Option ℕ
 command_fault octets = message_fault Command octets

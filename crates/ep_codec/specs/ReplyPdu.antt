@@ -3,10 +3,11 @@ use Rattle.std.specs.Prelude.{◌≡◌, ⊤, ℕ, ◌^◌, ◌<◌, ◌≤◌, 
 use Rattle.std.specs.List.{flat_map, AllByRecursion}
 use Rattle.std.specs.Int.{w16, w32, w64, to_be_bytes}
 use Rattle.sdls_base.specs.declared.states.KeyState.{KeyState}
+use Rattle.sdls_base.specs.Bounds.{IsWidth}
 use Rattle.sdls_base.specs.KeyId.{class_of}
 use Rattle.ep_codec.specs.declared.reply_pdu.ReplyPdu.{ReplyPdu}
 use Rattle.ep_codec.specs.declared.reply_pdu.ReplyPdu.TheVariants.{Rekeying, Activate, Deactivate, Destroy, Create, Delete, SetWindow, Rekey, Expire, SetNumber, Start, Stop, VerifyGcm, VerifyCmac, Inventory, Compose, ReadNumber, Status}
-use Rattle.ep_codec.specs.Field.{is_key, is_spi, is_window, seals, key_state_code, sa_state_code, direction_code, suite_code}
+use Rattle.ep_codec.specs.Field.{is_key, is_spi, seals, key_state_code, sa_state_code, direction_code, suite_code}
 use Rattle.ep_codec.specs.Command.{message, sealed_data, IsSealedLength}
 
 -- a key with its state
@@ -55,7 +56,11 @@ IsInBounds Expire = ⊤
 IsInBounds SetNumber = ⊤
 IsInBounds Start = ⊤
 IsInBounds Stop = ⊤
-IsInBounds (Status spi state direction suite key window) = IsTrue (is_window window)
+IsInBounds (Status spi state direction suite key window) = IsWidth window
+
+-- each row has a key's identifier
+abbrev pub AreKeyRows : List (ℕ × KeyState) → Type 0
+AreKeyRows rows = AllByRecursion (λ row. IsTrue (is_key row.0)) rows
 
 -- the values are values of their types: keys are not 0, indexes not reserved, numbers and arrays of their widths
 unfoldable pub HasTypes : ReplyPdu → Type 0
@@ -66,7 +71,7 @@ HasTypes (VerifyGcm key vector sealed tag) =
     IsTrue (is_key key) × (length vector ≡ 12) × (length sealed ≡ 16) × (length tag ≡ 16)
 HasTypes (VerifyCmac key number mac) = IsTrue (is_key key) × (number < 2 ^ 32) × (length mac ≡ 16)
 HasTypes Destroy = ⊤
-HasTypes (Inventory total rows) = (total < 2 ^ 16) × AllByRecursion (λ row. IsTrue (is_key row.0)) rows
+HasTypes (Inventory total rows) = (total < 2 ^ 16) × AreKeyRows rows
 HasTypes (Compose master vector sealed tag) = IsTrue (is_key master) × (length vector ≡ 12) × (length tag ≡ 16)
 HasTypes (ReadNumber spi number) = IsTrue (is_spi spi) × (number < 2 ^ 64)
 HasTypes Create = ⊤

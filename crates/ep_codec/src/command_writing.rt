@@ -1,16 +1,19 @@
 //! Commands as octets.
 ghost use Rattle.std.specs.Prelude.{◌≡◌, ◌*◌, ◌+◌, ◌^◌, ◌<◌, ◌≤◌, IsTrue, [], ◌∷◌, ◌++◌, length, OnOk, IfOk};
 ghost use Rattle.std.specs.Int.{w16, w64, to_be_bytes, is_in_range};
-ghost use Rattle.ep_codec.specs.Command.{message, sealed_data, keys_data, association_data, command_octets, IsInBounds, HasTypes, IsCommandPdu};
+ghost use Rattle.ep_codec.specs.Field.{is_key, is_spi};
+ghost use Rattle.ep_codec.specs.Command.{AreKeys, message, sealed_data, keys_data, association_data, command_octets, IsInBounds, HasTypes, IsCommandPdu};
 
 use crate::command::Command;
+use crate::fields::SEALED_EXTRA;
 use crate::writing::{begin, put_number, put_word};
 use sdls_base::{KeyId, KeyList, NewSa, NoMemory, Octets, Spi};
 use std::alloc::Global;
 
 /// A message of an association's index alone.
 fn spi_message(alloc: Global, kind: u8, spi: Spi) -> Result<Vec<u8>, NoMemory>
-    ensures { IfOk result (λ out. out.items ≡ message kind (to_be_bytes w16 spi)) }
+    ensures octets { IfOk result (λ out. out.items ≡ message kind (to_be_bytes w16 spi)) }
+    ensures types { OnOk result (IsTrue (is_spi spi)) }
 {
     let mut out = begin(alloc, kind, 2)?;
     put_word(&mut out, spi.get())?;
@@ -24,8 +27,9 @@ pub(crate) fn number_message(
     spi: Spi,
     number: u64,
 ) -> Result<Vec<u8>, NoMemory>
-    ensures { IfOk result (λ out. out.items
+    ensures octets { IfOk result (λ out. out.items
         ≡ message kind (to_be_bytes w16 spi ++ to_be_bytes w64 number)) }
+    ensures types { OnOk result (IsTrue (is_spi spi)) }
 {
     let mut out = begin(alloc, kind, 10)?;
     put_word(&mut out, spi.get())?;
@@ -34,7 +38,8 @@ pub(crate) fn number_message(
 }
 
 fn put_keys(out: &mut Vec<u8>, keys: &KeyList) -> Result<(), NoMemory>
-    ensures { OnOk result (out.new.items ≡ out.old.items ++ keys_data keys.now) }
+    ensures octets { OnOk result (out.new.items ≡ out.old.items ++ keys_data keys.now) }
+    ensures types { OnOk result (AreKeys keys.now) }
 {
     for key in keys.as_slice() {
         put_word(out, key.get())?;
@@ -45,7 +50,8 @@ fn put_keys(out: &mut Vec<u8>, keys: &KeyList) -> Result<(), NoMemory>
 #[tactic(auto, using(crate::proofs::Lengths::keys_length))]
 fn keys_message(alloc: Global, kind: u8, keys: &KeyList) -> Result<Vec<u8>, NoMemory>
     requires { IsTrue (is_in_range 1 8 (length keys.now)) }
-    ensures { IfOk result (λ out. out.items ≡ message kind (keys_data keys.now)) }
+    ensures octets { IfOk result (λ out. out.items ≡ message kind (keys_data keys.now)) }
+    ensures types { OnOk result (AreKeys keys.now) }
 {
     let mut out = begin(alloc, kind, 2 * keys.as_slice().len())?;
     put_keys(&mut out, keys)?;
@@ -60,8 +66,9 @@ pub(crate) fn put_sealed(
     sealed: &[u8],
     tag: &[u8; 16],
 ) -> Result<(), NoMemory>
-    ensures { OnOk result (out.new.items
+    ensures octets { OnOk result (out.new.items
         ≡ out.old.items ++ sealed_data key vector.now sealed.now tag.now) }
+    ensures types { OnOk result (IsTrue (is_key key) × (length vector.now ≡ 12) × (length tag.now ≡ 16)) }
 {
     put_word(out, key.get())?;
     out.extend_from_slice(vector)?;
@@ -79,17 +86,19 @@ pub(crate) fn sealed_message(
     tag: &[u8; 16],
 ) -> Result<Vec<u8>, NoMemory>
     requires { length sealed.now ≤ 280 }
-    ensures { IfOk result (λ out. out.items
+    ensures octets { IfOk result (λ out. out.items
         ≡ message kind (sealed_data key vector.now sealed.now tag.now)) }
+    ensures types { OnOk result (IsTrue (is_key key) × (length vector.now ≡ 12) × (length tag.now ≡ 16)) }
 {
-    let mut out = begin(alloc, kind, 30 + sealed.len())?;
+    let mut out = begin(alloc, kind, SEALED_EXTRA + sealed.len())?;
     put_sealed(&mut out, key, vector, sealed, tag)?;
     Ok(out)
 }
 
 fn create_message(alloc: Global, kind: u8, sa: &NewSa) -> Result<Vec<u8>, NoMemory>
     requires { IsTrue (is_in_range 1 8 (length sa.now.channels)) }
-    ensures { IfOk result (λ out. out.items ≡ message kind (association_data sa.now)) }
+    ensures octets { IfOk result (λ out. out.items ≡ message kind (association_data sa.now)) }
+    ensures types { OnOk result (IsTrue (is_spi sa.now.spi)) }
 {
     let channels = sa.channels.as_slice();
     let mut out = begin(alloc, kind, 13 + channels.len())?;
@@ -108,7 +117,8 @@ fn verify_message(
     key: KeyId,
     challenge: &[u8; 16],
 ) -> Result<Vec<u8>, NoMemory>
-    ensures { IfOk result (λ out. out.items ≡ message kind (to_be_bytes w16 key ++ challenge.now)) }
+    ensures octets { IfOk result (λ out. out.items ≡ message kind (to_be_bytes w16 key ++ challenge.now)) }
+    ensures types { OnOk result (IsTrue (is_key key) × (length challenge.now ≡ 16)) }
 {
     let mut out = begin(alloc, kind, 18)?;
     put_word(&mut out, key.get())?;
@@ -134,8 +144,9 @@ fn compose_message(
     keys: &KeyList,
 ) -> Result<Vec<u8>, NoMemory>
     requires { IsTrue (is_in_range 1 8 (length keys.now)) }
-    ensures { IfOk result (λ out. out.items
+    ensures octets { IfOk result (λ out. out.items
         ≡ message kind (to_be_bytes w16 master ++ keys_data keys.now)) }
+    ensures types { OnOk result (IsTrue (is_key master) × AreKeys keys.now) }
 {
     let mut out = begin(alloc, kind, 2 + 2 * keys.as_slice().len())?;
     put_word(&mut out, master.get())?;
@@ -150,8 +161,9 @@ fn rekey_message(
     key: KeyId,
     number: u64,
 ) -> Result<Vec<u8>, NoMemory>
-    ensures { IfOk result (λ out. out.items
+    ensures octets { IfOk result (λ out. out.items
         ≡ message kind (to_be_bytes w16 spi ++ (to_be_bytes w16 key ++ to_be_bytes w64 number))) }
+    ensures types { OnOk result (IsTrue (is_spi spi) × IsTrue (is_key key)) }
 {
     let mut out = begin(alloc, kind, 12)?;
     put_word(&mut out, spi.get())?;
@@ -160,10 +172,11 @@ fn rekey_message(
     Ok(out)
 }
 
-#[tactic(auto, unfolding(crate::specs::Command::command_octets, crate::specs::Command::IsInBounds))]
+#[tactic(auto, unfolding(crate::specs::Command::command_octets, crate::specs::Command::IsInBounds, crate::specs::Command::HasTypes))]
 fn octets_of(alloc: Global, command: &Command) -> Result<Vec<u8>, NoMemory>
     requires { IsInBounds command.now }
-    ensures { IfOk result (λ out. out.items ≡ command_octets command.now) }
+    ensures octets { IfOk result (λ out. out.items ≡ command_octets command.now) }
+    ensures types { OnOk result (HasTypes command.now) }
 {
     let kind = command.procedure().tag();
     match command {
@@ -200,7 +213,7 @@ pub fn write_pdu(alloc: Global, command: &Command) -> Result<Octets, NoMemory>
     requires { IsInBounds command.now }
     ensures spelled { IfOk result (λ octets. octets ≡ command_octets command.now) }
     // What is written is a message, which `read_pdu` reads as this command.
-    ensures message { HasTypes command.now → IfOk result (IsCommandPdu command.now) }
+    ensures message { IfOk result (IsCommandPdu command.now) }
 {
     Ok(Octets::new(octets_of(alloc, command)?))
 }

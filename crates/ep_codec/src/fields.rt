@@ -12,6 +12,12 @@ pub(crate) const VECTOR: usize = 12;
 /// The octets of the tag behind what is sealed.
 pub(crate) const TAG: usize = 16;
 
+/// The octets of a key's identifier.
+pub(crate) const KEY: usize = 2;
+
+/// The octets around what is sealed: the key, the vector, and the tag.
+pub(crate) const SEALED_EXTRA: usize = KEY + VECTOR + TAG;
+
 pub(crate) fn word(octets: &[u8], at: usize) -> u16
     requires { at + 2 ≤ length octets.now }
     ensures { result ≡ word_at at octets.now }

@@ -7,7 +7,7 @@ use sdls_base::NoMemory;
 use std::alloc::Global;
 
 /// The octets before the data of a message: its tag, and the length of the data in bits.
-const HEADER: usize = 3;
+pub(crate) const HEADER: usize = 3;
 
 pub(crate) fn put_word(out: &mut Vec<u8>, n: u16) -> Result<(), NoMemory>
     ensures { OnOk result (out.new.items ≡ out.old.items ++ to_be_bytes w16 n) }

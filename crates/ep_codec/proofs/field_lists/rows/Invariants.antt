@@ -1,12 +1,12 @@
 use Rattle.std.proofs.Common.{◌≡◌, ◌+◌, ◌++◌, length}
-use Rattle.ep_codec.specs.Check.{first_fault}
+use Rattle.sdls_base.specs.FirstFailing.{first_failing}
 use Rattle.ep_codec.specs.FieldList.{rows_in, row_checks}
 use Rattle.ep_codec.proofs.field_lists.rows.Given as goal
 
 abbrev pub invariant-loop-rest : goal.invariant-loop-rest
 invariant-loop-rest l = record {
   place : l.next + length l.rest ≡ l.at + length l.octets;
-  faults : first_fault (row_checks l.next l.rest) ≡ first_fault (row_checks l.at l.octets);
+  faults : first_failing (row_checks l.next l.rest) ≡ first_failing (row_checks l.at l.octets);
   read : l.rows.items ++ rows_in l.rest ≡ rows_in l.octets;
 }
 
