@@ -1,0 +1,30 @@
+//! What a command of the key and association management does (CCSDS 355.1-B; order of refusals profile): decided from
+//! a state and from what was seen of one key's numbers, and put down as a change and a reply. Nothing here changes a
+//! state.
+//!
+//! [`judge`] says what has to be seen before a command is decided, and [`plan_change`] decides it.
+#![tactic(auto)]
+
+mod associations;
+mod composing;
+mod effects;
+mod items;
+mod judging;
+mod keys;
+mod laws;
+mod need;
+mod planning;
+mod refusal;
+mod rekeying;
+mod reply;
+mod sealed;
+mod sealing;
+mod step;
+mod verifying;
+
+pub use judging::judge;
+pub use laws::no_frame_begins_so;
+pub use need::Need;
+pub use planning::plan_change;
+pub use refusal::Refusal;
+pub use reply::Reply;

@@ -1,0 +1,157 @@
+ghost use Rattle.std.specs.Prelude.{◌≡◌, Option};
+ghost use Rattle.ep_core.specs.Refusal.{code_of, value_of, of_keys, of_association};
+
+use key_book::KeyRefusal;
+use sa_book::SaRefusal;
+use sdls_base::{ChannelId, KeyId, KeyState, MOST_ASSOCIATIONS, MOST_KEYS, SaState, Spi};
+use thiserror::Error;
+
+/// Why a command is refused, with what decided.
+#[derive(Clone, Copy, Debug, PartialEq, Eq, Error)]
+pub enum Refusal {
+    #[error("key {} was loaded before", .0.get())]
+    AlreadyLoaded(KeyId),
+    #[error("key has the octets of key {}", .0.get())]
+    DuplicateKey(KeyId),
+    #[error("keys do not fit into the book")]
+    BookFull,
+    #[error("key is in state {0:?}, in which the command does not take it")]
+    KeyInState(KeyState),
+    #[error("key is held by association {}", .0.get())]
+    KeyInUse(Spi),
+    #[error("key {} is unknown", .0.get())]
+    UnknownKey(KeyId),
+    #[error("association {} is unknown", .0.get())]
+    UnknownSpi(Spi),
+    #[error("association {} is there already", .0.get())]
+    SpiTaken(Spi),
+    #[error("association is in state {0:?}, in which the command does not take it")]
+    SaInState(SaState),
+    #[error("channel is covered by association {}", .0.get())]
+    ChannelTaken(Spi),
+    #[error("key is in state {0:?}, not active")]
+    KeyNotActive(KeyState),
+    #[error("number is below {0}, the least that is lawful")]
+    BelowFloor(u64),
+    #[error("association book has no room")]
+    TableFull,
+    #[error("key {} is of another class than the suite", .0.get())]
+    WrongSuite(KeyId),
+    #[error("number is not below {0}, the end of the key")]
+    PastEnd(u64),
+    #[error("channel {} is unknown", .0.get())]
+    UnknownChannel(ChannelId),
+    #[error("key is held by receiving association {}", .0.get())]
+    KeyTaken(Spi),
+    #[error("tag of the sealed keys is wrong")]
+    BadTag,
+    #[error("sealed keys cannot be read at octet {0}")]
+    BadItems(u32),
+    #[error("number {0} is at or above the end of the key")]
+    Exhausted(u64),
+    #[error("key {} is no master key", .0.get())]
+    NotMaster(KeyId),
+    #[error("key {} is no session key", .0.get())]
+    NotSession(KeyId),
+}
+
+impl Refusal {
+    /// The detail that names it in a reply.
+    pub fn code(&self) -> u8
+        ensures { result ≡ code_of self.now }
+    {
+        match self {
+            Refusal::AlreadyLoaded(_) => 0x11,
+            Refusal::DuplicateKey(_) => 0x12,
+            Refusal::BookFull => 0x13,
+            Refusal::KeyInState(_) => 0x14,
+            Refusal::KeyInUse(_) => 0x15,
+            Refusal::UnknownKey(_) => 0x16,
+            Refusal::UnknownSpi(_) => 0x21,
+            Refusal::SpiTaken(_) => 0x22,
+            Refusal::SaInState(_) => 0x23,
+            Refusal::ChannelTaken(_) => 0x24,
+            Refusal::KeyNotActive(_) => 0x25,
+            Refusal::BelowFloor(_) => 0x26,
+            Refusal::TableFull => 0x27,
+            Refusal::WrongSuite(_) => 0x28,
+            Refusal::PastEnd(_) => 0x29,
+            Refusal::UnknownChannel(_) => 0x2A,
+            Refusal::KeyTaken(_) => 0x2B,
+            Refusal::BadTag => 0x31,
+            Refusal::BadItems(_) => 0x32,
+            Refusal::Exhausted(_) => 0x33,
+            Refusal::NotMaster(_) => 0x35,
+            Refusal::NotSession(_) => 0x36,
+        }
+    }
+
+    /// The value that decided, as a reply carries it.
+    pub fn value(&self) -> u64
+        ensures { result ≡ value_of self.now }
+    {
+        match *self {
+            Refusal::AlreadyLoaded(key)
+            | Refusal::DuplicateKey(key)
+            | Refusal::UnknownKey(key)
+            | Refusal::WrongSuite(key)
+            | Refusal::NotMaster(key)
+            | Refusal::NotSession(key) => u64::from(key.get()),
+            Refusal::KeyInUse(spi)
+            | Refusal::UnknownSpi(spi)
+            | Refusal::SpiTaken(spi)
+            | Refusal::ChannelTaken(spi)
+            | Refusal::KeyTaken(spi) => u64::from(spi.get()),
+            Refusal::KeyInState(state) | Refusal::KeyNotActive(state) => state as u64,
+            Refusal::SaInState(state) => state as u64,
+            Refusal::BelowFloor(number) | Refusal::PastEnd(number) | Refusal::Exhausted(number) => {
+                number
+            }
+            Refusal::UnknownChannel(channel) => u64::from(channel.get()),
+            Refusal::BadItems(offset) => u64::from(offset),
+            Refusal::BookFull => MOST_KEYS as u64,
+            Refusal::TableFull => MOST_ASSOCIATIONS as u64,
+            Refusal::BadTag => 0,
+        }
+    }
+
+    /// What the book of keys refuses. Want of memory is no refusal.
+    pub(crate) fn of_keys(refusal: KeyRefusal) -> Option<Refusal>
+        ensures { result ≡ of_keys refusal }
+    {
+        match refusal {
+            KeyRefusal::AlreadyLoaded(key) => Some(Refusal::AlreadyLoaded(key)),
+            KeyRefusal::DuplicateKey(key) => Some(Refusal::DuplicateKey(key)),
+            KeyRefusal::BookFull => Some(Refusal::BookFull),
+            KeyRefusal::WrongState(state) => Some(Refusal::KeyInState(state)),
+            KeyRefusal::KeyInUse(spi) => Some(Refusal::KeyInUse(spi)),
+            KeyRefusal::UnknownKey(key) => Some(Refusal::UnknownKey(key)),
+            KeyRefusal::NoMemory => None,
+        }
+    }
+
+    /// What the book of associations refuses of an association, and of a key where the command names one. Want of
+    /// memory is no refusal.
+    pub(crate) fn of_association(
+        spi: Spi,
+        key: Option<KeyId>,
+        refusal: SaRefusal,
+    ) -> Option<Refusal>
+        ensures { result ≡ of_association spi key refusal }
+    {
+        match refusal {
+            SaRefusal::UnknownSpi => Some(Refusal::UnknownSpi(spi)),
+            SaRefusal::SpiTaken => Some(Refusal::SpiTaken(spi)),
+            SaRefusal::WrongState(state) => Some(Refusal::SaInState(state)),
+            SaRefusal::ChannelTaken(other) => Some(Refusal::ChannelTaken(other)),
+            SaRefusal::KeyNotActive(state) => Some(Refusal::KeyNotActive(state)),
+            SaRefusal::BelowFloor(least) => Some(Refusal::BelowFloor(least)),
+            SaRefusal::TableFull => Some(Refusal::TableFull),
+            SaRefusal::WrongSuite => key.map(Refusal::WrongSuite),
+            SaRefusal::PastEnd(end) => Some(Refusal::PastEnd(end)),
+            SaRefusal::UnknownChannel(channel) => Some(Refusal::UnknownChannel(channel)),
+            SaRefusal::KeyTaken(other) => Some(Refusal::KeyTaken(other)),
+            SaRefusal::NoMemory => None,
+        }
+    }
+}
