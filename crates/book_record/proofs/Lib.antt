@@ -1,0 +1,4 @@
+mod Again
+mod Bodies
+mod Lengths
+mod Lists

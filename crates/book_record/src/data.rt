@@ -1,0 +1,75 @@
+//! The data of a record, put one field after the other.
+ghost use Rattle.std.specs.Prelude.{◌≡◌, ◌+◌, ◌≤◌, [], ◌∷◌, ◌++◌, length};
+ghost use Rattle.std.specs.Int.{w16, w64, to_be_bytes};
+ghost use Rattle.book_record.specs.Record.{body_of};
+
+use crate::layout::{BODY_LENGTH, DATA_ROOM, HEADER};
+use sdls_base::put;
+use std::marker::Model;
+
+/// The data that was put so far.
+#[derive(Drop)]
+pub(crate) struct Data {
+    octets: [u8; DATA_ROOM],
+    end: usize,
+}
+
+impl Model for Data {
+    ghost use Rattle.std.specs.Prelude.{List, ℕ, take, ◌≤◌};
+
+    ghost Value = { List ℕ };
+
+    ghost view = { λ d. take d.end d.octets };
+
+    ghost invariant = { λ d. d.end ≤ 508 };
+}
+
+impl Data {
+    pub(crate) fn new() -> Data
+        ensures { result ≡ [] }
+    {
+        Data {
+            octets: [0; DATA_ROOM],
+            end: 0,
+        }
+    }
+
+    pub(crate) fn put(&mut self, field: &[u8])
+        requires { length self.old + length field.now ≤ DATA_ROOM }
+        ensures { self.new ≡ self.old ++ field.now }
+    {
+        self.end = put(&mut self.octets, self.end, field);
+    }
+
+    pub(crate) fn put_octet(&mut self, n: u8)
+        requires { length self.old + 1 ≤ DATA_ROOM }
+        ensures { self.new ≡ self.old ++ n ∷ [] }
+    {
+        self.put(&[n]);
+    }
+
+    pub(crate) fn put_word(&mut self, n: u16)
+        requires { length self.old + 2 ≤ DATA_ROOM }
+        ensures { self.new ≡ self.old ++ to_be_bytes w16 n }
+    {
+        self.put(&n.to_be_bytes());
+    }
+
+    pub(crate) fn put_number(&mut self, n: u64)
+        requires { length self.old + 8 ≤ DATA_ROOM }
+        ensures { self.new ≡ self.old ++ to_be_bytes w64 n }
+    {
+        self.put(&n.to_be_bytes());
+    }
+
+    /// The body of a record of a kind with this data.
+    pub(crate) fn body(&self, kind: u8) -> [u8; BODY_LENGTH]
+        ensures { result ≡ body_of kind self.now }
+    {
+        let mut body = [0; BODY_LENGTH];
+        let length_at = put(&mut body, 0, &[kind]);
+        let data_at = put(&mut body, length_at, &(self.end as u16).to_be_bytes());
+        put(&mut body, data_at, &self.octets[..self.end]);
+        body
+    }
+}

@@ -1,0 +1,130 @@
+//! The fields of a body, read at their places.
+ghost use Rattle.std.specs.Prelude.{◌≡◌, ◌+◌, ◌<◌, ◌≤◌, ◌↔◌, IsTrue, length, take, drop};
+ghost use Rattle.std.specs.List.Sorted.{IsStrictlyIncreasing};
+ghost use Rattle.sdls_base.specs.Bounds.{AreChannels, IsKeyLength};
+ghost use Rattle.book_record.specs.Record.{IsCount, IsKey, IsSpi};
+ghost use Rattle.book_record.specs.Reading.{Judges, IsWithin, octet_at, word_at, number_at, key_state_of, sa_state_of, direction_of, suite_of};
+
+use crate::record_error::RecordError;
+use sdls_base::{Direction, KeyId, KeyState, MOST_CHANNELS, SaState, Spi, Suite};
+
+/// So many octets from a place on.
+fn array<const N: usize>(body: &[u8], at: usize) -> [u8; N]
+    requires { at + N ≤ length body.now }
+    ensures { result ≡ take N (drop at body.now) }
+{
+    let mut array = [0; N];
+    array.copy_from_slice(&body[at..at + N]);
+    array
+}
+
+pub(crate) fn word(body: &[u8], at: usize) -> u16
+    requires { at + 2 ≤ length body.now }
+    ensures { result ≡ word_at at body.now }
+{
+    u16::from_be_bytes(array(body, at))
+}
+
+pub(crate) fn number(body: &[u8], at: usize) -> u64
+    requires { at + 8 ≤ length body.now }
+    ensures { result ≡ number_at at body.now }
+{
+    u64::from_be_bytes(array(body, at))
+}
+
+pub(crate) fn key(body: &[u8], at: usize) -> Result<KeyId, RecordError>
+    requires { at + 2 ≤ length body.now }
+    ensures { Judges result (IsKey (word_at at body.now)) (word_at at body.now) }
+{
+    KeyId::new(word(body, at)).ok_or(RecordError::Malformed)
+}
+
+pub(crate) fn spi(body: &[u8], at: usize) -> Result<Spi, RecordError>
+    requires { at + 2 ≤ length body.now }
+    ensures { Judges result (IsSpi (word_at at body.now)) (word_at at body.now) }
+{
+    Spi::new(word(body, at)).ok_or(RecordError::Malformed)
+}
+
+/// A count of keys.
+pub(crate) fn count(number: u8) -> Result<usize, RecordError>
+    ensures { Judges result (IsCount number) number }
+{
+    match number {
+        1..=8 => Ok(usize::from(number)),
+        _ => Err(RecordError::Malformed),
+    }
+}
+
+/// The length of a key in octets.
+pub(crate) fn key_length(number: u8) -> Result<usize, RecordError>
+    ensures { Judges result (IsKeyLength number) number }
+{
+    match number {
+        16 | 32 => Ok(usize::from(number)),
+        _ => Err(RecordError::Malformed),
+    }
+}
+
+/// The state that keys take: never the one in which they are loaded.
+pub(crate) fn key_state(number: u8) -> Result<KeyState, RecordError>
+    ensures { Judges result (IsWithin 2 4 number) (key_state_of number) }
+{
+    match number {
+        2 => Ok(KeyState::Active),
+        3 => Ok(KeyState::Deactivated),
+        4 => Ok(KeyState::Destroyed),
+        _ => Err(RecordError::Malformed),
+    }
+}
+
+/// The state that an association takes, `None` for its deletion.
+pub(crate) fn sa_state(number: u8) -> Result<Option<SaState>, RecordError>
+    ensures { Judges result (number ≤ 3) (sa_state_of number) }
+{
+    match number {
+        0 => Ok(None),
+        1 => Ok(Some(SaState::Unkeyed)),
+        2 => Ok(Some(SaState::Keyed)),
+        3 => Ok(Some(SaState::Operational)),
+        _ => Err(RecordError::Malformed),
+    }
+}
+
+pub(crate) fn direction(number: u8) -> Result<Direction, RecordError>
+    ensures { Judges result (IsWithin 1 2 number) (direction_of number) }
+{
+    match number {
+        1 => Ok(Direction::Send),
+        2 => Ok(Direction::Receive),
+        _ => Err(RecordError::Malformed),
+    }
+}
+
+pub(crate) fn suite(number: u8) -> Result<Suite, RecordError>
+    ensures { Judges result (IsWithin 1 2 number) (suite_of number) }
+{
+    match number {
+        1 => Ok(Suite::Cmac),
+        2 => Ok(Suite::Gcm),
+        _ => Err(RecordError::Malformed),
+    }
+}
+
+fn ascend(numbers: &[u8]) -> bool
+    ensures { IsTrue result ↔ IsStrictlyIncreasing numbers.now }
+{
+    for next in 1..numbers.len() {
+        if numbers[next] <= numbers[next - 1] {
+            return false;
+        }
+    }
+    true
+}
+
+/// Whether these are one to eight channels, ascending.
+pub(crate) fn are_channels(numbers: &[u8]) -> bool
+    ensures { IsTrue result ↔ AreChannels numbers.now }
+{
+    !numbers.is_empty() && numbers.len() <= MOST_CHANNELS && ascend(numbers)
+}

@@ -1,0 +1,21 @@
+//! The records in which changes of the unit's state are stored: a body of 511 octets for each change, both ways. The
+//! layout is profile.
+//!
+//! [`write_record`] writes the record of a change, and takes no memory. [`read_record`] reads a body, and refuses what
+//! is no record. Each change has one record, and each record one change.
+#![tactic(auto)]
+
+mod data;
+mod fields;
+mod kind;
+mod laws;
+mod layout;
+mod reading;
+mod record_error;
+mod writing;
+
+pub use laws::one_change;
+pub use layout::BODY_LENGTH;
+pub use reading::read_record;
+pub use record_error::RecordError;
+pub use writing::write_record;
