@@ -1,7 +1,7 @@
 -- A record is read again, and what may stand at its places is a change that has a record.
 use Rattle.std.proofs.Common.{◌≡◌, ℕ, zero, suc, ◌+◌, ◌*◌, ◌^◌, ◌<◌, ◌≤◌, Bool, true, false, List, [], ◌∷◌, ◌++◌, length, get_or, take, drop, replicate, Option, Some, None, refl, sym, ap, ◌∙◌, subst, arith, append_assoc}
 use Rattle.std.specs.Prelude.{◌≢◌, ◌-◌, if◌then◌else◌, ◌==◌}
-use Rattle.std.specs.List.{flat_map, All, AllByRecursion}
+use Rattle.std.specs.List.{flat_map, AllByRecursion}
 use Rattle.std.specs.Int.{w16, w64, from_be_bytes, to_be_bytes}
 use Rattle.std.proofs.Math.Seq.{take-append_seam, drop-append_seam}
 use Rattle.std.specs.Str.{bytes_eq}
@@ -29,7 +29,7 @@ use Rattle.book_record.specs.declared.record_error.RecordError.TheVariants.{Malf
 use Rattle.book_record.specs.Code.{key_state_code, sa_state_code, direction_code, suite_code}
 use Rattle.book_record.specs.Kind.{kind_of}
 use Rattle.book_record.specs.Record.{body_of, item_octets, association_octets, record_octets, HasRecord, HasTypes, IsRecord, IsCount, IsKey, IsSpi}
-use Rattle.book_record.specs.Reading.{HasCause, octet_at, word_at, number_at, IsWithin, key_state_of, sa_state_of, direction_of, suite_of, keys_in, AreKeys, item_at, IsItem, behind_item, items_in, AreItems, channels_at, change_at, MayStand}
+use Rattle.book_record.specs.Reading.{HasCause, octet_at, word_at, number_at, IsWithin, key_state_of, sa_state_of, direction_of, suite_of, keys_in, AreKeys, item_at, behind_item, items_in, AreItems, channels_at, change_at, MayStand}
 use Rattle.book_record.proofs.Lists.{item_end, item_length}
 
 -- ---- codes

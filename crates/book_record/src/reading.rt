@@ -7,7 +7,9 @@ ghost use Rattle.book_record.specs.declared.kind.Kind.TheVariants.{Marks, Load, 
 ghost use Rattle.book_record.specs.Record.{IsCount, IsRecord};
 ghost use Rattle.book_record.specs.Reading.{Judges, IsReadUnlessNoMemory, octet_at, item_at, IsItem, items_in, AreItems, keys_in, AreKeys, change_at, MayStand};
 
-use crate::fields::{are_channels, count, direction, key, key_length, key_state, number, sa_state, spi, suite};
+use crate::fields::{
+    are_channels, count, direction, key, key_length, key_state, number, sa_state, spi, suite,
+};
 use crate::kind::Kind;
 use crate::layout::BODY_LENGTH;
 use crate::record_error::RecordError;

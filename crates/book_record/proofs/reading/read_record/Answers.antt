@@ -1,4 +1,4 @@
-use Rattle.std.proofs.Common.{sym, ap, subst, ◌∙◌, arith}
+use Rattle.std.proofs.Common.{sym, ap, subst, ◌∙◌}
 use Rattle.std.proofs.lemmas.Result.{err_from_is_err_and}
 use Rattle.book_record.specs.Record.{HasRecord, record_octets}
 use Rattle.book_record.proofs.Again.{record_says, has_record, no_kind, unequal, wants_memory}
@@ -8,7 +8,7 @@ pub returns-in_err-change-clause-only : goal.returns-in_err-change-clause-only
 returns-in_err-change-clause-only c =
     let p = err_from_is_err_and c.from_residual.result c.from_residual.ensures.1 in
     λ change is. rw (p.1, p.2) (wants_memory c.in_err-change.field-0.0 c.in_err-change.ensures
-        (record_says change c.args.body.now c.in-Some.kind (sym c.of.ensures ∙ c.in-Some.is) is).may)
+    (record_says change c.args.body.now c.in-Some.kind (sym c.of.ensures ∙ c.in-Some.is) is).may)
 
 pub write_record-requires : goal.write_record-requires
 write_record-requires c =
