@@ -5,3 +5,5 @@ pub mod ComposeFacts
 pub mod ItemFacts
 pub mod Steps
 pub mod Frames
+pub mod Free
+pub mod Allowed

@@ -64,7 +64,7 @@ pub ok_too : {X E : Type 0} (P Q : X → Type 0) (result : Result X E) → ((x :
 ok_too P Q (Ok x) also is = also x is
 ok_too P Q (Err e) also is = tt
 
-length-gctr : (key iv text : List ℕ) → length (gctr key iv text) ≡ length text
+pub length-gctr : (key iv text : List ℕ) → length (gctr key iv text) ≡ length text
 unfolding gctr
 length-gctr key iv text = simp (length-map, length-range_with_len)
 

@@ -1,10 +1,29 @@
 ghost use Rattle.std.specs.Prelude.{◌≢◌, ℕ, ◌<◌, List, ◌∷◌, ◌++◌};
+ghost use Rattle.sdls_base.specs.declared.change.Change.{Change};
+ghost use Rattle.sdls_base.specs.declared.change.Change.TheVariants as changes;
+ghost use Rattle.sdls_base.specs.declared.entry.Seen.{Seen};
 ghost use Rattle.sdls_header.specs.Authenticated.{authenticated};
+ghost use Rattle.unit_state.specs.declared.state.State.{State};
+ghost use Rattle.unit_state.specs.State.{KeepsRules};
+ghost use Rattle.unit_state.specs.Allows.{Allows};
+ghost use Rattle.ep_codec.specs.declared.command.Command.{Command};
+ghost use Rattle.ep_codec.specs.Command.{IsInBounds};
+ghost use Rattle.ep_core.specs.declared.reply.Reply.{Reply};
+ghost use Rattle.ep_core.specs.Need.{need_of};
 ghost use Rattle.ep_core.specs.Sealed.{no_frame};
+ghost use Rattle.ep_core.specs.Seen.{Fits};
+ghost use Rattle.ep_core.specs.Step.{IsStep};
 
 /// Law: what a MAC covers of a frame does not begin with four octets ff, whatever the mask, where the frame's first
 /// octet is below 192: a frame's version is not 3. So no answer to a challenge is the MAC or the tag of a frame.
 pub fn no_frame_begins_so()
     ensures { (mask header rest prefix : List ℕ) (octet : ℕ) → octet < 192
         → authenticated mask (octet ∷ prefix) header ≢ no_frame ++ rest }
+{}
+
+/// Law: a state allows the change of each step, where there is one.
+pub fn changes_are_allowed()
+    ensures { (state : State) (command : Command) (seen : Seen) (step : Change × Reply)
+        → KeepsRules state → IsInBounds command → Fits state (need_of state command) seen
+        → IsStep state command seen step → step.0 ≢ changes.Nothing → Allows state step.0 }
 {}
