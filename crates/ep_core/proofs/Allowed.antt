@@ -1,10 +1,9 @@
 -- The change of a step is one that its state allows.
-use Rattle.std.proofs.Common.{◌≡◌, ◌≢◌, ℕ, zero, suc, ◌+◌, ◌^◌, ◌<◌, ◌≤◌, Bool, true, false, List, [], ◌∷◌, length, length-drop, get_or, take, drop, Option, Some, None, IsSome, IsSomeAnd, refl, sym, ap, ◌∙◌, subst, arith}
-use Rattle.std.specs.Prelude.{MatchOption, if◌then◌else◌, is_none, is_some, IfSome, IsNone, not}
+use Rattle.std.proofs.Common.{◌≡◌, ◌≢◌, ℕ, zero, suc, ◌+◌, ◌<◌, ◌≤◌, Bool, true, false, List, [], ◌∷◌, length, length-drop, get_or, take, drop, Option, Some, None, IsSome, IsSomeAnd, refl, sym, ap, ◌∙◌, subst, arith}
+use Rattle.std.specs.Prelude.{MatchOption, if◌then◌else◌, is_none, is_some, IfSome, IsNone}
 use Rattle.std.specs.List.{AllByRecursion}
 use Rattle.std.specs.Option.{option_map, option_map_or, option_and_then}
 use Rattle.std.specs.Str.{bytes_eq}
-use Rattle.std.specs.Int.{w16, from_be_bytes}
 use Rattle.std.proofs.lemmas.Bool.Decides.{nat_tests}
 use Rattle.std.proofs.lemmas.List.{length-take}
 use Rattle.gcm.specs.Gcm.{gcm_open, gctr, tag_of}
@@ -16,7 +15,6 @@ use Rattle.sdls_base.specs.declared.change.Change.{Change}
 use Rattle.sdls_base.specs.declared.change.Change.TheVariants as changes
 use Rattle.sdls_base.specs.declared.entry.Seen.{Seen}
 use Rattle.sdls_base.specs.declared.entry.Seen.TheVariants as seen
-use Rattle.sdls_base.specs.declared.key_item.KeyItem.{KeyItem}
 use Rattle.sdls_base.specs.declared.states.Direction.{Direction}
 use Rattle.sdls_base.specs.declared.states.Direction.TheVariants.{Send, Receive}
 use Rattle.sdls_base.specs.declared.states.KeyState.{KeyState}
@@ -28,13 +26,12 @@ use Rattle.key_book.specs.declared.key_row.KeyRow.{KeyRow}
 use Rattle.key_book.specs.KeyRefusal.{load_refusal}
 use Rattle.key_book.specs.Moves.{moves_refusal}
 use Rattle.sa_book.specs.declared.sa_row.SaRow.{SaRow}
-use Rattle.sa_book.specs.declared.sa_refusal.SaRefusal.{SaRefusal}
 use Rattle.sa_book.specs.SaRow.{IsSaRow}
 use Rattle.sa_book.specs.SaBook.{in_use}
-use Rattle.sa_book.specs.SaRefusal.{on_row, unless_unkeyed, if_unkeyed, number_refusal_of, rekey_refusal, set_number_refusal, create_refusal}
+use Rattle.sa_book.specs.SaRefusal.{unless_unkeyed, if_unkeyed, number_refusal_of, set_number_refusal}
 use Rattle.unit_state.specs.declared.state.State.{State}
 use Rattle.unit_state.specs.State.{KeepsRules, HasKey, MayHold, key_row, association_row}
-use Rattle.unit_state.specs.Allows.{Allows, AllowsLoad, AllowsStates, AllowsRekey, AllowsNumber, IsCount, IsSessionKey, least_number}
+use Rattle.unit_state.specs.Allows.{Allows, AllowsLoad, AllowsStates, AllowsRekey, AllowsNumber, IsSessionKey, least_number}
 use Rattle.unit_state.proofs.Found.{found}
 use Rattle.unit_state.proofs.RulesKept.{there, some_there, some_and}
 use Rattle.unit_state.proofs.SaRules.{judged}
@@ -44,16 +41,15 @@ use Rattle.ep_codec.specs.declared.command.Command.TheVariants.{Rekeying, Activa
 use Rattle.ep_codec.specs.declared.reply_pdu.ReplyPdu.{ReplyPdu}
 use Rattle.ep_codec.specs.declared.reply_pdu.ReplyPdu.TheVariants as replies
 use Rattle.ep_codec.proofs.FieldFacts.{low_bound, high_bound}
-use Rattle.ep_core.specs.declared.need.Need.{Need}
 use Rattle.ep_core.specs.declared.need.Need.TheVariants as needs
 use Rattle.ep_core.specs.declared.refusal.Refusal.{Refusal}
 use Rattle.ep_core.specs.declared.refusal.Refusal.TheVariants.{BadTag, BadItems}
 use Rattle.ep_core.specs.declared.reply.Reply.{Reply}
 use Rattle.ep_core.specs.Need.{sends, is_sending, sending_key, sending_key_of, need_of}
-use Rattle.ep_core.specs.Refusals.{from_keys, from_associations, refusal_of, opened, items_of, master_checks, text_checks, rekey_checks, unless_free, unless_known, unless_takes, least_at, least_of, least_with, held_row, takes_key}
+use Rattle.ep_core.specs.Refusals.{from_keys, from_associations, refusal_of, opened, items_of, master_checks, text_checks, unless_free, unless_known, unless_takes, least_at, least_of, least_with, takes_key}
 use Rattle.ep_core.specs.Sealed.{front, item_fault, item_at, items_fault, items_in}
 use Rattle.ep_core.specs.Seen.{Fits, IsWord, word_of}
-use Rattle.ep_core.specs.Step.{IsStep, IsDone, IsInventoryOf, refused, done}
+use Rattle.ep_core.specs.Step.{IsStep, IsDone, refused, done}
 use Rattle.ep_core.proofs.Checks.{rekey_told}
 use Rattle.ep_core.proofs.ComposeFacts.{none_append}
 use Rattle.ep_core.proofs.Free.{told_load, told_moves, keys_free, associations_free, tells_free, tells_create, tells_rekey, tells_set_number, tells_start, tells_stop, tells_expire, tells_window, rekey_weaker, set_number_weaker}

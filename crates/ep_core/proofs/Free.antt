@@ -1,5 +1,5 @@
 -- What no book refuses: its refusals but want of memory are told, so that nothing told is nothing refused.
-use Rattle.std.proofs.Common.{◌≡◌, ◌≢◌, ℕ, ◌+◌, ◌<◌, ◌≤◌, length, Bool, true, false, not, nat_lt, nat_le, List, [], ◌∷◌, ◌++◌, Option, Some, None, IsSome, refl, sym, ap, ◌∙◌, arith}
+use Rattle.std.proofs.Common.{◌≡◌, ℕ, ◌+◌, ◌≤◌, length, Bool, true, false, not, nat_lt, nat_le, List, [], ◌∷◌, ◌++◌, Option, Some, None, IsSome, refl, sym, ap, ◌∙◌, arith}
 use Rattle.std.specs.Prelude.{⊤, is_some}
 use Rattle.std.specs.List.{AllByRecursion}
 use Rattle.std.specs.Option.{option_map, option_map_or, option_or}
@@ -214,9 +214,16 @@ tells_rekey associations spi key state number floor =
     let other = not (rows.is_same_class (class_of key) (class_of_suite row.suite)) in
     let taken = rows.taken_key row.direction (rows.receiver_with associations key) in
     tells_first (Some key)
-    (rows.unless_unkeyed row.state ∷ fails_if other sa_book.WrongSuite ∷ rows.unless_active state ∷ taken ∷ number_refusal key number floor ∷ [])
-    (tells_unkeyed (Some key) row.state, (tells_if (Some key) other sa_book.WrongSuite refl, (tells_active (Some key) state,
-      (tells_taken (Some key) row.direction (rows.receiver_with associations key), (tells_number (Some key) key number floor, tt))))))
+    (rows.unless_unkeyed row.state ∷ fails_if other sa_book.WrongSuite ∷ rows.unless_active state ∷ taken ∷ number_refusal key number floor ∷ []) (
+      tells_unkeyed (Some key) row.state,
+      (
+        tells_if (Some key) other sa_book.WrongSuite refl,
+        (
+          tells_active (Some key) state,
+          (tells_taken (Some key) row.direction (rows.receiver_with associations key), (tells_number (Some key) key number floor, tt)),
+        ),
+      ),
+    ))
 
 pub tells_set_number : (associations : List SaRow) (spi number floor : ℕ) → Tells None (set_number_refusal associations spi number floor)
 tells_set_number associations spi number floor =

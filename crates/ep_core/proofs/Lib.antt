@@ -7,3 +7,5 @@ pub mod Steps
 pub mod Frames
 pub mod Free
 pub mod Allowed
+pub mod NeedsAlike
+pub mod Fronts

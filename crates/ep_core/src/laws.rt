@@ -1,4 +1,4 @@
-ghost use Rattle.std.specs.Prelude.{◌≢◌, ℕ, ◌<◌, List, ◌∷◌, ◌++◌};
+ghost use Rattle.std.specs.Prelude.{◌≡◌, ◌≢◌, ℕ, ◌<◌, List, ◌∷◌, ◌++◌, length, take};
 ghost use Rattle.sdls_base.specs.declared.change.Change.{Change};
 ghost use Rattle.sdls_base.specs.declared.change.Change.TheVariants as changes;
 ghost use Rattle.sdls_base.specs.declared.entry.Seen.{Seen};
@@ -6,11 +6,13 @@ ghost use Rattle.sdls_header.specs.Authenticated.{authenticated};
 ghost use Rattle.unit_state.specs.declared.state.State.{State};
 ghost use Rattle.unit_state.specs.State.{KeepsRules};
 ghost use Rattle.unit_state.specs.Allows.{Allows};
+ghost use Rattle.unit_state.specs.Restart.{still};
 ghost use Rattle.ep_codec.specs.declared.command.Command.{Command};
-ghost use Rattle.ep_codec.specs.Command.{IsInBounds};
+ghost use Rattle.ep_codec.specs.declared.command.Command.TheVariants.{Rekeying};
+ghost use Rattle.ep_codec.specs.Command.{IsInBounds, command_octets};
 ghost use Rattle.ep_core.specs.declared.reply.Reply.{Reply};
 ghost use Rattle.ep_core.specs.Need.{need_of};
-ghost use Rattle.ep_core.specs.Sealed.{no_frame};
+ghost use Rattle.ep_core.specs.Sealed.{front, no_frame};
 ghost use Rattle.ep_core.specs.Seen.{Fits};
 ghost use Rattle.ep_core.specs.Step.{IsStep};
 
@@ -26,4 +28,16 @@ pub fn changes_are_allowed()
     ensures { (state : State) (command : Command) (seen : Seen) (step : Change × Reply)
         → KeepsRules state → IsInBounds command → Fits state (need_of state command) seen
         → IsStep state command seen step → step.0 ≢ changes.Nothing → Allows state step.0 }
+{}
+
+/// Law: for a command the same has to be seen in states that differ in marks, floors and highest numbers alone.
+pub fn needs_alike()
+    ensures { (one other : State) (command : Command) → still one ≡ still other
+        → need_of one command ≡ need_of other command }
+{}
+
+/// Law: what is authenticated with the keys that a Rekeying message brings is the message's first five octets.
+pub fn front_is_the_message()
+    ensures { (master : ℕ) (vector sealed tag : List ℕ) → length vector ≡ 12 → length tag ≡ 16
+        → front master (length sealed) ≡ take 5 (command_octets (Rekeying master vector sealed tag)) }
 {}

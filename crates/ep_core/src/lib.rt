@@ -23,7 +23,7 @@ mod step;
 mod verifying;
 
 pub use judging::judge;
-pub use laws::{changes_are_allowed, no_frame_begins_so};
+pub use laws::{changes_are_allowed, front_is_the_message, needs_alike, no_frame_begins_so};
 pub use need::Need;
 pub use planning::plan_change;
 pub use refusal::Refusal;
