@@ -17,7 +17,7 @@ ghost use Rattle.ep_core.specs.Seen.{Fits};
 ghost use Rattle.ep_core.specs.Step.{IsStep};
 
 /// Law: what a MAC covers of a frame does not begin with four octets ff, whatever the mask, where the frame's first
-/// octet is below 192: a frame's version is not 3. So no answer to a challenge is the MAC or the tag of a frame.
+/// octet is below 192: a frame's version is not 3. So no answer to a challenge covers what a frame's MAC or tag covers.
 pub fn no_frame_begins_so()
     ensures { (mask header rest prefix : List ℕ) (octet : ℕ) → octet < 192
         → authenticated mask (octet ∷ prefix) header ≢ no_frame ++ rest }
