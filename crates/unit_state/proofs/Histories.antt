@@ -1,5 +1,5 @@
 -- Histories that go on.
-use Rattle.std.proofs.Common.{◌≡◌, ℕ, zero, suc, ◌+◌, ◌≤◌, Bool, true, false, cond, List, [], ◌∷◌, ◌++◌, sym, refl, ap, ◌∙◌, arith}
+use Rattle.std.proofs.Common.{◌≡◌, ℕ, zero, suc, ◌+◌, ◌≤◌, Bool, true, false, cond, List, [], ◌∷◌, ◌++◌, refl, arith}
 use Rattle.sdls_base.specs.declared.entry.Entry.{Entry}
 use Rattle.unit_state.specs.declared.state.State.{State}
 use Rattle.unit_state.specs.Applied.{applied}

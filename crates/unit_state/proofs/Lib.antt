@@ -9,4 +9,6 @@ pub mod RulesKept
 pub mod Starts
 pub mod StateLaws
 pub mod Alike
+pub mod Again
+pub mod Allowed
 pub mod Histories

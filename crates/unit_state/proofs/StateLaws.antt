@@ -25,9 +25,9 @@ use Rattle.unit_state.specs.Applied.{applied, numbered, direction_of, key_held}
 use Rattle.sa_book.specs.SaBook.{covers}
 use Rattle.sa_book.specs.SaRefusal.{receives_with}
 use Rattle.unit_state.specs.Restart.{restarted_high, restarted_row, restarted, IsLight, still_key, still_association, still}
-use Rattle.unit_state.specs.Laws.{HasRisen, Rises, IsNoMarks, KeepsPlaces, HaveOwnBytes, ServeAlike}
+use Rattle.unit_state.specs.Laws.{HasRisen, Rises, FallsOnlyTo, FallOnlyTo, IsNoMarks, KeepsPlaces, HaveOwnBytes, ServeAlike}
 use Rattle.unit_state.proofs.Held.{row_of_changed}
-use Rattle.unit_state.proofs.KeyRules.{row_of_moved}
+use Rattle.unit_state.proofs.KeyRules.{equal_number, row_of_moved}
 
 -- a restart of a restarted state
 
@@ -99,6 +99,28 @@ rises state (SetWindow spi window) other id = risen_same _ _ refl
 rises state (Accepted spi key number floor) other id =
     changed_up state.keys id key (λ (row : KeyRow). record row { floor = max row.floor floor }) (λ _. refl) (λ row. record { mark = omega arith; floor = omega arith })
 rises state Nothing other id = risen_same _ _ refl
+
+-- numbers that fall
+
+fallen : (o p : Option KeyRow) (R : KeyRow → KeyRow → Type 0) (f : KeyRow → KeyRow) → p ≡ option_map f o → ((row : KeyRow) → R row (f row)) → IfSome o (λ held. IsSomeAnd p (R held))
+fallen None p R f e each = tt
+fallen (Some row) p R f e each = subst (λ o. IsSomeAnd o (R row)) (sym e) (each row)
+
+falls_if : (key mark floor : ℕ) (b : Bool) (row : KeyRow) → nat_eq row.id key ≡ b → FallsOnlyTo key mark floor row (cond b (record row { mark = mark; floor = floor }) row)
+falls_if key mark floor true row test = record {
+  mark = λ _. (equal_number row.id key test, refl);
+  floor = λ _. (equal_number row.id key test, refl);
+}
+falls_if key mark floor false row test = record {
+  mark = λ less. absurd (omega arith);
+  floor = λ less. absurd (omega arith);
+}
+
+pub fall_only_to : (state : State) (key mark floor : ℕ) → FallOnlyTo state (applied state (Marks key mark floor)) key mark floor
+fall_only_to state key mark floor id =
+    let marked : KeyRow → KeyRow = λ row. record row { mark = mark; floor = floor } in
+    fallen _ _ (FallsOnlyTo key mark floor) (λ (row : KeyRow). cond (nat_eq row.id key) (marked row) row) (row_of_changed state.keys key id marked (λ _. refl))
+    (λ row. falls_if key mark floor (nat_eq row.id key) row refl)
 
 -- octets
 

@@ -1,5 +1,5 @@
 -- What the laws of states say.
-use Rattle.std.specs.Prelude.{◌≡◌, ℕ, ◌≤◌, ⊤, List, [], AllPairs, Some, IfSome, IsSomeAnd}
+use Rattle.std.specs.Prelude.{◌≡◌, ℕ, ◌<◌, ◌≤◌, ⊤, List, [], AllPairs, Some, IfSome, IsSomeAnd}
 use Rattle.std.specs.Option.{option_map}
 use Rattle.key_book.specs.declared.key_row.KeyRow.{KeyRow}
 use Rattle.key_book.specs.KeyBook.{place_of}
@@ -20,6 +20,16 @@ pub record HasRisen (old new : KeyRow) : Type 0 where
 -- each key that is there is there again, with numbers that did not fall
 abbrev pub Rises : State → State → Type 0
 Rises old new = (id : ℕ) → IfSome (key_row old id) (λ held. IsSomeAnd (key_row new id) (HasRisen held))
+
+-- Numbers of a key that fall only where those of a change of its marks are below them, and then to these.
+pub record FallsOnlyTo (key to_mark to_floor : ℕ) (old new : KeyRow) : Type 0 where
+  pub mark : new.mark < old.mark → (old.id ≡ key) × (new.mark ≡ to_mark)
+  pub floor : new.floor < old.floor → (old.id ≡ key) × (new.floor ≡ to_floor)
+
+-- each key that is there is there again, with numbers that fell only so
+abbrev pub FallOnlyTo : State → State → ℕ → ℕ → ℕ → Type 0
+FallOnlyTo old new key mark floor =
+    (id : ℕ) → IfSome (key_row old id) (λ held. IsSomeAnd (key_row new id) (FallsOnlyTo key mark floor held))
 
 -- a change but that of marks
 abbrev pub IsNoMarks : Change → Type 0

@@ -18,7 +18,10 @@ use crate::state::State;
 use key_book::KeyRow;
 use replay_window::Verdict;
 use sa_book::SaRow;
-use sdls_base::{Change, Direction, KeyClass, KeyId, KeyItem, KeyItems, KeyList, KeyState, MOST_WINDOW, NewSa, SaState, Spi};
+use sdls_base::{
+    Change, Direction, KeyClass, KeyId, KeyItem, KeyItems, KeyList, KeyState, MOST_WINDOW, NewSa,
+    SaState, Spi,
+};
 
 fn is_count(count: usize) -> bool
     ensures { (result ≡ true) ↔ IsCount count }

@@ -3,13 +3,14 @@
 ghost use Rattle.std.specs.Prelude.{◌≡◌, ℕ, ◌+◌, ◌≤◌, List, ◌++◌, Some, None};
 ghost use Rattle.sdls_base.specs.declared.entry.Entry.{Entry};
 ghost use Rattle.sdls_base.specs.declared.change.Change.{Change};
+ghost use Rattle.sdls_base.specs.declared.change.Change.TheVariants.{Marks};
 ghost use Rattle.unit_state.specs.declared.state.State.{State};
 ghost use Rattle.unit_state.specs.State.{KeepsRules};
 ghost use Rattle.unit_state.specs.Applied.{applied};
 ghost use Rattle.unit_state.specs.Allows.{Allows};
-ghost use Rattle.unit_state.specs.Restart.{AreAlike, IsLight, restarted, still, stored_as};
+ghost use Rattle.unit_state.specs.Restart.{AreAlike, IsLight, IsStorable, restarted, still, stored_as};
 ghost use Rattle.unit_state.specs.History.{after, at_epoch, epoch_after};
-ghost use Rattle.unit_state.specs.Laws.{Rises, IsNoMarks, KeepsPlaces, HaveOwnBytes, ServeAlike, StoresWell};
+ghost use Rattle.unit_state.specs.Laws.{Rises, FallOnlyTo, IsNoMarks, KeepsPlaces, HaveOwnBytes, ServeAlike, StoresWell};
 
 /// Law: a change that a state allows leaves the rules.
 pub fn rules_stay()
@@ -20,6 +21,12 @@ pub fn rules_stay()
 /// Law: no change but that of marks moves a mark or a floor down, or takes a key away.
 pub fn numbers_rise()
     ensures { (state : State) (change : Change) → IsNoMarks change → Rises state (applied state change) }
+{}
+
+/// Law: a change of marks moves a mark or a floor down only where its own is below the key's.
+pub fn marks_fall_only_so()
+    ensures { (state : State) (key mark floor : ℕ)
+        → FallOnlyTo state (applied state (Marks key mark floor)) key mark floor }
 {}
 
 /// Law: a key keeps its place through every change.
@@ -57,6 +64,18 @@ pub fn unstored_stays()
 pub fn stored_well()
     ensures { (state : State) (change stored : Change) → KeepsRules state → Allows state change
         → stored_as state change ≡ Some stored → StoresWell state change stored }
+{}
+
+/// Law: of states of which a restart leaves the same, a change makes such states.
+pub fn alike_applied()
+    ensures { (one other : State) (change : Change) → AreAlike one other
+        → AreAlike (applied one change) (applied other change) }
+{}
+
+/// Law: of states of which a restart leaves the same, each allows a change of which there are records, or none does.
+pub fn alike_allows()
+    ensures { (one other : State) (change : Change) → IsStorable change → AreAlike one other
+        → Allows one change → Allows other change }
 {}
 
 /// Law: a history that goes on goes on from the state that it reached.

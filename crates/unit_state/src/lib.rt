@@ -12,7 +12,8 @@ mod starting;
 mod state;
 
 pub use laws::{
-    epochs_add, epochs_stay, histories_go_on, numbers_rise, octets_differ, places_stay, rest_stays,
-    restarts_once, rules_stay, serve_alike, stored_well, unstored_stays,
+    alike_allows, alike_applied, epochs_add, epochs_stay, histories_go_on, marks_fall_only_so,
+    numbers_rise, octets_differ, places_stay, rest_stays, restarts_once, rules_stay, serve_alike,
+    stored_well, unstored_stays,
 };
 pub use state::State;
