@@ -11,4 +11,5 @@ pub mod StateLaws
 pub mod Alike
 pub mod Again
 pub mod Allowed
+pub mod Floors
 pub mod Histories

@@ -1,9 +1,10 @@
-ghost use Rattle.std.specs.Prelude.{◌≡◌, IfOk, OnOk, OnErr};
+ghost use Rattle.std.specs.Prelude.{◌≡◌, map, IfOk, OnOk, OnErr};
+ghost use Rattle.key_book.specs.KeyBook.{AreKeyRows};
 ghost use Rattle.unit_state.specs.Applied.{applied};
 ghost use Rattle.unit_state.specs.Allows.{Allows};
-ghost use Rattle.unit_state.specs.Restart.{IsLight};
+ghost use Rattle.unit_state.specs.Restart.{IsLight, restarted_row, restarted};
 
-use key_book::KeyBook;
+use key_book::{KeyBook, KeyRow};
 use sa_book::SaBook;
 use sdls_base::{Change, ChannelList, NoMemory};
 
@@ -16,6 +17,16 @@ pub struct State {
     pub channels: ChannelList,
     /// The device field of the vectors.
     pub device: [u8; 4],
+}
+
+/// Gives each association that receives with one of the keys the key's floor as its highest number.
+fn to_floors(associations: &mut SaBook, keys: &[KeyRow])
+    requires { AreKeyRows keys.now }
+    ensures { associations.new ≡ map (restarted_row keys.now) associations.old }
+{
+    for key in keys {
+        associations.set_high(key.id, key.floor);
+    }
 }
 
 impl State {
@@ -61,6 +72,13 @@ impl State {
             } => self.accept(*spi, *key, *number, *floor),
             _ => {}
         }
+    }
+
+    /// Leaves what a restart leaves. Takes no memory.
+    pub fn restart(&mut self)
+        ensures { self.new ≡ restarted self.old }
+    {
+        to_floors(&mut self.associations, self.keys.rows());
     }
 
     /// An equal state.
