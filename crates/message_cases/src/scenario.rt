@@ -1,0 +1,124 @@
+//! A state, and what messages make of it.
+
+ghost use Rattle.std.specs.Prelude.{◌≡◌, ◌↔◌, true, IfOk};
+ghost use Rattle.ep_core.specs.Seen.{Fits, IsDrawn, IsWord};
+
+use ep_codec::{Command, PduError, read_pdu};
+use ep_core::{Need, Reply, judge, plan_change};
+use sdls_base::{Change, KeyId, NoMemory, Seen};
+use std::alloc::Global;
+use std::marker::Model;
+use unit_plan::{Plan, PlanError};
+use unit_state::{State, rules_stay};
+
+/// What a message was answered.
+#[derive(Drop)]
+pub enum Answer {
+    /// What was seen is not what was needed.
+    Unfit,
+    /// The state does not allow the change.
+    NotAllowed,
+    Told(Reply),
+}
+
+/// A number that was drawn is below the mark of its key, or past the end of it.
+fn is_drawn(state: &State, key: KeyId, seen: Seen) -> bool
+    ensures { (result ≡ true) ↔ IsDrawn state.now key seen }
+{
+    match seen {
+        Seen::Number(number) => match state.keys.find(key) {
+            Some((_, held)) => number < held.mark,
+            None => false,
+        },
+        Seen::Exhausted(number) => key.end() <= number,
+        Seen::Nothing | Seen::Word(_) => false,
+    }
+}
+
+/// A word that was seen is at least 1.
+fn is_word(seen: Seen) -> bool
+    ensures { (result ≡ true) ↔ IsWord seen }
+{
+    match seen {
+        Seen::Word(word) => 1 <= word,
+        Seen::Nothing | Seen::Number(_) | Seen::Exhausted(_) => false,
+    }
+}
+
+/// Whether what was seen is what was needed.
+fn fits(state: &State, need: &Need, seen: Seen) -> bool
+    ensures { (result ≡ true) ↔ Fits state.now need.now seen }
+{
+    match need {
+        Need::Nothing => matches!(seen, Seen::Nothing),
+        Need::Look(_) | Need::Raise(_, _) => is_word(seen),
+        Need::Number(key) => is_drawn(state, *key, seen),
+    }
+}
+
+/// A state that keeps the rules.
+#[derive(Drop)]
+pub struct Scenario {
+    state: State,
+}
+
+impl Model for Scenario {
+    ghost use Rattle.unit_state.specs.declared.state.State.{State};
+    ghost use Rattle.unit_state.specs.State.{KeepsRules};
+
+    ghost Value = { State };
+
+    ghost view = { λ scenario. scenario.state };
+
+    ghost invariant = { λ scenario. KeepsRules scenario.state };
+}
+
+impl Scenario {
+    /// The state that a plan's text makes.
+    pub fn begin(alloc: Global, text: &[u8]) -> Result<Scenario, PlanError> {
+        let plan = Plan::read(alloc, text)?;
+        let state = State::initial(alloc, &plan)?;
+        Ok(Scenario { state })
+    }
+
+    /// An equal scenario.
+    pub fn copy(&self) -> Result<Scenario, NoMemory>
+        ensures { IfOk result (λ scenario. scenario ≡ self.now) }
+    {
+        Ok(Scenario {
+            state: self.state.copy()?,
+        })
+    }
+
+    /// Makes a change where the state allows it, and says whether it does.
+    pub fn apply(&mut self, change: &Change) -> Result<bool, NoMemory> {
+        let allowed = self.state.allows(change);
+        if allowed {
+            rules_stay();
+            self.state.apply(change)?;
+        }
+        Ok(allowed)
+    }
+
+    /// What a message needs, and what it is answered with what was seen. The state is changed as it says.
+    pub fn obey(
+        &mut self,
+        alloc: Global,
+        message: &[u8],
+        seen: Seen,
+    ) -> Result<(Need, Answer), PduError> {
+        let command = read_pdu(alloc, message)?;
+        let need = judge(&self.state, &command);
+        if !fits(&self.state, &need, seen) {
+            return Ok((need, Answer::Unfit));
+        }
+        let Ok((change, reply)) = plan_change(alloc, &self.state, &command, &seen) else {
+            return Err(PduError::NoMemory);
+        };
+        match self.apply(&change) {
+            Ok(true) => Ok((need, Answer::Told(reply))),
+            Ok(false) => Ok((need, Answer::NotAllowed)),
+            Err(NoMemory) => Err(PduError::NoMemory),
+        }
+    }
+}
