@@ -1,5 +1,8 @@
 //! The words of a line.
 
+ghost use Rattle.std.specs.Prelude.{IfSome};
+ghost use Rattle.unit_state.specs.Restart.{IsLight};
+
 use sdls_base::{Change, KeyId, Seen, Spi};
 
 /// The number at a place of a line, 0 where there is none.
@@ -26,7 +29,9 @@ pub fn seen(text: &str) -> Seen {
 }
 
 /// The change that a reserve makes: `KEY MARK FLOOR`.
-pub fn marks(text: &str) -> Option<Change> {
+pub fn marks(text: &str) -> Option<Change>
+    ensures { IfSome result IsLight }
+{
     Some(Change::Marks {
         key: KeyId::new(index_at(text, 0))?,
         mark: number_at(text, 1),
@@ -35,7 +40,9 @@ pub fn marks(text: &str) -> Option<Change> {
 }
 
 /// The change that a frame makes: `SPI KEY NUMBER FLOOR`.
-pub fn accepted(text: &str) -> Option<Change> {
+pub fn accepted(text: &str) -> Option<Change>
+    ensures { IfSome result IsLight }
+{
     Some(Change::Accepted {
         spi: Spi::new(index_at(text, 0))?,
         key: KeyId::new(index_at(text, 1))?,

@@ -1,6 +1,9 @@
 //! A state, and what messages make of it.
 
-ghost use Rattle.std.specs.Prelude.{◌≡◌, ◌↔◌, true, IfOk};
+ghost use Rattle.std.specs.Prelude.{◌≡◌, ◌↔◌, true, IfOk, OnOk};
+ghost use Rattle.unit_state.specs.Restart.{IsLight};
+ghost use Rattle.unit_state.specs.Allows.{Allows};
+ghost use Rattle.unit_state.specs.Applied.{applied};
 ghost use Rattle.ep_core.specs.Seen.{Fits, IsDrawn, IsWord};
 
 use ep_codec::{Command, PduError, read_pdu};
@@ -91,13 +94,32 @@ impl Scenario {
     }
 
     /// Makes a change where the state allows it, and says whether it does.
-    pub fn apply(&mut self, change: &Change) -> Result<bool, NoMemory> {
+    pub fn apply(&mut self, change: &Change) -> Result<bool, NoMemory>
+        ensures told { IfOk result (λ allowed. (allowed ≡ true) ↔ Allows self.old change.now) }
+        ensures changed { OnOk result (Allows self.old change.now → self.new ≡ applied self.old change.now) }
+        ensures kept { (Allows self.old change.now → ⊥) → self.new ≡ self.old }
+    {
         let allowed = self.state.allows(change);
         if allowed {
             rules_stay();
             self.state.apply(change)?;
         }
         Ok(allowed)
+    }
+
+    /// The same for a change that moves numbers alone. Takes no memory.
+    pub fn apply_here(&mut self, change: &Change) -> bool
+        requires { IsLight change.now }
+        ensures told { (result ≡ true) ↔ Allows self.old change.now }
+        ensures changed { Allows self.old change.now → self.new ≡ applied self.old change.now }
+        ensures kept { (Allows self.old change.now → ⊥) → self.new ≡ self.old }
+    {
+        let allowed = self.state.allows(change);
+        if allowed {
+            rules_stay();
+            self.state.apply_here(change);
+        }
+        allowed
     }
 
     /// What a message needs, and what it is answered with what was seen. The state is changed as it says.

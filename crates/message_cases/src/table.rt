@@ -1,5 +1,8 @@
 //! The steps of scenarios, and what they answer.
 
+ghost use Rattle.std.specs.Prelude.{IfSome};
+ghost use Rattle.unit_state.specs.Restart.{IsLight};
+
 use crate::fields;
 use crate::scenario::{Answer, Scenario};
 use ep_core::{Need, Reply};
@@ -86,10 +89,12 @@ impl Table {
         Ok(format!(in alloc; "copied")?)
     }
 
-    /// Makes a change where there is one that the state allows.
-    fn apply(&mut self, alloc: Global, change: Option<Change>) -> anyhow::Result<String> {
+    /// Makes a change of numbers, where there is one that the state allows.
+    fn move_numbers(&mut self, alloc: Global, change: Option<Change>) -> anyhow::Result<String>
+        requires { IfSome change IsLight }
+    {
         if let (Some(scenario), Some(change)) = (&mut self.scenario, &change) {
-            if scenario.apply(change)? {
+            if scenario.apply_here(change) {
                 return Ok(format!(in alloc; "allowed")?);
             }
         }
@@ -114,8 +119,8 @@ impl Table {
         match word {
             "begin" => self.begin(alloc),
             "copy" => self.copy(alloc),
-            "marks" => self.apply(alloc, fields::marks(rest)),
-            "accepted" => self.apply(alloc, fields::accepted(rest)),
+            "marks" => self.move_numbers(alloc, fields::marks(rest)),
+            "accepted" => self.move_numbers(alloc, fields::accepted(rest)),
             "do" => self.obey(alloc, rest),
             _ => Ok(format!(in alloc; "{line}")?),
         }
