@@ -362,8 +362,26 @@ done_allowed state (Stop spi) s step rules bounds fits none is some =
 done_allowed state (Status spi) s step rules bounds fits none is some =
     absurd (some (no_change (association_row state spi) step _ (λ _. refl) is))
 
-pub change_allowed : (state : State) (command : Command) (s : Seen) (step : Change × Reply) → KeepsRules state → IsInBounds command
+some_allowed : (state : State) (command : Command) (s : Seen) (step : Change × Reply) → KeepsRules state → IsInBounds command
     → Fits state (need_of state command) s → IsStep state command s step → step.0 ≢ changes.Nothing → Allows state step.0
-change_allowed state command s step rules bounds fits is some =
+some_allowed state command s step rules bounds fits is some =
     let free = step_free state command s step (refusal_of state command s) refl is some in
     done_allowed state command s step rules bounds fits free.told free.is some
+
+-- nothing is allowed always
+allowed_always : (state : State) (change : Change) → (change ≢ changes.Nothing → Allows state change) → Allows state change
+allowed_always state (changes.Marks key mark floor) some = some (λ e. absurd (cc))
+allowed_always state (changes.Load items) some = some (λ e. absurd (cc))
+allowed_always state (changes.KeyStates ids to) some = some (λ e. absurd (cc))
+allowed_always state (changes.Create new) some = some (λ e. absurd (cc))
+allowed_always state (changes.Rekey spi key number) some = some (λ e. absurd (cc))
+allowed_always state (changes.SaTo spi to) some = some (λ e. absurd (cc))
+allowed_always state (changes.SetNumber spi number) some = some (λ e. absurd (cc))
+allowed_always state (changes.SetWindow spi window) some = some (λ e. absurd (cc))
+allowed_always state (changes.Accepted spi key number floor) some = some (λ e. absurd (cc))
+allowed_always state changes.Nothing some = tt
+
+pub change_allowed : (state : State) (command : Command) (s : Seen) (step : Change × Reply) → KeepsRules state → IsInBounds command
+    → Fits state (need_of state command) s → IsStep state command s step → Allows state step.0
+change_allowed state command s step rules bounds fits is =
+    allowed_always state step.0 (some_allowed state command s step rules bounds fits is)

@@ -1,6 +1,5 @@
 ghost use Rattle.std.specs.Prelude.{◌≡◌, ◌≢◌, ℕ, ◌<◌, List, ◌∷◌, ◌++◌, length, take};
 ghost use Rattle.sdls_base.specs.declared.change.Change.{Change};
-ghost use Rattle.sdls_base.specs.declared.change.Change.TheVariants as changes;
 ghost use Rattle.sdls_base.specs.declared.entry.Seen.{Seen};
 ghost use Rattle.sdls_header.specs.Authenticated.{authenticated};
 ghost use Rattle.unit_state.specs.declared.state.State.{State};
@@ -23,11 +22,11 @@ pub fn no_frame_begins_so()
         → authenticated mask (octet ∷ prefix) header ≢ no_frame ++ rest }
 {}
 
-/// Law: a state allows the change of each step, where there is one.
+/// Law: a state allows the change of each step.
 pub fn changes_are_allowed()
     ensures { (state : State) (command : Command) (seen : Seen) (step : Change × Reply)
         → KeepsRules state → IsInBounds command → Fits state (need_of state command) seen
-        → IsStep state command seen step → step.0 ≢ changes.Nothing → Allows state step.0 }
+        → IsStep state command seen step → Allows state step.0 }
 {}
 
 /// Law: for a command the same has to be seen in states that differ in marks, floors and highest numbers alone.

@@ -7,10 +7,12 @@
 
 mod allowing;
 mod changing;
+mod counting;
 mod laws;
 mod starting;
 mod state;
 
+pub use counting::counts;
 pub use laws::{
     alike_allows, alike_applied, epochs_add, epochs_stay, histories_go_on, marks_fall_only_so,
     numbers_rise, octets_differ, places_stay, rest_stays, restarts_once, rules_stay, serve_alike,
