@@ -1,6 +1,7 @@
 -- The checks of a frame that is to be protected, in their order (profile), and what they find in a state.
-use Rattle.std.specs.Prelude.{◌≡◌, ℕ, ◌+◌, ◌*◌, ◌/◌, ◌%◌, ◌^◌, Bool, not, ◌&&◌, ◌||◌, ◌==◌, nat_lt, if◌then◌else◌, List, [], ◌∷◌, length, slice_index, Option, Some, None, is_some, is_none}
+use Rattle.std.specs.Prelude.{◌≡◌, ℕ, ◌+◌, ◌*◌, ◌/◌, ◌%◌, ◌^◌, Bool, not, ◌&&◌, ◌||◌, ◌==◌, nat_lt, if◌then◌else◌, List, [], ◌∷◌, length, slice_index, Option, Some, None, is_some, is_none, unwrap_or}
 use Rattle.std.specs.Option.{option_and_then}
+use Rattle.sdls_base.specs.FirstFailing.{Check, first_failing}
 use Rattle.sdls_base.specs.declared.layout.FrameFault.{FrameFault}
 use Rattle.sdls_base.specs.declared.layout.FrameFault.TheVariants.{Short, Long, LengthField, Version, Spare, SecondaryHeader, Fecf}
 use Rattle.tc_frame.specs.FirstFault.{first_fault, control_of}
@@ -56,16 +57,8 @@ fault_number (Some Fecf) = 7
 abbrev pub clear_fault : List ℕ → Option FrameFault
 clear_fault frame = first_fault (clear_layout link_layout) frame
 
--- a check: whether it ends the checks, and the verdict that it then gives
-abbrev pub Check : Type 0
-Check = Bool × Verdict
-
--- the verdict of the first check that ends them; the frame is bound where none does
-abbrev pub first_verdict : List Check → Verdict
-first_verdict [] = verdicts.Bound
-first_verdict (check ∷ checks) = if check.0 then check.1 else first_verdict checks
-
-abbrev pub protect_checks : State → ℕ → List ℕ → List Check
+-- the checks, each with the verdict that it gives where it ends them
+abbrev pub protect_checks : State → ℕ → List ℕ → List (Check Verdict)
 protect_checks state link clear =
     (not (link == 0), verdicts.Layout 0)
     ∷ (lacks_header clear, verdicts.Layout 1)
@@ -74,9 +67,10 @@ protect_checks state link clear =
     ∷ (is_none (sender_of state link clear), verdicts.State)
     ∷ (is_some (clear_fault clear), verdicts.Layout (fault_number (clear_fault clear))) ∷ []
 
--- the verdict on a frame in clear that is to be protected on a link
+-- The verdict on a frame in clear that is to be protected on a link: that of the first check that ends them, and bound
+-- where none does.
 abbrev pub protect_verdict : State → ℕ → List ℕ → Verdict
-protect_verdict state link clear = first_verdict (protect_checks state link clear)
+protect_verdict state link clear = unwrap_or (first_failing (protect_checks state link clear)) verdicts.Bound
 
 -- the octets of a row's key, where it has them
 abbrev pub octets_in : State → ℕ → Option (List ℕ)
