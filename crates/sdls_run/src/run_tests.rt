@@ -51,10 +51,10 @@ const LAST_NUMBER: [(u32, &str); 1] = [(4_294_967_295, "a4989f09105d786f0f20e490
 const SYNC_OF_THE_GATE: u64 = 25;
 
 /// The call that follows the fourth answer.
-const CALL_AFTER_FOUR: u64 = 34;
+const CALL_AFTER_FOUR: u64 = 30;
 
 /// The calls of a run with five frames, each with a segment of its own.
-const CALLS_OF_FIVE: u64 = 42;
+const CALLS_OF_FIVE: u64 = 38;
 
 fn joined(alloc: Global, pieces: &[&[u8]]) -> Result<Vec<u8>, AllocError> {
     let mut octets = Vec::new(alloc);
