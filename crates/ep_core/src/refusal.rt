@@ -29,11 +29,11 @@ pub enum Refusal {
     SaInState(SaState),
     #[error("channel is covered by association {}", .0.get())]
     ChannelTaken(Spi),
-    #[error("key is in state {0:?}, not active")]
+    #[error("key is in state {0:?}, and is to be active")]
     KeyNotActive(KeyState),
     #[error("number is below {0}, the least that is lawful")]
     BelowFloor(u64),
-    #[error("association book has no room")]
+    #[error("unit has no room for a further association")]
     TableFull,
     #[error("key {} is of another class than the suite", .0.get())]
     WrongSuite(KeyId),
