@@ -6,3 +6,4 @@ pub mod Searches
 pub mod Pieces
 pub mod Remainders
 pub mod Differences
+pub mod OctetSteps

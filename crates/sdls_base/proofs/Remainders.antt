@@ -1,7 +1,7 @@
 -- Remainders by the generator of the frame error control field.
-use Rattle.std.proofs.Common.{◌≡◌, ℕ, zero, suc, ◌+◌, ◌-◌, ◌*◌, ◌%◌, ◌^◌, ◌<◌, ◌≤◌, List, [], ◌∷◌, ◌++◌, length, get_or, refl, sym, ◌∙◌, ap, subst, arith, add-zero, zero-add, pow-suc, append_assoc, append-nil, length-append, Bool, true, false, lit<}
+use Rattle.std.proofs.Common.{◌≡◌, ℕ, zero, suc, ◌+◌, ◌-◌, ◌*◌, ◌^◌, ◌<◌, ◌≤◌, List, [], ◌∷◌, ◌++◌, length, get_or, refl, sym, ◌∙◌, ap, subst, arith, add-zero, zero-add, pow-suc, append_assoc, append-nil, length-append, Bool, true, false, lit<}
 use Rattle.std.specs.Prelude.{bit_xor, fold, nat_lt}
-use Rattle.std.proofs.lemmas.Bool.{ltb-true, le-ltb, ltb-false}
+use Rattle.std.proofs.lemmas.Bool.{ltb-true, ltb-false}
 use Rattle.std.proofs.lemmas.Nat.{xor_comm, xor_lt, xor_block, pow_pos, pow-add, leading_top}
 use lib.Bits.{xor_assoc, xor_self, xor_zero_r, xor_shifted}
 use Rattle.sdls_base.specs.ErrorControl.{times_generator, IsRemainder, polynomial, dividend, times_x, after_octet, frame_error_control}
@@ -45,16 +45,6 @@ over s h =
     let e : bit_xor (1 * 2 ^ 16 + 2 * s) (1 * 2 ^ 16 + 0x1021) ≡ bit_xor 1 1 * 2 ^ 16 + bit_xor (2 * s) 0x1021 = xor_block 16 1 1 (2 * s) 0x1021 small (omega arith) in
     let f : 2 * (2 ^ 15 + s) ≡ 1 * 2 ^ 16 + 2 * s = omega arith in
     ap (λ n. bit_xor n (2 ^ 16 + 0x1021)) f ∙ e ∙ zero-add (bit_xor (2 * s) 0x1021)
-
--- the one register step that the code makes
-pub times_x_over : (r : ℕ) → 2 ^ 15 ≤ r → r < 2 ^ 16 → bit_xor (r * 2 % 2 ^ 16) 0x1021 ≡ times_x r
-unfolding times_x
-times_x_over r low high =
-    let e : bit_xor (2 * (2 ^ 15 + (r - 2 ^ 15))) (2 ^ 16 + 0x1021) ≡ bit_xor (2 * (r - 2 ^ 15)) 0x1021 = over (r - 2 ^ 15) (omega arith) in
-    let f : 2 ^ 15 + (r - 2 ^ 15) ≡ r = omega arith in
-    let g : r * 2 % 2 ^ 16 ≡ 2 * (r - 2 ^ 15) = omega arith in
-    let t : nat_lt r (2 ^ 15) ≡ false = le-ltb r (2 ^ 15) low in
-    rw (t, g) (sym e ∙ ap (λ n. bit_xor (2 * n) (2 ^ 16 + 0x1021)) f)
 
 by_step : (r : ℕ) → r < 2 ^ 16 → (b : Bool) → nat_lt r (2 ^ 15) ≡ b → IsRemainder (r * 2 ^ 1) (times_x r)
 unfolding times_x
