@@ -2,8 +2,8 @@
 use Rattle.std.proofs.Common.{◌≡◌, ℕ, suc, ◌+◌, ◌<◌, ◌≤◌, Bool, List, [], ◌∷◌, ◌++◌, length, take, get_or, sym, ◌∙◌, ap, subst, arith, append_assoc}
 use Rattle.std.proofs.Math.Seq.{take-suc}
 use Rattle.sdls_outside.specs.Moments.{Trace}
-use Rattle.unit_book.specs.Binding.{BindingParts}
-use Rattle.unit_book.specs.Book.{BookView}
+use Rattle.channel_book.specs.Binding.{BindingParts}
+use Rattle.channel_book.specs.Book.{BookView}
 use Rattle.sdls_run.specs.declared.records.Record.{Record}
 use Rattle.record_io.specs.declared.answers.Answer.{Answer}
 use Rattle.sdls_run.specs.Serving.{IsReady, IsServing, AnswersFrame, ServesOn}

@@ -7,9 +7,9 @@ use Rattle.std.proofs.lemmas.Bool.{cases_lt}
 use Rattle.std.proofs.lemmas.Bool.Decides.{nat_tests}
 use Rattle.std.proofs.lemmas.List.{append-nil, take_all, take_at, take-append-le, get_or_append_left}
 use Rattle.sdls_base.specs.declared.entry.Entry.{Entry}
-use Rattle.unit_book.specs.State.{State, mark_of}
-use Rattle.unit_book.specs.History.{after_first}
-use Rattle.unit_book.specs.Book.{places_below}
+use Rattle.channel_book.specs.State.{State, mark_of}
+use Rattle.channel_book.specs.History.{after_first}
+use Rattle.channel_book.specs.Book.{places_below}
 use Rattle.sdls_run.specs.declared.records.Record.{Record}
 use Rattle.record_io.specs.declared.answers.Answer.{Answer}
 use Rattle.record_io.specs.Answers.{answer_octets}

@@ -5,16 +5,16 @@ use Rattle.std.proofs.lemmas.Bool.{cases_lt}
 use Rattle.std.proofs.lemmas.Bool.Decides.{nat_tests}
 use Rattle.std.proofs.lemmas.List.{take-append-le}
 use Rattle.sdls_base.specs.declared.entry.Entry.{Entry}
-use Rattle.unit_book.specs.State.{State, mark_of}
-use Rattle.unit_book.specs.History.{after_first, reserve_of}
+use Rattle.channel_book.specs.State.{State, mark_of}
+use Rattle.channel_book.specs.History.{after_first, reserve_of}
 use Rattle.sdls_outside.specs.Moments.{Trace}
-use Rattle.unit_book.specs.declared.fault.BookFault.{BookFault}
-use Rattle.unit_book.specs.declared.fault.BookFault.TheVariants.{SiteFault, Stopped, JournalFull}
-use Rattle.unit_book.specs.Binding.{BindingParts}
-use Rattle.unit_book.specs.Book.{BookView, IsKept, Adds, Stores, ReserveFails, SameBook, places_below}
-use Rattle.unit_book.proofs.Showing.{first_same}
+use Rattle.channel_book.specs.declared.fault.BookFault.{BookFault}
+use Rattle.channel_book.specs.declared.fault.BookFault.TheVariants.{SiteFault, Stopped, JournalFull}
+use Rattle.channel_book.specs.Binding.{BindingParts}
+use Rattle.channel_book.specs.Book.{BookView, IsKept, Adds, Stores, ReserveFails, SameBook, places_below}
+use Rattle.channel_book.proofs.Showing.{first_same}
 use Rattle.sdls_run.specs.declared.records.Record.{Record}
-use Rattle.unit_book.proofs.Histories.{few_below, not_below}
+use Rattle.channel_book.proofs.Histories.{few_below, not_below}
 use Rattle.record_io.specs.declared.answers.Answer.{Answer}
 use Rattle.record_io.specs.Answers.{answer_octets}
 use Rattle.sdls_run.specs.Sound.{Uses}

@@ -3,9 +3,9 @@ use Rattle.std.proofs.Common.{◌≡◌, ℕ, ◌+◌, ◌-◌, ◌^◌, ◌<◌
 use Rattle.sdls_outside.specs.Faults.{Rose}
 use Rattle.sdls_outside.specs.Moments.{Trace, Between}
 use Rattle.sdls_base.specs.declared.entry.Entry.{Entry}
-use Rattle.unit_book.specs.Binding.{BindingParts}
-use Rattle.unit_book.specs.Book.{BookView, IsKept, SameBook}
-use Rattle.unit_book.proofs.Faults.{rose_earlier}
+use Rattle.channel_book.specs.Binding.{BindingParts}
+use Rattle.channel_book.specs.Book.{BookView, IsKept, SameBook}
+use Rattle.channel_book.proofs.Faults.{rose_earlier}
 use Rattle.sdls_run.specs.declared.records.Record.{Record}
 use Rattle.record_io.specs.declared.answers.Answer.{Answer}
 use Rattle.sdls_run.specs.declared.running.RunEnd.{RunEnd}

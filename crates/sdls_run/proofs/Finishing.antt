@@ -11,19 +11,19 @@ use Rattle.sdls_outside.specs.Site.{Sank}
 use Rattle.sdls_outside.proofs.Moments.{each_then, each_weaker, each_same, each_puts, moment_now}
 use Rattle.disk_journal.specs.Image.{records, slot_count}
 use Rattle.disk_journal.specs.Changes.{Regates}
-use Rattle.unit_book.specs.Binding.{BindingParts}
-use Rattle.unit_book.specs.State.{State, mark_of}
-use Rattle.unit_book.specs.Shows.{Shows, ShowsNone}
-use Rattle.unit_book.specs.History.{Near, AreReserves, LegalHistory}
-use Rattle.unit_book.specs.Verdict.{binding_of}
-use Rattle.unit_book.specs.Book.{BookView, IsKept, Placed, Opening, SameJournal}
-use Rattle.unit_book.specs.declared.fault.OpenFault.{OpenFault}
-use Rattle.unit_book.specs.declared.fault.OpenFault.TheVariants as open_faults
-use Rattle.unit_book.specs.Opening.{IsOpenCause}
-use Rattle.unit_book.proofs.Faults.{rose_earlier}
-use Rattle.unit_book.proofs.Showing.{LedTo, shows_led, led_ends}
-use Rattle.unit_book.proofs.ShownOnce.{shown_once}
-use Rattle.unit_book.proofs.ShownNone.{shows_some}
+use Rattle.channel_book.specs.Binding.{BindingParts}
+use Rattle.channel_book.specs.State.{State, mark_of}
+use Rattle.channel_book.specs.Shows.{Shows, ShowsNone}
+use Rattle.channel_book.specs.History.{Near, AreReserves, LegalHistory}
+use Rattle.channel_book.specs.Verdict.{binding_of}
+use Rattle.channel_book.specs.Book.{BookView, IsKept, Placed, Opening, SameJournal}
+use Rattle.channel_book.specs.declared.fault.OpenFault.{OpenFault}
+use Rattle.channel_book.specs.declared.fault.OpenFault.TheVariants as open_faults
+use Rattle.channel_book.specs.Opening.{IsOpenCause}
+use Rattle.channel_book.proofs.Faults.{rose_earlier}
+use Rattle.channel_book.proofs.Showing.{LedTo, shows_led, led_ends}
+use Rattle.channel_book.proofs.ShownOnce.{shown_once}
+use Rattle.channel_book.proofs.ShownNone.{shows_some}
 use Rattle.sdls_run.specs.declared.records.Record.{Record}
 use Rattle.record_io.specs.declared.answers.Answer.{Answer}
 use Rattle.sdls_run.specs.declared.running.RunEnd.{RunEnd}

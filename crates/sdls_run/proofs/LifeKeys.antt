@@ -9,14 +9,14 @@ use Rattle.unit_plan.specs.declared.telecommand.TelecommandPlan.{TelecommandPlan
 use Rattle.unit_plan.specs.Telecommand.{SaysTelecommand}
 use Rattle.disk_journal.specs.Initial.{initial_image}
 use Rattle.disk_journal.proofs.Beginning.{Begins, begins}
-use Rattle.unit_book.specs.State.{State, AssociationRow, telecommand_state, sender_on, applied}
-use Rattle.unit_book.specs.Verdict.{IsBinding, channel_of}
-use Rattle.unit_book.specs.declared.binding.Verdict.{Verdict}
-use Rattle.unit_book.specs.declared.binding.Verdict.TheVariants.{Layout, Clear, Channel, State as NoSender, Bound}
-use Rattle.unit_book.specs.History.{Near, AreReserves, at_epoch, counts}
-use Rattle.unit_book.proofs.Showing.{IsTelecommand, LedTo, shows_led, led_ends}
-use Rattle.unit_book.proofs.ShownOnce.{plan_once}
-use Rattle.unit_book.proofs.Marks.{first_telecommand}
+use Rattle.channel_book.specs.State.{State, AssociationRow, telecommand_state, sender_on, applied}
+use Rattle.channel_book.specs.Verdict.{IsBinding, channel_of}
+use Rattle.channel_book.specs.declared.binding.Verdict.{Verdict}
+use Rattle.channel_book.specs.declared.binding.Verdict.TheVariants.{Layout, Clear, Channel, State as NoSender, Bound}
+use Rattle.channel_book.specs.History.{Near, AreReserves, at_epoch, counts}
+use Rattle.channel_book.proofs.Showing.{IsTelecommand, LedTo, shows_led, led_ends}
+use Rattle.channel_book.proofs.ShownOnce.{plan_once}
+use Rattle.channel_book.proofs.Marks.{first_telecommand}
 use Rattle.record_io.specs.declared.answers.Answer.{Answer}
 use Rattle.sdls_run.specs.declared.records.Record.{Record}
 use Rattle.sdls_run.specs.Fits.{Course, IsVerdict, IsProtected, Fits, FitInTurn}

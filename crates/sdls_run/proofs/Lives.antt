@@ -14,13 +14,13 @@ use Rattle.disk_journal.specs.Initial.{initial_image}
 use Rattle.disk_journal.proofs.Growing.{Regated, regates, FormOpens, form_opens, regated_keeps_plan}
 use Rattle.disk_journal.proofs.Beginning.{Begins, begins}
 use Rattle.sdls_base.specs.declared.entry.Entry.{Entry}
-use Rattle.unit_book.specs.State.{State, initial, mark_of, floor_of, restarted}
-use Rattle.unit_book.specs.Record.{LeadTo}
-use Rattle.unit_book.specs.Shows.{Shows}
-use Rattle.unit_book.specs.History.{Near, AreReserves, after_first}
-use Rattle.unit_book.proofs.Showing.{IsTelecommand, LedTo, shows_led, led_ends, shows_regated}
-use Rattle.unit_book.proofs.ShownOnce.{shown_once}
-use Rattle.unit_book.proofs.Marks.{all_marks_rise, floors_stay, first_telecommand}
+use Rattle.channel_book.specs.State.{State, initial, mark_of, floor_of, restarted}
+use Rattle.channel_book.specs.Record.{LeadTo}
+use Rattle.channel_book.specs.Shows.{Shows}
+use Rattle.channel_book.specs.History.{Near, AreReserves, after_first}
+use Rattle.channel_book.proofs.Showing.{IsTelecommand, LedTo, shows_led, led_ends, shows_regated}
+use Rattle.channel_book.proofs.ShownOnce.{shown_once}
+use Rattle.channel_book.proofs.Marks.{all_marks_rise, floors_stay, first_telecommand}
 use Rattle.record_io.specs.declared.answers.Answer.{Answer}
 use Rattle.sdls_run.specs.Fits.{Course}
 use Rattle.sdls_run.specs.Sound.{PairsDiffer, AcceptedOnce, IsShown, ShowsServed, Uses, Accepts, Differ}

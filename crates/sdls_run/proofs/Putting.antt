@@ -5,7 +5,7 @@ use Rattle.std.proofs.lemmas.List.{append-nil, take_at, take-append-le, length-t
 use Rattle.sdls_outside.specs.Moments.{Trace, Between}
 use Rattle.sdls_outside.specs.Site.{Sank, Puts}
 use Rattle.sdls_outside.proofs.Moments.{between-old}
-use Rattle.unit_book.specs.Book.{BookView, SameBook}
+use Rattle.channel_book.specs.Book.{BookView, SameBook}
 use Rattle.record_io.specs.declared.answers.Answer.{Answer}
 use Rattle.record_io.specs.Answers.{answer_octets}
 use Rattle.record_io.specs.Answers.{answers_octets}

@@ -5,9 +5,9 @@ use Rattle.std.proofs.lemmas.Bool.Decides.{nat_tests}
 use Rattle.std.proofs.lemmas.List.{append-nil}
 use Rattle.sdls_outside.specs.Faults.{Rose}
 use Rattle.sdls_outside.specs.Moments.{Trace}
-use Rattle.unit_book.specs.Binding.{BindingParts}
-use Rattle.unit_book.specs.Book.{BookView}
-use Rattle.unit_book.proofs.Faults.{rose_earlier}
+use Rattle.channel_book.specs.Binding.{BindingParts}
+use Rattle.channel_book.specs.Book.{BookView}
+use Rattle.channel_book.proofs.Faults.{rose_earlier}
 use Rattle.sdls_run.specs.declared.records.Record.{Record}
 use Rattle.sdls_run.specs.declared.records.SegmentEnd.{SegmentEnd}
 use Rattle.sdls_run.specs.declared.records.SegmentEnd.TheVariants.{More, End, Malformed, SourceFault}

@@ -6,11 +6,11 @@ use Rattle.sdls_outside.specs.Moments.{Trace, Between}
 use Rattle.sdls_base.specs.declared.entry.Entry.{Entry}
 use Rattle.disk_journal.specs.Image.{records}
 use Rattle.disk_journal.specs.Journal.{JournalView}
-use Rattle.unit_book.specs.Binding.{BindingParts}
-use Rattle.unit_book.specs.State.{State, key_row, mark_of}
-use Rattle.unit_book.specs.History.{Near, AreReserves}
-use Rattle.unit_book.specs.Verdict.{binding_of}
-use Rattle.unit_book.specs.Book.{BookView, IsKept, SameBook}
+use Rattle.channel_book.specs.Binding.{BindingParts}
+use Rattle.channel_book.specs.State.{State, key_row, mark_of}
+use Rattle.channel_book.specs.History.{Near, AreReserves}
+use Rattle.channel_book.specs.Verdict.{binding_of}
+use Rattle.channel_book.specs.Book.{BookView, IsKept, SameBook}
 use Rattle.sdls_run.specs.declared.records.Record.{Record}
 use Rattle.record_io.specs.declared.answers.Answer.{Answer}
 use Rattle.sdls_run.specs.Fits.{Course, Fits, FitInTurn}

@@ -10,15 +10,15 @@ use Rattle.sdls_base.specs.declared.entry.Entry.{Entry}
 use Rattle.sdls_outside.specs.Faults.{Rose}
 use Rattle.sdls_outside.specs.Moments.{Trace}
 use Rattle.disk_journal.specs.Image.{records}
-use Rattle.unit_book.specs.declared.binding.Verdict.TheVariants.{Layout, Clear, Channel, State as NoSender, Bound}
-use Rattle.unit_book.specs.declared.fault.BookFault.{BookFault}
-use Rattle.unit_book.specs.declared.fault.BookFault.TheVariants.{SiteFault, Stopped, JournalFull}
-use Rattle.unit_book.specs.Verdict.{protect_verdict, binding_of, IsBound}
-use Rattle.unit_book.specs.Binding.{BindingParts}
-use Rattle.unit_book.specs.State.{State, key_row, mark_of, applied}
-use Rattle.unit_book.specs.History.{Near, IsReserve, AreReserves, after, after_first, at_epoch, reserve_of}
-use Rattle.unit_book.specs.Book.{BookView, IsKept, CanAdd, Adds, Stores, ReserveFails}
-use Rattle.unit_book.proofs.Showing.{after_more, first_same, first_all}
+use Rattle.channel_book.specs.declared.binding.Verdict.TheVariants.{Layout, Clear, Channel, State as NoSender, Bound}
+use Rattle.channel_book.specs.declared.fault.BookFault.{BookFault}
+use Rattle.channel_book.specs.declared.fault.BookFault.TheVariants.{SiteFault, Stopped, JournalFull}
+use Rattle.channel_book.specs.Verdict.{protect_verdict, binding_of, IsBound}
+use Rattle.channel_book.specs.Binding.{BindingParts}
+use Rattle.channel_book.specs.State.{State, key_row, mark_of, applied}
+use Rattle.channel_book.specs.History.{Near, IsReserve, AreReserves, after, after_first, at_epoch, reserve_of}
+use Rattle.channel_book.specs.Book.{BookView, IsKept, CanAdd, Adds, Stores, ReserveFails}
+use Rattle.channel_book.proofs.Showing.{after_more, first_same, first_all}
 use Rattle.sdls_run.specs.declared.records.Record.{Record}
 use Rattle.record_io.specs.declared.answers.Answer.{Answer}
 use Rattle.sdls_run.specs.Fits.{Course, IsBare, IsVerdict, IsWanting, IsBoundTo, IsDue, TellsFault, IsProtected, IsRefused, IsExhausted, IsFull, IsFaulted, IsStopped, Fits, FitInTurn}

@@ -10,15 +10,15 @@ use Rattle.sdls_outside.specs.Moments.{Trace, Between, EachMoment}
 use Rattle.disk_journal.specs.Image.{records, slot_count, IsHalfOpen, opened_form}
 use Rattle.disk_journal.specs.Changes.{Regates}
 use Rattle.unit_plan.specs.declared.telecommand.TelecommandPlan.{TelecommandPlan}
-use Rattle.unit_book.specs.Binding.{BindingParts}
-use Rattle.unit_book.specs.State.{State, mark_of, restarted}
-use Rattle.unit_book.specs.Shows.{Shows}
-use Rattle.unit_book.specs.History.{Near, AreReserves, LegalHistory, after_first, epoch_after}
-use Rattle.unit_book.specs.Verdict.{binding_of}
-use Rattle.unit_book.specs.Book.{BookView, IsKept, Placed, ShowsAfter, ShowsFrom, Opening, places_below}
-use Rattle.unit_book.proofs.Showing.{IsTelecommand, restarts_same, shows_led, led_ends}
-use Rattle.unit_book.proofs.ShownOnce.{shown_once}
-use Rattle.unit_book.proofs.Marks.{all_marks_rise, first_telecommand}
+use Rattle.channel_book.specs.Binding.{BindingParts}
+use Rattle.channel_book.specs.State.{State, mark_of, restarted}
+use Rattle.channel_book.specs.Shows.{Shows}
+use Rattle.channel_book.specs.History.{Near, AreReserves, LegalHistory, after_first, epoch_after}
+use Rattle.channel_book.specs.Verdict.{binding_of}
+use Rattle.channel_book.specs.Book.{BookView, IsKept, Placed, ShowsAfter, ShowsFrom, Opening, places_below}
+use Rattle.channel_book.proofs.Showing.{IsTelecommand, restarts_same, shows_led, led_ends}
+use Rattle.channel_book.proofs.ShownOnce.{shown_once}
+use Rattle.channel_book.proofs.Marks.{all_marks_rise, first_telecommand}
 use Rattle.sdls_run.specs.declared.records.Record.{Record}
 use Rattle.record_io.specs.declared.answers.Answer.{Answer}
 use Rattle.record_io.specs.Answers.{answer_octets}

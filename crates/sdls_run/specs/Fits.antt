@@ -3,12 +3,12 @@ use Rattle.std.specs.Prelude.{◌≡◌, ℕ, ◌+◌, ◌<◌, ◌≤◌, ◌�
 use Rattle.sdls_base.specs.KeyId.{end_of}
 use Rattle.sdls_base.specs.declared.entry.Entry.{Entry}
 use Rattle.sdls_outside.specs.Faults.{Rose}
-use Rattle.unit_book.specs.declared.binding.Verdict.{Verdict}
-use Rattle.unit_book.specs.declared.binding.Verdict.TheVariants.{Layout, Clear, Channel, State as NoSender, Bound}
-use Rattle.unit_book.specs.Verdict.{protect_verdict, IsBinding}
-use Rattle.unit_book.specs.Protects.{Protects}
-use Rattle.unit_book.specs.State.{State, mark_of}
-use Rattle.unit_book.specs.History.{Near, after_first, at_epoch}
+use Rattle.channel_book.specs.declared.binding.Verdict.{Verdict}
+use Rattle.channel_book.specs.declared.binding.Verdict.TheVariants.{Layout, Clear, Channel, State as NoSender, Bound}
+use Rattle.channel_book.specs.Verdict.{protect_verdict, IsBinding}
+use Rattle.channel_book.specs.Protects.{Protects}
+use Rattle.channel_book.specs.State.{State, mark_of}
+use Rattle.channel_book.specs.History.{Near, after_first, at_epoch}
 use Rattle.sdls_run.specs.declared.records.Record.{Record}
 use Rattle.record_io.specs.declared.answers.Answer.{Answer}
 use Rattle.record_io.specs.declared.code.TheConstants as codes

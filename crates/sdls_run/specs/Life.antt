@@ -4,7 +4,7 @@ use Rattle.std.specs.List.{AllPairs}
 use Rattle.unit_plan.specs.declared.telecommand.TelecommandPlan.{TelecommandPlan}
 use Rattle.unit_plan.specs.Telecommand.{SaysTelecommand}
 use Rattle.disk_journal.specs.Initial.{initial_image}
-use Rattle.unit_book.specs.Shows.{Shows}
+use Rattle.channel_book.specs.Shows.{Shows}
 use Rattle.record_io.specs.declared.answers.Answer.{Answer}
 use Rattle.sdls_run.specs.Fits.{Course}
 use Rattle.sdls_run.specs.Sound.{IsSound, Uses, Differ}

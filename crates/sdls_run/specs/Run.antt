@@ -4,13 +4,13 @@ use Rattle.sdls_base.specs.declared.entry.Entry.{Entry}
 use Rattle.sdls_outside.specs.Faults.{Rose}
 use Rattle.sdls_outside.specs.Moments.{Trace, Between, EachMoment}
 use Rattle.disk_journal.specs.Image.{records, slot_count}
-use Rattle.unit_book.specs.Binding.{BindingParts}
-use Rattle.unit_book.specs.Book.{BookView}
-use Rattle.unit_book.specs.Verdict.{binding_of}
-use Rattle.unit_book.specs.declared.fault.OpenFault.{OpenFault}
-use Rattle.unit_book.specs.declared.fault.OpenFault.TheVariants as open_faults
-use Rattle.unit_book.specs.State.{State}
-use Rattle.unit_book.specs.Shows.{Shows, ShowsNone}
+use Rattle.channel_book.specs.Binding.{BindingParts}
+use Rattle.channel_book.specs.Book.{BookView}
+use Rattle.channel_book.specs.Verdict.{binding_of}
+use Rattle.channel_book.specs.declared.fault.OpenFault.{OpenFault}
+use Rattle.channel_book.specs.declared.fault.OpenFault.TheVariants as open_faults
+use Rattle.channel_book.specs.State.{State}
+use Rattle.channel_book.specs.Shows.{Shows, ShowsNone}
 use Rattle.sdls_run.specs.declared.records.Record.{Record}
 use Rattle.record_io.specs.declared.answers.Answer.{Answer}
 use Rattle.record_io.specs.declared.code.TheConstants as codes

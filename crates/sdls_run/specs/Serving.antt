@@ -7,15 +7,15 @@ use Rattle.sdls_base.specs.declared.entry.Entry.{Entry}
 use Rattle.sdls_outside.specs.Faults.{Rose}
 use Rattle.sdls_outside.specs.Moments.{Trace, Between}
 use Rattle.disk_journal.specs.Image.{records}
-use Rattle.unit_book.specs.declared.binding.Verdict.TheVariants.{Bound}
-use Rattle.unit_book.specs.declared.fault.BookFault.{BookFault}
-use Rattle.unit_book.specs.declared.fault.BookFault.TheVariants.{SiteFault, Stopped, JournalFull}
-use Rattle.unit_book.specs.Verdict.{protect_verdict, binding_of, IsBound}
-use Rattle.unit_book.specs.Protects.{Protects}
-use Rattle.unit_book.specs.Binding.{BindingParts}
-use Rattle.unit_book.specs.State.{State, key_row, mark_of}
-use Rattle.unit_book.specs.History.{Near, AreReserves, after_first}
-use Rattle.unit_book.specs.Book.{BookView, IsKept, Stores, ReserveFails, places_below}
+use Rattle.channel_book.specs.declared.binding.Verdict.TheVariants.{Bound}
+use Rattle.channel_book.specs.declared.fault.BookFault.{BookFault}
+use Rattle.channel_book.specs.declared.fault.BookFault.TheVariants.{SiteFault, Stopped, JournalFull}
+use Rattle.channel_book.specs.Verdict.{protect_verdict, binding_of, IsBound}
+use Rattle.channel_book.specs.Protects.{Protects}
+use Rattle.channel_book.specs.Binding.{BindingParts}
+use Rattle.channel_book.specs.State.{State, key_row, mark_of}
+use Rattle.channel_book.specs.History.{Near, AreReserves, after_first}
+use Rattle.channel_book.specs.Book.{BookView, IsKept, Stores, ReserveFails, places_below}
 use Rattle.sdls_run.specs.declared.records.Record.{Record}
 use Rattle.record_io.specs.declared.answers.Answer.{Answer}
 use Rattle.record_io.specs.declared.code.TheConstants as codes

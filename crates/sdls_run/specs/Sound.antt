@@ -6,9 +6,9 @@ use Rattle.sdls_outside.specs.Disk.{Leaves}
 use Rattle.sdls_outside.specs.Moments.{Trace}
 use Rattle.disk_journal.specs.Image.{IsHalfOpen, opened_form}
 use Rattle.disk_journal.specs.Changes.{Regates}
-use Rattle.unit_book.specs.State.{State, mark_of, floor_of, restarted}
-use Rattle.unit_book.specs.Shows.{Shows}
-use Rattle.unit_book.specs.History.{LegalHistory, after_first, epoch_after}
+use Rattle.channel_book.specs.State.{State, mark_of, floor_of, restarted}
+use Rattle.channel_book.specs.Shows.{Shows}
+use Rattle.channel_book.specs.History.{LegalHistory, after_first, epoch_after}
 use Rattle.record_io.specs.declared.answers.Answer.{Answer}
 use Rattle.record_io.specs.declared.code.TheConstants as codes
 use Rattle.record_io.specs.Answers.{answer_octets, answers_octets}

@@ -2,8 +2,8 @@
 ghost use Rattle.std.specs.Prelude.{◌≡◌, ℕ, ◌<◌, ◌≤◌, List, [], ◌∷◌, ◌++◌};
 ghost use Rattle.std.specs.List.{All, AllPairs};
 ghost use Rattle.disk_journal.specs.Image.{IsHalfOpen, opened_form};
-ghost use Rattle.unit_book.specs.State.{State, mark_of, floor_of};
-ghost use Rattle.unit_book.specs.Shows.{Shows};
+ghost use Rattle.channel_book.specs.State.{State, mark_of, floor_of};
+ghost use Rattle.channel_book.specs.Shows.{Shows};
 ghost use Rattle.sdls_run.specs.Sound.{IsShown, Uses, Accepts, Differ};
 ghost use Rattle.sdls_run.specs.Life.{LifeRun, IsLife, UsesOnce, answers_of};
 

@@ -2,9 +2,9 @@
 ghost use Rattle.std.specs.Prelude.{◌≡◌, ℕ, ◌<◌, ◌≤◌, ◌⊎◌, IsTrue, List, [], length, MatchOption};
 ghost use Rattle.sdls_outside.specs.Faults.{Rose};
 ghost use Rattle.sdls_run.specs.Run.{UnderWay, HasStopped, HasBroken, ServedAll, HasServed, RunEnds, end_of_open, TellsEnd, PutsAll, StepLeads, end_answer, step_after, end_status, end_number};
-ghost use Rattle.unit_book.specs.Book.{IsKept, SameBook};
-ghost use Rattle.unit_book.specs.Verdict.{binding_of};
-ghost use Rattle.unit_book.specs.State.{mark_of};
+ghost use Rattle.channel_book.specs.Book.{IsKept, SameBook};
+ghost use Rattle.channel_book.specs.Verdict.{binding_of};
+ghost use Rattle.channel_book.specs.State.{mark_of};
 ghost use Rattle.sdls_outside.specs.Site.{Sank};
 ghost use Rattle.record_io.specs.Answers.{answer_octets};
 ghost use Rattle.sdls_run.specs.Serving.{IsReady, IsServed};
@@ -13,11 +13,11 @@ use crate::outcome::Outcome;
 use crate::records::{Reader, SegmentEnd};
 use crate::serving::{Session, Stop};
 use crate::status::{DONE, MALFORMED, NO_MEMORY, NO_STATE, SITE_FAULT, SOURCE_FAULT};
+use channel_book::{Book, OpenFault};
 use record_io::{Answer, answer_header, code};
 use sdls_base::{Entry, NoMemory, Octets};
 use sdls_outside::{Failed, Site, Source};
 use std::alloc::{AllocError, Global};
-use unit_book::{Book, OpenFault};
 
 /// The octets of answers that are put at once, at most.
 const PIECE: usize = 65536;

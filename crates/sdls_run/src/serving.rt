@@ -2,24 +2,24 @@
 ghost use Rattle.std.specs.Prelude.{◌≡◌, ◌≢◌, ◌↔◌, ◌+◌, ◌^◌, ◌<◌, ◌≤◌, [], ◌++◌, IsTrue, IfOk, OnErr, None, length, vec_len, vec_capacity};
 ghost use Rattle.sdls_base.specs.KeyId.{end_of};
 ghost use Rattle.sdls_base.specs.Suite.{overhead_of};
-ghost use Rattle.unit_book.specs.declared.binding.Verdict.{Verdict};
-ghost use Rattle.unit_book.specs.Verdict.{protect_verdict, binding_of, IsBound, clear_fault};
-ghost use Rattle.unit_book.specs.Book.{IsKept};
-ghost use Rattle.unit_book.specs.State.{key_row};
+ghost use Rattle.channel_book.specs.declared.binding.Verdict.{Verdict};
+ghost use Rattle.channel_book.specs.Verdict.{protect_verdict, binding_of, IsBound, clear_fault};
+ghost use Rattle.channel_book.specs.Book.{IsKept};
+ghost use Rattle.channel_book.specs.State.{key_row};
 ghost use Rattle.std.specs.Option.{IsSome};
 ghost use Rattle.sdls_run.specs.Fits.{IsBare, IsVerdict};
 ghost use Rattle.std.specs.List.{All};
 ghost use Rattle.sdls_outside.specs.Faults.{Rose};
-ghost use Rattle.unit_book.specs.Book.{SameBook};
+ghost use Rattle.channel_book.specs.Book.{SameBook};
 ghost use Rattle.record_io.specs.Answers.{answer_octets, answers_octets};
 ghost use Rattle.sdls_run.specs.Serving.{Adds, TakesOver, GrowsBehind, ServesOn, ServesSegment, AnswersFrame, AnswersProtected, Draws, IsReady, TellsRefusal};
 
 use crate::records::Record;
+use channel_book::{Binding, Book, BookFault, Verdict, shield};
 use record_io::{ANSWER_HEADER, Answer, answer_header, code};
 use sdls_base::{NoMemory, Octets, Suite};
 use sdls_outside::Site;
 use std::alloc::{AllocError, Global};
-use unit_book::{Binding, Book, BookFault, Verdict, shield};
 
 /// A book whose channel is served: what its frames are protected under, the next number of the key, and the octets of
 /// answers that are to be put in one piece.

@@ -1,8 +1,8 @@
 use Rattle.std.proofs.Common.{◌≡◌, ◌≤◌, ℕ, IsTrue, List, [], refl, sym, ◌∙◌, ap, subst, arith}
 use Rattle.sdls_outside.specs.Moments.{EachMoment}
 use Rattle.disk_journal.specs.Changes.{OnlySyncs}
-use Rattle.unit_book.specs.Shows.{ShowsNone}
-use Rattle.unit_book.specs.Book.{Opening, SameJournal}
+use Rattle.channel_book.specs.Shows.{ShowsNone}
+use Rattle.channel_book.specs.Book.{Opening, SameJournal}
 use Rattle.sdls_run.proofs.Finishing.{Finished, finished, refused, opened_now}
 use Rattle.sdls_run.proofs.running.run_frames.Goals as goal
 

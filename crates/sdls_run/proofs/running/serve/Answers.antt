@@ -1,8 +1,8 @@
 use Rattle.std.proofs.Common.{◌≡◌, ◌≤◌, ℕ, IsTrue, List, [], refl, sym, ◌∙◌, ap, subst}
-use Rattle.unit_book.specs.Book.{BookView}
-use Rattle.unit_book.specs.Binding.{BindingParts}
-use Rattle.unit_book.specs.State.{mark_of}
-use Rattle.unit_book.specs.Verdict.{binding_of}
+use Rattle.channel_book.specs.Book.{BookView}
+use Rattle.channel_book.specs.Binding.{BindingParts}
+use Rattle.channel_book.specs.State.{mark_of}
+use Rattle.channel_book.specs.Verdict.{binding_of}
 use Rattle.sdls_run.specs.Serving.{IsServed}
 use Rattle.sdls_run.specs.Run.{ServedAll, HasServed}
 use Rattle.sdls_run.proofs.Finishing.{nothing_served}

@@ -2,7 +2,7 @@ use Rattle.std.proofs.Common.{◌≡◌, ◌≤◌, ◌<◌, ◌+◌, ◌++◌, 
 use Rattle.std.specs.List.{All}
 use Rattle.std.specs.Prelude.{vec_capacity}
 use Rattle.std.proofs.lemmas.List.Elements.{All-push}
-use Rattle.unit_book.specs.Binding.{BindingParts}
+use Rattle.channel_book.specs.Binding.{BindingParts}
 use Rattle.record_io.specs.declared.answers.Answer.{Answer}
 use Rattle.sdls_run.specs.Serving.{IsReady, AnswersFrame, ServesOn}
 use Rattle.sdls_run.proofs.Answering.{serves_more}

@@ -2,7 +2,7 @@ use Rattle.std.proofs.Common.{◌≡◌, ◌≤◌, ◌<◌, ◌++◌, ℕ, List
 use Rattle.std.proofs.lemmas.Grind.{common_steps}
 use Rattle.record_io.specs.declared.answers.Answer.{Answer}
 use Rattle.record_io.specs.Answers.{answers_octets}
-use Rattle.unit_book.specs.Book.{SameBook}
+use Rattle.channel_book.specs.Book.{SameBook}
 use Rattle.sdls_run.proofs.Putting.{put_more, put_some, put_last, same_then}
 use Rattle.sdls_run.proofs.serving.Session.put_answers.Goals as goal
 

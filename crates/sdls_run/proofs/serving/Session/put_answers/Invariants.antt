@@ -1,5 +1,5 @@
 use Rattle.std.proofs.Common.{◌≡◌, ◌≤◌, ◌++◌, IsTrue, length, take}
-use Rattle.unit_book.specs.Book.{IsKept, SameBook}
+use Rattle.channel_book.specs.Book.{IsKept, SameBook}
 use Rattle.record_io.specs.Answers.{answers_octets}
 use Rattle.sdls_run.proofs.serving.Session.put_answers.Given as goal
 

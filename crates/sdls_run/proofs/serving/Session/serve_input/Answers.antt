@@ -1,5 +1,5 @@
 use Rattle.std.proofs.Common.{◌≡◌, ℕ, List, [], refl, sym, ◌∙◌, subst, arith}
-use Rattle.unit_book.specs.Binding.{BindingParts}
+use Rattle.channel_book.specs.Binding.{BindingParts}
 use Rattle.sdls_run.specs.Records.{Place, HasRead}
 use Rattle.sdls_run.specs.Run.{UnderWay, HasStopped, HasBroken}
 use Rattle.sdls_run.specs.Serving.{IsServed}

@@ -1,7 +1,7 @@
 use Rattle.std.proofs.Common.{◌≡◌, ◌≤◌, ◌++◌, ℕ, List, IsTrue, sym, subst}
 use Rattle.sdls_outside.specs.Faults.{Rose}
 use Rattle.sdls_outside.specs.Moments.{Between}
-use Rattle.unit_book.proofs.Faults.{rose_earlier}
+use Rattle.channel_book.proofs.Faults.{rose_earlier}
 use Rattle.record_io.specs.declared.answers.Answer.{Answer}
 use Rattle.record_io.specs.Answers.{answers_octets}
 use Rattle.sdls_run.specs.Serving.{IsServed, IsBroken}

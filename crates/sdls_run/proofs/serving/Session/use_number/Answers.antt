@@ -1,7 +1,7 @@
 use Rattle.std.proofs.Common.{◌≡◌, ◌<◌, ◌≤◌, ℕ, refl, sym, ◌∙◌, ap, subst, inl, inr, arith}
 use Rattle.std.proofs.lemmas.Bool.{cases_lt}
-use Rattle.unit_book.specs.Book.{Stores}
-use Rattle.unit_book.specs.State.{mark_of}
+use Rattle.channel_book.specs.Book.{Stores}
+use Rattle.channel_book.specs.State.{mark_of}
 use Rattle.sdls_run.proofs.serving.Session.use_number.Goals as goal
 
 pub returns-in-Ok-clause-draws : goal.returns-in-Ok-clause-draws
