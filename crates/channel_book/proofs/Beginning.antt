@@ -9,7 +9,9 @@ use Rattle.unit_plan.specs.declared.telecommand.TelecommandPlan.{TelecommandPlan
 use Rattle.disk_journal.specs.Image.{records, slot_count}
 use Rattle.disk_journal.specs.Fault.{image_fault}
 use Rattle.disk_journal.specs.Journal.{JournalView, IsOpen, IsSettled}
-use Rattle.disk_journal.specs.Changes.{EachImage, OnlySyncs, Regates}
+use Rattle.disk_journal.specs.Changes.{EachImage, OnlySyncs}
+use Rattle.disk_journal.specs.Forms.{Regates}
+use Rattle.disk_journal.proofs.ClosedGates.{rest_whole, regates_cases}
 use Rattle.disk_journal.proofs.Growing.{KeepsPlan, regated_keeps_plan}
 use Rattle.channel_book.specs.State.{State, telecommand_state}
 use Rattle.channel_book.specs.Shows.{Shows}
@@ -21,10 +23,11 @@ use Rattle.channel_book.proofs.Storing.{book_of}
 -- an image that is brought to rest shows what it showed
 settled_image : (old new : List ℕ) (state : State) → Regates old new → Shows old state → records new ≡ records old
     → image_fault new ≡ None → Shows new state
-settled_image old new state (inl same) shows records_same opens = subst (λ (image : List ℕ). Shows image state) (sym same) shows
-settled_image old new state (inr (half, (octet, is))) shows records_same opens =
-    shows_regated old new state shows
-    (subst (KeepsPlan old) (sym is) (regated_keeps_plan old octet (shows_led old state shows).has_plan.opens)) opens records_same
+settled_image old new state changes shows records_same opens = elim (regates_cases old new changes) [
+  | inl same ↦ subst (λ (image : List ℕ). Shows image state) (sym same) shows
+  | inr torn ↦ shows_regated old new state shows
+      (subst (KeepsPlan old) (sym torn.1.1) (regated_keeps_plan old torn.1.0 (shows_led old state shows).has_plan.opens)) opens records_same
+]
 
 -- what the opening leaves
 pub record Settles (old new : Trace) (state : State) (journal : JournalView) : Type 0 where
@@ -61,7 +64,7 @@ at_start now plan mark floor journal settled shows image leaves =
       record {
         within = omega arith;
         shows = shows;
-        half_open = λ half. absurd (half.torn (settled.rests half.there));
+        half_open = λ half. absurd (rest_whole now.now.image settled.rests half);
       },
     )
 

@@ -6,7 +6,7 @@ use Rattle.sdls_outside.specs.Disk.{Leaves}
 use Rattle.sdls_outside.specs.Faults.{Rose}
 use Rattle.sdls_outside.specs.Moments.{Trace, EachMoment}
 use Rattle.disk_journal.specs.Image.{records, slot_count, IsHalfOpen, opened_form}
-use Rattle.disk_journal.specs.Changes.{Regates}
+use Rattle.disk_journal.specs.Forms.{Settles}
 use Rattle.disk_journal.specs.Journal.{JournalView, IsSettled}
 use Rattle.channel_book.specs.declared.fault.BookFault.{BookFault}
 use Rattle.channel_book.specs.declared.fault.BookFault.TheVariants.{SiteFault, Stopped, JournalFull}
@@ -47,10 +47,10 @@ pub record Placed (start : State) (entries : List Entry) (places all_sunk image 
   pub front : sunk ≡ take (length sunk) all_sunk
   pub shows : ShowsFrom start entries (places_below (length sunk) places) image
 
--- A moment while the book is opened: the image is one that a crash before might leave, or the one that was read, with
--- another octet as the gate of its first closed slot; nothing is sunk.
+-- A moment while the book is opened: the image is one that a crash before might leave, or the one that was read,
+-- but for its closed gate; nothing is sunk.
 abbrev pub Opening : Trace → List ℕ → List ℕ → Type 0
-Opening entry image sunk = (Leaves entry.now image ⊎ Regates entry.now.image image) × (sunk ≡ entry.now.sunk)
+Opening entry image sunk = (Leaves entry.now image ⊎ Settles entry.now.image image) × (sunk ≡ entry.now.sunk)
 
 -- The image as it was opened has as many records as it had, and the journal is over them.
 pub record SameJournal (old new : List ℕ) (journal : JournalView) : Type 0 where

@@ -10,7 +10,7 @@ ghost use Rattle.unit_plan.specs.Telecommand.{IsInBounds};
 ghost use Rattle.disk_journal.specs.Slots.{slot_at};
 ghost use Rattle.disk_journal.specs.Image.{plan_of, slot_count, records};
 ghost use Rattle.disk_journal.specs.Journal.{IsOpen, IsSettled, IsCause};
-ghost use Rattle.disk_journal.specs.Changes.{EachImage, OnlySyncs, Regates};
+ghost use Rattle.disk_journal.specs.Changes.{EachImage, OnlySyncs};
 ghost use Rattle.channel_book.specs.State.{telecommand_state, initial};
 ghost use Rattle.channel_book.specs.Record.{IsMarks, IsRecord, Allows, LeadTo};
 ghost use Rattle.channel_book.specs.Shows.{HasPlan, Shows, ShowsNone};

@@ -17,6 +17,7 @@ use Rattle.disk_journal.specs.Fault.{header_checks}
 use Rattle.disk_journal.specs.Initial.{zeros, empty_image, initial_image}
 use Rattle.disk_journal.specs.Journal.{IsJournalOf}
 use Rattle.disk_journal.proofs.Images.{of_passes, is_records}
+use Rattle.disk_journal.proofs.ClosedGates.{rests_by}
 use Rattle.disk_journal.proofs.Laying.{length_zeros}
 
 -- the header
@@ -161,5 +162,5 @@ begins plan slots room least most =
         used = ap (λ (bodies : List (List ℕ)). length bodies) (sym none);
       };
       plan_text = plan_is plan slots room;
-      rests = λ there. none_open plan slots (first_closed (initial_image plan slots)) room;
+      rests = rests_by (initial_image plan slots) (λ there. none_open plan slots (first_closed (initial_image plan slots)) room);
     }

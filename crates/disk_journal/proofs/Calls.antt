@@ -8,13 +8,14 @@ use Rattle.sdls_outside.specs.Moments.{Trace}
 use Rattle.sdls_outside.specs.Site.{overwritten}
 use Rattle.disk_journal.specs.declared.layout.TheConstants.{HEADER_LENGTH, PLAN_ROOM, SLOT_LENGTH, BODY_LENGTH, OPEN}
 use Rattle.disk_journal.specs.Slots.{slot_at, body_at}
-use Rattle.disk_journal.specs.Image.{header_of, plan_length_in, slot_count_in, slot_count, plan_of, records, first_closed, IsHalfOpen}
+use Rattle.disk_journal.specs.Image.{header_of, plan_length_in, slot_count_in, slot_count, plan_of, records, first_closed, IsHalfOpen, held, grown}
 use Rattle.disk_journal.specs.Changes.{EachImage, Grows}
 use Rattle.disk_journal.specs.Journal.{JournalView, IsJournalOf, IsOpen, IsSettled}
 use Rattle.disk_journal.proofs.Ranges.{all_but_same}
 use Rattle.disk_journal.proofs.Moments.{image_same, synced_holds}
 use Rattle.disk_journal.proofs.Images.{passes_of, Bounds, header_bounds, slots_within, records_of}
-use Rattle.disk_journal.proofs.Growing.{Appended, appended, at_slot, one_more, record_at}
+use Rattle.disk_journal.proofs.ClosedGates.{rest_whole}
+use Rattle.disk_journal.proofs.Growing.{Appended, appended, at_slot, one_more, record_read}
 
 -- where the slots of an open journal end
 pub slots_end : (old : Trace) (journal : JournalView) → IsOpen old journal → slot_at journal.slots ≤ length old.now.image
@@ -34,7 +35,7 @@ stands image body journal of_image rests = record {
 pub full_moments : (old : Trace) (body : List ℕ) (journal : JournalView) → IsSettled old journal → EachImage old old (Grows old.now.image body)
 full_moments old body journal settled = image_same old old (Grows old.now.image body) refl
     (synced_holds old.now (Grows old.now.image body) settled.opened.synced
-    (stands old.now.image body journal settled.opened.of_image (λ half. half.torn (settled.rests half.there))))
+    (stands old.now.image body journal settled.opened.of_image (rest_whole old.now.image settled.rests)))
 
 -- an append that is Ok
 pub append_stored : (old new : Trace) (body : List ℕ) (at : ℕ) (journal : JournalView) → IsSettled old journal → journal.used < journal.slots
@@ -46,6 +47,16 @@ append_stored old new body at journal settled room place sized stored =
     subst (λ (image : List ℕ). Appended old.now.image image body journal) (sym stored.1)
     (appended old.now.image body at journal (at_slot old journal at settled room place) sized settled.opened.of_image) in
     (record { opened = record { synced = stored.0; of_image = here.of_image }; rests = here.rests }, here.grown)
+
+pub append_holds : (old new : Trace) (body : List ℕ) (at : ℕ) (journal : JournalView) → IsSettled old journal → journal.used < journal.slots
+    → at ≡ slot_at journal.used → length body ≡ BODY_LENGTH
+    → IsSynced new.now × (new.now.image ≡ overwritten (overwritten old.now.image (at + 1) body) at (OPEN ∷ []))
+    → held new.now.image ≡ grown body (held old.now.image)
+append_holds old new body at journal settled room place sized stored =
+    let here : Appended old.now.image new.now.image body journal =
+    subst (λ (image : List ℕ). Appended old.now.image image body journal) (sym stored.1)
+    (appended old.now.image body at journal (at_slot old journal at settled room place) sized settled.opened.of_image) in
+    here.holds
 
 pub append_kept : (old new : Trace) (body : List ℕ) (journal : JournalView)
     → IsSettled new journal × (records new.now.image ≡ records old.now.image ++ body ∷ [])
@@ -118,4 +129,4 @@ body_read old journal index at into opened below place read =
     let used : journal.used ≡ length (records old.now.image) = opened.of_image.used in
     let low : index < length (records old.now.image) = omega arith in
     let here : into ≡ body_at old.now.image index = read ∙ ap (λ (k : ℕ). take BODY_LENGTH (drop (k + 1) old.now.image)) place in
-    record_at old.now.image index low ∙ ap (λ (body : List ℕ). Some body) (sym here)
+    record_read old.now.image index low ∙ ap (λ (body : List ℕ). Some body) (sym here)

@@ -6,14 +6,16 @@ use Rattle.sdls_outside.specs.Moments.{Trace}
 use Rattle.sdls_outside.specs.Site.{overwritten}
 use Rattle.disk_journal.specs.declared.layout.TheConstants.{SLOT_LENGTH, BODY_LENGTH, OPEN, CLOSED}
 use Rattle.disk_journal.specs.Slots.{slot_at, gate_at, body_at}
-use Rattle.disk_journal.specs.Image.{header_of, slot_count, plan_of, records, first_closed, IsHalfOpen, IsAtRest, regated, opened_form}
+use Rattle.disk_journal.specs.Image.{header_of, slot_count, plan_of, records, first_closed, IsHalfOpen, IsAtRest, regated, opened_form, held, grown as more}
 use Rattle.disk_journal.specs.Fault.{image_fault}
-use Rattle.disk_journal.specs.Changes.{AllBut, EachImage, Grows, Closes, Regates}
+use Rattle.disk_journal.specs.Changes.{AllBut, EachImage, Grows, Closes}
+use Rattle.disk_journal.specs.Forms.{Regates, Settles}
 use Rattle.disk_journal.specs.Journal.{JournalView, IsJournalOf, IsOpen, IsSettled}
 use Rattle.disk_journal.proofs.Ranges.{all_but_wider, all_but_then, same_stretch, overwritten_length, overwritten_but, overwritten_stretch, overwritten_one, set_but}
 use Rattle.std.proofs.lemmas.List.{get_or-set_same, set-set}
 use Rattle.disk_journal.proofs.Moments.{image_weaker}
 use Rattle.disk_journal.proofs.SlotWrites.{Storing}
+use Rattle.disk_journal.proofs.ClosedGates.{rests_by, rest_gate, regates_same, regates_gate, held_is}
 use Rattle.disk_journal.proofs.Images.{Passes, passes_of, of_passes, records_of, header_bounds, same_slots, same_plan, slots_within, stays_closed, is_opened, still_passes, other_gate, OnTheWay, grows}
 
 one_not_zero : (octet : ℕ) → octet ≡ CLOSED → octet ≢ OPEN
@@ -99,6 +101,7 @@ pub record Appended (old new body : List ℕ) (journal : JournalView) : Type 0 w
   pub of_image : IsJournalOf new (one_more journal)
   pub rests : IsAtRest new
   pub grown : records new ≡ records old ++ body ∷ []
+  pub holds : held new ≡ more body (held old)
 
 pub appended : (old body : List ℕ) (at : ℕ) (journal : JournalView) → AtSlot old at → length body ≡ BODY_LENGTH → IsJournalOf old journal
     → Appended old (overwritten (overwritten old (at + 1) body) at (OPEN ∷ [])) body journal
@@ -126,12 +129,13 @@ appended old body at journal slot sized of_old =
         slots = of_old.slots ∙ sym slots;
         used = ap (λ (n : ℕ). n + 1) of_old.used ∙ sym count;
       };
-      rests = λ there.
+      rests = rests_by new (λ there.
           let low : u + 1 < slot_count old = omega arith in
           let after : u < u + 1 = omega arith in
           subst (λ (k : ℕ). gate_at new k ≡ CLOSED) (sym count)
-          (other_gate u (u + 1) old new way.change (omega arith) ∙ slot.passes.quiet (u + 1) after low);
+          (other_gate u (u + 1) old new way.change (omega arith) ∙ slot.passes.quiet (u + 1) after low));
       grown = grown;
+      holds = held_is new (plan_of old) (slot_count old) (records old ++ body ∷ []) (same_view u old new slot.passes way.change) slots grown;
     }
 
 pub at_slot : (old : Trace) (journal : JournalView) (at : ℕ) → IsSettled old journal → journal.used < journal.slots
@@ -144,7 +148,7 @@ at_slot old journal at settled room place =
     record {
       passes = passes_of old.now.image of_image.opens;
       room = below;
-      closed = settled.rests below;
+      closed = rest_gate old.now.image settled.rests below;
       place = place ∙ ap slot_at used;
     }
 
@@ -160,11 +164,11 @@ rests_same old new journal opened synced same closed =
     record {
       settled = record {
         opened = record { synced = synced; of_image = of_image };
-        rests = λ there.
+        rests = rests_by new.now.image (λ there.
             let used : journal.used ≡ first_closed new.now.image = of_image.used in
             let slots : journal.slots ≡ slot_count new.now.image = of_image.slots in
             let low : journal.used < journal.slots = omega arith in
-            subst (λ (k : ℕ). gate_at new.now.image k ≡ CLOSED) used (closed low);
+            subst (λ (k : ℕ). gate_at new.now.image k ≡ CLOSED) used (closed low));
       };
       same = ap records same;
     }
@@ -211,25 +215,23 @@ comes_to_rest old new journal opened synced (inr (below, torn, (octet, is))) clo
     record {
       settled = record {
         opened = record { synced = synced; of_image = shut.of_image };
-        rests = λ there. subst (λ (k : ℕ). gate_at new.now.image k ≡ CLOSED) (sym count) here;
+        rests = rests_by new.now.image (λ there. subst (λ (k : ℕ). gate_at new.now.image k ≡ CLOSED) (sym count) here);
       };
       same = shut.same;
     }
 
-closes_regates : (old new : List ℕ) (journal : JournalView) → IsJournalOf old journal → Closes old journal.used journal.slots new → Regates old new
-closes_regates old new journal of_old (inl same) = inl same
+pub closes_regates : (old new : List ℕ) (journal : JournalView) → IsJournalOf old journal → Closes old journal.used journal.slots new → Regates old new
+closes_regates old new journal of_old (inl same) = regates_same old new same
 closes_regates old new journal of_old (inr (below, torn, (octet, is))) =
     let used : journal.used ≡ first_closed old = of_old.used in
     let slots : journal.slots ≡ slot_count old = of_old.slots in
-    inr (
-      record { there = omega arith; torn = subst (λ (k : ℕ). gate_at old k ≢ CLOSED) used torn },
-      (octet, is ∙ ap (λ (k : ℕ). set old (slot_at k) octet) used),
-    )
+    let half : IsHalfOpen old = record { there = omega arith; torn = subst (λ (k : ℕ). gate_at old k ≢ CLOSED) used torn } in
+    regates_gate old new octet half (is ∙ ap (λ (k : ℕ). set old (slot_at k) octet) used)
 
 pub settle_moments : (old new : Trace) (journal : JournalView) → IsOpen old journal
-    → EachImage old new (Closes old.now.image journal.used journal.slots) → EachImage old new (Regates old.now.image)
+    → EachImage old new (Closes old.now.image journal.used journal.slots) → EachImage old new (Settles old.now.image)
 settle_moments old new journal opened each =
-    image_weaker old new (Closes old.now.image journal.used journal.slots) (Regates old.now.image)
+    image_weaker old new (Closes old.now.image journal.used journal.slots) (Settles old.now.image)
     (λ image closes. closes_regates old.now.image image journal opened.of_image closes) each
 
 -- a record by its place
@@ -238,8 +240,8 @@ get_at [] i below = absurd (omega arith)
 get_at (x ∷ xs) zero below = refl
 get_at (x ∷ xs) (suc i) below = get_at xs i (omega arith)
 
-pub record_at : (image : List ℕ) (i : ℕ) → i < length (records image) → slice_get (records image) i ≡ Some (body_at image i)
-record_at image i below =
+pub record_read : (image : List ℕ) (i : ℕ) → i < length (records image) → slice_get (records image) i ≡ Some (body_at image i)
+record_read image i below =
     get_at (records image) i below ∙ ap (λ (body : List ℕ). Some body) ((records_of image).are i below)
 
 -- another octet as the gate of the first closed slot
@@ -283,11 +285,11 @@ form_opens image opens room =
     let slots : slot_count new ≡ slot_count image = same_slots (slot_at u) SLOT_LENGTH image new change (omega arith) in
     record {
       opens = of_passes new (still_passes image new passes change (omega arith));
-      rests = λ there.
+      rests = rests_by new (λ there.
           let low : u + 1 < slot_count image = omega arith in
           let after : u < u + 1 = omega arith in
           subst (λ (k : ℕ). gate_at new k ≡ CLOSED) (sym count)
-          (other_gate u (u + 1) image new change (omega arith) ∙ passes.quiet (u + 1) after low);
+          (other_gate u (u + 1) image new change (omega arith) ∙ passes.quiet (u + 1) after low));
       longer = count;
     }
 

@@ -4,8 +4,10 @@ pub mod Ranges
 pub mod Moments
 pub mod Images
 pub mod SlotWrites
+pub mod ClosedGates
 pub mod Verdicts
 pub mod Growing
+pub mod Becoming
 pub mod Laying
 pub mod Calls
 pub mod Beginning

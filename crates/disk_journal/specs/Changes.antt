@@ -4,7 +4,7 @@ use Rattle.sdls_outside.specs.Moments.{Trace, EachMoment}
 use Rattle.sdls_outside.specs.Site.{Synced}
 use Rattle.disk_journal.specs.declared.layout.TheConstants.{SLOT_LENGTH, CLOSED}
 use Rattle.disk_journal.specs.Slots.{slot_at, gate_at}
-use Rattle.disk_journal.specs.Image.{records, first_closed, IsHalfOpen, regated, opened_form}
+use Rattle.disk_journal.specs.Image.{records, first_closed, IsHalfOpen, opened_form}
 use Rattle.disk_journal.specs.Fault.{image_fault}
 
 -- new is old, but for what stands in a range of octets
@@ -33,7 +33,3 @@ pub record Grows (old body new : List ℕ) : Type 0 where
 abbrev pub Closes : List ℕ → ℕ → ℕ → List ℕ → Type 0
 Closes old index slots new = (new ≡ old)
     ⊎ ((index < slots) × (gate_at old index ≢ CLOSED) × ((octet : ℕ) × (new ≡ slice_set old (slot_at index) octet)))
-
--- new is old, or old, half open, with another octet as the gate of its first closed slot
-abbrev pub Regates : List ℕ → List ℕ → Type 0
-Regates old new = (new ≡ old) ⊎ (IsHalfOpen old × ((octet : ℕ) × (new ≡ regated old octet)))

@@ -1,5 +1,5 @@
 -- What an image says (profile): the fields of its header, its plan and its records.
-use Rattle.std.specs.Prelude.{◌≡◌, ◌≢◌, ℕ, ◌<◌, List, length, take, drop, slice_set}
+use Rattle.std.specs.Prelude.{◌≡◌, ◌≢◌, ℕ, ◌<◌, List, [], ◌∷◌, ◌++◌, length, take, drop, slice_index, slice_set}
 use Rattle.byteorder.specs.Endian.{big_number}
 use Rattle.disk_journal.specs.declared.layout.TheConstants.{HEADER_LENGTH, PLAN_LENGTH_AT, SLOT_COUNT_AT, FIELD_LENGTH, OPEN, CLOSED}
 use Rattle.disk_journal.specs.Slots.{slot_at, gate_at, body_at, gated}
@@ -33,10 +33,6 @@ pub record IsHalfOpen (image : List ℕ) : Type 0 where
   pub there : first_closed image < slot_count image
   pub torn : gate_at image (first_closed image) ≢ CLOSED
 
--- the gate of the first closed slot, if a slot is closed, is 0
-abbrev pub IsAtRest : List ℕ → Type 0
-IsAtRest image = first_closed image < slot_count image → gate_at image (first_closed image) ≡ CLOSED
-
 -- the image with another octet as the gate of its first closed slot
 abbrev pub regated : List ℕ → ℕ → List ℕ
 regated image octet = slice_set image (slot_at (first_closed image)) octet
@@ -44,3 +40,32 @@ regated image octet = slice_set image (slot_at (first_closed image)) octet
 -- the image with its first closed slot opened
 abbrev pub opened_form : List ℕ → List ℕ
 opened_form image = regated image OPEN
+
+-- where the record with this index stands
+abbrev pub record_at : List ℕ → ℕ → ℕ
+record_at image index = slot_at index
+
+-- A closed gate that is not 0 stands here: that of the first closed slot, where a slot is closed.
+abbrev pub IsClosedGate : List ℕ → ℕ → Type 0
+IsClosedGate image at = (slice_index image at ≢ CLOSED) × (first_closed image < slot_count image) × (at ≡ slot_at (first_closed image))
+
+-- the image with one closed gate opened
+abbrev pub IsOpenedForm : List ℕ → List ℕ → Type 0
+IsOpenedForm image form = (at : ℕ) × IsClosedGate image at × (slice_index image at ≢ OPEN) × (form ≡ slice_set image at OPEN)
+
+-- no closed gate is other than 0
+abbrev pub IsAtRest : List ℕ → Type 0
+IsAtRest image = (at : ℕ) → IsClosedGate image at → ⊥
+
+-- What stands in an image: the text of the plan, the number of slots, and the records.
+pub record Held : Type 0 where
+  pub plan : List ℕ
+  pub slots : ℕ
+  pub records : List (List ℕ)
+
+abbrev pub held : List ℕ → Held
+held image = record { plan = plan_of image; slots = slot_count image; records = records image }
+
+-- the old with one record more
+abbrev pub grown : List ℕ → Held → Held
+grown body old = record old { records = old.records ++ body ∷ [] }

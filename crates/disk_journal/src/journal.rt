@@ -1,10 +1,11 @@
 // The journal.
 ghost use Rattle.std.specs.Prelude.{◌≡◌, ℕ, ◌+◌, ◌<◌, ◌≤◌, ◌↔◌, IsTrue, IfOk, OnOk, OnErr, slice_get, List, length, take, [], ◌∷◌, ◌++◌};
 ghost use Rattle.sdls_outside.specs.Disk.{Leaves};
-ghost use Rattle.disk_journal.specs.Image.{records, plan_of};
+ghost use Rattle.disk_journal.specs.Image.{records, plan_of, record_at, held, grown};
 ghost use Rattle.disk_journal.specs.Fault.{image_fault};
-ghost use Rattle.disk_journal.specs.Journal.{JournalView, IsOpen, IsSettled, HasFault, HasSiteFault};
-ghost use Rattle.disk_journal.specs.Changes.{EachImage, OnlySyncs, Grows, Regates};
+ghost use Rattle.disk_journal.specs.Journal.{JournalView, IsJournalOf, IsOpen, IsSettled, HasFault, HasSiteFault};
+ghost use Rattle.disk_journal.specs.Changes.{EachImage, OnlySyncs, Grows};
+ghost use Rattle.disk_journal.specs.Forms.{Becomes, RestsHolding, Settles};
 
 use crate::fault::JournalFault;
 use crate::layout::{BODY_LENGTH, HEADER_LENGTH, MOST_SLOTS, PLAN_ROOM, slot_offset};
@@ -62,10 +63,11 @@ impl Journal {
     pub fn settle<O: Site>(&self, site: &mut O) -> Result<(), JournalFault>
         requires { IsTrue O.told → IsOpen (O.trace site.old) self.now }
         ensures settled { IsTrue O.told → OnOk result (IsSettled (O.trace site.new) self.now) }
+        ensures holds { IsTrue O.told → OnOk result (held (O.trace site.new).now.image ≡ held (O.trace site.old).now.image) }
         ensures records { IsTrue O.told → OnOk result (records (O.trace site.new).now.image ≡ records (O.trace site.old).now.image) }
 
-        // A crash at any moment leaves the image as it was, or with another octet in that gate.
-        ensures any_moment { IsTrue O.told → EachImage (O.trace site.old) (O.trace site.new) (Regates (O.trace site.old).now.image) }
+        // A crash at any moment leaves the image but for its closed gate, if that is not 0.
+        ensures any_moment { IsTrue O.told → EachImage (O.trace site.old) (O.trace site.new) (Settles (O.trace site.old).now.image) }
         ensures fault { HasSiteFault (O.faults site.old) (O.faults site.new) result }
     {
         match close_gate(site, self.used, self.slots) {
@@ -120,8 +122,16 @@ impl Journal {
             × (records (O.trace site.new).now.image ≡ records (O.trace site.old).now.image ++ body.now ∷ [])) }
         ensures kept { IsTrue O.told → OnOk result ((image : List ℕ) → Leaves (O.trace site.new).now image
             → records image ≡ records (O.trace site.old).now.image ++ body.now ∷ []) }
+        ensures holds { IsTrue O.told → OnOk result
+            (held (O.trace site.new).now.image ≡ grown body.now (held (O.trace site.old).now.image)) }
 
-        // A crash at any moment leaves the records from before, with the new one or without.
+        // A crash at any moment leaves what was held, or that with the new record; half open, that with the new record.
+        ensures becomes { IsTrue O.told → EachImage (O.trace site.old) (O.trace site.new)
+            (Becomes (held (O.trace site.old).now.image) (grown body.now (held (O.trace site.old).now.image))) }
+        ensures rests { IsTrue O.told → EachImage (O.trace site.old) (O.trace site.new)
+            (RestsHolding (grown body.now (held (O.trace site.old).now.image))) }
+
+        // The octets of that image are those from before, but for one slot.
         ensures any_moment { IsTrue O.told → EachImage (O.trace site.old) (O.trace site.new)
             (Grows (O.trace site.old).now.image body.now) }
 
@@ -144,6 +154,13 @@ impl Journal {
             }
             Err(Failed) => Err(JournalFault::SiteFault(site.faults())),
         }
+    }
+
+    /// Where the record with this index begins.
+    pub fn record_offset(&self, index: u32) -> u64
+        ensures { (image : List ℕ) → IsJournalOf image self.now → result ≡ record_at image index }
+    {
+        slot_offset(index)
     }
 
     /// How many slots hold records.

@@ -4,6 +4,7 @@ ghost use Rattle.disk_journal.specs.Image.{plan_of, slot_count, records, first_c
 ghost use Rattle.disk_journal.specs.Fault.{image_fault};
 ghost use Rattle.disk_journal.specs.Slots.{slot_at};
 ghost use Rattle.disk_journal.specs.Changes.{AllBut};
+ghost use Rattle.disk_journal.specs.Forms.{HasOneClosed, Regates, StaysWithin};
 ghost use Rattle.disk_journal.specs.Initial.{initial_image};
 ghost use Rattle.disk_journal.specs.Journal.{IsJournalOf};
 
@@ -33,4 +34,12 @@ pub fn regated_image_opens()
 pub fn slots_keep_plan()
     ensures { (old new : List ℕ) (i : ℕ) → image_fault old ≡ None → AllBut (slot_at i) SLOT_LENGTH old new
         → (plan_of new ≡ plan_of old) × (slot_count new ≡ slot_count old) }
+{}
+
+/// Law: an image that opens has at most one closed gate that is not 0, and its opened form none, or one
+/// that is 1. An opening that is cut off while that gate is closed leaves an image that holds what the
+/// image held, or its opened form; and no opened form but the image and its own.
+pub fn opening_stays()
+    ensures one { (image : List ℕ) → image_fault image ≡ None → HasOneClosed image }
+    ensures stays { (image left : List ℕ) → image_fault image ≡ None → Regates image left → StaysWithin image left }
 {}

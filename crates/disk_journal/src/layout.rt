@@ -5,6 +5,9 @@ ghost use Rattle.disk_journal.specs.Slots.{slot_at};
 /// The octets of the header, with which the image begins.
 pub const HEADER_LENGTH: u64 = 512;
 
+/// Where the plan stands.
+pub const PLAN_AT: u64 = HEADER_LENGTH;
+
 /// The octets after the header that the plan may fill.
 pub const PLAN_ROOM: u64 = 65_536;
 

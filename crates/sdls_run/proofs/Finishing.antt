@@ -10,7 +10,6 @@ use Rattle.sdls_outside.specs.Moments.{Trace, clock, Between, EachMoment}
 use Rattle.sdls_outside.specs.Site.{Sank}
 use Rattle.sdls_outside.proofs.Moments.{each_then, each_weaker, each_same, each_puts, moment_now}
 use Rattle.disk_journal.specs.Image.{records, slot_count}
-use Rattle.disk_journal.specs.Changes.{Regates}
 use Rattle.channel_book.specs.Binding.{BindingParts}
 use Rattle.channel_book.specs.State.{State, mark_of}
 use Rattle.channel_book.specs.Shows.{Shows, ShowsNone}

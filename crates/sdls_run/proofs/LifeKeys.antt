@@ -8,6 +8,7 @@ use Rattle.sdls_base.specs.declared.entry.Entry.{Entry}
 use Rattle.unit_plan.specs.declared.telecommand.TelecommandPlan.{TelecommandPlan}
 use Rattle.unit_plan.specs.Telecommand.{SaysTelecommand}
 use Rattle.disk_journal.specs.Initial.{initial_image}
+use Rattle.disk_journal.proofs.ClosedGates.{rest_whole}
 use Rattle.disk_journal.proofs.Beginning.{Begins, begins}
 use Rattle.channel_book.specs.State.{State, AssociationRow, telecommand_state, sender_on, applied}
 use Rattle.channel_book.specs.Verdict.{IsBinding, channel_of}
@@ -158,7 +159,7 @@ begun_of_one text plan said =
             let ends : IsTelecommand led.plan state = led_ends image state led in
             ap (λ (s : State). s.plan) ends.is
             ∙ plan_once text led.plan plan (subst (λ (t : List ℕ). SaysTelecommand t led.plan) here.plan_text led.has_plan.said) said
-        | inr torn ↦ absurd (torn.0.torn (here.rests torn.0.there))
+        | inr torn ↦ absurd (rest_whole image here.rests torn.0)
       ];
       under = All-nil (IsUnder plan.key);
     }

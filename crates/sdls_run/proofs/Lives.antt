@@ -9,7 +9,8 @@ use Rattle.unit_plan.specs.Telecommand.{SaysTelecommand}
 use Rattle.disk_journal.specs.declared.layout.TheConstants.{OPEN}
 use Rattle.disk_journal.specs.Image.{records, IsHalfOpen, regated, opened_form}
 use Rattle.disk_journal.specs.Fault.{image_fault}
-use Rattle.disk_journal.specs.Changes.{Regates}
+use Rattle.disk_journal.specs.Forms.{Settles}
+use Rattle.disk_journal.proofs.ClosedGates.{rest_whole, regates_cases}
 use Rattle.disk_journal.specs.Initial.{initial_image}
 use Rattle.disk_journal.proofs.Growing.{Regated, regates, FormOpens, form_opens, regated_keeps_plan}
 use Rattle.disk_journal.proofs.Beginning.{Begins, begins}
@@ -37,11 +38,10 @@ pairs_append {X} R (x ∷ xs) ys first second cross =
     let rest : All (λ x. All (R x) ys) xs = λ k d within. cross (suc k) d (omega arith) in
     AllPairs-cons R x (xs ++ ys) (All-append (R x) xs ys head across) (pairs_append R xs ys tail second rest)
 
--- the image at the start shows what it shows when it is opened, or what it can show
-shown_before : (start image : List ℕ) (at_start state : State) → Shows start at_start → Regates start image → IsShown image state
-    → IsShown start state
-shown_before start image at_start state shows (inl same) shown = subst (λ (i : List ℕ). IsShown i state) same shown
-shown_before start image at_start state shows (inr (half, (octet, is))) shown =
+-- the same where it had another octet as the gate of its first closed slot
+shown_torn : (start image : List ℕ) (at_start state : State) → Shows start at_start → IsHalfOpen start → (octet : ℕ)
+    → image ≡ regated start octet → IsShown image state → IsShown start state
+shown_torn start image at_start state shows half octet is shown =
     let opens : image_fault start ≡ None = (shows_led start at_start shows).has_plan.opens in
     let here : IsShown (regated start octet) state = subst (λ (i : List ℕ). IsShown i state) is shown in
     elim (cases_eq octet OPEN) [
@@ -50,7 +50,7 @@ shown_before start image at_start state shows (inr (half, (octet, is))) shown =
           let shown_form : IsShown (opened_form start) state = subst (λ (o : ℕ). IsShown (regated start o) state) is_open here in
           elim shown_form [
             | inl whole ↦ inr (half, whole)
-            | inr torn ↦ absurd (torn.0.torn (form.rests torn.0.there))
+            | inr torn ↦ absurd (rest_whole (opened_form start) form.rests torn.0)
           ]
       | inr closed ↦
           let same : Regated start octet = regates start octet opens half closed in
@@ -62,14 +62,21 @@ shown_before start image at_start state shows (inr (half, (octet, is))) shown =
           ]
     ]
 
+-- the image at the start shows what it shows when it is opened, or what it can show
+shown_before : (start image : List ℕ) (at_start state : State) → Shows start at_start → Settles start image → IsShown image state
+    → IsShown start state
+shown_before start image at_start state shows settles shown = elim (regates_cases start image settles) [
+  | inl same ↦ subst (λ (i : List ℕ). IsShown i state) same shown
+  | inr torn ↦ shown_torn start image at_start state shows torn.0 torn.1.0 torn.1.1 shown
+]
+
 -- the image shows a state, and so does its opened form where it is half open
 record Shown (image : List ℕ) : Type 0 where
   whole : (state : State) × Shows image state
   half_open : IsHalfOpen image → (state : State) × Shows (opened_form image) state
 
-regated_shown : (start image : List ℕ) → Shown start → Regates start image → Shown image
-regated_shown start image shown (inl same) = subst Shown (sym same) shown
-regated_shown start image shown (inr (half, (octet, is))) =
+torn_shown : (start image : List ℕ) → Shown start → IsHalfOpen start → (octet : ℕ) → image ≡ regated start octet → Shown image
+torn_shown start image shown half octet is =
     let (state, shows) = shown.whole in
     let opens : image_fault start ≡ None = (shows_led start state shows).has_plan.opens in
     subst Shown (sym is) (elim (cases_eq octet OPEN) [
@@ -77,7 +84,7 @@ regated_shown start image shown (inr (half, (octet, is))) =
           let form : FormOpens start = form_opens start opens half.there in
           subst (λ (o : ℕ). Shown (regated start o)) (sym is_open) (record {
             whole = shown.half_open half;
-            half_open = λ torn. absurd (torn.torn (form.rests torn.there));
+            half_open = λ torn. absurd (rest_whole (opened_form start) form.rests torn);
           })
       | inr closed ↦
           let same : Regated start octet = regates start octet opens half closed in
@@ -86,6 +93,12 @@ regated_shown start image shown (inr (half, (octet, is))) =
             half_open = λ torn. subst (λ (i : List ℕ). (state : State) × Shows i state) (sym same.same_form) (shown.half_open half);
           }
     ])
+
+regated_shown : (start image : List ℕ) → Shown start → Settles start image → Shown image
+regated_shown start image shown settles = elim (regates_cases start image settles) [
+  | inl same ↦ subst Shown (sym same) shown
+  | inr torn ↦ torn_shown start image shown torn.0 torn.1.0 torn.1.1
+]
 
 served_shown : (course : Course) (answers : List Answer) (image : List ℕ) → ShowsServed course answers image → Shown image
 served_shown course answers image served = record {
@@ -253,7 +266,7 @@ begun text plan said =
             left = refl;
           },
         );
-        half_open = λ half. absurd (half.torn (begins_so.rests half.there));
+        half_open = λ half. absurd (rest_whole image begins_so.rests half);
       };
       differ = λ i j d lt within. absurd (omega arith);
       accepted = λ i j d lt within. absurd (omega arith);

@@ -8,7 +8,7 @@ use Rattle.sdls_base.specs.declared.entry.Entry.{Entry}
 use Rattle.sdls_outside.specs.Disk.{Leaves}
 use Rattle.sdls_outside.specs.Moments.{Trace, Between, EachMoment}
 use Rattle.disk_journal.specs.Image.{records, slot_count, IsHalfOpen, opened_form}
-use Rattle.disk_journal.specs.Changes.{Regates}
+use Rattle.disk_journal.specs.Forms.{Settles}
 use Rattle.unit_plan.specs.declared.telecommand.TelecommandPlan.{TelecommandPlan}
 use Rattle.channel_book.specs.Binding.{BindingParts}
 use Rattle.channel_book.specs.State.{State, mark_of, restarted}
@@ -30,7 +30,7 @@ use Rattle.sdls_run.proofs.Begun.{begun, begun_octets, all_begun, begun_first, f
 
 -- a moment at which the image is one of the opening, and nothing but End is sunk
 pub opening_sound : (entry : Trace) (course : Course) (image sunk : List ℕ) → LegalHistory course.start (length course.frames) course.entries
-    → Leaves entry.now image ⊎ Regates entry.now.image image → AreSunk course.entries [] (sunk_since entry sunk)
+    → Leaves entry.now image ⊎ Settles entry.now.image image → AreSunk course.entries [] (sunk_since entry sunk)
     → EarlyOrSound entry course image sunk
 opening_sound entry course image sunk legal (inl leaves) only_end = inl (record { leaves = leaves; only_end = only_end })
 opening_sound entry course image sunk legal (inr regates) only_end = inr (

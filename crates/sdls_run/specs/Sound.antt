@@ -5,7 +5,7 @@ use Rattle.sdls_base.specs.declared.entry.Entry.{Entry}
 use Rattle.sdls_outside.specs.Disk.{Leaves}
 use Rattle.sdls_outside.specs.Moments.{Trace}
 use Rattle.disk_journal.specs.Image.{IsHalfOpen, opened_form}
-use Rattle.disk_journal.specs.Changes.{Regates}
+use Rattle.disk_journal.specs.Forms.{Settles}
 use Rattle.channel_book.specs.State.{State, mark_of, floor_of, restarted}
 use Rattle.channel_book.specs.Shows.{Shows}
 use Rattle.channel_book.specs.History.{LegalHistory, after_first, epoch_after}
@@ -76,7 +76,7 @@ pub record ShowsServed (course : Course) (answers : List Answer) (image : List �
 -- in its first closed gate. While it serves the image shows what was stored.
 abbrev pub ImageShows : Course → List ℕ → List Answer → List ℕ → Type 0
 ImageShows course start answers image =
-    ((answers ≡ []) × Regates start image) ⊎ ShowsServed course answers image
+    ((answers ≡ []) × Settles start image) ⊎ ShowsServed course answers image
 
 -- no later answer is of an earlier epoch
 abbrev pub EpochsAscend : List Answer → Type 0

@@ -2,6 +2,7 @@ use Rattle.std.proofs.Common.{sym, subst}
 use Rattle.disk_journal.specs.Journal.{JournalView, IsOpen, IsSettled}
 use Rattle.disk_journal.proofs.Growing.{comes_to_rest, settle_moments}
 use Rattle.disk_journal.proofs.Calls.{slots_end}
+use Rattle.disk_journal.proofs.Becoming.{rests_held}
 use Rattle.disk_journal.proofs.journal.Journal.settle.Goals as goal
 
 pub close_gate-requires-clause-within : goal.close_gate-requires-clause-within
@@ -25,6 +26,16 @@ returns-in-Ok-clause-records g c = λ told.
     let journal : JournalView = record { plan_length = c.self.inside.plan_length; slots = c.self.inside.slots; used = c.self.inside.used } in
     let opened : IsOpen (g.O.Site.trace c.args.site.now) journal =
     subst (λ (view : JournalView). IsOpen (g.O.Site.trace c.args.site.now) view) (sym c.self.view_is) (c.requires told) in
+    (comes_to_rest (g.O.Site.trace c.args.site.now) (g.O.Site.trace c.close_gate.new.site) journal opened (c.in-Ok.ensures.closed told).0
+    (c.in-Ok.ensures.ends told) (c.in-Ok.ensures.closed told).1).same
+
+pub returns-in-Ok-clause-holds : goal.returns-in-Ok-clause-holds
+returns-in-Ok-clause-holds g c = λ told.
+    let journal : JournalView = record { plan_length = c.self.inside.plan_length; slots = c.self.inside.slots; used = c.self.inside.used } in
+    let opened : IsOpen (g.O.Site.trace c.args.site.now) journal =
+    subst (λ (view : JournalView). IsOpen (g.O.Site.trace c.args.site.now) view) (sym c.self.view_is) (c.requires told) in
+    rests_held (g.O.Site.trace c.args.site.now).now.image (g.O.Site.trace c.close_gate.new.site).now.image journal opened.of_image
+    (c.in-Ok.ensures.ends told)
     (comes_to_rest (g.O.Site.trace c.args.site.now) (g.O.Site.trace c.close_gate.new.site) journal opened (c.in-Ok.ensures.closed told).0
     (c.in-Ok.ensures.ends told) (c.in-Ok.ensures.closed told).1).same
 
