@@ -31,8 +31,3 @@ pub use telecommand::TelecommandPlan;
 
 /// The most octets of a plan.
 pub const MOST_OCTETS: usize = 65_536;
-
-#[cfg(test)]
-mod plan_tests;
-#[cfg(test)]
-mod tests;
