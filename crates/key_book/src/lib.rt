@@ -19,6 +19,3 @@ pub use inventory::{Inventory, MOST_LISTED};
 pub use key_book::{KeyBook, rows_may_follow};
 pub use key_refusal::KeyRefusal;
 pub use key_row::{KeyRow, digest};
-
-#[cfg(test)]
-mod tests;

@@ -7,6 +7,3 @@
 mod window;
 
 pub use window::{Verdict, Window, accepted_once};
-
-#[cfg(test)]
-mod tests;

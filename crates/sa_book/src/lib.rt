@@ -15,6 +15,3 @@ mod sa_row;
 pub use sa_book::{SaBook, rows_may_follow};
 pub use sa_refusal::SaRefusal;
 pub use sa_row::SaRow;
-
-#[cfg(test)]
-mod tests;

@@ -1,5 +1,5 @@
 use Rattle.std.proofs.Common.{◌≡◌, take}
-use Rattle.sa_book.proofs.tests.made_again.Given as goal
+use Rattle.book_cases.proofs.keys.made_again.Given as goal
 
 abbrev pub invariant-loop-row : goal.invariant-loop-row
 invariant-loop-row l = l.again ≡ take l.row-index l.book
