@@ -28,6 +28,3 @@ pub use pdu_error::PduError;
 pub use reading::{read_pdu, read_reply};
 pub use reply_pdu::ReplyPdu;
 pub use reply_writing::write_reply;
-
-#[cfg(test)]
-mod tests;

@@ -3,8 +3,8 @@
 ghost use Rattle.std.specs.Prelude.{IfSome};
 ghost use Rattle.unit_state.specs.Restart.{IsLight};
 
-use crate::fields;
 use crate::scenario::{Answer, Scenario};
+use crate::{codec, fields};
 use ep_core::{Need, Reply};
 use sdls_base::Change;
 use std::alloc::{AllocError, Global};
@@ -122,6 +122,10 @@ impl Table {
             "marks" => self.move_numbers(alloc, fields::marks(rest)),
             "accepted" => self.move_numbers(alloc, fields::accepted(rest)),
             "do" => self.obey(alloc, rest),
+            "command" => codec::command(alloc, rest),
+            "reply" => codec::reply(alloc, rest),
+            "cuts" => codec::cuts(alloc, rest),
+            "lengths" => codec::lengths(alloc, rest),
             _ => Ok(format!(in alloc; "{line}")?),
         }
     }
