@@ -11,6 +11,3 @@ mod writing;
 pub use parts::Parts;
 pub use reading::read;
 pub use writing::write;
-
-#[cfg(test)]
-mod tests;
