@@ -1,16 +1,19 @@
 -- What changes leave of the keys that associations hold.
-use Rattle.std.proofs.Common.{◌≡◌, ℕ, ◌<◌, ◌≤◌, Bool, true, false, cond, nat_eq, List, ◌++◌, length, get_or, Option, Some, None, IsSomeAnd, sym, refl, ap, ◌∙◌, subst, arith}
+use Rattle.std.proofs.Common.{◌≡◌, ℕ, ◌<◌, ◌≤◌, Bool, true, false, cond, nat_eq, List, ◌++◌, length, get_or, map, Option, Some, None, IsSomeAnd, sym, refl, ap, ◌∙◌, subst, arith}
 use Rattle.std.specs.Prelude.{IfSome}
 use Rattle.std.specs.List.{All}
-use Rattle.std.specs.Option.{option_map, option_or}
+use Rattle.std.specs.Option.{option_map, option_map_or, option_or}
 use Rattle.std.proofs.lemmas.List.Elements.{All-map}
 use Rattle.std.proofs.lemmas.List.Folds.{find-append}
 use Rattle.sdls_base.proofs.Searches.{find-map}
+use Rattle.sdls_base.specs.declared.states.Direction.{Direction}
+use Rattle.sdls_base.specs.declared.states.Direction.TheVariants.{Send, Receive}
 use Rattle.key_book.specs.declared.key_row.KeyRow.{KeyRow}
 use Rattle.key_book.specs.KeyBook as key_rows
 use Rattle.sa_book.specs.declared.sa_row.SaRow.{SaRow}
 use Rattle.sa_book.specs.SaBook as association_rows
 use Rattle.unit_state.specs.State.{MayHold, HasKey}
+use Rattle.unit_state.specs.Restart.{restarted_high, restarted_row}
 
 -- Keys of which those that may be held may still be held: their floors do not fall, and their states stay.
 pub record StaysHeld (old new : KeyRow) : Type 0 where
@@ -86,3 +89,17 @@ pub all_changed : (keys : List KeyRow) (rows : List SaRow) (spi : ℕ) (f : SaRo
 all_changed keys rows spi f has made =
     All-map (HasKey keys) (λ (row : SaRow). cond (nat_eq row.spi spi) (f row) row) rows
     (λ k d low. one_has keys f (nat_eq (get_or rows k d).spi spi) (get_or rows k d) (has k d low) (made k d low))
+
+-- what a restart leaves
+restarted_holds : (keys : List KeyRow) (row : SaRow) (direction : Direction) (own : Option ℕ) → IfSome own (λ key. IsSomeAnd (key_rows.row_of keys key) (MayHold row)) → IfSome own (λ key. IsSomeAnd (key_rows.row_of keys key) (MayHold (record row { window = record row.window { high = restarted_high keys direction own row.window.high } })))
+restarted_holds keys row direction None has = tt
+restarted_holds keys row Send (Some key) has = has
+restarted_holds keys row Receive (Some key) has = by (key_rows.row_of keys key) has
+  where
+    by : (o : Option KeyRow) → IsSomeAnd o (MayHold row) → IsSomeAnd o (MayHold (record row { window = record row.window { high = option_map_or (λ (held : KeyRow). held.floor) o row.window.high } }))
+    by None holds = absurd holds
+    by (Some held) holds = record { active = holds.active; floor = omega arith }
+
+pub all_restarted : (keys : List KeyRow) (rows : List SaRow) → All (HasKey keys) rows → All (HasKey keys) (map (restarted_row keys) rows)
+all_restarted keys rows has = All-map (HasKey keys) (restarted_row keys) rows
+    (λ k d low. restarted_holds keys (get_or rows k d) (get_or rows k d).direction (get_or rows k d).key (has k d low))

@@ -1,5 +1,7 @@
 ghost use Rattle.std.specs.Prelude.{◌≡◌, map, IfOk, OnOk, OnErr};
 ghost use Rattle.key_book.specs.KeyBook.{AreKeyRows};
+ghost use Rattle.sa_book.specs.SaBook.{IsSaBook};
+ghost use Rattle.unit_state.specs.State.{KeepsRules};
 ghost use Rattle.unit_state.specs.Applied.{applied};
 ghost use Rattle.unit_state.specs.Allows.{Allows};
 ghost use Rattle.unit_state.specs.Restart.{IsLight, restarted_row, restarted};
@@ -22,7 +24,8 @@ pub struct State {
 /// Gives each association that receives with one of the keys the key's floor as its highest number.
 fn to_floors(associations: &mut SaBook, keys: &[KeyRow])
     requires { AreKeyRows keys.now }
-    ensures { associations.new ≡ map (restarted_row keys.now) associations.old }
+    ensures set { associations.new ≡ map (restarted_row keys.now) associations.old }
+    ensures rules { IsSaBook associations.old → IsSaBook associations.new }
 {
     for key in keys {
         associations.set_high(key.id, key.floor);
@@ -76,7 +79,8 @@ impl State {
 
     /// Leaves what a restart leaves. Takes no memory.
     pub fn restart(&mut self)
-        ensures { self.new ≡ restarted self.old }
+        ensures left { self.new ≡ restarted self.old }
+        ensures rules { KeepsRules self.old → KeepsRules self.new }
     {
         to_floors(&mut self.associations, self.keys.rows());
     }

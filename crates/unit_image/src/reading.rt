@@ -1,0 +1,165 @@
+// What the plan and the records of an image say.
+ghost use Rattle.std.specs.Prelude.{◌≡◌, ◌≢◌, ℕ, ◌<◌, ◌≤◌, IsTrue, IfOk, OnOk, MatchOption, MatchResult, length};
+ghost use Rattle.sdls_base.specs.declared.change.Change.{Change};
+ghost use Rattle.book_record.specs.Record.{IsRecord};
+ghost use Rattle.disk_journal.specs.Image.{records, held, record_at};
+ghost use Rattle.disk_journal.specs.Journal.{IsOpen};
+ghost use Rattle.unit_state.specs.State.{KeepsRules};
+ghost use Rattle.unit_state.specs.Allows.{Allows};
+ghost use Rattle.unit_image.specs.Shows.{SaysPlan, LeadTo, IsUnfit, IsBadRecord, SaysNone};
+ghost use Rattle.unit_image.specs.Opening.{as_open_fault, HasOpenFault, IsTextCause, Takes};
+
+use crate::fault::OpenFault;
+use book_record::{RecordError, read_record};
+use disk_journal::{BODY_LENGTH, Journal, JournalFault, PLAN_AT, PLAN_ROOM, SLOT_COUNT_AT};
+use sdls_base::{Change, NoMemory};
+use sdls_outside::Site;
+use std::alloc::Global;
+use unit_plan::{Plan, PlanError};
+use unit_state::State;
+
+/// A fault of a journal that is opened or read, as one of the opening.
+pub(crate) fn open_fault(fault: JournalFault) -> OpenFault
+    requires { (slots : ℕ) → fault ≢ JournalFault.Full slots }
+    ensures { result ≡ as_open_fault fault }
+{
+    match fault {
+        JournalFault::SiteFault(count) => OpenFault::SiteFault(count),
+        JournalFault::Image(offset) => OpenFault::Image(offset),
+        JournalFault::Full(_) => unreachable!(),
+    }
+}
+
+/// A plan, and the state that its lines make.
+#[derive(Drop)]
+pub(crate) struct Planned {
+    pub(crate) plan: Plan,
+    pub(crate) state: State,
+}
+
+/// Reads the text of a plan, and makes its first state.
+fn plan_said(alloc: Global, text: &[u8]) -> Result<Planned, OpenFault>
+    ensures said { MatchResult result (λ planned. SaysPlan text.now planned.plan planned.state) (IsTextCause text.now) }
+    ensures rules { IfOk result (λ planned. KeepsRules planned.state) }
+{
+    let plan = match Plan::read(alloc, text) {
+        Ok(plan) => plan,
+        Err(PlanError::Refused(_)) => return Err(OpenFault::Image(PLAN_AT)),
+        Err(PlanError::NoMemory) => return Err(OpenFault::NoMemory),
+    };
+    match State::initial(alloc, &plan) {
+        Ok(state) => Ok(Planned { plan, state }),
+        Err(PlanError::Refused(_)) => Err(OpenFault::Image(PLAN_AT)),
+        Err(PlanError::NoMemory) => Err(OpenFault::NoMemory),
+    }
+}
+
+/// Reads the plan of an image into `room`, and makes the checks of it.
+pub(crate) fn read_plan<O: Site>(
+    alloc: Global,
+    journal: &Journal,
+    site: &mut O,
+    room: &mut [u8],
+) -> Result<Planned, OpenFault>
+    requires room { length room.old ≡ PLAN_ROOM }
+    requires opened { IsTrue O.told → IsOpen (O.trace site.old) journal.now }
+    ensures said { IsTrue O.told → IfOk result (λ planned.
+        SaysPlan (held (O.trace site.old).now.image).plan planned.plan planned.state
+        × (planned.plan.slots ≡ (held (O.trace site.old).now.image).slots)) }
+    ensures rules { IfOk result (λ planned. KeepsRules planned.state) }
+    ensures same { IsTrue O.told → O.trace site.new ≡ O.trace site.old }
+    ensures fault { HasOpenFault (O.faults site.old) (O.faults site.new)
+        (λ offset. IsTrue O.told → SaysNone (O.trace site.old).now.image (held (O.trace site.old).now.image) offset) result }
+{
+    let count = match journal.plan_text(site, room) {
+        Ok(count) => count,
+        Err(fault) => return Err(open_fault(fault)),
+    };
+    match plan_said(alloc, &room[..count]) {
+        Ok(planned) => {
+            if planned.plan.slots() != journal.slots() {
+                return Err(OpenFault::Image(SLOT_COUNT_AT));
+            }
+            Ok(planned)
+        }
+        Err(fault) => Err(fault),
+    }
+}
+
+/// What the record in a body changes, where the state allows it, or `None`.
+fn change_in(
+    alloc: Global,
+    body: &[u8; BODY_LENGTH],
+    state: &State,
+) -> Result<Option<Change>, NoMemory>
+    ensures found { IfOk result (λ found. MatchOption found
+        ((change : Change) → IsRecord change body.now → ¬ Allows state.now change)
+        (λ change. IsRecord change body.now × Allows state.now change)) }
+{
+    match read_record(alloc, body) {
+        Ok(change) => {
+            if state.allows(&change) {
+                Ok(Some(change))
+            } else {
+                Ok(None)
+            }
+        }
+        Err(RecordError::Malformed) => Ok(None),
+        Err(RecordError::NoMemory) => Err(NoMemory),
+    }
+}
+
+/// Reads a record of the journal, and makes its change.
+fn take_record<O: Site>(
+    alloc: Global,
+    journal: &Journal,
+    site: &mut O,
+    index: u32,
+    state: &mut State,
+) -> Result<(), OpenFault>
+    requires below { index < journal.now.used }
+    requires opened { IsTrue O.told → IsOpen (O.trace site.old) journal.now }
+    requires rules { KeepsRules state.old }
+    ensures taken { IsTrue O.told → OnOk result
+        (Takes (records (O.trace site.old).now.image) index state.old state.new) }
+    ensures rules { KeepsRules state.new }
+    ensures same { IsTrue O.told → O.trace site.new ≡ O.trace site.old }
+    ensures fault { HasOpenFault (O.faults site.old) (O.faults site.new) (λ offset. IsTrue O.told
+        → IsUnfit (records (O.trace site.old).now.image) index state.old × (offset ≡ record_at (O.trace site.old).now.image index)) result }
+{
+    let body = match journal.body(site, index) {
+        Ok(body) => body,
+        Err(fault) => return Err(open_fault(fault)),
+    };
+    match change_in(alloc, &body, state) {
+        Ok(Some(change)) => match state.apply(&change) {
+            Ok(()) => Ok(()),
+            Err(NoMemory) => Err(OpenFault::NoMemory),
+        },
+        Ok(None) => Err(OpenFault::Image(journal.record_offset(index))),
+        Err(NoMemory) => Err(OpenFault::NoMemory),
+    }
+}
+
+/// Makes the changes of all records of the journal, in their order, and the checks of them.
+pub(crate) fn take_records<O: Site>(
+    alloc: Global,
+    journal: &Journal,
+    site: &mut O,
+    state: &mut State,
+) -> Result<(), OpenFault>
+    requires opened { IsTrue O.told → IsOpen (O.trace site.old) journal.now }
+    requires rules { KeepsRules state.old }
+    ensures led { IsTrue O.told → OnOk result
+        (LeadTo state.old (held (O.trace site.old).now.image).records state.new) }
+    ensures rules { KeepsRules state.new }
+    ensures same { IsTrue O.told → O.trace site.new ≡ O.trace site.old }
+    ensures fault { HasOpenFault (O.faults site.old) (O.faults site.new) (λ offset. IsTrue O.told
+        → (place : ℕ) × IsBadRecord state.old (held (O.trace site.old).now.image).records place
+        × (offset ≡ record_at (O.trace site.old).now.image place)) result }
+{
+    for index in 0..journal.used() {
+        take_record(alloc, journal, site, index, state)?;
+    }
+    Ok(())
+}
