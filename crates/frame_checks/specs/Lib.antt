@@ -1,0 +1,6 @@
+pub mod Accepting
+pub mod Addressed
+pub mod Binding
+pub mod Header
+pub mod Opening
+pub mod Protecting
