@@ -1,5 +1,4 @@
 // Each bit of a header turned.
-ghost use Rattle.std.specs.Prelude.{◌≤◌};
 ghost use Rattle.frame_shield.specs.Binding.{IsBinding};
 
 use crate::{shielding, words};

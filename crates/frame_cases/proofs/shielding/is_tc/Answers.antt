@@ -1,4 +1,4 @@
-use Rattle.std.proofs.Common.{◌≡◌, subst, sym}
+use Rattle.std.proofs.Common.{subst, sym}
 use Rattle.sdls_base.specs.declared.link.AnyLayout.{AnyLayout}
 use Rattle.frame_shield.specs.AnyFrame.{tc, IsFrame}
 use Rattle.tc_frame.specs.TcFrame.{view}
