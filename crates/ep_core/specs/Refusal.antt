@@ -8,7 +8,7 @@ use Rattle.sa_book.specs.declared.sa_refusal.SaRefusal.{SaRefusal}
 use Rattle.sa_book.specs.declared.sa_refusal.SaRefusal.TheVariants as sa_book
 use Rattle.ep_codec.specs.Field.{key_state_code, sa_state_code}
 use Rattle.ep_core.specs.declared.refusal.Refusal.{Refusal}
-use Rattle.ep_core.specs.declared.refusal.Refusal.TheVariants.{AlreadyLoaded, DuplicateKey, BookFull, KeyInState, KeyInUse, UnknownKey, UnknownSpi, SpiTaken, SaInState, ChannelTaken, KeyNotActive, BelowFloor, TableFull, WrongSuite, PastEnd, UnknownChannel, KeyTaken, BadTag, BadItems, Exhausted, NotMaster, NotSession}
+use Rattle.ep_core.specs.declared.refusal.Refusal.TheVariants.{AlreadyLoaded, DuplicateKey, BookFull, KeyInState, KeyInUse, UnknownKey, UnknownSpi, SpiTaken, SaInState, ChannelTaken, KeyNotActive, BelowFloor, TableFull, WrongSuite, PastEnd, UnknownChannel, KeyTaken, BadTag, BadItems, Exhausted, PduFault, NotMaster, NotSession}
 
 abbrev pub code_of : Refusal → ℕ
 code_of (AlreadyLoaded key) = 0x11
@@ -31,6 +31,7 @@ code_of (KeyTaken spi) = 0x2b
 code_of BadTag = 0x31
 code_of (BadItems offset) = 0x32
 code_of (Exhausted number) = 0x33
+code_of (PduFault offset) = 0x34
 code_of (NotMaster key) = 0x35
 code_of (NotSession key) = 0x36
 
@@ -55,6 +56,7 @@ value_of (KeyTaken spi) = spi
 value_of BadTag = 0
 value_of (BadItems offset) = offset
 value_of (Exhausted number) = number
+value_of (PduFault offset) = offset
 value_of (NotMaster key) = key
 value_of (NotSession key) = key
 

@@ -49,6 +49,9 @@ pub enum Refusal {
     BadItems(u32),
     #[error("number {0} is at or above the end of the key")]
     Exhausted(u64),
+    /// The octets are no message of a command; the offset of their first fault. It comes before all others.
+    #[error("message has a fault at octet {0}")]
+    PduFault(u32),
     #[error("key {} is no master key", .0.get())]
     NotMaster(KeyId),
     #[error("key {} is no session key", .0.get())]
@@ -81,6 +84,7 @@ impl Refusal {
             Refusal::BadTag => 0x31,
             Refusal::BadItems(_) => 0x32,
             Refusal::Exhausted(_) => 0x33,
+            Refusal::PduFault(_) => 0x34,
             Refusal::NotMaster(_) => 0x35,
             Refusal::NotSession(_) => 0x36,
         }
@@ -108,7 +112,7 @@ impl Refusal {
                 number
             }
             Refusal::UnknownChannel(channel) => u64::from(channel.get()),
-            Refusal::BadItems(offset) => u64::from(offset),
+            Refusal::BadItems(offset) | Refusal::PduFault(offset) => u64::from(offset),
             Refusal::BookFull => MOST_KEYS as u64,
             Refusal::TableFull => MOST_ASSOCIATIONS as u64,
             Refusal::BadTag => 0,
