@@ -1,0 +1,70 @@
+-- A book that begins.
+use Rattle.std.proofs.Common.{◌≡◌, ℕ, Bool, IsTrue, List, [], ◌∷◌, ◌++◌, length, refl, sym, ap, subst, arith}
+use Rattle.std.proofs.lemmas.List.{take_all}
+use Rattle.sdls_outside.specs.Disk.{Leaves}
+use Rattle.sdls_outside.specs.Moments.{Trace, Between}
+use Rattle.sdls_outside.proofs.Moments.{each_same, synced_leaves}
+use Rattle.disk_journal.specs.Journal.{JournalView, IsSettled}
+use Rattle.unit_plan.specs.PlanLines.{PlanLines}
+use Rattle.unit_state.specs.declared.state.State.{State}
+use Rattle.unit_state.specs.State.{KeepsRules}
+use Rattle.unit_state.specs.Restart.{restarted}
+use Rattle.unit_image.specs.Shows.{Shows}
+use Rattle.unit_book.specs.Book.{ShowsFrom, Serves, IsHistory, IsKept, begun}
+use Rattle.unit_book.proofs.Growing.{shows_from_all}
+
+append_nil : (octets : List ℕ) → octets ++ [] ≡ octets
+append_nil [] = refl
+append_nil (o ∷ octets) = ap (λ (rest : List ℕ). o ∷ rest) (append_nil octets)
+
+fresh_history : (now : Trace) (start : State) (journal : JournalView) → IsSettled now journal → Shows now.now.image (restarted start)
+    → IsHistory now now start [] 0
+fresh_history now start journal settled shows =
+    let before : List ℕ = now.now.sunk in
+    let shows_now : (image : List ℕ) → Leaves now.now image → ShowsFrom start [] 0 image = λ image leaves.
+    let same : image ≡ now.now.image = synced_leaves now.now image settled.opened.synced leaves in
+    subst (λ (octets : List ℕ). ShowsFrom start [] 0 octets) (sym same) (shows_from_all start [] now.now.image shows settled.rests) in
+    let here : Between (before ++ []) (before ++ []) before =
+    subst (λ (octets : List ℕ). Between octets octets before) (sym (append_nil before))
+    (record { least = omega arith; prefix = sym (take_all (length before) before (omega arith)) }) in
+    record {
+      sunk = sym (append_nil before);
+      moments = each_same now (Serves start [] 0 before) (λ image leaves. record {
+        place = 0;
+        within = omega arith;
+        sinks = here;
+        shows = shows_now image leaves;
+      });
+      shows_now = shows_now;
+    }
+
+pub fresh_kept : {O : Type 0} (told : Bool) (trace : O → Trace) (faults : O → ℕ) (site : O) (image : List ℕ) (plan : PlanLines) (start : State) (journal : JournalView)
+    → KeepsRules start → (IsTrue told → IsSettled (trace site) journal) → (IsTrue told → Shows (trace site).now.image (restarted start))
+    → IsKept told trace faults (begun site image plan start journal)
+fresh_kept {O} told trace faults site image plan start journal rules settled shows = record {
+  later = omega arith;
+  stands = omega arith;
+  led = refl;
+  rules = rules;
+  room = omega arith;
+  epoch = refl;
+  whole = λ not. refl;
+  history = λ is_told. fresh_history (trace site) start journal (settled is_told) (shows is_told);
+  current = λ is_told not. record {
+    settled = settled is_told;
+    shows = shows is_told;
+  };
+  counted = λ is_told not. record {
+    used = let same : journal.used ≡ _ = (settled is_told).opened.of_image.used in omega arith;
+  };
+}
+
+-- the same, as the fields of a new book show it
+pub fresh_shown : {O : Type 0} (told : Bool) (trace : O → Trace) (faults : O → ℕ) (site opened : O) (image : List ℕ) (plan : PlanLines) (state start : State) (journal : JournalView)
+    → opened ≡ site → start ≡ state → KeepsRules state → (IsTrue told → IsSettled (trace site) journal)
+    → (IsTrue told → Shows (trace site).now.image (restarted state))
+    → IsKept told trace faults (record (begun site image plan state journal) { opened = opened; start = start })
+fresh_shown {O} told trace faults site opened image plan state start journal same_site same_state rules settled shows =
+    subst (λ (o : O). IsKept told trace faults (record (begun site image plan state journal) { opened = o; start = start })) (sym same_site)
+    (subst (λ (s : State). IsKept told trace faults (record (begun site image plan state journal) { start = s })) (sym same_state)
+    (fresh_kept told trace faults site image plan state journal rules settled shows))

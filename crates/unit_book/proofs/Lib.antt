@@ -1,0 +1,8 @@
+pub mod Lines
+pub mod Growing
+pub mod Serving
+pub mod Keeping
+pub mod Fresh
+pub mod Opened
+pub mod Marking
+pub mod Released

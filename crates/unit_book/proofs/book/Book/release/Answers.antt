@@ -1,0 +1,45 @@
+use Rattle.std.proofs.Common.{◌≡◌, ◌<◌, ◌≤◌, length, refl, arith, ap, ◌∙◌}
+use Rattle.unit_book.specs.Book.{BookView}
+use Rattle.unit_book.proofs.Released.{none_so_far, so_far_more, releases_refused, releases_done}
+use Rattle.unit_book.proofs.book.Book.release.Goals as goal
+
+pub loop-place-init : goal.loop-place-init
+loop-place-init g c = record {
+  kept = c.requires.kept;
+  keys = refl;
+  so_far = none_so_far g.O.Site.faults c.args.next.now c.args.self.now;
+  later = omega arith;
+}
+
+pub loop-place-preserved : goal.loop-place-preserved
+loop-place-preserved g c =
+    let size : length c.rows-place-end.result.now ≡ length c.args.self.now.state.keys =
+    ap (λ rows. length rows) c.rows-place-end.ensures.rows ∙ ap (λ (b : BookView _). length b.state.keys) c.self.view_is in
+    let words : length c.args.self.now.state.keys ≤ length c.args.next.now = c.requires.words in
+    let below : c.loop-place.place < length c.rows-place-end.result.now = c.loop-place-test.true in
+    let later : g.O.Site.faults c.loop-place.self.site ≤ g.O.Site.faults c.release_at.new.self.site = c.release_at.ensures.later in
+    let earlier : g.O.Site.faults c.args.self.now.site ≤ g.O.Site.faults c.loop-place.self.site = c.loop-place.invariant.later in
+    record {
+      kept = c.release_at.ensures.kept;
+      keys = c.release_at.ensures.keys ∙ c.loop-place.invariant.keys;
+      so_far = so_far_more g.O.Site.faults c.args.next.now c.loop-place.place 0 c.args.self.now c.loop-place.self c.release_at.new.self
+          c.release_at.result (omega arith) c.loop-place.invariant.so_far c.release_at.ensures.made c.in-Ok.is;
+      later = omega arith;
+    }
+
+pub returns-in-Err-clause-released : goal.returns-in-Err-clause-released
+returns-in-Err-clause-released g c =
+    let size : length c.rows-place-end.result.now ≡ length c.args.self.now.state.keys =
+    ap (λ rows. length rows) c.rows-place-end.ensures.rows ∙ ap (λ (b : BookView _). length b.state.keys) c.self.view_is in
+    let words : length c.args.self.now.state.keys ≤ length c.args.next.now = c.requires.words in
+    let below : c.loop-place.place < length c.rows-place-end.result.now = c.loop-place-test.true in
+    releases_refused g.O.Site.faults c.args.next.now c.loop-place.place 0 c.args.self.now c.loop-place.self c.release_at.new.self
+    c.in-Err.fault (omega arith) c.loop-place.invariant.so_far c.in-Err.ensures.made
+
+pub returns-clause-released : goal.returns-clause-released
+returns-clause-released g c =
+    let size : length c.rows-place-end.result.now ≡ length c.args.self.now.state.keys =
+    ap (λ rows. length rows) c.rows-place-end.ensures.rows ∙ ap (λ (b : BookView _). length b.state.keys) c.self.view_is in
+    let same : length c.loop-place.self.state.keys ≡ length c.args.self.now.state.keys = c.loop-place.invariant.keys in
+    let done : length c.rows-place-end.result.now ≤ c.loop-place.place = c.loop-place-test.false in
+    releases_done g.O.Site.faults c.args.next.now c.loop-place.place c.args.self.now c.loop-place.self (omega arith) c.loop-place.invariant.so_far

@@ -1,0 +1,9 @@
+use Rattle.std.proofs.Common.{sym, ap, ◌∙◌}
+use Rattle.unit_book.specs.Book.{BookView}
+use Rattle.unit_book.specs.Numbers.{release_at}
+use Rattle.unit_book.proofs.Marking.{release_allowed}
+use Rattle.unit_book.proofs.book.Book.release_at.Goals as goal
+
+pub commit-requires-clause-allows : goal.commit-requires-clause-allows
+commit-requires-clause-allows g c = release_allowed c.args.self.now.state c.args.place c.args.word c.in-Some.entry c.requires.kept.rules c.requires.some
+    (sym (ap (λ (b : BookView _). release_at b.state c.args.place c.args.word) c.self.view_is) ∙ sym c.release_entry_at.ensures ∙ c.in-Some.is)

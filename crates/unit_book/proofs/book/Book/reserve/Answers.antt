@@ -1,0 +1,20 @@
+use Rattle.std.proofs.Common.{sym, ap, ◌∙◌, subst}
+use Rattle.sdls_base.specs.declared.entry.Entry.{Entry}
+use Rattle.unit_state.specs.Applied.{applied}
+use Rattle.unit_state.specs.Allows.{Allows}
+use Rattle.unit_book.specs.Book.{BookView}
+use Rattle.unit_book.proofs.Marking.{reserve_allowed, mark_above, ok_same}
+use Rattle.unit_book.proofs.book.Book.reserve.Goals as goal
+
+pub commit-requires-clause-allows : goal.commit-requires-clause-allows
+commit-requires-clause-allows g c = subst (λ (entry : Entry). Allows c.args.self.now.state entry.change) (sym c.reserve_entry-entry.ensures.entry)
+    (reserve_allowed c.args.self.now.plan c.args.self.now.state c.args.key c.args.number c.requires.kept.rules c.requires.there c.requires.below
+    c.reserve_entry-entry.ensures.block)
+
+pub returns-in-Ok-clause-above : goal.returns-in-Ok-clause-above
+returns-in-Ok-clause-above g c = λ mark is.
+    mark_above c.args.self.now.plan c.args.self.now.state c.commit.new.self.state c.args.key c.args.number mark c.requires.kept.rules
+    c.requires.there c.requires.below c.reserve_entry-entry.ensures.block
+    (ap (λ (b : BookView _). b.state) c.in-Ok.ensures.made.is
+    ∙ ap (λ (entry : Entry). applied c.args.self.now.state entry.change) c.reserve_entry-entry.ensures.entry)
+    (sym (ok_same c.mark.result mark is) ∙ c.mark.ensures)

@@ -1,0 +1,181 @@
+-- What a book is seen as, and what holds of it between its calls.
+use Rattle.std.specs.Prelude.{◌≡◌, ℕ, ◌+◌, ◌<◌, ◌≤◌, ◌⊎◌, min, Bool, IsTrue, if◌then◌else◌, List, [], ◌∷◌, ◌++◌, length, take}
+use Rattle.sdls_base.specs.declared.change.Change.{Change}
+use Rattle.sdls_base.specs.declared.entry.Entry.{Entry}
+use Rattle.sdls_base.specs.declared.entry.Logged.{Logged}
+use Rattle.sdls_base.specs.declared.entry.Logged.TheVariants as logged
+use Rattle.sdls_outside.specs.Disk.{Leaves}
+use Rattle.sdls_outside.specs.Faults.{Rose}
+use Rattle.sdls_outside.specs.Moments.{Trace, EachMoment, Between}
+use Rattle.disk_journal.specs.Image.{records, IsOpenedForm}
+use Rattle.disk_journal.specs.Forms.{HasOneClosed}
+use Rattle.disk_journal.specs.Journal.{JournalView, IsSettled}
+use Rattle.unit_plan.specs.PlanLines.{PlanLines}
+use Rattle.unit_state.specs.declared.state.State.{State}
+use Rattle.unit_state.specs.State.{KeepsRules}
+use Rattle.unit_state.specs.Applied.{applied}
+use Rattle.unit_state.specs.Restart.{restarted, counts, IsLight}
+use Rattle.unit_state.specs.History.{after, after_first, epoch_after}
+use Rattle.unit_image.specs.Shows.{Shows}
+use Rattle.unit_book.specs.declared.fault.BookFault.{BookFault}
+use Rattle.unit_book.specs.declared.fault.BookFault.TheVariants.{SiteFault, Stopped, SessionFull, JournalFull, NoMemory}
+use Rattle.unit_book.specs.declared.limits.TheConstants.{MOST_ENTRIES}
+use Rattle.unit_book.specs.declared.next.Next.{Next}
+use Rattle.unit_book.specs.declared.next.Next.TheVariants.{Here, Then}
+use Rattle.unit_book.specs.Log.{entries_of, pieces_of}
+use Rattle.unit_book.specs.History.{IsStored, stored_count}
+
+-- The site, and what it was when `open` returned; the image as it was read, its plan, and the state that it showed; the
+-- state now; the journal; the log; how many entries of the log stand: all, but for a last one whose append failed; how many
+-- of those count for the epoch.
+pub record BookView (O : Type 0) : Type 0 where
+  pub site : O
+  pub opened : O
+  pub image : List ℕ
+  pub plan : PlanLines
+  pub start : State
+  pub state : State
+  pub journal : JournalView
+  pub log : List Logged
+  pub standing : ℕ
+  pub changes : ℕ
+
+-- the state that an opened form shows is later than the image's
+abbrev pub IsLater : ℕ → ℕ → Type 0
+IsLater p q = p < q
+
+-- The image shows the state after the first p entries, and each of its opened forms that after more of them.
+pub record ShowsAfter (start : State) (entries : List Entry) (p : ℕ) (image : List ℕ) : Type 0 where
+  pub within : p ≤ length entries
+  pub shows : Shows image (restarted (after_first start entries p))
+  pub forms : (form : List ℕ) → IsOpenedForm image form → (q : ℕ) × IsLater p q × (q ≤ length entries)
+      × Shows form (restarted (after_first start entries q))
+  pub settled : HasOneClosed image
+
+abbrev pub ShowsFrom : State → List Entry → ℕ → List ℕ → Type 0
+ShowsFrom start entries least image = (p : ℕ) × (least ≤ p) × ShowsAfter start entries p image
+
+-- A moment while the book serves: a place of the log, or its end. The octets sunk are those of the pieces before the place,
+-- and a front of the piece at it. The image shows the state after at least the entries before it that stand.
+pub record Serves (start : State) (log : List Logged) (standing : ℕ) (before image sunk : List ℕ) : Type 0 where
+  pub place : ℕ
+  pub within : place ≤ length log
+  pub sinks : Between (before ++ pieces_of (take place log)) (before ++ pieces_of (take (place + 1) log)) sunk
+  pub shows : ShowsFrom start (entries_of log) (min (length (entries_of (take place log))) standing) image
+
+-- the run from the opening to now
+pub record IsHistory (opened now : Trace) (start : State) (log : List Logged) (standing : ℕ) : Type 0 where
+  pub sunk : now.now.sunk ≡ opened.now.sunk ++ pieces_of log
+  pub moments : EachMoment opened now (Serves start log standing opened.now.sunk)
+  pub shows_now : (image : List ℕ) → Leaves now.now image → ShowsFrom start (entries_of log) standing image
+
+-- the image shows all entries, and the journal can take another
+pub record IsCurrent (now : Trace) (start : State) (journal : JournalView) (entries : List Entry) : Type 0 where
+  pub settled : IsSettled now journal
+  pub shows : Shows now.now.image (restarted (after start entries))
+
+-- The slots used: those of the records in the image that was opened, and one for each entry that takes one.
+pub record IsCounted (opened : Trace) (start : State) (journal : JournalView) (entries : List Entry) : Type 0 where
+  pub used : journal.used ≡ length (records opened.now.image) + stored_count start entries
+
+-- What holds of a book between its calls.
+pub record IsKept {O : Type 0} (told : Bool) (trace : O → Trace) (faults : O → ℕ) (book : BookView O) : Type 0 where
+  pub later : faults book.opened ≤ faults book.site
+  pub stands : book.standing ≤ length (entries_of book.log)
+  pub led : book.state ≡ after_first book.start (entries_of book.log) book.standing
+  pub rules : KeepsRules book.state
+  pub room : length (entries_of book.log) ≤ MOST_ENTRIES
+  pub epoch : book.changes ≡ epoch_after (take book.standing (entries_of book.log))
+  pub whole : ¬ Rose (faults book.opened) (faults book.site) → book.standing ≡ length (entries_of book.log)
+  pub history : IsTrue told → IsHistory (trace book.opened) (trace book.site) book.start book.log book.standing
+  pub current : IsTrue told → ¬ Rose (faults book.opened) (faults book.site)
+      → IsCurrent (trace book.site) book.start book.journal (entries_of book.log)
+  pub counted : IsTrue told → ¬ Rose (faults book.opened) (faults book.site)
+      → IsCounted (trace book.opened) book.start book.journal (entries_of book.log)
+
+-- The site has not failed since the opening, and there is room for an entry.
+abbrev pub CanEnter : {O : Type 0} → (O → ℕ) → BookView O → Type 0
+CanEnter faults book = ¬ Rose (faults book.opened) (faults book.site) × (length (entries_of book.log) < MOST_ENTRIES)
+
+-- the entry is made, and its change with it
+abbrev pub entered : {O : Type 0} → Entry → BookView O → BookView O
+entered entry book = record book {
+  state = applied book.state entry.change;
+  log = book.log ++ logged.Entry entry ∷ [];
+  standing = book.standing + 1;
+  changes = book.changes + (if counts entry.change then 1 else 0);
+}
+
+-- the entry is the last of the run; its append failed, and the image may hold it or not
+abbrev pub left_out : {O : Type 0} → Entry → BookView O → BookView O
+left_out entry book = record book { log = book.log ++ logged.Entry entry ∷ [] }
+
+-- this was put, or a front of it
+abbrev pub with_put : {O : Type 0} → List ℕ → BookView O → BookView O
+with_put piece book = record book { log = book.log ++ logged.Piece piece ∷ [] }
+
+-- Why a call is refused before it is looked at: the site failed since the opening, or the run has as many entries as it may.
+abbrev pub IsBarred : {O : Type 0} → (O → ℕ) → BookView O → BookFault → Type 0
+IsBarred faults book (Stopped count) = Rose (faults book.opened) (faults book.site) × (count ≡ faults book.site)
+IsBarred faults book SessionFull = ¬ Rose (faults book.opened) (faults book.site) × (length (entries_of book.log) ≡ MOST_ENTRIES)
+IsBarred faults book (SiteFault count) = ⊥
+IsBarred faults book (JournalFull slots) = ⊥
+IsBarred faults book NoMemory = ⊥
+
+-- Why an entry that may be made is not, and what that leaves. After a fault of the site it is the last of the run.
+abbrev pub IsUnstored : {O : Type 0} → (O → ℕ) → Entry → BookView O → BookView O → BookFault → Type 0
+IsUnstored faults entry old new (SiteFault count) =
+    IsTrue (IsStored old.state entry) × (old.journal.used < old.journal.slots) × Rose (faults old.site) (faults new.site)
+    × (count ≡ faults new.site) × (new ≡ left_out entry (record old { site = new.site }))
+IsUnstored faults entry old new (JournalFull slots) =
+    IsTrue (IsStored old.state entry) × (old.journal.used ≡ old.journal.slots) × (slots ≡ old.journal.slots) × (new ≡ old)
+IsUnstored faults entry old new (Stopped count) = ⊥
+IsUnstored faults entry old new SessionFull = ⊥
+IsUnstored faults entry old new NoMemory = ⊥
+
+-- how the next state comes about: by a change that takes no memory, or as this one
+abbrev pub Makes : State → Change → Next → Type 0
+Makes state change Here = IsLight change
+Makes state change (Then next) = next ≡ applied state change
+
+-- The entry was made, and its change with it. It took a slot where it is stored.
+pub record Enters {O : Type 0} (entry : Entry) (old new : BookView O) (position : ℕ) : Type 0 where
+  pub site : O
+  pub is : new ≡ entered entry (record old {
+    site = site;
+    journal = record old.journal { used = old.journal.used + (if IsStored old.state entry then 1 else 0) };
+  })
+  pub position_is : position ≡ length (entries_of new.log)
+  pub free : IsTrue (IsStored old.state entry) → old.journal.used < old.journal.slots
+
+-- a put fails only by a fault of the site, which the answer counts
+abbrev pub PutFails : ℕ → ℕ → BookFault → Type 0
+PutFails before now (SiteFault count) = Rose before now × (count ≡ now)
+PutFails before now (Stopped count) = ⊥
+PutFails before now SessionFull = ⊥
+PutFails before now (JournalFull slots) = ⊥
+PutFails before now NoMemory = ⊥
+
+-- Why a call that makes this entry is refused, in the order of the refusals. Barred or without a slot, the book is as it was.
+abbrev pub Refuses : {O : Type 0} → (O → ℕ) → Entry → BookView O → BookView O → BookFault → Type 0
+Refuses faults entry old new fault =
+    (IsBarred faults old fault × (new ≡ old)) ⊎ (CanEnter faults old × IsUnstored faults entry old new fault)
+
+-- the call made this entry, and answers its position
+abbrev pub Made : {O : Type 0} → (O → ℕ) → Entry → BookView O → BookView O → ℕ → Type 0
+Made faults entry old new position = CanEnter faults old × Enters entry old new position
+
+-- a book that begins, over a site whose image shows this state
+abbrev pub begun : {O : Type 0} → O → List ℕ → PlanLines → State → JournalView → BookView O
+begun site image plan start journal = record {
+  site = site;
+  opened = site;
+  image = image;
+  plan = plan;
+  start = start;
+  state = start;
+  journal = journal;
+  log = [];
+  standing = 0;
+  changes = 0;
+}

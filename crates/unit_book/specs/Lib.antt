@@ -1,0 +1,4 @@
+pub mod Log
+pub mod History
+pub mod Book
+pub mod Numbers

@@ -1,0 +1,27 @@
+-- The log of a run: its entries and the pieces that it put, in order.
+use Rattle.std.specs.Prelude.{ℕ, List, [], ◌∷◌, ◌++◌, length, drop}
+use Rattle.sdls_base.specs.declared.entry.Entry.{Entry}
+use Rattle.sdls_base.specs.declared.entry.Logged.{Logged}
+use Rattle.sdls_base.specs.declared.entry.Logged.TheVariants as logged
+use Rattle.sdls_outside.specs.Moments.{Trace}
+use Rattle.unit_book.specs.declared.log.Log.{Log, Begun, Entered', Put'}
+
+-- the octets that were sunk between two times of a site
+abbrev pub sunk_between : Trace → Trace → List ℕ
+sunk_between old new = drop (length old.now.sunk) new.now.sunk
+
+abbrev pub lines : {O : Type 0} → (O → Trace) → Log O → List Logged
+lines trace Begun = []
+lines trace (Entered' marker log entry) = lines trace log ++ logged.Entry entry.value ∷ []
+lines trace (Put' marker log before now) = lines trace log ++ logged.Piece (sunk_between (trace before.value) (trace now.value)) ∷ []
+
+-- the entries of a log, and the octets of its pieces
+abbrev pub entries_of : List Logged → List Entry
+entries_of [] = []
+entries_of (logged.Entry entry ∷ log) = entry ∷ entries_of log
+entries_of (logged.Piece octets ∷ log) = entries_of log
+
+abbrev pub pieces_of : List Logged → List ℕ
+pieces_of [] = []
+pieces_of (logged.Entry entry ∷ log) = pieces_of log
+pieces_of (logged.Piece octets ∷ log) = octets ++ pieces_of log

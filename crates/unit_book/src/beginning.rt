@@ -1,0 +1,75 @@
+// The beginning of a book, and its end.
+ghost use Rattle.std.specs.Prelude.{◌≡◌, ◌≤◌, IsTrue, [], vec_capacity};
+ghost use Rattle.disk_journal.specs.Journal.{IsSettled};
+ghost use Rattle.unit_state.specs.State.{KeepsRules};
+ghost use Rattle.unit_state.specs.Restart.{restarted};
+ghost use Rattle.unit_image.specs.Shows.{Shows};
+ghost use Rattle.unit_book.specs.Log.{entries_of};
+ghost use Rattle.unit_book.specs.Book.{IsKept, begun};
+
+use crate::book::Book;
+use crate::limits::MOST_ENTRIES;
+use crate::log::Log;
+use sdls_base::Entry;
+use sdls_outside::Site;
+use std::snapshot::Snapshot;
+use unit_image::Opened;
+
+impl<O: Site> Book<O> {
+    /// The book over a site whose image, at rest, shows this state. `taken` is the site as `open` took it.
+    pub(crate) fn new(
+        site: O,
+        taken: Snapshot<O>,
+        found: Opened,
+        entries: Vec<Entry>,
+    ) -> Book<O>
+        requires rules { KeepsRules found.state }
+        requires settled { IsTrue O.told → IsSettled (O.trace site) found.journal }
+        requires shows { IsTrue O.told → Shows (O.trace site).now.image (restarted found.state) }
+        requires room { (entries.items ≡ []) × (MOST_ENTRIES ≤ vec_capacity entries) }
+        ensures view { result ≡ begun site (O.trace taken.value).now.image found.plan found.state found.journal }
+        ensures kept { IsKept O.told O.trace O.faults result }
+    {
+        let Opened {
+            journal,
+            plan,
+            state,
+        } = found;
+        Book {
+            begun: taken,
+            opened: Snapshot::of(&site),
+            faults: site.faults(),
+            site,
+            plan,
+            start: Snapshot::of(&state),
+            state,
+            journal,
+            entries,
+            standing: 0,
+            changes: 0,
+            log: Log::Begun,
+        }
+    }
+
+    /// Gives back the site and the run's entries.
+    pub fn into_site(self) -> (O, Vec<Entry>)
+        ensures site { result.0 ≡ self.site }
+        ensures entries { result.1.items ≡ entries_of self.log }
+    {
+        let Book {
+            site,
+            begun: _,
+            opened: _,
+            faults: _,
+            plan: _,
+            start: _,
+            state: _,
+            journal: _,
+            entries,
+            standing: _,
+            changes: _,
+            log: _,
+        } = self;
+        (site, entries)
+    }
+}

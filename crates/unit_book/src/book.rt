@@ -1,0 +1,224 @@
+// The book.
+ghost use Rattle.std.specs.Prelude.{◌≡◌, ◌+◌, ◌<◌, ◌≤◌, ◌↔◌, IsTrue, MatchResult, IfErr, Some, None, length, ◌∷◌, [], ◌++◌, vec_len, vec_capacity};
+ghost use Rattle.sdls_base.specs.declared.change.Change.{Change};
+ghost use Rattle.sdls_outside.specs.Faults.{Rose};
+ghost use Rattle.sdls_outside.specs.Site.{Puts};
+ghost use Rattle.book_record.specs.Record.{IsRecord};
+ghost use Rattle.unit_state.specs.Allows.{Allows};
+ghost use Rattle.unit_state.specs.Restart.{stored_as};
+ghost use Rattle.unit_book.specs.Log.{entries_of, sunk_between};
+ghost use Rattle.unit_book.specs.Book.{IsKept, CanEnter, IsBarred, IsUnstored, Enters, Makes, entered, left_out, with_put, PutFails};
+
+use crate::applying::{counted, put_next};
+use crate::fault::BookFault;
+use crate::limits::MOST_ENTRIES;
+use crate::log::{Log, with_entry, with_piece};
+use crate::next::Next;
+use disk_journal::{BODY_LENGTH, Journal, JournalFault};
+use sdls_base::Entry;
+use sdls_outside::{Failed, Site};
+use std::marker::Model;
+use std::snapshot::Snapshot;
+use unit_image::stored_record;
+use unit_plan::Plan;
+use unit_state::State;
+
+/// A unit's state, with the journal in which each change of it is stored, and the site that holds both.
+pub struct Book<O: Site> {
+    pub(crate) site: O,
+    /// The site as `open` took it, and as it was when `open` returned, with the count of its faults then.
+    pub(crate) begun: Snapshot<O>,
+    pub(crate) opened: Snapshot<O>,
+    pub(crate) faults: u64,
+    pub(crate) plan: Plan,
+    pub(crate) start: Snapshot<State>,
+    pub(crate) state: State,
+    pub(crate) journal: Journal,
+    pub(crate) entries: Vec<Entry>,
+    pub(crate) standing: u64,
+    pub(crate) changes: u64,
+    pub(crate) log: Log<O>,
+}
+
+impl<O: Site> Model for Book<O> {
+    ghost use Rattle.std.specs.Prelude.{◌≡◌, ◌≤◌, length, vec_capacity};
+    ghost use Rattle.unit_book.specs.Log.{entries_of, lines};
+    ghost use Rattle.unit_book.specs.declared.limits.TheConstants.{MOST_ENTRIES};
+    ghost use Rattle.unit_book.specs.Book.{BookView};
+
+    ghost Value = { BookView O };
+
+    ghost view = { λ book. record {
+      site = book.site;
+      opened = book.opened.value;
+      image = (O.trace book.begun.value).now.image;
+      plan = book.plan;
+      start = book.start.value;
+      state = book.state;
+      journal = book.journal;
+      log = lines O.trace book.log;
+      standing = book.standing;
+      changes = book.changes;
+    } };
+
+    ghost invariant = { λ book. (book.faults ≡ O.faults book.opened.value)
+        × (book.entries.items ≡ entries_of (lines O.trace book.log))
+        × (book.standing ≤ length book.entries.items) × (book.changes ≤ book.standing)
+        × (MOST_ENTRIES ≤ vec_capacity book.entries) };
+}
+
+/// Pushes an element for which there is room.
+fn push_within<T: Drop>(items: &mut Vec<T>, item: T)
+    requires { vec_len items.old < vec_capacity items.old }
+    ensures items { items.new.items ≡ items.old.items ++ item ∷ [] }
+    ensures capacity { vec_capacity items.old ≤ vec_capacity items.new }
+{
+    let Ok(()) = items.push(item) else {
+        unreachable!()
+    };
+}
+
+impl<O: Site> Book<O> {
+    /// Whether the count of the site's faults has risen since the book was opened.
+    pub fn has_failed(&self) -> bool
+        ensures { IsTrue result ↔ Rose (O.faults self.entry.now.opened) (O.faults self.entry.now.site) }
+    {
+        let count = self.site.faults();
+        count > self.faults || count == u64::MAX
+    }
+
+    /// How many entries the run has.
+    pub fn count(&self) -> u64
+        ensures { result ≡ length (entries_of self.entry.now.log) }
+    {
+        self.entries.len() as u64
+    }
+
+    /// How many entries count for the epoch, a failed last one left out.
+    pub fn changes(&self) -> u64
+        ensures { result ≡ self.entry.now.changes }
+    {
+        self.changes
+    }
+
+    /// Whether an entry may be made: the site has not failed, and there is room.
+    pub(crate) fn may_enter(&self) -> Result<(), BookFault>
+        requires room { length (entries_of self.now.log) ≤ MOST_ENTRIES }
+        ensures { MatchResult result (λ _. CanEnter O.faults self.entry.now) (IsBarred O.faults self.entry.now) }
+    {
+        if self.has_failed() {
+            return Err(BookFault::Stopped(self.site.faults()));
+        }
+        if self.entries.len() == MOST_ENTRIES {
+            return Err(BookFault::SessionFull);
+        }
+        Ok(())
+    }
+
+    /// Makes an entry, and its change with it, in memory.
+    fn enter(&mut self, entry: Entry, next: Next)
+        requires room { length (entries_of self.old.log) < MOST_ENTRIES }
+        requires whole { self.old.standing ≡ length (entries_of self.old.log) }
+        requires allows { Allows self.old.state entry.change }
+        requires makes { Makes self.old.state entry.change next }
+        ensures { self.new ≡ entered entry self.old }
+    {
+        put_next(&mut self.state, &entry.change, next);
+        self.changes += counted(&entry.change);
+        self.standing += 1;
+        self.log = with_entry(&self.log, &entry);
+        push_within(&mut self.entries, entry);
+    }
+
+    /// Notes an entry whose append failed.
+    fn leave_out(&mut self, entry: Entry)
+        requires room { length (entries_of self.old.log) < MOST_ENTRIES }
+        ensures { self.new ≡ left_out entry self.old }
+    {
+        self.log = with_entry(&self.log, &entry);
+        push_within(&mut self.entries, entry);
+    }
+
+    /// Makes an entry whose record has this body, and stores it.
+    fn store(&mut self, entry: Entry, next: Next, body: &[u8; BODY_LENGTH]) -> Result<u64, BookFault>
+        requires kept { IsKept O.told O.trace O.faults self.old }
+        requires can { CanEnter O.faults self.old }
+        requires allows { Allows self.old.state entry.change }
+        requires makes { Makes self.old.state entry.change next }
+        requires free { self.old.journal.used < self.old.journal.slots }
+        requires stored { (stored : Change) × (stored_as self.old.state entry.change ≡ Some stored) × IsRecord stored body.now }
+        ensures kept { IsKept O.told O.trace O.faults self.new }
+        ensures made { MatchResult result (Enters entry self.old self.new) (IsUnstored O.faults entry self.old self.new) }
+        ensures sunk { IsTrue O.told → (O.trace self.new.site).now.sunk ≡ (O.trace self.old.site).now.sunk }
+        ensures later { O.faults self.old.site ≤ O.faults self.new.site }
+    {
+        match self.journal.append(&mut self.site, body) {
+            Ok(()) => {
+                self.enter(entry, next);
+                Ok(self.count())
+            }
+            Err(JournalFault::SiteFault(count)) => {
+                self.leave_out(entry);
+                Err(BookFault::SiteFault(count))
+            }
+            Err(_) => unreachable!(),
+        }
+    }
+
+    /// Makes an entry of which nothing is stored.
+    fn enter_unstored(&mut self, entry: Entry, next: Next) -> u64
+        requires kept { IsKept O.told O.trace O.faults self.old }
+        requires can { CanEnter O.faults self.old }
+        requires allows { Allows self.old.state entry.change }
+        requires makes { Makes self.old.state entry.change next }
+        requires unstored { stored_as self.old.state entry.change ≡ None }
+        ensures kept { IsKept O.told O.trace O.faults self.new }
+        ensures made { Enters entry self.old self.new result }
+        ensures site { self.new.site ≡ self.old.site }
+    {
+        self.enter(entry, next);
+        self.count()
+    }
+
+    /// Makes an entry, and its change with it. Where something is stored for it, that is in every image that a crash may
+    /// leave before the answer.
+    pub(crate) fn commit(&mut self, entry: Entry, next: Next) -> Result<u64, BookFault>
+        requires kept { IsKept O.told O.trace O.faults self.old }
+        requires can { CanEnter O.faults self.old }
+        requires allows { Allows self.old.state entry.change }
+        requires makes { Makes self.old.state entry.change next }
+        ensures kept { IsKept O.told O.trace O.faults self.new }
+        ensures made { MatchResult result (Enters entry self.old self.new) (IsUnstored O.faults entry self.old self.new) }
+        ensures sunk { IsTrue O.told → (O.trace self.new.site).now.sunk ≡ (O.trace self.old.site).now.sunk }
+        ensures later { O.faults self.old.site ≤ O.faults self.new.site }
+    {
+        match stored_record(&self.state, &entry.change) {
+            None => Ok(self.enter_unstored(entry, next)),
+            Some(body) => {
+                if self.journal.used() == self.journal.slots() {
+                    return Err(BookFault::JournalFull(self.journal.slots()));
+                }
+                self.store(entry, next, &body)
+            }
+        }
+    }
+
+    /// Hands octets to the site's sink. It makes no entry, and still puts after a fault of the disk.
+    pub fn put(&mut self, octets: &[u8]) -> Result<(), BookFault>
+        requires kept { IsKept O.told O.trace O.faults self.old }
+        ensures kept { IsKept O.told O.trace O.faults self.new }
+        ensures made { self.new ≡ with_put (sunk_between (O.trace self.old.site) (O.trace self.new.site))
+            (record self.old { site = self.new.site }) }
+        ensures put { IsTrue O.told → Puts octets.now result (O.trace self.old.site) (O.trace self.new.site) }
+        ensures fault { IfErr result (PutFails (O.faults self.old.site) (O.faults self.new.site)) }
+        ensures later { O.faults self.old.site ≤ O.faults self.new.site }
+    {
+        let before = Snapshot::of(&self.site);
+        let result = self.site.put(octets);
+        self.log = with_piece(&self.log, before, &self.site);
+        match result {
+            Ok(()) => Ok(()),
+            Err(Failed) => Err(BookFault::SiteFault(self.site.faults())),
+        }
+    }
+}

@@ -1,0 +1,116 @@
+// The release at the end of a run.
+ghost use Rattle.std.specs.Prelude.{◌≡◌, ℕ, ◌<◌, ◌≤◌, Ok, MatchOption, MatchResult, Some, length, slice_get, slice_index};
+ghost use Rattle.std.specs.Option.{option_map};
+ghost use Rattle.sa_book.specs.SaRefusal.{receives_with, receiver_with};
+ghost use Rattle.unit_book.specs.Book.{IsKept, Made, Refuses};
+ghost use Rattle.unit_book.specs.Numbers.{released_floor, release_of, release_at, Releases};
+
+use crate::book::Book;
+use crate::fault::BookFault;
+use crate::next::Next;
+use key_book::KeyRow;
+use sa_book::SaRow;
+use sdls_base::{Change, Direction, Entry, KeyId, Seen};
+use sdls_outside::Site;
+use unit_state::State;
+
+fn is_receiver(row: &SaRow, key: KeyId) -> bool
+    ensures { result ≡ receives_with key row.now }
+{
+    row.direction == Direction::Receive && row.key == Some(key)
+}
+
+/// The association that receives with a key.
+fn receiver(state: &State, key: KeyId) -> Option<&SaRow>
+    ensures { option_map (λ row. row.now) result ≡ receiver_with state.now.associations key }
+{
+    state
+        .associations
+        .rows()
+        .iter()
+        .find(|row| is_receiver(row, key))
+}
+
+/// The floor that a release of the key leaves.
+fn released_floor(state: &State, held: &KeyRow) -> u64
+    ensures { result ≡ released_floor state.now held.now }
+{
+    match receiver(state, held.id) {
+        Some(row) => row.window.high,
+        None => held.floor,
+    }
+}
+
+/// The entry that releases a key whose word `next` stands so, or `None` where nothing would move.
+fn release_entry(state: &State, word: u64, held: &KeyRow) -> Option<Entry>
+    ensures { result ≡ release_of state.now word held.now }
+{
+    let mark = held.mark.min(word);
+    let floor = released_floor(state, held);
+    if mark == held.mark && floor == held.floor {
+        return None;
+    }
+    Some(Entry {
+        index: None,
+        seen: Seen::Word(word),
+        change: Change::Marks {
+            key: held.id,
+            mark,
+            floor,
+        },
+    })
+}
+
+/// The entry that releases the key at a place, or `None` where nothing would move.
+fn release_entry_at(state: &State, place: usize, word: u64) -> Option<Entry>
+    requires { place < length state.now.keys }
+    ensures { result ≡ release_at state.now place word }
+{
+    release_entry(state, word, &state.keys.rows()[place])
+}
+
+impl<O: Site> Book<O> {
+    /// Releases the key at a place.
+    fn release_at(&mut self, place: usize, word: u64) -> Result<(), BookFault>
+        requires kept { IsKept O.told O.trace O.faults self.old }
+        requires there { place < length self.old.state.keys }
+        requires some { 1 ≤ word }
+        ensures kept { IsKept O.told O.trace O.faults self.new }
+        ensures made { MatchOption (release_at self.old.state place word) ((result ≡ Ok tt) × (self.new ≡ self.old))
+            (λ entry. MatchResult result (λ _. (position : ℕ) × Made O.faults entry self.old self.new position)
+            (Refuses O.faults entry self.old self.new)) }
+        ensures keys { length self.new.state.keys ≡ length self.old.state.keys }
+        ensures later { O.faults self.old.site ≤ O.faults self.new.site }
+    {
+        let Some(entry) = release_entry_at(&self.state, place, word) else {
+            return Ok(());
+        };
+        self.may_enter()?;
+        match self.commit(entry, Next::Here) {
+            Ok(_) => Ok(()),
+            Err(fault) => Err(fault),
+        }
+    }
+
+    /// Releases what the run did not use: goes through the keys in loading order, and where the key's word `next`, or the
+    /// highest number of the association that receives with it, lies below its mark or its floor, stores the lesser
+    /// numbers. Stops at the first refusal. Takes no memory.
+    ///
+    /// `next` has a word for each key row; further words are not looked at.
+    pub fn release(&mut self, next: &[u64]) -> Result<(), BookFault>
+        requires kept { IsKept O.told O.trace O.faults self.old }
+        requires words { length self.old.state.keys ≤ length next.now }
+        requires some { (place : ℕ) → place < length self.old.state.keys → 1 ≤ slice_index next.now place }
+        ensures kept { IsKept O.told O.trace O.faults self.new }
+        ensures released { Releases O.faults next.now self.old self.new result }
+        ensures later { O.faults self.old.site ≤ O.faults self.new.site }
+    {
+        for place in 0..self.state.keys.rows().len() {
+            match self.release_at(place, next[place]) {
+                Ok(()) => {}
+                Err(fault) => return Err(fault),
+            }
+        }
+        Ok(())
+    }
+}
