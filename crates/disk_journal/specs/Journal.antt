@@ -1,5 +1,5 @@
 -- A journal over the image of a site, and why its calls fail (profile).
-use Rattle.std.specs.Prelude.{◌≡◌, ℕ, ◌≤◌, List, length, None, Some, Result, IfErr, MatchResult}
+use Rattle.std.specs.Prelude.{◌≡◌, ⊤, ℕ, ◌≤◌, List, length, None, Some, Result, Ok, Err, IfErr, MatchResult}
 use Rattle.sdls_outside.specs.Disk.{IsSynced}
 use Rattle.sdls_outside.specs.Moments.{Trace}
 use Rattle.sdls_outside.specs.Faults.{Rose}
@@ -39,9 +39,17 @@ IsCause before now full image (SiteFault count) = Rose before now × (count ≡ 
 IsCause before now full image (Full slots) = full slots
 IsCause before now full image (Image offset) = image offset
 
--- the count of faults never falls, and a fault that is answered has its cause
+-- the count of faults stands where it was, but where a fault of the site is answered
+abbrev pub Stands : {T : Type 0} → ℕ → ℕ → Result T JournalFault → Type 0
+Stands before now (Ok value) = now ≡ before
+Stands before now (Err (SiteFault count)) = ⊤
+Stands before now (Err (Full slots)) = now ≡ before
+Stands before now (Err (Image offset)) = now ≡ before
+
+-- the count of faults never falls, and stands but after a fault of the site; a fault that is answered has its cause
 pub record HasFault {T : Type 0} (before now : ℕ) (full image : ℕ → Type 0) (result : Result T JournalFault) : Type 0 where
   pub later : before ≤ now
+  pub stood : Stands before now result
   pub cause : IfErr result (IsCause before now full image)
 
 -- the same for a call that is failed by the site alone

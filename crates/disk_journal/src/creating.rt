@@ -29,6 +29,7 @@ fn write_zeros<O: Site>(site: &mut O, blocks: u32) -> Result<(), Failed>
     ensures any_moment { IsTrue O.told → EachImage (O.trace site.old) (O.trace site.new)
         (λ image. length image ≤ SLOT_LENGTH * blocks) }
     ensures cause { HasCause (O.faults site.old) (O.faults site.new) result }
+    ensures puts { O.put_faults site.new ≡ O.put_faults site.old }
 {
     for block in 0..blocks {
         site.write_at(SLOT_LENGTH * block as u64, &[0; SLOT_LENGTH as usize])?;
@@ -55,6 +56,7 @@ fn write_fields<O: Site>(site: &mut O, plan_length: u32, slots: u32) -> Result<(
     ensures written { IsTrue O.told → Writes MAGIC_AT (MAGIC ++ big_bytes FIELD_LENGTH plan_length ++ big_bytes FIELD_LENGTH slots)
         result (O.trace site.old) (O.trace site.new) }
     ensures cause { HasCause (O.faults site.old) (O.faults site.new) result }
+    ensures puts { O.put_faults site.new ≡ O.put_faults site.old }
 {
     let mut fields = [0; (ZEROS_AT - MAGIC_AT) as usize];
     fill_fields(&mut fields, plan_length, slots);
@@ -71,6 +73,7 @@ fn lay<O: Site>(site: &mut O, plan: &[u8], slots: u32) -> Result<(), Failed>
     ensures any_moment { IsTrue O.told → EachImage (O.trace site.old) (O.trace site.new)
         (λ image. length image ≤ slot_at slots) }
     ensures cause { HasCause (O.faults site.old) (O.faults site.new) result }
+    ensures puts { O.put_faults site.new ≡ O.put_faults site.old }
 {
     write_zeros(site, BLOCKS_BEFORE + slots)?;
     site.write_at(HEADER_LENGTH, plan)?;
@@ -87,6 +90,7 @@ fn write_image<O: Site>(site: &mut O, plan: &[u8], slots: u32) -> Result<(), Fai
         × ((O.trace site.new).now.image ≡ initial_image plan.now slots)) }
     ensures any_moment { IsTrue O.told → ((mid : Trace) × IsLaid plan.now slots (O.trace site.old) mid (O.trace site.new)) }
     ensures cause { HasCause (O.faults site.old) (O.faults site.new) result }
+    ensures puts { O.put_faults site.new ≡ O.put_faults site.old }
 {
     lay(site, plan, slots)?;
     store(site, 0, &[OPEN])
@@ -105,6 +109,7 @@ pub fn create<O: Site>(site: &mut O, plan: &[u8], slots: u32) -> Result<(), Jour
     // The gate of the header is written once all else is on the disk.
     ensures any_moment { IsTrue O.told → ((mid : Trace) × IsLaid plan.now slots (O.trace site.old) mid (O.trace site.new)) }
     ensures fault { HasSiteFault (O.faults site.old) (O.faults site.new) result }
+    ensures puts { O.put_faults site.new ≡ O.put_faults site.old }
 {
     match write_image(site, plan, slots) {
         Ok(()) => Ok(()),

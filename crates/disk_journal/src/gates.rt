@@ -15,6 +15,7 @@ pub(crate) fn gate<O: Site>(site: &mut O, index: u32) -> Result<u8, Failed>
     ensures gate { IsTrue O.told → IfOk result (λ gate. gate ≡ gate_at (O.trace site.old).now.image index) }
     ensures same { IsTrue O.told → O.trace site.new ≡ O.trace site.old }
     ensures cause { HasCause (O.faults site.old) (O.faults site.new) result }
+    ensures puts { O.put_faults site.new ≡ O.put_faults site.old }
 {
     let mut octets = [0];
     site.read_at(slot_offset(index), &mut octets)?;
@@ -28,6 +29,7 @@ pub(crate) fn first_closed<O: Site>(site: &mut O, slots: u32) -> Result<u32, Fai
     ensures found { IsTrue O.told → IfOk result (IsFirstClosed (gate_at (O.trace site.old).now.image) slots) }
     ensures same { IsTrue O.told → O.trace site.new ≡ O.trace site.old }
     ensures cause { HasCause (O.faults site.old) (O.faults site.new) result }
+    ensures puts { O.put_faults site.new ≡ O.put_faults site.old }
 {
     for index in 0..slots {
         if gate(site, index)? != OPEN {
@@ -48,6 +50,7 @@ pub(crate) fn stray_gate<O: Site>(
         ≡ first_failing (gate_checks (gate_at (O.trace site.old).now.image) (slots - from) from)) }
     ensures same { IsTrue O.told → O.trace site.new ≡ O.trace site.old }
     ensures cause { HasCause (O.faults site.old) (O.faults site.new) result }
+    ensures puts { O.put_faults site.new ≡ O.put_faults site.old }
 {
     for index in from..slots {
         if gate(site, index)? != CLOSED {

@@ -50,6 +50,7 @@ impl Journal {
         // Whatever the answer, nothing is written and nothing is sunk.
         ensures unchanged { IsTrue O.told → OnlySyncs (O.trace site.old) (O.trace site.new) }
         ensures any_moment { IsTrue O.told → EachImage (O.trace site.old) (O.trace site.new) (Leaves (O.trace site.old).now) }
+        ensures puts { O.put_faults site.new ≡ O.put_faults site.old }
     {
         match inspect_synced(site) {
             Ok(Ok(journal)) => Ok(journal),
@@ -69,6 +70,7 @@ impl Journal {
         // A crash at any moment leaves the image but for its closed gate, if that is not 0.
         ensures any_moment { IsTrue O.told → EachImage (O.trace site.old) (O.trace site.new) (Settles (O.trace site.old).now.image) }
         ensures fault { HasSiteFault (O.faults site.old) (O.faults site.new) result }
+        ensures puts { O.put_faults site.new ≡ O.put_faults site.old }
     {
         match close_gate(site, self.used, self.slots) {
             Ok(()) => Ok(()),
@@ -85,6 +87,7 @@ impl Journal {
         ensures within { IfOk result (λ count. count ≤ PLAN_ROOM) }
         ensures same { IsTrue O.told → O.trace site.new ≡ O.trace site.old }
         ensures fault { HasSiteFault (O.faults site.old) (O.faults site.new) result }
+        ensures puts { O.put_faults site.new ≡ O.put_faults site.old }
     {
         let count = self.plan_length as usize;
         match site.read_at(HEADER_LENGTH, &mut out[..count]) {
@@ -100,6 +103,7 @@ impl Journal {
         ensures body { IsTrue O.told → IfOk result (λ body. slice_get (records (O.trace site.old).now.image) index ≡ Some body) }
         ensures same { IsTrue O.told → O.trace site.new ≡ O.trace site.old }
         ensures fault { HasSiteFault (O.faults site.old) (O.faults site.new) result }
+        ensures puts { O.put_faults site.new ≡ O.put_faults site.old }
     {
         let mut body = [0; BODY_LENGTH];
         match site.read_at(slot_offset(index) + 1, &mut body) {
@@ -143,6 +147,7 @@ impl Journal {
         ensures unchanged { self.old.used ≡ self.old.slots → (self.new ≡ self.old) × (site.new ≡ site.old) }
         ensures fault { HasFault (O.faults site.old) (O.faults site.new)
             (λ slots. (slots ≡ self.old.slots) × (self.old.used ≡ self.old.slots)) (λ offset. ⊥) result }
+        ensures puts { O.put_faults site.new ≡ O.put_faults site.old }
     {
         if self.used == self.slots {
             return Err(JournalFault::Full(self.slots));

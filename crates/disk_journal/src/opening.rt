@@ -20,6 +20,7 @@ fn inspect_gates<O: Site>(site: &mut O, header: Header) -> Result<Result<Journal
     ensures found { IsTrue O.told → IfOk result (IsVerdict (O.trace site.old).now.image) }
     ensures same { IsTrue O.told → O.trace site.new ≡ O.trace site.old }
     ensures cause { HasCause (O.faults site.old) (O.faults site.new) result }
+    ensures puts { O.put_faults site.new ≡ O.put_faults site.old }
 {
     let Header { plan_length, slots } = header;
     let used = first_closed(site, slots)?;
@@ -39,6 +40,7 @@ fn inspect<O: Site>(site: &mut O, image_length: u64) -> Result<Result<Journal, u
     ensures found { IsTrue O.told → IfOk result (IsVerdict (O.trace site.old).now.image) }
     ensures same { IsTrue O.told → O.trace site.new ≡ O.trace site.old }
     ensures cause { HasCause (O.faults site.old) (O.faults site.new) result }
+    ensures puts { O.put_faults site.new ≡ O.put_faults site.old }
 {
     if image_length < HEADER_LENGTH {
         return Ok(Err(0));
@@ -57,6 +59,7 @@ pub(crate) fn inspect_synced<O: Site>(site: &mut O) -> Result<Result<Journal, u6
     ensures synced { IsTrue O.told → OnOk result (Synced (O.trace site.old) (O.trace site.new)) }
     ensures unchanged { IsTrue O.told → OnlySyncs (O.trace site.old) (O.trace site.new) }
     ensures cause { HasCause (O.faults site.old) (O.faults site.new) result }
+    ensures puts { O.put_faults site.new ≡ O.put_faults site.old }
 {
     let image_length = site.begin()?;
     site.sync()?;

@@ -19,6 +19,7 @@ pub(crate) fn store<O: Site>(site: &mut O, at: u64, octets: &[u8]) -> Result<(),
     ensures any_moment { IsTrue O.told → EachImage (O.trace site.old) (O.trace site.new)
         (AllBut at (length octets.now) (O.trace site.old).now.image) }
     ensures cause { HasCause (O.faults site.old) (O.faults site.new) result }
+    ensures puts { O.put_faults site.new ≡ O.put_faults site.old }
 {
     site.write_at(at, octets)?;
     site.sync()
@@ -41,6 +42,7 @@ pub(crate) fn store_record<O: Site>(
         AllBut (at + 1) BODY_LENGTH (O.trace site.old).now.image image
         ⊎ AllBut at 1 (overwritten (O.trace site.old).now.image (at + 1) body.now) image) }
     ensures cause { HasCause (O.faults site.old) (O.faults site.new) result }
+    ensures puts { O.put_faults site.new ≡ O.put_faults site.old }
 {
     store(site, at + 1, body)?;
     store(site, at, &[OPEN])
@@ -57,6 +59,7 @@ pub(crate) fn close_gate<O: Site>(site: &mut O, index: u32, slots: u32) -> Resul
         (Closes (O.trace site.old).now.image index slots) }
     ensures ends { IsTrue O.told → OnOk result (Closes (O.trace site.old).now.image index slots (O.trace site.new).now.image) }
     ensures cause { HasCause (O.faults site.old) (O.faults site.new) result }
+    ensures puts { O.put_faults site.new ≡ O.put_faults site.old }
 {
     if index == slots {
         return Ok(());

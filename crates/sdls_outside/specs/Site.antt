@@ -1,5 +1,5 @@
 -- What each call on a site does to its trace (profile).
-use Rattle.std.specs.Prelude.{◌≡◌, ℕ, ◌+◌, ◌≤◌, ◌⊎◌, List, [], ◌∷◌, ◌++◌, length, take, drop, max, Result, MatchResult}
+use Rattle.std.specs.Prelude.{◌≡◌, ℕ, ◌+◌, ◌≤◌, ◌⊎◌, List, [], ◌∷◌, ◌++◌, length, take, drop, max, Result, Ok, Err, MatchResult}
 use Rattle.sdls_outside.specs.Disk.{IsSynced}
 use Rattle.sdls_outside.specs.Moments.{Trace, Between}
 
@@ -56,3 +56,8 @@ abbrev pub Puts : {T E : Type 0} → List ℕ → Result T E → Trace → Trace
 Puts octets result old new = MatchResult result
     (λ _. Sank octets old new × (new.now.sunk ≡ old.now.sunk ++ octets))
     (λ _. (new ≡ old) ⊎ Sank octets old new)
+
+-- how often a put has failed, once a put has ended so
+abbrev pub after_put : {T E : Type 0} → Result T E → ℕ → ℕ
+after_put (Ok value) count = count
+after_put (Err error) count = count + 1

@@ -5,6 +5,7 @@ ghost use Rattle.sdls_outside.specs.Crash.{fresh};
 
 use crate::edge::counted;
 use crate::image_file::ImageFile;
+use crate::put_faults::{PutFaults, noted};
 use crate::{Failed, Site};
 use std::io;
 use std::io::Write;
@@ -17,15 +18,17 @@ pub struct FileSite {
     path: &'static str,
     image: ImageFile,
     faults: u64,
+    put_faults: PutFaults,
 }
 
 impl FileSite {
-    ghost use Rattle.sdls_outside.specs.FileSite.{image_path, output_faults};
+    ghost use Rattle.sdls_outside.specs.FileSite.{image_path, output_faults, output_put_faults};
 
     /// The file `unit.img` in the folder that the program runs in, with no fault so far.
     pub fn new(rt: HostRuntime) -> Self
         ensures path { image_path result ≡ codes "unit.img" }
         ensures faults { output_faults result ≡ 0 }
+        ensures puts { output_put_faults result ≡ 0 }
     {
         FileSite::at(rt, "unit.img")
     }
@@ -35,24 +38,28 @@ impl FileSite {
     pub fn at(rt: HostRuntime, path: &'static str) -> Self
         ensures path { image_path result ≡ path.now }
         ensures faults { output_faults result ≡ 0 }
+        ensures puts { output_put_faults result ≡ 0 }
     {
         FileSite {
             rt,
             path,
             image: ImageFile::new(),
             faults: 0,
+            put_faults: PutFaults::Zero,
         }
     }
 }
 
 impl Site for FileSite {
-    ghost use Rattle.sdls_outside.specs.FileSite.{output_faults};
+    ghost use Rattle.sdls_outside.specs.FileSite.{output_faults, output_put_faults};
 
     ghost told = { false };
 
     ghost trace = { λ _. fresh [] };
 
     ghost faults = { λ site. output_faults site };
+
+    ghost put_faults = { λ site. output_put_faults site };
 
     ghost image_may_stay = { Prim.search rules };
 
@@ -77,8 +84,10 @@ impl Site for FileSite {
     }
 
     fn put(&mut self, octets: &[u8]) -> Result<(), Failed> {
-        let put = print(&self.rt, octets);
-        counted(put, &mut self.faults)
+        let printed = print(&self.rt, octets);
+        let put = counted(printed, &mut self.faults);
+        self.put_faults = noted(&self.put_faults, &put);
+        put
     }
 
     fn faults(&self) -> u64 {

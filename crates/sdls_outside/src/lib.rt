@@ -17,6 +17,7 @@ mod intake;
 mod laws;
 mod mem_site;
 mod mem_source;
+mod put_faults;
 mod site;
 mod source;
 mod std_source;

@@ -7,6 +7,7 @@ ghost use Rattle.sdls_outside.specs.Site.{Writes, Syncs, Puts};
 
 use crate::calls::Calls;
 use crate::history::History;
+use crate::put_faults::{PutFaults, noted};
 use crate::{Crash, Failed, Site};
 use std::alloc::Global;
 
@@ -16,11 +17,12 @@ use std::alloc::Global;
 pub struct MemSite {
     history: History,
     calls: Calls,
+    put_faults: PutFaults,
 }
 
 impl MemSite {
-    ghost use Rattle.sdls_outside.specs.Calls.{planned};
-    ghost use Rattle.sdls_outside.specs.MemSite.{site_trace, site_plan, site_faults};
+    ghost use Rattle.sdls_outside.specs.Calls.{counted, fails_next, planned};
+    ghost use Rattle.sdls_outside.specs.MemSite.{site_trace, site_plan, site_faults, site_put_faults};
 
     /// A site that holds this image, all of it synced, and has nothing sunk. `failing` lists the
     /// calls that fail, counted from 0 over all methods but `faults`, and each call from
@@ -29,10 +31,12 @@ impl MemSite {
         ensures trace { site_trace result ≡ fresh image.items }
         ensures plan { site_plan result ≡ planned failing.items dead_from }
         ensures faults { site_faults result ≡ 0 }
+        ensures puts { site_put_faults result ≡ 0 }
     {
         MemSite {
             history: History::new(alloc, image),
             calls: Calls::new(failing, dead_from),
+            put_faults: PutFaults::Zero,
         }
     }
 
@@ -51,26 +55,48 @@ impl MemSite {
     }
 
     /// The site after a crash of this kind: its image is one that the crash may leave, and is
-    /// synced; nothing is sunk, no call fails, and the count of faults is 0.
+    /// synced; nothing is sunk, no call fails, and the counts of faults are 0.
     pub fn crashed(self, how: Crash) -> Self
         ensures leaves { Leaves (site_trace self).now (site_trace result).now.image }
         ensures kind { LeftBy how (site_trace self).now (site_trace result).now.image }
         ensures begins { site_trace result ≡ fresh (site_trace result).now.image }
         ensures plan { site_plan result ≡ planned [] None }
         ensures faults { site_faults result ≡ 0 }
+        ensures puts { site_put_faults result ≡ 0 }
     {
-        let MemSite { history, calls: _ } = self;
+        let MemSite {
+            history,
+            calls: _,
+            put_faults: _,
+        } = self;
         let alloc = history.alloc();
         MemSite {
             history: history.crashed(how),
             calls: Calls::new(Vec::new(alloc), None),
+            put_faults: PutFaults::Zero,
         }
+    }
+
+    // Appends to the sink, where the call is not to fail.
+    fn try_put(&mut self, octets: &[u8]) -> Result<(), Failed>
+        ensures fails { IsTrue (fails_next (site_plan self.old)) → IsErr result }
+        ensures counts { site_plan self.new ≡ record (site_plan self.old) { made = counted (site_plan self.old).made } }
+        ensures put { Puts octets.now result (site_trace self.old) (site_trace self.new) }
+        ensures unsunk { OnErr result (site_trace self.new ≡ site_trace self.old) }
+        ensures puts { site_put_faults self.new ≡ site_put_faults self.old }
+        ensures cause { HasCause (site_faults self.old) (site_faults self.new) result }
+    {
+        self.calls.enter()?;
+        let put = self.history.put(octets);
+        self.calls.counted(put)
     }
 }
 
 impl Site for MemSite {
+    ghost use Rattle.sdls_outside.specs.Site.{after_put};
+
     ghost use Rattle.sdls_outside.specs.Calls.{Enters, counted, fails_next};
-    ghost use Rattle.sdls_outside.specs.MemSite.{site_trace, site_plan, site_faults};
+    ghost use Rattle.sdls_outside.specs.MemSite.{site_trace, site_plan, site_faults, site_put_faults};
 
     ghost told = { true };
 
@@ -78,12 +104,15 @@ impl Site for MemSite {
 
     ghost faults = { λ site. site_faults site };
 
+    ghost put_faults = { λ site. site_put_faults site };
+
     ghost image_may_stay = { λ site _. site.history.held.stays };
 
     fn begin(&mut self) -> Result<u64, Failed>
         ensures enters { Enters (site_plan self.old) (site_plan self.new) result }
         ensures image_length { IfOk result (λ n. n ≡ length (site_trace self.old).now.image) }
         ensures same { site_trace self.new ≡ site_trace self.old }
+        ensures puts { site_put_faults self.new ≡ site_put_faults self.old }
         ensures cause { HasCause (site_faults self.old) (site_faults self.new) result }
     {
         self.calls.enter()?;
@@ -96,6 +125,7 @@ impl Site for MemSite {
         ensures read { OnOk result (into.new ≡ take (length into.old) (drop at (site_trace self.old).now.image)) }
         ensures unread { OnErr result (into.new ≡ into.old) }
         ensures same { site_trace self.new ≡ site_trace self.old }
+        ensures puts { site_put_faults self.new ≡ site_put_faults self.old }
         ensures cause { HasCause (site_faults self.old) (site_faults self.new) result }
     {
         self.calls.enter()?;
@@ -111,6 +141,7 @@ impl Site for MemSite {
         ensures counts { site_plan self.new ≡ record (site_plan self.old) { made = counted (site_plan self.old).made } }
         ensures written { Writes at octets.now result (site_trace self.old) (site_trace self.new) }
         ensures unwritten { OnErr result (site_trace self.new ≡ site_trace self.old) }
+        ensures puts { site_put_faults self.new ≡ site_put_faults self.old }
         ensures cause { HasCause (site_faults self.old) (site_faults self.new) result }
     {
         self.calls.enter()?;
@@ -123,6 +154,7 @@ impl Site for MemSite {
         ensures fails { IsTrue (fails_next (site_plan self.old)) → IsErr result }
         ensures counts { site_plan self.new ≡ record (site_plan self.old) { made = counted (site_plan self.old).made } }
         ensures synced { Syncs result (site_trace self.old) (site_trace self.new) }
+        ensures puts { site_put_faults self.new ≡ site_put_faults self.old }
         ensures cause { HasCause (site_faults self.old) (site_faults self.new) result }
     {
         self.calls.enter()?;
@@ -136,11 +168,12 @@ impl Site for MemSite {
         ensures counts { site_plan self.new ≡ record (site_plan self.old) { made = counted (site_plan self.old).made } }
         ensures put { Puts octets.now result (site_trace self.old) (site_trace self.new) }
         ensures unsunk { OnErr result (site_trace self.new ≡ site_trace self.old) }
+        ensures puts { site_put_faults self.new ≡ after_put result (site_put_faults self.old) }
         ensures cause { HasCause (site_faults self.old) (site_faults self.new) result }
     {
-        self.calls.enter()?;
-        let put = self.history.put(octets);
-        self.calls.counted(put)
+        let put = self.try_put(octets);
+        self.put_faults = noted(&self.put_faults, &put);
+        put
     }
 
     fn faults(&self) -> u64 {

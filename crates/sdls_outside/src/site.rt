@@ -3,7 +3,7 @@ ghost use Rattle.std.specs.Prelude.{◌≡◌, ℕ, ◌+◌, ◌≤◌, Bool, Is
 ghost use Rattle.sdls_outside.specs.Faults.{HasCause};
 ghost use Rattle.sdls_outside.specs.Disk.{Leaves};
 ghost use Rattle.sdls_outside.specs.Moments.{Trace};
-ghost use Rattle.sdls_outside.specs.Site.{Writes, Syncs, Puts};
+ghost use Rattle.sdls_outside.specs.Site.{Writes, Syncs, Puts, after_put};
 
 use crate::Failed;
 
@@ -20,11 +20,15 @@ pub trait Site {
     /// How often it has failed.
     ghost faults: { Self → ℕ };
 
+    /// How often a put has failed.
+    ghost put_faults: { Self → ℕ };
+
     /// Starts a run, also where it fails. Answers the image's length in octets, 0 where there is
     /// no image. It makes no image, and changes nothing that is told.
     fn begin(&mut self) -> Result<u64, Failed>
         ensures image_length { IsTrue told → IfOk result (λ n. n ≡ length (trace self.old).now.image) }
         ensures same { IsTrue told → trace self.new ≡ trace self.old }
+        ensures puts { put_faults self.new ≡ put_faults self.old }
         ensures cause { HasCause (faults self.old) (faults self.new) result };
 
     /// Reads the image's octets from `at` on. After `Failed`, `into` may hold any octets.
@@ -34,6 +38,7 @@ pub trait Site {
         ensures read { IsTrue told → OnOk result
             (into.new ≡ take (length into.old) (drop at (trace self.old).now.image)) }
         ensures same { IsTrue told → trace self.new ≡ trace self.old }
+        ensures puts { put_faults self.new ≡ put_faults self.old }
         ensures cause { HasCause (faults self.old) (faults self.new) result };
 
     /// Writes octets over the image from `at` on, and past its end. Until the next `sync` that is
@@ -42,18 +47,21 @@ pub trait Site {
         requires { IsTrue told → at ≤ length (trace self.old).now.image }
 
         ensures written { IsTrue told → Writes at octets.now result (trace self.old) (trace self.new) }
+        ensures puts { put_faults self.new ≡ put_faults self.old }
         ensures cause { HasCause (faults self.old) (faults self.new) result };
 
     /// Brings all that was written to the disk: after Ok a crash leaves what a read gives, until
     /// the next write. After `Failed` nothing has changed.
     fn sync(&mut self) -> Result<(), Failed>
         ensures synced { IsTrue told → Syncs result (trace self.old) (trace self.new) }
+        ensures puts { put_faults self.new ≡ put_faults self.old }
         ensures cause { HasCause (faults self.old) (faults self.new) result };
 
     /// Appends octets to the sink. After `Failed` a front of them, which may be none or all of
     /// them, was appended. The image and what is pending of it stay.
     fn put(&mut self, octets: &[u8]) -> Result<(), Failed>
         ensures put { IsTrue told → Puts octets.now result (trace self.old) (trace self.new) }
+        ensures puts { put_faults self.new ≡ after_put result (put_faults self.old) }
         ensures cause { HasCause (faults self.old) (faults self.new) result };
 
     /// The count of faults.

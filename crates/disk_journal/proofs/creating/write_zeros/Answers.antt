@@ -1,4 +1,4 @@
-use Rattle.std.proofs.Common.{◌≡◌, ◌*◌, ◌∙◌, replicate, ap, sym, arith}
+use Rattle.std.proofs.Common.{◌≡◌, ◌*◌, ◌∙◌, replicate, ap, sym, arith, refl}
 use Rattle.disk_journal.specs.declared.layout.TheConstants.{SLOT_LENGTH}
 use Rattle.disk_journal.specs.Initial.{zeros}
 use Rattle.disk_journal.proofs.Laying.{zeros_none, none_yet, zeros_end, is_block, block_written, block_failed, block_zeros}
@@ -6,7 +6,8 @@ use Rattle.disk_journal.proofs.creating.write_zeros.Goals as goal
 
 pub loop-block-init : goal.loop-block-init
 loop-block-init g c = record {
-  later = omega arith;
+  stood = refl;
+  puts = refl;
   image = λ told. zeros_none (g.O.Site.trace c.args.site.now) c.args.blocks (c.requires told);
   each = λ told. none_yet (g.O.Site.trace c.args.site.now) (SLOT_LENGTH * c.args.blocks) (c.requires told);
 }
@@ -24,7 +25,8 @@ returns-in_err-write_at-clause-any_moment g c = λ told.
 
 pub loop-block-preserved : goal.loop-block-preserved
 loop-block-preserved g c = record {
-  later = omega (arith, c.in_ok-write_at.ensures.cause.later);
+  stood = c.in_ok-write_at.ensures.cause.stood ∙ c.loop-block.invariant.stood;
+  puts = c.in_ok-write_at.ensures.puts ∙ c.loop-block.invariant.puts;
   image = λ told. block_zeros (g.O.Site.trace c.loop-block.site).now.image (g.O.Site.trace c.write_at.new.self).now.image c.loop-block.block
       (replicate SLOT_LENGTH 0) (sym is_block) (c.loop-block.invariant.image told) (c.in_ok-write_at.ensures.written told).1;
   each = λ told. block_written (g.O.Site.trace c.args.site.now) (g.O.Site.trace c.loop-block.site) (g.O.Site.trace c.write_at.new.self)

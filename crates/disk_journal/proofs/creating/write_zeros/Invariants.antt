@@ -7,7 +7,8 @@ use Rattle.disk_journal.proofs.creating.write_zeros.Given as goal
 
 abbrev pub invariant-loop-block : goal.invariant-loop-block
 invariant-loop-block g l = record {
-  later : g.O.Site.faults l.initial.site ≤ g.O.Site.faults l.site;
+  stood : g.O.Site.faults l.site ≡ g.O.Site.faults l.initial.site;
+  puts : g.O.Site.put_faults l.site ≡ g.O.Site.put_faults l.initial.site;
   image : IsTrue g.O.Site.told → (g.O.Site.trace l.site).now.image ≡ zeros (SLOT_LENGTH * l.block);
   each : IsTrue g.O.Site.told → EachImage (g.O.Site.trace l.initial.site) (g.O.Site.trace l.site) (AtMost (SLOT_LENGTH * l.blocks));
 }

@@ -5,7 +5,8 @@ use Rattle.disk_journal.proofs.gates.first_closed.Given as goal
 
 abbrev pub invariant-loop-index : goal.invariant-loop-index
 invariant-loop-index g l = record {
-  later : g.O.Site.faults l.initial.site ≤ g.O.Site.faults l.site;
+  stood : g.O.Site.faults l.site ≡ g.O.Site.faults l.initial.site;
+  puts : g.O.Site.put_faults l.site ≡ g.O.Site.put_faults l.initial.site;
   same : IsTrue g.O.Site.told → g.O.Site.trace l.site ≡ g.O.Site.trace l.initial.site;
   before : IsTrue g.O.Site.told → (k : ℕ) → k < l.index → gate_at (g.O.Site.trace l.initial.site).now.image k ≡ OPEN;
 }

@@ -1,4 +1,4 @@
-use Rattle.std.proofs.Common.{[], ◌++◌, refl, arith}
+use Rattle.std.proofs.Common.{[], ◌++◌, ◌∙◌, refl}
 use Rattle.std.proofs.lemmas.Result.{err_from_is_err_and}
 use Rattle.hex.specs.Hex.{encode_with}
 use Rattle.sdls_run.proofs.Delivering.{sinks_none}
@@ -7,7 +7,7 @@ use Rattle.sdls_run.proofs.output.put_hexadecimal.Goals as goal
 
 pub loop-rest-init : goal.loop-rest-init
 unfolding encode_with
-loop-rest-init g c = (omega arith, ([], refl, λ told. sinks_none _))
+loop-rest-init g c = (refl, ([], refl, λ told. sinks_none _))
 
 pub returns-in_err-put_piece-clause-delivered : goal.returns-in_err-put_piece-clause-delivered
 returns-in_err-put_piece-clause-delivered g c = λ told.
@@ -22,7 +22,7 @@ returns-in_err-put_piece-clause-delivered g c = λ told.
 pub loop-rest-preserved : goal.loop-rest-preserved
 loop-rest-preserved g c =
     let so_far = c.loop-rest.invariant.1 in (
-      omega (arith, c.in_ok-put_piece.ensures.cause.later),
+      c.in_ok-put_piece.ensures.cause.stood ∙ c.loop-rest.invariant.0,
       (
         so_far.0 ++ c.split_at.result.0.now,
         parts_of c.args.octets.now so_far.0 c.loop-rest.rest.now c.split_at.result.0.now c.split_at.result.1.now _
