@@ -1,0 +1,5 @@
+pub mod Texts
+pub mod NumberLists
+pub mod ChannelLists
+pub mod CommandLengths
+pub mod ProcedureNames

@@ -1,0 +1,4 @@
+pub mod Fields
+pub mod Name
+pub mod Command
+pub mod Line

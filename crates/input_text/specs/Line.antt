@@ -1,0 +1,49 @@
+-- Recorded input as text, a line an item (profile).
+use Rattle.std.specs.Prelude.{◌≡◌, ⊤, ℕ, ◌^◌, ◌<◌, ◌==◌, decimal, codes, Bool, true, List, [], ◌∷◌}
+use Rattle.unit_plan.specs.Lines.{words_of}
+use Rattle.record_io.specs.Input.{Item}
+use Rattle.record_io.specs.declared.kinds.ItemKind.TheVariants as items
+use Rattle.record_io.specs.declared.kinds.RecordKind.TheVariants as records
+use Rattle.ep_codec.specs.Command.{command_octets}
+use Rattle.input_text.specs.declared.line.Line.{Line}
+use Rattle.input_text.specs.declared.line.Line.TheVariants.{Fence, Protect, Open, Command, Message}
+use Rattle.input_text.specs.Fields.{AreRecorded, octets_word}
+use Rattle.input_text.specs.Command.{command_words, IsCommand}
+
+-- the words of a line
+unfoldable pub line_words : Line → List (List ℕ)
+line_words Fence = codes "fence" ∷ []
+line_words (Protect lane link octets) = codes "protect" ∷ decimal lane ∷ decimal link ∷ octets_word octets ∷ []
+line_words (Open lane link octets) = codes "open" ∷ decimal lane ∷ decimal link ∷ octets_word octets ∷ []
+line_words (Command lane command) = codes "command" ∷ decimal lane ∷ command_words command
+line_words (Message lane octets) = codes "command" ∷ decimal lane ∷ codes "octets" ∷ octets_word octets ∷ []
+
+-- a record has such a lane
+abbrev pub IsLane : ℕ → Type 0
+IsLane lane = lane < 16
+
+-- the values lie in their bounds
+unfoldable pub IsLine : Line → Type 0
+IsLine Fence = ⊤
+IsLine (Protect lane link octets) = IsLane lane × (link < 2 ^ 8) × AreRecorded octets
+IsLine (Open lane link octets) = IsLane lane × (link < 2 ^ 8) × AreRecorded octets
+IsLine (Command lane command) = IsLane lane × IsCommand command
+IsLine (Message lane octets) = IsLane lane × AreRecorded octets
+
+-- The text says this line: its words, with one space between two of them.
+pub record Says (text : List ℕ) (line : Line) : Type 0 where
+  pub bounds : IsLine line
+  pub words : words_of text ≡ line_words line
+
+-- an empty line, or a comment, says nothing
+abbrev pub is_skipped : List ℕ → Bool
+is_skipped [] = true
+is_skipped (octet ∷ octets) = octet == 35
+
+-- the item of a line; what is not looked at is 0
+unfoldable pub line_item : Line → Item
+line_item Fence = record { kind = items.Fence; lane = 0; link = 0; octets = [] }
+line_item (Protect lane link octets) = record { kind = items.Recorded records.Protect; lane = lane; link = link; octets = octets }
+line_item (Open lane link octets) = record { kind = items.Recorded records.Open; lane = lane; link = link; octets = octets }
+line_item (Command lane command) = record { kind = items.Recorded records.Command; lane = lane; link = 0; octets = command_octets command }
+line_item (Message lane octets) = record { kind = items.Recorded records.Command; lane = lane; link = 0; octets = octets }

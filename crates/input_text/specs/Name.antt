@@ -1,0 +1,41 @@
+-- The names of the procedures in text (profile).
+use Rattle.std.specs.Prelude.{ℕ, codes, List, [], ◌∷◌, Option, Some, None, if◌then◌else◌}
+use Rattle.std.specs.Option.{option_or}
+use Rattle.std.specs.Str.{bytes_eq}
+use Rattle.input_text.specs.declared.names.Name.{Name}
+use Rattle.input_text.specs.declared.names.Name.TheVariants.{Rekeying, Activate, Deactivate, Verify, Destroy, Inventory, Compose, ReadNumber, Create, Delete, SetWindow, Rekey, Expire, SetNumber, Start, Stop, Status}
+
+abbrev pub name_word : Name → List ℕ
+name_word Rekeying = codes "rekeying"
+name_word Activate = codes "activate"
+name_word Deactivate = codes "deactivate"
+name_word Verify = codes "verify"
+name_word Destroy = codes "destroy"
+name_word Inventory = codes "inventory"
+name_word Compose = codes "compose"
+name_word ReadNumber = codes "read-number"
+name_word Create = codes "create"
+name_word Delete = codes "delete"
+name_word SetWindow = codes "set-window"
+name_word Rekey = codes "rekey"
+name_word Expire = codes "expire"
+name_word SetNumber = codes "set-number"
+name_word Start = codes "start"
+name_word Stop = codes "stop"
+name_word Status = codes "status"
+
+-- the name that has this word, among these
+abbrev pub named_in : List Name → List ℕ → Option Name
+named_in [] word = None
+named_in (name ∷ names) word = if bytes_eq word (name_word name) then Some name else named_in names word
+
+-- those that manage keys
+abbrev pub key_names : List Name
+key_names = Rekeying ∷ Activate ∷ Deactivate ∷ Verify ∷ Destroy ∷ Inventory ∷ Compose ∷ []
+
+-- those that manage associations
+abbrev pub association_names : List Name
+association_names = ReadNumber ∷ Create ∷ Delete ∷ SetWindow ∷ Rekey ∷ Expire ∷ SetNumber ∷ Start ∷ Stop ∷ Status ∷ []
+
+abbrev pub named : List ℕ → Option Name
+named word = option_or (named_in key_names word) (named_in association_names word)

@@ -1,0 +1,314 @@
+//! The words of a line, taken from left to right.
+ghost use Rattle.std.specs.Prelude.{◌≡◌, ◌≢◌, ◌^◌, ◌<◌, ◌≤◌, ℕ, List, [], ◌∷◌, decimal, length, IsOk, IfOk, IfSome, Some, MatchOption, MatchResult, IsTrue};
+ghost use Rattle.hex.specs.Hex.{encode_lower, IsBytes};
+ghost use Rattle.ep_codec.specs.Field.{is_key, is_spi};
+ghost use Rattle.unit_plan.specs.Lines.{words_of};
+ghost use Rattle.input_text.specs.Fields.{Answers, IsFault, IsNoMemory, AreRecorded, octets_word};
+
+use crate::fault::{Expected, LineError, LineFault};
+use hex::FromHexError;
+use itoa::Buffer;
+use sdls_base::{KeyId, Octets, Spi};
+use std::alloc::{AllocError, Global};
+use std::marker::Model;
+use std::str;
+use unit_plan::Words;
+
+/// The words that are left of a line. It counts those that were taken.
+#[derive(Drop)]
+pub(crate) struct Fields<'a> {
+    words: Words<'a>,
+    taken: usize,
+}
+
+impl<'a> Model for Fields<'a> {
+    ghost use Rattle.std.specs.Prelude.{List, ℕ};
+
+    ghost Value = { List (List ℕ) };
+
+    ghost view = { λ fields. fields.words };
+}
+
+/// The number that the word spells in decimal digits.
+fn number_of(word: &[u8]) -> Option<u64>
+    ensures read { IfSome result (λ n. word.now ≡ decimal n) }
+    ensures only { (n : ℕ) → n < 2 ^ 64 → word.now ≡ decimal n → result ≡ Some n }
+{
+    let Ok(text) = str::from_utf8(word) else {
+        return None;
+    };
+    let Ok(n) = text.parse::<u64>() else {
+        return None;
+    };
+    if Buffer::new().format(n).as_bytes() == word {
+        Some(n)
+    } else {
+        None
+    }
+}
+
+/// The octets that the word spells in hexadecimal digits.
+fn octets_of(alloc: Global, word: &[u8]) -> Result<Option<Vec<u8>>, AllocError>
+    ensures read { IfOk result (λ read. IfSome read (λ octets. (word.now ≡ encode_lower octets.items) × IsBytes octets.items)) }
+    ensures only { (octets : List ℕ) → IsBytes octets → word.now ≡ encode_lower octets
+        → IfOk result (λ read. MatchOption read ⊥ (λ found. found.items ≡ octets)) }
+{
+    match hex::decode(alloc, word) {
+        Ok(octets) => {
+            let spelled = hex::encode(alloc, octets.as_slice())?;
+            if spelled.as_bytes() == word {
+                Ok(Some(octets))
+            } else {
+                Ok(None)
+            }
+        }
+        Err(error) => match error {
+            FromHexError::OutOfMemory => Err(AllocError),
+            _ => Ok(None),
+        },
+    }
+}
+
+/// The octets of a record that the word spells: 1 to 2,048 in hexadecimal digits, or - for none.
+fn record_of(alloc: Global, word: &[u8]) -> Result<Option<Octets>, AllocError>
+    ensures read { IfOk result (λ read. IfSome read (λ octets. (word.now ≡ octets_word octets) × AreRecorded octets)) }
+    ensures only { (octets : List ℕ) → AreRecorded octets → word.now ≡ octets_word octets
+        → IfOk result (λ read. read ≡ Some octets) }
+{
+    if word == b"-".as_slice() {
+        return Ok(Some(Octets::new(Vec::new(alloc))));
+    }
+    let Some(octets) = octets_of(alloc, word)? else {
+        return Ok(None);
+    };
+    if octets.is_empty() || octets.len() > 2048 {
+        return Ok(None);
+    }
+    Ok(Some(Octets::new(octets)))
+}
+
+impl<'a> Fields<'a> {
+    pub fn of(line: &'a [u8]) -> Fields<'a>
+        ensures { result ≡ words_of line.now }
+    {
+        Fields {
+            words: Words::of(line),
+            taken: 0,
+        }
+    }
+
+    /// The fault of the word that was taken last, or of the end.
+    pub fn fault(&self, expected: Expected) -> LineError
+        ensures { IsFault result }
+    {
+        LineError::Fault(LineFault {
+            word: self.taken,
+            expected,
+        })
+    }
+
+    /// Takes the next word, where there is one.
+    pub fn next(&mut self) -> Option<&'a [u8]>
+        ensures { MatchOption result ((self.old ≡ []) × (self.new ≡ [])) (λ word. self.old ≡ word.now ∷ self.new) }
+    {
+        self.taken = self.taken.saturating_add(1);
+        self.words.next()
+    }
+
+    /// Takes a number.
+    pub fn number(&mut self, expected: Expected) -> Result<u64, LineError>
+        ensures read { IfOk result (λ n. self.old ≡ decimal n ∷ self.new) }
+        ensures only { (n : ℕ) (rest : List (List ℕ)) → n < 2 ^ 64 → self.old ≡ decimal n ∷ rest → Answers result n }
+    {
+        let Some(word) = self.next() else {
+            return Err(self.fault(expected));
+        };
+        match number_of(word) {
+            Some(n) => Ok(n),
+            None => Err(self.fault(expected)),
+        }
+    }
+
+    /// Takes a number within these bounds.
+    pub fn bounded(&mut self, expected: Expected, least: u64, most: u64) -> Result<u64, LineError>
+        ensures read { IfOk result (λ n. (self.old ≡ decimal n ∷ self.new) × (least ≤ n) × (n ≤ most)) }
+        ensures only { (n : ℕ) (rest : List (List ℕ)) → least ≤ n → n ≤ most → self.old ≡ decimal n ∷ rest → Answers result n }
+    {
+        let n = self.number(expected)?;
+        if n < least || most < n {
+            return Err(self.fault(expected));
+        }
+        Ok(n)
+    }
+
+    /// The key that a word names, which was taken last.
+    pub fn key_of(&self, word: &[u8]) -> Result<KeyId, LineError>
+        ensures read { IfOk result (λ n. (word.now ≡ decimal n) × IsTrue (is_key n)) }
+        ensures only { (n : ℕ) → IsTrue (is_key n) → word.now ≡ decimal n → Answers result n }
+    {
+        match number_of(word) {
+            Some(n) if n <= 65_535 => match KeyId::new(n as u16) {
+                Some(key) => Ok(key),
+                None => Err(self.fault(Expected::Key)),
+            },
+            _ => Err(self.fault(Expected::Key)),
+        }
+    }
+
+    /// The channel that a word names, which was taken last.
+    pub fn channel_of(&self, word: &[u8]) -> Result<u8, LineError>
+        ensures read { IfOk result (λ n. (word.now ≡ decimal n) × (n ≤ 63)) }
+        ensures only { (n : ℕ) → n ≤ 63 → word.now ≡ decimal n → Answers result n }
+    {
+        match number_of(word) {
+            Some(n) if n <= 63 => Ok(n as u8),
+            _ => Err(self.fault(Expected::Channel)),
+        }
+    }
+
+    /// Takes a channel's number.
+    pub fn channel(&mut self) -> Result<u8, LineError>
+        ensures read { IfOk result (λ n. (self.old ≡ decimal n ∷ self.new) × (n ≤ 63)) }
+        ensures only { (n : ℕ) (rest : List (List ℕ)) → n ≤ 63 → self.old ≡ decimal n ∷ rest → Answers result n }
+    {
+        match self.next() {
+            Some(word) => self.channel_of(word),
+            None => Err(self.fault(Expected::Channel)),
+        }
+    }
+
+    /// Takes a key's identifier.
+    pub fn key(&mut self) -> Result<KeyId, LineError>
+        ensures read { IfOk result (λ n. (self.old ≡ decimal n ∷ self.new) × IsTrue (is_key n)) }
+        ensures only { (n : ℕ) (rest : List (List ℕ)) → IsTrue (is_key n) → self.old ≡ decimal n ∷ rest → Answers result n }
+    {
+        match self.next() {
+            Some(word) => self.key_of(word),
+            None => Err(self.fault(Expected::Key)),
+        }
+    }
+
+    /// Takes the index of an association.
+    pub fn spi(&mut self) -> Result<Spi, LineError>
+        ensures read { IfOk result (λ n. (self.old ≡ decimal n ∷ self.new) × IsTrue (is_spi n)) }
+        ensures only { (n : ℕ) (rest : List (List ℕ)) → IsTrue (is_spi n) → self.old ≡ decimal n ∷ rest → Answers result n }
+    {
+        let n = self.bounded(Expected::Spi, 1, 65_534)?;
+        match Spi::new(n as u16) {
+            Some(spi) => Ok(spi),
+            None => Err(self.fault(Expected::Spi)),
+        }
+    }
+
+    /// Takes octets in hexadecimal digits, so many.
+    pub fn octets(
+        &mut self,
+        alloc: Global,
+        expected: Expected,
+        least: usize,
+        most: usize,
+    ) -> Result<Vec<u8>, LineError>
+        ensures read { IfOk result (λ octets. (self.old ≡ encode_lower octets.items ∷ self.new)
+            × IsBytes octets.items × (least ≤ length octets.items) × (length octets.items ≤ most)) }
+        ensures only { (octets : List ℕ) (rest : List (List ℕ)) → IsBytes octets → least ≤ length octets
+            → length octets ≤ most → self.old ≡ encode_lower octets ∷ rest
+            → MatchResult result (λ found. found.items ≡ octets) IsNoMemory }
+    {
+        let Some(word) = self.next() else {
+            return Err(self.fault(expected));
+        };
+        match octets_of(alloc, word)? {
+            Some(octets) if octets.len() >= least && octets.len() <= most => Ok(octets),
+            _ => Err(self.fault(expected)),
+        }
+    }
+
+    /// Takes `N` octets in hexadecimal digits.
+    pub fn array<const N: usize>(
+        &mut self,
+        alloc: Global,
+        expected: Expected,
+    ) -> Result<[u8; N], LineError>
+        ensures read { IfOk result (λ octets. self.old ≡ encode_lower octets ∷ self.new) }
+        ensures only { (octets : List ℕ) (rest : List (List ℕ)) → IsBytes octets → length octets ≡ N
+            → self.old ≡ encode_lower octets ∷ rest → Answers result octets }
+    {
+        let octets = self.octets(alloc, expected, N, N)?;
+        let mut array = [0; N];
+        array.copy_from_slice(&octets);
+        Ok(array)
+    }
+
+    /// Takes the octets of a record: at most 2,048 in hexadecimal digits, or - for none.
+    pub fn record(&mut self, alloc: Global) -> Result<Octets, LineError>
+        ensures read { IfOk result (λ octets. (self.old ≡ octets_word octets ∷ self.new) × AreRecorded octets) }
+        ensures only { (octets : List ℕ) (rest : List (List ℕ)) → AreRecorded octets
+            → self.old ≡ octets_word octets ∷ rest → Answers result octets }
+    {
+        let Some(word) = self.next() else {
+            return Err(self.fault(Expected::Octets));
+        };
+        match record_of(alloc, word)? {
+            Some(octets) => Ok(octets),
+            None => Err(self.fault(Expected::Octets)),
+        }
+    }
+
+    /// Says that no word is left.
+    pub fn end(&mut self) -> Result<(), LineError>
+        ensures read { IfOk result (λ _. self.old ≡ []) }
+        ensures only { self.old ≡ [] → IsOk result }
+    {
+        match self.next() {
+            None => Ok(()),
+            Some(_) => Err(self.fault(Expected::End)),
+        }
+    }
+
+    /// Takes a number within these bounds, the last word.
+    pub fn last_number(
+        &mut self,
+        expected: Expected,
+        least: u64,
+        most: u64,
+    ) -> Result<u64, LineError>
+        ensures read { IfOk result (λ n. (self.old ≡ decimal n ∷ []) × (least ≤ n) × (n ≤ most)) }
+        ensures only { (n : ℕ) → least ≤ n → n ≤ most → self.old ≡ decimal n ∷ [] → Answers result n }
+    {
+        let n = self.bounded(expected, least, most)?;
+        self.end()?;
+        Ok(n)
+    }
+
+    /// Takes the index of an association, the last word.
+    pub fn last_spi(&mut self) -> Result<Spi, LineError>
+        ensures read { IfOk result (λ n. (self.old ≡ decimal n ∷ []) × IsTrue (is_spi n)) }
+        ensures only { (n : ℕ) → IsTrue (is_spi n) → self.old ≡ decimal n ∷ [] → Answers result n }
+    {
+        let spi = self.spi()?;
+        self.end()?;
+        Ok(spi)
+    }
+
+    /// Takes 16 octets in hexadecimal digits, the last word.
+    pub fn last_block(&mut self, alloc: Global) -> Result<[u8; 16], LineError>
+        ensures read { IfOk result (λ octets. self.old ≡ encode_lower octets ∷ []) }
+        ensures only { (octets : List ℕ) → IsBytes octets → length octets ≡ 16
+            → self.old ≡ encode_lower octets ∷ [] → Answers result octets }
+    {
+        let block = self.array(alloc, Expected::Block)?;
+        self.end()?;
+        Ok(block)
+    }
+
+    /// Takes the octets of a record, the last word.
+    pub fn last_record(&mut self, alloc: Global) -> Result<Octets, LineError>
+        ensures read { IfOk result (λ octets. (self.old ≡ octets_word octets ∷ []) × AreRecorded octets) }
+        ensures only { (octets : List ℕ) → AreRecorded octets
+            → self.old ≡ octets_word octets ∷ [] → Answers result octets }
+    {
+        let octets = self.record(alloc)?;
+        self.end()?;
+        Ok(octets)
+    }
+}

@@ -1,0 +1,53 @@
+//! The octets of a line's item.
+#![tactic(auto, unfolding(crate::specs::Line::IsLine, crate::specs::Line::line_item))]
+
+ghost use Rattle.std.specs.Prelude.{◌≡◌, ◌≤◌, ◌∷◌, ◌++◌, length, OnOk, IfOk};
+ghost use Rattle.std.specs.Int.{w16, to_be_bytes};
+ghost use Rattle.ep_codec.specs.Command.{IsInBounds, HasTypes, command_octets};
+ghost use Rattle.record_io.specs.Input.{item_octets};
+ghost use Rattle.input_text.specs.Line.{IsLine, line_item};
+
+use crate::line::Line;
+use ep_codec::{Command, write_pdu};
+use sdls_base::{NoMemory, Octets};
+use std::alloc::Global;
+
+/// Puts an item of this kind.
+fn put(out: &mut Vec<u8>, kind: u8, lane: u8, link: u8, octets: &[u8]) -> Result<(), NoMemory>
+    requires { length octets.now ≤ 2048 }
+    ensures { OnOk result (out.new.items
+        ≡ out.old.items ++ kind ∷ lane ∷ link ∷ 0 ∷ to_be_bytes w16 (length octets.now) ++ octets.now) }
+{
+    let [high, low] = (octets.len() as u16).to_be_bytes();
+    out.extend_from_slice(&[kind, lane, link, 0, high, low])?;
+    out.extend_from_slice(octets)?;
+    Ok(())
+}
+
+/// The message of a command, which fits into a record.
+#[tactic(auto, using(crate::proofs::CommandLengths::command_short))]
+fn message(alloc: Global, command: &Command) -> Result<Octets, NoMemory>
+    requires bounds { IsInBounds command.now }
+    requires types { HasTypes command.now }
+    ensures spelled { IfOk result (λ octets. octets ≡ command_octets command.now) }
+    ensures short { IfOk result (λ octets. length octets ≤ 2048) }
+{
+    write_pdu(alloc, command)
+}
+
+/// Puts the octets of the line's item behind what there is. After an error a front of them may have been put.
+pub fn put_item(alloc: Global, out: &mut Vec<u8>, line: &Line) -> Result<(), NoMemory>
+    requires { IsLine line.now }
+    ensures put { OnOk result (out.new.items ≡ out.old.items ++ item_octets (line_item line.now)) }
+{
+    match line {
+        Line::Fence => put(out, 0, 0, 0, &[]),
+        Line::Protect { lane, link, octets } => put(out, 1, *lane, *link, octets.as_slice()),
+        Line::Open { lane, link, octets } => put(out, 2, *lane, *link, octets.as_slice()),
+        Line::Command { lane, command } => {
+            let octets = message(alloc, command)?;
+            put(out, 3, *lane, 0, octets.as_slice())
+        }
+        Line::Message { lane, octets } => put(out, 3, *lane, 0, octets.as_slice()),
+    }
+}

@@ -1,0 +1,180 @@
+//! A line of recorded input.
+#![tactic(auto, unfolding(crate::specs::Line::line_words, crate::specs::Line::IsLine))]
+
+ghost use Rattle.std.specs.Prelude.{◌≡◌, ◌≤◌, ◌<◌, ◌^◌, ℕ, List, [], ◌∷◌, length, codes, decimal, Some, None, Ok, IfOk, MatchOption, IsTrue};
+ghost use Rattle.ep_codec.specs.declared.command.Command.{Command};
+ghost use Rattle.input_text.specs.declared.line.Line.TheVariants as lines;
+ghost use Rattle.input_text.specs.Fields.{Answers, AreRecorded, octets_word};
+ghost use Rattle.input_text.specs.Command.{command_words, IsCommand};
+ghost use Rattle.input_text.specs.Line.{IsLane, IsLine, Says, is_skipped, line_words};
+
+use crate::commands::command_named;
+use crate::fault::{Expected, LineError, LineFault};
+use crate::fields::Fields;
+use crate::names::named;
+use ep_codec::Command;
+use sdls_base::Octets;
+use std::alloc::Global;
+
+/// What a line says: an item of the recorded input.
+#[derive(Debug, PartialEq, Eq, Drop)]
+pub enum Line {
+    /// `fence`: the end of a segment.
+    Fence,
+    /// `protect LANE LINK OCTETS`: a clear frame, to be protected.
+    Protect { lane: u8, link: u8, octets: Octets },
+    /// `open LANE LINK OCTETS`: a frame, to be opened.
+    Open { lane: u8, link: u8, octets: Octets },
+    /// `command LANE PROCEDURE VALUE..`: the message of a command.
+    Command { lane: u8, command: Command },
+    /// `command LANE octets OCTETS`: a message by its octets, whatever they are.
+    Message { lane: u8, octets: Octets },
+}
+
+fn lane(fields: &mut Fields<'_>) -> Result<u8, LineError>
+    ensures read { IfOk result (λ lane. (fields.old ≡ decimal lane ∷ fields.new) × IsLane lane) }
+    ensures only { (lane : ℕ) (rest : List (List ℕ)) → IsLane lane → fields.old ≡ decimal lane ∷ rest → Answers result lane }
+{
+    let lane = fields.bounded(Expected::Lane, 0, 15)?;
+    Ok(lane as u8)
+}
+
+/// A link, and the octets of a record, the last words.
+fn link_and_octets(alloc: Global, fields: &mut Fields<'_>) -> Result<(u8, Octets), LineError>
+    ensures read { IfOk result (λ read. (fields.old ≡ decimal read.0 ∷ octets_word read.1 ∷ []) × AreRecorded read.1) }
+    ensures only { (link : ℕ) (octets : List ℕ) → link < 2 ^ 8 → AreRecorded octets
+        → fields.old ≡ decimal link ∷ octets_word octets ∷ [] → Answers result (link, octets) }
+{
+    let link = fields.bounded(Expected::Link, 0, 255)?;
+    let octets = fields.last_record(alloc)?;
+    Ok((link as u8, octets))
+}
+
+/// What stands behind `protect` and `open`.
+fn frame(alloc: Global, fields: &mut Fields<'_>) -> Result<(u8, u8, Octets), LineError>
+    ensures read { IfOk result (λ read. (fields.old ≡ decimal read.0 ∷ decimal read.1 ∷ octets_word read.2 ∷ [])
+        × IsLane read.0 × AreRecorded read.2) }
+    ensures only { (lane link : ℕ) (octets : List ℕ) → IsLane lane → link < 2 ^ 8 → AreRecorded octets
+        → fields.old ≡ decimal lane ∷ decimal link ∷ octets_word octets ∷ [] → Answers result (lane, link, octets) }
+{
+    let lane = lane(fields)?;
+    let (link, octets) = link_and_octets(alloc, fields)?;
+    Ok((lane, link, octets))
+}
+
+/// A command by its name and values.
+fn named_command(alloc: Global, word: &[u8], fields: &mut Fields<'_>) -> Result<Command, LineError>
+    ensures read { IfOk result (λ command. (word.now ∷ fields.old ≡ command_words command) × IsCommand command) }
+    ensures only { (command : Command) → IsCommand command → word.now ∷ fields.old ≡ command_words command
+        → Answers result command }
+{
+    match named(word) {
+        Some(name) => command_named(alloc, name, fields),
+        None => Err(fields.fault(Expected::Procedure)),
+    }
+}
+
+/// What stands behind the lane of a `command`.
+fn message(alloc: Global, lane: u8, fields: &mut Fields<'_>) -> Result<Line, LineError>
+    requires { IsLane lane }
+    ensures read { IfOk result (λ line. (codes "command" ∷ decimal lane ∷ fields.old ≡ line_words line) × IsLine line) }
+    ensures command { (command : Command) → IsCommand command → fields.old ≡ command_words command
+        → Answers result (lines.Command lane command) }
+    ensures message { (octets : List ℕ) → AreRecorded octets → fields.old ≡ codes "octets" ∷ octets_word octets ∷ []
+        → Answers result (lines.Message lane octets) }
+{
+    match fields.next() {
+        Some(word) if word == b"octets".as_slice() => {
+            let octets = fields.last_record(alloc)?;
+            Ok(Line::Message { lane, octets })
+        }
+        Some(word) => {
+            let command = named_command(alloc, word, fields)?;
+            Ok(Line::Command { lane, command })
+        }
+        None => Err(fields.fault(Expected::Procedure)),
+    }
+}
+
+/// What stands behind `command`.
+fn command(alloc: Global, fields: &mut Fields<'_>) -> Result<Line, LineError>
+    ensures read { IfOk result (λ line. (codes "command" ∷ fields.old ≡ line_words line) × IsLine line) }
+    ensures command { (lane : ℕ) (command : Command) → IsLane lane → IsCommand command
+        → fields.old ≡ decimal lane ∷ command_words command → Answers result (lines.Command lane command) }
+    ensures message { (lane : ℕ) (octets : List ℕ) → IsLane lane → AreRecorded octets
+        → fields.old ≡ decimal lane ∷ codes "octets" ∷ octets_word octets ∷ [] → Answers result (lines.Message lane octets) }
+{
+    let lane = lane(fields)?;
+    message(alloc, lane, fields)
+}
+
+/// What the words of a line say.
+fn said(alloc: Global, fields: &mut Fields<'_>) -> Result<Line, LineError>
+    ensures read { IfOk result (λ line. (fields.old ≡ line_words line) × IsLine line) }
+    ensures fence { fields.old ≡ line_words lines.Fence → Answers result lines.Fence }
+    ensures protect { (lane link : ℕ) (octets : List ℕ) → IsLane lane → link < 2 ^ 8 → AreRecorded octets
+        → fields.old ≡ line_words (lines.Protect lane link octets) → Answers result (lines.Protect lane link octets) }
+    ensures open_frame { (lane link : ℕ) (octets : List ℕ) → IsLane lane → link < 2 ^ 8 → AreRecorded octets
+        → fields.old ≡ line_words (lines.Open lane link octets) → Answers result (lines.Open lane link octets) }
+    ensures command { (lane : ℕ) (command : Command) → IsLane lane → IsCommand command
+        → fields.old ≡ line_words (lines.Command lane command) → Answers result (lines.Command lane command) }
+    ensures message { (lane : ℕ) (octets : List ℕ) → IsLane lane → AreRecorded octets
+        → fields.old ≡ line_words (lines.Message lane octets) → Answers result (lines.Message lane octets) }
+{
+    match fields.next() {
+        Some(word) if word == b"fence".as_slice() => {
+            fields.end()?;
+            Ok(Line::Fence)
+        }
+        Some(word) if word == b"protect".as_slice() => {
+            let (lane, link, octets) = frame(alloc, fields)?;
+            Ok(Line::Protect { lane, link, octets })
+        }
+        Some(word) if word == b"open".as_slice() => {
+            let (lane, link, octets) = frame(alloc, fields)?;
+            Ok(Line::Open { lane, link, octets })
+        }
+        Some(word) if word == b"command".as_slice() => command(alloc, fields),
+        _ => Err(fields.fault(Expected::Kind)),
+    }
+}
+
+fn is_skipped(text: &[u8]) -> bool
+    ensures { result ≡ is_skipped text.now }
+{
+    match text.first() {
+        None => true,
+        Some(octet) => *octet == b'#',
+    }
+}
+
+/// The same fault, at a line that ends with CR LF told as such.
+fn told(text: &[u8], fault: LineFault) -> LineFault {
+    match text.last() {
+        Some(b'\r') => LineFault {
+            word: fault.word,
+            expected: Expected::LineFeed,
+        },
+        _ => fault,
+    }
+}
+
+/// What the line says, without its line feed: an item, or nothing where it is empty or begins with `#`.
+///
+/// A `Fault` tells the first word with which the line says nothing any more, counted from 1, and what was expected there.
+pub fn read_line(alloc: Global, text: &[u8]) -> Result<Option<Line>, LineError>
+    // What is read is what the line says, and nothing is read where it is skipped.
+    ensures read { IfOk result (λ read. MatchOption read (IsTrue (is_skipped text.now)) (Says text.now)) }
+    // What a line says is read, unless memory runs out: so it says one thing at most, and a fault comes where it says nothing.
+    ensures only { (line : Line) → Says text.now line → Answers result (Some line) }
+    ensures skipped { IsTrue (is_skipped text.now) → result ≡ Ok None }
+{
+    if is_skipped(text) {
+        return Ok(None);
+    }
+    match said(alloc, &mut Fields::of(text)) {
+        Ok(line) => Ok(Some(line)),
+        Err(LineError::Fault(fault)) => Err(LineError::Fault(told(text, fault))),
+        Err(LineError::NoMemory) => Err(LineError::NoMemory),
+    }
+}

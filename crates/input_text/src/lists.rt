@@ -1,0 +1,70 @@
+//! Lists, which stand at the end of a line.
+ghost use Rattle.std.specs.Prelude.{◌≡◌, ◌≤◌, ℕ, List, map, length, decimal, IfOk, IsTrue};
+ghost use Rattle.std.specs.List.{AllByRecursion};
+ghost use Rattle.std.specs.Int.{is_in_range};
+ghost use Rattle.sdls_base.specs.Bounds.{AreChannels};
+ghost use Rattle.ep_codec.specs.Command.{AreKeys, IsKeyCount};
+ghost use Rattle.input_text.specs.Fields.{Answers};
+
+use crate::fault::{Expected, LineError};
+use crate::fields::Fields;
+use sdls_base::{KeyId, KeyList, Octets};
+use std::alloc::Global;
+use unit_plan::are_channels;
+
+/// The most numbers of a list.
+const MOST: usize = 8;
+
+/// Takes the keys that are left, 1 to 8.
+pub(crate) fn keys(alloc: Global, fields: &mut Fields<'_>) -> Result<KeyList, LineError>
+    ensures read { IfOk result (λ keys. (fields.old ≡ map decimal keys) × AreKeys keys × IsKeyCount keys) }
+    ensures only { (keys : List ℕ) → AreKeys keys → IsKeyCount keys → fields.old ≡ map decimal keys → Answers result keys }
+{
+    let mut keys: Vec<KeyId> = Vec::new(alloc);
+    let first = fields.key()?;
+    keys.push(first)?;
+    'words: while keys.len() < MOST {
+        let Some(word) = fields.next() else {
+            return Ok(KeyList::new(keys));
+        };
+        let key = fields.key_of(word)?;
+        keys.push(key)?;
+    }
+    fields.end()?;
+    Ok(KeyList::new(keys))
+}
+
+/// Takes the channels that are left, 1 to 8 numbers up to 63.
+fn channel_numbers(alloc: Global, fields: &mut Fields<'_>) -> Result<Octets, LineError>
+    ensures read { IfOk result (λ numbers. fields.old ≡ map decimal numbers) }
+    ensures only { (numbers : List ℕ) → AllByRecursion (λ channel. channel ≤ 63) numbers
+        → IsTrue (is_in_range 1 8 (length numbers)) → fields.old ≡ map decimal numbers → Answers result numbers }
+{
+    let mut numbers: Vec<u8> = Vec::new(alloc);
+    let first = fields.channel()?;
+    numbers.push(first)?;
+    'words: while numbers.len() < MOST {
+        let Some(word) = fields.next() else {
+            return Ok(Octets::new(numbers));
+        };
+        let number = fields.channel_of(word)?;
+        numbers.push(number)?;
+    }
+    fields.end()?;
+    Ok(Octets::new(numbers))
+}
+
+/// Takes the channels that are left, 1 to 8 ascending numbers.
+pub(crate) fn channels(alloc: Global, fields: &mut Fields<'_>) -> Result<Octets, LineError>
+    ensures read { IfOk result (λ channels. (fields.old ≡ map decimal channels) × AreChannels channels
+        × AllByRecursion (λ channel. channel ≤ 63) channels) }
+    ensures only { (channels : List ℕ) → AreChannels channels → AllByRecursion (λ channel. channel ≤ 63) channels
+        → fields.old ≡ map decimal channels → Answers result channels }
+{
+    let numbers = channel_numbers(alloc, fields)?;
+    if are_channels(numbers.as_slice()) {
+        Ok(numbers)
+    } else {
+        Err(fields.fault(Expected::Channels))
+    }
+}

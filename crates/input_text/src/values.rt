@@ -1,0 +1,233 @@
+//! The values of commands.
+#![tactic(auto, unfolding(crate::specs::Command::value_words, crate::specs::Command::HasOctets, ep_codec::specs::Command::IsInBounds, ep_codec::specs::Command::HasTypes))]
+
+ghost use Rattle.std.specs.Prelude.{◌≡◌, ◌≤◌, ◌^◌, ◌<◌, ℕ, List, length, IfOk, IsTrue, [], ◌∷◌, map, decimal};
+ghost use Rattle.std.specs.List.{AllByRecursion};
+ghost use Rattle.sdls_base.specs.Bounds.{AreChannels, IsWidth};
+ghost use Rattle.hex.specs.Hex.{encode_lower, IsBytes};
+ghost use Rattle.ep_codec.specs.Field.{is_key, is_spi};
+ghost use Rattle.ep_codec.specs.Command.{AreKeys, IsKeyCount, IsSealedLength};
+ghost use Rattle.ep_codec.specs.declared.command.Command.TheVariants as commands;
+ghost use Rattle.input_text.specs.declared.names.Name.TheVariants as names;
+ghost use Rattle.input_text.specs.Fields.{Answers};
+ghost use Rattle.input_text.specs.Command.{direction_word, suite_word, name_of, value_words, IsCommand};
+
+use crate::fault::{Expected, LineError};
+use crate::fields::Fields;
+use crate::lists::{channels, keys};
+use ep_codec::Command;
+use sdls_base::{Direction, KeyId, MOST_WINDOW, NewSa, Octets, Suite};
+use std::alloc::Global;
+
+/// A key, and a number, the last words.
+fn key_and_number(fields: &mut Fields<'_>) -> Result<(KeyId, u64), LineError>
+    ensures read { IfOk result (λ read. (fields.old ≡ decimal read.0 ∷ decimal read.1 ∷ []) × IsTrue (is_key read.0)) }
+    ensures only { (key number : ℕ) → IsTrue (is_key key) → number < 2 ^ 64
+        → fields.old ≡ decimal key ∷ decimal number ∷ [] → Answers result (key, number) }
+{
+    let key = fields.key()?;
+    let number = fields.last_number(Expected::Number, 0, u64::MAX)?;
+    Ok((key, number))
+}
+
+pub(crate) fn rekey(fields: &mut Fields<'_>) -> Result<Command, LineError>
+    ensures read { IfOk result (λ command. (fields.old ≡ value_words command) × IsCommand command × (name_of command ≡ names.Rekey)) }
+    ensures only { (spi key number : ℕ) → IsTrue (is_spi spi) → IsTrue (is_key key) → number < 2 ^ 64
+        → fields.old ≡ value_words (commands.Rekey spi key number) → Answers result (commands.Rekey spi key number) }
+{
+    let spi = fields.spi()?;
+    let (key, number) = key_and_number(fields)?;
+    Ok(Command::Rekey { spi, key, number })
+}
+
+pub(crate) fn verify(alloc: Global, fields: &mut Fields<'_>) -> Result<Command, LineError>
+    ensures read { IfOk result (λ command. (fields.old ≡ value_words command) × IsCommand command × (name_of command ≡ names.Verify)) }
+    ensures only { (key : ℕ) (challenge : List ℕ) → IsTrue (is_key key) → IsBytes challenge → length challenge ≡ 16
+        → fields.old ≡ value_words (commands.Verify key challenge) → Answers result (commands.Verify key challenge) }
+{
+    let key = fields.key()?;
+    let challenge = fields.last_block(alloc)?;
+    Ok(Command::Verify { key, challenge })
+}
+
+pub(crate) fn inventory(fields: &mut Fields<'_>) -> Result<Command, LineError>
+    ensures read { IfOk result (λ command. (fields.old ≡ value_words command) × IsCommand command × (name_of command ≡ names.Inventory)) }
+    ensures only { (first last : ℕ) → first ≤ last → last < 2 ^ 16
+        → fields.old ≡ value_words (commands.Inventory first last) → Answers result (commands.Inventory first last) }
+{
+    let first = fields.bounded(Expected::First, 0, 65_535)?;
+    let last = fields.last_number(Expected::Last, first, 65_535)?;
+    Ok(Command::Inventory {
+        first: first as u16,
+        last: last as u16,
+    })
+}
+
+pub(crate) fn set_number(fields: &mut Fields<'_>) -> Result<Command, LineError>
+    ensures read { IfOk result (λ command. (fields.old ≡ value_words command) × IsCommand command × (name_of command ≡ names.SetNumber)) }
+    ensures only { (spi number : ℕ) → IsTrue (is_spi spi) → number < 2 ^ 64
+        → fields.old ≡ value_words (commands.SetNumber spi number) → Answers result (commands.SetNumber spi number) }
+{
+    let spi = fields.spi()?;
+    let number = fields.last_number(Expected::Number, 0, u64::MAX)?;
+    Ok(Command::SetNumber { spi, number })
+}
+
+/// What is sealed.
+fn sealed(alloc: Global, fields: &mut Fields<'_>) -> Result<Octets, LineError>
+    ensures read { IfOk result (λ sealed. (fields.old ≡ encode_lower sealed ∷ fields.new) × IsBytes sealed × IsSealedLength sealed) }
+    ensures only { (sealed : List ℕ) (rest : List (List ℕ)) → IsBytes sealed → IsSealedLength sealed
+        → fields.old ≡ encode_lower sealed ∷ rest → Answers result sealed }
+{
+    let octets = fields.octets(alloc, Expected::Sealed, 19, 280)?;
+    Ok(Octets::new(octets))
+}
+
+/// What is sealed, and its tag, the last words.
+fn sealed_and_tag(alloc: Global, fields: &mut Fields<'_>) -> Result<(Octets, [u8; 16]), LineError>
+    ensures read { IfOk result (λ read. (fields.old ≡ encode_lower read.0 ∷ encode_lower read.1 ∷ []) × IsBytes read.0 × IsSealedLength read.0) }
+    ensures only { (sealed tag : List ℕ) → IsBytes sealed → IsSealedLength sealed → IsBytes tag → length tag ≡ 16
+        → fields.old ≡ encode_lower sealed ∷ encode_lower tag ∷ [] → Answers result (sealed, tag) }
+{
+    let sealed = sealed(alloc, fields)?;
+    let tag = fields.last_block(alloc)?;
+    Ok((sealed, tag))
+}
+
+/// A vector, what is sealed with it, and its tag, the last words.
+fn behind_master(
+    alloc: Global,
+    fields: &mut Fields<'_>,
+) -> Result<([u8; 12], Octets, [u8; 16]), LineError>
+    ensures read { IfOk result (λ read. (fields.old ≡ encode_lower read.0 ∷ encode_lower read.1 ∷ encode_lower read.2 ∷ [])
+        × IsBytes read.1 × IsSealedLength read.1) }
+    ensures only { (vector sealed tag : List ℕ) → IsBytes vector → length vector ≡ 12 → IsBytes sealed
+        → IsSealedLength sealed → IsBytes tag → length tag ≡ 16
+        → fields.old ≡ encode_lower vector ∷ encode_lower sealed ∷ encode_lower tag ∷ [] → Answers result (vector, sealed, tag) }
+{
+    let vector = fields.array(alloc, Expected::Vector)?;
+    let (sealed, tag) = sealed_and_tag(alloc, fields)?;
+    Ok((vector, sealed, tag))
+}
+
+pub(crate) fn rekeying(alloc: Global, fields: &mut Fields<'_>) -> Result<Command, LineError>
+    ensures read { IfOk result (λ command. (fields.old ≡ value_words command) × IsCommand command × (name_of command ≡ names.Rekeying)) }
+    ensures only { (master : ℕ) (vector sealed tag : List ℕ) → IsTrue (is_key master) → IsBytes vector
+        → length vector ≡ 12 → IsBytes sealed → IsSealedLength sealed → IsBytes tag → length tag ≡ 16
+        → fields.old ≡ value_words (commands.Rekeying master vector sealed tag)
+        → Answers result (commands.Rekeying master vector sealed tag) }
+{
+    let master = fields.key()?;
+    let (vector, sealed, tag) = behind_master(alloc, fields)?;
+    Ok(Command::Rekeying {
+        master,
+        vector,
+        sealed,
+        tag,
+    })
+}
+
+pub(crate) fn set_window(fields: &mut Fields<'_>) -> Result<Command, LineError>
+    ensures read { IfOk result (λ command. (fields.old ≡ value_words command) × IsCommand command × (name_of command ≡ names.SetWindow)) }
+    ensures only { (spi window : ℕ) → IsTrue (is_spi spi) → IsWidth window
+        → fields.old ≡ value_words (commands.SetWindow spi window) → Answers result (commands.SetWindow spi window) }
+{
+    let spi = fields.spi()?;
+    let window = fields.last_number(Expected::Window, 1, MOST_WINDOW)?;
+    Ok(Command::SetWindow { spi, window })
+}
+
+pub(crate) fn compose(alloc: Global, fields: &mut Fields<'_>) -> Result<Command, LineError>
+    ensures read { IfOk result (λ command. (fields.old ≡ value_words command) × IsCommand command × (name_of command ≡ names.Compose)) }
+    ensures only { (master : ℕ) (listed : List ℕ) → IsTrue (is_key master) → AreKeys listed → IsKeyCount listed
+        → fields.old ≡ value_words (commands.Compose master listed) → Answers result (commands.Compose master listed) }
+{
+    let master = fields.key()?;
+    let keys = keys(alloc, fields)?;
+    Ok(Command::Compose { master, keys })
+}
+
+/// A window, and channels, the last words.
+fn window_and_channels(alloc: Global, fields: &mut Fields<'_>) -> Result<(u64, Octets), LineError>
+    ensures read { IfOk result (λ read. (fields.old ≡ decimal read.0 ∷ map decimal read.1) × IsWidth read.0
+        × AreChannels read.1 × AllByRecursion (λ channel. channel ≤ 63) read.1) }
+    ensures only { (window : ℕ) (covered : List ℕ) → IsWidth window → AreChannels covered
+        → AllByRecursion (λ channel. channel ≤ 63) covered
+        → fields.old ≡ decimal window ∷ map decimal covered → Answers result (window, covered) }
+{
+    let window = fields.bounded(Expected::Window, 1, MOST_WINDOW)?;
+    let channels = channels(alloc, fields)?;
+    Ok((window, channels))
+}
+
+fn direction(fields: &mut Fields<'_>) -> Result<Direction, LineError>
+    ensures read { IfOk result (λ direction. fields.old ≡ direction_word direction ∷ fields.new) }
+    ensures only { (direction : Direction) (rest : List (List ℕ)) → fields.old ≡ direction_word direction ∷ rest
+        → Answers result direction }
+{
+    match fields.next() {
+        Some(word) if word == b"send".as_slice() => Ok(Direction::Send),
+        Some(word) if word == b"receive".as_slice() => Ok(Direction::Receive),
+        _ => Err(fields.fault(Expected::Direction)),
+    }
+}
+
+fn suite(fields: &mut Fields<'_>) -> Result<Suite, LineError>
+    ensures read { IfOk result (λ suite. fields.old ≡ suite_word suite ∷ fields.new) }
+    ensures only { (suite : Suite) (rest : List (List ℕ)) → fields.old ≡ suite_word suite ∷ rest
+        → Answers result suite }
+{
+    match fields.next() {
+        Some(word) if word == b"cmac".as_slice() => Ok(Suite::Cmac),
+        Some(word) if word == b"gcm".as_slice() => Ok(Suite::Gcm),
+        _ => Err(fields.fault(Expected::Suite)),
+    }
+}
+
+/// A suite, a window, and channels, the last words.
+fn from_suite(alloc: Global, fields: &mut Fields<'_>) -> Result<(Suite, u64, Octets), LineError>
+    ensures read { IfOk result (λ read. (fields.old ≡ suite_word read.0 ∷ decimal read.1 ∷ map decimal read.2)
+        × IsWidth read.1 × AreChannels read.2 × AllByRecursion (λ channel. channel ≤ 63) read.2) }
+    ensures only { (suite : Suite) (window : ℕ) (covered : List ℕ) → IsWidth window → AreChannels covered
+        → AllByRecursion (λ channel. channel ≤ 63) covered
+        → fields.old ≡ suite_word suite ∷ decimal window ∷ map decimal covered → Answers result (suite, window, covered) }
+{
+    let suite = suite(fields)?;
+    let (window, channels) = window_and_channels(alloc, fields)?;
+    Ok((suite, window, channels))
+}
+
+/// What an association is created with behind its index, the last words.
+fn from_direction(
+    alloc: Global,
+    fields: &mut Fields<'_>,
+) -> Result<(Direction, Suite, u64, Octets), LineError>
+    ensures read { IfOk result (λ read. (fields.old
+        ≡ direction_word read.0 ∷ suite_word read.1 ∷ decimal read.2 ∷ map decimal read.3)
+        × IsWidth read.2 × AreChannels read.3 × AllByRecursion (λ channel. channel ≤ 63) read.3) }
+    ensures only { (direction : Direction) (suite : Suite) (window : ℕ) (covered : List ℕ) → IsWidth window
+        → AreChannels covered → AllByRecursion (λ channel. channel ≤ 63) covered
+        → fields.old ≡ direction_word direction ∷ suite_word suite ∷ decimal window ∷ map decimal covered
+        → Answers result (direction, suite, window, covered) }
+{
+    let direction = direction(fields)?;
+    let (suite, window, channels) = from_suite(alloc, fields)?;
+    Ok((direction, suite, window, channels))
+}
+
+pub(crate) fn create(alloc: Global, fields: &mut Fields<'_>) -> Result<Command, LineError>
+    ensures read { IfOk result (λ command. (fields.old ≡ value_words command) × IsCommand command × (name_of command ≡ names.Create)) }
+    ensures only { (sa : NewSa) → IsTrue (is_spi sa.spi) → IsWidth sa.window → AreChannels sa.channels
+        → AllByRecursion (λ channel. channel ≤ 63) sa.channels
+        → fields.old ≡ value_words (commands.Create sa) → Answers result (commands.Create sa) }
+{
+    let spi = fields.spi()?;
+    let (direction, suite, window, channels) = from_direction(alloc, fields)?;
+    Ok(Command::Create(NewSa {
+        spi,
+        direction,
+        suite,
+        window,
+        channels,
+    }))
+}
