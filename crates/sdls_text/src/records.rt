@@ -1,0 +1,100 @@
+//! Text in, recorded input out.
+use crate::lines::{NextLine, next_line};
+use input_text::{LineError, LineFault, put_item, read_line};
+use sdls_outside::Source;
+use std::alloc::Global;
+use std::io;
+use std::io::Write;
+
+/// So many octets are put together, or a few more.
+const PIECE: usize = 4096;
+
+/// Why the text was read no further.
+#[derive(Drop)]
+pub enum End {
+    /// It was read to its end.
+    Done,
+    /// This line, counted from 1, says nothing.
+    LineFault(u64, LineFault),
+    /// This line, counted from 1, is too long.
+    LongLine(u64),
+    SourceFault,
+    OutputFault,
+    NoMemory,
+}
+
+impl End {
+    /// The exit status.
+    pub fn status(&self) -> u8 {
+        match self {
+            End::Done => 0,
+            End::LineFault(_, _) | End::LongLine(_) => 1,
+            End::SourceFault => 4,
+            End::OutputFault => 5,
+            End::NoMemory => 6,
+        }
+    }
+}
+
+/// Puts what stands in the buffer, which is empty then.
+fn put(rt: &impl Print, out: &mut Vec<u8>) -> io::Result<()> {
+    let mut stdout = io::writer(rt);
+    stdout.write_all(out.as_slice())?;
+    stdout.flush()?;
+    out.clear();
+    Ok(())
+}
+
+/// Puts the item that a line says into the buffer, if it says one. `None` where it is not at fault.
+fn take_line(alloc: Global, out: &mut Vec<u8>, number: u64, text: &[u8]) -> Option<End> {
+    match read_line(alloc, text) {
+        Ok(None) => None,
+        Ok(Some(line)) => {
+            let kept = out.len();
+            match put_item(alloc, out, &line) {
+                Ok(()) => None,
+                Err(_) => {
+                    out.truncate(kept);
+                    Some(End::NoMemory)
+                }
+            }
+        }
+        Err(LineError::Fault(fault)) => Some(End::LineFault(number, fault)),
+        Err(LineError::NoMemory) => Some(End::NoMemory),
+    }
+}
+
+/// Reads the lines up to the end or the first fault, and puts the pieces that are full. The rest stands in the buffer.
+fn read_lines<S: Source>(rt: &impl Print, alloc: Global, source: &mut S, out: &mut Vec<u8>) -> End {
+    for number in 1..u64::MAX {
+        match next_line(alloc, source) {
+            Ok(NextLine::Line(text)) => {
+                if let Some(end) = take_line(alloc, out, number, text.as_slice()) {
+                    return end;
+                }
+            }
+            Ok(NextLine::End) => return End::Done,
+            Ok(NextLine::Long) => return End::LongLine(number),
+            Ok(NextLine::SourceFault) => return End::SourceFault,
+            Err(_) => return End::NoMemory,
+        }
+        if out.len() >= PIECE && put(rt, out).is_err() {
+            return End::OutputFault;
+        }
+    }
+    End::Done
+}
+
+/// Puts the recorded input that the lines of the source say. Where a line is at fault the items of the lines before it
+/// are put, and nothing of it or of a later one.
+pub fn put_records<S: Source>(rt: &impl Print, alloc: Global, source: &mut S) -> End {
+    let mut out = match b"SDLSREC1".to_vec(alloc) {
+        Ok(out) => out,
+        Err(_) => return End::NoMemory,
+    };
+    let end = read_lines(rt, alloc, source, &mut out);
+    match put(rt, &mut out) {
+        Ok(()) => end,
+        Err(_) => End::OutputFault,
+    }
+}
