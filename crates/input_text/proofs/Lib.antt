@@ -2,4 +2,3 @@ pub mod Texts
 pub mod NumberLists
 pub mod ChannelLists
 pub mod CommandLengths
-pub mod ProcedureNames

@@ -1,6 +1,12 @@
 //! Text in, recorded input out.
+ghost use Rattle.std.specs.Prelude.{◌≡◌, ◌++◌, OnOk, OnErr, IfNone, IfSome};
+ghost use Rattle.record_io.specs.Input.{item_octets};
+ghost use Rattle.input_text.specs.Line.{IsLine, line_item};
+ghost use Rattle.sdls_text.specs.TextLine.{Adds, EndsAt};
+
 use crate::lines::{NextLine, next_line};
-use input_text::{LineError, LineFault, put_item, read_line};
+use input_text::{Line, LineError, LineFault, put_item, read_line};
+use sdls_base::NoMemory;
 use sdls_outside::Source;
 use std::alloc::Global;
 use std::io;
@@ -45,20 +51,30 @@ fn put(rt: &impl Print, out: &mut Vec<u8>) -> io::Result<()> {
     Ok(())
 }
 
-/// Puts the item that a line says into the buffer, if it says one. `None` where it is not at fault.
-fn take_line(alloc: Global, out: &mut Vec<u8>, number: u64, text: &[u8]) -> Option<End> {
+/// Adds the octets of a line's item. After want of memory nothing was added.
+fn add(alloc: Global, out: &mut Vec<u8>, line: &Line) -> Result<(), NoMemory>
+    requires { IsLine line.now }
+    ensures added { OnOk result (out.new.items ≡ out.old.items ++ item_octets (line_item line.now)) }
+    ensures kept { OnErr result (out.new.items ≡ out.old.items) }
+{
+    let mut item = Vec::new(alloc);
+    put_item(alloc, &mut item, line)?;
+    out.extend_from_slice(&item)?;
+    Ok(())
+}
+
+/// Adds what a line says, or says why the text is read no further; then nothing was added.
+fn take_line(alloc: Global, out: &mut Vec<u8>, number: u64, text: &[u8]) -> Option<End>
+    ensures adds { IfNone result (Adds text.now out.old.items out.new.items) }
+    ensures kept { IfSome result (λ _. out.new.items ≡ out.old.items) }
+    ensures cause { IfSome result (EndsAt number text.now) }
+{
     match read_line(alloc, text) {
         Ok(None) => None,
-        Ok(Some(line)) => {
-            let kept = out.len();
-            match put_item(alloc, out, &line) {
-                Ok(()) => None,
-                Err(_) => {
-                    out.truncate(kept);
-                    Some(End::NoMemory)
-                }
-            }
-        }
+        Ok(Some(line)) => match add(alloc, out, &line) {
+            Ok(()) => None,
+            Err(NoMemory) => Some(End::NoMemory),
+        },
         Err(LineError::Fault(fault)) => Some(End::LineFault(number, fault)),
         Err(LineError::NoMemory) => Some(End::NoMemory),
     }
