@@ -1,3 +1,3 @@
 mod OctetFacts
-mod CipherFacts
+mod ColumnFacts
 mod ScheduleFacts

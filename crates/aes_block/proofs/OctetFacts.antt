@@ -1,8 +1,10 @@
 -- Functions of one octet are equal where they agree on all 256, by computation.
-use Rattle.std.proofs.Common.{◌≡◌, ℕ, ◌+◌, ◌*◌, ◌/◌, ◌%◌, ◌<◌, List, map, slice_index, bit_xor, refl, sym, ap, ◌∙◌, arith}
+use Rattle.std.proofs.Common.{◌≡◌, ℕ, ◌+◌, ◌<◌, List, [], map, get_or, slice_index, refl, sym, ap, ◌∙◌, arith}
 use Rattle.std.specs.List.{range_with_len}
+use Rattle.std.specs.Int.{w32, to_be_bytes}
 use Rattle.std.proofs.lemmas.List.FromFn.{get_or-map-range_with_len}
-use Rattle.aes_block.specs.Aes.{doubled, times_low, times, inverse}
+use Rattle.aes_block.specs.Aes.{times_low, times, inverse, from_bits, sub_byte}
+use Rattle.aes_block.specs.Columns.{summand, summand_word}
 
 -- a list of the values at 0 to n - 1 has the value at x in place x
 pub value_at : (f : ℕ → ℕ) (n x : ℕ) (values : List ℕ) → values ≡ map f (range_with_len 0 n) → x < n
@@ -15,20 +17,28 @@ pub same_at : (f g : ℕ → ℕ) (n x : ℕ) → map f (range_with_len 0 n) ≡
 same_at f g n x same lt =
     sym (value_at f n x (map f (range_with_len 0 n)) refl lt) ∙ value_at g n x (map f (range_with_len 0 n)) same lt
 
-pub doubled_octet : (x : ℕ) → x < 256 → bit_xor (x * 2 % 256) (x / 128 * 27) ≡ doubled x
-doubled_octet x lt = same_at (λ x. bit_xor (x * 2 % 256) (x / 128 * 27)) doubled 256 x refl lt
+-- the same of functions to lists
+same_list_at : (f g : ℕ → List ℕ) (n x : ℕ) → map f (range_with_len 0 n) ≡ map g (range_with_len 0 n) → x < n → f x ≡ g x
+same_list_at f g n x same lt =
+    sym (get_or-map-range_with_len f 0 n x x [] lt (omega arith))
+    ∙ ap (λ (v : List (List ℕ)). get_or v x []) same ∙ get_or-map-range_with_len g 0 n x x [] lt (omega arith)
 
-pub times_one : (x : ℕ) → x < 256 → times 1 x ≡ x
-unfolding times_low
-times_one x lt = same_at (λ x. times 1 x) (λ x. x) 256 x refl lt
+-- the words of the tables have the octets that they are made of
+pub octets_0 : (x : ℕ) → x < 256 → to_be_bytes w32 (summand_word 0 x) ≡ summand 0 x
+unfolding times_low inverse from_bits sub_byte
+octets_0 x lt = same_list_at (λ x. to_be_bytes w32 (summand_word 0 x)) (summand 0) 256 x refl lt
 
-pub times_two : (x : ℕ) → x < 256 → times 2 x ≡ doubled x
-unfolding times_low
-times_two x lt = same_at (λ x. times 2 x) doubled 256 x refl lt
+pub octets_1 : (x : ℕ) → x < 256 → to_be_bytes w32 (summand_word 1 x) ≡ summand 1 x
+unfolding times_low inverse from_bits sub_byte
+octets_1 x lt = same_list_at (λ x. to_be_bytes w32 (summand_word 1 x)) (summand 1) 256 x refl lt
 
-pub times_three : (x : ℕ) → x < 256 → times 3 x ≡ bit_xor (doubled x) x
-unfolding times_low
-times_three x lt = same_at (λ x. times 3 x) (λ x. bit_xor (doubled x) x) 256 x refl lt
+pub octets_2 : (x : ℕ) → x < 256 → to_be_bytes w32 (summand_word 2 x) ≡ summand 2 x
+unfolding times_low inverse from_bits sub_byte
+octets_2 x lt = same_list_at (λ x. to_be_bytes w32 (summand_word 2 x)) (summand 2) 256 x refl lt
+
+pub octets_3 : (x : ℕ) → x < 256 → to_be_bytes w32 (summand_word 3 x) ≡ summand 3 x
+unfolding times_low inverse from_bits sub_byte
+octets_3 x lt = same_list_at (λ x. to_be_bytes w32 (summand_word 3 x)) (summand 3) 256 x refl lt
 
 pub times_inverse : (x : ℕ) → x < 255 → times (x + 1) (inverse (x + 1)) ≡ 1
 unfolding times_low inverse

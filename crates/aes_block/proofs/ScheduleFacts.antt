@@ -1,12 +1,13 @@
 -- The words of a schedule: the key stands first, and the cipher reads no word past the last round's.
-use Rattle.std.proofs.Common.{◌≡◌, ℕ, zero, suc, ◌+◌, ◌-◌, ◌*◌, ◌/◌, ◌<◌, ◌≤◌, List, [], ◌∷◌, ◌++◌, length, take, get_or, slice_index, slice_set, refl, sym, ap, ◌∙◌, subst, arith, min, lit<}
+use Rattle.std.proofs.Common.{◌≡◌, ℕ, zero, suc, ◌+◌, ◌-◌, ◌*◌, ◌/◌, ◌<◌, ◌≤◌, List, [], ◌∷◌, ◌++◌, length, replicate, take, get_or, slice_index, slice_set, refl, sym, ap, ◌∙◌, subst, arith, min}
 use Rattle.std.specs.List.{flat_map}
 use Rattle.std.specs.Int.{w32, to_be_bytes}
 use Rattle.std.proofs.lemmas.List.{append_assoc, length_push, length-append, length-take, take-append-le, take-take, take_all, take_more, take_more_set, flat_map_more, get_or-take}
-use Rattle.std.proofs.lemmas.List.FromFn.{map-range_with_len_more, length-map-range_with_len}
+use Rattle.std.proofs.lemmas.List.FromFn.{fill_by_all, map-range_with_len_more, length-map-range_with_len}
 use Rattle.std.proofs.lemmas.Nat.{be_bytes_4}
+use Rattle.aes_block.proofs.ColumnFacts.{four_octets}
 use Rattle.aes_block.specs.Aes.{word_at, first_words, next_word, schedule, round_key, add_round_key, mix_columns, shift_rows, sub_bytes, after, cipher, encrypted}
-use Rattle.aes_block.specs.Schedule.{octets_of, IsSchedule}
+use Rattle.aes_block.specs.Schedule.{octets_of, IsExpanded, IsKeyWords, IsSchedule}
 
 -- ---- one more word
 
@@ -74,13 +75,6 @@ take_four key n le =
     let f3 = rw n3 at e3 in
     let f4 = rw n4 at e4 in
     rw (f4, f3, f2, e1) (simp append_assoc)
-
-four_octets : (a b c d : ℕ) → a < 256 → b < 256 → c < 256 → d < 256 → (i : ℕ) → get_or (a ∷ b ∷ c ∷ d ∷ []) i 0 < 256
-four_octets a b c d la lb lc ld zero = la
-four_octets a b c d la lb lc ld (suc zero) = lb
-four_octets a b c d la lb lc ld (suc (suc zero)) = lc
-four_octets a b c d la lb lc ld (suc (suc (suc zero))) = ld
-four_octets a b c d la lb lc ld (suc (suc (suc (suc i)))) = lit< tt
 
 octets_of-first_words : (key : List ℕ) (n : ℕ) → 4 * n ≤ length key → ((i : ℕ) → slice_index key i < 256)
     → flat_map (to_be_bytes w32) (first_words key n) ≡ take (4 * n) key
@@ -169,3 +163,22 @@ encrypted_by nk words key block view made =
     sym (cipher-take (4 * (nk + 7)) words (nk + 6) block (omega arith))
     ∙ ap (λ (l : List ℕ). cipher l (nk + 6) block) kept in
     subst (λ (k : ℕ). cipher words (nk + 6) block ≡ cipher (schedule k key (3 * k + 28)) (k + 6) block) (sym words_of_key) base
+
+-- the words, and zeros enciphered by them, are what a schedule of the key has
+pub is_expanded : (nk : ℕ) (words key zeros : List ℕ) → IsKeyWords nk → length key ≡ 4 * nk
+    → ((i : ℕ) → slice_index key i < 256) → IsSchedule nk key words → zeros ≡ cipher words (nk + 6) (replicate 16 0)
+    → IsExpanded (octets_of words nk) nk words zeros
+is_expanded nk words key zeros right long octets made is =
+    let view : octets_of words nk ≡ key = octets_of-schedule nk words key long octets made in
+    let own : IsSchedule nk (octets_of words nk) words = subst (λ (k : List ℕ). IsSchedule nk k words) (sym view) made in
+    record {
+      key_words = right;
+      expanded = own;
+      enciphered = is ∙ encrypted_by nk words (octets_of words nk) (replicate 16 0) refl own;
+    }
+
+-- a list of eight by its elements
+pub eight : {A : Type 0} (d : A) (xs : List A) → length xs ≡ 8
+    → xs ≡ get_or xs 0 d ∷ get_or xs 1 d ∷ get_or xs 2 d ∷ get_or xs 3 d ∷ get_or xs 4 d ∷ get_or xs 5 d
+    ∷ get_or xs 6 d ∷ get_or xs 7 d ∷ []
+eight d xs long = fill_by_all (λ i. get_or xs i d) xs 8 d long (λ k lt. refl)

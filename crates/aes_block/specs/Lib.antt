@@ -1,2 +1,3 @@
 pub mod Aes
+pub mod Columns
 pub mod Schedule

@@ -1,9 +1,10 @@
 // One block enciphered with the words of a schedule (FIPS 197, 5.1).
 
-ghost use Rattle.std.specs.Prelude.{◌≡◌, ◌+◌, ◌*◌, ◌<◌, ◌≤◌, ◌∷◌, [], length};
-ghost use Rattle.aes_block.specs.Aes.{add_round_key, cipher, mix_columns, mixed, round_key, shift_rows, sub_bytes};
+ghost use Rattle.std.specs.Prelude.{◌≡◌, ◌+◌, ◌*◌, ◌<◌, ◌≤◌, length};
+ghost use Rattle.aes_block.specs.Aes.{add_round_key, cipher, round_key, shift_rows, sub_bytes};
 
-use crate::octet::{doubled, sub_byte};
+use crate::octet::sub_byte;
+use crate::round::{first_columns, next_columns, octets_of};
 
 // `SubBytes`, then `ShiftRows`.
 fn sub_shift(state: [u8; 16]) -> [u8; 16]
@@ -26,30 +27,6 @@ fn sub_shift(state: [u8; 16]) -> [u8; 16]
         sub_byte(state[1]),
         sub_byte(state[6]),
         sub_byte(state[11]),
-    ]
-}
-
-// One column of `MixColumns`.
-fn mix(a: u8, b: u8, c: u8, d: u8) -> [u8; 4]
-    ensures { result ≡ mixed 0 a b c d ∷ mixed 1 a b c d ∷ mixed 2 a b c d ∷ mixed 3 a b c d ∷ [] }
-{
-    [
-        doubled(a) ^ (doubled(b) ^ b) ^ c ^ d,
-        a ^ doubled(b) ^ (doubled(c) ^ c) ^ d,
-        a ^ b ^ doubled(c) ^ (doubled(d) ^ d),
-        (doubled(a) ^ a) ^ b ^ c ^ doubled(d),
-    ]
-}
-
-fn mix_columns(state: [u8; 16]) -> [u8; 16]
-    ensures { result ≡ mix_columns state }
-{
-    let [a0, a1, a2, a3] = mix(state[0], state[1], state[2], state[3]);
-    let [b0, b1, b2, b3] = mix(state[4], state[5], state[6], state[7]);
-    let [c0, c1, c2, c3] = mix(state[8], state[9], state[10], state[11]);
-    let [d0, d1, d2, d3] = mix(state[12], state[13], state[14], state[15]);
-    [
-        a0, a1, a2, a3, b0, b1, b2, b3, c0, c1, c2, c3, d0, d1, d2, d3,
     ]
 }
 
@@ -95,10 +72,10 @@ pub fn encrypt_words(words: &[u32], rounds: usize, block: [u8; 16]) -> [u8; 16]
     requires words { 4 * (rounds + 1) ≤ length words.now }
     ensures { result ≡ cipher words.now rounds block }
 {
-    let mut state = add_round_key(block, round_key(words, 0));
+    let mut state = first_columns(block, words);
     'rounds: for round in 1..rounds {
-        let next = add_round_key(mix_columns(sub_shift(state)), round_key(words, round));
+        let next = next_columns(words, round, state);
         state = next;
     }
-    add_round_key(sub_shift(state), round_key(words, rounds))
+    add_round_key(sub_shift(octets_of(state)), round_key(words, rounds))
 }

@@ -8,7 +8,9 @@
 mod cipher;
 mod expansion;
 mod octet;
+mod round;
 mod schedule;
+mod tables;
 #[cfg(test)]
 mod tests;
 

@@ -1,7 +1,7 @@
 // Octets as elements of GF(2^8) (FIPS 197, 4.2 and 5.1.1).
 
 ghost use Rattle.std.specs.Prelude.{◌≡◌, ℕ, ◌<◌};
-ghost use Rattle.aes_block.specs.Aes.{doubled, inverse, sub_byte, times};
+ghost use Rattle.aes_block.specs.Aes.{inverse, sub_byte, times};
 
 // The S-box, as FIPS 197 prints it.
 #[rattlefmt::skip]
@@ -33,10 +33,4 @@ pub fn sub_byte(x: u8) -> u8
     ensures { result ≡ sub_byte x }
 {
     S_BOX[x as usize]
-}
-
-pub fn doubled(x: u8) -> u8
-    ensures { result ≡ doubled x }
-{
-    (x << 1) ^ ((x >> 7) * 0x1b)
 }
