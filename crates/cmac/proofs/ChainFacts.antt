@@ -1,6 +1,6 @@
--- One octet more in a text: what it leaves of the chain and of the octets held back.
-use Rattle.std.proofs.Common.{◌≡◌, ℕ, zero, suc, ◌+◌, ◌-◌, ◌*◌, ◌/◌, ◌%◌, ◌^◌, ◌<◌, ◌≤◌, List, [], ◌∷◌, ◌++◌, length, take, drop, slice_set, bit_xor, refl, sym, ap, ◌∙◌, arith}
-use Rattle.std.proofs.lemmas.List.{length-append, length-drop, length-take-le, take-append-le, take_all, take_more_set, drop-append-le, drop_at}
+-- More octets in a text: what they leave of the chain and of the octets held back.
+use Rattle.std.proofs.Common.{◌≡◌, ℕ, zero, suc, ◌+◌, ◌-◌, ◌*◌, ◌/◌, ◌%◌, ◌^◌, ◌<◌, ◌≤◌, List, [], ◌++◌, length, take, drop, bit_xor, refl, sym, ap, ◌∙◌, arith}
+use Rattle.std.proofs.lemmas.List.{length-append, length-drop, take-append-le, take_all, drop-append-le, drop-drop, drop_at}
 use Rattle.aes_block.specs.Aes.{encrypted}
 use Rattle.std.specs.Int.{w128, to_be_bytes, from_be_bytes}
 use Rattle.cmac.specs.Cmac.{xored, zero_block, doubled, before_last, last_block, chain, mac}
@@ -18,51 +18,83 @@ chain-append key m more (suc n) le =
     ap (λ (c : List ℕ). encrypted key (xored c (take 16 (drop (16 * n) (m ++ more))))) before
     ∙ ap (λ (b : List ℕ). encrypted key (xored (chain key m n) b)) block
 
--- how many octets are held back
-held_count : (m held : List ℕ) (used b : ℕ) → length held ≡ 16 → used ≤ 16 → take used held ≡ drop (16 * b) m
-    → used ≡ length m - 16 * b
-held_count m held used b long le rest =
-    sym (length-take-le used held (omega arith)) ∙ ap length rest ∙ length-drop (16 * b) m
+-- ---- more of the chain
 
--- where there is room, the octet joins those held back
-pub push_room : (key chained held m : List ℕ) (used x : ℕ) → length held ≡ 16 → used < 16
-    → Holds (record { key = key; chained = chained; rest = take used held }) m
-    → Holds (record { key = key; chained = chained; rest = take (used + 1) (slice_set held used x) }) (m ++ x ∷ [])
-push_room key chained held m used x long room holds =
+pub chain_none : (key m : List ℕ) (n : ℕ) → chain key m n ≡ chain key m (n + 0)
+chain_none key m n = let same : n ≡ n + 0 = omega arith in ap (chain key m) same
+
+-- one block more, in a part of the text that begins after some blocks
+pub chain_more : (key m part last next : List ℕ) (before i : ℕ) → last ≡ chain key m (before + i)
+    → part ≡ drop (16 * before) m → next ≡ encrypted key (xored last (take 16 (drop (16 * i) part)))
+    → next ≡ chain key m (before + (i + 1))
+unfolding chain
+chain_more key m part last next before i so_far at is =
+    let place : 16 * before + 16 * i ≡ 16 * (before + i) = omega arith in
+    let count : suc (before + i) ≡ before + (i + 1) = omega arith in
+    let block : drop (16 * i) part ≡ drop (16 * (before + i)) m =
+    ap (drop (16 * i)) at ∙ drop-drop (16 * i) (16 * before) m ∙ ap (λ (k : ℕ). drop k m) place in
+    is ∙ ap (λ (c : List ℕ). encrypted key (xored c (take 16 (drop (16 * i) part)))) so_far
+    ∙ ap (λ (b : List ℕ). encrypted key (xored (chain key m (before + i)) (take 16 b))) block
+    ∙ ap (chain key m) count
+
+-- ---- what is held back
+
+-- how many octets are held back
+held_count : (kept : Kept) (m : List ℕ) → Holds kept m → length kept.rest ≡ length m - 16 * before_last (length m)
+held_count kept m holds = ap length holds.rest ∙ length-drop (16 * before_last (length m)) m
+
+-- where there is room, the octets join those held back
+pub holds_more : (kept : Kept) (m more : List ℕ) → Holds kept m → length kept.rest + length more ≤ 16
+    → Holds (record kept { rest = kept.rest ++ more }) (m ++ more)
+holds_more kept m more holds room =
     let b : ℕ = before_last (length m) in
-    let count : used ≡ length m - 16 * b = held_count m held used b long (omega arith) holds.rest in
-    let longer : length (m ++ x ∷ []) ≡ length m + 1 = length-append m (x ∷ []) in
-    let same : before_last (length (m ++ x ∷ [])) ≡ b = omega arith in
+    let count : length kept.rest ≡ length m - 16 * b = held_count kept m holds in
+    let longer : length (m ++ more) ≡ length m + length more = length-append m more in
+    let same : before_last (length (m ++ more)) ≡ b = omega arith in
     record {
-      chained = holds.chained ∙ sym (chain-append key m (x ∷ []) b (omega arith)) ∙ sym (ap (chain key (m ++ x ∷ [])) same);
-      rest = take_more_set held used x (omega arith) ∙ ap (λ (l : List ℕ). l ++ x ∷ []) holds.rest
-          ∙ sym (drop-append-le (16 * b) m (x ∷ []) (omega arith))
-          ∙ sym (ap (λ (n : ℕ). drop (16 * n) (m ++ x ∷ [])) same);
+      chained = holds.chained ∙ sym (chain-append kept.key m more b (omega arith)) ∙ sym (ap (chain kept.key (m ++ more)) same);
+      rest = ap (λ (l : List ℕ). l ++ more) holds.rest ∙ sym (drop-append-le (16 * b) m more (omega arith))
+          ∙ sym (ap (λ (n : ℕ). drop (16 * n) (m ++ more)) same);
     }
 
--- where a whole block is held back, the octet sends it into the chain
-pub push_full : (key chained held next m : List ℕ) (used x : ℕ) → length held ≡ 16 → used ≡ 16
-    → next ≡ encrypted key (xored chained (take 16 held))
-    → Holds (record { key = key; chained = chained; rest = take used held }) m
-    → Holds (record { key = key; chained = next; rest = take 1 (slice_set held 0 x) }) (m ++ x ∷ [])
+-- where a whole block is held back, it is the next of the chain, and the octets after it begin after it
+pub full_is_chained : (kept : Kept) (m more first : List ℕ) → Holds kept m → length kept.rest ≡ 16
+    → first ≡ encrypted kept.key (xored kept.chained kept.rest)
+    → first ≡ chain kept.key (m ++ more) (before_last (length m) + 1)
 unfolding chain
-push_full key chained held next m used x long full is holds =
+full_is_chained kept m more first holds full is =
     let b : ℕ = before_last (length m) in
-    let count : used ≡ length m - 16 * b = held_count m held used b long (omega arith) holds.rest in
-    let whole : length m ≡ 16 * suc b = omega arith in
-    let longer : length (m ++ x ∷ []) ≡ length m + 1 = length-append m (x ∷ []) in
-    let same : before_last (length (m ++ x ∷ [])) ≡ suc b = omega arith in
-    let block : take 16 held ≡ take 16 (drop (16 * b) m) =
-    sym (ap (λ (n : ℕ). take n held) full) ∙ holds.rest
-    ∙ sym (take_all 16 (drop (16 * b) m) (omega (arith, length-drop (16 * b) m))) in
+    let count : length kept.rest ≡ length m - 16 * b = held_count kept m holds in
+    let here : suc b ≡ b + 1 = omega arith in
+    let whole : kept.rest ≡ take 16 (drop (16 * b) m) =
+    holds.rest ∙ sym (take_all 16 (drop (16 * b) m) (omega (arith, length-drop (16 * b) m))) in
+    is ∙ ap (λ (c : List ℕ). encrypted kept.key (xored c kept.rest)) holds.chained
+    ∙ ap (λ (l : List ℕ). encrypted kept.key (xored (chain kept.key m b) l)) whole
+    ∙ sym (chain-append kept.key m more (suc b) (omega arith)) ∙ ap (chain kept.key (m ++ more)) here
+
+pub after_full : (kept : Kept) (m more : List ℕ) → Holds kept m → length kept.rest ≡ 16
+    → more ≡ drop (16 * (before_last (length m) + 1)) (m ++ more)
+after_full kept m more holds full =
+    let b : ℕ = before_last (length m) in
+    let count : length kept.rest ≡ length m - 16 * b = held_count kept m holds in
+    sym (drop_at m more (16 * (b + 1)) (omega arith))
+
+-- the blocks of the octets that cannot be the last are chained, and the others held back
+pub chained_holds : (kept : Kept) (m more chained rest : List ℕ) (n : ℕ) → Holds kept m → length kept.rest ≡ 16
+    → 0 < length more → n ≡ (length more - 1) / 16
+    → chained ≡ chain kept.key (m ++ more) (before_last (length m) + 1 + n) → rest ≡ drop (16 * n) more
+    → Holds (record { key = kept.key; chained = chained; rest = rest }) (m ++ more)
+chained_holds kept m more chained rest n holds full some count_is chained_is rest_is =
+    let b : ℕ = before_last (length m) in
+    let count : length kept.rest ≡ length m - 16 * b = held_count kept m holds in
+    let longer : length (m ++ more) ≡ length m + length more = length-append m more in
+    let all : b + 1 + n ≡ before_last (length (m ++ more)) = omega arith in
+    let place : 16 * (b + 1) + 16 * n ≡ 16 * (b + 1 + n) = omega arith in
     record {
-      chained =
-          is ∙ ap (λ (c : List ℕ). encrypted key (xored c (take 16 held))) holds.chained
-          ∙ ap (λ (l : List ℕ). encrypted key (xored (chain key m b) l)) block
-          ∙ sym (chain-append key m (x ∷ []) (suc b) (omega arith))
-          ∙ sym (ap (chain key (m ++ x ∷ [])) same);
-      rest = take_more_set held 0 x (omega arith) ∙ sym (drop_at m (x ∷ []) (16 * suc b) whole)
-          ∙ sym (ap (λ (n : ℕ). drop (16 * n) (m ++ x ∷ [])) same);
+      chained = chained_is ∙ ap (chain kept.key (m ++ more)) all;
+      rest = rest_is ∙ ap (drop (16 * n)) (after_full kept m more holds full)
+          ∙ drop-drop (16 * n) (16 * (b + 1)) (m ++ more) ∙ ap (λ (k : ℕ). drop k (m ++ more)) place
+          ∙ ap (λ (k : ℕ). drop (16 * k) (m ++ more)) all;
     }
 
 pub holds_nothing : (key chained held : List ℕ) → chained ≡ zero_block
@@ -86,3 +118,9 @@ doubled_is block n is =
     let turned : n * 2 ≡ 2 * n = omega arith in
     ap (λ (k : ℕ). to_be_bytes w128 (bit_xor (k % 2 ^ 128) (n / 2 ^ 127 * 0x87))) turned
     ∙ ap (λ (k : ℕ). to_be_bytes w128 (bit_xor (2 * k % 2 ^ 128) (k / 2 ^ 127 * 0x87))) is
+
+-- octets written to the front of a buffer
+pub put_front : (x y z m : List ℕ) (k : ℕ) → y ≡ x → x ≡ drop k m → take (length x) (y ++ z) ≡ drop k m
+put_front x y z m k same is =
+    ap (λ (l : List ℕ). take (length x) (l ++ z)) same ∙ take-append-le (length x) x z (omega arith)
+    ∙ take_all (length x) x (omega arith) ∙ is

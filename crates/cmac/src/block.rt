@@ -1,6 +1,6 @@
-ghost use Rattle.std.specs.Prelude.{◌≡◌, ◌+◌, ◌-◌, ◌<◌, ◌≤◌, ◌∷◌, ◌++◌, length, take, drop, replicate};
+ghost use Rattle.std.specs.Prelude.{◌≡◌, ℕ, ◌+◌, ◌-◌, ◌*◌, ◌<◌, ◌≤◌, ◌∷◌, ◌++◌, List, length, take, drop, replicate};
 ghost use Rattle.aes_block.specs.Aes.{encrypted};
-ghost use Rattle.cmac.specs.Cmac.{doubled, last_block, mac, subkey1, subkey2, xored};
+ghost use Rattle.cmac.specs.Cmac.{chain, doubled, last_block, mac, subkey1, subkey2, xored};
 
 use aes_block::Schedule;
 use std::simd::u8x16;
@@ -29,7 +29,7 @@ fn doubled(block: [u8; 16]) -> [u8; 16]
 fn subkey1(key: &Schedule) -> [u8; 16]
     ensures { result ≡ subkey1 key.now }
 {
-    doubled(key.encrypt([0; 16]))
+    doubled(key.enciphered_zeros())
 }
 
 fn subkey2(key: &Schedule) -> [u8; 16]
@@ -83,15 +83,25 @@ pub fn chained_on(key: &Schedule, chained: [u8; 16], text: &[u8], at: usize) -> 
     key.encrypt(xor_block(chained, text, at))
 }
 
+// The first `blocks` blocks of `text` in the chain, after those before it.
+pub fn chained_over(key: &Schedule, chained: [u8; 16], text: &[u8], blocks: usize) -> [u8; 16]
+    requires { 16 * blocks ≤ length text.now }
+    ensures { (whole : List ℕ) (before : ℕ) → chained ≡ chain key.now whole before → text.now ≡ drop (16 * before) whole
+        → result ≡ chain key.now whole (before + blocks) }
+{
+    let mut last = chained;
+    'blocks: for i in 0..blocks {
+        let next = chained_on(key, last, text, 16 * i);
+        last = next;
+    }
+    last
+}
+
 /// The MAC of a text, of 16 octets.
 pub fn mac(key: &Schedule, text: &[u8]) -> [u8; 16]
     ensures { result ≡ mac key.now text.now }
 {
     let before_last = text.len().saturating_sub(1) / 16;
-    let mut chained = [0u8; 16];
-    'blocks: for i in 0..before_last {
-        let next = chained_on(key, chained, text, 16 * i);
-        chained = next;
-    }
+    let chained = chained_over(key, [0; 16], text, before_last);
     closed(key, chained, &text[16 * before_last..])
 }

@@ -1,8 +1,8 @@
-ghost use Rattle.std.specs.Prelude.{◌≡◌, ℕ, List, [], ◌∷◌, ◌++◌};
+ghost use Rattle.std.specs.Prelude.{◌≡◌, ℕ, ◌+◌, ◌<◌, ◌≤◌, List, [], ◌++◌, length};
 ghost use Rattle.cmac.specs.Cmac.{mac};
 ghost use Rattle.cmac.specs.Running.{Holds};
 
-use crate::block::{chained_on, closed};
+use crate::block::{chained_on, chained_over, closed};
 use aes_block::Schedule;
 use std::marker::Model;
 
@@ -42,19 +42,29 @@ impl<'a> Running<'a> {
         }
     }
 
-    fn push(&mut self, octet: u8)
-        ensures key { self.new.key ≡ self.old.key }
-        ensures more { (m : List ℕ) → Holds self.old m → Holds self.new (m ++ octet ∷ []) }
+    // Holds back octets for which there is room.
+    fn hold(&mut self, octets: &[u8])
+        requires { length self.old.rest + length octets.now ≤ 16 }
+        ensures { self.new ≡ record self.old { rest = self.old.rest ++ octets.now } }
     {
-        if self.used == 16 {
-            let next = chained_on(self.key, self.chained, &self.held, 0);
-            self.chained = next;
-            self.held[0] = octet;
-            self.used = 1;
-            return;
-        }
-        self.held[self.used] = octet;
-        self.used += 1;
+        let end = self.used + octets.len();
+        self.held[self.used..end].copy_from_slice(octets);
+        self.used = end;
+    }
+
+    // Takes octets after a whole block that is held back: it was not the last.
+    fn chain(&mut self, octets: &[u8])
+        requires whole { length self.old.rest ≡ 16 }
+        requires more { 0 < length octets.now }
+        ensures key { self.new.key ≡ self.old.key }
+        ensures more { (m : List ℕ) → Holds self.old m → Holds self.new (m ++ octets.now) }
+    {
+        let before_last = (octets.len() - 1) / 16;
+        let first = chained_on(self.key, self.chained, &self.held, 0);
+        self.chained = chained_over(self.key, first, octets, before_last);
+        let last = &octets[16 * before_last..];
+        self.held[..last.len()].copy_from_slice(last);
+        self.used = last.len();
     }
 
     /// Adds `piece` to the end of the text.
@@ -62,9 +72,13 @@ impl<'a> Running<'a> {
         ensures key { self.new.key ≡ self.old.key }
         ensures more { (m : List ℕ) → Holds self.old m → Holds self.new (m ++ piece.now) }
     {
-        'octets: for octet in piece {
-            self.push(*octet);
+        let room = 16 - self.used;
+        if piece.len() <= room {
+            self.hold(piece);
+            return;
         }
+        self.hold(&piece[..room]);
+        self.chain(&piece[room..]);
     }
 
     /// The MAC of the text: [`mac`](crate::mac) of all pieces, one after another.
