@@ -1,14 +1,16 @@
 -- The steps of counter mode.
-use Rattle.std.proofs.Common.{◌≡◌, ◌≢◌, ℕ, ◌+◌, ◌-◌, ◌*◌, ◌/◌, ◌%◌, ◌<◌, ◌≤◌, List, [], ◌∷◌, ◌++◌, length, map, get_or, slice_index, slice_set, bit_xor, refl, sym, ap, ◌∙◌, subst, inl, inr, arith, min}
+use Rattle.std.proofs.Common.{◌≡◌, ◌≢◌, ℕ, zero, suc, ◌+◌, ◌-◌, ◌*◌, ◌/◌, ◌%◌, ◌<◌, ◌≤◌, List, [], ◌∷◌, ◌++◌, length, map, take, drop, get_or, slice_index, slice_set, bit_xor, refl, sym, ap, ◌∙◌, subst, inl, inr, arith, min}
 use Rattle.std.specs.List.{range_with_len}
 use Rattle.std.specs.Int.{w32, to_be_bytes}
 use Rattle.std.specs.Int.Bits.{xor_assoc, xor_self, xor_zero_r}
-use Rattle.std.proofs.lemmas.List.{length-set, get_or-set_same, get_or-set_other}
+use lib.Lanes.{zip2, put_chunk}
+use Rattle.std.proofs.lemmas.Simd.{length-zip2, length-put_chunk, get_or-zip2, get_or-put_chunk_below, get_or-put_chunk_at, get_or-put_chunk_above}
+use Rattle.std.proofs.lemmas.List.{length-set, length-drop, length-take-le, get_or-take, get_or-drop, get_or-set_same, get_or-set_other}
 use Rattle.std.proofs.lemmas.List.FromFn.{fill_by_all, length-map-range_with_len, get_or-map-range_with_len}
 use Rattle.std.proofs.lemmas.Bool.{cases_lt, cases_eq}
 use Rattle.aes_block.specs.Aes.{encrypted}
 use Rattle.gcm.specs.Gcm.{counter_block, gctr_octet, gctr}
-use Rattle.gcm.specs.Counter.{XorsPad, IsCounted}
+use Rattle.gcm.specs.Counter.{XorsPad, IsCounted, eight_counters}
 
 -- a list by its elements
 listed : (v : List ℕ) (n : ℕ) → length v ≡ n → v ≡ map (λ i. get_or v i 0) (range_with_len 0 n)
@@ -68,6 +70,52 @@ xors_all start k stop pad old new xors ends all within = record {
   above = λ j le. xors.above j (omega arith);
 }
 
+-- a whole block, by lanes
+pub xors_block : (start : ℕ) (pad old new : List ℕ) → length pad ≡ 16 → start + 16 ≤ length old
+    → new ≡ put_chunk start old (zip2 bit_xor (take 16 (drop start old)) pad) → XorsPad start (start + 16) pad old new
+xors_block start pad old new long le is =
+    let block : List ℕ = take 16 (drop start old) in
+    let sum : List ℕ = zip2 bit_xor block pad in
+    let long_block : length block ≡ 16 =
+    length-take-le 16 (drop start old) (omega (arith, length-drop start old)) in
+    let long_sum : length sum ≡ 16 = length-zip2 bit_xor block pad (long_block ∙ sym long) ∙ long_block in
+    record {
+      same_length = ap length is ∙ length-put_chunk start old sum;
+      xored = λ k low high lt.
+          let j : ℕ = k - start in
+          let here : start + j ≡ k = omega arith in
+          let old_at : get_or block j 0 ≡ slice_index old k =
+          get_or-take 16 (drop start old) j 0 (omega arith) ∙ get_or-drop start old j 0 ∙ ap (slice_index old) here in
+          ap (λ (l : List ℕ). slice_index l k) is
+          ∙ sym (ap (slice_index (put_chunk start old sum)) here)
+          ∙ get_or-put_chunk_at start old sum j 0 (omega arith) (omega arith)
+          ∙ get_or-zip2 bit_xor block pad j 0 0 0 (omega arith) (omega arith)
+          ∙ ap (λ (o : ℕ). bit_xor o (slice_index pad j)) old_at;
+      below = λ k lt. ap (λ (l : List ℕ). slice_index l k) is ∙ get_or-put_chunk_below start old sum k 0 lt;
+      above = λ k far. ap (λ (l : List ℕ). slice_index l k) is ∙ get_or-put_chunk_above start old sum k 0 (omega arith);
+    }
+
+-- the eight pads
+pub pad_at : (key iv : List ℕ) (first i : ℕ) → i < 8
+    → get_or (map (encrypted key) (eight_counters iv (first + 1))) i [] ≡ encrypted key (counter_block iv (first + i + 1))
+pad_at key iv first zero lt =
+    let e : first + 1 ≡ first + 0 + 1 = omega arith in ap (λ (n : ℕ). encrypted key (counter_block iv n)) e
+pad_at key iv first (suc zero) lt =
+    let e : first + 1 + 1 ≡ first + 1 + 1 = omega arith in ap (λ (n : ℕ). encrypted key (counter_block iv n)) e
+pad_at key iv first (suc (suc zero)) lt =
+    let e : first + 1 + 2 ≡ first + 2 + 1 = omega arith in ap (λ (n : ℕ). encrypted key (counter_block iv n)) e
+pad_at key iv first (suc (suc (suc zero))) lt =
+    let e : first + 1 + 3 ≡ first + 3 + 1 = omega arith in ap (λ (n : ℕ). encrypted key (counter_block iv n)) e
+pad_at key iv first (suc (suc (suc (suc zero)))) lt =
+    let e : first + 1 + 4 ≡ first + 4 + 1 = omega arith in ap (λ (n : ℕ). encrypted key (counter_block iv n)) e
+pad_at key iv first (suc (suc (suc (suc (suc zero))))) lt =
+    let e : first + 1 + 5 ≡ first + 5 + 1 = omega arith in ap (λ (n : ℕ). encrypted key (counter_block iv n)) e
+pad_at key iv first (suc (suc (suc (suc (suc (suc zero)))))) lt =
+    let e : first + 1 + 6 ≡ first + 6 + 1 = omega arith in ap (λ (n : ℕ). encrypted key (counter_block iv n)) e
+pad_at key iv first (suc (suc (suc (suc (suc (suc (suc zero))))))) lt =
+    let e : first + 1 + 7 ≡ first + 7 + 1 = omega arith in ap (λ (n : ℕ). encrypted key (counter_block iv n)) e
+pad_at key iv first (suc (suc (suc (suc (suc (suc (suc (suc k)))))))) lt = absurd (omega arith)
+
 -- ---- all pads
 
 pub counted_none : (key iv text : List ℕ) → IsCounted key iv text text 0
@@ -95,6 +143,10 @@ counted_more key iv pad old now new i is counts xors = record {
   ];
   above = λ k le. xors.above k (omega arith) ∙ counts.above k (omega arith);
 }
+
+-- the same with the count of blocks written otherwise
+pub counted_to : (key iv old new : List ℕ) (m n : ℕ) → m ≡ n → IsCounted key iv old new m → IsCounted key iv old new n
+counted_to key iv old new m n same = subst (IsCounted key iv old new) same
 
 pub counted_all : (key iv old new : List ℕ) (stop : ℕ) → length old ≤ stop → IsCounted key iv old new stop
     → new ≡ gctr key iv old

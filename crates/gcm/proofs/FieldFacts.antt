@@ -1,5 +1,5 @@
 -- The product in GF(2^128): linear on both sides, commutative, associative, with the unit `one`.
-use Rattle.std.proofs.Common.{◌≡◌, ℕ, zero, suc, ◌+◌, ◌-◌, ◌*◌, ◌/◌, ◌%◌, ◌^◌, ◌<◌, ◌≤◌, bit_xor, refl, sym, ap, ◌∙◌, arith, lit<}
+use Rattle.std.proofs.Common.{◌≡◌, ℕ, zero, suc, ◌+◌, ◌*◌, ◌/◌, ◌%◌, ◌^◌, ◌<◌, bit_xor, refl, sym, ap, ◌∙◌, arith, lit<}
 use Rattle.std.specs.Int.{bit_at}
 use Rattle.std.specs.Int.Bits.{xor_zero_l, xor_zero_r, xor_assoc, xor_self, xor_comm, xor_lt, xor_shr, xor_shifted}
 use Rattle.std.proofs.Math.Nat.{zero-mul, one-mul, pow-suc, mod-eq_of_lt}
@@ -38,7 +38,7 @@ low_bit_sum a b =
     sym (bit_at_lowest (bit_xor a b)) ∙ bit_at_xor a b 0
     ∙ ap (λ (x : ℕ). (x + bit_at b 0) % 2) (bit_at_lowest a) ∙ ap (λ (x : ℕ). (a % 2 + x) % 2) (bit_at_lowest b)
 
-by_x_sum : (v w : ℕ) → by_x (bit_xor v w) ≡ bit_xor (by_x v) (by_x w)
+pub by_x_sum : (v w : ℕ) → by_x (bit_xor v w) ≡ bit_xor (by_x v) (by_x w)
 by_x_sum v w =
     let half : bit_xor v w / 2 ≡ bit_xor (v / 2) (w / 2) = xor_shr v w 1 in
     let low : bit_xor v w % 2 * reduced ≡ bit_xor (v % 2 * reduced) (w % 2 * reduced) =
@@ -95,7 +95,7 @@ times_scale n a zero v lt = simp zero-mul (times_zero n a)
 times_scale n a (suc zero) v lt = simp one-mul
 times_scale n a (suc (suc p)) v lt = absurd (omega arith)
 
-times_by_x : (n a v : ℕ) → times_low n a (by_x v) ≡ by_x (times_low n a v)
+pub times_by_x : (n a v : ℕ) → times_low n a (by_x v) ≡ by_x (times_low n a v)
 unfolding times_low
 times_by_x zero a v = refl
 times_by_x (suc n) a v =
@@ -163,38 +163,3 @@ pub power_lt : (h n : ℕ) → h < 2 ^ 128 → power h n < 2 ^ 128
 unfolding power
 power_lt h zero lt = lit< tt
 power_lt h (suc n) lt = times_low_lt 128 h (power h n) (power_lt h n lt)
-
--- ---- the loop over the bits
-
-pub bits_none : (a b : ℕ) → bit_xor 0 (times_low (128 - 0) a b) ≡ times a b
-bits_none a b = refl
-
--- a bit that is 1 adds its multiple
-pub bits_one : (i a v z r : ℕ) → i < 128 → bit_at a (127 - i) ≡ 1 → bit_xor z (times_low (128 - i) a v) ≡ r
-    → bit_xor (bit_xor z v) (times_low (128 - (i + 1)) a (by_x v)) ≡ r
-unfolding times_low
-bits_one i a v z r lt bit done =
-    let count : 128 - i ≡ suc (127 - i) = omega arith in
-    let less : 128 - (i + 1) ≡ 127 - i = omega arith in
-    let term : bit_at a (127 - i) * v ≡ v = ap (λ (b : ℕ). b * v) bit ∙ one-mul v in
-    ap (λ (n : ℕ). bit_xor (bit_xor z v) (times_low n a (by_x v))) less
-    ∙ xor_assoc z v (times_low (127 - i) a (by_x v))
-    ∙ sym (ap (λ (t : ℕ). bit_xor z (bit_xor t (times_low (127 - i) a (by_x v)))) term)
-    ∙ sym (ap (λ (n : ℕ). bit_xor z (times_low n a v)) count) ∙ done
-
-pub bits_zero : (i a v z r : ℕ) → i < 128 → bit_at a (127 - i) ≡ 0 → bit_xor z (times_low (128 - i) a v) ≡ r
-    → bit_xor z (times_low (128 - (i + 1)) a (by_x v)) ≡ r
-unfolding times_low
-bits_zero i a v z r lt bit done =
-    let count : 128 - i ≡ suc (127 - i) = omega arith in
-    let less : 128 - (i + 1) ≡ 127 - i = omega arith in
-    let term : bit_at a (127 - i) * v ≡ 0 = ap (λ (b : ℕ). b * v) bit ∙ zero-mul v in
-    ap (λ (n : ℕ). bit_xor z (times_low n a (by_x v))) less
-    ∙ sym (ap (λ (t : ℕ). bit_xor z (bit_xor t (times_low (127 - i) a (by_x v)))) term)
-    ∙ sym (ap (λ (n : ℕ). bit_xor z (times_low n a v)) count) ∙ done
-
-pub bits_all : (i a v z r : ℕ) → 128 ≤ i → bit_xor z (times_low (128 - i) a v) ≡ r → z ≡ r
-unfolding times_low
-bits_all i a v z r le done =
-    let none : 128 - i ≡ 0 = omega arith in
-    sym (xor_zero_r z) ∙ sym (ap (λ (n : ℕ). bit_xor z (times_low n a v)) none) ∙ done

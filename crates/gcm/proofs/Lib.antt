@@ -1,4 +1,5 @@
 mod FieldFacts
+mod TableFacts
 mod FoldFacts
 mod BlockFacts
 mod CounterFacts

@@ -1,6 +1,6 @@
 -- A pad xored into a text, and a text that is enciphered as far as some octet.
-use Rattle.std.specs.Prelude.{◌≡◌, ℕ, ◌-◌, ◌<◌, ◌≤◌, List, length, slice_index, bit_xor}
-use Rattle.gcm.specs.Gcm.{gctr_octet}
+use Rattle.std.specs.Prelude.{◌≡◌, ℕ, ◌+◌, ◌-◌, ◌<◌, ◌≤◌, List, [], ◌∷◌, length, slice_index, bit_xor}
+use Rattle.gcm.specs.Gcm.{counter_block, gctr_octet}
 
 -- the octets from start up to stop are xored with the pad's, and the others stay
 pub record XorsPad (start stop : ℕ) (pad old new : List ℕ) : Type 0 where
@@ -15,3 +15,9 @@ pub record IsCounted (key iv old new : List ℕ) (stop : ℕ) : Type 0 where
   pub same_length : length new ≡ length old
   pub below : (k : ℕ) → k < stop → k < length old → slice_index new k ≡ gctr_octet key iv old k
   pub above : (k : ℕ) → stop ≤ k → slice_index new k ≡ slice_index old k
+
+-- the counter blocks after i to i + 7 steps
+abbrev pub eight_counters : List ℕ → ℕ → List (List ℕ)
+eight_counters iv i =
+    counter_block iv i ∷ counter_block iv (i + 1) ∷ counter_block iv (i + 2) ∷ counter_block iv (i + 3)
+    ∷ counter_block iv (i + 4) ∷ counter_block iv (i + 5) ∷ counter_block iv (i + 6) ∷ counter_block iv (i + 7) ∷ []

@@ -6,7 +6,7 @@ ghost use Rattle.gcm.specs.Field.{ghash};
 ghost use Rattle.gcm.specs.Gcm.{block_at, blocks, hashed, lengths, padded};
 ghost use Rattle.gcm.specs.Folded.{folded};
 
-use crate::field::times;
+use crate::table::Table;
 use std::simd::u8x16;
 
 fn block_at(octets: &[u8], i: usize) -> u128
@@ -34,26 +34,26 @@ fn last_block(rest: &[u8]) -> u128
 }
 
 // Folds the whole blocks of `octets` into `start`.
-fn fold_whole(h: u128, start: u128, octets: &[u8]) -> u128
-    ensures { result ≡ folded h start (blocks octets.now) }
+fn fold_whole(table: &Table, start: u128, octets: &[u8]) -> u128
+    ensures { result ≡ folded table.now start (blocks octets.now) }
 {
     let mut y = start;
     'blocks: for i in 0..octets.len() / 16 {
-        y = times(y ^ block_at(octets, i), h);
+        y = table.product(y ^ block_at(octets, i));
     }
     y
 }
 
 // Folds all of `octets` into `start`, filled up with zeros to whole blocks.
-fn fold_padded(h: u128, start: u128, octets: &[u8]) -> u128
-    ensures { result ≡ folded h start (blocks (padded octets.now)) }
+fn fold_padded(table: &Table, start: u128, octets: &[u8]) -> u128
+    ensures { result ≡ folded table.now start (blocks (padded octets.now)) }
 {
-    let y = fold_whole(h, start, octets);
+    let y = fold_whole(table, start, octets);
     let whole = octets.len() / 16 * 16;
     if whole == octets.len() {
         return y;
     }
-    times(y ^ last_block(&octets[whole..]), h)
+    table.product(y ^ last_block(&octets[whole..]))
 }
 
 // The block of both lengths.
@@ -70,11 +70,12 @@ fn lengths(aad: usize, text: usize) -> u128
 }
 
 // GHASH of the additional data, the ciphertext and the block of their lengths.
-pub fn hash(h: u128, aad: &[u8], text: &[u8]) -> u128
+pub fn hash(table: &Table, aad: &[u8], text: &[u8]) -> u128
     requires aad { length aad.now ≤ 65536 }
     requires text { length text.now ≤ 65536 }
-    ensures { result ≡ ghash h (blocks (hashed aad.now text.now)) }
+    ensures { result ≡ ghash table.now (blocks (hashed aad.now text.now)) }
 {
-    let y = fold_padded(h, fold_padded(h, 0, aad), text);
-    times(y ^ lengths(aad.len(), text.len()), h)
+    let y = fold_padded(table, fold_padded(table, 0, aad), text);
+    let _ = &table.subkey;
+    table.product(y ^ lengths(aad.len(), text.len()))
 }

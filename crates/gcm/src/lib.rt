@@ -2,14 +2,16 @@
 //! and tags of 16. A vector serves once under a key: that is the caller's to keep.
 //!
 //! [`seal_in_place`] enciphers a text where it lies and gives its tag; [`open_in_place`] deciphers
-//! it, if the tag is right.
+//! it, if the tag is right. [`Table`] is the product by a hash subkey, on which both stand.
 #![tactic(auto)]
 
 mod counter;
 mod field;
 mod hash;
 mod seal;
+mod table;
 #[cfg(test)]
 mod tests;
 
 pub use seal::{BadTag, open_in_place, opens_what_was_sealed, seal_in_place};
+pub use table::Table;

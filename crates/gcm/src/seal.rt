@@ -3,6 +3,7 @@ ghost use Rattle.gcm.specs.Gcm.{gcm_open, gcm_seal, tag_of};
 
 use crate::counter::{count_over, counter_block};
 use crate::hash::hash;
+use crate::table::Table;
 use aes_block::Schedule;
 use sdls_base::same_octets;
 use thiserror::Error;
@@ -23,9 +24,9 @@ fn tag_of(key: &Schedule, iv: &[u8; 12], aad: &[u8], text: &[u8]) -> [u8; 16]
     requires text { length text.now ≤ 65536 }
     ensures { result ≡ tag_of key.now iv.now aad.now text.now }
 {
-    let h = u128::from_be_bytes(key.encrypt([0; 16]));
+    let table = Table::new(key.enciphered_zeros());
     let mask = u128::from_be_bytes(key.encrypt(counter_block(iv, 0)));
-    (hash(h, aad, text) ^ mask).to_be_bytes()
+    (hash(&table, aad, text) ^ mask).to_be_bytes()
 }
 
 /// Enciphers the text where it lies, and gives the tag of the ciphertext and the additional data.

@@ -76,15 +76,21 @@ fn plain_seal(
 }
 
 #[test]
-fn equals_a_plain_gcm_at_each_pair_of_lengths(rt: HostRuntime) -> Result<(), Fail> {
+fn equals_a_plain_gcm_at_each_length(rt: HostRuntime) -> Result<(), Fail> {
     let key = schedule_of(&[KEY, KEY], 32)?;
     let iv = vector_of(IV);
-    let mut octets = [0u8; 65];
-    for i in 0..65 {
-        octets[i] = (i as u8).wrapping_mul(29);
+    let mut octets = [0u8; 257];
+    for i in 0..257 {
+        octets[i] = (i % 256) as u8;
     }
-    for text_len in 0..66 {
-        for aad_len in 0..34 {
+    for text_len in 0..258usize {
+        // A short text has each length of additional data, a longer one a length of its own.
+        let (least, end) = if text_len < 66 {
+            (0, 34)
+        } else {
+            (text_len % 34, text_len % 34 + 1)
+        };
+        for aad_len in least..end {
             let mut text = octets;
             let mut plain = octets;
             let aad = &octets[..aad_len];

@@ -9,10 +9,10 @@ use Rattle.gcm.proofs.hash.fold_padded.Goals as goal
 
 pub returns : goal.returns
 returns c =
-    let h : ℕ = c.args.h in
+    let h : ℕ = c.args.table.now in
     let octets : List ℕ = c.args.octets.now in
     let w : ℕ = length octets / 16 * 16 in
-    c.times.ensures
+    c.product.ensures
     ∙ ap (λ (y : ℕ). times (bit_xor y c.last_block.result) h) c.fold_whole-y.ensures
     ∙ ap (λ (x : ℕ). times (bit_xor (folded h c.args.start (blocks octets)) x) h)
     (c.last_block.ensures

@@ -9,6 +9,6 @@ blocks-2-init c = refl
 
 pub blocks-2-preserved : goal.blocks-2-preserved
 blocks-2-preserved c =
-    c.times-y.ensures
-    ∙ fold_more c.args.h c.args.start c.blocks-2.y c.args.octets.now c.blocks-2.i c.block_at.result
+    c.product-y.ensures
+    ∙ fold_more c.args.table.now c.args.start c.blocks-2.y c.args.octets.now c.blocks-2.i c.block_at.result
     c.blocks-2.invariant c.block_at.ensures

@@ -5,4 +5,4 @@ use Rattle.gcm.specs.Gcm.{block_at}
 use Rattle.gcm.proofs.hash.fold_whole.Given as goal
 
 abbrev pub invariant-blocks-2 : goal.invariant-blocks-2
-invariant-blocks-2 l = l.y ≡ folded l.h l.start (map (block_at l.octets) (range_with_len 0 l.i))
+invariant-blocks-2 l = l.y ≡ folded l.table l.start (map (block_at l.octets) (range_with_len 0 l.i))

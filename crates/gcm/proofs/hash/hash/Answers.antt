@@ -1,4 +1,4 @@
-use Rattle.std.proofs.Common.{ℕ, bit_xor, ap, ◌∙◌}
+use Rattle.std.proofs.Common.{ℕ, ◌<◌, ◌^◌, bit_xor, ap, subst, ◌∙◌}
 use Rattle.gcm.specs.Field.{times}
 use Rattle.gcm.specs.Folded.{folded}
 use Rattle.gcm.specs.Gcm.{blocks, padded}
@@ -7,9 +7,9 @@ use Rattle.gcm.proofs.hash.hash.Goals as goal
 
 pub returns : goal.returns
 returns c =
-    let h : ℕ = c.args.h in
+    let h : ℕ = c.args.table.now in
     let y : ℕ = c.fold_padded-y.result in
-    c.times.ensures
+    c.product.ensures
     ∙ ap (λ (x : ℕ). times (bit_xor y x) h) c.lengths.ensures
-    ∙ hash_is h y c.args.aad.now c.args.text.now c.ranges.h.fits
+    ∙ hash_is h y c.args.aad.now c.args.text.now (subst (λ (k : ℕ). k < 2 ^ 128) c.table.view_is c.table.invariant.fits)
     (c.fold_padded-y.ensures ∙ ap (λ (s : ℕ). folded h s (blocks (padded c.args.text.now))) c.fold_padded.ensures)

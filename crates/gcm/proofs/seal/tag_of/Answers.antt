@@ -7,9 +7,9 @@ use Rattle.gcm.proofs.seal.tag_of.Goals as goal
 pub returns : goal.returns
 returns c =
     c.to_be_bytes.ensures
-    ∙ tag_is c.args.key.now c.args.iv.now c.args.aad.now c.args.text.now c.from_be_bytes-h.result
+    ∙ tag_is c.args.key.now c.args.iv.now c.args.aad.now c.args.text.now c.new-table.result
     c.from_be_bytes-mask.result c.hash.result
-    (c.from_be_bytes-h.ensures ∙ ap (from_be_bytes w128) c.encrypt.ensures)
+    (c.new-table.ensures ∙ ap (from_be_bytes w128) c.enciphered_zeros.ensures)
     (c.from_be_bytes-mask.ensures
-    ∙ ap (from_be_bytes w128) (c.encrypt-2.ensures ∙ ap (encrypted c.args.key.now) c.counter_block.ensures))
+    ∙ ap (from_be_bytes w128) (c.encrypt.ensures ∙ ap (encrypted c.args.key.now) c.counter_block.ensures))
     c.hash.ensures
