@@ -9,7 +9,11 @@ pub fn masked(prefix: &[u8], mask: &[u8], out: &mut [u8])
         → slice_index out.new i ≡ bit_and (slice_index prefix.now i) (slice_index mask.now i) }
     ensures text { out.new ≡ masked_octets prefix.now mask.now }
 {
-    for (i, octet) in prefix.iter().enumerate() {
-        out[i] = *octet & mask.get(i).copied().unwrap_or(0);
+    let under = prefix.len().min(mask.len());
+    'octets: for i in 0..under {
+        out[i] = prefix[i] & mask[i];
+    }
+    'rest: for i in under..prefix.len() {
+        out[i] = 0;
     }
 }

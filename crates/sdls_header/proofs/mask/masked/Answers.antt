@@ -4,4 +4,4 @@ use Rattle.sdls_header.proofs.mask.masked.Goals as goal
 
 pub returns-clause-text : goal.returns-clause-text
 returns-clause-text c =
-    masked_from_places c.args.prefix.now c.args.mask.now c.loop-i.out (omega arith) (λ k h. c.loop-i.invariant k (omega arith))
+    masked_from_places c.args.prefix.now c.args.mask.now c.rest.out (omega arith) (λ k h. c.rest.invariant k (omega arith))
