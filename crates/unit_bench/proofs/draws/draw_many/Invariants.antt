@@ -1,5 +1,5 @@
 use Rattle.counter_table.specs.Worker.{IsOf}
-use Rattle.counter_bench.proofs.draw_many.Given as goal
+use Rattle.unit_bench.proofs.draws.draw_many.Given as goal
 
 abbrev pub invariant-loop : goal.invariant-loop
 invariant-loop g l = IsOf l.counters l.worker

@@ -1,24 +1,20 @@
-//! Measures what one draw costs: on one thread, and on four that draw from one row at once. The figures
-//! go to standard error, since they differ from run to run.
-#![tactic(auto)]
+// What a draw costs: on one thread, and on four that draw from one row at once.
 
 ghost use Rattle.std.specs.Prelude.{◌≡◌, ◌<◌, [], ◌∷◌, false};
 ghost use Rattle.counter_table.specs.Known.{unopened};
 ghost use Rattle.counter_table.specs.Worker.{view, rows_of, IsOf};
 
 use counter_table::{Arm, Counted, Counters, Worker};
-use std::io;
 use std::thread::{Threads, join};
-use std::time::Instant;
 
 /// How many numbers each thread draws.
-const TIMES: u64 = 1_000_000;
+pub const TIMES: u64 = 200_000;
 
 const END: u64 = 1 << 40;
 
 /// A book that is never filled in.
 #[derive(Drop)]
-struct NoBook;
+pub struct NoBook;
 
 impl Counted for NoBook {
     ghost told = { λ _. record { marks = 1 ∷ []; log = []; changes = 0; faults = 0; opening = unopened } };
@@ -33,7 +29,7 @@ impl Counted for NoBook {
 }
 
 /// Draws, and answers the worker with the last number that it drew.
-fn draw_many<B: Counted>(counters: &Counters<B>, mut worker: Worker<B>) -> (Worker<B>, u64)
+pub fn draw_many<B: Counted>(counters: &Counters<B>, mut worker: Worker<B>) -> (Worker<B>, u64)
     requires own { IsOf counters.now worker }
     requires row { 0 < rows_of counters.now }
     ensures own { IsOf counters.now result.0 }
@@ -50,7 +46,7 @@ fn draw_many<B: Counted>(counters: &Counters<B>, mut worker: Worker<B>) -> (Work
 
 /// Draws on two threads, which share the counters, over any book that a thread may be given. Answers
 /// the greater of the last numbers.
-fn draw_on_two<R: Threads + Sync, B: Counted + Send>(
+pub fn draw_on_two<R: Threads + Sync, B: Counted + Send>(
     rt: &R,
     counters: &Counters<B>,
     one: Worker<B>,
@@ -66,31 +62,4 @@ fn draw_on_two<R: Threads + Sync, B: Counted + Send>(
         move || draw_many(counters, two),
     );
     one.1.max(two.1)
-}
-
-fn main(rt: HostRuntime) -> io::Result<()> {
-    let Ok((counters, mut first)) = Counters::<NoBook>::new(rt.alloc(), 1) else {
-        return Err(io::ErrorKind::OutOfMemory.into());
-    };
-    let second = counters.split(&mut first);
-    let third = counters.split(&mut first);
-    let fourth = counters.split(&mut first);
-    let start = Instant::now(&rt)?;
-    let (first, last) = draw_many(&counters, first);
-    let alone = start.elapsed(&rt)?.as_nanos();
-    let (shared, handle) = (&counters, &rt);
-    let start = Instant::now(&rt)?;
-    let (one, two) = join(
-        &rt,
-        move || draw_on_two(handle, shared, first, second),
-        move || draw_on_two(handle, shared, third, fourth),
-    );
-    let together = start.elapsed(&rt)?.as_nanos();
-    eprintln!(rt; "one thread: {} ns for 1,000 draws", alone / 1000)?;
-    eprintln!(rt;
-        "four threads: {} ns for 1,000 draws of each",
-        together / 1000
-    )?;
-    eprintln!(rt; "the last numbers are {last} and {}", one.max(two))?;
-    println!(rt; "measured")
 }
