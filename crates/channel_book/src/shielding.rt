@@ -108,6 +108,3 @@ pub fn shield(binding: &Binding, number: u64, clear: &[u8], out: &mut [u8]) -> u
     let mac = mac_of(binding.schedule(), prefix, text);
     put(out, end - MAC, &mac)
 }
-
-#[cfg(test)]
-mod tests;

@@ -21,12 +21,8 @@ mod outcome;
 mod output;
 mod records;
 mod refusal;
-#[cfg(test)]
-mod run_tests;
 mod running;
 mod serving;
-#[cfg(test)]
-mod tests;
 mod top;
 mod words;
 

@@ -316,6 +316,3 @@ impl Reader {
         self.read_segment(alloc, source)
     }
 }
-
-#[cfg(test)]
-mod tests;

@@ -1,6 +1,7 @@
-use crate::status::{DONE, MALFORMED, NO_STATE, REFUSED, SITE_FAULT, SOURCE_FAULT, USAGE};
-use crate::{Gate, Outcome, run, run_plain};
+use crate::support::{Open, empty_site, words};
 use sdls_outside::{MemSite, MemSource, Site, Source, SureSource};
+use sdls_run::status::{DONE, REFUSED, SITE_FAULT, SOURCE_FAULT, USAGE};
+use sdls_run::{Outcome, run, run_plain};
 use std::alloc::{AllocError, Global};
 use std::test::Fail;
 
@@ -20,26 +21,6 @@ const LONG_KEY: &str = "603deb1015ca71be2b73aef0857d77811f352c073b6108d72d9810a3
 
 const FRAME_OF_LONG_KEY: &str = "6bc1bee22e409f96e93d7e117393172a28a7023f452e8f82bd4bf28d8c37c35c";
 
-pub(crate) struct Open;
-
-impl Gate for Open {
-    fn pass(&self, _lane: u8, _index: u64) {}
-
-    fn done(&self, _lane: u8, _index: u64) {}
-}
-
-pub(crate) fn words(alloc: Global, texts: &[&str]) -> Result<Vec<String>, AllocError> {
-    let mut words = Vec::new(alloc);
-    for text in texts {
-        words.push(String::from_str(alloc, text)?)?;
-    }
-    Ok(words)
-}
-
-fn quiet_site(alloc: Global) -> MemSite {
-    MemSite::new(alloc, Vec::new(alloc), Vec::new(alloc), None)
-}
-
 /// What an input in one piece comes to: the text sunk, and the status.
 fn answer(alloc: Global, texts: &[&str], input: Vec<u8>) -> Result<(Vec<u8>, u8), AllocError> {
     let words = words(alloc, texts)?;
@@ -48,7 +29,7 @@ fn answer(alloc: Global, texts: &[&str], input: Vec<u8>) -> Result<(Vec<u8>, u8)
         status,
         site,
         entries: _,
-    } = run_plain(alloc, words.as_slice(), &mut source, quiet_site(alloc));
+    } = run_plain(alloc, words.as_slice(), &mut source, empty_site(alloc));
     Ok((Vec::from_slice(alloc, site.sunk())?, status))
 }
 
@@ -115,7 +96,7 @@ fn refuses_what_is_longer_than_any_frame(rt: HostRuntime) -> Result<(), Fail> {
         status,
         site,
         entries: _,
-    } = run_plain(alloc, words.as_slice(), &mut source, quiet_site(alloc));
+    } = run_plain(alloc, words.as_slice(), &mut source, empty_site(alloc));
     assert_eq!(rt; site.sunk(), b"refused long\n".as_slice());
     assert_eq!(rt; status, REFUSED);
     let mut rest = [0; 1000];
@@ -156,7 +137,7 @@ fn ends_with_the_fault_of_the_source(rt: HostRuntime) -> Result<(), Fail> {
             status,
             site,
             entries: _,
-        } = run_plain(alloc, words.as_slice(), &mut source, quiet_site(alloc));
+        } = run_plain(alloc, words.as_slice(), &mut source, empty_site(alloc));
         assert_eq!(rt; site.sunk(), b"source fault\n".as_slice());
         assert_eq!(rt; status, SOURCE_FAULT);
     }
@@ -187,7 +168,7 @@ fn takes_a_source_of_single_octets(rt: HostRuntime) -> Result<(), Fail> {
     let alloc = rt.alloc();
     let words = words(alloc, &["check", KEY])?;
     let mut source = MemSource::new(hex::decode(alloc, LONGER_FRAME)?, 1, Vec::new(alloc));
-    let site = quiet_site(alloc);
+    let site = empty_site(alloc);
     let Outcome {
         status,
         site,
@@ -198,78 +179,5 @@ fn takes_a_source_of_single_octets(rt: HostRuntime) -> Result<(), Fail> {
         b"ok 7393172aae2d8a571e03ac9c9eb76fac45af8e5130c81c46a35ce411\n".as_slice()
     );
     assert_eq!(rt; status, DONE);
-    Ok(())
-}
-
-/// A plan of one telecommand channel, of 168 octets.
-pub(crate) const PLAN: &[u8] = b"sdls 1
-device d0000001
-slots 16
-block 4
-accept 1
-link 0 tc seg nofecf -
-channel 0 0 42 5 3
-key 32769 active 2b7e151628aed2a6abf7158809cf4f3c
-sa 7 send cmac 32769 1 1 0
-";
-
-pub(crate) fn fill_up(image: &mut Vec<u8>, length: usize) -> Result<(), AllocError> {
-    for _ in image.len()..length {
-        image.push(0)?;
-    }
-    Ok(())
-}
-
-/// The image of the plan, octet for octet as its format says: gate, magic, 168 octets of plan, 16 slots.
-pub(crate) fn image_of_the_plan(alloc: Global) -> Result<Vec<u8>, AllocError> {
-    let mut image = Vec::new(alloc);
-    image.extend_from_slice(b"\x01SDLSIMG1\x00\x00\x00\xa8\x00\x00\x00\x10")?;
-    fill_up(&mut image, 512)?;
-    image.extend_from_slice(PLAN)?;
-    fill_up(&mut image, 66_048 + 16 * 512)?;
-    Ok(image)
-}
-
-#[test]
-fn makes_the_image_of_a_plan_once(rt: HostRuntime) -> Result<(), Fail> {
-    let alloc = rt.alloc();
-    let words = words(alloc, &["init"])?;
-    let mut source = SureSource::new(Vec::from_slice(alloc, PLAN)?);
-    let site = quiet_site(alloc);
-    let Outcome {
-        status,
-        site,
-        entries: _,
-    } = run_plain(alloc, words.as_slice(), &mut source, site);
-    assert_eq!(rt; status, DONE);
-    assert!(rt; site.image() == image_of_the_plan(alloc)?.as_slice());
-    assert_eq!(rt; site.sunk().len(), 0);
-    let Outcome {
-        status,
-        site,
-        entries: _,
-    } = run_plain(alloc, words.as_slice(), &mut source, site);
-    assert_eq!(rt; status, NO_STATE);
-    assert_eq!(rt; site.sunk(), b"image exists\n".as_slice());
-    Ok(())
-}
-
-#[test]
-fn makes_no_image_of_another_text(rt: HostRuntime) -> Result<(), Fail> {
-    let alloc = rt.alloc();
-    for end in ["# one line more\n", "\n"] {
-        let mut text = Vec::from_slice(alloc, PLAN)?;
-        text.extend_from_slice(end.as_bytes())?;
-        let words = words(alloc, &["init"])?;
-        let mut source = SureSource::new(text);
-        let Outcome {
-            status,
-            site,
-            entries: _,
-        } = run_plain(alloc, words.as_slice(), &mut source, quiet_site(alloc));
-        assert_eq!(rt; status, MALFORMED);
-        assert_eq!(rt; site.sunk(), b"plan line 1 unbuilt\n".as_slice());
-        assert_eq!(rt; site.image().len(), 0);
-    }
     Ok(())
 }

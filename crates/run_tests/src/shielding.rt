@@ -1,23 +1,12 @@
-use super::shield;
-use crate::binding::{Binding, Verdict, verdict_on};
+use crate::support::PLAN;
+use channel_book::{Binding, Verdict, shield, verdict_on};
 use std::test::*;
 use unit_plan::TelecommandPlan;
-
-const NINE: &[u8] = b"sdls 1
-device d0000001
-slots 16
-block 4
-accept 1
-link 0 tc seg nofecf -
-channel 0 0 42 5 3
-key 32769 active 2b7e151628aed2a6abf7158809cf4f3c
-sa 7 send cmac 32769 1 1 0
-";
 
 // MACs by a program apart from this one, which gives those of RFC 4493 for this key.
 #[test]
 fn frames_are_protected(rt: HostRuntime) -> Result<(), Fail> {
-    let plan = TelecommandPlan::read(NINE).ok_or("a plan")?;
+    let plan = TelecommandPlan::read(PLAN).ok_or("a plan")?;
     let binding = Binding::of(&plan);
     assert_eq!(rt; (binding.spi().get(), binding.key().get()), (7, 32_769));
     // The least frame has an empty data field; a bypass flag is not covered by the MAC, but stays.
@@ -46,7 +35,7 @@ fn frames_are_protected(rt: HostRuntime) -> Result<(), Fail> {
 
 #[test]
 fn the_longest_frame(rt: HostRuntime) -> Result<(), Fail> {
-    let plan = TelecommandPlan::read(NINE).ok_or("a plan")?;
+    let plan = TelecommandPlan::read(PLAN).ok_or("a plan")?;
     let binding = Binding::of(&plan);
     let mut clear = [0; 1003];
     clear[..6].copy_from_slice(b"\x00\x2a\x17\xe9\x09\xc3");
@@ -68,7 +57,7 @@ fn the_longest_frame(rt: HostRuntime) -> Result<(), Fail> {
 
 #[test]
 fn one_verdict_each(rt: HostRuntime) -> Result<(), Fail> {
-    let plan = TelecommandPlan::read(NINE).ok_or("a plan")?;
+    let plan = TelecommandPlan::read(PLAN).ok_or("a plan")?;
     // Where two checks end on one frame, the earlier gives the verdict.
     let rows: [(u8, &[u8], Verdict); 15] = [
         (1, b"\x30\x2a", Verdict::Layout(0)),

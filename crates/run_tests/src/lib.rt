@@ -1,0 +1,20 @@
+//! Tests of `sdls_run` by sources and sites in memory, which fail and crash where a test says so, and of the frames that
+//! `channel_book` protects. No part of the unit.
+//!
+//! They stand here since a crate that has tests in it is proved twice.
+#![tactic(auto)]
+
+#[cfg(test)]
+mod answers;
+#[cfg(test)]
+mod check;
+#[cfg(test)]
+mod faults;
+#[cfg(test)]
+mod init;
+#[cfg(test)]
+mod inputs;
+#[cfg(test)]
+mod shielding;
+#[cfg(test)]
+mod support;
