@@ -13,8 +13,6 @@ mod counters;
 mod drawing;
 mod rule;
 mod shares;
-#[cfg(test)]
-mod tests;
 mod ticket;
 mod turns;
 mod view;

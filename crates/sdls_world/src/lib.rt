@@ -10,8 +10,6 @@ mod actor;
 mod key;
 mod laws;
 mod step;
-#[cfg(test)]
-mod tests;
 mod world;
 
 pub use key::Key;

@@ -2,7 +2,7 @@ ghost use Rattle.std.specs.Prelude.{◌≡◌, ◌<◌, ◌≤◌, ◌^◌, ℕ,
 ghost use Rattle.counter_table.specs.Known.{unopened};
 ghost use Rattle.counter_table.specs.Worker.{view, rows_of, IsOf};
 
-use crate::{Arm, Counted, Counters, Worker};
+use counter_table::{Arm, Counted, Counters, Worker};
 use std::alloc::Global;
 use std::sync::Wait;
 use std::test::Fail;

@@ -1,6 +1,6 @@
 use Rattle.std.proofs.Common.{◌≡◌, false, true}
 use Rattle.counter_table.specs.Worker.{view, IsOf}
-use Rattle.counter_table.proofs.tests.counted.Given as goal
+use Rattle.counter_tests.proofs.table.counted.Given as goal
 
 abbrev pub invariant-loop : goal.invariant-loop
 invariant-loop g l = record {

@@ -1,6 +1,6 @@
 use Rattle.std.proofs.Common.{◌≡◌, false}
 use Rattle.counter_table.specs.Worker.{view, IsOf}
-use Rattle.counter_table.proofs.tests.drawn.Given as goal
+use Rattle.counter_tests.proofs.table.drawn.Given as goal
 
 abbrev pub invariant-loop : goal.invariant-loop
 invariant-loop g l = record {

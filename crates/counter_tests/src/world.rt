@@ -1,5 +1,5 @@
-use crate::{Step, World};
 use sdls_base::KeyId;
+use sdls_world::{Step, World};
 use std::alloc::Global;
 use std::test::Fail;
 
