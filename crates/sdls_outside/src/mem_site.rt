@@ -94,7 +94,6 @@ impl MemSite {
 
 impl Site for MemSite {
     ghost use Rattle.sdls_outside.specs.Site.{after_put};
-
     ghost use Rattle.sdls_outside.specs.Calls.{Enters, counted, fails_next};
     ghost use Rattle.sdls_outside.specs.MemSite.{site_trace, site_plan, site_faults, site_put_faults};
 

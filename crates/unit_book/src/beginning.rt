@@ -17,12 +17,7 @@ use unit_image::Opened;
 
 impl<O: Site> Book<O> {
     /// The book over a site whose image, at rest, shows this state. `taken` is the site as `open` took it.
-    pub(crate) fn new(
-        site: O,
-        taken: Snapshot<O>,
-        found: Opened,
-        entries: Vec<Entry>,
-    ) -> Book<O>
+    pub(crate) fn new(site: O, taken: Snapshot<O>, found: Opened, entries: Vec<Entry>) -> Book<O>
         requires rules { KeepsRules found.state }
         requires settled { IsTrue O.told → IsSettled (O.trace site) found.journal }
         requires shows { IsTrue O.told → Shows (O.trace site).now.image (restarted found.state) }

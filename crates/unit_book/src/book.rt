@@ -140,7 +140,12 @@ impl<O: Site> Book<O> {
     }
 
     /// Makes an entry whose record has this body, and stores it.
-    fn store(&mut self, entry: Entry, next: Next, body: &[u8; BODY_LENGTH]) -> Result<u64, BookFault>
+    fn store(
+        &mut self,
+        entry: Entry,
+        next: Next,
+        body: &[u8; BODY_LENGTH],
+    ) -> Result<u64, BookFault>
         requires kept { IsKept O.told O.trace O.faults self.old }
         requires can { CanEnter O.faults self.old }
         requires allows { Allows self.old.state entry.change }

@@ -10,8 +10,7 @@ invariant_of-self g c =
     ap (λ (es : List Entry). length es) c.push_within.ensures.items ∙ length-append c.self.inside.entries.items (c.args.entry ∷ []) in
     let one : c.counted.result ≤ 1 = subst (λ (n : ℕ). n ≤ 1) (sym c.counted.ensures) (one_at_most (counts c.args.entry.change)) in
     let (same, is, low, few, room) = c.self.invariant in
-    let grows = c.push_within.ensures.capacity in
-    (
+    let grows = c.push_within.ensures.capacity in (
       same,
       entries_pushed _ _ _ _ _ is c.push_within.ensures.items (c.with_entry.ensures g.O.Site.trace),
       omega arith,

@@ -38,8 +38,7 @@ returns-in-Err-SiteFault-clause-kept g c =
 
 pub returns-in-Err-SiteFault-clause-made : goal.returns-in-Err-SiteFault-clause-made
 returns-in-Err-SiteFault-clause-made g c =
-    let cause = (rw c.in-Err-SiteFault.field-0-is at c.in-Err-SiteFault.ensures.fault.cause) in
-    (
+    let cause = (rw c.in-Err-SiteFault.field-0-is at c.in-Err-SiteFault.ensures.fault.cause) in (
       stored_true c.args.self.now.state c.args.entry c.requires.stored.0 c.requires.stored.1,
       c.requires.free,
       rose_there g.O.Site.faults c.args.self.now _ _ c.append.new.site c.append.new.self c.args.entry c.self.view_is c.leave_out.ensures cause.0,

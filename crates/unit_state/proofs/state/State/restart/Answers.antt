@@ -11,7 +11,7 @@ pub returns-clause-rules : goal.returns-clause-rules
 returns-clause-rules c = λ rules. record {
   keys = rules.keys;
   associations = c.to_floors.ensures.rules rules.associations;
-  held = subst (λ (rows : List SaRow). All (HasKey c.args.self.now.keys) rows) 
+  held = subst (λ (rows : List SaRow). All (HasKey c.args.self.now.keys) rows)
       (sym (c.to_floors.ensures.set ∙ ap (λ (keys : List KeyRow). map (restarted_row keys) c.args.self.now.associations) c.rows.ensures.rows))
       (all_restarted c.args.self.now.keys c.args.self.now.associations rules.held);
 }
