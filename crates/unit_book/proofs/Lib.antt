@@ -6,3 +6,4 @@ pub mod Fresh
 pub mod Opened
 pub mod Marking
 pub mod Released
+pub mod Accepted

@@ -1,9 +1,18 @@
 //! The book of a unit: its state, and the journal in which each change of the state is stored before anything rests on it.
+//!
+//! [`Book::open`] makes all checks of an image and answers the book over the state that it shows. [`Book::reserve`] stores a
+//! mark above a number that is to be used, [`Book::binding`] tells what a frame is protected under, [`Book::accept`] opens a
+//! frame (CCSDS 355.0-B), and [`Book::command`] does what a message of the key and association management asks (355.1-B).
+//! [`Book::release`] gives back what a run did not use, and [`Book::put`] hands octets to the site's sink.
+//!
+//! Read `specs/Book.antt` first: what a book is seen as, and what holds of it between its calls.
 #![tactic(auto)]
 
+mod accepting;
 mod applying;
 mod beginning;
 mod book;
+mod commanding;
 mod fault;
 mod limits;
 mod log;
@@ -11,6 +20,7 @@ mod next;
 mod opening;
 mod releasing;
 mod reserving;
+mod showing;
 
 pub use book::Book;
 pub use fault::BookFault;

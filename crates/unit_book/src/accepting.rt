@@ -1,0 +1,89 @@
+// The opening of frames.
+ghost use Rattle.std.specs.Prelude.{◌≡◌, ℕ, ◌<◌, ◌≤◌, MatchResult, IsSome};
+ghost use Rattle.sdls_base.specs.KeyId.{end_of};
+ghost use Rattle.unit_state.specs.State.{KeepsRules, key_row};
+ghost use Rattle.unit_state.specs.Allows.{Allows};
+ghost use Rattle.unit_state.specs.Restart.{IsLight};
+ghost use Rattle.frame_checks.specs.Accepting.{field_in, Leaves, MayBeAccepted, OnAccepted};
+ghost use Rattle.unit_book.specs.Book.{IsKept};
+ghost use Rattle.unit_book.specs.Records.{raised_floor, frame_change, Opens, RefusesFrame};
+
+use crate::book::Book;
+use crate::fault::BookFault;
+use crate::next::Next;
+use frame_checks::{OpenReply, open_frame};
+use sdls_base::{Change, Entry, KeyId, Seen};
+use sdls_outside::Site;
+
+impl<O: Site> Book<O> {
+    /// The floor of a key once a number was accepted.
+    fn raised_floor(&self, key: KeyId, number: u64) -> u64
+        requires there { IsSome (key_row self.now.state key) }
+        requires below { number < end_of key }
+        ensures floor { result ≡ raised_floor self.entry.now.plan self.entry.now.state key number }
+        ensures accept { 1 ≤ self.entry.now.plan.accept }
+    {
+        let accept = self.plan.accept();
+        let floor = self.state.keys.receive_floor(key).unwrap_or(0);
+        if number <= floor {
+            return floor;
+        }
+        (number + accept - 1).min(key.end() - 1)
+    }
+
+    /// What a frame changes, by the reply to it.
+    fn frame_change(&self, reply: &OpenReply) -> Change
+        requires rules { KeepsRules self.now.state }
+        requires accepted { OnAccepted reply.now (MayBeAccepted self.now.state) }
+        ensures change { result ≡ frame_change self.entry.now.plan self.entry.now.state reply.now }
+        ensures allowed { Allows self.entry.now.state result }
+        ensures light { IsLight result }
+    {
+        match reply {
+            OpenReply::Accepted {
+                spi,
+                key,
+                number,
+                ..
+            } => Change::Accepted {
+                spi: *spi,
+                key: *key,
+                number: *number,
+                floor: self.raised_floor(*key, *number),
+            },
+            _ => Change::Nothing,
+        }
+    }
+
+    /// Handles the record with this number, whose frame came on this link: makes the checks of opening in their order, and
+    /// where none fails, accepts the number and opens the frame in place (CCSDS 355.0-B, ProcessSecurity). Answers the reply
+    /// and its position. A floor that rises is stored before the answer. Takes no memory.
+    ///
+    /// After an answer that is not `Accepted` the frame's octets may be any.
+    pub fn accept(
+        &mut self,
+        index: u64,
+        link: u8,
+        frame: &mut [u8],
+    ) -> Result<(OpenReply, u64), BookFault>
+        requires kept { IsKept O.told O.trace O.faults self.old }
+        ensures kept { IsKept O.told O.trace O.faults self.new }
+        ensures made { MatchResult result
+            (λ answer. Opens O.faults index link frame.old (field_in answer.0 frame.new) self.old self.new answer.0 answer.1
+            × Leaves answer.0 frame.old frame.new)
+            (RefusesFrame O.faults index link frame.old self.old self.new) }
+        ensures later { O.faults self.old.site ≤ O.faults self.new.site }
+    {
+        self.may_enter()?;
+        let reply = open_frame(&self.plan, &self.state, link, frame);
+        let entry = Entry {
+            index: Some(index),
+            seen: Seen::Nothing,
+            change: self.frame_change(&reply),
+        };
+        match self.commit(entry, Next::Here) {
+            Ok(position) => Ok((reply, position)),
+            Err(fault) => Err(fault),
+        }
+    }
+}

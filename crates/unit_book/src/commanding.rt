@@ -1,0 +1,109 @@
+// The commands of the key and association management.
+ghost use Rattle.std.specs.Prelude.{◌≡◌, ◌≤◌, ⊤, IfOk, MatchResult};
+ghost use Rattle.ep_core.specs.declared.need.Need.{Need};
+ghost use Rattle.ep_core.specs.Seen.{Fits};
+ghost use Rattle.unit_state.specs.State.{KeepsRules};
+ghost use Rattle.unit_state.specs.Applied.{applied};
+ghost use Rattle.unit_state.specs.Allows.{Allows};
+ghost use Rattle.unit_book.specs.Book.{IsKept, Makes};
+ghost use Rattle.unit_book.specs.Records.{IsNeedOf, IsStepOf, Handles, RefusesMessage};
+
+use crate::book::Book;
+use crate::fault::BookFault;
+use crate::next::Next;
+use ep_codec::{PduError, read_pdu};
+use ep_core::{Need, Refusal, Reply, changes_are_allowed, judge, plan_change};
+use sdls_base::{Change, Entry, NoMemory, Seen};
+use sdls_outside::Site;
+use std::alloc::Global;
+use unit_state::State;
+
+/// What the message in these octets changes in a state, and the reply to it.
+fn step_of(
+    alloc: Global,
+    state: &State,
+    pdu: &[u8],
+    seen: &Seen,
+) -> Result<(Change, Reply), NoMemory>
+    requires rules { KeepsRules state.now }
+    requires seen { (need : Need) → IsNeedOf state.now pdu.now need → Fits state.now need seen.now }
+    ensures step { IfOk result (IsStepOf state.now pdu.now seen.now) }
+    ensures allowed { IfOk result (λ step. Allows state.now step.0) }
+{
+    changes_are_allowed();
+    match read_pdu(alloc, pdu) {
+        Ok(command) => match plan_change(alloc, state, &command, seen) {
+            Ok(step) => Ok(step),
+            Err(NoMemory) => Err(NoMemory),
+        },
+        Err(PduError::Fault(offset)) => {
+            let refusal = Refusal::PduFault(offset);
+            let reply = Reply::Refused {
+                code: refusal.code(),
+                value: refusal.value(),
+            };
+            Ok((Change::Nothing, reply))
+        }
+        Err(PduError::NoMemory) => Err(NoMemory),
+    }
+}
+
+/// The state after a change, made on a copy.
+fn changed(state: &State, change: &Change) -> Result<Next, NoMemory>
+    requires { Allows state.now change.now }
+    ensures { IfOk result (Makes state.now change.now) }
+{
+    if *change == Change::Nothing {
+        return Ok(Next::Here);
+    }
+    let mut next = state.copy()?;
+    next.apply(change)?;
+    Ok(Next::Then(next))
+}
+
+impl<O: Site> Book<O> {
+    /// What has to be seen of a key's numbers before the message in these octets is handled. Octets that are no message
+    /// need nothing.
+    pub fn need(&self, pdu: &[u8]) -> Result<Need, NoMemory>
+        requires { KeepsRules self.now.state }
+        ensures { IfOk result (IsNeedOf self.entry.now.state pdu.now) }
+    {
+        match read_pdu(*self.entries.allocator(), pdu) {
+            Ok(command) => Ok(judge(&self.state, &command)),
+            Err(PduError::Fault(_)) => Ok(Need::Nothing),
+            Err(PduError::NoMemory) => Err(NoMemory),
+        }
+    }
+
+    /// Handles the record with this number, whose octets are a message of a command, with what was seen of a key's
+    /// numbers (CCSDS 355.1-B). Answers the reply and its position. A refused command makes an entry too.
+    ///
+    /// Memory is asked for before the first call on the site: the change is made on a copy of the state, which takes the
+    /// state's place once the change is stored.
+    pub fn command(&mut self, index: u64, pdu: &[u8], seen: Seen) -> Result<(Reply, u64), BookFault>
+        requires kept { IsKept O.told O.trace O.faults self.old }
+        requires seen { (need : Need) → IsNeedOf self.old.state pdu.now need → Fits self.old.state need seen }
+        ensures kept { IsKept O.told O.trace O.faults self.new }
+        ensures made { MatchResult result
+            (λ answer. Handles O.faults index pdu.now seen self.old self.new answer.0 answer.1)
+            (RefusesMessage O.faults index pdu.now seen self.old self.new) }
+        ensures later { O.faults self.old.site ≤ O.faults self.new.site }
+    {
+        self.may_enter()?;
+        let Ok((change, reply)) = step_of(*self.entries.allocator(), &self.state, pdu, &seen) else {
+            return Err(BookFault::NoMemory);
+        };
+        let Ok(next) = changed(&self.state, &change) else {
+            return Err(BookFault::NoMemory);
+        };
+        let entry = Entry {
+            index: Some(index),
+            seen,
+            change,
+        };
+        match self.commit(entry, next) {
+            Ok(position) => Ok((reply, position)),
+            Err(fault) => Err(fault),
+        }
+    }
+}
