@@ -1,10 +1,8 @@
 -- What is put together from a clear frame is its protected frame.
-use Rattle.std.proofs.Common.{◌≡◌, ℕ, false, ◌+◌, ◌-◌, ◌*◌, ◌/◌, ◌^◌, ◌≤◌, ◌<◌, List, [], ◌++◌, length, refl, sym, ap, ◌∙◌, subst, arith, append-nil, append_assoc, length-append}
+use Rattle.std.proofs.Common.{◌≡◌, ℕ, false, ◌+◌, ◌-◌, ◌*◌, ◌/◌, ◌^◌, ◌≤◌, List, [], ◌++◌, length, refl, sym, ap, ◌∙◌, subst, arith, append-nil, append_assoc, length-append}
 use Rattle.std.specs.Prelude.{unwrap_or}
 use Rattle.std.specs.Option.{option_to_list}
-use Rattle.std.specs.Int.{w64, to_be_bytes}
 use Rattle.sdls_base.specs.declared.states.Suite.{Suite}
-use Rattle.sdls_base.specs.declared.states.Suite.TheVariants.{Cmac, Gcm}
 use Rattle.sdls_base.specs.declared.layout.TcLayout.{TcLayout}
 use Rattle.sdls_base.specs.declared.layout.TmLayout.{TmLayout}
 use Rattle.sdls_base.specs.declared.layout.AosLayout.{AosLayout}
@@ -14,7 +12,6 @@ use Rattle.sdls_base.specs.ErrorControl.{with_error_control}
 use Rattle.sdls_base.proofs.Endings.{length-with_error_control}
 use Rattle.sdls_base.proofs.FieldLemmas.{cells_five}
 use Rattle.sdls_header.specs.declared.pieces.Vector.{Vector}
-use Rattle.sdls_header.specs.declared.pieces.Vector.TheVariants.{Sequence, Wide}
 use Rattle.sdls_header.specs.SecurityHeader.{Pieces, IsVectorOf, header_octets}
 use Rattle.tc_frame.specs.TcFrame as tc_frames
 use Rattle.tm_frame.specs.TmFrame as tm_frames
@@ -153,12 +150,6 @@ framed suite (Aos layout) (aos p) clear room bounds is longer = record {
   spelled = refl;
 }
 
-header_long : (suite : Suite) (b : Binding) (vector : Vector) → IsVectorOf suite vector → 2 < length (header_octets (header_of b vector))
-header_long Cmac b (Sequence n) kind = omega arith
-header_long Cmac b (Wide device n) kind = absurd kind
-header_long Gcm b (Sequence n) kind = absurd kind
-header_long Gcm b (Wide device n) kind = omega (arith, length-append device (to_be_bytes w64 n))
-
 -- the pieces of the room that is put together
 abbrev pub pieces_for : Binding → Vector → List ℕ → List ℕ → Pieces
 pieces_for b vector prefix field =
@@ -169,14 +160,11 @@ pub secured_for : (b : Binding) (vector : Vector) (prefix field : List ℕ) → 
     → IsSecured b prefix (room_for b vector prefix field) (pieces_for b vector prefix field) field
 secured_for b vector prefix field kind =
     let p : Pieces = pieces_for b vector prefix field in
-    let head : List ℕ = header_octets (header_of b vector) in
-    let long : 2 < length head = header_long b.suite b vector kind in
     record {
       split = record {
         whole = sym (append_assoc p.header p.field p.mac);
         header = refl;
         kind = kind;
-        index = omega (arith, long, length-append head (p.field ++ p.mac));
         mac = length-sealed b.schedule vector (covered b prefix vector) field;
       };
       header = refl;

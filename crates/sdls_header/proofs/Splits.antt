@@ -1,5 +1,5 @@
 -- A room splits in one way.
-use Rattle.std.proofs.Common.{◌≡◌, ℕ, ◌+◌, List, [], ◌∷◌, ◌++◌, length, take, drop, get_or, refl, sym, ◌∙◌, ap, arith, append_assoc, length-append}
+use Rattle.std.proofs.Common.{◌≡◌, ℕ, ◌+◌, ◌≤◌, List, [], ◌∷◌, ◌++◌, length, take, drop, get_or, refl, sym, ◌∙◌, ap, arith, append_assoc, length-append}
 use Rattle.std.specs.Int.{w32, w64, to_be_bytes, from_be_bytes}
 use Rattle.std.proofs.lemmas.List.{length-take-le}
 use Rattle.std.proofs.lemmas.Nat.{from_be_bytes-to_be_bytes_4, from_be_bytes-to_be_bytes_8}
@@ -42,7 +42,9 @@ same_pieces a b c d = λ i. record { header = a i; vector = b i; field = c i; ma
 
 header_length : (suite : Suite) (room : List ℕ) (p : Pieces) → SplitsInto suite room p → length p.header + 16 ≡ overhead_of suite
 header_length suite room p is =
-    omega (arith, ap length is.header, length-append (take 2 room) (vector_octets p.vector), length-take-le 2 room (omega (arith, is.index)), vector_length suite p.vector is.kind)
+    let long : 2 ≤ length room =
+    omega (arith, ap length is.whole, length-append (p.header ++ p.field) p.mac, length-append p.header p.field, is.mac) in
+    omega (arith, ap length is.header, length-append (take 2 room) (vector_octets p.vector), length-take-le 2 room long, vector_length suite p.vector is.kind)
 
 pub one_split : (suite : Suite) (room : List ℕ) (p q : Pieces) → SplitsInto suite room p → SplitsInto suite room q → p ≡ q
 one_split suite room p q a b =

@@ -39,5 +39,4 @@ pub record SplitsInto (suite : Suite) (room : List ℕ) (p : Pieces) : Type 0 wh
   pub whole : room ≡ p.header ++ p.field ++ p.mac
   pub header : p.header ≡ take 2 room ++ vector_octets p.vector
   pub kind : IsVectorOf suite p.vector
-  pub index : 2 < length room
   pub mac : length p.mac ≡ 16
