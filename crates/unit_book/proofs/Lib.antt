@@ -4,6 +4,4 @@ pub mod Serving
 pub mod Keeping
 pub mod Fresh
 pub mod Opened
-pub mod Marking
 pub mod Released
-pub mod Accepted

@@ -10,7 +10,8 @@ use Rattle.unit_state.specs.declared.state.State.{State}
 use Rattle.unit_state.specs.Applied.{applied}
 use Rattle.unit_book.specs.declared.fault.BookFault.{BookFault}
 use Rattle.unit_book.specs.Book.{BookView, Made, Refuses}
-use Rattle.unit_book.specs.Numbers.{release_of, release_at, releases, AllMade, Releases}
+use Rattle.unit_history.specs.Numbers.{release_of, release_at, releases}
+use Rattle.unit_book.specs.Numbers.{AllMade, Releases}
 
 -- the releases before a place are made, and those from it on are what is left
 pub record SoFar {O : Type 0} (faults : O → ℕ) (words : List ℕ) (place : ℕ) (old mid : BookView O) : Type 0 where

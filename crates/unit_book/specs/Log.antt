@@ -1,6 +1,5 @@
 -- The log of a run: its entries and the pieces that it put, in order.
 use Rattle.std.specs.Prelude.{ℕ, List, [], ◌∷◌, ◌++◌, length, drop}
-use Rattle.sdls_base.specs.declared.entry.Entry.{Entry}
 use Rattle.sdls_base.specs.declared.entry.Logged.{Logged}
 use Rattle.sdls_base.specs.declared.entry.Logged.TheVariants as logged
 use Rattle.sdls_outside.specs.Moments.{Trace}
@@ -14,14 +13,3 @@ abbrev pub lines : {O : Type 0} → (O → Trace) → Log O → List Logged
 lines trace Begun = []
 lines trace (Entered' marker log entry) = lines trace log ++ logged.Entry entry.value ∷ []
 lines trace (Put' marker log before now) = lines trace log ++ logged.Piece (sunk_between (trace before.value) (trace now.value)) ∷ []
-
--- the entries of a log, and the octets of its pieces
-abbrev pub entries_of : List Logged → List Entry
-entries_of [] = []
-entries_of (logged.Entry entry ∷ log) = entry ∷ entries_of log
-entries_of (logged.Piece octets ∷ log) = entries_of log
-
-abbrev pub pieces_of : List Logged → List ℕ
-pieces_of [] = []
-pieces_of (logged.Entry entry ∷ log) = pieces_of log
-pieces_of (logged.Piece octets ∷ log) = octets ++ pieces_of log

@@ -1,55 +1,14 @@
--- The entries that frames and commands make (CCSDS 355.0-B, ProcessSecurity; 355.1-B, procedures; numbers profile).
-use Rattle.std.specs.Prelude.{◌≡◌, ℕ, ◌+◌, ◌-◌, min, nat_lt, if◌then◌else◌, ◌⊎◌, List, Option, Some, None}
-use Rattle.sdls_base.specs.KeyId.{end_of}
+-- How a book handles frames and commands (CCSDS 355.0-B, ProcessSecurity; 355.1-B, procedures).
+use Rattle.std.specs.Prelude.{◌≡◌, ℕ, ◌⊎◌, List}
 use Rattle.sdls_base.specs.declared.change.Change.{Change}
-use Rattle.sdls_base.specs.declared.change.Change.TheVariants as changes
-use Rattle.sdls_base.specs.declared.entry.Entry.{Entry}
 use Rattle.sdls_base.specs.declared.entry.Seen.{Seen}
-use Rattle.sdls_base.specs.declared.entry.Seen.TheVariants as seens
-use Rattle.unit_plan.specs.PlanLines.{PlanLines}
-use Rattle.unit_state.specs.declared.state.State.{State}
 use Rattle.frame_checks.specs.declared.open_reply.OpenReply.{OpenReply}
-use Rattle.frame_checks.specs.declared.open_reply.OpenReply.TheVariants as opens
 use Rattle.frame_checks.specs.Opening.{IsOpenReply}
-use Rattle.ep_codec.specs.declared.command.Command.{Command}
-use Rattle.ep_codec.specs.Command.{IsCommandPdu}
-use Rattle.ep_codec.specs.MessageFault.{command_fault}
-use Rattle.ep_core.specs.declared.need.Need.{Need}
-use Rattle.ep_core.specs.declared.need.Need.TheVariants as needs
-use Rattle.ep_core.specs.declared.refusal.Refusal.TheVariants as refusals
 use Rattle.ep_core.specs.declared.reply.Reply.{Reply}
-use Rattle.ep_core.specs.Need.{need_of}
-use Rattle.ep_core.specs.Step.{IsStep, refused}
+use Rattle.unit_history.specs.Entries.{frame_entry, record_entry, IsStepOf}
 use Rattle.unit_book.specs.declared.fault.BookFault.{BookFault}
 use Rattle.unit_book.specs.declared.fault.BookFault.TheVariants as faults
 use Rattle.unit_book.specs.Book.{BookView, CanEnter, IsBarred, IsUnstored, Made}
-use Rattle.unit_book.specs.Numbers.{floor_of}
-
--- The floor of a key once a number was accepted: where the number is above it, the lesser of number plus `accept` less 1 and
--- the last number below the key's end.
-abbrev pub raised_floor : PlanLines → State → ℕ → ℕ → ℕ
-raised_floor plan state key number =
-    if nat_lt (floor_of state key) number then min (number + plan.accept - 1) (end_of key - 1) else floor_of state key
-
--- what a frame changes, by the reply to it
-abbrev pub frame_change : PlanLines → State → OpenReply → Change
-frame_change plan state (opens.Accepted spi key number from to) = changes.Accepted spi key number (raised_floor plan state key number)
-frame_change plan state opens.Clear = changes.Nothing
-frame_change plan state (opens.Layout number) = changes.Nothing
-frame_change plan state opens.Channel = changes.Nothing
-frame_change plan state opens.Spi = changes.Nothing
-frame_change plan state opens.Direction = changes.Nothing
-frame_change plan state (opens.State held) = changes.Nothing
-frame_change plan state opens.Coverage = changes.Nothing
-frame_change plan state opens.Mac = changes.Nothing
-frame_change plan state (opens.Number key number high width) = changes.Nothing
-
--- the entry of the record with this number
-abbrev pub record_entry : ℕ → Seen → Change → Entry
-record_entry index seen change = record { index = Some index; seen = seen; change = change }
-
-abbrev pub frame_entry : PlanLines → State → ℕ → OpenReply → Entry
-frame_entry plan state index reply = record_entry index seens.Nothing (frame_change plan state reply)
 
 -- the frame was opened with this reply, as the checks answer in the state before, and made its entry
 pub record Opens {O : Type 0} (faults_of : O → ℕ) (index link : ℕ) (frame field : List ℕ) (old new : BookView O) (reply : OpenReply) (position : ℕ) : Type 0 where
@@ -61,16 +20,6 @@ abbrev pub RefusesFrame : {O : Type 0} → (O → ℕ) → ℕ → ℕ → List 
 RefusesFrame faults_of index link frame old new fault = (IsBarred faults_of old fault × (new ≡ old))
     ⊎ (CanEnter faults_of old × ((reply : OpenReply) × (field : List ℕ) × IsOpenReply old.plan old.state link frame reply field
     × IsUnstored faults_of (frame_entry old.plan old.state index reply) old new fault))
-
--- the need of a message: that of the command that it spells; octets that spell none need nothing
-abbrev pub IsNeedOf : State → List ℕ → Need → Type 0
-IsNeedOf state octets need = ((command : Command) × IsCommandPdu command octets × (need ≡ need_of state command))
-    ⊎ ((offset : ℕ) × (command_fault octets ≡ Some offset) × (need ≡ needs.Nothing))
-
--- the step of a message: that of the command that it spells; octets that spell none are refused with their first fault
-abbrev pub IsStepOf : State → List ℕ → Seen → Change × Reply → Type 0
-IsStepOf state octets seen step = ((command : Command) × IsCommandPdu command octets × IsStep state command seen step)
-    ⊎ ((offset : ℕ) × (command_fault octets ≡ Some offset) × (step ≡ refused (refusals.PduFault offset)))
 
 -- the message was handled in the state before, with this reply, and made its entry
 pub record Handles {O : Type 0} (faults_of : O → ℕ) (index : ℕ) (octets : List ℕ) (seen : Seen) (old new : BookView O) (reply : Reply) (position : ℕ) : Type 0 where

@@ -6,7 +6,8 @@ ghost use Rattle.unit_state.specs.Allows.{Allows};
 ghost use Rattle.unit_state.specs.Restart.{IsLight};
 ghost use Rattle.frame_checks.specs.Accepting.{field_in, Leaves, MayBeAccepted, OnAccepted};
 ghost use Rattle.unit_book.specs.Book.{IsKept};
-ghost use Rattle.unit_book.specs.Records.{raised_floor, frame_change, Opens, RefusesFrame};
+ghost use Rattle.unit_history.specs.Entries.{raised_floor, frame_change};
+ghost use Rattle.unit_book.specs.Records.{Opens, RefusesFrame};
 
 use crate::book::Book;
 use crate::fault::BookFault;

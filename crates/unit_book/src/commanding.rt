@@ -6,7 +6,8 @@ ghost use Rattle.unit_state.specs.State.{KeepsRules};
 ghost use Rattle.unit_state.specs.Applied.{applied};
 ghost use Rattle.unit_state.specs.Allows.{Allows};
 ghost use Rattle.unit_book.specs.Book.{IsKept, Makes};
-ghost use Rattle.unit_book.specs.Records.{IsNeedOf, IsStepOf, Handles, RefusesMessage};
+ghost use Rattle.unit_history.specs.Entries.{IsNeedOf, IsStepOf};
+ghost use Rattle.unit_book.specs.Records.{Handles, RefusesMessage};
 
 use crate::book::Book;
 use crate::fault::BookFault;

@@ -3,7 +3,7 @@ ghost use Rattle.std.specs.Prelude.{◌≡◌, ℕ, ◌+◌, ◌<◌, ◌≤◌,
 ghost use Rattle.sdls_base.specs.KeyId.{end_of};
 ghost use Rattle.unit_state.specs.State.{key_row};
 ghost use Rattle.unit_book.specs.Book.{IsKept, Made, Refuses};
-ghost use Rattle.unit_book.specs.Numbers.{mark_of, floor_of, reserve_of};
+ghost use Rattle.unit_history.specs.Numbers.{mark_of, floor_of, reserve_of};
 
 use crate::book::Book;
 use crate::fault::BookFault;

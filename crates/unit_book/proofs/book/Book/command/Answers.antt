@@ -2,7 +2,7 @@ use Rattle.std.proofs.Common.{sym, subst}
 use Rattle.ep_core.specs.declared.need.Need.{Need}
 use Rattle.ep_core.specs.Seen.{Fits}
 use Rattle.unit_book.specs.Book.{BookView}
-use Rattle.unit_book.specs.Records.{IsNeedOf}
+use Rattle.unit_history.specs.Entries.{IsNeedOf}
 use Rattle.unit_book.proofs.book.Book.command.Goals as goal
 
 pub step_of-requires-clause-seen : goal.step_of-requires-clause-seen

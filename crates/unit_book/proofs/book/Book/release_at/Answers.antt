@@ -1,7 +1,7 @@
 use Rattle.std.proofs.Common.{sym, ap, ◌∙◌}
 use Rattle.unit_book.specs.Book.{BookView}
-use Rattle.unit_book.specs.Numbers.{release_at}
-use Rattle.unit_book.proofs.Marking.{release_allowed}
+use Rattle.unit_history.specs.Numbers.{release_at}
+use Rattle.unit_history.proofs.Marking.{release_allowed}
 use Rattle.unit_book.proofs.book.Book.release_at.Goals as goal
 
 pub commit-requires-clause-allows : goal.commit-requires-clause-allows

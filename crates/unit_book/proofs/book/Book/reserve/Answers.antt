@@ -1,10 +1,21 @@
-use Rattle.std.proofs.Common.{sym, ap, ◌∙◌, subst}
+use Rattle.std.proofs.Common.{◌≡◌, ℕ, Result, Ok, Err, sym, ap, ◌∙◌, subst}
 use Rattle.sdls_base.specs.declared.entry.Entry.{Entry}
 use Rattle.unit_state.specs.Applied.{applied}
 use Rattle.unit_state.specs.Allows.{Allows}
+use Rattle.unit_history.proofs.Marking.{reserve_allowed, mark_above}
+use Rattle.unit_book.specs.declared.fault.BookFault.{BookFault}
 use Rattle.unit_book.specs.Book.{BookView}
-use Rattle.unit_book.proofs.Marking.{reserve_allowed, mark_above, ok_same}
 use Rattle.unit_book.proofs.book.Book.reserve.Goals as goal
+
+abbrev ok_or : Result ℕ BookFault → ℕ
+ok_or (Ok value) = value
+ok_or (Err fault) = 0
+
+abbrev ok_is : ℕ → Result ℕ BookFault
+ok_is value = Ok value
+
+ok_same : (a b : ℕ) → ok_is a ≡ ok_is b → a ≡ b
+ok_same a b same = ap ok_or same
 
 pub commit-requires-clause-allows : goal.commit-requires-clause-allows
 commit-requires-clause-allows g c = subst (λ (entry : Entry). Allows c.args.self.now.state entry.change) (sym c.reserve_entry-entry.ensures.entry)

@@ -1,5 +1,5 @@
 -- Reserves and releases are changes that the state allows.
-use Rattle.std.proofs.Common.{◌≡◌, ℕ, zero, suc, ◌+◌, ◌<◌, ◌≤◌, min, Bool, true, false, cond, ◌&&◌, nat_eq, List, [], ◌∷◌, Option, Some, None, IsSome, Result, Ok, Err, refl, sym, ◌∙◌, ap, subst, arith}
+use Rattle.std.proofs.Common.{◌≡◌, ℕ, zero, suc, ◌+◌, ◌<◌, ◌≤◌, min, Bool, true, false, cond, ◌&&◌, nat_eq, List, [], ◌∷◌, Option, Some, None, IsSome, refl, sym, ◌∙◌, ap, subst, arith}
 use Rattle.std.specs.List.{slice_get}
 use Rattle.std.specs.Option.{option_map, option_map_or, option_and_then}
 use Rattle.std.proofs.lemmas.Bool.{false≢true}
@@ -24,8 +24,7 @@ use Rattle.unit_state.specs.Applied.{applied}
 use Rattle.unit_state.specs.Allows.{Allows}
 use Rattle.unit_state.proofs.Found.{found, found_passes, held_rules}
 use Rattle.unit_state.proofs.Held.{row_of_changed}
-use Rattle.unit_book.specs.declared.fault.BookFault.{BookFault}
-use Rattle.unit_book.specs.Numbers.{mark_of, floor_of, reserve_of, released_floor, is_released, release_of, release_at}
+use Rattle.unit_history.specs.Numbers.{mark_of, floor_of, reserve_of, released_floor, is_released, release_of, release_at}
 
 equal_number : (a b : ℕ) → nat_eq a b ≡ true → a ≡ b
 equal_number a b h = grind (arith, nat_tests)
@@ -123,6 +122,19 @@ release_by state word held true entry is = absurd (none-some entry is)
 release_by state word held false entry is = ap (λ (e : Entry). e.change) (sym (same_Some _ entry is))
 
 -- the release of a key is allowed
+pub release_of_allowed : (state : State) (word : ℕ) (held : KeyRow) (entry : Entry) → KeepsRules state → IsKeyRow held → IsSome (key_row state held.id)
+    → 1 ≤ word → release_of state word held ≡ Some entry → Allows state entry.change
+release_of_allowed state word held entry rules row there some is =
+    subst (Allows state) (sym (release_by state word held (is_released state held word) entry is))
+    (let from_one : 1 ≤ held.mark = row.mark_from_one in
+    let to_end : held.mark ≤ end_of held.id = row.mark_to_end in
+    record {
+      there = there;
+      from_one = omega arith;
+      to_end = omega arith;
+      below_end = released_below state held rules row.floor_below_end;
+    })
+
 pub release_allowed : (state : State) (place word : ℕ) (entry : Entry) → KeepsRules state → 1 ≤ word → release_at state place word ≡ Some entry
     → Allows state entry.change
 release_allowed state place word entry rules some is = by (slice_get state.keys place) refl is
@@ -131,24 +143,7 @@ release_allowed state place word entry rules some is = by (slice_get state.keys 
         → Allows state entry.change
     by None there e = absurd (none-some entry e)
     by (Some held) there e =
-        let row : IsKeyRow held = subst IsKeyRow (get_or_from_slice_get state.keys place held held there)
-        (rules.keys.rules.each place held (slice_get_within state.keys place held there)) in
-        subst (Allows state) (sym (release_by state word held (is_released state held word) entry e))
-        (let from_one : 1 ≤ held.mark = row.mark_from_one in
-        let to_end : held.mark ≤ end_of held.id = row.mark_to_end in
-        record {
-          there = there_at state.keys place held there;
-          from_one = omega arith;
-          to_end = omega arith;
-          below_end = released_below state held rules row.floor_below_end;
-        })
-
-abbrev ok_or : Result ℕ BookFault → ℕ
-ok_or (Ok value) = value
-ok_or (Err fault) = 0
-
-abbrev ok_is : ℕ → Result ℕ BookFault
-ok_is value = Ok value
-
-pub ok_same : (a b : ℕ) → ok_is a ≡ ok_is b → a ≡ b
-ok_same a b same = ap ok_or same
+        release_of_allowed state word held entry rules
+        (subst IsKeyRow (get_or_from_slice_get state.keys place held held there)
+        (rules.keys.rules.each place held (slice_get_within state.keys place held there)))
+        (there_at state.keys place held there) some e

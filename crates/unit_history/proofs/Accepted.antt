@@ -1,5 +1,5 @@
 -- The acceptance of a number is a change that the state allows.
-use Rattle.std.proofs.Common.{◌≡◌, ℕ, ◌+◌, ◌-◌, ◌<◌, ◌≤◌, min, Bool, true, false, cond, nat_lt, Option, Some, None, IsSome, IsSomeAnd, refl, sym, ap, subst, arith}
+use Rattle.std.proofs.Common.{◌≡◌, ℕ, ◌+◌, ◌-◌, ◌<◌, ◌≤◌, min, Bool, true, false, cond, nat_lt, Option, IsSomeAnd, refl, sym, ap, subst, arith}
 use Rattle.std.specs.Option.{option_map_or}
 use Rattle.std.proofs.lemmas.Bool.Decides.{nat_tests}
 use Rattle.sdls_base.specs.KeyId.{end_of}
@@ -8,14 +8,14 @@ use Rattle.sdls_base.specs.declared.change.Change.TheVariants as changes
 use Rattle.key_book.specs.declared.key_row.KeyRow.{KeyRow}
 use Rattle.unit_plan.specs.PlanLines.{PlanLines}
 use Rattle.unit_state.specs.declared.state.State.{State}
-use Rattle.unit_state.specs.State.{KeepsRules, key_row}
+use Rattle.unit_state.specs.State.{KeepsRules}
 use Rattle.unit_state.specs.Allows.{Allows}
 use Rattle.frame_checks.specs.declared.open_reply.OpenReply.{OpenReply}
 use Rattle.frame_checks.specs.declared.open_reply.OpenReply.TheVariants as opens
 use Rattle.frame_checks.specs.Accepting.{MayBeAccepted}
-use Rattle.unit_book.specs.Numbers.{floor_of}
-use Rattle.unit_book.specs.Records.{raised_floor, frame_change}
-use Rattle.unit_book.proofs.Marking.{IsThere, is_there, floor_below}
+use Rattle.unit_history.specs.Numbers.{floor_of}
+use Rattle.unit_history.specs.Entries.{raised_floor, frame_change}
+use Rattle.unit_history.proofs.Marking.{IsThere, is_there, floor_below}
 
 -- a floor that is raised covers the number, and lies below the end
 record IsRaised (floor number end raised : ℕ) : Type 0 where

@@ -1,0 +1,4 @@
+pub mod Numbers
+pub mod Entries
+pub mod Log
+pub mod Stored
