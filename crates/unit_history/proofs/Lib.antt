@@ -1,2 +1,5 @@
 pub mod Marking
 pub mod Accepted
+pub mod Legal
+pub mod Marks
+pub mod Taken

@@ -2,3 +2,11 @@ pub mod Numbers
 pub mod Entries
 pub mod Log
 pub mod Stored
+pub mod Legal
+pub mod Counts
+pub mod Run
+pub mod Protecting
+pub mod Answers
+pub mod Fits
+pub mod Taken
+pub mod Laws

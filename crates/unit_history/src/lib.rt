@@ -1,5 +1,10 @@
 //! The histories of a run, told by states, records and entries alone: what each entry of a frame, a message, a reserve and a
-//! release says, and which histories are legal.
+//! release says, which histories are legal, and when an answer fits its record.
 //!
-//! There is no code to run here: definitions stand in `specs`, and the functions are laws over them, with an empty body.
+//! There is no code to run here: definitions stand in `specs`, and the functions are laws over them, with an empty body. Read
+//! `specs/Legal.antt` and `specs/Fits.antt` first.
 #![tactic(auto)]
+
+mod entries;
+
+pub use entries::{legal_is_allowed, numbers_rise, release_is_allowed, release_stays_above};

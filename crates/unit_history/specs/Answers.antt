@@ -1,0 +1,80 @@
+-- What answers tell, but for their positions (profile).
+use Rattle.std.specs.Prelude.{◌≡◌, ◌≢◌, ℕ, ◌⊎◌, List, [], ◌++◌, Option, Some, None, Ok, Err, unwrap_or}
+use Rattle.std.specs.Int.{w64, to_be_bytes}
+use Rattle.frame_shield.specs.declared.protecting.ShieldFault.{ShieldFault}
+use Rattle.frame_shield.specs.declared.protecting.ShieldFault.TheVariants as faults
+use Rattle.frame_checks.specs.declared.open_reply.OpenReply.{OpenReply}
+use Rattle.frame_checks.specs.declared.open_reply.OpenReply.TheVariants as opens
+use Rattle.frame_checks.specs.Protecting as protecting
+use Rattle.ep_codec.specs.Field.{sa_state_code}
+use Rattle.ep_core.specs.declared.reply.Reply.{Reply}
+use Rattle.ep_core.specs.declared.reply.Reply.TheVariants as replies
+use Rattle.record_io.specs.declared.answers.Answer.{Answer}
+use Rattle.record_io.specs.declared.code.TheConstants.{PROTECTED, ACCEPTED, CLEAR, DONE, REFUSED, LAYOUT, CHANNEL, SPI, DIRECTION, STATE, COVERAGE, MAC, NUMBER}
+
+-- all fields of an answer but its position
+pub record Told : Type 0 where
+  pub code : ℕ
+  pub detail : ℕ
+  pub key : ℕ
+  pub number : ℕ
+  pub body : List ℕ
+
+abbrev pub told_by : Answer → Told
+told_by answer = record {
+  code = answer.code;
+  detail = answer.detail;
+  key = answer.key;
+  number = answer.number;
+  body = answer.body;
+}
+
+-- a code and its detail; the number is that of the code alone
+abbrev pub counting : ℕ → ℕ → ℕ → Told
+counting code detail number = record { code = code; detail = detail; key = 0; number = number; body = [] }
+
+abbrev pub plain : ℕ → ℕ → Told
+plain code detail = counting code detail 0
+
+-- a number of a key, and the octets that go with it
+abbrev pub numbered : ℕ → ℕ → ℕ → List ℕ → Told
+numbered code key number body = record { code = code; detail = 0; key = key; number = number; body = body }
+
+-- of a frame that was opened, by the reply of the checks and the data field
+abbrev pub opened_told : OpenReply → List ℕ → Told
+opened_told (opens.Accepted spi key number from to) field = numbered ACCEPTED key number field
+opened_told opens.Clear field = plain CLEAR 0
+opened_told (opens.Layout fault) field = plain LAYOUT fault
+opened_told opens.Channel field = plain CHANNEL 0
+opened_told opens.Spi field = plain SPI 0
+opened_told opens.Direction field = plain DIRECTION 0
+opened_told (opens.State held) field = plain STATE (sa_state_code held)
+opened_told opens.Coverage field = plain COVERAGE 0
+opened_told opens.Mac field = plain MAC 0
+opened_told (opens.Number key number high width) field =
+    numbered NUMBER key number (to_be_bytes w64 high ++ to_be_bytes w64 width)
+
+-- of a command, by the reply; 0 stands for no key
+abbrev pub replied_told : Reply → Told
+replied_told (replies.Done key number pdu) = numbered DONE (unwrap_or key 0) number pdu
+replied_told (replies.Refused code value) = counting REFUSED code value
+
+-- of a frame that is not protected, by its checks; of one that is bound they tell no answer
+abbrev pub fault_told : ShieldFault → Told
+fault_told (faults.Layout fault) = plain LAYOUT fault
+fault_told faults.Channel = plain CHANNEL 0
+fault_told faults.State = plain STATE 0
+
+abbrev pub unbound_told : protecting.Answer → Option Told
+unbound_told (Ok None) = Some (plain CLEAR 0)
+unbound_told (Ok (Some binding)) = None
+unbound_told (Err fault) = Some (fault_told fault)
+
+-- the answer uses the number under the key: a frame protected, or a command done that drew it
+abbrev pub Uses : Answer → ℕ → ℕ → Type 0
+Uses answer key number = ((answer.code ≡ PROTECTED) ⊎ ((answer.code ≡ DONE) × (answer.key ≢ 0)))
+    × (answer.key ≡ key) × (answer.number ≡ number)
+
+-- the answer accepts the number under the key
+abbrev pub Accepts : Answer → ℕ → ℕ → Type 0
+Accepts answer key number = (answer.code ≡ ACCEPTED) × (answer.key ≡ key) × (answer.number ≡ number)
