@@ -2,4 +2,5 @@ pub mod Marking
 pub mod Accepted
 pub mod Legal
 pub mod Marks
-pub mod Taken
+pub mod Highs
+pub mod Accepting

@@ -98,6 +98,10 @@ pub record IsRelease (near : ℕ → ℕ → Type 0) (state : State) (entry : En
   pub is_near : near held.id word
   pub releases : release_of state word held ≡ Some entry
 
+-- an entry of any kind
+abbrev pub IsEntry : (ℕ → ℕ → Type 0) → PlanLines → State → List Record → Entry → Type 0
+IsEntry near plan state records entry = IsLegal near plan state records entry ⊎ IsRelease near state entry
+
 -- the entry at this place of the log, if the line is one, is legal in the state before it
 abbrev pub IsLegalAt : (ℕ → ℕ → Type 0) → PlanLines → State → List Record → List Logged → ℕ → Type 0
 IsLegalAt near plan start records log place = (entry : Entry) → slice_get log place ≡ Some (logged.Entry entry)

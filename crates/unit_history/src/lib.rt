@@ -6,5 +6,10 @@
 #![tactic(auto)]
 
 mod entries;
+mod taken;
 
 pub use entries::{legal_is_allowed, numbers_rise, release_is_allowed, release_stays_above};
+pub use taken::{
+    acceptance_takes, kept_floor_rises, taken_from_the_start, taken_is_refused, taken_stays,
+    taken_up_to_the_floor,
+};

@@ -45,7 +45,7 @@ IsUpTo key number row = receives_with key row ≡ true → number ≤ row.window
 -- ---- rows
 
 -- an association that receives with a key
-record IsReceiver (key : ℕ) (row : SaRow) : Type 0 where
+pub record IsReceiver (key : ℕ) (row : SaRow) : Type 0 where
   pub direction : row.direction ≡ Receive
   pub own : row.key ≡ Some key
 
@@ -56,16 +56,16 @@ receiver_by row key Receive (Some other) direction own test =
 receiver_by row key Receive None direction own test = absurd cc
 receiver_by row key Send own direction own_is test = absurd cc
 
-receiver : (key : ℕ) (row : SaRow) → receives_with key row ≡ true → IsReceiver key row
+pub receiver : (key : ℕ) (row : SaRow) → receives_with key row ≡ true → IsReceiver key row
 receiver key row test = receiver_by row key row.direction row.key refl refl test
 
-receives : (key : ℕ) (row : SaRow) → IsReceiver key row → receives_with key row ≡ true
+pub receives : (key : ℕ) (row : SaRow) → IsReceiver key row → receives_with key row ≡ true
 receives key row is =
     ap (λ (direction : Direction). is_receiving direction && is_key key row.key) is.direction
     ∙ ap (λ (own : Option ℕ). is_key key own) is.own ∙ number_test key key refl
 
 -- at most one association receives with a key
-one_receiver : (rows : List SaRow) (key i k : ℕ) (d : SaRow) → IsSaBook rows → i < length rows → k < length rows
+pub one_receiver : (rows : List SaRow) (key i k : ℕ) (d : SaRow) → IsSaBook rows → i < length rows → k < length rows
     → receives_with key (get_or rows i d) ≡ true → receives_with key (get_or rows k d) ≡ true → k ≡ i
 one_receiver rows key i k d ok at_i at_k one other =
     let a = receiver key (get_or rows i d) one in
