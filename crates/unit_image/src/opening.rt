@@ -41,6 +41,7 @@ fn inspect_opened<O: Site>(
         plan_of (held (O.trace site.old).now.image).plan ≡ Ok opened.plan) }
     ensures rules { IfOk result (λ opened. KeepsRules opened.state) }
     ensures same { IsTrue O.told → O.trace site.new ≡ O.trace site.old }
+    ensures puts { O.put_faults site.new ≡ O.put_faults site.old }
     ensures fault { HasOpenFault (O.faults site.old) (O.faults site.new)
         (λ offset. IsTrue O.told → ShowsNone (O.trace site.old).now.image offset) result }
 {
@@ -71,6 +72,7 @@ fn inspect<O: Site>(alloc: Global, site: &mut O, room: &mut [u8]) -> Result<Open
     ensures rules { IfOk result (λ opened. KeepsRules opened.state) }
     ensures unchanged { IsTrue O.told → OnlySyncs (O.trace site.old) (O.trace site.new) }
     ensures any_moment { IsTrue O.told → EachImage (O.trace site.old) (O.trace site.new) (Leaves (O.trace site.old).now) }
+    ensures puts { O.put_faults site.new ≡ O.put_faults site.old }
     ensures fault { HasOpenFault (O.faults site.old) (O.faults site.new)
         (λ offset. IsTrue O.told → ShowsNone (O.trace site.old).now.image offset) result }
 {
@@ -91,6 +93,7 @@ fn show<O: Site>(alloc: Global, site: &mut O, room: &mut [u8]) -> Result<Opened,
         plan_of (held (O.trace site.old).now.image).plan ≡ Ok opened.plan) }
     ensures rules { IfOk result (λ opened. KeepsRules opened.state) }
     ensures any_moment { IsTrue O.told → EachMoment (O.trace site.old) (O.trace site.new) (Opening (O.trace site.old)) }
+    ensures puts { O.put_faults site.new ≡ O.put_faults site.old }
     ensures fault { HasOpenFault (O.faults site.old) (O.faults site.new)
         (λ offset. IsTrue O.told → ShowsNone (O.trace site.old).now.image offset
         × OnlySyncs (O.trace site.old) (O.trace site.new)) result }
@@ -130,6 +133,7 @@ pub fn open<O: Site>(alloc: Global, site: &mut O) -> Result<Opened, OpenFault>
     // first closed slot.
     ensures any_moment { IsTrue O.told → EachMoment (O.trace site.old) (O.trace site.new) (Opening (O.trace site.old)) }
     // Only an image that shows no state is refused as one, and nothing is written then.
+    ensures puts { O.put_faults site.new ≡ O.put_faults site.old }
     ensures fault { HasOpenFault (O.faults site.old) (O.faults site.new)
         (λ offset. IsTrue O.told → ShowsNone (O.trace site.old).now.image offset
         × OnlySyncs (O.trace site.old) (O.trace site.new)) result }

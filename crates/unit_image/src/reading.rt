@@ -68,6 +68,7 @@ pub(crate) fn read_plan<O: Site>(
         × (planned.plan.slots ≡ (held (O.trace site.old).now.image).slots)) }
     ensures rules { IfOk result (λ planned. KeepsRules planned.state) }
     ensures same { IsTrue O.told → O.trace site.new ≡ O.trace site.old }
+    ensures puts { O.put_faults site.new ≡ O.put_faults site.old }
     ensures fault { HasOpenFault (O.faults site.old) (O.faults site.new)
         (λ offset. IsTrue O.told → SaysNone (O.trace site.old).now.image (held (O.trace site.old).now.image) offset) result }
 {
@@ -124,6 +125,7 @@ fn take_record<O: Site>(
         (Takes (records (O.trace site.old).now.image) index state.old state.new) }
     ensures rules { KeepsRules state.new }
     ensures same { IsTrue O.told → O.trace site.new ≡ O.trace site.old }
+    ensures puts { O.put_faults site.new ≡ O.put_faults site.old }
     ensures fault { HasOpenFault (O.faults site.old) (O.faults site.new) (λ offset. IsTrue O.told
         → IsUnfit (records (O.trace site.old).now.image) index state.old × (offset ≡ record_at (O.trace site.old).now.image index)) result }
 {
@@ -154,6 +156,7 @@ pub(crate) fn take_records<O: Site>(
         (LeadTo state.old (held (O.trace site.old).now.image).records state.new) }
     ensures rules { KeepsRules state.new }
     ensures same { IsTrue O.told → O.trace site.new ≡ O.trace site.old }
+    ensures puts { O.put_faults site.new ≡ O.put_faults site.old }
     ensures fault { HasOpenFault (O.faults site.old) (O.faults site.new) (λ offset. IsTrue O.told
         → (place : ℕ) × IsBadRecord state.old (held (O.trace site.old).now.image).records place
         × (offset ≡ record_at (O.trace site.old).now.image place)) result }

@@ -8,6 +8,7 @@ use Rattle.unit_image.proofs.reading.take_records.Goals as goal
 pub loop-index-preserved : goal.loop-index-preserved
 loop-index-preserved g c = record {
   later = omega (arith, c.take_record.ensures.fault.later, c.loop-index.invariant.later);
+  puts = c.take_record.ensures.puts ∙ c.loop-index.invariant.puts;
   same = λ told. c.take_record.ensures.same told ∙ c.loop-index.invariant.same told;
   led = λ told. led_next c.args.state.now (records (g.O.Site.trace c.args.site.now).now.image) c.loop-index.index
       c.loop-index.state c.take_record.new.state (c.loop-index.invariant.led told)
