@@ -11,6 +11,7 @@ use Rattle.unit_state.specs.State.{KeepsRules}
 use Rattle.unit_state.specs.Restart.{restarted}
 use Rattle.unit_image.specs.Shows.{Shows}
 use Rattle.unit_book.specs.Book.{ShowsFrom, Serves, IsHistory, IsKept, begun}
+use Rattle.unit_book.proofs.MarksKept.{marks_same}
 use Rattle.unit_book.proofs.Growing.{shows_from_all}
 
 append_nil : (octets : List ℕ) → octets ++ [] ≡ octets
@@ -45,7 +46,9 @@ fresh_kept {O} told trace faults site image plan start journal rules settled sho
   later = omega arith;
   stands = omega arith;
   led = refl;
+  begins = rules;
   rules = rules;
+  marks = λ none. marks_same start;
   room = omega arith;
   epoch = refl;
   whole = λ not. refl;

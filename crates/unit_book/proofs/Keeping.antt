@@ -26,7 +26,9 @@ use Rattle.unit_book.specs.declared.limits.TheConstants.{MOST_ENTRIES}
 use Rattle.unit_history.specs.Log.{entries_of}
 use Rattle.unit_book.specs.Log.{sunk_between}
 use Rattle.unit_history.specs.Stored.{IsStored, stored_count}
+use Rattle.unit_book.specs.Marks.{is_release, HasNoRelease, KeepsMarks}
 use Rattle.unit_book.specs.Book.{BookView, IsCurrent, IsCounted, IsKept, CanEnter, Enters, entered, left_out, with_put}
+use Rattle.unit_book.proofs.MarksKept.{no_release_last, marks_then}
 use Rattle.unit_book.proofs.Growing.{after_entry, first_same, first_all, says_held}
 use Rattle.unit_book.proofs.Serving.{piece_entries, entry_entries, puts_history, piece_current, NextEntry, IsGrowing, failed_history, stored_history, unstored_history}
 
@@ -67,7 +69,9 @@ kept_put {O} told trace faults octets old site low puts kept =
       later = omega arith;
       stands = subst (λ (entries : List Entry). old.standing ≤ length entries) (sym same) kept.stands;
       led = subst (λ (entries : List Entry). old.state ≡ after_first old.start entries old.standing) (sym same) kept.led;
+      begins = kept.begins;
       rules = kept.rules;
+      marks = subst (λ (entries : List Entry). HasNoRelease entries → KeepsMarks old.start old.state) (sym same) kept.marks;
       room = subst (λ (entries : List Entry). length entries ≤ MOST_ENTRIES) (sym same) kept.room;
       epoch = subst (λ (entries : List Entry). old.changes ≡ epoch_after (take old.standing entries)) (sym same) kept.epoch;
       whole = λ not. subst (λ (entries : List Entry). old.standing ≡ length entries) (sym same)
@@ -85,6 +89,7 @@ pub record Ready {O : Type 0} (told : Bool) (trace : O → Trace) (faults : O �
   pub kept : IsKept told trace faults old
   pub can : CanEnter faults old
   pub allows : Allows old.state entry.change
+  pub keeps : is_release entry ≡ false → KeepsMarks old.state (applied old.state entry.change)
 
 module _ {O : Type 0} (told : Bool) (trace : O → Trace) (faults : O → ℕ) (old : BookView O) (entry : Entry)
     (r : Ready told trace faults old entry) where
@@ -121,6 +126,12 @@ module _ {O : Type 0} (told : Bool) (trace : O → Trace) (faults : O → ℕ) (
       ∙ sym (epoch_more (entries_of old.log) entry)
       ∙ ap epoch_after (sym (take_all (old.standing + 1) (entries_of (old.log ++ logged.Entry entry ∷ [])) (omega arith) ∙ more))
 
+  marks : HasNoRelease (entries_of (old.log ++ logged.Entry entry ∷ [])) → KeepsMarks old.start (applied old.state entry.change)
+  marks none =
+      let parts : HasNoRelease (entries_of old.log) × (is_release entry ≡ false) =
+      no_release_last (entries_of old.log) entry (subst HasNoRelease more none) in
+      marks_then old.start old.state (applied old.state entry.change) (r.kept.marks parts.0) (r.keeps parts.1)
+
   -- the book, where nothing is stored for the entry
   pub kept_unstored : stored_as old.state entry.change ≡ None → IsKept told trace faults (entered entry old)
   kept_unstored none =
@@ -136,7 +147,9 @@ module _ {O : Type 0} (told : Bool) (trace : O → Trace) (faults : O → ℕ) (
         later = r.kept.later;
         stands = omega arith;
         led = led;
+        begins = r.kept.begins;
         rules = rules_kept old.state entry.change r.kept.rules r.allows;
+        marks = marks;
         room = omega arith;
         epoch = epoch;
         whole = λ not. omega arith;
@@ -191,7 +204,9 @@ module _ {O : Type 0} (told : Bool) (trace : O → Trace) (faults : O → ℕ) (
         later = omega arith;
         stands = omega arith;
         led = led;
+        begins = r.kept.begins;
         rules = rules_kept old.state entry.change r.kept.rules r.allows;
+        marks = marks;
         room = omega arith;
         epoch = epoch;
         whole = λ not. omega arith;
@@ -235,7 +250,9 @@ module _ {O : Type 0} (told : Bool) (trace : O → Trace) (faults : O → ℕ) (
         stands = omega arith;
         led = r.kept.led ∙ sym (first_same old.start (entries_of old.log) (entry ∷ []) old.standing (omega arith))
             ∙ ap (λ (entries : List Entry). after_first old.start entries old.standing) (sym more);
+        begins = r.kept.begins;
         rules = r.kept.rules;
+        marks = λ none. r.kept.marks (no_release_last (entries_of old.log) entry (subst HasNoRelease more none)).0;
         room = omega arith;
         epoch = r.kept.epoch ∙ ap epoch_after (sym (take-append-le old.standing (entries_of old.log) (entry ∷ []) (omega arith))
             ∙ ap (take old.standing) (sym more));

@@ -1,3 +1,6 @@
+pub mod Places
+pub mod MarksKept
+pub mod GoingOn
 pub mod Lines
 pub mod Growing
 pub mod Serving
@@ -5,3 +8,5 @@ pub mod Keeping
 pub mod Fresh
 pub mod Opened
 pub mod Released
+pub mod EpochStates
+pub mod KeptLaws

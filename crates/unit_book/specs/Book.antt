@@ -24,6 +24,7 @@ use Rattle.unit_book.specs.declared.next.Next.{Next}
 use Rattle.unit_book.specs.declared.next.Next.TheVariants.{Here, Then}
 use Rattle.unit_history.specs.Log.{entries_of, pieces_of}
 use Rattle.unit_history.specs.Stored.{IsStored, stored_count}
+use Rattle.unit_book.specs.Marks.{HasNoRelease, KeepsMarks}
 
 -- The site, and what it was when `open` returned; the image as it was read, its plan, and the state that it showed; the
 -- state now; the journal; the log; how many entries of the log stand: all, but for a last one whose append failed; how many
@@ -83,7 +84,9 @@ pub record IsKept {O : Type 0} (told : Bool) (trace : O → Trace) (faults : O �
   pub later : faults book.opened ≤ faults book.site
   pub stands : book.standing ≤ length (entries_of book.log)
   pub led : book.state ≡ after_first book.start (entries_of book.log) book.standing
+  pub begins : KeepsRules book.start
   pub rules : KeepsRules book.state
+  pub marks : HasNoRelease (entries_of book.log) → KeepsMarks book.start book.state
   pub room : length (entries_of book.log) ≤ MOST_ENTRIES
   pub epoch : book.changes ≡ epoch_after (take book.standing (entries_of book.log))
   pub whole : ¬ Rose (faults book.opened) (faults book.site) → book.standing ≡ length (entries_of book.log)

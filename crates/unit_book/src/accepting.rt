@@ -1,11 +1,14 @@
 // The opening of frames.
-ghost use Rattle.std.specs.Prelude.{◌≡◌, ℕ, ◌<◌, ◌≤◌, MatchResult, IsSome};
+ghost use Rattle.std.specs.Prelude.{◌≡◌, ℕ, ◌<◌, ◌≤◌, MatchResult, IfErr, IsSome};
 ghost use Rattle.sdls_base.specs.KeyId.{end_of};
 ghost use Rattle.unit_state.specs.State.{KeepsRules, key_row};
 ghost use Rattle.unit_state.specs.Allows.{Allows};
 ghost use Rattle.unit_state.specs.Restart.{IsLight};
+ghost use Rattle.unit_state.specs.Laws.{IsNoMarks};
 ghost use Rattle.frame_checks.specs.Accepting.{field_in, Leaves, MayBeAccepted, OnAccepted};
+ghost use Rattle.unit_book.specs.Marks.{KeepsMarks};
 ghost use Rattle.unit_book.specs.Book.{IsKept};
+ghost use Rattle.unit_book.specs.GoesOn.{GoesOn, TellsRise};
 ghost use Rattle.unit_history.specs.Entries.{raised_floor, frame_change};
 ghost use Rattle.unit_book.specs.Records.{Opens, RefusesFrame};
 
@@ -39,6 +42,7 @@ impl<O: Site> Book<O> {
         ensures change { result ≡ frame_change self.entry.now.plan self.entry.now.state reply.now }
         ensures allowed { Allows self.entry.now.state result }
         ensures light { IsLight result }
+        ensures numbers { IsNoMarks result }
     {
         match reply {
             OpenReply::Accepted {
@@ -73,6 +77,10 @@ impl<O: Site> Book<O> {
             (λ answer. Opens O.faults index link frame.old (field_in answer.0 frame.new) self.old self.new answer.0 answer.1
             × Leaves answer.0 frame.old frame.new)
             (RefusesFrame O.faults index link frame.old self.old self.new) }
+        ensures goes_on { GoesOn O.faults self.old self.new }
+        ensures marks { KeepsMarks self.old.state self.new.state }
+        ensures risen { IfErr result (TellsRise O.faults self.new) }
+        ensures puts { O.put_faults self.new.site ≡ O.put_faults self.old.site }
         ensures later { O.faults self.old.site ≤ O.faults self.new.site }
     {
         self.may_enter()?;

@@ -1,14 +1,17 @@
 // The book.
-ghost use Rattle.std.specs.Prelude.{◌≡◌, ◌+◌, ◌<◌, ◌≤◌, ◌↔◌, IsTrue, MatchResult, IfErr, Some, None, length, ◌∷◌, [], ◌++◌, vec_len, vec_capacity};
+ghost use Rattle.std.specs.Prelude.{◌≡◌, ◌+◌, ◌<◌, ◌≤◌, ◌↔◌, IsTrue, MatchResult, IfErr, Some, None, length, ◌∷◌, [], ◌++◌, false, vec_len, vec_capacity};
 ghost use Rattle.sdls_base.specs.declared.change.Change.{Change};
 ghost use Rattle.sdls_outside.specs.Faults.{Rose};
-ghost use Rattle.sdls_outside.specs.Site.{Puts};
+ghost use Rattle.sdls_outside.specs.Site.{Puts, after_put};
 ghost use Rattle.book_record.specs.Record.{IsRecord};
+ghost use Rattle.unit_state.specs.Applied.{applied};
 ghost use Rattle.unit_state.specs.Allows.{Allows};
 ghost use Rattle.unit_state.specs.Restart.{stored_as};
 ghost use Rattle.unit_history.specs.Log.{entries_of};
 ghost use Rattle.unit_book.specs.Log.{sunk_between};
+ghost use Rattle.unit_book.specs.Marks.{is_release, KeepsMarks};
 ghost use Rattle.unit_book.specs.Book.{IsKept, CanEnter, IsBarred, IsUnstored, Enters, Makes, entered, left_out, with_put, PutFails};
+ghost use Rattle.unit_book.specs.GoesOn.{GoesOn, TellsRise};
 
 use crate::applying::{counted, put_next};
 use crate::fault::BookFault;
@@ -106,7 +109,8 @@ impl<O: Site> Book<O> {
     /// Whether an entry may be made: the site has not failed, and there is room.
     pub(crate) fn may_enter(&self) -> Result<(), BookFault>
         requires room { length (entries_of self.now.log) ≤ MOST_ENTRIES }
-        ensures { MatchResult result (λ _. CanEnter O.faults self.entry.now) (IsBarred O.faults self.entry.now) }
+        ensures may { MatchResult result (λ _. CanEnter O.faults self.entry.now) (IsBarred O.faults self.entry.now) }
+        ensures risen { IfErr result (TellsRise O.faults self.entry.now) }
     {
         if self.has_failed() {
             return Err(BookFault::Stopped(self.site.faults()));
@@ -152,11 +156,13 @@ impl<O: Site> Book<O> {
         requires can { CanEnter O.faults self.old }
         requires allows { Allows self.old.state entry.change }
         requires makes { Makes self.old.state entry.change next }
+        requires marks { is_release entry ≡ false → KeepsMarks self.old.state (applied self.old.state entry.change) }
         requires free { self.old.journal.used < self.old.journal.slots }
         requires stored { (stored : Change) × (stored_as self.old.state entry.change ≡ Some stored) × IsRecord stored body.now }
         ensures kept { IsKept O.told O.trace O.faults self.new }
         ensures made { MatchResult result (Enters entry self.old self.new) (IsUnstored O.faults entry self.old self.new) }
         ensures sunk { IsTrue O.told → (O.trace self.new.site).now.sunk ≡ (O.trace self.old.site).now.sunk }
+        ensures puts { O.put_faults self.new.site ≡ O.put_faults self.old.site }
         ensures later { O.faults self.old.site ≤ O.faults self.new.site }
     {
         match self.journal.append(&mut self.site, body) {
@@ -178,6 +184,7 @@ impl<O: Site> Book<O> {
         requires can { CanEnter O.faults self.old }
         requires allows { Allows self.old.state entry.change }
         requires makes { Makes self.old.state entry.change next }
+        requires marks { is_release entry ≡ false → KeepsMarks self.old.state (applied self.old.state entry.change) }
         requires unstored { stored_as self.old.state entry.change ≡ None }
         ensures kept { IsKept O.told O.trace O.faults self.new }
         ensures made { Enters entry self.old self.new result }
@@ -194,9 +201,14 @@ impl<O: Site> Book<O> {
         requires can { CanEnter O.faults self.old }
         requires allows { Allows self.old.state entry.change }
         requires makes { Makes self.old.state entry.change next }
+        requires marks { is_release entry ≡ false → KeepsMarks self.old.state (applied self.old.state entry.change) }
         ensures kept { IsKept O.told O.trace O.faults self.new }
         ensures made { MatchResult result (Enters entry self.old self.new) (IsUnstored O.faults entry self.old self.new) }
+        ensures goes_on { GoesOn O.faults self.old self.new }
+        ensures marks { is_release entry ≡ false → KeepsMarks self.old.state self.new.state }
+        ensures risen { IfErr result (TellsRise O.faults self.new) }
         ensures sunk { IsTrue O.told → (O.trace self.new.site).now.sunk ≡ (O.trace self.old.site).now.sunk }
+        ensures puts { O.put_faults self.new.site ≡ O.put_faults self.old.site }
         ensures later { O.faults self.old.site ≤ O.faults self.new.site }
     {
         match stored_record(&self.state, &entry.change) {
@@ -218,6 +230,10 @@ impl<O: Site> Book<O> {
             (record self.old { site = self.new.site }) }
         ensures put { IsTrue O.told → Puts octets.now result (O.trace self.old.site) (O.trace self.new.site) }
         ensures fault { IfErr result (PutFails (O.faults self.old.site) (O.faults self.new.site)) }
+        ensures goes_on { GoesOn O.faults self.old self.new }
+        ensures marks { KeepsMarks self.old.state self.new.state }
+        ensures risen { IfErr result (TellsRise O.faults self.new) }
+        ensures puts { O.put_faults self.new.site ≡ after_put result (O.put_faults self.old.site) }
         ensures later { O.faults self.old.site ≤ O.faults self.new.site }
     {
         let before = Snapshot::of(&self.site);

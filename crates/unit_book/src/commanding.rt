@@ -1,11 +1,14 @@
 // The commands of the key and association management.
-ghost use Rattle.std.specs.Prelude.{◌≡◌, ◌≤◌, ⊤, IfOk, MatchResult};
+ghost use Rattle.std.specs.Prelude.{◌≡◌, ◌≤◌, ⊤, IfOk, IfErr, MatchResult};
 ghost use Rattle.ep_core.specs.declared.need.Need.{Need};
 ghost use Rattle.ep_core.specs.Seen.{Fits};
 ghost use Rattle.unit_state.specs.State.{KeepsRules};
 ghost use Rattle.unit_state.specs.Applied.{applied};
 ghost use Rattle.unit_state.specs.Allows.{Allows};
+ghost use Rattle.unit_state.specs.Laws.{IsNoMarks};
+ghost use Rattle.unit_book.specs.Marks.{KeepsMarks};
 ghost use Rattle.unit_book.specs.Book.{IsKept, Makes};
+ghost use Rattle.unit_book.specs.GoesOn.{GoesOn, TellsRise};
 ghost use Rattle.unit_history.specs.Entries.{IsNeedOf, IsStepOf};
 ghost use Rattle.unit_book.specs.Records.{Handles, RefusesMessage};
 
@@ -30,6 +33,7 @@ fn step_of(
     requires seen { (need : Need) → IsNeedOf state.now pdu.now need → Fits state.now need seen.now }
     ensures step { IfOk result (IsStepOf state.now pdu.now seen.now) }
     ensures allowed { IfOk result (λ step. Allows state.now step.0) }
+    ensures numbers { IfOk result (λ step. IsNoMarks step.0) }
 {
     changes_are_allowed();
     match read_pdu(alloc, pdu) {
@@ -88,6 +92,10 @@ impl<O: Site> Book<O> {
         ensures made { MatchResult result
             (λ answer. Handles O.faults index pdu.now seen self.old self.new answer.0 answer.1)
             (RefusesMessage O.faults index pdu.now seen self.old self.new) }
+        ensures goes_on { GoesOn O.faults self.old self.new }
+        ensures marks { KeepsMarks self.old.state self.new.state }
+        ensures risen { IfErr result (TellsRise O.faults self.new) }
+        ensures puts { O.put_faults self.new.site ≡ O.put_faults self.old.site }
         ensures later { O.faults self.old.site ≤ O.faults self.new.site }
     {
         self.may_enter()?;

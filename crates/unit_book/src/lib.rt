@@ -14,6 +14,7 @@ mod beginning;
 mod book;
 mod commanding;
 mod fault;
+mod laws;
 mod limits;
 mod log;
 mod next;
@@ -24,4 +25,8 @@ mod showing;
 
 pub use book::Book;
 pub use fault::BookFault;
+pub use laws::{
+    calls_go_on, entries_lead, entries_stand, marks_stand, one_need, serves_at_epoch,
+    states_have_bounds, states_serve_alike,
+};
 pub use limits::MOST_ENTRIES;

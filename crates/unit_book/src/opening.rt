@@ -29,6 +29,7 @@ fn start<O: Site>(alloc: Global, site: &mut O) -> Result<(Opened, Vec<Entry>), O
         plan_of (held (O.trace site.old).now.image).plan ≡ Ok begun.0.plan) }
     ensures rules { IfOk result (λ begun. KeepsRules begun.0.state) }
     ensures any_moment { IsTrue O.told → EachMoment (O.trace site.old) (O.trace site.new) (Opening (O.trace site.old)) }
+    ensures puts { O.put_faults site.new ≡ O.put_faults site.old }
     ensures fault { HasOpenFault (O.faults site.old) (O.faults site.new)
         (λ offset. IsTrue O.told → ShowsNone (O.trace site.old).now.image offset
         × OnlySyncs (O.trace site.old) (O.trace site.new)) result }
@@ -71,6 +72,8 @@ impl<O: Site> Book<O> {
         ensures any_moment { IsTrue O.told → MatchResult result
             (λ book. EachMoment (O.trace site) (O.trace book.site) (Opening (O.trace site)))
             (λ refused. EachMoment (O.trace site) (O.trace refused.1) (Opening (O.trace site))) }
+        ensures puts { MatchResult result (λ book. O.put_faults book.site ≡ O.put_faults site)
+            (λ refused. O.put_faults refused.1 ≡ O.put_faults site) }
         ensures later { MatchResult result (λ book. O.faults site ≤ O.faults book.site)
             (λ refused. O.faults site ≤ O.faults refused.1) }
     {

@@ -1,8 +1,9 @@
 // The release at the end of a run.
-ghost use Rattle.std.specs.Prelude.{◌≡◌, ℕ, ◌<◌, ◌≤◌, Ok, MatchOption, MatchResult, Some, length, slice_get, slice_index};
+ghost use Rattle.std.specs.Prelude.{◌≡◌, ℕ, ◌<◌, ◌≤◌, Ok, MatchOption, MatchResult, IfErr, Some, length, slice_get, slice_index};
 ghost use Rattle.std.specs.Option.{option_map};
 ghost use Rattle.sa_book.specs.SaRefusal.{receives_with, receiver_with};
 ghost use Rattle.unit_book.specs.Book.{IsKept, Made, Refuses};
+ghost use Rattle.unit_book.specs.GoesOn.{GoesOn, TellsRise};
 ghost use Rattle.unit_history.specs.Numbers.{released_floor, release_of, release_at};
 ghost use Rattle.unit_book.specs.Numbers.{Releases};
 
@@ -81,6 +82,9 @@ impl<O: Site> Book<O> {
             (λ entry. MatchResult result (λ _. (position : ℕ) × Made O.faults entry self.old self.new position)
             (Refuses O.faults entry self.old self.new)) }
         ensures keys { length self.new.state.keys ≡ length self.old.state.keys }
+        ensures goes_on { GoesOn O.faults self.old self.new }
+        ensures risen { IfErr result (TellsRise O.faults self.new) }
+        ensures puts { O.put_faults self.new.site ≡ O.put_faults self.old.site }
         ensures later { O.faults self.old.site ≤ O.faults self.new.site }
     {
         let Some(entry) = release_entry_at(&self.state, place, word) else {
@@ -104,6 +108,9 @@ impl<O: Site> Book<O> {
         requires some { (place : ℕ) → place < length self.old.state.keys → 1 ≤ slice_index next.now place }
         ensures kept { IsKept O.told O.trace O.faults self.new }
         ensures released { Releases O.faults next.now self.old self.new result }
+        ensures goes_on { GoesOn O.faults self.old self.new }
+        ensures risen { IfErr result (TellsRise O.faults self.new) }
+        ensures puts { O.put_faults self.new.site ≡ O.put_faults self.old.site }
         ensures later { O.faults self.old.site ≤ O.faults self.new.site }
     {
         for place in 0..self.state.keys.rows().len() {

@@ -1,8 +1,10 @@
 // The reserve of numbers.
-ghost use Rattle.std.specs.Prelude.{◌≡◌, ℕ, ◌+◌, ◌<◌, ◌≤◌, Ok, MatchResult, min, IsSome};
+ghost use Rattle.std.specs.Prelude.{◌≡◌, ℕ, ◌+◌, ◌<◌, ◌≤◌, Ok, MatchResult, IfErr, min, IsSome};
 ghost use Rattle.sdls_base.specs.KeyId.{end_of};
 ghost use Rattle.unit_state.specs.State.{key_row};
+ghost use Rattle.unit_book.specs.Marks.{KeepsMarks};
 ghost use Rattle.unit_book.specs.Book.{IsKept, Made, Refuses};
+ghost use Rattle.unit_book.specs.GoesOn.{GoesOn, TellsRise};
 ghost use Rattle.unit_history.specs.Numbers.{mark_of, floor_of, reserve_of};
 
 use crate::book::Book;
@@ -51,6 +53,10 @@ impl<O: Site> Book<O> {
             × (mark ≡ mark_of self.new.state key))
             (Refuses O.faults (reserve_of self.old.plan self.old.state key number) self.old self.new) }
         ensures above { (mark : ℕ) → result ≡ Ok mark → number < mark }
+        ensures goes_on { GoesOn O.faults self.old self.new }
+        ensures marks { KeepsMarks self.old.state self.new.state }
+        ensures risen { IfErr result (TellsRise O.faults self.new) }
+        ensures puts { O.put_faults self.new.site ≡ O.put_faults self.old.site }
         ensures later { O.faults self.old.site ≤ O.faults self.new.site }
     {
         let mark = self.mark(key);

@@ -22,4 +22,5 @@ returns-in_default g c = record {
   change = nothing_changed c.args.self.now.plan c.args.self.now.state c.args.reply.now c.in_default.not-Accepted;
   allowed = tt;
   light = tt;
+  numbers = tt;
 }

@@ -1,5 +1,6 @@
 use Rattle.std.proofs.Common.{◌≡◌, ◌<◌, ◌≤◌, length, refl, arith, ap, ◌∙◌}
 use Rattle.unit_book.specs.Book.{BookView}
+use Rattle.unit_book.proofs.GoingOn.{goes_same, goes_then}
 use Rattle.unit_book.proofs.Released.{none_so_far, so_far_more, releases_refused, releases_done}
 use Rattle.unit_book.proofs.book.Book.release.Goals as goal
 
@@ -8,6 +9,8 @@ loop-place-init g c = record {
   kept = c.requires.kept;
   keys = refl;
   so_far = none_so_far g.O.Site.faults c.args.next.now c.args.self.now;
+  goes_on = goes_same g.O.Site.faults c.args.self.now;
+  puts = refl;
   later = omega arith;
 }
 
@@ -24,6 +27,8 @@ loop-place-preserved g c =
       keys = c.release_at.ensures.keys ∙ c.loop-place.invariant.keys;
       so_far = so_far_more g.O.Site.faults c.args.next.now c.loop-place.place 0 c.args.self.now c.loop-place.self c.release_at.new.self
           c.release_at.result (omega arith) c.loop-place.invariant.so_far c.release_at.ensures.made c.in-Ok.is;
+      goes_on = goes_then g.O.Site.faults c.args.self.now c.loop-place.self c.release_at.new.self c.loop-place.invariant.goes_on c.release_at.ensures.goes_on;
+      puts = c.release_at.ensures.puts ∙ c.loop-place.invariant.puts;
       later = omega arith;
     }
 
@@ -35,6 +40,19 @@ returns-in-Err-clause-released g c =
     let below : c.loop-place.place < length c.rows-place-end.result.now = c.loop-place-test.true in
     releases_refused g.O.Site.faults c.args.next.now c.loop-place.place 0 c.args.self.now c.loop-place.self c.release_at.new.self
     c.in-Err.fault (omega arith) c.loop-place.invariant.so_far c.in-Err.ensures.made
+
+pub returns-in-Err-clause-goes_on : goal.returns-in-Err-clause-goes_on
+returns-in-Err-clause-goes_on g c =
+    goes_then g.O.Site.faults c.args.self.now c.loop-place.self c.release_at.new.self c.loop-place.invariant.goes_on c.release_at.ensures.goes_on
+
+pub returns-in-Err-clause-puts : goal.returns-in-Err-clause-puts
+returns-in-Err-clause-puts g c = c.release_at.ensures.puts ∙ c.loop-place.invariant.puts
+
+pub returns-clause-goes_on : goal.returns-clause-goes_on
+returns-clause-goes_on g c = c.loop-place.invariant.goes_on
+
+pub returns-clause-puts : goal.returns-clause-puts
+returns-clause-puts g c = c.loop-place.invariant.puts
 
 pub returns-clause-released : goal.returns-clause-released
 returns-clause-released g c =

@@ -1,10 +1,13 @@
-use Rattle.std.proofs.Common.{◌≡◌, ℕ, Result, Ok, Err, sym, ap, ◌∙◌, subst}
+use Rattle.std.proofs.Common.{◌≡◌, ◌≤◌, ℕ, Result, Ok, Err, sym, ap, ◌∙◌, subst, arith}
 use Rattle.sdls_base.specs.declared.entry.Entry.{Entry}
 use Rattle.unit_state.specs.Applied.{applied}
 use Rattle.unit_state.specs.Allows.{Allows}
 use Rattle.unit_history.proofs.Marking.{reserve_allowed, mark_above}
 use Rattle.unit_book.specs.declared.fault.BookFault.{BookFault}
+use Rattle.unit_book.specs.Marks.{KeepsMarks}
+use Rattle.unit_history.specs.Numbers.{mark_of}
 use Rattle.unit_book.specs.Book.{BookView}
+use Rattle.unit_book.proofs.MarksKept.{reserve_keeps}
 use Rattle.unit_book.proofs.book.Book.reserve.Goals as goal
 
 abbrev ok_or : Result ℕ BookFault → ℕ
@@ -29,3 +32,12 @@ returns-in-Ok-clause-above g c = λ mark is.
     (ap (λ (b : BookView _). b.state) c.in-Ok.ensures.made.is
     ∙ ap (λ (entry : Entry). applied c.args.self.now.state entry.change) c.reserve_entry-entry.ensures.entry)
     (sym (ok_same c.mark.result mark is) ∙ c.mark.ensures)
+
+pub commit-requires-clause-marks : goal.commit-requires-clause-marks
+commit-requires-clause-marks g c = λ not.
+    let is : c.mark-mark.result ≡ mark_of c.args.self.now.state c.args.key = c.mark-mark.ensures in
+    let high : c.mark-mark.result ≤ c.args.number = c.if-number-mark.false in
+    subst (λ (entry : Entry). KeepsMarks c.args.self.now.state (applied c.args.self.now.state entry.change)) (sym c.reserve_entry-entry.ensures.entry)
+    (reserve_keeps c.args.self.now.plan c.args.self.now.state c.args.key c.args.number c.requires.kept.rules
+    (reserve_allowed c.args.self.now.plan c.args.self.now.state c.args.key c.args.number c.requires.kept.rules c.requires.there c.requires.below
+    c.reserve_entry-entry.ensures.block) c.requires.below c.reserve_entry-entry.ensures.block (omega arith))

@@ -10,7 +10,7 @@ returns-in-Ok-clause-kept g c =
     let trace = g.O.Site.trace in
     let faults = g.O.Site.faults in
     let ready : Ready told trace faults _ c.args.entry = ready_of told trace faults c.args.self.now _ c.args.entry c.self.view_is
-    (record { kept = c.requires.kept; can = c.requires.can; allows = c.requires.allows }) in
+    (record { kept = c.requires.kept; can = c.requires.can; allows = c.requires.allows; keeps = c.requires.marks }) in
     kept_entered told trace faults _ _ c.append.new.site _ c.append.new.self c.args.entry ready c.in-Ok.ensures.counted c.enter.ensures
     (kept_stored told trace faults _ c.args.entry ready c.args.body.now c.append.new.site
     (record_of c.args.self.now _ c.args.entry c.args.body.now c.self.view_is c.requires.stored)
@@ -29,7 +29,7 @@ returns-in-Err-SiteFault-clause-kept g c =
     let trace = g.O.Site.trace in
     let faults = g.O.Site.faults in
     let ready : Ready told trace faults _ c.args.entry = ready_of told trace faults c.args.self.now _ c.args.entry c.self.view_is
-    (record { kept = c.requires.kept; can = c.requires.can; allows = c.requires.allows }) in
+    (record { kept = c.requires.kept; can = c.requires.can; allows = c.requires.allows; keeps = c.requires.marks }) in
     kept_left_out told trace faults _ _ c.append.new.site c.append.new.self c.args.entry ready c.in-Err-SiteFault.ensures.not_counted c.leave_out.ensures
     (kept_failed told trace faults _ c.args.entry ready c.args.body.now c.append.new.site
     (record_of c.args.self.now _ c.args.entry c.args.body.now c.self.view_is c.requires.stored)

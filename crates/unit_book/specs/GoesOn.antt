@@ -1,0 +1,36 @@
+-- What every call on a book leaves.
+use Rattle.std.specs.Prelude.{◌≡◌, ⊤, ℕ, ◌≤◌, List, [], ◌++◌}
+use Rattle.sdls_base.specs.declared.entry.Logged.{Logged}
+use Rattle.sdls_outside.specs.Faults.{Rose}
+use Rattle.unit_state.specs.Laws.{KeepsPlaces}
+use Rattle.unit_book.specs.declared.fault.BookFault.{BookFault}
+use Rattle.unit_book.specs.declared.fault.BookFault.TheVariants.{SiteFault, Stopped, SessionFull, JournalFull, NoMemory}
+use Rattle.unit_history.specs.Log.{entries_of}
+use Rattle.unit_book.specs.Marks.{HasNoRelease, KeepsMarks}
+use Rattle.unit_book.specs.Book.{BookView}
+
+-- The opening stands: what was read, its plan and state, the site as it was then, and the slots. The log goes on by the lines
+-- that the call added. Neither the count of faults nor that of changes falls; once the first had risen, no entry is added.
+-- Keys keep their places, and their marks do not fall but by a release.
+pub record GoesOn {O : Type 0} (faults : O → ℕ) (old new : BookView O) : Type 0 where
+  pub opened : new.opened ≡ old.opened
+  pub image : new.image ≡ old.image
+  pub plan : new.plan ≡ old.plan
+  pub start : new.start ≡ old.start
+  pub slots : new.journal.slots ≡ old.journal.slots
+  pub added : List Logged
+  pub log : new.log ≡ old.log ++ added
+  pub later : faults old.site ≤ faults new.site
+  pub standing : old.standing ≤ new.standing
+  pub changes : old.changes ≤ new.changes
+  pub stopped : Rose (faults old.opened) (faults old.site) → entries_of added ≡ []
+  pub places : KeepsPlaces old.state new.state
+  pub marks : HasNoRelease (entries_of added) → KeepsMarks old.state new.state
+
+-- the count that a refusal tells is that of the site, and had risen since the opening
+abbrev pub TellsRise : {O : Type 0} → (O → ℕ) → BookView O → BookFault → Type 0
+TellsRise faults book (SiteFault count) = Rose (faults book.opened) (faults book.site) × (count ≡ faults book.site)
+TellsRise faults book (Stopped count) = Rose (faults book.opened) (faults book.site) × (count ≡ faults book.site)
+TellsRise faults book SessionFull = ⊤
+TellsRise faults book (JournalFull slots) = ⊤
+TellsRise faults book NoMemory = ⊤

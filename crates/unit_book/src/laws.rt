@@ -1,0 +1,71 @@
+// Laws of books: each function is a statement about the definitions, and does nothing.
+ghost use Rattle.std.specs.Prelude.{◌≡◌, ℕ, ◌≤◌, List};
+ghost use Rattle.sdls_base.specs.declared.entry.Entry.{Entry};
+ghost use Rattle.sdls_outside.specs.Faults.{Rose};
+ghost use Rattle.unit_plan.specs.PlanLines.{PlanLines};
+ghost use Rattle.unit_state.specs.declared.state.State.{State};
+ghost use Rattle.unit_state.specs.State.{KeepsRules};
+ghost use Rattle.unit_state.specs.Restart.{still};
+ghost use Rattle.unit_state.specs.History.{after, epoch_after};
+ghost use Rattle.unit_state.specs.Laws.{KeepsPlaces};
+ghost use Rattle.ep_core.specs.declared.need.Need.{Need};
+ghost use Rattle.unit_history.specs.Log.{entries_of};
+ghost use Rattle.unit_book.specs.Marks.{HasNoRelease, KeepsMarks};
+ghost use Rattle.unit_history.specs.Numbers.{mark_of};
+ghost use Rattle.unit_history.specs.Entries.{IsNeedOf};
+ghost use Rattle.unit_book.specs.Book.{BookView, IsKept, Made};
+ghost use Rattle.unit_book.specs.GoesOn.{GoesOn};
+ghost use Rattle.unit_book.specs.Epoch.{epoch_state, ServesAlike, HasBounds, StandsLast};
+
+use sdls_outside::Site;
+
+/// Law: states that differ in marks, floors and highest numbers alone serve alike.
+pub fn states_serve_alike()
+    ensures { (plan : PlanLines) (one other : State) → still one ≡ still other → ServesAlike plan one other }
+{}
+
+/// Law: a book's state and that of its epoch differ in marks, floors and highest numbers alone, so that they serve alike.
+pub fn serves_at_epoch<O: Site>()
+    ensures still { (book : BookView O) → IsKept O.told O.trace O.faults book → still book.state ≡ still (epoch_state book) }
+    ensures served { (book : BookView O) → IsKept O.told O.trace O.faults book
+        → ServesAlike book.plan book.state (epoch_state book) }
+{}
+
+/// Law: the count of changes is not above the epoch of the entries. Where the site has not failed it is the same, and the
+/// state is that after all entries.
+pub fn entries_lead<O: Site>()
+    ensures changes { (book : BookView O) → IsKept O.told O.trace O.faults book → book.changes ≤ epoch_after (entries_of book.log) }
+    ensures whole { (book : BookView O) → IsKept O.told O.trace O.faults book → ¬ Rose (O.faults book.opened) (O.faults book.site)
+        → (book.state ≡ after book.start (entries_of book.log)) × (book.changes ≡ epoch_after (entries_of book.log)) }
+    ensures places { (book : BookView O) → IsKept O.told O.trace O.faults book → KeepsPlaces book.start book.state }
+{}
+
+/// Law: until a release, no mark is below that of the state at the opening, nor of a place nor of a key.
+pub fn marks_stand<O: Site>()
+    ensures places { (book : BookView O) → IsKept O.told O.trace O.faults book → HasNoRelease (entries_of book.log)
+        → KeepsMarks book.start book.state }
+    ensures keys { (book : BookView O) (key : ℕ) → IsKept O.told O.trace O.faults book → HasNoRelease (entries_of book.log)
+        → mark_of book.start key ≤ mark_of book.state key }
+{}
+
+/// Law: of a state that keeps the rules, each key's place is below 512, and each mark lies from 1 to 2^48.
+pub fn states_have_bounds()
+    ensures { (state : State) → KeepsRules state → HasBounds state }
+{}
+
+/// Law: an entry that was made is the last line of the log, and its position the count of entries.
+pub fn entries_stand<O: Site>()
+    ensures { (entry : Entry) (old new : BookView O) (position : ℕ) → Made O.faults entry old new position
+        → StandsLast entry old.log new.log position }
+{}
+
+/// Law: what two calls leave, one after the other, is what a call leaves.
+pub fn calls_go_on<O: Site>()
+    ensures { (old mid new : BookView O) → GoesOn O.faults old mid → GoesOn O.faults mid new → GoesOn O.faults old new }
+{}
+
+/// Law: a message has one need.
+pub fn one_need()
+    ensures { (state : State) (octets : List ℕ) (one other : Need) → IsNeedOf state octets one → IsNeedOf state octets other
+        → one ≡ other }
+{}
