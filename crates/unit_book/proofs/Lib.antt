@@ -10,3 +10,4 @@ pub mod Opened
 pub mod Released
 pub mod EpochStates
 pub mod KeptLaws
+pub mod NeedsKnown

@@ -15,6 +15,7 @@ ghost use Rattle.unit_history.specs.Numbers.{mark_of};
 ghost use Rattle.unit_history.specs.Entries.{IsNeedOf};
 ghost use Rattle.unit_book.specs.Book.{BookView, IsKept, Made};
 ghost use Rattle.unit_book.specs.GoesOn.{GoesOn};
+ghost use Rattle.unit_book.specs.Needs.{NamesKey};
 ghost use Rattle.unit_book.specs.Epoch.{epoch_state, ServesAlike, HasBounds, StandsLast};
 
 use sdls_outside::Site;
@@ -68,4 +69,9 @@ pub fn calls_go_on<O: Site>()
 pub fn one_need()
     ensures { (state : State) (octets : List ℕ) (one other : Need) → IsNeedOf state octets one → IsNeedOf state octets other
         → one ≡ other }
+{}
+
+/// Law: the key that a need names is there, and the number that it names lies below the key's end.
+pub fn needs_name_keys()
+    ensures { (state : State) (octets : List ℕ) (need : Need) → KeepsRules state → IsNeedOf state octets need → NamesKey state need }
 {}
