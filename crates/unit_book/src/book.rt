@@ -1,5 +1,5 @@
 // The book.
-ghost use Rattle.std.specs.Prelude.{◌≡◌, ◌+◌, ◌<◌, ◌≤◌, ◌↔◌, IsTrue, MatchResult, IfErr, Some, None, length, ◌∷◌, [], ◌++◌, false, vec_len, vec_capacity};
+ghost use Rattle.std.specs.Prelude.{◌≡◌, ◌+◌, ◌<◌, ◌≤◌, ◌↔◌, IsTrue, MatchResult, IfErr, Some, None, length, ◌∷◌, [], ◌++◌, false};
 ghost use Rattle.sdls_base.specs.declared.change.Change.{Change};
 ghost use Rattle.sdls_outside.specs.Faults.{Rose};
 ghost use Rattle.sdls_outside.specs.Site.{Puts, after_put};
@@ -72,17 +72,6 @@ impl<O: Site> Model for Book<O> {
         × (MOST_ENTRIES ≤ vec_capacity book.entries) };
 }
 
-/// Pushes an element for which there is room.
-fn push_within<T: Drop>(items: &mut Vec<T>, item: T)
-    requires { vec_len items.old < vec_capacity items.old }
-    ensures items { items.new.items ≡ items.old.items ++ item ∷ [] }
-    ensures capacity { vec_capacity items.old ≤ vec_capacity items.new }
-{
-    let Ok(()) = items.push(item) else {
-        unreachable!()
-    };
-}
-
 impl<O: Site> Book<O> {
     /// Whether the count of the site's faults has risen since the book was opened.
     pub fn has_failed(&self) -> bool
@@ -133,7 +122,7 @@ impl<O: Site> Book<O> {
         self.changes += counted(&entry.change);
         self.standing += 1;
         self.log = with_entry(&self.log, &entry);
-        push_within(&mut self.entries, entry);
+        self.entries.push_reserved(entry);
     }
 
     /// Notes an entry whose append failed.
@@ -142,7 +131,7 @@ impl<O: Site> Book<O> {
         ensures { self.new ≡ left_out entry self.old }
     {
         self.log = with_entry(&self.log, &entry);
-        push_within(&mut self.entries, entry);
+        self.entries.push_reserved(entry);
     }
 
     /// Makes an entry whose record has this body, and stores it.

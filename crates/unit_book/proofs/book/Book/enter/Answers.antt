@@ -6,13 +6,13 @@ use Rattle.unit_book.proofs.book.Book.enter.Goals as goal
 
 pub invariant_of-self : goal.invariant_of-self
 invariant_of-self g c =
-    let longer : length c.push_within.new.items.items ≡ length c.self.inside.entries.items + 1 =
-    ap (λ (es : List Entry). length es) c.push_within.ensures.items ∙ length-append c.self.inside.entries.items (c.args.entry ∷ []) in
+    let longer : length c.push_reserved.new.self.items ≡ length c.self.inside.entries.items + 1 =
+    ap (λ (es : List Entry). length es) c.push_reserved.ensures.items ∙ length-append c.self.inside.entries.items (c.args.entry ∷ []) in
     let one : c.counted.result ≤ 1 = subst (λ (n : ℕ). n ≤ 1) (sym c.counted.ensures) (one_at_most (counts c.args.entry.change)) in
     let (same, is, low, few, room) = c.self.invariant in
-    let grows = c.push_within.ensures.capacity in (
+    let grows = c.push_reserved.ensures.capacity in (
       same,
-      entries_pushed _ _ _ _ _ is c.push_within.ensures.items (c.with_entry.ensures g.O.Site.trace),
+      entries_pushed _ _ _ _ _ is c.push_reserved.ensures.items (c.with_entry.ensures g.O.Site.trace),
       omega arith,
       omega arith,
       omega arith,
