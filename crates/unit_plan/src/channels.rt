@@ -1,10 +1,10 @@
-ghost use Rattle.std.specs.Prelude.{◌≡◌, ◌||◌, [], ◌∷◌, ◌++◌, map, OnOk, IfErr};
+ghost use Rattle.std.specs.Prelude.{◌≡◌, ◌||◌, [], ◌∷◌, ◌++◌, map, IfOk, OnOk, IfErr};
 ghost use Rattle.std.specs.Option.{option_map};
 ghost use Rattle.unit_plan.specs.Channels.{has_channel, has_place, are_known, channel_at};
 
 use crate::channel_line::{Place, is_same_place};
 use crate::plan_error::PlanError;
-use sdls_base::ChannelId;
+use sdls_base::{ChannelId, NoMemory};
 use std::alloc::Global;
 use std::marker::Model;
 
@@ -48,6 +48,16 @@ impl Channels {
                 Err(PlanError::NoMemory)
             }
         }
+    }
+
+    /// Equal channels.
+    pub(crate) fn copy(&self) -> Result<Channels, NoMemory>
+        ensures { IfOk result (λ channels. channels ≡ self.now) }
+    {
+        Ok(Channels {
+            rows: self.rows.clone()?,
+            ids: self.ids.clone()?,
+        })
     }
 
     pub(crate) fn ids(&self) -> &[ChannelId]

@@ -1,4 +1,4 @@
-ghost use Rattle.std.specs.Prelude.{◌≡◌, ◌≤◌, length, map, All, IfSome};
+ghost use Rattle.std.specs.Prelude.{◌≡◌, ◌≤◌, length, map, All, IfOk, IfSome};
 ghost use Rattle.std.specs.Option.{option_map};
 ghost use Rattle.unit_plan.specs.Lines.{lines_of};
 ghost use Rattle.unit_plan.specs.PlanError.{Gives};
@@ -14,7 +14,7 @@ use crate::channel_line::Place;
 use crate::channels::Channels;
 use crate::lines::Lines;
 use crate::plan_error::{PlanCause, PlanError, check, refused};
-use sdls_base::{ChannelId, KeyId, KeyItem, KeyState, Link, NewSa, Spi};
+use sdls_base::{ChannelId, KeyId, KeyItem, KeyState, Link, NewSa, NoMemory, Spi};
 use std::alloc::Global;
 use std::marker::Model;
 
@@ -125,6 +125,23 @@ impl Plan {
         }
         check(number, PlanCause::Order, plan.heads == 5)?;
         Ok(plan)
+    }
+
+    /// An equal plan.
+    pub fn copy(&self) -> Result<Plan, NoMemory>
+        ensures { IfOk result (λ plan. plan ≡ self.now) }
+    {
+        Ok(Plan {
+            heads: self.heads,
+            device: self.device,
+            slots: self.slots,
+            block: self.block,
+            accept: self.accept,
+            links: self.links.clone()?,
+            channels: self.channels.copy()?,
+            keys: self.keys.clone()?,
+            associations: self.associations.clone()?,
+        })
     }
 
     /// The unit's device field.
