@@ -40,6 +40,20 @@ abbrev pub protect_check : PlanLines → State → ℕ → List ℕ → Answer
 protect_check plan state link clear =
     option_map_or (answer_on plan state link clear) (link_of plan.links link) (Err (Layout 0))
 
+-- The checks for which the plan is enough: those above but the last, and then the channel.
+abbrev pub channel_checks : PlanLines → ℕ → Link → List ℕ → List (Check (Result (Option ℕ) ShieldFault))
+channel_checks plan link line clear =
+    (lacks_header line.layout clear, Err (Layout 1))
+    ∷ (is_clear line.layout clear, Ok None)
+    ∷ (is_none (channel_of plan link line.layout clear), Err Channel) ∷ []
+
+abbrev pub channel_on : PlanLines → ℕ → List ℕ → Link → Result (Option ℕ) ShieldFault
+channel_on plan link clear line = unwrap_or (first_failing (channel_checks plan link line clear))
+    (Ok (channel_of plan link line.layout clear))
+
+abbrev pub channel_check : PlanLines → ℕ → List ℕ → Result (Option ℕ) ShieldFault
+channel_check plan link clear = option_map_or (channel_on plan link clear) (link_of plan.links link) (Err (Layout 0))
+
 -- the link has a line, and the frame its header, which says that it carries no security
 abbrev pub IsSentClear : PlanLines → ℕ → List ℕ → Type 0
 IsSentClear plan link clear = IsSomeAnd (link_of plan.links link)

@@ -1,7 +1,8 @@
 //! What a unit's state says of one frame (CCSDS 355.0-B, ApplySecurity and ProcessSecurity; the order of the checks is
 //! profile).
 //!
-//! `binding` makes the checks of a frame that is to be protected, up to the association that sends it. `open_frame`
+//! `binding` makes the checks of a frame that is to be protected, up to the association that sends it, and `channel` those
+//! of them for which the plan is enough. `open_frame`
 //! makes those of a frame that was received, in their order, and opens it in place. Neither changes the state: what an
 //! acceptance leaves is the caller's to make and to store. No call takes memory.
 #![tactic(auto)]
@@ -15,4 +16,4 @@ mod protecting;
 pub use laws::{accepted_may_be, binding_stays};
 pub use open_reply::OpenReply;
 pub use opening::open_frame;
-pub use protecting::binding;
+pub use protecting::{binding, channel};

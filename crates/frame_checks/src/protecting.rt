@@ -5,13 +5,13 @@ ghost use Rattle.sdls_base.specs.declared.states.SaState.TheVariants.{Operationa
 ghost use Rattle.unit_state.specs.State.{HasKey, KeepsRules};
 ghost use Rattle.frame_shield.specs.Binding.{IsBinding};
 ghost use Rattle.frame_checks.specs.Binding.{binding_of};
-ghost use Rattle.frame_checks.specs.Protecting.{IsSentClear, protect_check};
+ghost use Rattle.frame_checks.specs.Protecting.{IsSentClear, channel_check, protect_check};
 
 use crate::header::{channel_of, is_clear, lacks_header};
 use aes_block::Schedule;
 use frame_shield::{Binding, ShieldFault};
 use sa_book::SaRow;
-use sdls_base::Link;
+use sdls_base::{ChannelId, Link};
 use unit_plan::Plan;
 use unit_state::State;
 
@@ -34,6 +34,27 @@ pub(crate) fn binding_of(plan: &Plan, state: &State, line: &Link, row: &SaRow) -
         schedule: Schedule::new(held.bytes.as_slice()).unwrap(),
         device: plan.device(),
         link: *line,
+    }
+}
+
+/// Makes the checks of a frame in clear that is to be protected for which the plan is enough, in their order, and answers
+/// its channel. `None` is a TC control command or an AOS idle frame, which the caller sends as it stands. The refusals are
+/// the first three of [`binding`]. Takes no memory.
+pub fn channel(plan: &Plan, link: u8, clear: &[u8]) -> Result<Option<ChannelId>, ShieldFault>
+    ensures { result ≡ channel_check plan.now link clear.now }
+{
+    let Some(line) = plan.link(link) else {
+        return Err(ShieldFault::Layout(0));
+    };
+    if lacks_header(&line.layout, clear) {
+        return Err(ShieldFault::Layout(1));
+    }
+    if is_clear(&line.layout, clear) {
+        return Ok(None);
+    }
+    match channel_of(plan, link, &line.layout, clear) {
+        Some(channel) => Ok(Some(channel)),
+        None => Err(ShieldFault::Channel),
     }
 }
 
