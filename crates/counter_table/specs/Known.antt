@@ -2,6 +2,8 @@
 use Rattle.std.specs.Prelude.{◌≡◌, ◌⊎◌, ℕ, ◌+◌, ◌<◌, ◌≤◌, max, nat_lt, Bool, true, false, List, [], ◌∷◌, ◌++◌, length, slice_index_or, if◌then◌else◌}
 use Rattle.sdls_base.specs.declared.entry.Logged.{Logged}
 use Rattle.sdls_base.specs.declared.entry.Logged.TheVariants.{Entry, Piece}
+use Rattle.unit_plan.specs.PlanLines.{no_lines}
+use Rattle.unit_state.specs.Initial.{bare}
 use Rattle.counter_table.specs.declared.view.Opening.{Opening}
 use Rattle.counter_table.specs.declared.view.Known.{Known}
 
@@ -47,7 +49,7 @@ pub record MayFill (book : Known) : Type 0 where
 
 -- before a book was filled
 abbrev pub unopened : Opening
-unopened = record { image = []; faults = 0 }
+unopened = record { image = []; plan = no_lines; start = bare no_lines; faults = 0 }
 
 abbrev pub unknown : Known
 unknown = record { marks = []; log = []; changes = 0; faults = 0; opening = unopened }

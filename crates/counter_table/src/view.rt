@@ -2,6 +2,8 @@
 
 use sdls_base::Logged;
 use std::collections::LinkedList;
+use unit_plan::Plan;
+use unit_state::State;
 
 /// What a worker knows of the rows' numbers. A pair is a row with a number, and of each list the newest is the last.
 pub struct Numbers {
@@ -29,9 +31,12 @@ pub struct Numbers {
     pub tickets: u64,
 }
 
-/// A run's image as it was read, and the count of faults, when the run was opened.
+/// What a run began with: the image as it was read, the plan that it holds and the state that it shows, and the count of
+/// faults.
 pub struct Opening {
     pub image: LinkedList<u8>,
+    pub plan: Plan,
+    pub start: State,
     pub faults: u64,
 }
 

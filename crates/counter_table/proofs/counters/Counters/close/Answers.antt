@@ -4,6 +4,9 @@ use Rattle.counter_table.specs.Close.{Closes}
 use Rattle.counter_table.proofs.Ending.{closes}
 use Rattle.counter_table.proofs.counters.Counters.close.Goals as goal
 
+inside : {X : Type 0} (x y : X) → Some x ≡ Some y → x ≡ y
+inside x y same = cc
+
 pub unreachable-requires : goal.unreachable-requires
 unreachable-requires g c =
     let told = g.B.Counted.told in
@@ -21,7 +24,7 @@ returns g c =
     let rows : c.into_parts-table.result.0.shared.key ≡ c.args.self.rows = ap (λ t. t.shared.key) c.into_parts-table.ensures.table ∙ c.args.self.sized.2 in
     let end = closes told c.into_parts-table.result.0.shared.key _ _ _ _ final c.requires.all c.requires.free c.requires.filled in
     let same : Some c.in-Some.book ≡ Some end.0 = sym c.in-Some.is ∙ some-injective _ _ (sym c.take-last.ensures.value ∙ end.1) in
-    let book : end.0 ≡ c.in-Some.book = cc in
+    let book : end.0 ≡ c.in-Some.book = sym (inside c.in-Some.book end.0 same) in
     let nexts = c.nexts_of-nexts.result.items in
     let at_key = end.2 nexts (c.nexts_of-nexts.ensures.rows ∙ (c.into_parts-table.ensures.rows ∙ sym rows)) (λ row b. c.nexts_of-nexts.ensures.nexts row (subst (λ (k : ℕ). row < k) (rows ∙ sym c.into_parts-table.ensures.rows) b)) in
     subst (λ (k : ℕ). Closes k c.args.worker.seat.me.0 (told c.in-Some.book) nexts) rows
