@@ -144,10 +144,12 @@ module _ {B : Type 0} (told : B → Known) (count : ℕ) where
     raise_allows number low s kept size at bound =
         let n = get_or s.words (next_at row) 0 in
         let numbers = at_numbers s id m.0 m.0 at kept in
+        let fits = kept.numbers.rows row below in
+        let grown = fits.grown in
         let w : View = record m.0 { numbers = raising row number n m.0.numbers } in (
           w,
           keeps,
           tt,
           next_alone s id m.0 w at kept row (max n number) below refl alive (raise_fits count s.words (numbers_of s.views) id m.0.numbers row numbers kept.numbers below alive number low),
-          ((refl, refl), (seat_fits count s.words s.words (numbers_of s.views) id m.0.numbers m.0.numbers row numbers kept.numbers below).nexts),
+          ((refl, refl), (seat_fits count s.words s.words (numbers_of s.views) id m.0.numbers m.0.numbers row numbers kept.numbers below).nexts, omega arith),
         )

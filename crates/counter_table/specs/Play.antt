@@ -36,7 +36,7 @@ module _ {S : Type 0} where
   peeks row x m n w = MovesNumbers m (peeking row x n) w × (top row m.0.numbers.limits ≤ n)
 
   abbrev pub raises : ℕ → ℕ → Me S View → ℕ → Me S View → Type 0
-  raises row number m n w = MovesNumbers m (raising row number n) w × (top row m.0.numbers.nexts ≤ n)
+  raises row number m n w = MovesNumbers m (raising row number n) w × (top row m.0.numbers.nexts ≤ n) × (0 < n)
 
   abbrev pub lifts : ℕ → ℕ → List ℕ → Me S View → ℕ → Me S View → Type 0
   lifts row mark marks m n w = (w.1 ≡ m.1) × (w.0 ≡ record { numbers = lifting row mark m.0.numbers; turn = learning marks m.0.turn })

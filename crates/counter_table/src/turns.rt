@@ -96,6 +96,7 @@ impl<B: Counted> Counters<B> {
         requires number { number ≤ 2 ^ 48 }
         ensures same { KeepsTurn worker.old worker.new }
         ensures found { top row (view worker.old).numbers.nexts ≤ result }
+        ensures positive { 0 < result }
         ensures numbers { (view worker.new).numbers ≡ raising row number result (view worker.old).numbers }
     {
         self.max_to_raise::<Brand>(worker, row, number)
@@ -168,6 +169,7 @@ impl<B: Counted> Counters<B> {
         requires told { (row ≡ T.of_row) × (number ≡ T.number) }
         ensures same { KeepsTurn worker.old worker.new }
         ensures found { top row (view worker.old).numbers.nexts ≤ result }
+        ensures positive { 0 < result }
         ensures numbers { (view worker.new).numbers ≡ raising row number result (view worker.old).numbers }
     {
         let at = next_word(row);
