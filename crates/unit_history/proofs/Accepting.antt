@@ -16,6 +16,7 @@ use Rattle.sdls_base.specs.declared.states.Direction.TheVariants.{Receive}
 use Rattle.key_book.specs.declared.key_row.KeyRow.{KeyRow}
 use Rattle.key_book.specs.KeyBook.{row_of as held_at, changed as keys_changed}
 use Rattle.sa_book.specs.declared.sa_row.SaRow.{SaRow}
+use Rattle.sa_book.specs.SaRow.{MayAccept}
 use Rattle.sa_book.specs.SaRefusal.{receives_with, receiver_with}
 use Rattle.sa_book.proofs.Rows.{within_place}
 use Rattle.sdls_base.proofs.Searches.{find_none}
@@ -32,7 +33,6 @@ use Rattle.unit_state.proofs.Held.{row_of_changed}
 use Rattle.unit_state.proofs.KeyRules.{number_test, stands}
 use Rattle.unit_state.proofs.RulesKept.{there}
 use Rattle.frame_checks.specs.declared.open_reply.OpenReply.TheVariants as opens
-use Rattle.frame_checks.specs.Accepting.{MayBeAccepted}
 use Rattle.frame_checks.specs.Opening.{IsOpenReply}
 use Rattle.frame_checks.proofs.Replies.{any_reply_may}
 use Rattle.record_io.specs.declared.records.Record.{Record}
@@ -89,9 +89,10 @@ acceptance_takes state change spi key number floor rules allowed is =
 
 -- ---- a taken number is not accepted
 
-pub not_fresh : (state : State) (spi key number : ℕ) → IsTaken state key number → MayBeAccepted state spi key number → ⊥
+pub not_fresh : (state : State) (spi key number : ℕ) → IsTaken state key number
+    → IsSomeAnd (association_row state spi) (λ row. MayAccept row number × (row.key ≡ Some key)) → ⊥
 not_fresh state spi key number taken may =
-    let row = there (association_row state spi) _ may.row in
+    let row = there (association_row state spi) _ may in
     let own : receives_with key row.row ≡ true = receives key row.row (record { direction = row.holds.0.receives; own = row.holds.1 }) in
     let high : number ≤ row.row.window.high = found (IsUpTo key number) _ state.associations row.row row.is taken.highs own in
     let above = row.holds.0.fresh.above in
@@ -100,7 +101,7 @@ not_fresh state spi key number taken may =
 pub barred : (plan : PlanLines) (state : State) (link : ℕ) (frame field : List ℕ) (spi key number from to : ℕ) → IsTaken state key number
     → IsOpenReply plan state link frame (opens.Accepted spi key number from to) field → ⊥
 barred plan state link frame field spi key number from to taken is =
-    not_fresh state spi key number taken (any_reply_may plan state link frame (opens.Accepted spi key number from to) field is)
+    not_fresh state spi key number taken (any_reply_may plan state link frame (opens.Accepted spi key number from to) field is).row
 
 -- ---- taken, and at most the floor that a release would leave
 

@@ -4,3 +4,5 @@ pub mod Legal
 pub mod Marks
 pub mod Highs
 pub mod Accepting
+pub mod Along
+pub mod Loaded

@@ -1,11 +1,14 @@
 -- The legal history of a run (profile).
-use Rattle.std.specs.Prelude.{◌≡◌, ℕ, ◌+◌, ◌<◌, ◌≤◌, ◌⊎◌, List, length, take, slice_get, Contains, Some}
+use Rattle.std.specs.Prelude.{◌≡◌, ◌≢◌, ℕ, ◌+◌, ◌<◌, ◌≤◌, ◌⊎◌, List, length, take, slice_get, Contains, Some}
 use Rattle.sdls_base.specs.declared.entry.Entry.{Entry}
 use Rattle.unit_plan.specs.PlanLines.{PlanLines}
+use Rattle.unit_plan.specs.PlanRules.{IsPlan}
 use Rattle.unit_state.specs.declared.state.State.{State}
+use Rattle.unit_state.specs.State.{KeepsRules}
 use Rattle.unit_state.specs.History.{after_first}
 use Rattle.record_io.specs.declared.kinds.RecordKind.TheVariants.{Command}
 use Rattle.record_io.specs.declared.records.Record.{Record}
+use Rattle.record_io.specs.Places.{Place, records_of}
 use Rattle.unit_history.specs.Numbers.{mark_of}
 use Rattle.unit_history.specs.Legal.{AsksFor, IsLegal, IsRelease}
 use Rattle.unit_history.specs.Counts.{drawers, reserves_of}
@@ -27,6 +30,11 @@ pub record NearWord (start : State) (entries : List Entry) (records : List Recor
   pub is_base : (base ≡ mark_of start key) ⊎ IsAskedFor start entries records key base
   pub most : word ≤ base + drawers records
 
+-- two records of these places, by their numbers, are handled in their order: they are of one lane, or of different segments
+abbrev pub TurnIn : List Place → ℕ → ℕ → Type 0
+TurnIn places i j = (one other : Place) × Contains places one × Contains places other × (one.task.index ≡ i) × (other.task.index ≡ j)
+    × ((one.task.lane ≡ other.task.lane) ⊎ (one.segment ≢ other.segment))
+
 -- A legal history of a run with these records. The first `ends` entries are of records, or reserves; the others are releases.
 -- In turn says which two records, by their numbers, are handled in their order.
 pub record LegalRun (plan : PlanLines) (start : State) (records : List Record) (in_turn : ℕ → ℕ → Type 0) (entries : List Entry) : Type 0 where
@@ -45,3 +53,9 @@ pub record LegalRun (plan : PlanLines) (start : State) (records : List Record) (
   -- entries of records that are handled in their order stand in it
   pub in_order : (p q i j : ℕ) (a b : Entry) → slice_get entries p ≡ Some a → slice_get entries q ≡ Some b
       → a.index ≡ Some i → b.index ≡ Some j → i < j → in_turn i j → p < q
+
+-- the history of a run that served these places of an input: the plan and the first state keep their rules, and it is legal
+pub record IsLegalHistory (plan : PlanLines) (start : State) (places : List Place) (entries : List Entry) : Type 0 where
+  pub plan_is : IsPlan plan
+  pub rules : KeepsRules start
+  pub run : LegalRun plan start (records_of places) (TurnIn places) entries

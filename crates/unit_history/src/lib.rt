@@ -6,9 +6,16 @@
 #![tactic(auto)]
 
 mod entries;
+mod keys;
+mod runs;
 mod taken;
 
 pub use entries::{legal_is_allowed, numbers_rise, release_is_allowed, release_stays_above};
+pub use keys::{loaded_once, loaded_stays, octets_are_loaded, rows_stay};
+pub use runs::{
+    accepted_above_the_start, accepted_once, accepted_stays_covered, kept_floors_rise_along,
+    marks_rise_along, rules_stay_along, used_stays_below,
+};
 pub use taken::{
     acceptance_takes, kept_floor_rises, taken_from_the_start, taken_is_refused, taken_stays,
     taken_up_to_the_floor,
