@@ -6,3 +6,4 @@ pub mod Highs
 pub mod Accepting
 pub mod Along
 pub mod Loaded
+pub mod Codes

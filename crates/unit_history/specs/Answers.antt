@@ -1,5 +1,6 @@
 -- What answers tell, but for their positions (profile).
-use Rattle.std.specs.Prelude.{◌≡◌, ◌≢◌, ℕ, ◌⊎◌, List, [], ◌++◌, Option, Some, None, Ok, Err, unwrap_or}
+use Rattle.std.specs.Prelude.{◌≡◌, ◌≢◌, ℕ, ◌⊎◌, ◌==◌, IsTrue, List, [], ◌∷◌, ◌++◌, Option, Some, None, Ok, Err, unwrap_or}
+use Rattle.std.specs.List.{list_any}
 use Rattle.std.specs.Int.{w64, to_be_bytes}
 use Rattle.frame_shield.specs.declared.protecting.ShieldFault.{ShieldFault}
 use Rattle.frame_shield.specs.declared.protecting.ShieldFault.TheVariants as faults
@@ -10,7 +11,9 @@ use Rattle.ep_codec.specs.Field.{sa_state_code}
 use Rattle.ep_core.specs.declared.reply.Reply.{Reply}
 use Rattle.ep_core.specs.declared.reply.Reply.TheVariants as replies
 use Rattle.record_io.specs.declared.answers.Answer.{Answer}
-use Rattle.record_io.specs.declared.code.TheConstants.{PROTECTED, ACCEPTED, CLEAR, DONE, REFUSED, LAYOUT, CHANNEL, SPI, DIRECTION, STATE, COVERAGE, MAC, NUMBER}
+use Rattle.record_io.specs.declared.code.TheConstants.{PROTECTED, ACCEPTED, CLEAR, DONE, REFUSED, LAYOUT, CHANNEL, SPI, DIRECTION, STATE, COVERAGE, MAC, NUMBER, EXHAUSTED, JOURNAL_FULL, SITE_FAULT, STOPPED, NO_MEMORY}
+use Rattle.record_io.specs.declared.kinds.RecordKind.{RecordKind}
+use Rattle.record_io.specs.declared.kinds.RecordKind.TheVariants.{Protect, Open, Command}
 
 -- all fields of an answer but its position
 pub record Told : Type 0 where
@@ -69,6 +72,18 @@ abbrev pub unbound_told : protecting.Answer → Option Told
 unbound_told (Ok None) = Some (plain CLEAR 0)
 unbound_told (Ok (Some binding)) = None
 unbound_told (Err fault) = Some (fault_told fault)
+
+-- the codes of the answers that a record of any kind may have, and of those of each kind
+abbrev pub any_codes : List ℕ
+any_codes = JOURNAL_FULL ∷ SITE_FAULT ∷ STOPPED ∷ NO_MEMORY ∷ []
+
+abbrev pub codes_of : RecordKind → List ℕ
+codes_of Protect = PROTECTED ∷ CLEAR ∷ LAYOUT ∷ CHANNEL ∷ STATE ∷ EXHAUSTED ∷ any_codes
+codes_of Open = ACCEPTED ∷ CLEAR ∷ LAYOUT ∷ CHANNEL ∷ SPI ∷ DIRECTION ∷ STATE ∷ COVERAGE ∷ MAC ∷ NUMBER ∷ any_codes
+codes_of Command = DONE ∷ REFUSED ∷ any_codes
+
+abbrev pub IsCodeOf : RecordKind → ℕ → Type 0
+IsCodeOf kind code = IsTrue (list_any (λ own. own == code) (codes_of kind))
 
 -- the answer uses the number under the key: a frame protected, or a command done that drew it
 abbrev pub Uses : Answer → ℕ → ℕ → Type 0

@@ -5,11 +5,13 @@
 //! `specs/Legal.antt` and `specs/Fits.antt` first.
 #![tactic(auto)]
 
+mod answers;
 mod entries;
 mod keys;
 mod runs;
 mod taken;
 
+pub use answers::{acceptance_is_told, answers_accept_once, fits_has_a_code};
 pub use entries::{legal_is_allowed, numbers_rise, release_is_allowed, release_stays_above};
 pub use keys::{loaded_once, loaded_stays, octets_are_loaded, rows_stay};
 pub use runs::{
