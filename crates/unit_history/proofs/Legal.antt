@@ -137,7 +137,7 @@ release_is_allowed near state entry release rules some =
 
 -- ---- near, and nearer
 
-seen_wider : (near wider : ℕ → ℕ → Type 0) → ((key number : ℕ) → near key number → wider key number) → (key : ℕ) (seen : Seen)
+pub seen_wider : (near wider : ℕ → ℕ → Type 0) → ((key number : ℕ) → near key number → wider key number) → (key : ℕ) (seen : Seen)
     → SeenNear near key seen → SeenNear wider key seen
 seen_wider near wider more key seens.Nothing is = tt
 seen_wider near wider more key (seens.Word word) is = more key word is

@@ -7,3 +7,4 @@ pub mod Accepting
 pub mod Along
 pub mod Loaded
 pub mod Codes
+pub mod GoingOn

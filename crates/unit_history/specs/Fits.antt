@@ -1,5 +1,5 @@
 -- When an answer fits the record that it answers (profile).
-use Rattle.std.specs.Prelude.{◌≡◌, ◌≢◌, ℕ, ◌+◌, ◌-◌, ◌<◌, ◌≤◌, ◌⊎◌, List, [], length, take, slice_get, Some, Ok}
+use Rattle.std.specs.Prelude.{◌≡◌, ◌≢◌, ℕ, ◌+◌, ◌-◌, ◌<◌, ◌≤◌, ◌⊎◌, List, [], ◌++◌, length, take, slice_get, Some, Ok}
 use Rattle.sdls_base.specs.KeyId.{end_of}
 use Rattle.sdls_base.specs.declared.change.Change.{Change}
 use Rattle.sdls_base.specs.declared.change.Change.TheVariants as changes
@@ -45,6 +45,10 @@ state_after course p = after_first course.start course.entries p
 
 abbrev pub state_in : Course → ℕ → State
 state_in course epoch = at_epoch course.start course.entries epoch
+
+-- more entries are known, and a later count of faults
+abbrev pub grown : Course → List Entry → ℕ → Course
+grown course more faults = record course { entries = course.entries ++ more; faults = faults }
 
 -- ---- when a record can need an append
 
