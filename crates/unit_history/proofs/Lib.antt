@@ -8,3 +8,4 @@ pub mod Along
 pub mod Loaded
 pub mod Codes
 pub mod GoingOn
+pub mod Releasing

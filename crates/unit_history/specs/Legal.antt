@@ -1,5 +1,5 @@
 -- The entries of a run: each of a record, a reserve, or at the end a release, in the state before it (profile).
-use Rattle.std.specs.Prelude.{◌≡◌, ⊤, ℕ, ◌<◌, ◌≤◌, ◌⊎◌, List, take, slice_get, Contains, Option, Some, None, IsSome}
+use Rattle.std.specs.Prelude.{◌≡◌, ⊤, ℕ, ◌+◌, ◌<◌, ◌≤◌, ◌⊎◌, List, take, slice_get, Contains, Option, Some, None, IsSome}
 use Rattle.sdls_base.specs.KeyId.{end_of}
 use Rattle.sdls_base.specs.declared.entry.Entry.{Entry}
 use Rattle.sdls_base.specs.declared.entry.Logged.{Logged}
@@ -97,6 +97,11 @@ pub record IsRelease (near : ℕ → ℕ → Type 0) (state : State) (entry : En
   pub there : key_row state held.id ≡ Some held
   pub is_near : near held.id word
   pub releases : release_of state word held ≡ Some entry
+
+-- the words are near, each for the key at its place, counted from a place on
+abbrev pub AreNear : (ℕ → ℕ → Type 0) → List KeyRow → ℕ → List ℕ → Type 0
+AreNear near keys from words = (i word : ℕ) (held : KeyRow) → slice_get words i ≡ Some word → slice_get keys (from + i) ≡ Some held
+    → near held.id word
 
 -- an entry of any kind
 abbrev pub IsEntry : (ℕ → ℕ → Type 0) → PlanLines → State → List Record → Entry → Type 0

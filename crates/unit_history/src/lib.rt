@@ -9,6 +9,7 @@ mod answers;
 mod entries;
 mod growing;
 mod keys;
+mod releases;
 mod runs;
 mod taken;
 
@@ -16,6 +17,7 @@ pub use answers::{acceptance_is_told, answers_accept_once, fits_has_a_code};
 pub use entries::{legal_is_allowed, numbers_rise, release_is_allowed, release_stays_above};
 pub use growing::{fits_stays, legal_log_is_legal, legal_place_stays, near_stays};
 pub use keys::{loaded_once, loaded_stays, octets_are_loaded, rows_stay};
+pub use releases::releases_are_legal;
 pub use runs::{
     accepted_above_the_start, accepted_once, accepted_stays_covered, kept_floors_rise_along,
     marks_rise_along, rules_stay_along, used_stays_below,
