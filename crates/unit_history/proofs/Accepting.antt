@@ -220,6 +220,18 @@ taken_restarted state key number same low = record {
       (λ k d within. restarted_up state.keys key number (get_or state.associations k d) low));
 }
 
+-- the floor that a release would leave is no higher than the key's
+pub kept_low : (state : State) (key : ℕ) → KeepsRules state → kept_floor state key ≤ floor_of state key
+kept_low state key rules = (kept_taken state key (kept_floor state key) rules (omega arith)).floor
+
+-- after a restart it is the key's
+pub kept_restarted : (state : State) (key : ℕ) → KeepsRules state → restarted state ≡ state → kept_floor state key ≡ floor_of state key
+kept_restarted state key rules same =
+    let low : kept_floor state key ≤ floor_of state key = kept_low state key rules in
+    let high : floor_of state key ≤ kept_floor state key =
+    taken_kept state key (floor_of state key) (taken_restarted state key (floor_of state key) same (omega arith)) in
+    omega arith
+
 -- ---- entries of any kind
 
 pub entry_takes : (near : ℕ → ℕ → Type 0) (plan : PlanLines) (state : State) (records : List Record) (entry : Entry) (key number : ℕ) → IsPlan plan

@@ -70,7 +70,7 @@ pub record OfRun (plan : PlanLines) (start : State) (records : List Record) (in_
   pub rules : KeepsRules start
   pub run : LegalRun plan start records in_turn entries
 
-is_entry : (plan : PlanLines) (start : State) (records : List Record) (in_turn : ℕ → ℕ → Type 0) (entries : List Entry)
+pub is_entry : (plan : PlanLines) (start : State) (records : List Record) (in_turn : ℕ → ℕ → Type 0) (entries : List Entry)
     → LegalRun plan start records in_turn entries → (k : ℕ) (entry : Entry) → slice_get entries k ≡ Some entry
     → IsEntry (NearWord start entries records) plan (after_first start entries k) records entry
 is_entry plan start records in_turn entries run k entry there =

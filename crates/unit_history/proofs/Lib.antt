@@ -9,3 +9,5 @@ pub mod Loaded
 pub mod Codes
 pub mod GoingOn
 pub mod Releasing
+pub mod Used
+pub mod Answered

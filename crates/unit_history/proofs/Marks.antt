@@ -126,6 +126,7 @@ legal_up near plan state records entry rules (inr (inr reserve)) =
 
 -- the entry of a release
 pub record IsReleaseEntry (state : State) (word : ℕ) (held : KeyRow) (entry : Entry) : Type 0 where
+  pub index_is : entry.index ≡ None
   pub seen_is : entry.seen ≡ Word word
   pub change_is : entry.change ≡ Marks held.id (min held.mark word) (released_floor state held)
 
@@ -136,6 +137,7 @@ release_entry_by state word held true made entry made_is is = absurd (none-some 
 release_entry_by state word held false made entry made_is is =
     let same : entry ≡ made = sym (same_Some made entry is) in
     record {
+      index_is = ap (λ (e : Entry). e.index) (same ∙ made_is);
       seen_is = ap (λ (e : Entry). e.seen) (same ∙ made_is);
       change_is = ap (λ (e : Entry). e.change) (same ∙ made_is);
     }

@@ -1,13 +1,15 @@
 //! Laws of answers that fit. What fits near some words fits anywhere.
 
-ghost use Rattle.std.specs.Prelude.{◌≡◌, ◌≢◌, ℕ, ◌-◌, List};
+ghost use Rattle.std.specs.Prelude.{◌≡◌, ◌≢◌, ℕ, ◌-◌, ◌<◌, List};
 ghost use Rattle.record_io.specs.declared.answers.Answer.{Answer};
+ghost use Rattle.record_io.specs.declared.kinds.RecordKind.TheVariants.{Command};
 ghost use Rattle.record_io.specs.declared.records.Record.{Record};
 ghost use Rattle.record_io.specs.Places.{Place};
+ghost use Rattle.unit_history.specs.Numbers.{mark_of};
 ghost use Rattle.unit_history.specs.Legal.{anywhere};
-ghost use Rattle.unit_history.specs.Run.{IsLegalHistory};
-ghost use Rattle.unit_history.specs.Answers.{Accepts, IsCodeOf};
-ghost use Rattle.unit_history.specs.Fits.{Course, Fits, IsOpenAnswer};
+ghost use Rattle.unit_history.specs.Run.{IsLegalHistory, IsServed};
+ghost use Rattle.unit_history.specs.Answers.{Accepts, IsCodeOf, Uses};
+ghost use Rattle.unit_history.specs.Fits.{Course, Fits, IsOpenAnswer, state_before};
 ghost use Rattle.unit_history.specs.Laws.{AcceptsAt};
 
 /// Law: an answer that fits has one of the codes of its record's kind.
@@ -30,4 +32,12 @@ pub fn answers_accept_once()
         → IsLegalHistory course.plan course.start places course.entries → one.index ≢ other.index
         → Fits anywhere course one a → Fits anywhere course other b
         → Accepts a key number → ¬ Accepts b key number }
+{}
+
+/// Law: the number that the answer to a command says was used is below the mark of its key, before the command's entry.
+pub fn answered_is_below_the_mark()
+    ensures { (course : Course) (places : List Place) (task : Record) (answer : Answer) (key number : ℕ)
+        → IsLegalHistory course.plan course.start places course.entries → IsServed places task → task.kind ≡ Command
+        → Fits anywhere course task answer → Uses answer key number
+        → number < mark_of (state_before course answer) key }
 {}

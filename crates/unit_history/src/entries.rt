@@ -1,17 +1,22 @@
 //! Laws of one entry. What is legal or a release near some words is so anywhere.
 
-ghost use Rattle.std.specs.Prelude.{◌≡◌, ℕ, ◌<◌, ◌≤◌, List};
+ghost use Rattle.std.specs.Prelude.{◌≡◌, ℕ, ◌<◌, ◌≤◌, List, Some};
+ghost use Rattle.sdls_base.specs.declared.change.Change.{Change};
 ghost use Rattle.sdls_base.specs.declared.entry.Entry.{Entry};
+ghost use Rattle.sdls_base.specs.declared.entry.Seen.{Seen};
 ghost use Rattle.unit_plan.specs.PlanLines.{PlanLines};
 ghost use Rattle.unit_plan.specs.PlanRules.{IsPlan};
 ghost use Rattle.unit_state.specs.declared.state.State.{State};
 ghost use Rattle.unit_state.specs.State.{KeepsRules};
 ghost use Rattle.unit_state.specs.Applied.{applied};
 ghost use Rattle.unit_state.specs.Allows.{Allows};
+ghost use Rattle.ep_core.specs.declared.reply.Reply.{Reply};
+ghost use Rattle.ep_core.specs.declared.reply.Reply.TheVariants.{Done};
 ghost use Rattle.record_io.specs.declared.records.Record.{Record};
 ghost use Rattle.unit_history.specs.Numbers.{mark_of};
-ghost use Rattle.unit_history.specs.Legal.{anywhere, IsLegal, IsRelease};
-ghost use Rattle.unit_history.specs.Laws.{NumbersRise};
+ghost use Rattle.unit_history.specs.Entries.{IsStepOf};
+ghost use Rattle.unit_history.specs.Legal.{anywhere, SeesFor, IsLegal, IsRelease, IsReserve};
+ghost use Rattle.unit_history.specs.Laws.{IsOfCommand, NumbersRise};
 
 /// Law: a legal entry's change is one that the state before it allows.
 pub fn legal_is_allowed()
@@ -37,4 +42,23 @@ pub fn release_stays_above()
     ensures { (state : State) (entry : Entry) (release : IsRelease anywhere state entry)
         → KeepsRules state → 1 ≤ release.word → (key number : ℕ) → number < mark_of state key
         → (release.held.id ≡ key → number < release.word) → number < mark_of (applied state entry.change) key }
+{}
+
+/// Law: a reserve leaves a mark above its number.
+pub fn reserve_stays_above()
+    ensures { (plan : PlanLines) (state : State) (entry : Entry) (reserve : IsReserve anywhere plan state entry)
+        → IsPlan plan → KeepsRules state → reserve.number < mark_of (applied state entry.change) reserve.key }
+{}
+
+/// Law: no step of a command sets marks, or accepts a number.
+pub fn steps_set_no_marks()
+    ensures { (state : State) (octets : List ℕ) (seen : Seen) (step : Change × Reply)
+        → IsStepOf state octets seen step → IsOfCommand step.0 }
+{}
+
+/// Law: a number that a command uses is below the mark of its key.
+pub fn used_is_below_the_mark()
+    ensures { (state : State) (octets : List ℕ) (seen : Seen) (change : Change) (key number : ℕ) (pdu : List ℕ)
+        → SeesFor state octets seen → IsStepOf state octets seen (change, Done (Some key) number pdu)
+        → number < mark_of state key }
 {}

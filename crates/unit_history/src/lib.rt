@@ -13,8 +13,13 @@ mod releases;
 mod runs;
 mod taken;
 
-pub use answers::{acceptance_is_told, answers_accept_once, fits_has_a_code};
-pub use entries::{legal_is_allowed, numbers_rise, release_is_allowed, release_stays_above};
+pub use answers::{
+    acceptance_is_told, answered_is_below_the_mark, answers_accept_once, fits_has_a_code,
+};
+pub use entries::{
+    legal_is_allowed, numbers_rise, release_is_allowed, release_stays_above, reserve_stays_above,
+    steps_set_no_marks, used_is_below_the_mark,
+};
 pub use growing::{fits_stays, legal_log_is_legal, legal_place_stays, near_stays};
 pub use keys::{loaded_once, loaded_stays, octets_are_loaded, rows_stay};
 pub use releases::releases_are_legal;
@@ -23,6 +28,6 @@ pub use runs::{
     marks_rise_along, rules_stay_along, used_stays_below,
 };
 pub use taken::{
-    acceptance_takes, kept_floor_rises, taken_from_the_start, taken_is_refused, taken_stays,
-    taken_up_to_the_floor,
+    acceptance_takes, kept_floor_at_the_start, kept_floor_is_low, kept_floor_rises,
+    taken_from_the_start, taken_is_refused, taken_stays, taken_up_to_the_floor,
 };

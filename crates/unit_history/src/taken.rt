@@ -55,3 +55,14 @@ pub fn kept_floor_rises()
         → IsPlan plan → KeepsRules state → IsEntry anywhere plan state records entry
         → kept_floor state key ≤ kept_floor (applied state entry.change) key }
 {}
+
+/// Law: the floor that a release would leave is no higher than the key's, and so than that of what a restart leaves.
+pub fn kept_floor_is_low()
+    ensures { (state : State) (key : ℕ) → KeepsRules state → kept_floor state key ≤ floor_of (restarted state) key }
+{}
+
+/// Law: in a state that a restart left it is the key's floor.
+pub fn kept_floor_at_the_start()
+    ensures { (state : State) (key : ℕ) → KeepsRules state → restarted state ≡ state
+        → kept_floor state key ≡ floor_of state key }
+{}
