@@ -11,3 +11,4 @@ pub mod GoingOn
 pub mod Releasing
 pub mod Used
 pub mod Answered
+pub mod Ended

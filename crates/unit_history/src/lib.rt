@@ -22,7 +22,7 @@ pub use entries::{
 };
 pub use growing::{fits_stays, legal_log_is_legal, legal_place_stays, near_stays};
 pub use keys::{loaded_once, loaded_stays, octets_are_loaded, rows_stay};
-pub use releases::releases_are_legal;
+pub use releases::{releases_are_legal, run_with_releases};
 pub use runs::{
     accepted_above_the_start, accepted_once, accepted_stays_covered, kept_floors_rise_along,
     marks_rise_along, rules_stay_along, used_stays_below,
