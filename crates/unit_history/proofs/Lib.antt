@@ -12,3 +12,4 @@ pub mod Releasing
 pub mod Used
 pub mod Answered
 pub mod Ended
+pub mod Epochs

@@ -93,6 +93,10 @@ digest_kept state (Accepted spi own number floor) key digest has =
     digest_changed state.keys own key (λ (row : KeyRow). record row { floor = max row.floor floor }) digest (λ row. refl) (λ row. refl) has
 digest_kept state Nothing key digest has = has
 
+pub loaded_step : (state : State) (change : Change) (key : ℕ) (octets : List ℕ) → IsLoadedWith state key octets
+    → IsLoadedWith (applied state change) key octets
+loaded_step state change key octets is = digest_kept state change key (sha256 octets) is
+
 pub loaded_along : (start : State) (entries : List Entry) (key : ℕ) (octets : List ℕ) → IsLoadedWith start key octets
     → IsLoadedWith (after start entries) key octets
 loaded_along start [] key octets is = is

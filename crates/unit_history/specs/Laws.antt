@@ -1,10 +1,11 @@
 -- What the laws of histories say.
-use Rattle.std.specs.Prelude.{◌≡◌, ⊤, ℕ, ◌<◌, ◌≤◌, List, slice_get, Some}
+use Rattle.std.specs.Prelude.{◌≡◌, ⊤, ℕ, ◌<◌, ◌≤◌, List, length, take, slice_get, Some}
 use Rattle.sdls_base.specs.declared.change.Change.{Change}
 use Rattle.sdls_base.specs.declared.change.Change.TheVariants.{Marks, Load, KeyStates, Create, Rekey, SaTo, SetNumber, SetWindow, Accepted, Nothing}
 use Rattle.sdls_base.specs.declared.entry.Entry.{Entry}
 use Rattle.sdls_base.specs.declared.entry.Seen.TheVariants.{Word}
 use Rattle.unit_state.specs.declared.state.State.{State}
+use Rattle.unit_state.specs.History.{after_first, at_epoch, epoch_after}
 use Rattle.unit_history.specs.Numbers.{mark_of, floor_of}
 
 -- a change that a command makes: it neither sets marks nor accepts a number
@@ -37,3 +38,9 @@ pub record AcceptsAt (entries : List Entry) (place key number : ℕ) : Type 0 wh
 abbrev pub IsBelowReleases : List Entry → ℕ → ℕ → ℕ → Type 0
 IsBelowReleases entries from key number = (place : ℕ) (entry : Entry) (word mark floor : ℕ) → from ≤ place
     → slice_get entries place ≡ Some entry → entry.seen ≡ Word word → entry.change ≡ Marks key mark floor → number < word
+
+-- the epoch began with the state after the first so many entries
+pub record BeginsAt (start : State) (entries : List Entry) (epoch place : ℕ) : Type 0 where
+  pub within : place ≤ length entries
+  pub state : at_epoch start entries epoch ≡ after_first start entries place
+  pub counted : epoch_after (take place entries) ≡ epoch

@@ -21,11 +21,11 @@ pub use entries::{
     steps_set_no_marks, used_is_below_the_mark,
 };
 pub use growing::{fits_stays, legal_log_is_legal, legal_place_stays, near_stays};
-pub use keys::{loaded_once, loaded_stays, octets_are_loaded, rows_stay};
+pub use keys::{loaded_once, loaded_stays, loaded_stays_since_epoch, octets_are_loaded, rows_stay};
 pub use releases::{releases_are_legal, run_with_releases};
 pub use runs::{
-    accepted_above_the_start, accepted_once, accepted_stays_covered, kept_floors_rise_along,
-    marks_rise_along, rules_stay_along, used_stays_below,
+    accepted_above_the_start, accepted_once, accepted_stays_covered, epochs_are_places,
+    kept_floors_rise_along, marks_rise_along, rules_stay_along, used_stays_below,
 };
 pub use taken::{
     acceptance_takes, kept_floor_at_the_start, kept_floor_is_low, kept_floor_rises,

@@ -5,13 +5,13 @@ ghost use Rattle.sdls_base.specs.declared.entry.Entry.{Entry};
 ghost use Rattle.unit_plan.specs.PlanLines.{PlanLines};
 ghost use Rattle.unit_state.specs.declared.state.State.{State};
 ghost use Rattle.unit_state.specs.State.{KeepsRules};
-ghost use Rattle.unit_state.specs.History.{after_first};
+ghost use Rattle.unit_state.specs.History.{after_first, epoch_after};
 ghost use Rattle.unit_state.specs.Restart.{restarted};
 ghost use Rattle.record_io.specs.Places.{Place};
 ghost use Rattle.unit_history.specs.Numbers.{mark_of, floor_of};
 ghost use Rattle.unit_history.specs.Run.{IsLegalHistory};
 ghost use Rattle.unit_history.specs.Taken.{kept_floor};
-ghost use Rattle.unit_history.specs.Laws.{AcceptsAt, IsBelowReleases};
+ghost use Rattle.unit_history.specs.Laws.{AcceptsAt, BeginsAt, IsBelowReleases};
 
 /// Law: each state of a legal history keeps the rules.
 pub fn rules_stay_along()
@@ -65,4 +65,10 @@ pub fn accepted_above_the_start()
     ensures { (plan : PlanLines) (start : State) (places : List Place) (entries : List Entry)
         → IsLegalHistory plan start places entries → restarted start ≡ start
         → (p key number : ℕ) → AcceptsAt entries p key number → floor_of start key < number }
+{}
+
+/// Law: an epoch that is reached began at a place of the history, whose epoch it is.
+pub fn epochs_are_places()
+    ensures { (start : State) (entries : List Entry) (epoch : ℕ) → epoch ≤ epoch_after entries
+        → (place : ℕ) × BeginsAt start entries epoch place }
 {}

@@ -1,0 +1,5 @@
+use Rattle.unit_history.proofs.Epochs.{begins}
+use Rattle.unit_history.proofs.runs.epochs_are_places.Goals as goal
+
+pub returns : goal.returns
+returns c = begins
