@@ -1,0 +1,207 @@
+//! The steps, and what they answer.
+
+use crate::unit::Unit;
+use crate::words::{link_of, number_at, numbers};
+use crate::{image, texts};
+use sdls_outside::{Crash, MemSite};
+use std::alloc::{AllocError, Global};
+use std::mem;
+
+/// What the next octet of a word says a crash leaves.
+fn crash_of(word: &str) -> Crash {
+    match word {
+        "kept" => Crash::Kept,
+        "lost" => Crash::Lost,
+        _ => Crash::Filled(word.parse().unwrap_or(0)),
+    }
+}
+
+/// The lines of a plan and of a life that were gathered, the image as it lies and the one that was kept, the calls that are to
+/// fail, and the unit that is open.
+#[derive(Drop)]
+pub struct Table {
+    plan: String,
+    life: String,
+    image: Vec<u8>,
+    kept: Vec<u8>,
+    failing: Vec<u64>,
+    unit: Option<Unit<MemSite>>,
+}
+
+impl Table {
+    /// A table of which nothing was read.
+    pub fn new(alloc: Global) -> Table {
+        Table {
+            plan: String::new(alloc),
+            life: String::new(alloc),
+            image: Vec::new(alloc),
+            kept: Vec::new(alloc),
+            failing: Vec::new(alloc),
+            unit: None,
+        }
+    }
+
+    /// Gathers a line of a plan.
+    pub fn gather(&mut self, line: &str) -> Result<(), AllocError> {
+        self.plan.push_str(line)?;
+        self.plan.push_str("\n")
+    }
+
+    /// Gathers a step of a life.
+    pub fn gather_step(&mut self, line: &str) -> Result<(), AllocError> {
+        self.life.push_str(line)?;
+        self.life.push_str("\n")
+    }
+
+    fn create(&mut self, alloc: Global, rest: &str) -> anyhow::Result<String> {
+        let slots = u32::try_from(number_at(rest, 0)).unwrap_or(0);
+        self.image = image::made(alloc, self.plan.as_str().as_bytes(), slots)?;
+        self.plan.clear();
+        let length = self.image.len();
+        Ok(format!(in alloc; "image of {length}")?)
+    }
+
+    fn set(&mut self, alloc: Global, rest: &str) -> anyhow::Result<String> {
+        let octets = hex::decode(alloc, rest.split_whitespace().nth(1).unwrap_or(""))?;
+        let at = usize::try_from(number_at(rest, 0)).unwrap_or(0);
+        image::set(self.image.as_mut_slice(), at, octets.as_slice());
+        Ok(format!(in alloc; "set")?)
+    }
+
+    fn cut(&mut self, alloc: Global, rest: &str) -> anyhow::Result<String> {
+        self.image
+            .truncate(usize::try_from(number_at(rest, 0)).unwrap_or(0));
+        let length = self.image.len();
+        Ok(format!(in alloc; "image of {length}")?)
+    }
+
+    fn keep(&mut self, alloc: Global) -> anyhow::Result<String> {
+        self.kept = Vec::from_slice(alloc, self.image.as_slice())?;
+        Ok(format!(in alloc; "kept")?)
+    }
+
+    fn back(&mut self, alloc: Global) -> anyhow::Result<String> {
+        self.image = Vec::from_slice(alloc, self.kept.as_slice())?;
+        Ok(format!(in alloc; "back")?)
+    }
+
+    fn octets(&self, alloc: Global, rest: &str) -> anyhow::Result<String> {
+        let from = usize::try_from(number_at(rest, 0)).unwrap_or(0);
+        let to = from.saturating_add(usize::try_from(number_at(rest, 1)).unwrap_or(0));
+        Ok(hex::encode(alloc, self.image.as_slice().get(from..to).unwrap_or(&[]))?)
+    }
+
+    fn open(&mut self, alloc: Global) -> anyhow::Result<String> {
+        let failing = mem::replace(&mut self.failing, Vec::new(alloc));
+        let image = Vec::from_slice(alloc, self.image.as_slice())?;
+        match Unit::open(alloc, MemSite::new(alloc, image, failing, None)) {
+            Ok(unit) => {
+                self.unit = Some(unit);
+                Ok(format!(in alloc; "opened")?)
+            }
+            Err((fault, site)) => {
+                let fault = texts::open_fault(alloc, &fault)?;
+                let same = if site.image() == self.image.as_slice() {
+                    "unchanged"
+                } else {
+                    "changed"
+                };
+                Ok(format!(in alloc; "{fault}, {same}")?)
+            }
+        }
+    }
+
+    fn close(&mut self, alloc: Global) -> anyhow::Result<String> {
+        let Some(unit) = self.unit.take() else {
+            return Ok(format!(in alloc; "no unit")?);
+        };
+        let (site, entries) = unit.into_site();
+        self.image = Vec::from_slice(alloc, site.image())?;
+        let sunk = hex::encode(alloc, site.sunk())?;
+        Ok(format!(in alloc; "closed after {entries}, sunk {sunk}")?)
+    }
+
+    fn crash(&mut self, alloc: Global, rest: &str) -> anyhow::Result<String> {
+        let Some(unit) = self.unit.take() else {
+            return Ok(format!(in alloc; "no unit")?);
+        };
+        let (site, entries) = unit.into_site();
+        self.image = Vec::from_slice(alloc, site.crashed(crash_of(rest)).image())?;
+        Ok(format!(in alloc; "crashed after {entries}")?)
+    }
+
+    /// What a step of the open unit answers.
+    fn unit_answer(&mut self, alloc: Global, word: &str, rest: &str) -> anyhow::Result<String> {
+        let Some(unit) = &mut self.unit else {
+            return Ok(format!(in alloc; "no unit")?);
+        };
+        let octets = rest.split_whitespace().last().unwrap_or("");
+        match word {
+            "release" => return Ok(unit.release(alloc)?),
+            "tell" => return Ok(unit.tell(alloc)?),
+            _ => {}
+        }
+        let mut octets = hex::decode(alloc, octets)?;
+        match word {
+            "protect" => Ok(unit.protect(alloc, link_of(rest), octets.as_slice())?),
+            "accept" => Ok(unit.accept(alloc, link_of(rest), octets.as_mut_slice())?),
+            "do" => Ok(unit.command(alloc, octets.as_slice())?),
+            _ => Ok(unit.put(alloc, octets.as_slice())?),
+        }
+    }
+
+    fn step(&mut self, alloc: Global, line: &str) -> anyhow::Result<String> {
+        let (word, rest) = line.split_once(' ').unwrap_or((line, ""));
+        match word {
+            "create" => self.create(alloc, rest),
+            "set" => self.set(alloc, rest),
+            "cut" => self.cut(alloc, rest),
+            "keep" => self.keep(alloc),
+            "back" => self.back(alloc),
+            "octets" => self.octets(alloc, rest),
+            "failing" => {
+                self.failing = numbers(alloc, rest)?;
+                Ok(format!(in alloc; "failing")?)
+            }
+            "open" => self.open(alloc),
+            "close" => self.close(alloc),
+            "crash" => self.crash(alloc, rest),
+            "protect" | "accept" | "do" | "release" | "put" | "tell" => self.unit_answer(
+                alloc, word, rest,
+            ),
+            _ => Ok(format!(in alloc; "{line}")?),
+        }
+    }
+
+    /// Does a step so often, and tells the last answer: `COUNT STEP`.
+    fn repeated(&mut self, alloc: Global, rest: &str) -> anyhow::Result<String> {
+        let (_, step) = rest.split_once(' ').unwrap_or((rest, ""));
+        let mut answer = String::new(alloc);
+        for _ in 0..number_at(rest, 0) {
+            answer = self.step(alloc, step)?;
+        }
+        Ok(answer)
+    }
+
+    /// Does the steps of the life, and tells each answer in a line.
+    fn live(&mut self, alloc: Global) -> anyhow::Result<String> {
+        let life = String::from_str(alloc, self.life.as_str())?;
+        let mut answers = String::new(alloc);
+        for (i, step) in life.as_str().lines().enumerate() {
+            if i > 0 {
+                answers.push_str("\n")?;
+            }
+            answers.push_str(self.step(alloc, step)?.as_str())?;
+        }
+        Ok(answers)
+    }
+
+    /// What a line answers.
+    pub fn answer(&mut self, alloc: Global, line: &str) -> anyhow::Result<String> {
+        match line.split_once(' ').unwrap_or((line, "")) {
+            ("times", rest) => self.repeated(alloc, rest),
+            ("live", _) => self.live(alloc),
+            _ => self.step(alloc, line),
+        }
+    }
+}

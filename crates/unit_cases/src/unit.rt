@@ -1,0 +1,285 @@
+//! A unit on one lane: the book, and the next number of each key.
+
+ghost use Rattle.std.specs.Prelude.{◌≡◌, ◌≤◌, ℕ, ◌<◌, true, length, slice_index};
+ghost use Rattle.frame_shield.specs.Binding.{IsBinding};
+
+use crate::{needs, texts};
+use ep_codec::{command_without_fault, one_command};
+use ep_core::Need;
+use frame_shield::{Binding, fits, shield};
+use key_book::KeyRow;
+use sdls_base::{KeyId, Seen};
+use sdls_outside::Site;
+use std::alloc::{AllocError, Global};
+use std::marker::Model;
+use unit_book::{Book, BookFault};
+use unit_image::OpenFault;
+
+/// A book that is kept. Contracts see it as the book.
+pub struct Unit<O: Site> {
+    book: Book<O>,
+    next: Vec<u64>,
+    handled: u64,
+}
+
+impl<O: Site> Model for Unit<O> {
+    ghost use Rattle.unit_book.specs.Book.{BookView, IsKept};
+
+    ghost Value = { BookView O };
+
+    ghost view = { λ unit. unit.book };
+
+    ghost invariant = { λ unit. IsKept O.told O.trace O.faults unit.book };
+}
+
+impl<O: Site + Drop> Drop for Unit<O> {
+    fn drop(self) {
+        let _site = self.into_site();
+    }
+}
+
+/// Whether there is a word for each of so many rows, and each is at least 1.
+fn are_words(next: &[u64], rows: usize) -> bool
+    ensures { result ≡ true → (rows ≤ length next.now) × ((place : ℕ) → place < rows → 1 ≤ slice_index next.now place) }
+{
+    if next.len() < rows {
+        return false;
+    }
+    for place in 0..rows {
+        if next[place] < 1 {
+            return false;
+        }
+    }
+    true
+}
+
+/// The marks of the rows that have no word yet.
+fn push_marks(next: &mut Vec<u64>, rows: &[KeyRow]) {
+    let done = next.len();
+    for row in rows.iter().skip(done) {
+        let _pushed = next.push(row.mark);
+    }
+}
+
+impl<O: Site> Unit<O> {
+    /// The unit of an image. Each key's next number is its mark.
+    pub fn open(alloc: Global, site: O) -> Result<Unit<O>, (OpenFault, O)> {
+        let book = Book::open(alloc, site)?;
+        let mut unit = Unit {
+            book,
+            next: Vec::new(alloc),
+            handled: 0,
+        };
+        unit.meet();
+        Ok(unit)
+    }
+
+    /// Gives each key that has none its next number, as far as there is memory.
+    fn meet(&mut self) {
+        push_marks(&mut self.next, self.book.state().keys.rows());
+    }
+
+    /// Ends the run.
+    pub fn into_site(self) -> (O, usize) {
+        let Unit {
+            book,
+            next: _,
+            handled: _,
+        } = self;
+        let (site, entries) = book.into_site();
+        (site, entries.len())
+    }
+
+    /// How many entries the run has.
+    pub fn count(&self) -> u64 {
+        self.book.count()
+    }
+
+    /// The number of the record that is handled now.
+    fn index(&mut self) -> u64 {
+        let index = self.handled;
+        self.handled = index.saturating_add(1);
+        index
+    }
+
+    /// The next number of a key, 0 where it has none.
+    fn next_of(&self, key: KeyId) -> u64 {
+        let row = self.book.row_of(key);
+        let word = row.and_then(|row| self.next.get(row));
+        word.copied().unwrap_or(0)
+    }
+
+    fn set_next(&mut self, key: KeyId, number: u64) {
+        if let Some(row) = self.book.row_of(key) {
+            if let Some(word) = self.next.get_mut(row) {
+                *word = number;
+            }
+        }
+    }
+
+    /// Draws a number of a key, and sees to it that it is stored for: what was seen.
+    fn draw(&mut self, key: KeyId) -> Result<Seen, BookFault> {
+        let number = self.next_of(key);
+        if number >= key.end() {
+            return Ok(Seen::Exhausted(number));
+        }
+        self.set_next(key, number.saturating_add(1));
+        if self.book.state().keys.find(key).is_none() {
+            return Ok(Seen::Nothing);
+        }
+        match self.book.reserve(key, number) {
+            Ok(_) => Ok(Seen::Number(number)),
+            Err(fault) => Err(fault),
+        }
+    }
+
+    /// The protected frame, with index, key and number, or why there is none.
+    fn shielded(
+        &mut self,
+        alloc: Global,
+        binding: &Binding,
+        clear: &[u8],
+    ) -> Result<String, AllocError>
+        requires { IsBinding binding.now }
+    {
+        if let Err(fault) = fits(binding, clear) {
+            return texts::shield_fault(alloc, fault);
+        }
+        let key = binding.key.get();
+        match self.draw(binding.key) {
+            Ok(Seen::Number(number)) => {
+                if number == 0 || number >= binding.key.end() {
+                    return format!(in alloc; "no number");
+                }
+                let mut out = [0; 2_048];
+                let count = shield(binding, number, clear, &mut out);
+                let spi = binding.spi.get();
+                let frame = hex::encode(alloc, out.get(..count).unwrap_or(&[]))?;
+                format!(in alloc; "protected {spi} {key} {number} {frame}")
+            }
+            Ok(Seen::Exhausted(number)) => format!(in alloc; "exhausted {key} {number}"),
+            Ok(Seen::Nothing | Seen::Word(_)) => format!(in alloc; "no number"),
+            Err(fault) => texts::book_fault(alloc, &fault),
+        }
+    }
+
+    /// Protects a frame.
+    pub fn protect(&mut self, alloc: Global, link: u8, clear: &[u8]) -> Result<String, AllocError> {
+        match self.book.binding(link, clear) {
+            Ok(Some(binding)) => self.shielded(alloc, &binding, clear),
+            Ok(None) => format!(in alloc; "clear"),
+            Err(fault) => texts::shield_fault(alloc, fault),
+        }
+    }
+
+    /// Opens a frame.
+    pub fn accept(
+        &mut self,
+        alloc: Global,
+        link: u8,
+        frame: &mut [u8],
+    ) -> Result<String, AllocError> {
+        let index = self.index();
+        match self.book.accept(index, link, frame) {
+            Ok((reply, position)) => {
+                let reply = texts::open_reply(alloc, reply, frame)?;
+                format!(in alloc; "{reply} at {position}")
+            }
+            Err(fault) => texts::book_fault(alloc, &fault),
+        }
+    }
+
+    /// What is seen of a key's numbers for a need.
+    fn seen_for(&mut self, need: &Need) -> Result<Seen, BookFault> {
+        match need {
+            Need::Nothing => Ok(Seen::Nothing),
+            Need::Look(key) => Ok(Seen::Word(self.next_of(*key))),
+            Need::Raise(key, number) => {
+                let word = self.next_of(*key);
+                self.set_next(*key, word.max(*number));
+                Ok(Seen::Word(word))
+            }
+            Need::Number(key) => self.draw(*key),
+        }
+    }
+
+    /// Handles a message, of which this is the need.
+    fn obey(&mut self, alloc: Global, message: &[u8], need: &Need) -> Result<String, AllocError> {
+        let seen = match self.seen_for(need) {
+            Ok(seen) => seen,
+            Err(fault) => return texts::book_fault(alloc, &fault),
+        };
+        let index = self.index();
+        self.answered(alloc, index, message, seen)
+    }
+
+    /// Handles a message with what was seen, where that is what it needs.
+    fn answered(
+        &mut self,
+        alloc: Global,
+        index: u64,
+        message: &[u8],
+        seen: Seen,
+    ) -> Result<String, AllocError> {
+        let Ok(need) = self.book.need(message) else {
+            return format!(in alloc; "no memory");
+        };
+        if !needs::fits(self.book.state(), &need, seen) {
+            return format!(in alloc; "unfit");
+        }
+        one_command();
+        command_without_fault();
+        match self.book.command(index, message, seen) {
+            Ok((reply, position)) => {
+                let reply = texts::reply(alloc, &reply)?;
+                format!(in alloc; "{reply} at {position}")
+            }
+            Err(fault) => texts::book_fault(alloc, &fault),
+        }
+    }
+
+    /// Does what a message asks.
+    pub fn command(&mut self, alloc: Global, message: &[u8]) -> Result<String, AllocError> {
+        let Ok(need) = self.book.need(message) else {
+            return format!(in alloc; "no memory");
+        };
+        let answer = self.obey(alloc, message, &need)?;
+        self.meet();
+        Ok(answer)
+    }
+
+    /// Releases what was not used.
+    pub fn release(&mut self, alloc: Global) -> Result<String, AllocError> {
+        if !are_words(self.next.as_slice(), self.book.rows()) {
+            return format!(in alloc; "no words");
+        }
+        match self.book.release(self.next.as_slice()) {
+            Ok(()) => format!(in alloc; "released"),
+            Err(fault) => texts::book_fault(alloc, &fault),
+        }
+    }
+
+    /// Hands octets to the sink.
+    pub fn put(&mut self, alloc: Global, octets: &[u8]) -> Result<String, AllocError> {
+        match self.book.put(octets) {
+            Ok(()) => format!(in alloc; "put"),
+            Err(fault) => texts::book_fault(alloc, &fault),
+        }
+    }
+
+    /// What the book shows.
+    pub fn tell(&self, alloc: Global) -> Result<String, AllocError> {
+        let (used, slots) = (self.book.used(), self.book.plan().slots());
+        let (entries, changes) = (self.book.count(), self.book.changes());
+        let mut told = format!(in alloc;
+            "slots {used} of {slots}, entries {entries}, changes {changes}"
+        )?;
+        for row in self.book.state().keys.rows() {
+            told.push_str(texts::key_text(alloc, row)?.as_str())?;
+        }
+        for row in self.book.state().associations.rows() {
+            told.push_str(texts::association_text(alloc, row)?.as_str())?;
+        }
+        Ok(told)
+    }
+}
