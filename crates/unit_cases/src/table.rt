@@ -156,6 +156,10 @@ impl Table {
             "create" => self.create(alloc, rest),
             "set" => self.set(alloc, rest),
             "cut" => self.cut(alloc, rest),
+            "forget" => {
+                self.life.clear();
+                Ok(format!(in alloc; "forgotten")?)
+            }
             "keep" => self.keep(alloc),
             "back" => self.back(alloc),
             "octets" => self.octets(alloc, rest),
