@@ -1,0 +1,6 @@
+pub mod Histories
+pub mod Fitting
+pub mod Logs
+pub mod Working
+pub mod Joining
+pub mod Ordering

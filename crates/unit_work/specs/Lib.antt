@@ -1,0 +1,5 @@
+pub mod Begin
+pub mod Views
+pub mod Work
+pub mod Deeds
+pub mod Order
