@@ -1,0 +1,10 @@
+pub mod Rows
+pub mod Ending
+pub mod Counting
+pub mod Ended
+pub mod Moments
+pub mod Settling
+pub mod Accepting
+pub mod Covering
+pub mod Assembled
+pub mod Lives
