@@ -1,7 +1,7 @@
 -- What stays so while a log and its history grow, and more is known to be near.
 use Rattle.std.proofs.Common.{◌≡◌, ℕ, zero, suc, ◌+◌, ◌-◌, ◌<◌, ◌≤◌, List, [], ◌∷◌, ◌++◌, length, take, Some, Ok, refl, sym, ◌∙◌, ap, subst, inl, inr, ⊎_elim, arith, length-append, append-nil}
 use Rattle.std.specs.List.{slice_get}
-use Rattle.std.proofs.lemmas.List.{take-append-le}
+use Rattle.std.proofs.lemmas.List.{take-append-le, take_at}
 use Rattle.std.proofs.lemmas.List.Elements.{Contains-append_left}
 use Rattle.std.proofs.lemmas.Option.{none-some, same_Some, slice_get_within}
 use Rattle.sdls_base.specs.declared.entry.Entry.{Entry}
@@ -38,6 +38,12 @@ pub get_front : {X : Type 0} (xs ys : List X) (k : ℕ) → k < length xs → sl
 get_front {X} [] ys k low = absurd (omega arith)
 get_front {X} (x ∷ xs) ys zero low = refl
 get_front {X} (x ∷ xs) ys (suc k) low = get_front xs ys k (omega arith)
+
+get_end : {X : Type 0} (xs : List X) (x : X) → slice_get (xs ++ x ∷ []) (length xs) ≡ Some x
+get_end {X} [] x = refl
+get_end {X} (y ∷ ys) x =
+    let same : length (y ∷ ys) ≡ suc (length ys) = omega arith in
+    ap (λ (k : ℕ). slice_get (y ∷ ys ++ x ∷ []) k) same ∙ get_end ys x
 
 pub drawers-append : (tasks others : List Record) → drawers (tasks ++ others) ≡ drawers tasks + drawers others
 drawers-append [] others = omega arith
@@ -80,6 +86,17 @@ legal_more near wider nearer plan start tasks others log more place low legal en
       is_near = procedure.is_near;
     }))
     legal_among near plan state tasks others entry (inr (inr reserve)) = inr (inr reserve)
+
+-- an entry that is put behind a log is legal at its place, where it is in the state after the log's entries
+pub legal_new : (near : ℕ → ℕ → Type 0) (plan : PlanLines) (start : State) (records : List Record) (log : List Logged) (entry : Entry)
+    → IsLegal near plan (after start (entries_of log)) records entry
+    → IsLegalAt near plan start records (log ++ logged.Entry entry ∷ []) (length log)
+legal_new near plan start records log entry legal other there =
+    let same : logged.Entry entry ≡ logged.Entry other = same_Some _ _ (sym (get_end log (logged.Entry entry)) ∙ there) in
+    let one : entry ≡ other = cc in
+    let before : take (length log) (log ++ logged.Entry entry ∷ []) ≡ log = take_at log (logged.Entry entry ∷ []) (length log) refl in
+    subst (λ (lines : List Logged). IsLegal near plan (after start (entries_of lines)) records other) (sym before)
+    (subst (IsLegal near plan (after start (entries_of log)) records) one legal)
 
 -- the place of an entry in its log
 pub record StandsIn (log : List Logged) (p : ℕ) (entry : Entry) : Type 0 where

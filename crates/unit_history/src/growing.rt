@@ -1,12 +1,13 @@
 //! Laws of logs and histories that go on, and of answers while they do.
 
-ghost use Rattle.std.specs.Prelude.{◌≡◌, ℕ, ◌<◌, ◌≤◌, List, [], ◌++◌, length, slice_get, Some};
+ghost use Rattle.std.specs.Prelude.{◌≡◌, ℕ, ◌<◌, ◌≤◌, List, [], ◌∷◌, ◌++◌, length, slice_get, Some};
 ghost use Rattle.sdls_base.specs.declared.entry.Entry.{Entry};
 ghost use Rattle.sdls_base.specs.declared.entry.Logged.{Logged};
+ghost use Rattle.sdls_base.specs.declared.entry.Logged.TheVariants as logged;
 ghost use Rattle.sdls_outside.specs.Faults.{Rose};
 ghost use Rattle.unit_plan.specs.PlanLines.{PlanLines};
 ghost use Rattle.unit_state.specs.declared.state.State.{State};
-ghost use Rattle.unit_state.specs.History.{after_first};
+ghost use Rattle.unit_state.specs.History.{after, after_first};
 ghost use Rattle.record_io.specs.declared.answers.Answer.{Answer};
 ghost use Rattle.record_io.specs.declared.records.Record.{Record};
 ghost use Rattle.unit_history.specs.Log.{entries_of};
@@ -19,6 +20,13 @@ pub fn legal_place_stays()
     ensures { (plan : PlanLines) (start : State) (tasks others : List Record) (log more : List Logged) (place : ℕ)
         → place < length log → IsLegalAt anywhere plan start tasks log place
         → IsLegalAt anywhere plan start (tasks ++ others) (log ++ more) place }
+{}
+
+/// Law: an entry that is put behind a log is legal at its place, where it is in the state after the log's entries.
+pub fn new_place_is_legal()
+    ensures { (plan : PlanLines) (start : State) (records : List Record) (log : List Logged) (entry : Entry)
+        → IsLegal anywhere plan (after start (entries_of log)) records entry
+        → IsLegalAt anywhere plan start records (log ++ logged.Entry entry ∷ []) (length log) }
 {}
 
 /// Law: the entries of a log whose places are legal are legal, each in the state after those before it.

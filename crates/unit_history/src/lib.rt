@@ -20,7 +20,9 @@ pub use entries::{
     legal_is_allowed, numbers_rise, release_is_allowed, release_stays_above, reserve_stays_above,
     steps_set_no_marks, used_is_below_the_mark,
 };
-pub use growing::{fits_stays, legal_log_is_legal, legal_place_stays, near_stays};
+pub use growing::{
+    fits_stays, legal_log_is_legal, legal_place_stays, near_stays, new_place_is_legal,
+};
 pub use keys::{loaded_once, loaded_stays, loaded_stays_since_epoch, octets_are_loaded, rows_stay};
 pub use releases::{releases_are_legal, run_with_releases};
 pub use runs::{
