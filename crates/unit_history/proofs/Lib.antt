@@ -13,3 +13,5 @@ pub mod Used
 pub mod Answered
 pub mod Ended
 pub mod Epochs
+pub mod OneOpening
+pub mod OneStep
