@@ -4,3 +4,4 @@ pub mod Sums
 pub mod Ruled
 pub mod Moves
 pub mod Spent
+pub mod Runs

@@ -1,3 +1,4 @@
 pub mod Scene
 pub mod Move
 pub mod Laws
+pub mod Run

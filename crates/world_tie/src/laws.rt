@@ -1,5 +1,6 @@
 //! What ties the counters to the pure core.
 ghost use Rattle.world_tie.specs.Laws.{RuledAreKept, MovesTie, ToldAfter, SpentStay, StoresTie, SplitTies, JoinTies};
+ghost use Rattle.world_tie.specs.Run.{RunsTie};
 
 use counter_table::Counted;
 
@@ -26,6 +27,11 @@ pub fn spent_stay()
 /// Law: a mark that the holder's book stores is written and synced in the core.
 pub fn stores_tie<B: Counted>()
     ensures { StoresTie B.told }
+{}
+
+/// Law: what workers do in any order, one after the other, is a list of steps of the core.
+pub fn runs_tie<B: Counted>()
+    ensures { RunsTie B.told }
 {}
 
 /// Law: a split makes no step of the core, and adds an idle actor.

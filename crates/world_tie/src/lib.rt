@@ -7,5 +7,6 @@
 mod laws;
 
 pub use laws::{
-    join_ties, kept_where_ruled, moves_tie, spent_stay, split_ties, stores_tie, told_after,
+    join_ties, kept_where_ruled, moves_tie, runs_tie, spent_stay, split_ties, stores_tie,
+    told_after,
 };
