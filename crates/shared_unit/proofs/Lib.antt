@@ -1,0 +1,14 @@
+pub mod Places
+pub mod Checks
+pub mod Epochs
+pub mod Kept
+pub mod Steps
+pub mod Reserved
+pub mod Tops
+pub mod Using
+pub mod Trust
+pub mod Passing
+pub mod Renewing
+pub mod Commands
+pub mod Beginning
+pub mod Fresh

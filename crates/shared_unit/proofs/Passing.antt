@@ -1,0 +1,135 @@
+-- The parts of a call, put together: what became of the turn.
+use Rattle.std.proofs.Common.{◌≡◌, ◌⊎◌, inl, inr, ℕ, ◌+◌, ◌<◌, ◌≤◌, max, Bool, true, false, if◌then◌else◌, List, [], ◌∷◌, ◌++◌, length, Option, Some, None, Result, Ok, Err, refl, sym, ap, subst, ◌∙◌, append-nil, arith}
+use Rattle.sdls_outside.specs.Moments.{Trace}
+use Rattle.unit_plan.specs.PlanLines.{PlanLines}
+use Rattle.counter_table.specs.declared.view.Known.{Known}
+use Rattle.counter_table.specs.declared.view.Opening.{Opening}
+use Rattle.counter_table.specs.declared.view.Turn.{Turn}
+use Rattle.counter_table.specs.declared.counters.Counters.{Counters}
+use Rattle.counter_table.specs.declared.counters.Worker.{Worker}
+use Rattle.counter_table.specs.Known.{Earlier}
+use Rattle.counter_table.specs.Turn.{epoch_seen, seeing}
+use Rattle.counter_table.specs.Worker.{view, IsSame}
+use Rattle.unit_book.specs.declared.fault.BookFault.{BookFault}
+use Rattle.unit_book.specs.declared.fault.BookFault.TheVariants.{SiteFault, Stopped, JournalFull, SessionFull, NoMemory}
+use Rattle.unit_book.specs.Book.{BookView, IsBarred, IsUnstored, CanEnter, Made}
+use Rattle.unit_history.specs.Numbers.{mark_of, reserve_of}
+use Rattle.shared_unit.specs.declared.permit.Permit.{Permit}
+use Rattle.shared_unit.specs.Told.{told_by}
+use Rattle.shared_unit.specs.Turn.{IsReady, Visits, Grows, Loads}
+use Rattle.shared_unit.specs.Funding.{Reserves}
+use Rattle.shared_unit.specs.Protecting.{AddsReserve, TakesAtMostOnce, IsTrueIfKept}
+use Rattle.shared_unit.proofs.Steps.{takes_grows}
+use Rattle.shared_unit.proofs.Trust.{permit_stays}
+
+-- a reserve turns no epoch
+pub reserves_changes : {O : Type 0} (faults : O → ℕ) (key n : ℕ) (result : Result ℕ BookFault) (found given : BookView O)
+    → Reserves faults key n result found given → given.changes ≡ found.changes
+reserves_changes {O} faults key n (Ok mark) found given h = by_case h.2 where
+  by_case : ((n < mark_of found.state key) × (given ≡ found))
+      ⊎ ((mark_of found.state key ≤ n) × ((position : ℕ) × Made faults (reserve_of found.plan found.state key n) found given position))
+      → given.changes ≡ found.changes
+  by_case (inl p) = ap (λ (b : BookView O). b.changes) p.1
+  by_case (inr p) = let e = ap (λ (b : BookView O). b.changes) p.1.1.1.is in omega arith
+reserves_changes {O} faults key n (Err fault) found given h = by_case h.1 where
+  by_fault : (f : BookFault) → IsUnstored faults (reserve_of found.plan found.state key n) found given f → given.changes ≡ found.changes
+  by_fault (SiteFault count) u = ap (λ (b : BookView O). b.changes) u.4
+  by_fault (Stopped count) u = absurd u
+  by_fault (JournalFull slots) u = ap (λ (b : BookView O). b.changes) u.3
+  by_fault SessionFull u = absurd u
+  by_fault NoMemory u = absurd u
+
+  by_case : (IsBarred faults found fault × (given ≡ found))
+      ⊎ (CanEnter faults found × IsUnstored faults (reserve_of found.plan found.state key n) found given fault) → given.changes ≡ found.changes
+  by_case (inl p) = ap (λ (b : BookView O). b.changes) p.1
+  by_case (inr p) = by_fault fault p.1
+
+pub same_twice : {B : Type 0} (a b c : Worker B) → IsSame a b → IsSame b c → IsSame a c
+same_twice a b c one two = (two.0 ∙ one.0, two.1 ∙ one.1)
+
+pub loads_from : (e : ℕ) (v u w : Turn) → u ≡ v → epoch_seen u ≤ e → w ≡ seeing e u → Loads e v w
+loads_from e v u w same later is =
+    record { later = subst (λ (t : Turn). epoch_seen t ≤ e) same later; is = is ∙ ap (seeing e) same }
+
+pub ready_loaded : {B : Type 0} (counters : Counters B) (plan : PlanLines) (one other : Worker B) (e : ℕ) → IsReady counters plan one → IsSame one other
+    → (view other).turn ≡ seeing e (view one).turn → IsReady counters plan other
+ready_loaded counters plan one other e ready same is = record {
+  own = same.0 ∙ ready.own;
+  free = ap (λ (t : Turn). t.holds) is ∙ ready.free;
+  filled = ap (λ (t : Turn). t.filled) is ∙ ready.filled;
+  planned = ap (λ (t : Turn). t.known.opening.plan) is ∙ ready.planned;
+}
+
+pub ready_kept : {B : Type 0} (counters : Counters B) (plan : PlanLines) (one other : Worker B) → IsReady counters plan one → IsSame one other
+    → (view other).turn ≡ (view one).turn → IsReady counters plan other
+ready_kept counters plan one other ready same is = record {
+  own = same.0 ∙ ready.own;
+  free = ap (λ (t : Turn). t.holds) is ∙ ready.free;
+  filled = ap (λ (t : Turn). t.filled) is ∙ ready.filled;
+  planned = ap (λ (t : Turn). t.known.opening.plan) is ∙ ready.planned;
+}
+
+module _ {O : Type 0} (told : Bool) (trace : O → Trace) (faults : O → ℕ) where
+  pub ready_after : {B : Type 0} (counters : Counters B) (plan : PlanLines) (one other : Worker B) (found given : BookView O)
+      → IsReady counters plan one → IsSame one other → Visits told trace faults found given (view one).turn (view other).turn
+      → IsReady counters plan other
+  ready_after counters plan one other found given ready same v =
+      let is = v.takes.turn in
+      record {
+        own = same.0 ∙ ready.own;
+        free = ap (λ (t : Turn). t.holds) is;
+        filled = ap (λ (t : Turn). t.filled) is ∙ ready.filled;
+        planned = ap (λ (t : Turn). t.known.opening.plan) is ∙ ap (λ (o : Opening). o.plan) (v.takes.opening ∙ v.takes.follows.opening) ∙ ready.planned;
+      }
+
+  pub passes_loads : (e : ℕ) (v w : Turn) → Loads e v w → TakesAtMostOnce told trace faults v w
+  passes_loads e v w l = record { epoch = e; later = (let a = l.later in omega arith); is = inl l.is }
+
+  pub passes_none : (v w : Turn) → w ≡ v → TakesAtMostOnce told trace faults v w
+  passes_none v w is = record { epoch = v.epoch; later = omega arith; is = inl is }
+
+  pub passes_served : (key : ℕ) (found given : BookView O) (v w : Turn) → Visits told trace faults found given v w
+      → AddsReserve told trace faults key found given → TakesAtMostOnce told trace faults v w
+  passes_served key found given v w s a = record { epoch = v.epoch; later = omega arith; is = inr (found, given, key, s, a) }
+
+  pub passes_after : (e : ℕ) (v u w : Turn) → Loads e v u → TakesAtMostOnce told trace faults u w → TakesAtMostOnce told trace faults v w
+  passes_after e v u w l p =
+      let P : Turn → Type 0 = λ t. TakesAtMostOnce told trace faults t w in
+      let q : TakesAtMostOnce told trace faults (seeing e v) w = subst P l.is p in
+      record { epoch = q.epoch; later = (let a = q.later in let b = l.later in omega arith); is = q.is }
+
+  pub passes_funded : (p : Permit) (n : ℕ) (result : Result ℕ BookFault) (v u w : Turn) (found given : BookView O)
+      → Loads p.epoch v u → Visits told trace faults found given u w → Reserves faults p.binding.key n result found given
+      → TakesAtMostOnce told trace faults v w
+  passes_funded p n result v u w found given l s r =
+      passes_after p.epoch v u w l (passes_served p.binding.key found given u w s (inr (n, result, r)))
+
+  pub passes_grows : (v w : Turn) → TakesAtMostOnce told trace faults v w → Grows v w
+  passes_grows v w p = by_case p.is where
+    seen : Grows v (seeing p.epoch v)
+    seen = record {
+      earlier = record { log = ([], sym (append-nil v.known.log)); changes = omega arith; faults = omega arith; stopped = λ _. refl };
+      opening = refl;
+      epoch = p.later;
+    }
+
+    by_case : ((w ≡ seeing p.epoch v)
+        ⊎ ((found : BookView O) × (given : BookView O) × (key : ℕ) × Visits told trace faults found given (seeing p.epoch v) w
+        × AddsReserve told trace faults key found given)) → Grows v w
+    by_case (inl is) = subst (λ (t : Turn). Grows v t) (sym is) seen
+    by_case (inr s) =
+        let g = takes_grows (told_by faults s.0) (told_by faults s.1) (seeing p.epoch v) w s.3.takes in
+        record {
+          earlier = record { log = g.earlier.log; changes = g.earlier.changes; faults = g.earlier.faults; stopped = g.earlier.stopped };
+          opening = g.opening;
+          epoch = (let a = p.later in let b = g.epoch in omega arith);
+        }
+
+  pub kept_stays : (o : Option Permit) (v w : Turn) → TakesAtMostOnce told trace faults v w → IsTrueIfKept o v → IsTrueIfKept o w
+  kept_stays None v w p k = k
+  kept_stays (Some q) v w p k = permit_stays q v w (passes_grows v w p) k
+
+  pub passes_on : (v u w : Turn) → ((u ≡ v) ⊎ ((epoch : ℕ) × Loads epoch v u)) → TakesAtMostOnce told trace faults u w
+      → TakesAtMostOnce told trace faults v w
+  passes_on v u w (inl same) p = subst (λ (t : Turn). TakesAtMostOnce told trace faults t w) same p
+  passes_on v u w (inr l) p = passes_after l.0 v u w l.1 p

@@ -1,0 +1,66 @@
+use Rattle.std.proofs.Common.{◌≡◌, ap, sym, subst, ◌∙◌, Ok, Err}
+use Rattle.counter_table.specs.declared.view.Numbers.{Numbers}
+use Rattle.counter_table.specs.Worker.{view}
+use Rattle.unit_book.specs.Book.{BookView}
+use Rattle.shared_unit.specs.Commanding.{IsCommanded}
+use Rattle.shared_unit.proofs.Commands.{holds_gives, holds_visits}
+use Rattle.shared_unit.proofs.Passing.{ready_after, same_twice}
+use Rattle.shared_unit.proofs.unit.Unit.command.Goals as goal
+
+pub give-requires-clause-book : goal.give-requires-clause-book
+give-requires-clause-book g c =
+    let found : BookView g.row.O.Denot = c.take-held.result.book in
+    let given : BookView g.row.O.Denot = c.commanded-result.new.held.book in
+    holds_gives g.O.Site.faults found given (view c.args.worker.now).turn (view c.take-held.new.worker).turn (view c.commanded-result.new.worker).turn c.take-held.ensures.turn
+    c.commanded-result.ensures.holds c.commanded-result.ensures.goes_on
+
+pub returns-in-Ok-clause-commanded : goal.returns-in-Ok-clause-commanded
+returns-in-Ok-clause-commanded g c =
+    let found : BookView g.row.O.Denot = c.take-held.result.book in
+    let given : BookView g.row.O.Denot = c.commanded-result.new.held.book in (
+      found,
+      given,
+      (holds_visits g.O.Site.faults g.O.Site.told g.O.Site.trace found given (view c.args.worker.now).turn (view c.take-held.new.worker).turn (view c.commanded-result.new.worker).turn (view c.give.new.worker).turn
+          c.commanded-result.ensures.was_kept c.commanded-result.ensures.kept c.take-held.ensures.follows c.commanded-result.ensures.goes_on c.take-held.ensures.turn
+          c.commanded-result.ensures.holds c.give.ensures.turn),
+      subst (λ (k : Numbers). IsCommanded g.O.Site.faults c.args.index c.args.pdu.now (Ok c.in-Ok.reply) found given (view c.args.worker.now).numbers k) (sym c.give.ensures.same.1)
+          (subst (λ (k : Numbers). IsCommanded g.O.Site.faults c.args.index c.args.pdu.now (Ok c.in-Ok.reply) found given k (view c.commanded-result.new.worker).numbers) c.take-held.ensures.same.1 c.in-Ok.ensures.step),
+    )
+
+pub returns-in-Ok-clause-ready : goal.returns-in-Ok-clause-ready
+returns-in-Ok-clause-ready g c =
+    let found : BookView g.row.O.Denot = c.take-held.result.book in
+    let given : BookView g.row.O.Denot = c.commanded-result.new.held.book in
+    ready_after g.O.Site.told g.O.Site.trace g.O.Site.faults _ _ c.args.worker.now c.give.new.worker found given c.requires.ready
+    (same_twice c.args.worker.now c.commanded-result.new.worker c.give.new.worker
+    (same_twice c.args.worker.now c.take-held.new.worker c.commanded-result.new.worker c.take-held.ensures.same.0 c.commanded-result.ensures.same) c.give.ensures.same.0)
+    (holds_visits g.O.Site.faults g.O.Site.told g.O.Site.trace found given (view c.args.worker.now).turn (view c.take-held.new.worker).turn (view c.commanded-result.new.worker).turn (view c.give.new.worker).turn
+    c.commanded-result.ensures.was_kept c.commanded-result.ensures.kept c.take-held.ensures.follows c.commanded-result.ensures.goes_on c.take-held.ensures.turn
+    c.commanded-result.ensures.holds c.give.ensures.turn)
+
+pub returns-in-Err-clause-commanded : goal.returns-in-Err-clause-commanded
+returns-in-Err-clause-commanded g c =
+    let found : BookView g.row.O.Denot = c.take-held.result.book in
+    let given : BookView g.row.O.Denot = c.commanded-result.new.held.book in (
+      found,
+      given,
+      (holds_visits g.O.Site.faults g.O.Site.told g.O.Site.trace found given (view c.args.worker.now).turn (view c.take-held.new.worker).turn (view c.commanded-result.new.worker).turn (view c.give.new.worker).turn
+          c.commanded-result.ensures.was_kept c.commanded-result.ensures.kept c.take-held.ensures.follows c.commanded-result.ensures.goes_on c.take-held.ensures.turn
+          c.commanded-result.ensures.holds c.give.ensures.turn),
+      (
+        subst (λ (k : Numbers). IsCommanded g.O.Site.faults c.args.index c.args.pdu.now (Err c.in-Err.fault) found given (view c.args.worker.now).numbers k) (sym c.give.ensures.same.1)
+            (subst (λ (k : Numbers). IsCommanded g.O.Site.faults c.args.index c.args.pdu.now (Err c.in-Err.fault) found given k (view c.commanded-result.new.worker).numbers) c.take-held.ensures.same.1 c.in-Err.ensures.step),
+        c.count-count.ensures.count,
+      ),
+    )
+
+pub returns-in-Err-clause-ready : goal.returns-in-Err-clause-ready
+returns-in-Err-clause-ready g c =
+    let found : BookView g.row.O.Denot = c.take-held.result.book in
+    let given : BookView g.row.O.Denot = c.commanded-result.new.held.book in
+    ready_after g.O.Site.told g.O.Site.trace g.O.Site.faults _ _ c.args.worker.now c.give.new.worker found given c.requires.ready
+    (same_twice c.args.worker.now c.commanded-result.new.worker c.give.new.worker
+    (same_twice c.args.worker.now c.take-held.new.worker c.commanded-result.new.worker c.take-held.ensures.same.0 c.commanded-result.ensures.same) c.give.ensures.same.0)
+    (holds_visits g.O.Site.faults g.O.Site.told g.O.Site.trace found given (view c.args.worker.now).turn (view c.take-held.new.worker).turn (view c.commanded-result.new.worker).turn (view c.give.new.worker).turn
+    c.commanded-result.ensures.was_kept c.commanded-result.ensures.kept c.take-held.ensures.follows c.commanded-result.ensures.goes_on c.take-held.ensures.turn
+    c.commanded-result.ensures.holds c.give.ensures.turn)

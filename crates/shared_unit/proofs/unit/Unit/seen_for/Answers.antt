@@ -1,0 +1,12 @@
+use Rattle.std.proofs.Common.{◌≡◌}
+use Rattle.shared_unit.proofs.Places.{there_place}
+use Rattle.shared_unit.proofs.unit.Unit.seen_for.Goals as goal
+
+pub row_in-row-requires : goal.row_in-row-requires
+row_in-row-requires g c = record { there = there_place c.args.held.now.book.state.keys c.in-Look.key (rw c.in-Look.is at c.requires.names) }
+
+pub row_in-row-requires-in-Raise : goal.row_in-row-requires-in-Raise
+row_in-row-requires-in-Raise g c = record { there = there_place c.args.held.now.book.state.keys c.in-Raise.key (rw c.in-Raise.is at c.requires.names).0 }
+
+pub number_for-requires-clause-key : goal.number_for-requires-clause-key
+number_for-requires-clause-key g c = there_place c.args.held.now.book.state.keys c.in-Number.key (rw c.in-Number.is at c.requires.names)

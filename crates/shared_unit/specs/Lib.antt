@@ -1,0 +1,11 @@
+pub mod Told
+pub mod Turn
+pub mod Going
+pub mod Numbers
+pub mod Permit
+pub mod Funding
+pub mod Calls
+pub mod Finishing
+pub mod Protecting
+pub mod Commanding
+pub mod Sharing

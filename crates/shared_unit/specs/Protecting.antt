@@ -1,0 +1,98 @@
+-- What `protect` does, by its answer (CCSDS 355.0-B, ApplySecurity; permits profile).
+use Rattle.std.specs.Prelude.{◌≡◌, ◌⊎◌, ⊤, ℕ, ◌+◌, ◌<◌, ◌≤◌, Bool, List, Option, Some, None, Result, Ok, Err}
+use Rattle.sdls_base.specs.KeyId.{end_of}
+use Rattle.sdls_outside.specs.Moments.{Trace}
+use Rattle.unit_plan.specs.PlanLines.{PlanLines}
+use Rattle.unit_state.specs.History.{epoch_after}
+use Rattle.frame_shield.specs.declared.protecting.ShieldFault.{ShieldFault}
+use Rattle.frame_shield.specs.Binding.{clear_fault}
+use Rattle.frame_checks.specs.Protecting.{channel_check}
+use Rattle.unit_history.specs.Protecting.{protect_reply}
+use Rattle.counter_table.specs.declared.view.Turn.{Turn}
+use Rattle.counter_table.specs.declared.view.View.{View}
+use Rattle.counter_table.specs.Turn.{epoch_seen, seeing}
+use Rattle.unit_book.specs.declared.fault.BookFault.{BookFault}
+use Rattle.unit_history.specs.Log.{entries_of}
+use Rattle.unit_book.specs.Book.{BookView}
+use Rattle.shared_unit.specs.declared.permit.Permit.{Permit}
+use Rattle.shared_unit.specs.declared.permit.Done.{Done}
+use Rattle.shared_unit.specs.declared.permit.Protected.{Protected}
+use Rattle.shared_unit.specs.declared.permit.Protected.TheVariants as answers
+use Rattle.shared_unit.specs.Told.{state_at, entry_count}
+use Rattle.shared_unit.specs.Turn.{Visits, Loads}
+use Rattle.shared_unit.specs.Numbers.{Draws, ComesBack, RunsOut, UsesNumber}
+use Rattle.shared_unit.specs.Permit.{IsTrueFor, IsOfPermit, IsProtected, IsUnfit}
+use Rattle.shared_unit.specs.Funding.{Reserves}
+
+-- The check that fails first at an epoch that was seen; where the plan is enough for it, no state is looked at.
+pub record FailsAt (link : ℕ) (clear : List ℕ) (fault : ShieldFault) (epoch : ℕ) (w : Turn) : Type 0 where
+  pub seen : epoch ≤ epoch_seen w
+  pub is : (channel_check w.known.opening.plan link clear ≡ Err fault)
+      ⊎ ((epoch ≤ epoch_after (entries_of w.known.log))
+      × (protect_reply w.known.opening.plan (state_at w.known epoch) link clear ≡ Err fault))
+
+-- the key had no number left
+abbrev pub RunsOutUnder : Permit → List ℕ → ℕ → ℕ → ℕ → View → View → Type 0
+RunsOutUnder p clear key n epoch v w = (clear_fault p.binding clear ≡ None) × (key ≡ p.binding.key) × (epoch ≡ p.epoch)
+    × RunsOut p.row (end_of key) n v.numbers w.numbers
+
+-- The number was drawn and spent, and the frame is protected with it.
+pub record IsDone (p : Permit) (clear out : List ℕ) (d : Done) (v w : View) : Type 0 where
+  pub protected : IsProtected p clear out d
+  pub back : ℕ
+  pub uses : UsesNumber p.row d.number back v.numbers w.numbers
+
+abbrev pub IsTrueIfKept : Option Permit → Turn → Type 0
+IsTrueIfKept None w = ⊤
+IsTrueIfKept (Some p) w = IsTrueFor p w
+
+module _ {O : Type 0} (told : Bool) (trace : O → Trace) (faults : O → ℕ) where
+  -- one reserve was stored, or refused, or there was none
+  abbrev pub AddsReserve : ℕ → BookView O → BookView O → Type 0
+  AddsReserve key found given = (given ≡ found) ⊎ ((n : ℕ) × (result : Result ℕ BookFault) × Reserves faults key n result found given)
+
+  -- the epoch was loaded, and the turn was taken at most once, for at most one reserve
+  pub record TakesAtMostOnce (v w : Turn) : Type 0 where
+    pub epoch : ℕ
+    pub later : epoch_seen v ≤ epoch_seen (seeing epoch v)
+    pub is : (w ≡ seeing epoch v)
+        ⊎ ((found : BookView O) × (given : BookView O) × (key : ℕ) × Visits told trace faults found given (seeing epoch v) w
+        × AddsReserve key found given)
+
+  -- the reserve of a number that was drawn was refused
+  abbrev pub IsRefusedUnder : Permit → List ℕ → BookFault → ℕ → View → View → Type 0
+  IsRefusedUnder p clear fault position v w = (clear_fault p.binding clear ≡ None) × (position ≡ entry_count w.turn.known)
+      × ((n : ℕ) × (n < end_of p.binding.key)
+      × (Draws p.row (end_of p.binding.key) n v.numbers w.numbers ⊎ ComesBack p.row (end_of p.binding.key) n v.numbers w.numbers)
+      × ((found : BookView O) × (given : BookView O) × (before : Turn) × Visits told trace faults found given before w.turn
+      × Reserves faults p.binding.key n (Err fault) found given))
+
+  -- With a kept permit the turn is taken for a ticket that came back alone. There is no answer where the epoch went on.
+  abbrev pub IsKeptStep : Permit → List ℕ → List ℕ → Option Protected → View → View → Type 0
+  IsKeptStep p clear out None v w = (w.numbers ≡ v.numbers) × ((epoch : ℕ) × (p.epoch < epoch) × Loads epoch v.turn w.turn)
+  IsKeptStep p clear out (Some (answers.Done d)) v w =
+      IsDone p clear out d v w × (w.turn.turns + v.numbers.tickets ≤ v.turn.turns + w.numbers.tickets)
+  IsKeptStep p clear out (Some answers.Clear) v w = ⊥
+  IsKeptStep p clear out (Some (answers.Refused fault epoch)) v w =
+      IsUnfit p.binding clear fault × (epoch ≡ p.epoch) × (w.numbers ≡ v.numbers)
+  IsKeptStep p clear out (Some (answers.Exhausted key n epoch)) v w = RunsOutUnder p clear key n epoch v w
+  IsKeptStep p clear out (Some (answers.Fault fault position)) v w = IsRefusedUnder p clear fault position v w
+
+  -- what `protect` does, by its answer and the permit that is kept afterwards
+  abbrev pub IsProtectStep : PlanLines → ℕ → List ℕ → List ℕ → Option Permit → Protected → View → View → Type 0
+  IsProtectStep plan link clear out kept (answers.Done d) v w =
+      (p : Permit) × (kept ≡ Some p) × IsOfPermit plan p clear × IsDone p clear out d v w
+  IsProtectStep plan link clear out kept answers.Clear v w = (channel_check plan link clear ≡ Ok None) × (w.numbers ≡ v.numbers)
+  IsProtectStep plan link clear out kept (answers.Refused fault epoch) v w = FailsAt link clear fault epoch w.turn × (w.numbers ≡ v.numbers)
+  IsProtectStep plan link clear out kept (answers.Exhausted key n epoch) v w =
+      (p : Permit) × IsTrueFor p w.turn × IsOfPermit plan p clear × RunsOutUnder p clear key n epoch v w
+  IsProtectStep plan link clear out kept (answers.Fault fault position) v w =
+      (p : Permit) × IsTrueFor p w.turn × IsOfPermit plan p clear × IsRefusedUnder p clear fault position v w
+
+  -- with what is kept, for a frame of a channel
+  abbrev pub IsByKept : PlanLines → Option Permit → ℕ → List ℕ → List ℕ → Option Protected → View → View → Type 0
+  IsByKept plan kept link clear out None v w = (w.numbers ≡ v.numbers)
+      × ((w.turn ≡ v.turn) ⊎ ((epoch : ℕ) × Loads epoch v.turn w.turn))
+      × ((p : Permit) → kept ≡ Some p → p.link ≡ link → IsOfPermit plan p clear → p.epoch < w.turn.epoch)
+  IsByKept plan kept link clear out (Some answer) v w =
+      (p : Permit) × (kept ≡ Some p) × (p.link ≡ link) × IsOfPermit plan p clear × IsTrueFor p w.turn × IsKeptStep p clear out (Some answer) v w

@@ -1,0 +1,57 @@
+-- The words at the beginning of a run (profile).
+use Rattle.std.specs.Prelude.{◌≡◌, ℕ, ◌<◌, ◌≤◌, Bool, IsTrue, List, [], slice_index_or, Ok}
+use Rattle.sdls_outside.specs.Moments.{Trace, EachMoment}
+use Rattle.disk_journal.specs.Image.{held}
+use Rattle.unit_plan.specs.Plan.{plan_of}
+use Rattle.unit_plan.specs.PlanLines.{PlanLines}
+use Rattle.unit_image.specs.Opening.{Opening, SameJournal}
+use Rattle.unit_image.specs.Shows.{Shows}
+use Rattle.counter_table.specs.declared.view.Known.{Known}
+use Rattle.counter_table.specs.declared.view.Turn.{Turn}
+use Rattle.counter_table.specs.declared.view.View.{View}
+use Rattle.counter_table.specs.Known.{mark_of}
+use Rattle.counter_table.specs.Numbers.{top}
+use Rattle.counter_table.specs.Whole.{IsWhole}
+use Rattle.counter_table.specs.Worker.{view}
+use Rattle.counter_table.specs.declared.counters.Counters.{Counters}
+use Rattle.counter_table.specs.declared.counters.Worker.{Worker}
+use Rattle.unit_book.specs.Book.{BookView, IsKept, begun}
+use Rattle.unit_book.specs.Marks.{mark_at}
+use Rattle.shared_unit.specs.Told.{told_by}
+use Rattle.shared_unit.specs.Turn.{IsReady}
+
+-- The holder of the turn knows these marks of the held book, and its count of changes.
+pub record KnowsHeld (given : Known) (v w : Turn) : Type 0 where
+  pub marks : List ℕ
+  pub below : (row : ℕ) → slice_index_or marks row 1 ≤ mark_of given row
+  pub is : w ≡ record v { known = record v.known { marks = marks; changes = given.changes } }
+
+-- The words of so many rows were raised to their marks
+pub record IsRaised (book : Known) (count : ℕ) (v w : View) : Type 0 where
+  pub holds : KnowsHeld book v.turn w.turn
+  pub drawn : w.numbers.drawn ≡ v.numbers.drawn
+  pub spent : w.numbers.spent ≡ v.numbers.spent
+  pub shares : w.numbers.shares ≡ v.numbers.shares
+  pub raised : (row : ℕ) → row < count → mark_of book row ≤ top row w.numbers.nexts
+
+-- The book that was opened on the site, as the opening left both.
+pub record IsOpened {O : Type 0} (told : Bool) (trace : O → Trace) (faults : O → ℕ) (site : O) (book : BookView O) : Type 0 where
+  pub kept : IsKept told trace faults book
+  pub begun_is : book ≡ begun book.site (trace site).now.image book.plan book.start book.journal
+  pub shows : IsTrue told → Shows (trace site).now.image book.start × Shows (trace book.site).now.image book.start
+      × SameJournal (trace site).now.image (trace book.site).now.image book.journal
+  pub plan : IsTrue told → plan_of (held (trace site).now.image).plan ≡ Ok book.plan
+  pub any_moment : IsTrue told → EachMoment (trace site) (trace book.site) (Opening (trace site))
+  pub later : faults site ≤ faults book.site
+
+-- The first worker, which has all shares: it drew, spent and made nothing yet, and each word is at least its key's mark.
+pub record Begins {O B : Type 0} (faults : O → ℕ) (book : BookView O) (counters : Counters B) (plan : PlanLines) (worker : Worker B) : Type 0 where
+  pub ready : IsReady counters plan worker
+  pub shares : (view worker).numbers.shares ≡ 1024
+  pub drawn : (view worker).numbers.drawn ≡ []
+  pub spent : (view worker).numbers.spent ≡ []
+  pub made : (view worker).turn.made ≡ []
+  pub log : (view worker).turn.known.log ≡ []
+  pub opening : (view worker).turn.known.opening ≡ (told_by faults book).opening
+  pub whole : IsWhole 512 (view worker)
+  pub words : (row : ℕ) → row < 512 → mark_at book.start row ≤ top row (view worker).numbers.nexts

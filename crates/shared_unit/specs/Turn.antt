@@ -1,0 +1,54 @@
+-- What a call that takes the turn once makes of what the worker knows of the book (profile).
+use Rattle.std.specs.Prelude.{◌≡◌, ℕ, ◌+◌, ◌-◌, ◌≤◌, Bool, true, false, List, ◌++◌, length}
+use Rattle.sdls_outside.specs.Moments.{Trace}
+use Rattle.unit_plan.specs.PlanLines.{PlanLines}
+use Rattle.counter_table.specs.declared.view.Known.{Known}
+use Rattle.counter_table.specs.declared.view.Turn.{Turn}
+use Rattle.counter_table.specs.declared.counters.Counters.{Counters}
+use Rattle.counter_table.specs.declared.counters.Worker.{Worker}
+use Rattle.counter_table.specs.Known.{Earlier}
+use Rattle.counter_table.specs.Turn.{epoch_seen, places, seeing}
+use Rattle.counter_table.specs.Play.{Follows}
+use Rattle.counter_table.specs.Worker.{view, IsOf}
+use Rattle.unit_book.specs.Book.{BookView, IsKept}
+use Rattle.shared_unit.specs.Told.{told_by}
+
+-- The worker is of these counters, knows of a book that was opened with this plan, and has not the turn.
+pub record IsReady {B : Type 0} (counters : Counters B) (plan : PlanLines) (worker : Worker B) : Type 0 where
+  pub own : IsOf counters worker
+  pub free : (view worker).turn.holds ≡ false
+  pub filled : (view worker).turn.filled ≡ true
+  pub planned : (view worker).turn.known.opening.plan ≡ plan
+
+-- after the turn was taken once, with the one book found and the other given back
+abbrev pub taking_once : Known → Known → Turn → Turn
+taking_once found given v = record v {
+  holds = false;
+  turns = v.turns + 1;
+  known = given;
+  made = v.made ++ places (length found.log) (length given.log - length found.log);
+}
+
+-- The worker took the turn once: it found the one book, which follows what it knew, and gave back the other.
+pub record TakesOnce (found given : Known) (v w : Turn) : Type 0 where
+  pub follows : Follows v found
+  pub earlier : Earlier found given
+  pub opening : given.opening ≡ found.opening
+  pub turn : w ≡ taking_once found given v
+
+-- the same of two kept books
+pub record Visits {O : Type 0} (told : Bool) (trace : O → Trace) (faults : O → ℕ) (found given : BookView O) (v w : Turn) : Type 0 where
+  pub found_kept : IsKept told trace faults found
+  pub given_kept : IsKept told trace faults given
+  pub takes : TakesOnce (told_by faults found) (told_by faults given) v w
+
+-- what a worker knows of the book only grows
+pub record Grows (v w : Turn) : Type 0 where
+  pub earlier : Earlier v.known w.known
+  pub opening : w.known.opening ≡ v.known.opening
+  pub epoch : epoch_seen v ≤ epoch_seen w
+
+-- the epoch was loaded, which is no less than the one seen before
+pub record Loads (epoch : ℕ) (v w : Turn) : Type 0 where
+  pub later : epoch_seen v ≤ epoch
+  pub is : w ≡ seeing epoch v

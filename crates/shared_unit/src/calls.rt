@@ -1,0 +1,83 @@
+//! The calls that take the turn once: opening frames, putting answers, and the count of entries.
+ghost use Rattle.std.specs.Prelude.{◌≡◌, ◌<◌, ◌≤◌, ℕ, MatchResult};
+ghost use Rattle.frame_checks.specs.Accepting.{Leaves, field_in};
+ghost use Rattle.counter_table.specs.Play.{IsCovered};
+ghost use Rattle.counter_table.specs.Worker.{view, KeepsNumbers};
+ghost use Rattle.unit_book.specs.Book.{BookView};
+ghost use Rattle.unit_book.specs.Records.{Opens, RefusesFrame};
+ghost use Rattle.shared_unit.specs.Calls.{IsPut, WithPosition};
+ghost use Rattle.shared_unit.specs.Told.{told_by, entry_count};
+ghost use Rattle.shared_unit.specs.Turn.{IsReady, Visits};
+
+use crate::unit::{Unit, Worker};
+use frame_checks::OpenReply;
+use sdls_outside::Site;
+use std::sync::Wait;
+use unit_book::BookFault;
+
+impl<O: Site> Unit<O> {
+    /// The count of the run's entries.
+    pub fn count<R: Wait>(&self, rt: &R, worker: &mut Worker<O>) -> u64
+        requires ready { IsReady self.now.counters self.now.plan worker.old }
+        ensures ready { IsReady self.now.counters self.now.plan worker.new }
+        ensures numbers { KeepsNumbers worker.old worker.new }
+        ensures counted { (found : BookView O) × Visits O.told O.trace O.faults found found (view worker.old).turn (view worker.new).turn
+            × (result ≡ entry_count (told_by O.faults found)) }
+    {
+        let held = self.counters.take(rt, worker);
+        let count = held.book.count();
+        self.counters.give(worker, held);
+        count
+    }
+
+    /// Hands octets to the site's sink. It makes no entry, and still puts after a fault of the disk.
+    pub fn put<R: Wait>(
+        &self,
+        rt: &R,
+        worker: &mut Worker<O>,
+        octets: &[u8],
+    ) -> Result<(), BookFault>
+        requires ready { IsReady self.now.counters self.now.plan worker.old }
+        ensures ready { IsReady self.now.counters self.now.plan worker.new }
+        ensures numbers { KeepsNumbers worker.old worker.new }
+
+        // No number was spent by the worker that is not below its row's mark in the book that the call found.
+        ensures put { (found given : BookView O) × Visits O.told O.trace O.faults found given (view worker.old).turn (view worker.new).turn
+            × IsPut O.told O.trace O.faults octets.now result found given
+            × IsCovered 512 (view worker.old).numbers (told_by O.faults found) }
+    {
+        let mut held = self.counters.take(rt, worker);
+        let result = held.book.put(octets);
+        self.counters.give(worker, held);
+        result
+    }
+
+    /// Handles the record with this number, whose frame came on this link: opens the frame in place where no check fails, and
+    /// answers the reply and its position (CCSDS 355.0-B, ProcessSecurity). Beside a fault stands the count of the run's
+    /// entries. After an answer that is not `Accepted` the frame's octets may be any. Takes no memory.
+    pub fn open_frame<R: Wait>(
+        &self,
+        rt: &R,
+        worker: &mut Worker<O>,
+        index: u64,
+        link: u8,
+        frame: &mut [u8],
+    ) -> Result<(OpenReply, u64), (BookFault, u64)>
+        requires ready { IsReady self.now.counters self.now.plan worker.old }
+        ensures ready { IsReady self.now.counters self.now.plan worker.new }
+        ensures numbers { KeepsNumbers worker.old worker.new }
+        ensures opened { (found given : BookView O) × Visits O.told O.trace O.faults found given (view worker.old).turn (view worker.new).turn
+            × WithPosition result (told_by O.faults given) (λ answer. MatchResult answer
+            (λ told. Opens O.faults index link frame.old (field_in told.0 frame.new) found given told.0 told.1 × Leaves told.0 frame.old frame.new)
+            (RefusesFrame O.faults index link frame.old found given)) }
+    {
+        let mut held = self.counters.take(rt, worker);
+        let result = held.book.accept(index, link, frame);
+        let count = held.book.count();
+        self.counters.give(worker, held);
+        match result {
+            Ok(answer) => Ok(answer),
+            Err(fault) => Err((fault, count)),
+        }
+    }
+}

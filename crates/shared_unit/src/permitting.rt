@@ -1,0 +1,78 @@
+//! Permits, as the holder of the turn gives them.
+ghost use Rattle.std.specs.Prelude.{◌≡◌, ℕ};
+ghost use Rattle.counter_table.specs.declared.view.Turn.{Turn};
+ghost use Rattle.counter_table.specs.Worker.{view, KeepsNumbers};
+ghost use Rattle.unit_book.specs.Book.{BookView, IsKept};
+ghost use Rattle.shared_unit.specs.declared.permit.Permit.{Permit};
+ghost use Rattle.shared_unit.specs.Permit.{IfPermit, IsOfPermit, IsTrueFor, Permits};
+ghost use Rattle.shared_unit.specs.Turn.{Grows, IsReady, Visits};
+
+use crate::permit::{Permit, PermitReply};
+use crate::shelf::Shelf;
+use crate::unit::{Unit, Worker};
+use counter_table::Counted;
+use sdls_outside::Site;
+use std::sync::Wait;
+use unit_plan::Plan;
+
+/// Law: a permit that is true for a worker stays true while what the worker knows grows.
+pub fn permits_stay()
+    ensures { (permit : Permit) (v w : Turn) → Grows v w → IsTrueFor permit v → IsTrueFor permit w }
+{}
+
+/// What the held book permits for a frame.
+pub(crate) fn permit_in<O: Site>(
+    plan: &Plan,
+    shelf: &Shelf<O>,
+    link: u8,
+    clear: &[u8],
+) -> PermitReply
+    requires { plan.now ≡ shelf.now.plan }
+    ensures kept { IsKept O.told O.trace O.faults shelf.now }
+    ensures permits { Permits link clear.now result shelf.now }
+{
+    let epoch = shelf.changes();
+    match shelf.binding(link, clear) {
+        Err(fault) => PermitReply::Refused(fault, epoch),
+        Ok(None) => PermitReply::Clear,
+        Ok(Some(binding)) => {
+            let Ok(on) = frame_checks::channel(plan, link, clear) else {
+                unreachable!()
+            };
+            let Some(channel) = on else { unreachable!() };
+            let Some(row) = shelf.row_of(binding.key) else {
+                unreachable!()
+            };
+            PermitReply::Permit(Permit {
+                binding,
+                row: row as u16,
+                epoch,
+                channel,
+                link,
+            })
+        }
+    }
+}
+
+impl<O: Site> Unit<O> {
+    /// A permit for the channel of a frame in clear, as the book stands.
+    pub fn permit<R: Wait>(
+        &self,
+        rt: &R,
+        worker: &mut Worker<O>,
+        link: u8,
+        clear: &[u8],
+    ) -> PermitReply
+        requires ready { IsReady self.now.counters self.now.plan worker.old }
+        ensures ready { IsReady self.now.counters self.now.plan worker.new }
+        ensures numbers { KeepsNumbers worker.old worker.new }
+        ensures permitted { (found : BookView O) × Visits O.told O.trace O.faults found found (view worker.old).turn (view worker.new).turn
+            × Permits link clear.now result found }
+        ensures trusted { IfPermit result (λ permit. IsTrueFor permit (view worker.new).turn × IsOfPermit self.now.plan permit clear.now) }
+    {
+        let held = self.counters.take(rt, worker);
+        let reply = permit_in(&self.plan, &held.book, link, clear);
+        self.counters.give(worker, held);
+        reply
+    }
+}

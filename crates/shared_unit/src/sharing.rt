@@ -1,0 +1,65 @@
+//! The workers of a unit, and its end.
+ghost use Rattle.std.specs.Prelude.{◌≡◌, ◌+◌, ◌<◌, ◌≤◌, ℕ};
+ghost use Rattle.counter_table.specs.Close.{Closes};
+ghost use Rattle.counter_table.specs.Numbers.{joined, keeper, newcomer};
+ghost use Rattle.counter_table.specs.Turn.{beginner, merged};
+ghost use Rattle.counter_table.specs.Whole.{IsWhole, Meet};
+ghost use Rattle.counter_table.specs.Worker.{view, IsSame};
+ghost use Rattle.sdls_base.specs.Numbers.{times};
+ghost use Rattle.unit_book.specs.Book.{IsKept};
+ghost use Rattle.shared_unit.specs.Told.{told_by};
+ghost use Rattle.shared_unit.specs.Turn.{IsReady};
+
+use crate::unit::{Unit, Worker};
+use sdls_outside::Site;
+use unit_book::Book;
+
+impl<O: Site> Unit<O> {
+    /// Gives one of the worker's shares to a new worker, which has seen as much.
+    pub fn split(&self, worker: &mut Worker<O>) -> Worker<O>
+        requires ready { IsReady self.now.counters self.now.plan worker.old }
+        requires two { 1 < (view worker.old).numbers.shares }
+        ensures ready { IsReady self.now.counters self.now.plan worker.new }
+        ensures new { IsReady self.now.counters self.now.plan result }
+        ensures same { IsSame worker.old worker.new }
+        ensures keeper { view worker.new ≡ record { numbers = keeper (view worker.old).numbers; turn = (view worker.old).turn } }
+        ensures newcomer { view result ≡ record { numbers = newcomer (view worker.old).numbers; turn = beginner (view worker.old).turn } }
+    {
+        self.counters.split(worker)
+    }
+
+    /// Ends the other worker.
+    pub fn join(&self, worker: &mut Worker<O>, other: Worker<O>)
+        requires ready { IsReady self.now.counters self.now.plan worker.old }
+        requires other { IsReady self.now.counters self.now.plan other }
+        ensures ready { IsReady self.now.counters self.now.plan worker.new }
+        ensures same { IsSame worker.old worker.new }
+        ensures joined { view worker.new ≡ record {
+          numbers = joined (view worker.old).numbers (view other).numbers;
+          turn = merged (view worker.old).turn (view other).turn;
+        } }
+
+        // No number of a row was drawn twice, and what both knew is of an earlier time.
+        ensures apart { (row x : ℕ) → row < 512
+            → times row x (view worker.old).numbers.drawn + times row x (view other).numbers.drawn ≤ 1 }
+        ensures meet { Meet (view worker.old).turn (view other).turn }
+
+        // Who has all shares did all.
+        ensures whole { (view worker.new).numbers.shares ≡ 1024 → IsWhole 512 (view worker.new) }
+    {
+        self.counters.join(worker, other);
+    }
+
+    /// Ends the unit, and gives the book and each row's word `next`, in the order of loading. All workers but this one were
+    /// joined.
+    pub fn close(self, worker: Worker<O>) -> (Book<O>, Vec<u64>)
+        requires ready { IsReady self.counters self.plan worker }
+        requires all { (view worker).numbers.shares ≡ 1024 }
+        ensures kept { IsKept O.told O.trace O.faults result.0 }
+        ensures closes { Closes 512 (view worker) (told_by O.faults result.0) result.1.items }
+    {
+        let Unit { counters, plan: _ } = self;
+        let (shelf, nexts) = counters.close(worker);
+        (shelf.into_book(), nexts)
+    }
+}

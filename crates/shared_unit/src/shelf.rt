@@ -1,0 +1,169 @@
+//! The book in its place between the words.
+ghost use Rattle.std.specs.Prelude.{◌≡◌, ◌<◌, ◌↔◌, Ok, None, IsSome, IfOk, IfSome, MatchResult, length};
+ghost use Rattle.sdls_base.specs.KeyId.{end_of};
+ghost use Rattle.key_book.specs.KeyBook.{place_of};
+ghost use Rattle.unit_state.specs.State.{key_row};
+ghost use Rattle.frame_shield.specs.Binding.{IsBinding};
+ghost use Rattle.frame_checks.specs.Accepting.{Leaves, field_in};
+ghost use Rattle.frame_checks.specs.Protecting.{IsSentClear, protect_check};
+ghost use Rattle.ep_core.specs.declared.need.Need.{Need};
+ghost use Rattle.ep_core.specs.Seen.{Fits};
+ghost use Rattle.unit_history.specs.Log.{entries_of};
+ghost use Rattle.unit_book.specs.Book.{IsKept};
+ghost use Rattle.unit_book.specs.Records.{Handles, Opens, RefusesFrame, RefusesMessage};
+ghost use Rattle.unit_history.specs.Entries.{IsNeedOf};
+ghost use Rattle.shared_unit.specs.Calls.{IsPut};
+ghost use Rattle.shared_unit.specs.Funding.{Reserves};
+ghost use Rattle.shared_unit.specs.Going.{GoesUp};
+ghost use Rattle.shared_unit.specs.Told.{told_by};
+
+use counter_table::Counted;
+use ep_core::{Need, Reply};
+use frame_checks::OpenReply;
+use frame_shield::{Binding, ShieldFault};
+use sdls_base::{KeyId, NoMemory, Seen};
+use sdls_outside::Site;
+use std::marker::Model;
+use unit_book::{Book, BookFault};
+
+/// A book that is kept. Contracts see it as the book.
+pub struct Shelf<O: Site> {
+    book: Book<O>,
+}
+
+impl<O: Site> Model for Shelf<O> {
+    ghost use Rattle.unit_book.specs.Book.{BookView, IsKept};
+
+    ghost Value = { BookView O };
+
+    ghost view = { λ shelf. shelf.book };
+
+    ghost invariant = { λ shelf. IsKept O.told O.trace O.faults shelf.book };
+}
+
+impl<O: Site> Counted for Shelf<O> {
+    ghost told = { λ shelf. told_by O.faults shelf };
+
+    fn mark(&self, row: u16) -> u64 {
+        let row = usize::from(row);
+        if row < self.book.rows() {
+            self.book.mark_at(row)
+        } else {
+            1
+        }
+    }
+
+    fn changes(&self) -> u64 {
+        self.book.changes()
+    }
+}
+
+impl<O: Site> Shelf<O> {
+    pub(crate) fn new(book: Book<O>) -> Shelf<O>
+        requires { IsKept O.told O.trace O.faults book }
+        ensures { result ≡ book }
+    {
+        Shelf { book }
+    }
+
+    pub(crate) fn into_book(self) -> Book<O>
+        ensures same { result ≡ self }
+        ensures kept { IsKept O.told O.trace O.faults result }
+    {
+        let Shelf { book } = self;
+        book
+    }
+
+    // For contracts alone: the book is kept.
+    pub(crate) fn look(&self)
+        ensures { IsKept O.told O.trace O.faults self.now }
+    {
+        let _book = &self.book;
+    }
+
+    // How many entries the run has.
+    pub(crate) fn count(&self) -> u64
+        ensures count { result ≡ length (entries_of self.now.log) }
+        ensures kept { IsKept O.told O.trace O.faults self.now }
+    {
+        self.book.count()
+    }
+
+    pub(crate) fn row_of(&self, key: KeyId) -> Option<usize>
+        ensures { result ≡ place_of self.now.state.keys key }
+    {
+        self.book.row_of(key)
+    }
+
+    pub(crate) fn binding(&self, link: u8, clear: &[u8]) -> Result<Option<Binding>, ShieldFault>
+        ensures checked { result ≡ protect_check self.now.plan self.now.state link clear.now }
+        ensures clear { (result ≡ Ok None) ↔ IsSentClear self.now.plan link clear.now }
+        ensures binding { IfOk result (λ found. IfSome found IsBinding) }
+        ensures kept { IsKept O.told O.trace O.faults self.now }
+    {
+        frame_checks::binding(self.book.plan(), self.book.state(), link, clear)
+    }
+
+    pub(crate) fn reserve(&mut self, key: KeyId, number: u64) -> Result<u64, BookFault>
+        requires there { IsSome (key_row self.old.state key) }
+        requires below { number < end_of key }
+        ensures was_kept { IsKept O.told O.trace O.faults self.old }
+        ensures kept { IsKept O.told O.trace O.faults self.new }
+        ensures reserved { Reserves O.faults key number result self.old self.new }
+        ensures goes_on { GoesUp O.faults self.old self.new }
+    {
+        self.book.reserve(key, number)
+    }
+
+    pub(crate) fn accept(
+        &mut self,
+        index: u64,
+        link: u8,
+        frame: &mut [u8],
+    ) -> Result<(OpenReply, u64), BookFault>
+        ensures was_kept { IsKept O.told O.trace O.faults self.old }
+        ensures kept { IsKept O.told O.trace O.faults self.new }
+        ensures made { MatchResult result
+            (λ answer. Opens O.faults index link frame.old (field_in answer.0 frame.new) self.old self.new answer.0 answer.1
+            × Leaves answer.0 frame.old frame.new)
+            (RefusesFrame O.faults index link frame.old self.old self.new) }
+        ensures goes_on { GoesUp O.faults self.old self.new }
+        ensures changes { self.new.changes ≡ self.old.changes }
+    {
+        self.book.accept(index, link, frame)
+    }
+
+    pub(crate) fn need(&self, pdu: &[u8]) -> Result<Need, NoMemory>
+        ensures need { IfOk result (IsNeedOf self.now.state pdu.now) }
+        ensures kept { IsKept O.told O.trace O.faults self.now }
+    {
+        self.book.need(pdu)
+    }
+
+    pub(crate) fn command(
+        &mut self,
+        index: u64,
+        pdu: &[u8],
+        seen: Seen,
+    ) -> Result<(Reply, u64), BookFault>
+        requires seen { (need : Need) → IsNeedOf self.old.state pdu.now need → Fits self.old.state need seen }
+        ensures was_kept { IsKept O.told O.trace O.faults self.old }
+        ensures kept { IsKept O.told O.trace O.faults self.new }
+        ensures made { MatchResult result
+            (λ answer. Handles O.faults index pdu.now seen self.old self.new answer.0 answer.1)
+            (RefusesMessage O.faults index pdu.now seen self.old self.new) }
+        ensures goes_on { GoesUp O.faults self.old self.new }
+    {
+        self.book.command(index, pdu, seen)
+    }
+
+    pub(crate) fn put(&mut self, octets: &[u8]) -> Result<(), BookFault>
+        ensures was_kept { IsKept O.told O.trace O.faults self.old }
+        ensures kept { IsKept O.told O.trace O.faults self.new }
+        ensures put { IsPut O.told O.trace O.faults octets.now result self.old self.new }
+        ensures goes_on { GoesUp O.faults self.old self.new }
+        ensures changes { self.new.changes ≡ self.old.changes }
+    {
+        self.book.put(octets)
+    }
+}

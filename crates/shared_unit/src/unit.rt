@@ -1,0 +1,29 @@
+ghost use Rattle.std.specs.Prelude.{◌≡◌};
+ghost use Rattle.frame_checks.specs.Protecting.{channel_check};
+
+use crate::shelf::Shelf;
+use counter_table::Counters;
+use frame_shield::ShieldFault;
+use sdls_base::ChannelId;
+use sdls_outside::Site;
+use unit_plan::Plan;
+
+/// A book that workers share, with the words of its keys, and what the plan says of links and channels beside them.
+pub struct Unit<O: Site> {
+    pub(crate) counters: Counters<Shelf<O>>,
+    pub(crate) plan: Plan,
+    ghost rows: { counters.rows ≡ 512 },
+}
+
+/// One who makes calls on a unit. It has no octets.
+pub type Worker<O> = counter_table::Worker<Shelf<O>>;
+
+impl<O: Site> Unit<O> {
+    /// The channel of a frame in clear that is to be protected, or the first check that fails of those for which the plan is
+    /// enough. `None` is a frame that is sent as it stands. Takes neither memory nor the turn.
+    pub fn channel(&self, link: u8, clear: &[u8]) -> Result<Option<ChannelId>, ShieldFault>
+        ensures { result ≡ channel_check self.now.plan link clear.now }
+    {
+        frame_checks::channel(&self.plan, link, clear)
+    }
+}
