@@ -12,3 +12,4 @@ pub mod Renewing
 pub mod Commands
 pub mod Beginning
 pub mod Fresh
+pub mod Shares

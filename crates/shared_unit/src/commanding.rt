@@ -155,6 +155,7 @@ impl<O: Site> Unit<O> {
         requires ready { IsReady self.now.counters self.now.plan worker.old }
         ensures ready { IsReady self.now.counters self.now.plan worker.new }
         ensures same { IsSame worker.old worker.new }
+        ensures shares { (view worker.new).numbers.shares ≡ (view worker.old).numbers.shares }
         ensures commanded { (found given : BookView O) × Visits O.told O.trace O.faults found given (view worker.old).turn (view worker.new).turn
             × WithPosition result (told_by O.faults given)
             (λ answer. IsCommanded O.faults index pdu.now answer found given (view worker.old).numbers (view worker.new).numbers) }

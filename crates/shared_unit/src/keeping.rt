@@ -141,6 +141,7 @@ impl<O: Site> Unit<O> {
         requires room { length out.old ≡ 2048 }
         ensures ready { IsReady self.now.counters self.now.plan worker.new }
         ensures same { IsSame worker.old worker.new }
+        ensures shares { (view worker.new).numbers.shares ≡ (view worker.old).numbers.shares }
         ensures turn { TakesAtMostOnce O.told O.trace O.faults (view worker.old).turn (view worker.new).turn }
         ensures kept { IsTrueIfKept kept.new (view worker.new).turn }
         ensures step { IsProtectStep O.told O.trace O.faults self.now.plan link clear.now out.new kept.new result (view worker.old) (view worker.new) }

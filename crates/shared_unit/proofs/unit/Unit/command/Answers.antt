@@ -4,6 +4,7 @@ use Rattle.counter_table.specs.Worker.{view}
 use Rattle.unit_book.specs.Book.{BookView}
 use Rattle.shared_unit.specs.Commanding.{IsCommanded}
 use Rattle.shared_unit.proofs.Commands.{holds_gives, holds_visits}
+use Rattle.shared_unit.proofs.Shares.{commanded_shares}
 use Rattle.shared_unit.proofs.Passing.{ready_after, same_twice}
 use Rattle.shared_unit.proofs.unit.Unit.command.Goals as goal
 
@@ -64,3 +65,17 @@ returns-in-Err-clause-ready g c =
     (holds_visits g.O.Site.faults g.O.Site.told g.O.Site.trace found given (view c.args.worker.now).turn (view c.take-held.new.worker).turn (view c.commanded-result.new.worker).turn (view c.give.new.worker).turn
     c.commanded-result.ensures.was_kept c.commanded-result.ensures.kept c.take-held.ensures.follows c.commanded-result.ensures.goes_on c.take-held.ensures.turn
     c.commanded-result.ensures.holds c.give.ensures.turn)
+
+pub returns-in-Ok-clause-shares : goal.returns-in-Ok-clause-shares
+returns-in-Ok-clause-shares g c =
+    ap (λ (k : Numbers). k.shares) c.give.ensures.same.1
+    ∙ commanded_shares g.O.Site.faults c.args.index c.args.pdu.now (Ok c.in-Ok.reply) c.take-held.result.book c.commanded-result.new.held.book
+    (view c.take-held.new.worker).numbers (view c.commanded-result.new.worker).numbers c.in-Ok.ensures.step
+    ∙ ap (λ (k : Numbers). k.shares) c.take-held.ensures.same.1
+
+pub returns-in-Err-clause-shares : goal.returns-in-Err-clause-shares
+returns-in-Err-clause-shares g c =
+    ap (λ (k : Numbers). k.shares) c.give.ensures.same.1
+    ∙ commanded_shares g.O.Site.faults c.args.index c.args.pdu.now (Err c.in-Err.fault) c.take-held.result.book c.commanded-result.new.held.book
+    (view c.take-held.new.worker).numbers (view c.commanded-result.new.worker).numbers c.in-Err.ensures.step
+    ∙ ap (λ (k : Numbers). k.shares) c.take-held.ensures.same.1
