@@ -1,0 +1,20 @@
+-- Calls that take the turn once (profile).
+use Rattle.std.specs.Prelude.{◌≡◌, ℕ, Bool, false}
+use Rattle.sdls_outside.specs.Moments.{Trace}
+use Rattle.counter_table.specs.declared.view.View.{View}
+use Rattle.unit_book.specs.Book.{BookView}
+use Rattle.shared_unit.specs.Turn.{Visits}
+use Rattle.unit_work.specs.Begin.{Begin}
+
+-- the run began with the plan and the state of the opening that the worker knows of
+pub record BeganWith (begin : Begin) (v : View) : Type 0 where
+  pub plan : v.turn.known.opening.plan ≡ begin.plan
+  pub start : v.turn.known.opening.start ≡ begin.start
+
+-- A worker of the run, which had not the turn, took it once, with the one book found and the other given back, and left the
+-- numbers.
+pub record Visited {O : Type 0} (told : Bool) (trace : O → Trace) (faults : O → ℕ) (begin : Begin) (found given : BookView O) (v w : View) : Type 0 where
+  pub began : BeganWith begin v
+  pub free : v.turn.holds ≡ false
+  pub visits : Visits told trace faults found given v.turn w.turn
+  pub numbers : w.numbers ≡ v.numbers
