@@ -15,3 +15,4 @@ pub mod Ended
 pub mod Epochs
 pub mod OneOpening
 pub mod OneStep
+pub mod OneInventory

@@ -36,7 +36,7 @@ earlier_row (row ∷ rows) (suc place) held apart is =
     by true test rest = absurd (apart zero (suc place) row held (omega arith) refl is (equal_number row.id held.id test))
     by false test rest = rest
 
-row_at : (rows : List KeyRow) (place : ℕ) (held : KeyRow) → AreKeyRows rows → slice_get rows place ≡ Some held → row_of rows held.id ≡ Some held
+pub row_at : (rows : List KeyRow) (place : ℕ) (held : KeyRow) → AreKeyRows rows → slice_get rows place ≡ Some held → row_of rows held.id ≡ Some held
 row_at rows place held ok is =
     earlier_row rows place held
     (λ i k a b less one other same.

@@ -1,10 +1,11 @@
-//! Laws of what a state decides: one answer to a frame, one change by a message.
+//! Laws of what a state decides: one answer to a frame, one step of a message.
 
 ghost use Rattle.std.specs.Prelude.{◌≡◌, ℕ, List};
 ghost use Rattle.sdls_base.specs.declared.change.Change.{Change};
 ghost use Rattle.sdls_base.specs.declared.entry.Seen.{Seen};
 ghost use Rattle.unit_plan.specs.PlanLines.{PlanLines};
 ghost use Rattle.unit_state.specs.declared.state.State.{State};
+ghost use Rattle.unit_state.specs.State.{KeepsRules};
 ghost use Rattle.frame_checks.specs.declared.open_reply.OpenReply.{OpenReply};
 ghost use Rattle.frame_checks.specs.Opening.{IsOpenReply};
 ghost use Rattle.ep_core.specs.declared.reply.Reply.{Reply};
@@ -22,8 +23,8 @@ pub fn openings_tell_one()
     opens_once();
 }
 
-/// Law: what a message changes is one, by the state, the message and what was seen.
-pub fn messages_change_one()
-    ensures { (state : State) (octets : List ℕ) (seen : Seen) (step other : Change × Reply)
-        → IsStepOf state octets seen step → IsStepOf state octets seen other → step.0 ≡ other.0 }
+/// Law: the step of a message, its change and its reply, is one by the state, the message and what was seen.
+pub fn messages_have_one_step()
+    ensures { (state : State) (octets : List ℕ) (seen : Seen) (step other : Change × Reply) → KeepsRules state
+        → IsStepOf state octets seen step → IsStepOf state octets seen other → step ≡ other }
 {}
