@@ -16,3 +16,4 @@ pub mod Epochs
 pub mod OneOpening
 pub mod OneStep
 pub mod OneInventory
+pub mod StoredEntries

@@ -137,7 +137,8 @@ pub record IsExhausted (near : ℕ → ℕ → Type 0) (course : Course) (task :
 -- the checks tell the answer, in the state of the epoch that it tells
 pub record IsUnbound (course : Course) (task : Record) (answer : Answer) : Type 0 where
   pub reached : answer.position ≤ epoch_after course.entries
-  pub told : unbound_told (protect_reply course.plan (state_in course answer.position) task.link task.octets) ≡ Some (told_by answer)
+  pub told : unbound_told (protect_reply course.plan (state_in course answer.position) task.link task.octets)
+      ≡ Some (told_by answer)
 
 -- ---- frames opened, and commands
 

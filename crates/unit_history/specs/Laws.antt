@@ -6,6 +6,8 @@ use Rattle.sdls_base.specs.declared.entry.Entry.{Entry}
 use Rattle.sdls_base.specs.declared.entry.Seen.TheVariants.{Word}
 use Rattle.unit_state.specs.declared.state.State.{State}
 use Rattle.unit_state.specs.History.{after_first, at_epoch, epoch_after}
+use Rattle.frame_checks.specs.declared.open_reply.OpenReply.{OpenReply}
+use Rattle.frame_checks.specs.declared.open_reply.OpenReply.TheVariants as opens
 use Rattle.unit_history.specs.Numbers.{mark_of, floor_of}
 
 -- a change that a command makes: it neither sets marks nor accepts a number
@@ -33,6 +35,16 @@ pub record AcceptsAt (entries : List Entry) (place key number : ℕ) : Type 0 wh
   pub spi : ℕ
   pub floor : ℕ
   pub change_is : entry.change ≡ Accepted spi key number floor
+
+-- the reply accepts a number above the floor of its key
+pub record RaisesFloor (state : State) (reply : OpenReply) : Type 0 where
+  pub spi : ℕ
+  pub key : ℕ
+  pub number : ℕ
+  pub from : ℕ
+  pub to : ℕ
+  pub is : reply ≡ opens.Accepted spi key number from to
+  pub above : floor_of state key < number
 
 -- the number is below each word that a release of the key saw, of the entries from a place on
 abbrev pub IsBelowReleases : List Entry → ℕ → ℕ → ℕ → Type 0

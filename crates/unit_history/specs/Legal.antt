@@ -100,8 +100,8 @@ pub record IsRelease (near : ℕ → ℕ → Type 0) (state : State) (entry : En
 
 -- the words are near, each for the key at its place, counted from a place on
 abbrev pub AreNear : (ℕ → ℕ → Type 0) → List KeyRow → ℕ → List ℕ → Type 0
-AreNear near keys from words = (i word : ℕ) (held : KeyRow) → slice_get words i ≡ Some word → slice_get keys (from + i) ≡ Some held
-    → near held.id word
+AreNear near keys from words = (i word : ℕ) (held : KeyRow) → slice_get words i ≡ Some word
+    → slice_get keys (from + i) ≡ Some held → near held.id word
 
 -- an entry of any kind
 abbrev pub IsEntry : (ℕ → ℕ → Type 0) → PlanLines → State → List Record → Entry → Type 0

@@ -32,8 +32,8 @@ pub record NearWord (start : State) (entries : List Entry) (records : List Recor
 
 -- two records of these places, by their numbers, are handled in their order: they are of one lane, or of different segments
 abbrev pub TurnIn : List Place → ℕ → ℕ → Type 0
-TurnIn places i j = (one other : Place) × Contains places one × Contains places other × (one.task.index ≡ i) × (other.task.index ≡ j)
-    × ((one.task.lane ≡ other.task.lane) ⊎ (one.segment ≢ other.segment))
+TurnIn places i j = (one other : Place) × Contains places one × Contains places other
+    × (one.task.index ≡ i) × (other.task.index ≡ j) × ((one.task.lane ≡ other.task.lane) ⊎ (one.segment ≢ other.segment))
 
 -- A legal history of a run with these records. The first `ends` entries are of records, or reserves; the others are releases.
 -- In turn says which two records, by their numbers, are handled in their order.

@@ -1,7 +1,8 @@
 //! Laws of one entry. What is legal or a release near some words is so anywhere.
 
-ghost use Rattle.std.specs.Prelude.{◌≡◌, ℕ, ◌<◌, ◌≤◌, List, Some};
+ghost use Rattle.std.specs.Prelude.{◌≡◌, ◌≢◌, ℕ, ◌<◌, ◌≤◌, IsTrue, List, Some};
 ghost use Rattle.sdls_base.specs.declared.change.Change.{Change};
+ghost use Rattle.sdls_base.specs.declared.change.Change.TheVariants.{Nothing};
 ghost use Rattle.sdls_base.specs.declared.entry.Entry.{Entry};
 ghost use Rattle.sdls_base.specs.declared.entry.Seen.{Seen};
 ghost use Rattle.unit_plan.specs.PlanLines.{PlanLines};
@@ -10,13 +11,15 @@ ghost use Rattle.unit_state.specs.declared.state.State.{State};
 ghost use Rattle.unit_state.specs.State.{KeepsRules};
 ghost use Rattle.unit_state.specs.Applied.{applied};
 ghost use Rattle.unit_state.specs.Allows.{Allows};
+ghost use Rattle.frame_checks.specs.declared.open_reply.OpenReply.{OpenReply};
 ghost use Rattle.ep_core.specs.declared.reply.Reply.{Reply};
 ghost use Rattle.ep_core.specs.declared.reply.Reply.TheVariants.{Done};
 ghost use Rattle.record_io.specs.declared.records.Record.{Record};
 ghost use Rattle.unit_history.specs.Numbers.{mark_of};
-ghost use Rattle.unit_history.specs.Entries.{IsStepOf};
+ghost use Rattle.unit_history.specs.Entries.{frame_entry, IsStepOf};
+ghost use Rattle.unit_history.specs.Stored.{IsStored};
 ghost use Rattle.unit_history.specs.Legal.{anywhere, SeesFor, IsLegal, IsRelease, IsReserve};
-ghost use Rattle.unit_history.specs.Laws.{IsOfCommand, NumbersRise};
+ghost use Rattle.unit_history.specs.Laws.{IsOfCommand, NumbersRise, RaisesFloor};
 
 /// Law: a legal entry's change is one that the state before it allows.
 pub fn legal_is_allowed()
@@ -61,4 +64,15 @@ pub fn used_is_below_the_mark()
     ensures { (state : State) (octets : List ℕ) (seen : Seen) (change : Change) (key number : ℕ) (pdu : List ℕ)
         → SeesFor state octets seen → IsStepOf state octets seen (change, Done (Some key) number pdu)
         → number < mark_of state key }
+{}
+
+/// Law: the entry of a frame is stored only where a number above the floor is accepted.
+pub fn stored_frame_raises_the_floor()
+    ensures { (plan : PlanLines) (state : State) (index : ℕ) (reply : OpenReply)
+        → IsTrue (IsStored state (frame_entry plan state index reply)) → RaisesFloor state reply }
+{}
+
+/// Law: an entry is stored only where something changes.
+pub fn stored_entry_changes()
+    ensures { (state : State) (entry : Entry) → IsTrue (IsStored state entry) → entry.change ≢ Nothing }
 {}

@@ -19,7 +19,8 @@ pub use answers::{
 };
 pub use entries::{
     legal_is_allowed, numbers_rise, release_is_allowed, release_stays_above, reserve_stays_above,
-    steps_set_no_marks, used_is_below_the_mark,
+    steps_set_no_marks, stored_entry_changes, stored_frame_raises_the_floor,
+    used_is_below_the_mark,
 };
 pub use growing::{
     fits_stays, legal_log_is_legal, legal_place_stays, near_stays, new_place_is_legal,

@@ -15,7 +15,8 @@ ghost use Rattle.unit_history.specs.Run.{LegalRun, NearWord, TurnIn};
 /// Law: the first of the releases of all keys, in loading order, are each the release of a key in the state before it, where
 /// the words are at least 1 and near in the run.
 pub fn releases_are_legal()
-    ensures { (start : State) (entries : List Entry) (records : List Record) (state : State) (words : List ℕ) (made rest : List Entry)
+    ensures { (start : State) (entries : List Entry) (records : List Record) (state : State) (words : List ℕ)
+        → (made rest : List Entry)
         → KeepsRules state → ((i word : ℕ) → slice_get words i ≡ Some word → 1 ≤ word)
         → AreNear (NearWord start entries records) state.keys 0 words → made ++ rest ≡ releases state 0 words
         → (p : ℕ) (entry : Entry) → slice_get made p ≡ Some entry
