@@ -5,7 +5,7 @@ use Rattle.std.proofs.lemmas.List.Elements.{All-nil}
 use Rattle.sdls_outside.specs.Disk.{Leaves}
 use Rattle.sdls_outside.specs.Moments.{Trace, clock}
 use Rattle.sdls_outside.proofs.Moments.{each_same, moment_now, synced_leaves}
-use Rattle.unit_plan.specs.declared.telecommand.TelecommandPlan.{TelecommandPlan}
+use Rattle.channel_book.specs.declared.telecommand.TelecommandPlan.{TelecommandPlan}
 use Rattle.disk_journal.specs.Image.{records, slot_count}
 use Rattle.disk_journal.specs.Fault.{image_fault}
 use Rattle.disk_journal.specs.Journal.{JournalView, IsOpen, IsSettled}

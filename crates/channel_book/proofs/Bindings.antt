@@ -8,7 +8,7 @@ use Rattle.sdls_base.specs.declared.states.KeyState.TheVariants.{Active}
 use Rattle.sdls_base.specs.declared.states.SaState.TheVariants.{Operational}
 use Rattle.sdls_base.specs.declared.states.Direction.TheVariants.{Send}
 use Rattle.sdls_base.specs.declared.states.Suite.TheVariants.{Cmac}
-use Rattle.unit_plan.specs.declared.telecommand.TelecommandPlan.{TelecommandPlan}
+use Rattle.channel_book.specs.declared.telecommand.TelecommandPlan.{TelecommandPlan}
 use Rattle.channel_book.specs.State.{State, KeyRow, AssociationRow, initial, key_row, marked, lowered, sender_on, applied}
 use Rattle.channel_book.specs.Verdict.{IsBinding, IsOfPlan, is_on_channel, channel_of}
 

@@ -11,7 +11,7 @@ use Rattle.std.proofs.lemmas.Bool.Decides.{nat_tests}
 use Rattle.sdls_base.specs.declared.change.Change.{Change}
 use Rattle.sdls_base.specs.declared.change.Change.TheVariants.{Marks, Load, KeyStates, Create, Rekey, SaTo, SetNumber, SetWindow, Accepted, Nothing}
 use Rattle.sdls_base.specs.KeyId.{end_of}
-use Rattle.unit_plan.specs.declared.telecommand.TelecommandPlan.{TelecommandPlan}
+use Rattle.channel_book.specs.declared.telecommand.TelecommandPlan.{TelecommandPlan}
 use Rattle.channel_book.specs.State.{telecommand_state, key_row}
 use Rattle.channel_book.specs.Record.{marks_body, IsMarks, IsRecord, Allows}
 

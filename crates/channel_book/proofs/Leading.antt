@@ -9,7 +9,7 @@ use Rattle.sdls_base.specs.declared.change.Change.{Change}
 use Rattle.sdls_base.specs.declared.change.Change.TheVariants.{Marks}
 use Rattle.sdls_base.specs.KeyId.{end_of}
 use Rattle.sdls_outside.specs.Moments.{Trace}
-use Rattle.unit_plan.specs.declared.telecommand.TelecommandPlan.{TelecommandPlan}
+use Rattle.channel_book.specs.declared.telecommand.TelecommandPlan.{TelecommandPlan}
 use Rattle.disk_journal.specs.Slots.{slot_at}
 use Rattle.disk_journal.specs.Image.{slot_count, records}
 use Rattle.disk_journal.specs.Changes.{OnlySyncs}

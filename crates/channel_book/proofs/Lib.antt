@@ -1,3 +1,6 @@
+pub mod ReadingFacts
+pub mod TelecommandLaws
+pub mod TelecommandPlans
 pub mod Protection
 pub mod Bindings
 pub mod Bodies

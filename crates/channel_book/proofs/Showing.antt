@@ -4,8 +4,8 @@ use Rattle.std.proofs.lemmas.List.{take_all, take-append-le}
 use Rattle.sdls_base.specs.declared.change.Change.{Change}
 use Rattle.sdls_base.specs.declared.change.Change.TheVariants.{Marks, Load, KeyStates, Create, Rekey, SaTo, SetNumber, SetWindow, Accepted, Nothing}
 use Rattle.sdls_base.specs.declared.entry.Entry.{Entry}
-use Rattle.unit_plan.specs.declared.telecommand.TelecommandPlan.{TelecommandPlan}
-use Rattle.unit_plan.specs.Telecommand.{SaysTelecommand}
+use Rattle.channel_book.specs.declared.telecommand.TelecommandPlan.{TelecommandPlan}
+use Rattle.channel_book.specs.Telecommand.{SaysTelecommand}
 use Rattle.disk_journal.specs.declared.layout.TheConstants.{OPEN}
 use Rattle.disk_journal.specs.Image.{slot_count, records, first_closed, IsHalfOpen, opened_form}
 use Rattle.disk_journal.specs.Fault.{image_fault}

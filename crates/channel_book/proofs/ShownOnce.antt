@@ -5,9 +5,9 @@ use Rattle.std.proofs.lemmas.Nat.{from_be_bytes-to_be_bytes_2, from_be_bytes-to_
 use Rattle.std.proofs.lemmas.Option.{same_Some}
 use Rattle.sdls_base.specs.declared.change.Change.{Change}
 use Rattle.sdls_base.specs.declared.change.Change.TheVariants.{Marks, Load, KeyStates, Create, Rekey, SaTo, SetNumber, SetWindow, Accepted, Nothing}
-use Rattle.unit_plan.specs.declared.telecommand.TelecommandPlan.{TelecommandPlan}
-use Rattle.unit_plan.specs.Telecommand.{SaysTelecommand}
-use Rattle.unit_plan.proofs.TelecommandPlans.{plan_again}
+use Rattle.channel_book.specs.declared.telecommand.TelecommandPlan.{TelecommandPlan}
+use Rattle.channel_book.specs.Telecommand.{SaysTelecommand}
+use Rattle.channel_book.proofs.TelecommandPlans.{plan_again}
 use Rattle.disk_journal.specs.Image.{plan_of, records}
 use Rattle.channel_book.specs.State.{State, initial, applied, restarted}
 use Rattle.channel_book.specs.Record.{IsMarks, IsRecord, LeadTo}

@@ -9,7 +9,7 @@ use Rattle.sdls_base.specs.declared.entry.Seen.TheVariants.{Number}
 use Rattle.sdls_outside.specs.Disk.{Leaves}
 use Rattle.sdls_outside.specs.Faults.{Rose}
 use Rattle.sdls_outside.specs.Moments.{Trace}
-use Rattle.unit_plan.specs.declared.telecommand.TelecommandPlan.{TelecommandPlan}
+use Rattle.channel_book.specs.declared.telecommand.TelecommandPlan.{TelecommandPlan}
 use Rattle.disk_journal.specs.Image.{records}
 use Rattle.disk_journal.specs.Journal.{JournalView, IsSettled}
 use Rattle.disk_journal.specs.Changes.{EachImage, Grows}

@@ -1,3 +1,5 @@
+pub mod Telecommand
+pub mod TelecommandReading
 pub mod State
 pub mod Binding
 pub mod Protects

@@ -3,8 +3,8 @@ use Rattle.std.specs.Prelude.{◌≡◌, ℕ, ◌<◌, ◌≤◌, ⊤, List, Som
 use Rattle.std.specs.List.{slice_get}
 use Rattle.sdls_base.specs.KeyId.{end_of}
 use Rattle.sdls_base.specs.declared.change.Change.{Change}
-use Rattle.unit_plan.specs.declared.telecommand.TelecommandPlan.{TelecommandPlan}
-use Rattle.unit_plan.specs.Telecommand.{IsInBounds}
+use Rattle.channel_book.specs.declared.telecommand.TelecommandPlan.{TelecommandPlan}
+use Rattle.channel_book.specs.Telecommand.{IsInBounds}
 use Rattle.disk_journal.specs.Journal.{JournalView}
 use Rattle.disk_journal.specs.declared.layout.TheConstants.{MOST_SLOTS}
 use Rattle.channel_book.specs.declared.record.Marks.{Marks}

@@ -12,7 +12,7 @@ use Rattle.sdls_base.specs.declared.states.Suite.{Suite}
 use Rattle.sdls_base.specs.declared.states.Suite.TheVariants.{Cmac}
 use Rattle.sdls_base.specs.declared.change.Change.{Change}
 use Rattle.sdls_base.specs.declared.change.Change.TheVariants.{Marks}
-use Rattle.unit_plan.specs.declared.telecommand.TelecommandPlan.{TelecommandPlan}
+use Rattle.channel_book.specs.declared.telecommand.TelecommandPlan.{TelecommandPlan}
 
 -- A key: numbers below the mark may have been used for sending, numbers up to the floor may have been accepted. A
 -- destroyed key has no bytes.

@@ -5,7 +5,7 @@ use Rattle.sdls_base.specs.FirstFailing.{Check, first_failing}
 use Rattle.sdls_base.specs.declared.layout.FrameFault.{FrameFault}
 use Rattle.sdls_base.specs.declared.layout.FrameFault.TheVariants.{Short, Long, LengthField, Version, Spare, SecondaryHeader, Fecf}
 use Rattle.tc_frame.specs.FirstFault.{first_fault, control_of}
-use Rattle.unit_plan.specs.declared.telecommand.TelecommandPlan.{TelecommandPlan}
+use Rattle.channel_book.specs.declared.telecommand.TelecommandPlan.{TelecommandPlan}
 use Rattle.channel_book.specs.declared.binding.Verdict.{Verdict}
 use Rattle.channel_book.specs.declared.binding.Verdict.TheVariants as verdicts
 use Rattle.channel_book.specs.Binding.{BindingParts}

@@ -4,10 +4,10 @@ ghost use Rattle.channel_book.specs.State.{State, initial, applied};
 ghost use Rattle.channel_book.specs.Verdict.{IsBinding, IsOfPlan, clear_fault, is_on_channel, lacks_header, protect_verdict};
 
 use crate::shielding::clear_layout;
+use crate::telecommand::TelecommandPlan;
 use aes_block::Schedule;
 use sdls_base::{KeyId, Spi, flag};
 use std::marker::Model;
-use unit_plan::TelecommandPlan;
 
 /// What the checks before protecting find (profile). `Layout` carries the number of the fault, 0 for a link that has no
 /// line in the plan.

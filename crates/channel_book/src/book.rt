@@ -17,13 +17,13 @@ use crate::binding::{Binding, Verdict, verdict_on};
 use crate::fault::{BookFault, OpenFault};
 use crate::opening::{Found, Rooms, start};
 use crate::record::{Marks, write_marks};
+use crate::telecommand::TelecommandPlan;
 use disk_journal::{Journal, JournalFault, MOST_SLOTS};
 use sdls_base::{Change, Entry, KeyId, Seen};
 use sdls_outside::{Failed, Site};
 use std::alloc::Global;
 use std::marker::Model;
 use std::snapshot::Snapshot;
-use unit_plan::TelecommandPlan;
 
 /// A unit's state, with the journal in which each change of it is stored, and the site that holds both.
 ///

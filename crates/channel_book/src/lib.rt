@@ -5,7 +5,7 @@
 //! protected (CCSDS 355.0-B), and [`shield`] protects it. [`Book::put`] hands octets to the site's sink.
 //!
 //! The state is stated whole (`specs/State.antt`): the plan's lines and a row for each key and for each association. The
-//! code serves the plan of one telecommand channel under CMAC alone.
+//! code serves the plan of one telecommand channel under CMAC alone, [`TelecommandPlan`], in nine lines.
 #![tactic(auto)]
 
 mod binding;
@@ -14,8 +14,11 @@ mod fault;
 mod opening;
 mod record;
 mod shielding;
+mod telecommand;
+mod words;
 
 pub use binding::{Binding, Verdict, verdict_on};
 pub use book::Book;
 pub use fault::{BookFault, OpenFault};
 pub use shielding::shield;
+pub use telecommand::TelecommandPlan;

@@ -5,8 +5,8 @@ ghost use Rattle.sdls_outside.specs.Disk.{Leaves};
 ghost use Rattle.sdls_outside.specs.Faults.{Rose};
 ghost use Rattle.sdls_base.specs.KeyId.{end_of};
 ghost use Rattle.sdls_base.specs.declared.change.Change.{Change};
-ghost use Rattle.unit_plan.specs.declared.telecommand.TelecommandPlan.{TelecommandPlan};
-ghost use Rattle.unit_plan.specs.Telecommand.{IsInBounds};
+ghost use Rattle.channel_book.specs.declared.telecommand.TelecommandPlan.{TelecommandPlan};
+ghost use Rattle.channel_book.specs.Telecommand.{IsInBounds};
 ghost use Rattle.disk_journal.specs.Slots.{slot_at};
 ghost use Rattle.disk_journal.specs.Image.{plan_of, slot_count, records};
 ghost use Rattle.disk_journal.specs.Journal.{IsOpen, IsSettled, IsCause};
@@ -20,6 +20,7 @@ ghost use Rattle.sdls_outside.specs.Moments.{EachMoment};
 
 use crate::fault::OpenFault;
 use crate::record::{Marks, read_marks};
+use crate::telecommand::TelecommandPlan;
 use disk_journal::{
     HEADER_LENGTH, Journal, JournalFault, MOST_SLOTS, PLAN_ROOM, SLOT_COUNT_AT, slot_offset,
 };
@@ -27,7 +28,6 @@ use sdls_base::{Entry, KeyId};
 use sdls_outside::{Failed, Site};
 use std::alloc::{AllocError, Global};
 use std::snapshot::Snapshot;
-use unit_plan::TelecommandPlan;
 
 /// A fault of a journal that is opened or read, as one of the opening.
 fn open_fault(fault: JournalFault) -> OpenFault

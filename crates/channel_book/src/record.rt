@@ -5,7 +5,7 @@ ghost use Rattle.sdls_base.specs.KeyId.{end_of};
 ghost use Rattle.sdls_base.specs.declared.change.Change.{Change};
 ghost use Rattle.channel_book.specs.Record.{marks_data, marks_body, IsMarks, IsRecord, Allows};
 ghost use Rattle.channel_book.specs.State.{telecommand_state};
-ghost use Rattle.unit_plan.specs.declared.telecommand.TelecommandPlan.{TelecommandPlan};
+ghost use Rattle.channel_book.specs.declared.telecommand.TelecommandPlan.{TelecommandPlan};
 
 use disk_journal::BODY_LENGTH;
 use sdls_base::{KeyId, put};

@@ -1,4 +1,5 @@
-//! Tables of texts, for the two readers of `unit_plan`. A line of standard input gathers a text or asks for an answer.
+//! Tables of texts, for the readers of `unit_plan` and `channel_book`. A line of standard input gathers a text or asks for an
+//! answer.
 //!
 //! `new` begins a text. `: LINE` puts a line and its line feed before the place of the case, and `; LINE` a line feed and
 //! a line behind it. `fill N` puts number signs before the place, up to N octets. `plan LINE` and `nine LINE` put the line into
@@ -10,9 +11,10 @@
 mod showing;
 mod text;
 
+use channel_book::TelecommandPlan;
 use std::alloc::Global;
 use text::Text;
-use unit_plan::{Plan, TelecommandPlan};
+use unit_plan::Plan;
 
 /// What the reader of whole plans answers to the text with a case.
 fn print_plan(rt: &HostRuntime, text: &Text, case: &str) -> anyhow::Result<()> {

@@ -1,8 +1,9 @@
 // What is read of a plan, a line for each of its lines.
 use crate::text::Text;
+use channel_book::TelecommandPlan;
 use sdls_base::{AnyLayout, Link};
 use std::alloc::{AllocError, Global};
-use unit_plan::{Plan, PlanKey, PlanSa, TelecommandPlan};
+use unit_plan::{Plan, PlanKey, PlanSa};
 
 /// The words for a layout.
 fn layout_text(alloc: Global, layout: &AnyLayout) -> Result<String, AllocError> {

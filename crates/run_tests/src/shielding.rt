@@ -1,7 +1,6 @@
 use crate::support::PLAN;
-use channel_book::{Binding, Verdict, shield, verdict_on};
+use channel_book::{Binding, TelecommandPlan, Verdict, shield, verdict_on};
 use std::test::*;
-use unit_plan::TelecommandPlan;
 
 // MACs by a program apart from this one, which gives those of RFC 4493 for this key.
 #[test]

@@ -4,8 +4,8 @@ use Rattle.std.specs.List.{All, AllPairs}
 use Rattle.std.proofs.lemmas.List.Elements.{All-nil, All-append}
 use Rattle.std.proofs.lemmas.List.Kept.{AllPairs-cons}
 use Rattle.std.proofs.lemmas.Bool.{cases_eq}
-use Rattle.unit_plan.specs.declared.telecommand.TelecommandPlan.{TelecommandPlan}
-use Rattle.unit_plan.specs.Telecommand.{SaysTelecommand}
+use Rattle.channel_book.specs.declared.telecommand.TelecommandPlan.{TelecommandPlan}
+use Rattle.channel_book.specs.Telecommand.{SaysTelecommand}
 use Rattle.disk_journal.specs.declared.layout.TheConstants.{OPEN}
 use Rattle.disk_journal.specs.Image.{records, IsHalfOpen, regated, opened_form}
 use Rattle.disk_journal.specs.Fault.{image_fault}

@@ -1,8 +1,8 @@
 use Rattle.std.proofs.Common.{◌≡◌, ℕ, ◌+◌, ◌<◌, ◌≤◌, Bool, true, false, IsTrue, List, ◌++◌, length, take, refl, ap, sym, ◌∙◌, subst, arith, append-nil}
 use Rattle.std.proofs.lemmas.Bool.{cases_lt, false≢true}
 use Rattle.std.proofs.lemmas.List.{length-take-le, length-append}
-use Rattle.unit_plan.specs.declared.telecommand.TelecommandPlan.{TelecommandPlan}
-use Rattle.unit_plan.specs.Telecommand.{SaysTelecommand}
+use Rattle.channel_book.specs.declared.telecommand.TelecommandPlan.{TelecommandPlan}
+use Rattle.channel_book.specs.Telecommand.{SaysTelecommand}
 use Rattle.sdls_outside.specs.Moments.{Trace}
 use Rattle.sdls_run.specs.declared.init.InitEnd.{InitEnd}
 use Rattle.sdls_run.specs.declared.init.InitEnd.TheVariants.{Made, ImageExists, Unbuilt, SourceFault, SiteFault, NoMemory}

@@ -9,7 +9,7 @@ use Rattle.sdls_outside.specs.Disk.{Leaves}
 use Rattle.sdls_outside.specs.Moments.{Trace, Between, EachMoment}
 use Rattle.disk_journal.specs.Image.{records, slot_count, IsHalfOpen, opened_form}
 use Rattle.disk_journal.specs.Forms.{Settles}
-use Rattle.unit_plan.specs.declared.telecommand.TelecommandPlan.{TelecommandPlan}
+use Rattle.channel_book.specs.declared.telecommand.TelecommandPlan.{TelecommandPlan}
 use Rattle.channel_book.specs.Binding.{BindingParts}
 use Rattle.channel_book.specs.State.{State, mark_of, restarted}
 use Rattle.channel_book.specs.Shows.{Shows}

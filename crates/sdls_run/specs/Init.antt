@@ -2,8 +2,8 @@
 use Rattle.std.specs.Prelude.{◌≡◌, ◌≢◌, ℕ, Bool, IsTrue, List, [], codes}
 use Rattle.sdls_outside.specs.Disk.{IsSynced}
 use Rattle.sdls_outside.specs.Moments.{Trace}
-use Rattle.unit_plan.specs.declared.telecommand.TelecommandPlan.{TelecommandPlan}
-use Rattle.unit_plan.specs.Telecommand.{SaysTelecommand}
+use Rattle.channel_book.specs.declared.telecommand.TelecommandPlan.{TelecommandPlan}
+use Rattle.channel_book.specs.Telecommand.{SaysTelecommand}
 use Rattle.disk_journal.specs.Initial.{initial_image}
 use Rattle.sdls_run.specs.declared.init.InitEnd.{InitEnd}
 use Rattle.sdls_run.specs.declared.init.InitEnd.TheVariants.{Made, ImageExists, Unbuilt, SourceFault, SiteFault, NoMemory}

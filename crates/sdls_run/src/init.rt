@@ -7,10 +7,11 @@ ghost use Rattle.sdls_run.specs.Output.{Delivers};
 use crate::outcome::Outcome;
 use crate::output::put_text;
 use crate::status::{DONE, MALFORMED, NO_MEMORY, NO_STATE, SITE_FAULT, SOURCE_FAULT};
+use channel_book::TelecommandPlan;
 use disk_journal::create;
 use sdls_outside::{Failed, Site, Source, collect};
 use std::alloc::{AllocError, Global};
-use unit_plan::{MOST_OCTETS, TelecommandPlan};
+use unit_plan::MOST_OCTETS;
 
 /// Why `init` ends.
 #[derive(Clone, Copy, Debug, PartialEq, Eq)]

@@ -1,8 +1,6 @@
 pub mod Lines
 pub mod Number
 pub mod Reading
-pub mod Telecommand
-pub mod TelecommandReading
 pub mod Field
 pub mod LinkLine
 pub mod ChannelLine

@@ -3,7 +3,6 @@
 //!
 //! A text is its lines, and a line its words: [`Lines`] and [`Words`] walk them without memory.
 //! [`Plan`] is what a whole text says, or there is the first line with a cause: read `specs/Plan.antt` first.
-//! [`TelecommandPlan`] is the plan of one telecommand channel protected by CMAC, in nine lines.
 #![tactic(auto)]
 
 mod association_line;
@@ -19,15 +18,15 @@ mod plan;
 mod plan_error;
 mod reading;
 mod taking;
-mod telecommand;
 
 pub use association_line::are_channels;
 pub use channel_line::Place;
 pub use lines::{Lines, Words};
+pub use number::number_of;
 pub use plan::{Plan, PlanKey, PlanSa};
 pub use plan_error::{PlanCause, PlanError, PlanFault};
+pub use reading::{ended, pass};
 pub use sdls_base::{AnyLayout, Link, Mask};
-pub use telecommand::TelecommandPlan;
 
 /// The most octets of a plan.
 pub const MOST_OCTETS: usize = 65_536;

@@ -26,7 +26,7 @@ fn is_decimal(word: &[u8]) -> bool
 
 /// The decimal number that the word spells. One past the greatest of its type is taken for that one.
 #[tactic(auto, unfolding(crate::specs::Number::number_of))]
-pub(crate) fn number_of(word: &[u8]) -> Option<u64>
+pub fn number_of(word: &[u8]) -> Option<u64>
     ensures { result ≡ number_of word.now }
 {
     if !is_decimal(word) {

@@ -1,5 +1,5 @@
 use Rattle.std.proofs.Common.{List, ℕ, refl, sym, subst, inl, inr}
-use Rattle.unit_plan.specs.Telecommand.{SaysTelecommand}
+use Rattle.channel_book.specs.Telecommand.{SaysTelecommand}
 use Rattle.channel_book.proofs.opening.read_plan.Goals as goal
 
 pub returns-in_default-clause-fault : goal.returns-in_default-clause-fault

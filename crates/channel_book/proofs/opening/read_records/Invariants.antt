@@ -1,5 +1,5 @@
 use Rattle.std.proofs.Common.{◌≡◌, ◌<◌, ◌≤◌, IsTrue, take}
-use Rattle.unit_plan.specs.Telecommand.{IsInBounds}
+use Rattle.channel_book.specs.Telecommand.{IsInBounds}
 use Rattle.sdls_base.specs.KeyId.{end_of}
 use Rattle.disk_journal.specs.Image.{records}
 use Rattle.channel_book.specs.State.{telecommand_state, initial}

@@ -5,9 +5,10 @@ use Rattle.std.proofs.lemmas.Slice.Eq.{bytes_eq-Decides}
 use Rattle.std.specs.Fmt.{decimal}
 use Rattle.hex.specs.Hex.{decode_of}
 use Rattle.unit_plan.specs.Lines.{words_of}
-use Rattle.unit_plan.specs.Reading.{past, number_at, octets_at, end_of}
-use Rattle.unit_plan.specs.TelecommandReading.{version_at, device_at, named_number_at, link_at, channel_at, key_at, association_at}
-use Rattle.unit_plan.proofs.ReadingFacts.{bound, past_said, number_said, number_again, octets_said, octets_again, end_said}
+use Rattle.unit_plan.specs.Reading.{past, end_of}
+use Rattle.channel_book.specs.TelecommandReading.{number_at, octets_at}
+use Rattle.channel_book.specs.TelecommandReading.{version_at, device_at, named_number_at, link_at, channel_at, key_at, association_at}
+use Rattle.channel_book.proofs.ReadingFacts.{bound, past_said, number_said, number_again, octets_said, octets_again, end_said}
 
 -- the words of the lines, where these words are those of the first
 abbrev pub Begins : List (List ℕ) → List (List ℕ) → List (List ℕ) → Type 0

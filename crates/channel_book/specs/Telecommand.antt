@@ -2,7 +2,7 @@
 use Rattle.std.specs.Prelude.{◌≡◌, ℕ, ◌^◌, ◌<◌, ◌≤◌, List, [], ◌∷◌, length, codes, map, Ok}
 use Rattle.std.specs.Fmt.{decimal}
 use Rattle.hex.specs.Hex.{decode_of}
-use Rattle.unit_plan.specs.declared.telecommand.TelecommandPlan.{TelecommandPlan}
+use Rattle.channel_book.specs.declared.telecommand.TelecommandPlan.{TelecommandPlan}
 use Rattle.unit_plan.specs.Lines.{lines_of, words_of}
 
 -- the words of its nine lines, where the device field and the key have these hexadecimal digits

@@ -1,14 +1,13 @@
 ghost use Rattle.std.specs.Prelude.{◌≡◌, ◌≤◌, IfSome, MatchOption};
 ghost use Rattle.unit_plan.specs.Lines.{lines_of};
 ghost use Rattle.unit_plan.specs.Reading.{Reads};
-ghost use Rattle.unit_plan.specs.Telecommand.{SaysTelecommand};
-ghost use Rattle.unit_plan.specs.TelecommandReading.{version_at, device_at, named_number_at, link_at, channel_at, key_at, association_at, plan_at};
+ghost use Rattle.channel_book.specs.Telecommand.{SaysTelecommand};
+ghost use Rattle.channel_book.specs.TelecommandReading.{version_at, device_at, named_number_at, link_at, channel_at, key_at, association_at, plan_at};
 
-use crate::MOST_OCTETS;
-use crate::lines::{Lines, Words};
-use crate::reading::{ended, number, octets, pass};
+use crate::words::{number, octets};
 use sdls_base::{KeyId, Spi};
 use std::fmt;
+use unit_plan::{Lines, MOST_OCTETS, Words, ended, pass};
 
 /// The plan of one telecommand channel that is protected by CMAC. `Debug` prints its association and the identifier of
 /// its key alone.

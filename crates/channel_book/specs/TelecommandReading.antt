@@ -1,8 +1,24 @@
 -- Reading the nine lines one after the other: what each says, and the lines that are left.
-use Rattle.std.specs.Prelude.{ℕ, List, codes, Option, Some}
-use Rattle.unit_plan.specs.declared.telecommand.TelecommandPlan.{TelecommandPlan}
+use Rattle.std.specs.Prelude.{ℕ, List, codes, nat_le, ◌&&◌, Option, Some, None, if◌then◌else◌}
+use Rattle.hex.specs.Hex.{decode_sized}
+use Rattle.channel_book.specs.declared.telecommand.TelecommandPlan.{TelecommandPlan}
 use Rattle.unit_plan.specs.Lines.{words_of}
-use Rattle.unit_plan.specs.Reading.{◌>>=◌, first_of, past, number_at, octets_at, end_of}
+use Rattle.unit_plan.specs.Number.{number_of}
+use Rattle.unit_plan.specs.Reading.{◌>>=◌, first_of, past, ok_of, end_of}
+
+-- a number within bounds
+unfoldable pub number_at : ℕ → ℕ → List (List ℕ) → Option (ℕ × List (List ℕ))
+number_at least most words = do
+  word ← first_of words
+  n ← number_of word.0
+  if nat_le least n && nat_le n most then Some (n, word.1) else None
+
+-- so many octets, as hexadecimal digits
+unfoldable pub octets_at : ℕ → List (List ℕ) → Option (List ℕ × List (List ℕ))
+octets_at count words = do
+  word ← first_of words
+  octets ← ok_of (decode_sized word.0 count)
+  Some (octets, word.1)
 
 unfoldable pub version_at : List (List ℕ) → Option (Unit {0} × List (List ℕ))
 version_at lines = do

@@ -1,13 +1,13 @@
 -- Whole telecommand plans: what was read is said by the text, and what it says is read.
 use Rattle.std.proofs.Common.{◌≡◌, ℕ, ◌-◌, ◌^◌, ◌<◌, ◌≤◌, List, [], ◌∷◌, length, map, codes, Option, Some, None, MatchOption, refl, sym, ap, ◌∙◌, arith, lit<}
 use Rattle.std.proofs.lemmas.Option.{same_Some}
-use Rattle.unit_plan.specs.declared.telecommand.TelecommandPlan.{TelecommandPlan}
+use Rattle.channel_book.specs.declared.telecommand.TelecommandPlan.{TelecommandPlan}
 use Rattle.unit_plan.specs.Lines.{words_of, lines_of}
 use Rattle.unit_plan.specs.Reading.{◌>>=◌, end_of}
-use Rattle.unit_plan.specs.Telecommand.{SaysTelecommand}
-use Rattle.unit_plan.specs.TelecommandReading.{version_at, device_at, named_number_at, link_at, channel_at, key_at, association_at, plan_at}
-use Rattle.unit_plan.proofs.ReadingFacts.{bound, end_said}
-use Rattle.unit_plan.proofs.TelecommandLaws.{Begins, version_said, device_said, named_number_said, link_said, channel_said, key_said, association_said, version_again, device_again, named_number_again, link_again, channel_again, key_again, association_again}
+use Rattle.channel_book.specs.Telecommand.{SaysTelecommand}
+use Rattle.channel_book.specs.TelecommandReading.{version_at, device_at, named_number_at, link_at, channel_at, key_at, association_at, plan_at}
+use Rattle.channel_book.proofs.ReadingFacts.{bound, end_said}
+use Rattle.channel_book.proofs.TelecommandLaws.{Begins, version_said, device_said, named_number_said, link_said, channel_said, key_said, association_said, version_again, device_again, named_number_again, link_again, channel_again, key_again, association_again}
 
 -- nine lines, one after the other
 nine : (a b c d e f g h i j : List (List ℕ)) (s t u v w x y z last : List (List ℕ)) → Begins a s b → Begins b t c → Begins c u d

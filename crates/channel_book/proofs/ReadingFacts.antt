@@ -10,7 +10,8 @@ use Rattle.hex.specs.Hex.{decode_of, decode_sized}
 use Rattle.hex.specs.declared.error.FromHexError.TheVariants.{OddLength}
 use Rattle.hex.proofs.HexLemmas.{decode_of-ok, decode_sized-twice, decode_sized-other}
 use Rattle.unit_plan.specs.Number.{number_of}
-use Rattle.unit_plan.specs.Reading.{◌>>=◌, past, number_at, octets_at, ok_of, end_of}
+use Rattle.unit_plan.specs.Reading.{◌>>=◌, past, ok_of, end_of}
+use Rattle.channel_book.specs.TelecommandReading.{number_at, octets_at}
 use Rattle.unit_plan.proofs.NumberFacts.{number_of-decimal, decimal-number_of}
 
 -- a second step was made on what the first gave

@@ -1,7 +1,7 @@
 use Rattle.std.proofs.Common.{ap, ◌∙◌}
-use Rattle.unit_plan.specs.TelecommandReading.{plan_at}
-use Rattle.unit_plan.proofs.TelecommandPlans.{read_is_said, plan_again}
-use Rattle.unit_plan.proofs.telecommand.TelecommandPlan.read.Goals as goal
+use Rattle.channel_book.specs.TelecommandReading.{plan_at}
+use Rattle.channel_book.proofs.TelecommandPlans.{read_is_said, plan_again}
+use Rattle.channel_book.proofs.telecommand.TelecommandPlan.read.Goals as goal
 
 pub returns-clause-said : goal.returns-clause-said
 returns-clause-said c =
