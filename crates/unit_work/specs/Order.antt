@@ -1,11 +1,15 @@
 -- Lines and records in input order (profile).
-use Rattle.std.specs.Prelude.{◌≡◌, ◌≢◌, ℕ, ◌<◌, ◌≤◌, ◌⊎◌, Bool, true, false, List, Option, Some, None, slice_get, Contains}
+use Rattle.std.specs.Prelude.{◌≡◌, ◌≢◌, ℕ, ◌+◌, ◌<◌, ◌≤◌, ◌⊎◌, Bool, true, false, List, Option, Some, None, length, slice_get, Contains}
 use Rattle.sdls_base.specs.declared.entry.Logged.{Logged}
 use Rattle.sdls_base.specs.declared.entry.Logged.TheVariants as lines
+use Rattle.counter_table.specs.declared.view.View.{View}
 use Rattle.counter_table.specs.Turn.{stands}
 use Rattle.record_io.specs.declared.records.Record.{Record}
-use Rattle.unit_history.specs.Counts.{is_of_record, count_at}
+use Rattle.unit_history.specs.Counts.{is_of_record, count_at, drawers}
+use Rattle.unit_work.specs.Begin.{Begin}
+use Rattle.unit_work.specs.Views.{log_of}
 use Rattle.unit_work.specs.Work.{indexed}
+use Rattle.unit_work.specs.Deeds.{Deed, Does}
 
 -- Where records lie in the input, by their indexes: the lane and the segment of each.
 pub record Layout : Type 0 where
@@ -46,3 +50,9 @@ ComeBefore ts us = (i j : ℕ) → 0 < indexed i ts → 0 < indexed j us → i <
 -- none of the one is handled in turn with one of the other
 abbrev pub AreAside : (ℕ → ℕ → Type 0) → List Record → List Record → Type 0
 AreAside in_turn ts us = (i j : ℕ) → 0 < indexed i ts → 0 < indexed j us → (in_turn i j → ⊥) × (in_turn j i → ⊥)
+
+-- What a worker did with records of one segment, which lie so in the input: the entries of records that are handled in turn
+-- stand in input order, and nothing was put.
+pub record Handled (layout : Layout) (begin : Begin) (old new : View) (tasks : List Record) (deeds : List Deed) : Type 0 where
+  pub does : Does begin old new tasks deeds
+  pub lined : Lined (TakeTurns layout) (log_of new) does.gains.made (length tasks + drawers tasks) 0
