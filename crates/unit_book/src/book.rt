@@ -1,5 +1,5 @@
 // The book.
-ghost use Rattle.std.specs.Prelude.{◌≡◌, ◌+◌, ◌<◌, ◌≤◌, ◌↔◌, IsTrue, MatchResult, IfErr, Some, None, length, ◌∷◌, [], ◌++◌, false};
+ghost use Rattle.std.specs.Prelude.{◌≡◌, ◌+◌, ◌<◌, ◌≤◌, ◌↔◌, IsTrue, MatchResult, IfErr, OnOk, Some, None, length, ◌∷◌, [], ◌++◌, false};
 ghost use Rattle.sdls_base.specs.declared.change.Change.{Change};
 ghost use Rattle.sdls_outside.specs.Faults.{Rose};
 ghost use Rattle.sdls_outside.specs.Site.{Puts, after_put};
@@ -223,6 +223,7 @@ impl<O: Site> Book<O> {
         ensures marks { KeepsMarks self.old.state self.new.state }
         ensures risen { IfErr result (TellsRise O.faults self.new) }
         ensures puts { O.put_faults self.new.site ≡ after_put result (O.put_faults self.old.site) }
+        ensures stood { OnOk result (O.faults self.new.site ≡ O.faults self.old.site) }
         ensures later { O.faults self.old.site ≤ O.faults self.new.site }
     {
         let before = Snapshot::of(&self.site);

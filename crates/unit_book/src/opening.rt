@@ -76,6 +76,7 @@ impl<O: Site> Book<O> {
             (λ refused. O.put_faults refused.1 ≡ O.put_faults site) }
         ensures later { MatchResult result (λ book. O.faults site ≤ O.faults book.site)
             (λ refused. O.faults site ≤ O.faults refused.1) }
+        ensures stood { IfOk result (λ book. O.faults book.site ≡ O.faults site) }
     {
         let taken = Snapshot::of(&site);
         match start(alloc, &mut site) {

@@ -28,6 +28,13 @@ impl<O: Site> Book<O> {
         &self.state
     }
 
+    /// The count of the site's faults.
+    pub fn faults(&self) -> u64
+        ensures { result ≡ O.faults self.entry.now.site }
+    {
+        self.site.faults()
+    }
+
     /// How many slots of the journal are used.
     pub fn used(&self) -> u32
         ensures { result ≡ self.entry.now.journal.used }

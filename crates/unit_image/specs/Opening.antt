@@ -1,5 +1,5 @@
 -- Why the opening of an image fails, and what a crash in it leaves (profile).
-use Rattle.std.specs.Prelude.{◌≡◌, ℕ, ◌≤◌, ◌⊎◌, ⊤, List, length, Some, Result, IfErr}
+use Rattle.std.specs.Prelude.{◌≡◌, ℕ, ◌≤◌, ◌⊎◌, ⊤, List, length, Some, Result, IfErr, OnOk}
 use Rattle.std.specs.List.{slice_get}
 use Rattle.sdls_base.specs.declared.change.Change.{Change}
 use Rattle.sdls_outside.specs.Disk.{Leaves}
@@ -27,9 +27,10 @@ IsOpenCause before now refused (SiteFault count) = Rose before now × (count ≡
 IsOpenCause before now refused (Image offset) = refused offset
 IsOpenCause before now refused NoMemory = ⊤
 
--- the count of faults never falls, and a fault that is answered has its cause
+-- the count of faults never falls, and stands after an Ok; a fault that is answered has its cause
 pub record HasOpenFault {T : Type 0} (before now : ℕ) (refused : ℕ → Type 0) (result : Result T OpenFault) : Type 0 where
   pub later : before ≤ now
+  pub stood : OnOk result (now ≡ before)
   pub cause : IfErr result (IsOpenCause before now refused)
 
 -- a fault of a journal that is opened or read; it is never full

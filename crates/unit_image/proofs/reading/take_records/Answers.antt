@@ -1,4 +1,4 @@
-use Rattle.std.proofs.Common.{◌∙◌, subst, arith}
+use Rattle.std.proofs.Common.{◌∙◌, subst}
 use Rattle.sdls_outside.specs.Moments.{Trace}
 use Rattle.disk_journal.specs.Image.{records}
 use Rattle.unit_image.specs.Opening.{Takes}
@@ -7,7 +7,7 @@ use Rattle.unit_image.proofs.reading.take_records.Goals as goal
 
 pub loop-index-preserved : goal.loop-index-preserved
 loop-index-preserved g c = record {
-  later = omega (arith, c.take_record.ensures.fault.later, c.loop-index.invariant.later);
+  stood = c.in_ok-take_record.ensures.fault.stood ∙ c.loop-index.invariant.stood;
   puts = c.take_record.ensures.puts ∙ c.loop-index.invariant.puts;
   same = λ told. c.take_record.ensures.same told ∙ c.loop-index.invariant.same told;
   led = λ told. led_next c.args.state.now (records (g.O.Site.trace c.args.site.now).now.image) c.loop-index.index
