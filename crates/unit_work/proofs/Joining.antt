@@ -94,6 +94,10 @@ does_nothing begin v tasks = record {
   answers = no_answers begin v v no_gains;
 }
 
+pub nothing_gains : (begin : Begin) (v : View) (tasks : List Record) → (does_nothing begin v tasks).gains ≡ no_gains
+unfolding does_nothing
+nothing_gains begin v tasks = refl
+
 -- what was done without an answer
 pub does_unanswered : (begin : Begin) (v w : View) (tasks : List Record) → Worked begin v w tasks → Does begin v w tasks []
 does_unanswered begin v w tasks d = record {
@@ -186,6 +190,10 @@ module _ (begin : Begin) (u v w : View) (ts us : List Record) (ds es : List Deed
         answers = merge_answers begin u w a.gains b.gains ds es early late cross
             (λ j e m i d l. agree_back begin w (slice_index_or ds i d) (slice_index_or es j e) (turns i d l j e m) (cross i d l j e m));
       }
+
+  pub then_gains : does_then.gains ≡ both_gains a.gains b.gains
+  unfolding does_then
+  then_gains = refl
 
 -- what is known after a join
 pub known_after : (v w : View) → v.turn.holds ≡ false → v.turn.filled ≡ true
@@ -309,3 +317,7 @@ module _ (begin : Begin) (u v w : View) (ts us : List Record) (ds es : List Deed
             (widen_works begin u (starting u) w z from_right grows_right b.gains us b.works);
         answers = merge_answers begin u z a.gains b.gains ds es left right cross back;
       }
+
+  pub beside_gains : does_beside.gains ≡ both_gains a.gains b.gains
+  unfolding does_beside
+  beside_gains = refl

@@ -4,3 +4,5 @@ pub mod Logs
 pub mod Working
 pub mod Joining
 pub mod Ordering
+pub mod Handling
+pub mod Lanes

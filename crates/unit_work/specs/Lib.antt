@@ -3,3 +3,4 @@ pub mod Views
 pub mod Work
 pub mod Deeds
 pub mod Order
+pub mod Lanes
