@@ -262,7 +262,8 @@ module _ (near wider : ℕ → ℕ → Type 0) (nearer : (key number : ℕ) → 
   any_more task answer (inl is) = inl (record {
     told = is.told;
     within = within_more answer.position is.within;
-    full = ap (λ (entries : List Entry). course.used + stored_count course.start entries) (take-append-le answer.position course.entries more is.within) ∙ is.full;
+    slots_are = is.slots_are;
+    full = λ told. ap (λ (entries : List Entry). course.used + stored_count course.start entries) (take-append-le answer.position course.entries more is.within) ∙ is.full told;
     may = append_more task.kind answer.position task is.within is.may;
   })
   any_more task answer (inr (inl is)) = inr (inl (record { tells = tells_more SITE_FAULT answer is.tells; may = once_more task is.may }))
@@ -303,6 +304,7 @@ module _ (near wider : ℕ → ℕ → Type 0) (nearer : (key number : ℕ) → 
     reached = reached_more answer.position is.reached;
     told = subst (λ (s : State). unbound_told (protect_reply course.plan s task.link task.octets) ≡ Some (told_by answer))
         (sym (epoch_stays answer.position is.reached)) is.told;
+    epoch_looked_at = is.epoch_looked_at;
   }))
   kind_more Protect task answer (inr (inr (inl is))) = inr (inr (inl (record {
     is = bound_more task answer is.is;

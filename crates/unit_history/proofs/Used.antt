@@ -1,4 +1,4 @@
--- A number that a command uses is below the mark of its key; a reserve leaves one above its number.
+-- A number that a command uses was drawn for it, and is below the mark of its key; a reserve leaves one above its number.
 use Rattle.std.proofs.Common.{◌≡◌, ℕ, ◌<◌, Bool, true, false, cond, List, [], ◌∷◌, ◌++◌, Option, Some, None, is_some, IsSomeAnd, inl, inr, refl, sym, ap, ◌∙◌, subst}
 use Rattle.std.specs.Prelude.{MatchOption}
 use Rattle.std.specs.List.{flat_map}
@@ -27,7 +27,7 @@ use Rattle.ep_core.specs.Step.{IsDone, refused, using_number}
 use Rattle.ep_core.proofs.ComposeFacts.{none_append}
 use Rattle.ep_core.proofs.SealedFacts.{passed_both}
 use Rattle.unit_history.specs.Numbers.{mark_of}
-use Rattle.unit_history.specs.Entries.{IsStepOf}
+use Rattle.unit_history.specs.Entries.{IsNeedOf, IsStepOf}
 use Rattle.unit_history.specs.Legal.{SeesFor, IsReserve}
 use Rattle.unit_history.proofs.Marks.{mark_is}
 use Rattle.unit_history.proofs.Marking.{mark_above}
@@ -47,26 +47,31 @@ not_refused reply key number code value is uses = let same = sym is ∙ uses.is 
 reply_of : (step made : Change × Reply) → step ≡ made → step.1 ≡ made.1
 reply_of step made is = ap (λ (s : Change × Reply). s.1) is
 
--- what was seen is a number below the mark, where what needs one is not refused
-drawn_below : (state : State) (key : ℕ) (seen : Seen) (o : Option KeyRow) → key_row state key ≡ o → IsDrawn state key seen → if_exhausted seen ≡ None
-    → number_of seen < mark_of state key
-drawn_below state key seens.Nothing o is drawn free = absurd drawn
-drawn_below state key (seens.Word word) o is drawn free = absurd drawn
-drawn_below state key (seens.Number number) None is drawn free =
+-- a number that was drawn for a key is below its mark
+drawn_below : (state : State) (key number : ℕ) (o : Option KeyRow) → key_row state key ≡ o → IsDrawn state key (seens.Number number)
+    → number < mark_of state key
+drawn_below state key number None is drawn =
     absurd (subst (λ (o : Option KeyRow). IsSomeAnd o (λ held. number < held.mark)) is drawn)
-drawn_below state key (seens.Number number) (Some held) is drawn free =
+drawn_below state key number (Some held) is drawn =
     subst (λ (n : ℕ). number < n) (sym (mark_is state key held is))
     (subst (λ (o : Option KeyRow). IsSomeAnd o (λ held. number < held.mark)) is drawn)
-drawn_below state key (seens.Exhausted number) o is drawn free = absurd cc
+
+-- what was seen is a number, where what needs one is not refused
+number_seen : (state : State) (key : ℕ) (seen : Seen) → IsDrawn state key seen → if_exhausted seen ≡ None → seen ≡ seens.Number (number_of seen)
+number_seen state key seens.Nothing drawn free = absurd drawn
+number_seen state key (seens.Word word) drawn free = absurd drawn
+number_seen state key (seens.Number number) drawn free = refl
+number_seen state key (seens.Exhausted number) drawn free = absurd cc
 
 -- nothing was needed where a refusal applies whatever is seen, and else the number
-drawn_by : (state : State) (key : ℕ) (seen : Seen) (b : Bool) (command : Command) → is_some (refusal_of state command seens.Nothing) ≡ b
-    → Fits state (cond b needs.Nothing (needs.Number key)) seen → refusal_of state command seen ≡ None → IsDrawn state key seen
-drawn_by state key seen true command is fits free =
+needed_by : (state : State) (key : ℕ) (seen : Seen) (b : Bool) (command : Command) → is_some (refusal_of state command seens.Nothing) ≡ b
+    → Fits state (cond b needs.Nothing (needs.Number key)) seen → refusal_of state command seen ≡ None → if_exhausted seen ≡ None
+    → (cond b needs.Nothing (needs.Number key) ≡ needs.Number key) × (seen ≡ seens.Number (number_of seen))
+needed_by state key seen true command is fits free last =
     let none : refusal_of state command seens.Nothing ≡ None = ap (refusal_of state command) (sym fits) ∙ free in
     let same : is_some (refusal_of state command seens.Nothing) ≡ false = ap (λ (o : Option Refusal). is_some o) none in
     absurd (let both : true ≡ false = sym is ∙ same in cc)
-drawn_by state key seen false command is fits free = fits
+needed_by state key seen false command is fits free last = (refl, number_seen state key seen fits last)
 
 verify_last : (state : State) (key : ℕ) (seen : Seen) → first_told (verify_checks state key seen) ≡ None → if_exhausted seen ≡ None
 verify_last state key seen none =
@@ -97,46 +102,61 @@ row_plainly : {X : Type 0} (o : Option X) (f : X → Change × Reply) (octets : 
 row_plainly {X} None f octets step key number tells is uses = absurd is
 row_plainly {X} (Some x) f octets step key number tells is uses = not_used step.1 key number (octets x) (reply_of step (f x) is ∙ tells x) uses
 
-done_below : (state : State) (command : Command) (seen : Seen) (step : Change × Reply) (key number : ℕ) → Fits state (need_of state command) seen
-    → refusal_of state command seen ≡ None → IsDone state command seen step → UsesNumber step.1 key number → number < mark_of state key
-done_below state (Rekeying master vector sealed tag) seen step key number fits free is uses = absurd (plainly step _ _ key number is uses)
-done_below state (Activate keys) seen step key number fits free is uses = absurd (plainly step _ _ key number is uses)
-done_below state (Deactivate keys) seen step key number fits free is uses = absurd (plainly step _ _ key number is uses)
-done_below state (Verify own challenge) seen step key number fits free is uses =
-    let same = used_number state key own number seen step (key_row state own) _ is uses in
-    let drawn = drawn_by state own seen (is_some (refusal_of state (Verify own challenge) seens.Nothing)) (Verify own challenge) refl fits free in
-    let below : number_of seen < mark_of state own = drawn_below state own seen (key_row state own) refl drawn (verify_last state own seen free) in
-    subst (λ (n : ℕ). n < mark_of state key) same.1 (subst (λ (k : ℕ). number_of seen < mark_of state k) same.0 below)
-done_below state (Destroy keys) seen step key number fits free is uses = absurd (plainly step _ _ key number is uses)
-done_below state (Inventory first last) seen step key number fits free (found, listed, is) uses = absurd (plainly step _ _ key number is uses)
-done_below state (Compose master keys) seen step key number fits free is uses =
-    let same = used_number state key master number seen step (key_row state master) _ is uses in
-    let drawn = drawn_by state master seen (is_some (refusal_of state (Compose master keys) seens.Nothing)) (Compose master keys) refl fits free in
-    let below : number_of seen < mark_of state master = drawn_below state master seen (key_row state master) refl drawn (compose_last state master keys seen free) in
-    subst (λ (n : ℕ). n < mark_of state key) same.1 (subst (λ (k : ℕ). number_of seen < mark_of state k) same.0 below)
-done_below state (ReadNumber spi) seen step key number fits free is uses = absurd (row_plainly _ _ _ step key number (λ row. refl) is uses)
-done_below state (Create new) seen step key number fits free is uses = absurd (plainly step _ _ key number is uses)
-done_below state (Delete spi) seen step key number fits free is uses = absurd (plainly step _ _ key number is uses)
-done_below state (SetWindow spi window) seen step key number fits free is uses = absurd (plainly step _ _ key number is uses)
-done_below state (Rekey spi own asked) seen step key number fits free is uses = absurd (plainly step _ _ key number is uses)
-done_below state (Expire spi) seen step key number fits free is uses = absurd (plainly step _ _ key number is uses)
-done_below state (SetNumber spi asked) seen step key number fits free is uses = absurd (plainly step _ _ key number is uses)
-done_below state (Start spi) seen step key number fits free is uses = absurd (plainly step _ _ key number is uses)
-done_below state (Stop spi) seen step key number fits free is uses = absurd (plainly step _ _ key number is uses)
-done_below state (Status spi) seen step key number fits free is uses = absurd (row_plainly _ _ _ step key number (λ row. refl) is uses)
+-- the command needs the number, which was seen
+abbrev IsNeeded : State → Command → Seen → ℕ → ℕ → Type 0
+IsNeeded state command seen key number = (need_of state command ≡ needs.Number key) × (seen ≡ seens.Number number)
 
-step_below : (state : State) (command : Command) (seen : Seen) (step : Change × Reply) (key number : ℕ) (o : Option Refusal)
+done_needed : (state : State) (command : Command) (seen : Seen) (step : Change × Reply) (key number : ℕ) → Fits state (need_of state command) seen
+    → refusal_of state command seen ≡ None → IsDone state command seen step → UsesNumber step.1 key number → IsNeeded state command seen key number
+done_needed state (Rekeying master vector sealed tag) seen step key number fits free is uses = absurd (plainly step _ _ key number is uses)
+done_needed state (Activate keys) seen step key number fits free is uses = absurd (plainly step _ _ key number is uses)
+done_needed state (Deactivate keys) seen step key number fits free is uses = absurd (plainly step _ _ key number is uses)
+done_needed state (Verify own challenge) seen step key number fits free is uses =
+    let same = used_number state key own number seen step (key_row state own) _ is uses in
+    let needed = needed_by state own seen (is_some (refusal_of state (Verify own challenge) seens.Nothing)) (Verify own challenge) refl fits free
+    (verify_last state own seen free) in
+    (needed.0 ∙ ap (λ (k : ℕ). needs.Number k) same.0, needed.1 ∙ ap (λ (n : ℕ). seens.Number n) same.1)
+done_needed state (Destroy keys) seen step key number fits free is uses = absurd (plainly step _ _ key number is uses)
+done_needed state (Inventory first last) seen step key number fits free (found, listed, is) uses = absurd (plainly step _ _ key number is uses)
+done_needed state (Compose master keys) seen step key number fits free is uses =
+    let same = used_number state key master number seen step (key_row state master) _ is uses in
+    let needed = needed_by state master seen (is_some (refusal_of state (Compose master keys) seens.Nothing)) (Compose master keys) refl fits free
+    (compose_last state master keys seen free) in
+    (needed.0 ∙ ap (λ (k : ℕ). needs.Number k) same.0, needed.1 ∙ ap (λ (n : ℕ). seens.Number n) same.1)
+done_needed state (ReadNumber spi) seen step key number fits free is uses = absurd (row_plainly _ _ _ step key number (λ row. refl) is uses)
+done_needed state (Create new) seen step key number fits free is uses = absurd (plainly step _ _ key number is uses)
+done_needed state (Delete spi) seen step key number fits free is uses = absurd (plainly step _ _ key number is uses)
+done_needed state (SetWindow spi window) seen step key number fits free is uses = absurd (plainly step _ _ key number is uses)
+done_needed state (Rekey spi own asked) seen step key number fits free is uses = absurd (plainly step _ _ key number is uses)
+done_needed state (Expire spi) seen step key number fits free is uses = absurd (plainly step _ _ key number is uses)
+done_needed state (SetNumber spi asked) seen step key number fits free is uses = absurd (plainly step _ _ key number is uses)
+done_needed state (Start spi) seen step key number fits free is uses = absurd (plainly step _ _ key number is uses)
+done_needed state (Stop spi) seen step key number fits free is uses = absurd (plainly step _ _ key number is uses)
+done_needed state (Status spi) seen step key number fits free is uses = absurd (row_plainly _ _ _ step key number (λ row. refl) is uses)
+
+step_needed : (state : State) (command : Command) (seen : Seen) (step : Change × Reply) (key number : ℕ) (o : Option Refusal)
     → Fits state (need_of state command) seen → refusal_of state command seen ≡ o
-    → MatchOption o (IsDone state command seen step) (λ refusal. step ≡ refused refusal) → UsesNumber step.1 key number → number < mark_of state key
-step_below state command seen step key number None fits free is uses = done_below state command seen step key number fits free is uses
-step_below state command seen step key number (Some refusal) fits free is uses =
+    → MatchOption o (IsDone state command seen step) (λ refusal. step ≡ refused refusal) → UsesNumber step.1 key number
+    → IsNeeded state command seen key number
+step_needed state command seen step key number None fits free is uses = done_needed state command seen step key number fits free is uses
+step_needed state command seen step key number (Some refusal) fits free is uses =
     absurd (not_refused step.1 key number _ _ (reply_of step (refused refusal) is) uses)
+
+pub used_needed : (state : State) (octets : List ℕ) (seen : Seen) (step : Change × Reply) (key number : ℕ) → SeesFor state octets seen
+    → IsStepOf state octets seen step → UsesNumber step.1 key number
+    → IsNeedOf state octets (needs.Number key) × (seen ≡ seens.Number number)
+used_needed state octets seen step key number sees (inl (command, pdu, is)) uses =
+    let needed : IsNeeded state command seen key number = step_needed state command seen step key number (refusal_of state command seen)
+    (sees (need_of state command) (inl (command, pdu, refl))) refl is uses in
+    (inl (command, pdu, sym needed.0), needed.1)
+used_needed state octets seen step key number sees (inr (offset, fault, is)) uses = absurd (not_refused step.1 key number _ _ (reply_of step _ is) uses)
 
 pub used_below : (state : State) (octets : List ℕ) (seen : Seen) (step : Change × Reply) (key number : ℕ) → SeesFor state octets seen
     → IsStepOf state octets seen step → UsesNumber step.1 key number → number < mark_of state key
-used_below state octets seen step key number sees (inl (command, pdu, is)) uses =
-    step_below state command seen step key number (refusal_of state command seen) (sees (need_of state command) (inl (command, pdu, refl))) refl is uses
-used_below state octets seen step key number sees (inr (offset, fault, is)) uses = absurd (not_refused step.1 key number _ _ (reply_of step _ is) uses)
+used_below state octets seen step key number sees is uses =
+    let needed = used_needed state octets seen step key number sees is uses in
+    drawn_below state key number (key_row state key) refl
+    (subst (λ (s : Seen). IsDrawn state key s) needed.1 (sees (needs.Number key) needed.0))
 
 -- ---- reserves
 

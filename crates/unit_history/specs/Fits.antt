@@ -1,5 +1,5 @@
 -- When an answer fits the record that it answers (profile).
-use Rattle.std.specs.Prelude.{◌≡◌, ◌≢◌, ℕ, ◌+◌, ◌-◌, ◌<◌, ◌≤◌, ◌⊎◌, List, [], ◌++◌, length, take, slice_get, Some, Ok}
+use Rattle.std.specs.Prelude.{◌≡◌, ◌≢◌, ℕ, ◌+◌, ◌-◌, ◌<◌, ◌≤◌, ◌⊎◌, Bool, IsTrue, List, [], ◌++◌, length, take, slice_get, Some, Ok}
 use Rattle.sdls_base.specs.KeyId.{end_of}
 use Rattle.sdls_base.specs.declared.change.Change.{Change}
 use Rattle.sdls_base.specs.declared.change.Change.TheVariants as changes
@@ -14,6 +14,7 @@ use Rattle.frame_shield.specs.Protects.{Protects}
 use Rattle.frame_checks.specs.declared.open_reply.OpenReply.{OpenReply}
 use Rattle.frame_checks.specs.declared.open_reply.OpenReply.TheVariants.{Accepted}
 use Rattle.frame_checks.specs.Opening.{IsOpenReply}
+use Rattle.frame_checks.specs.Protecting.{channel_check}
 use Rattle.ep_core.specs.declared.need.Need.TheVariants.{Number}
 use Rattle.ep_core.specs.declared.reply.Reply.{Reply}
 use Rattle.record_io.specs.declared.answers.Answer.{Answer}
@@ -29,12 +30,14 @@ use Rattle.unit_history.specs.Protecting.{protect_reply}
 use Rattle.unit_history.specs.Answers.{told_by, plain, counting, numbered, opened_told, replied_told, unbound_told}
 
 -- What the answers of a run speak of: the plan and the state that the image shows at the start, the slots of the image and
--- those used then, the site's count of faults when the book was opened and as it is known now, and the entries known now.
+-- those used then, whether the site tells what it holds, its count of faults when the book was opened and as it is known now,
+-- and the entries known now.
 pub record Course : Type 0 where
   pub plan : PlanLines
   pub start : State
   pub slots : ℕ
   pub used : ℕ
+  pub told : Bool
   pub faults_before : ℕ
   pub faults : ℕ
   pub entries : List Entry
@@ -134,11 +137,13 @@ pub record IsExhausted (near : ℕ → ℕ → Type 0) (course : Course) (task :
   pub is_near : near answer.key answer.number
   pub at_end : end_of answer.key ≤ answer.number
 
--- the checks tell the answer, in the state of the epoch that it tells
+-- The checks tell the answer, in the state of the epoch that it tells. Where the plan is enough for them it tells none: the
+-- position is 0, or the frame is of a channel.
 pub record IsUnbound (course : Course) (task : Record) (answer : Answer) : Type 0 where
   pub reached : answer.position ≤ epoch_after course.entries
   pub told : unbound_told (protect_reply course.plan (state_in course answer.position) task.link task.octets)
       ≡ Some (told_by answer)
+  pub epoch_looked_at : (answer.position ≡ 0) ⊎ ((channel : ℕ) × (channel_check course.plan task.link task.octets ≡ Ok (Some channel)))
 
 -- ---- frames opened, and commands
 
@@ -170,11 +175,13 @@ pub record IsCommandAnswer (course : Course) (task : Record) (answer : Answer) :
 
 -- ---- what a record of any kind may be answered
 
--- all slots are used, and the record can need one
+-- The answer tells the number of slots. They are those of the image, and all are used, as far as the site tells what it
+-- holds; and the record can need one.
 pub record IsFull (near : ℕ → ℕ → Type 0) (course : Course) (task : Record) (answer : Answer) : Type 0 where
-  pub told : told_by answer ≡ counting JOURNAL_FULL 0 course.slots
+  pub told : told_by answer ≡ counting JOURNAL_FULL 0 answer.number
   pub within : answer.position ≤ length course.entries
-  pub full : course.used + stored_count course.start (take answer.position course.entries) ≡ course.slots
+  pub slots_are : IsTrue course.told → answer.number ≡ course.slots
+  pub full : IsTrue course.told → course.used + stored_count course.start (take answer.position course.entries) ≡ course.slots
   pub may : MayAppend near course answer.position task
 
 -- the answer tells a count of faults that rose since the opening, and the count of all entries

@@ -5,6 +5,7 @@ ghost use Rattle.sdls_base.specs.declared.change.Change.{Change};
 ghost use Rattle.sdls_base.specs.declared.change.Change.TheVariants.{Nothing};
 ghost use Rattle.sdls_base.specs.declared.entry.Entry.{Entry};
 ghost use Rattle.sdls_base.specs.declared.entry.Seen.{Seen};
+ghost use Rattle.sdls_base.specs.declared.entry.Seen.TheVariants as seens;
 ghost use Rattle.unit_plan.specs.PlanLines.{PlanLines};
 ghost use Rattle.unit_plan.specs.PlanRules.{IsPlan};
 ghost use Rattle.unit_state.specs.declared.state.State.{State};
@@ -12,11 +13,12 @@ ghost use Rattle.unit_state.specs.State.{KeepsRules};
 ghost use Rattle.unit_state.specs.Applied.{applied};
 ghost use Rattle.unit_state.specs.Allows.{Allows};
 ghost use Rattle.frame_checks.specs.declared.open_reply.OpenReply.{OpenReply};
+ghost use Rattle.ep_core.specs.declared.need.Need.TheVariants as needs;
 ghost use Rattle.ep_core.specs.declared.reply.Reply.{Reply};
 ghost use Rattle.ep_core.specs.declared.reply.Reply.TheVariants.{Done};
 ghost use Rattle.record_io.specs.declared.records.Record.{Record};
 ghost use Rattle.unit_history.specs.Numbers.{mark_of};
-ghost use Rattle.unit_history.specs.Entries.{frame_entry, IsStepOf};
+ghost use Rattle.unit_history.specs.Entries.{frame_entry, IsNeedOf, IsStepOf};
 ghost use Rattle.unit_history.specs.Stored.{IsStored};
 ghost use Rattle.unit_history.specs.Legal.{anywhere, SeesFor, IsLegal, IsRelease, IsReserve};
 ghost use Rattle.unit_history.specs.Laws.{IsOfCommand, NumbersRise, RaisesFloor};
@@ -64,6 +66,13 @@ pub fn used_is_below_the_mark()
     ensures { (state : State) (octets : List ℕ) (seen : Seen) (change : Change) (key number : ℕ) (pdu : List ℕ)
         → SeesFor state octets seen → IsStepOf state octets seen (change, Done (Some key) number pdu)
         → number < mark_of state key }
+{}
+
+/// Law: a command that uses a number needed it, and it is the one that was seen.
+pub fn used_was_needed()
+    ensures { (state : State) (octets : List ℕ) (seen : Seen) (change : Change) (key number : ℕ) (pdu : List ℕ)
+        → SeesFor state octets seen → IsStepOf state octets seen (change, Done (Some key) number pdu)
+        → IsNeedOf state octets (needs.Number key) × (seen ≡ seens.Number number) }
 {}
 
 /// Law: the entry of a frame is stored only where a number above the floor is accepted.

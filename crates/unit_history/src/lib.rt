@@ -20,7 +20,7 @@ pub use answers::{
 pub use entries::{
     legal_is_allowed, numbers_rise, release_is_allowed, release_stays_above, reserve_stays_above,
     steps_set_no_marks, stored_entry_changes, stored_frame_raises_the_floor,
-    used_is_below_the_mark,
+    used_is_below_the_mark, used_was_needed,
 };
 pub use growing::{
     fits_stays, legal_log_is_legal, legal_place_stays, near_stays, new_place_is_legal,

@@ -171,6 +171,6 @@ pub fits_ended : (records : List Record) (course : Course) (faults : ℕ) (relea
     (record course { faults = faults; entries = course.entries ++ releases }) a.task a.answer) deeds
 fits_ended records course faults releases deeds fewer stopped fit i e low =
     fits_more (NearWord course.start course.entries records) (NearWord course.start (course.entries ++ releases) records)
-    (λ k n. near_more course.start course.entries releases records k n) course.plan course.start course.slots course.used course.faults_before course.faults faults
+    (λ k n. near_more course.start course.entries releases records k n) course.plan course.start course.slots course.used course.told course.faults_before course.faults faults
     course.entries releases fewer (λ risen. let h = ap length (stopped risen) in let s = length-append course.entries releases in omega arith)
     (slice_index_or deeds i e).task (slice_index_or deeds i e).answer (fit i e low)

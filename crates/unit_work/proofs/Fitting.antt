@@ -1,5 +1,5 @@
 -- A fit stays a fit while the history grows and more is known to be near.
-use Rattle.std.proofs.Common.{◌≡◌, ℕ, ◌-◌, ◌≤◌, List, ◌++◌, length, sym, ◌∙◌, ap, subst, arith, inl, inr, ⊎_elim, length-append}
+use Rattle.std.proofs.Common.{◌≡◌, ℕ, ◌-◌, ◌≤◌, Bool, List, ◌++◌, length, sym, ◌∙◌, ap, subst, arith, inl, inr, ⊎_elim, length-append}
 use Rattle.std.proofs.lemmas.List.{take-append-le}
 use Rattle.std.proofs.lemmas.Option.{slice_get_within}
 use Rattle.sdls_base.specs.declared.entry.Entry.{Entry}
@@ -26,12 +26,12 @@ seen_nearer near far more k (seens.Number n) h = more k n h
 seen_nearer near far more k (seens.Exhausted n) h = more k n h
 
 module _ (near far : ℕ → ℕ → Type 0) (more : (k n : ℕ) → near k n → far k n) (plan : PlanLines) (start : State)
-    (slots used before f g : ℕ) (es rest : List Entry) (counted : f ≤ g) (closed : Rose before f → length (es ++ rest) ≡ length es) where
+    (slots used : ℕ) (told : Bool) (before f g : ℕ) (es rest : List Entry) (counted : f ≤ g) (closed : Rose before f → length (es ++ rest) ≡ length es) where
   abbrev old : Course
-  old = record { plan = plan; start = start; slots = slots; used = used; faults_before = before; faults = f; entries = es }
+  old = record { plan = plan; start = start; slots = slots; used = used; told = told; faults_before = before; faults = f; entries = es }
 
   abbrev new : Course
-  new = record { plan = plan; start = start; slots = slots; used = used; faults_before = before; faults = g; entries = es ++ rest }
+  new = record { plan = plan; start = start; slots = slots; used = used; told = told; faults_before = before; faults = g; entries = es ++ rest }
 
   first_kept : (p : ℕ) → p ≤ length es → after_first start (es ++ rest) p ≡ after_first start es p
   first_kept p h = ap (after start) (take-append-le p es rest h)
@@ -118,7 +118,8 @@ module _ (near far : ℕ → ℕ → Type 0) (more : (k n : ℕ) → near k n �
   fits_any t x (inl h) = inl (record {
     told = h.told;
     within = let a = length-append es rest in let b = h.within in omega arith;
-    full = rw (take-append-le x.position es rest h.within) h.full;
+    slots_are = h.slots_are;
+    full = λ is_told. rw (take-append-le x.position es rest h.within) (h.full is_told);
     may = can_append t.kind x.position t h.within h.may;
   })
   fits_any t x (inr (inl h)) = inr (inl (record { tells = tells_more _ x h.tells; may = once_more t h.may }))
@@ -154,6 +155,7 @@ module _ (near far : ℕ → ℕ → Type 0) (more : (k n : ℕ) → near k n �
   fits_kind Protect t x (inr (inl h)) = inr (inl (record {
     reached = reached_more x.position h.reached;
     told = rw (epochs_kept x.position h.reached) h.told;
+    epoch_looked_at = h.epoch_looked_at;
   }))
   fits_kind Protect t x (inr (inr (inl h))) = inr (inr (inl (record {
     is = bound_more t x h.is;

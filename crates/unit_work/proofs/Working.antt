@@ -65,6 +65,7 @@ module _ (begin : Begin) (u v w z : View) (low : Grows u v) (high : Grows w z) w
     start = begin.start;
     slots = begin.slots;
     used = begin.used;
+    told = begin.told;
     faults_before = before;
     faults = z.turn.known.faults;
     entries = es;
@@ -78,7 +79,7 @@ module _ (begin : Begin) (u v w z : View) (low : Grows u v) (high : Grows w z) w
       λ rose. let s = high.earlier.stopped (subst (λ (o : Opening). HasRisen o.faults w.turn.known.faults) (sym high.opening) (risen_of _ _ rose)) in
       ap length (sym grown) ∙ (sym (entries_counted (log_of z)) ∙ (s ∙ entries_counted (log_of w))) in
       let there : Fits near (course_with (entries_in w ++ r) w.turn.known.opening.faults) t x =
-      fits_more (IsBetween begin v w) near between begin.plan begin.start begin.slots begin.used
+      fits_more (IsBetween begin v w) near between begin.plan begin.start begin.slots begin.used begin.told
       w.turn.known.opening.faults w.turn.known.faults z.turn.known.faults (entries_in w) r high.earlier.faults closed t x h in
       let here : Fits near (course_with (entries_in w ++ r) z.turn.known.opening.faults) t x =
       subst (λ (o : Opening). Fits near (course_with (entries_in w ++ r) o.faults) t x) (sym high.opening) there in

@@ -36,6 +36,7 @@ course_in begin view = record {
   start = begin.start;
   slots = begin.slots;
   used = begin.used;
+  told = begin.told;
   faults_before = view.turn.known.opening.faults;
   faults = view.turn.known.faults;
   entries = entries_in view;
