@@ -9,6 +9,7 @@ use Rattle.unit_plan.specs.PlanLines.{PlanLines}
 use Rattle.unit_state.specs.declared.state.State.{State}
 use Rattle.unit_state.specs.State.{KeepsRules}
 use Rattle.unit_state.specs.Restart.{restarted}
+use Rattle.unit_image.specs.Opening.{SameJournal}
 use Rattle.unit_image.specs.Shows.{Shows}
 use Rattle.unit_book.specs.Book.{ShowsFrom, Serves, IsHistory, IsKept, begun}
 use Rattle.unit_book.proofs.MarksKept.{marks_same}
@@ -41,8 +42,9 @@ fresh_history now start journal settled shows =
 
 pub fresh_kept : {O : Type 0} (told : Bool) (trace : O → Trace) (faults : O → ℕ) (site : O) (image : List ℕ) (plan : PlanLines) (start : State) (journal : JournalView)
     → KeepsRules start → (IsTrue told → IsSettled (trace site) journal) → (IsTrue told → Shows (trace site).now.image (restarted start))
+    → (IsTrue told → SameJournal image (trace site).now.image journal)
     → IsKept told trace faults (begun site image plan start journal)
-fresh_kept {O} told trace faults site image plan start journal rules settled shows = record {
+fresh_kept {O} told trace faults site image plan start journal rules settled shows same = record {
   later = omega arith;
   stands = omega arith;
   led = refl;
@@ -58,7 +60,8 @@ fresh_kept {O} told trace faults site image plan start journal rules settled sho
     shows = shows is_told;
   };
   counted = λ is_told not. record {
-    used = let same : journal.used ≡ _ = (settled is_told).opened.of_image.used in omega arith;
+    slots = (same is_told).slots;
+    used = let count = (same is_told).used in omega arith;
   };
 }
 
@@ -66,8 +69,9 @@ fresh_kept {O} told trace faults site image plan start journal rules settled sho
 pub fresh_shown : {O : Type 0} (told : Bool) (trace : O → Trace) (faults : O → ℕ) (site opened : O) (image : List ℕ) (plan : PlanLines) (state start : State) (journal : JournalView)
     → opened ≡ site → start ≡ state → KeepsRules state → (IsTrue told → IsSettled (trace site) journal)
     → (IsTrue told → Shows (trace site).now.image (restarted state))
+    → (IsTrue told → SameJournal image (trace site).now.image journal)
     → IsKept told trace faults (record (begun site image plan state journal) { opened = opened; start = start })
-fresh_shown {O} told trace faults site opened image plan state start journal same_site same_state rules settled shows =
+fresh_shown {O} told trace faults site opened image plan state start journal same_site same_state rules settled shows same =
     subst (λ (o : O). IsKept told trace faults (record (begun site image plan state journal) { opened = o; start = start })) (sym same_site)
     (subst (λ (s : State). IsKept told trace faults (record (begun site image plan state journal) { start = s })) (sym same_state)
-    (fresh_kept told trace faults site image plan state journal rules settled shows))
+    (fresh_kept told trace faults site image plan state journal rules settled shows same))

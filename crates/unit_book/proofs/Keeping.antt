@@ -80,7 +80,7 @@ kept_put {O} told trace faults octets old site low puts kept =
           kept.stands (puts is_told) (kept.history is_told);
       current = λ is_told not. piece_current octets (trace old.site) (trace site) old.start old.journal old.log piece
           (puts is_told) (kept.current is_told (not_rose_earlier (faults old.opened) (faults old.site) (faults site) low not));
-      counted = λ is_told not. subst (λ (entries : List Entry). IsCounted (trace old.opened) old.start old.journal entries) (sym same)
+      counted = λ is_told not. subst (λ (entries : List Entry). IsCounted old.image old.start old.journal entries) (sym same)
           (kept.counted is_told (not_rose_earlier (faults old.opened) (faults old.site) (faults site) low not));
     }
 
@@ -169,9 +169,9 @@ module _ {O : Type 0} (told : Bool) (trace : O → Trace) (faults : O → ℕ) (
             ∙ stored_more old.start (entries_of old.log) entry
             ∙ ap (λ (o : Option Change). stored_count old.start (entries_of old.log) + (if is_some o then 1 else 0)) none_there
             ∙ (let sum : stored_count old.start (entries_of old.log) + 0 ≡ stored_count old.start (entries_of old.log) = omega arith in sum) in
-            let used : old.journal.used ≡ length (records (trace old.opened).now.image) + stored_count old.start (entries_of old.log) =
+            let used : old.journal.used ≡ length (records old.image) + stored_count old.start (entries_of old.log) =
             (r.kept.counted is_told r.can.0).used in
-            record { used = omega arith };
+            record { slots = (r.kept.counted is_told r.can.0).slots; used = omega arith };
       }
 
   next_entry : (body : List ℕ) → (stored : Change) × (stored_as old.state entry.change ≡ Some stored) × IsRecord stored body
@@ -223,7 +223,7 @@ module _ {O : Type 0} (told : Bool) (trace : O → Trace) (faults : O → ℕ) (
           };
         };
         counted = λ is_told not.
-            let used : old.journal.used ≡ length (records (trace old.opened).now.image) + stored_count old.start (entries_of old.log) =
+            let used : old.journal.used ≡ length (records old.image) + stored_count old.start (entries_of old.log) =
             (r.kept.counted is_told r.can.0).used in
             let some_there : stored_as (after old.start (entries_of old.log)) entry.change ≡ Some has_record.0 =
             subst (λ (s : State). stored_as s entry.change ≡ Some has_record.0) state_is has_record.1 in
@@ -231,7 +231,7 @@ module _ {O : Type 0} (told : Bool) (trace : O → Trace) (faults : O → ℕ) (
             ap (stored_count old.start) more
             ∙ stored_more old.start (entries_of old.log) entry
             ∙ ap (λ (o : Option Change). stored_count old.start (entries_of old.log) + (if is_some o then 1 else 0)) some_there in
-            record { used = omega arith };
+            record { slots = (r.kept.counted is_told r.can.0).slots; used = omega arith };
       }
 
   -- the book, once the append has failed

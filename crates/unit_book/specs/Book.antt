@@ -7,7 +7,7 @@ use Rattle.sdls_base.specs.declared.entry.Logged.TheVariants as logged
 use Rattle.sdls_outside.specs.Disk.{Leaves}
 use Rattle.sdls_outside.specs.Faults.{Rose}
 use Rattle.sdls_outside.specs.Moments.{Trace, EachMoment, Between}
-use Rattle.disk_journal.specs.Image.{records, IsOpenedForm}
+use Rattle.disk_journal.specs.Image.{records, slot_count, IsOpenedForm}
 use Rattle.disk_journal.specs.Forms.{HasOneClosed}
 use Rattle.disk_journal.specs.Journal.{JournalView, IsSettled}
 use Rattle.unit_plan.specs.PlanLines.{PlanLines}
@@ -75,9 +75,10 @@ pub record IsCurrent (now : Trace) (start : State) (journal : JournalView) (entr
   pub settled : IsSettled now journal
   pub shows : Shows now.now.image (restarted (after start entries))
 
--- The slots used: those of the records in the image that was opened, and one for each entry that takes one.
-pub record IsCounted (opened : Trace) (start : State) (journal : JournalView) (entries : List Entry) : Type 0 where
-  pub used : journal.used ≡ length (records opened.now.image) + stored_count start entries
+-- The slots are those of the image that was read, and used are one for each of its records and for each entry that takes one.
+pub record IsCounted (image : List ℕ) (start : State) (journal : JournalView) (entries : List Entry) : Type 0 where
+  pub slots : journal.slots ≡ slot_count image
+  pub used : journal.used ≡ length (records image) + stored_count start entries
 
 -- What holds of a book between its calls.
 pub record IsKept {O : Type 0} (told : Bool) (trace : O → Trace) (faults : O → ℕ) (book : BookView O) : Type 0 where
@@ -94,7 +95,7 @@ pub record IsKept {O : Type 0} (told : Bool) (trace : O → Trace) (faults : O �
   pub current : IsTrue told → ¬ Rose (faults book.opened) (faults book.site)
       → IsCurrent (trace book.site) book.start book.journal (entries_of book.log)
   pub counted : IsTrue told → ¬ Rose (faults book.opened) (faults book.site)
-      → IsCounted (trace book.opened) book.start book.journal (entries_of book.log)
+      → IsCounted book.image book.start book.journal (entries_of book.log)
 
 -- The site has not failed since the opening, and there is room for an entry.
 abbrev pub CanEnter : {O : Type 0} → (O → ℕ) → BookView O → Type 0

@@ -3,6 +3,7 @@ ghost use Rattle.std.specs.Prelude.{◌≡◌, ◌≤◌, IsTrue, [], vec_capaci
 ghost use Rattle.disk_journal.specs.Journal.{IsSettled};
 ghost use Rattle.unit_state.specs.State.{KeepsRules};
 ghost use Rattle.unit_state.specs.Restart.{restarted};
+ghost use Rattle.unit_image.specs.Opening.{SameJournal};
 ghost use Rattle.unit_image.specs.Shows.{Shows};
 ghost use Rattle.unit_history.specs.Log.{entries_of};
 ghost use Rattle.unit_book.specs.Book.{IsKept, begun};
@@ -21,6 +22,7 @@ impl<O: Site> Book<O> {
         requires rules { KeepsRules found.state }
         requires settled { IsTrue O.told → IsSettled (O.trace site) found.journal }
         requires shows { IsTrue O.told → Shows (O.trace site).now.image (restarted found.state) }
+        requires same { IsTrue O.told → SameJournal (O.trace taken.value).now.image (O.trace site).now.image found.journal }
         requires room { (entries.items ≡ []) × (MOST_ENTRIES ≤ vec_capacity entries) }
         ensures view { result ≡ begun site (O.trace taken.value).now.image found.plan found.state found.journal }
         ensures kept { IsKept O.told O.trace O.faults result }
