@@ -16,7 +16,7 @@ use Rattle.sdls_base.specs.Numbers.{one_if, times, total, once_below}
 use Rattle.counter_table.specs.Numbers.{count_of, amount, top, no_numbers}
 use Rattle.counter_table.specs.Turn.{stands, no_turn}
 use Rattle.counter_table.specs.Rule.{greatest, next_at, KnowsBook, IsAtHome, IsKept}
-use Rattle.counter_table.specs.Play.{IsCovered}
+use Rattle.counter_table.specs.Play.{IsAsKnown, IsCovered}
 use Rattle.counter_table.specs.Whole.{RowStands, IsWhole, Look}
 use Rattle.counter_table.proofs.Sums.{total_at, total_two, total_only, greatest_least}
 use Rattle.counter_table.proofs.Rows.{once_below_more, once_below_one}
@@ -113,6 +113,24 @@ module _ {B : Type 0} (told : B → Known) (count : ℕ) (s : State (Option B) V
             let longer : n < length kept.book.log = omega arith in
             let one = made_only n ∙ below_itself n (length kept.book.log) longer in
             absurd (let m = knows.made n (omega arith) in omega arith)
+
+    known_only : (f : Turn → ℕ) → f no_turn ≡ 0 → greatest f (turns_of s.views) ≤ f v.turn
+    known_only f none = greatest_least f (turns_of s.views) _ (λ j u e. dite (ℕ_discrete j id)
+        (λ same. let is : u ≡ v.turn = some-injective u v.turn (sym e ∙ (ap (get_elem? (turns_of s.views)) same ∙ its_turn)) in
+        let k = ap f is in omega arith)
+        (λ apart. let k : f u ≡ f no_turn = ap f (alone j u e apart) in omega arith))
+
+    -- nor did the book's counts go on without it
+    pub as_known : IsAsKnown v.turn kept.book
+    as_known =
+        let r = kept.turn.reached in let k = knows.earlier in
+        record {
+          log = whole;
+          changes = let h = known_only (λ u. u.known.changes) refl in let a = r.changes in let b = k.changes in omega arith;
+          faults = let h = known_only (λ u. u.known.faults) refl in let a = r.faults in let b = k.faults in omega arith;
+          standing = let h = known_only (λ u. u.known.standing) refl in let a = r.standing in let b = k.standing in omega arith;
+          put_faults = let h = known_only (λ u. u.known.put_faults) refl in let a = r.put_faults in let b = k.put_faults in omega arith;
+        }
 
     pub is_whole : IsWhole count v
     is_whole =

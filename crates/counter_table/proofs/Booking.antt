@@ -1,5 +1,5 @@
 -- Each step keeps the rule's part on the turn and the book.
-use Rattle.std.proofs.Common.{◌≡◌, ◌≢◌, ◌⊎◌, ℕ, zero, suc, ◌+◌, ◌-◌, ◌<◌, ◌≤◌, max, true, false, Bool, ◌||◌, List, [], ◌∷◌, ◌++◌, set, get_or, length, sym, refl, ap, ◌∙◌, subst, inl, inr, ⊎_elim, arith, Some, Option, if◌then◌else◌}
+use Rattle.std.proofs.Common.{◌≡◌, ◌≢◌, ◌⊎◌, ℕ, zero, suc, ◌+◌, ◌-◌, ◌<◌, ◌≤◌, max, true, false, Bool, ◌||◌, List, [], ◌∷◌, ◌++◌, set, get_or, length, sym, refl, ap, ◌∙◌, subst, inl, inr, ⊎_elim, le_trans, arith, Some, Option, if◌then◌else◌}
 use Rattle.std.proofs.lemmas.Bool.Decides.{nat_tests}
 use mathlib.Core.Option as slot
 use mathlib.Core.Option.{some, some-injective}
@@ -9,12 +9,55 @@ use lib.ListN.{get_elem?}
 use Rattle.atomic_table.proofs.Lists.{at_set, set_here, set_else}
 use Rattle.counter_table.specs.declared.view.Known.{Known}
 use Rattle.counter_table.specs.declared.view.Turn.{Turn}
-use Rattle.counter_table.specs.Known.{mark_of, Earlier, KeepsMarks, MayGive, MayFill, unknown, later}
+use Rattle.counter_table.specs.Known.{mark_of, Earlier, IsSparing, pieces, KeepsMarks, MayGive, MayFill, unknown, later}
 use Rattle.counter_table.specs.Turn.{places, stands, no_turn, beginner, merged, taking, giving, filling, learning, seeing, turning}
 use Rattle.sdls_base.specs.Numbers.{one_if, total, once_below}
-use Rattle.counter_table.specs.Rule.{limit_at, KnowsBook, IsAtHome, IsUnfilled, IsOut, TurnFits}
-use Rattle.counter_table.proofs.Sums.{at_below, total-append, total_set, total_at, total_two, total_only, each_set, each_snoc, each_apart, zero_of}
-use Rattle.counter_table.proofs.Knowing.{earlier_itself, earlier_further, earlier_length, earlier_first, earlier_later, longer_length, stands-append, places_next, places_low, ended_knows, beginner_knows}
+use Rattle.counter_table.specs.Rule.{greatest, limit_at, IsReached, KnowsBook, IsAtHome, IsUnfilled, IsOut, TurnFits}
+use Rattle.counter_table.proofs.Sums.{at_below, greatest_at, greatest_least, total-append, total_set, total_at, total_two, total_only, each_set, each_snoc, each_apart, zero_of}
+use Rattle.counter_table.proofs.Knowing.{earlier_itself, earlier_further, earlier_length, earlier_first, earlier_later, sparing_itself, sparing_further, sparing_later, no_pieces, longer_length, stands-append, places_next, places_low, ended_knows, beginner_knows}
+
+-- a count that some worker knows is one that some worker knows after one of them came to know as much at least
+module _ (f : Turn → ℕ) (turns : List Turn) where
+  reach_set : (id : ℕ) (v w : Turn) (n : ℕ) → get_elem? turns id ≡ some v → f v ≤ f w → n ≤ greatest f turns → n ≤ greatest f (set turns id w)
+  reach_set id v w n at more reached = le_trans reached (greatest_least f turns _ (λ j u e. dite (ℕ_discrete j id)
+      (λ same. let is : u ≡ v = some-injective u v (sym e ∙ (ap (get_elem? turns) same ∙ at)) in
+      subst (λ z. f z ≤ greatest f (set turns id w)) (sym is)
+      (le_trans more (greatest_at f (set turns id w) id w (set_here turns id w (at_below turns id v at)))))
+      (λ apart. greatest_at f (set turns id w) j u (set_else turns id j w apart ∙ e))))
+
+  reach_snoc : (w : Turn) (n : ℕ) → n ≤ greatest f turns → n ≤ greatest f (turns ++ w ∷ [])
+  reach_snoc w n reached = let h = more turns in omega arith
+    where
+      more : (xs : List Turn) → greatest f xs ≤ greatest f (xs ++ w ∷ [])
+      more [] = omega arith
+      more (x ∷ xs) = let h = more xs in omega arith
+
+module _ (book : Known) (turns : List Turn) where
+  reached_set : (id : ℕ) (v w : Turn) → get_elem? turns id ≡ some v → v.known.changes ≤ w.known.changes → v.known.faults ≤ w.known.faults
+      → v.known.standing ≤ w.known.standing → v.known.put_faults ≤ w.known.put_faults → IsReached book turns → IsReached book (set turns id w)
+  reached_set id v w at a b c d r = record {
+    changes = reach_set (λ u. u.known.changes) turns id v w book.changes at a r.changes;
+    faults = reach_set (λ u. u.known.faults) turns id v w book.faults at b r.faults;
+    standing = reach_set (λ u. u.known.standing) turns id v w book.standing at c r.standing;
+    put_faults = reach_set (λ u. u.known.put_faults) turns id v w book.put_faults at d r.put_faults;
+  }
+
+  reached_here : (id : ℕ) (w : Turn) → get_elem? turns id ≡ some w → book.changes ≤ w.known.changes → book.faults ≤ w.known.faults
+      → book.standing ≤ w.known.standing → book.put_faults ≤ w.known.put_faults → IsReached book turns
+  reached_here id w at a b c d = record {
+    changes = le_trans a (greatest_at (λ u. u.known.changes) turns id w at);
+    faults = le_trans b (greatest_at (λ u. u.known.faults) turns id w at);
+    standing = le_trans c (greatest_at (λ u. u.known.standing) turns id w at);
+    put_faults = le_trans d (greatest_at (λ u. u.known.put_faults) turns id w at);
+  }
+
+  reached_snoc : (w : Turn) → IsReached book turns → IsReached book (turns ++ w ∷ [])
+  reached_snoc w r = record {
+    changes = reach_snoc (λ u. u.known.changes) turns w book.changes r.changes;
+    faults = reach_snoc (λ u. u.known.faults) turns w book.faults r.faults;
+    standing = reach_snoc (λ u. u.known.standing) turns w book.standing r.standing;
+    put_faults = reach_snoc (λ u. u.known.put_faults) turns w book.put_faults r.put_faults;
+  }
 
 none_below : (p : ℕ) → once_below p 0 ≡ 0
 none_below p = grind (arith, nat_tests)
@@ -93,8 +136,9 @@ module _ {B : Type 0} (told : B → Known) (count : ℕ) (words : List ℕ) (hom
           limits = λ row b. let l = fits.limits row b in let e = same_limits row b in omega arith;
           made = λ p. let m = total_set (λ u. stands p u.made) turns id v w at in let o = fits.made p in omega arith;
           known = λ f. let m = total_set (λ u. one_if u.filled) turns id v w at in let o = fits.known f in omega arith;
+          reached = reached_set book turns id v w at (omega arith) (omega arith) (omega arith) (omega arith) fits.reached;
           each = each_set (KnowsBook book filled) turns id w
-              (let k = fits.each id v at in record { earlier = k.earlier; epoch = let e = fits.epoch in omega arith; opening = k.opening; blank = k.blank; made = k.made; one = k.one; other = k.other }) fits.each;
+              (let k = fits.each id v at in record { earlier = k.earlier; sparing = k.sparing; epoch = let e = fits.epoch in omega arith; opening = k.opening; blank = k.blank; made = k.made; one = k.one; other = k.other }) fits.each;
         }
 
     pub take_fits : (words' : List ℕ) (b : B) → get_or words' 0 0 ≡ 2 → get_or words' 1 0 ≡ get_or words 1 0
@@ -120,9 +164,11 @@ module _ {B : Type 0} (told : B → Known) (count : ℕ) (words : List ℕ) (hom
           limits = λ row b. let l = fits.limits row b in let e = same_limits row b in omega arith;
           made = λ p. let m = total_set (λ u. stands p u.made) turns id v w at in let o = fits.made p in omega arith;
           known = λ f. let m = total_set (λ u. one_if u.filled) turns id v w at in let o = fits.known f in omega arith;
+          reached = reached_here book (set turns id w) id w (here w) (omega (arith, ap (λ z. z.changes) is)) (omega (arith, ap (λ z. z.faults) is)) (omega (arith, ap (λ z. z.standing) is)) (omega (arith, ap (λ z. z.put_faults) is));
           each = each_set (KnowsBook book filled) turns id w
               record {
                 earlier = subst (λ z. Earlier z book) (sym is) (earlier_itself book);
+                sparing = λ f. subst (λ z. IsSparing z book) (sym is) (sparing_itself book);
                 epoch = k.epoch;
                 opening = λ f. (home.filled, ap (λ z. z.opening) is);
                 blank = λ e. absurd (false≢true (sym e ∙ full));
@@ -163,9 +209,11 @@ module _ {B : Type 0} (told : B → Known) (count : ℕ) (words : List ℕ) (hom
               let n = places_next p (length v.known.log) (length (told b).log - length v.known.log) in
               let x = ap (once_below p) same_length in let y = ap (once_below p) sum in omega arith;
           known = λ f. let m = total_set (λ u. one_if u.filled) turns id v w at in let o = fits.known f in omega arith;
+          reached = reached_here (told b) (set turns id w) id w (here w) (omega arith) (omega arith) (omega arith) (omega arith);
           each = each_set (KnowsBook (told b) filled) turns id w
               record {
                 earlier = earlier_itself (told b);
+                sparing = λ f. sparing_itself (told b);
                 epoch = let e = k.epoch in let c = may'.changes in omega arith;
                 opening = λ f. ((k.opening full).0, refl);
                 blank = λ e. absurd (false≢true (sym e ∙ full));
@@ -179,6 +227,7 @@ module _ {B : Type 0} (told : B → Known) (count : ℕ) (words : List ℕ) (hom
               (λ j u e. let old = fits.each j u e in
               record {
                 earlier = earlier_further u.known book (told b) old.earlier may'.earlier may'.opening;
+                sparing = λ f. sparing_further u.known book (told b) (old.sparing f) may'.sparing;
                 epoch = let x = old.epoch in let c = may'.changes in omega arith;
                 opening = λ f. ((old.opening f).0, (old.opening f).1 ∙ sym may'.opening);
                 blank = old.blank;
@@ -224,25 +273,30 @@ module _ {B : Type 0} (told : B → Known) (count : ℕ) (words : List ℕ) (hom
               (λ apart. let l = fits.limits row b in let e = same_limits row b apart in let m = marks' row in omega arith);
           made = λ p. let m = total_set (λ u. stands p u.made) turns id v w at in let o = fits.made p in omega arith;
           known = λ f. let m = total_set (λ u. one_if u.filled) turns id v w at in let o = fits.known f in omega arith;
+          reached =
+              let r = reached_set book turns id v w at (omega arith) (omega arith) (omega arith) (omega arith) fits.reached in
+              record { changes = r.changes; faults = r.faults; standing = r.standing; put_faults = r.put_faults };
           each = each_set (KnowsBook new_book filled) turns id w
               record {
-                earlier = record { log = k.earlier.log; changes = k.earlier.changes; faults = k.earlier.faults; stopped = k.earlier.stopped };
+                earlier = record { log = k.earlier.log; changes = k.earlier.changes; faults = k.earlier.faults; standing = k.earlier.standing; put_faults = k.earlier.put_faults; stopped = k.earlier.stopped };
+                sparing = k.sparing;
                 epoch = k.epoch;
                 opening = k.opening;
                 blank = λ e. absurd (false≢true (sym e ∙ full));
                 made = k.made;
-                one = record { log = k.one.log; changes = k.one.changes; faults = k.one.faults; stopped = k.one.stopped };
-                other = record { log = k.other.log; changes = k.other.changes; faults = k.other.faults; stopped = k.other.stopped };
+                one = record { log = k.one.log; changes = k.one.changes; faults = k.one.faults; standing = k.one.standing; put_faults = k.one.put_faults; stopped = k.one.stopped };
+                other = record { log = k.other.log; changes = k.other.changes; faults = k.other.faults; standing = k.other.standing; put_faults = k.other.put_faults; stopped = k.other.stopped };
               }
               (λ j u e. let old = fits.each j u e in
               record {
-                earlier = record { log = old.earlier.log; changes = old.earlier.changes; faults = old.earlier.faults; stopped = old.earlier.stopped };
+                earlier = record { log = old.earlier.log; changes = old.earlier.changes; faults = old.earlier.faults; standing = old.earlier.standing; put_faults = old.earlier.put_faults; stopped = old.earlier.stopped };
+                sparing = old.sparing;
                 epoch = old.epoch;
                 opening = old.opening;
                 blank = old.blank;
                 made = old.made;
-                one = record { log = old.one.log; changes = old.one.changes; faults = old.one.faults; stopped = old.one.stopped };
-                other = record { log = old.other.log; changes = old.other.changes; faults = old.other.faults; stopped = old.other.stopped };
+                one = record { log = old.one.log; changes = old.one.changes; faults = old.one.faults; standing = old.one.standing; put_faults = old.one.put_faults; stopped = old.one.stopped };
+                other = record { log = old.other.log; changes = old.other.changes; faults = old.other.faults; standing = old.other.standing; put_faults = old.other.put_faults; stopped = old.other.stopped };
               });
         }
 
@@ -273,25 +327,28 @@ module _ {B : Type 0} (told : B → Known) (count : ℕ) (words : List ℕ) (hom
           limits = λ row b. let l = fits.limits row b in let e = same_limits row b in omega arith;
           made = λ p. let m = total_set (λ u. stands p u.made) turns id v w at in let o = fits.made p in omega arith;
           known = λ f. let m = total_set (λ u. one_if u.filled) turns id v w at in let o = fits.known f in omega arith;
+          reached = reached_here new_book (set turns id w) id w (here w) (omega (arith, ap (λ z. z.changes) knows)) (omega (arith, ap (λ z. z.faults) knows)) (omega (arith, ap (λ z. z.standing) knows)) (omega (arith, ap (λ z. z.put_faults) knows));
           each = each_set (KnowsBook new_book filled) turns id w
               record {
-                earlier = record { log = k.earlier.log; changes = let c = k.earlier.changes in omega arith; faults = k.earlier.faults; stopped = k.earlier.stopped };
+                earlier = record { log = k.earlier.log; changes = let c = k.earlier.changes in omega arith; faults = k.earlier.faults; standing = k.earlier.standing; put_faults = k.earlier.put_faults; stopped = k.earlier.stopped };
+                sparing = k.sparing;
                 epoch = let c = k.epoch in omega arith;
                 opening = k.opening;
                 blank = λ e. absurd (false≢true (sym e ∙ full));
                 made = k.made;
-                one = record { log = k.one.log; changes = let c = k.one.changes in omega arith; faults = k.one.faults; stopped = k.one.stopped };
-                other = record { log = k.other.log; changes = let c = k.other.changes in omega arith; faults = k.other.faults; stopped = k.other.stopped };
+                one = record { log = k.one.log; changes = let c = k.one.changes in omega arith; faults = k.one.faults; standing = k.one.standing; put_faults = k.one.put_faults; stopped = k.one.stopped };
+                other = record { log = k.other.log; changes = let c = k.other.changes in omega arith; faults = k.other.faults; standing = k.other.standing; put_faults = k.other.put_faults; stopped = k.other.stopped };
               }
               (λ j u e. let old = fits.each j u e in
               record {
-                earlier = record { log = old.earlier.log; changes = let c = old.earlier.changes in omega arith; faults = old.earlier.faults; stopped = old.earlier.stopped };
+                earlier = record { log = old.earlier.log; changes = let c = old.earlier.changes in omega arith; faults = old.earlier.faults; standing = old.earlier.standing; put_faults = old.earlier.put_faults; stopped = old.earlier.stopped };
+                sparing = old.sparing;
                 epoch = let c = old.epoch in omega arith;
                 opening = old.opening;
                 blank = old.blank;
                 made = old.made;
-                one = record { log = old.one.log; changes = let c = old.one.changes in omega arith; faults = old.one.faults; stopped = old.one.stopped };
-                other = record { log = old.other.log; changes = let c = old.other.changes in omega arith; faults = old.other.faults; stopped = old.other.stopped };
+                one = record { log = old.one.log; changes = let c = old.one.changes in omega arith; faults = old.one.faults; standing = old.one.standing; put_faults = old.one.put_faults; stopped = old.one.stopped };
+                other = record { log = old.other.log; changes = let c = old.other.changes in omega arith; faults = old.other.faults; standing = old.other.standing; put_faults = old.other.put_faults; stopped = old.other.stopped };
               });
         }
 
@@ -338,8 +395,9 @@ module _ {B : Type 0} (told : B → Known) (count : ℕ) (words : List ℕ) (hom
             limits = λ row b. let l = fits.limits row b in let e = same_limits row b in omega arith;
             made = λ p. let m = total_set (λ u. stands p u.made) turns id v w at in let o = fits.made p in omega arith;
             known = λ f. let m = total_set (λ u. one_if u.filled) turns id v w at in let o = fits.known f in omega arith;
+            reached = reached_set book turns id v w at (omega arith) (omega arith) (omega arith) (omega arith) fits.reached;
             each = each_set (KnowsBook book filled) turns id w
-                record { earlier = k.earlier; epoch = k.epoch; opening = k.opening; blank = k.blank; made = k.made; one = k.one; other = k.other } fits.each;
+                record { earlier = k.earlier; sparing = k.sparing; epoch = k.epoch; opening = k.opening; blank = k.blank; made = k.made; one = k.one; other = k.other } fits.each;
           }
 
       pub fill_fits : (words' : List ℕ) (b : B) → get_or words' 0 0 ≡ 0 → get_or words' 1 0 ≡ get_or words 1 0
@@ -369,9 +427,11 @@ module _ {B : Type 0} (told : B → Known) (count : ℕ) (words : List ℕ) (hom
                 let z : 0 + length (told b).log ≡ length (told b).log = omega arith in
                 let y = ap (once_below p) z in omega arith;
             known = λ f. let m = total_at (λ u. one_if u.filled) (set turns id w) id w (here w) in omega arith;
+            reached = reached_here (told b) (set turns id w) id w (here w) (omega arith) (omega arith) (omega arith) (omega arith);
             each = each_apart (KnowsBook (told b) true) turns id w
                 record {
                   earlier = earlier_itself (told b);
+                  sparing = λ f. sparing_itself (told b);
                   epoch = let e = k.epoch in let c = may.changes in omega arith;
                   opening = λ f. (refl, refl);
                   blank = λ e. absurd (false≢true (sym e));
@@ -408,6 +468,7 @@ module _ {B : Type 0} (told : B → Known) (count : ℕ) (words : List ℕ) (hom
         limits = fits.limits;
         made = λ p. let m = total-append (λ u. stands p u.made) turns (w ∷ []) in let o = fits.made p in omega arith;
         known = λ f. let m = total-append (λ u. one_if u.filled) turns (w ∷ []) in let o = fits.known f in omega arith;
+        reached = reached_snoc book turns w fits.reached;
         each = each_snoc (KnowsBook book filled) turns w (beginner_knows book filled v (fits.each id v at)) fits.each;
       }
 
@@ -435,6 +496,30 @@ module _ {B : Type 0} (told : B → Known) (count : ℕ) (words : List ℕ) (hom
     earlier_both : (h : Bool) → Earlier (known_of h v.filled) book
     earlier_both true = (fits.each id v at).earlier
     earlier_both false = earlier_later (if v.filled then v.known.opening else w.known.opening) v.known w.known book (fits.each id v at).earlier (fits.each other w there).earlier
+
+    is_true : (f : Bool) → (f ≡ false → ⊥) → f ≡ true
+    is_true true n = refl
+    is_true false n = absurd (n refl)
+
+    -- who knows a line knows that a book was filled
+    filled_by : (u : Turn) → KnowsBook book filled u → 0 < length u.known.log → u.filled ≡ true
+    filled_by u k h = is_true u.filled (λ e. let z : length u.known.log ≡ 0 = ap (λ z. length z.log) (k.blank e) in omega arith)
+
+    sparing_both : (h : Bool) → v.holds ≡ h → (v.filled || w.filled) ≡ true → IsSparing (known_of h v.filled) book
+    sparing_both true e full = subst (λ z. IsSparing z book) (sym (holder_knows id v at e)) (sparing_itself book)
+    sparing_both false e full =
+        let k = fits.each id v at in let j = fits.each other w there in
+        sparing_later (if v.filled then v.known.opening else w.known.opening) v.known w.known book
+        (λ le. mine v.filled w.filled refl refl full le) (λ lt. j.sparing (filled_by w j (omega arith)))
+      where
+        mine : (f g : Bool) → v.filled ≡ f → w.filled ≡ g → (f || g) ≡ true → length w.known.log ≤ length v.known.log
+            → book.put_faults + pieces v.known.log ≤ max v.known.put_faults w.known.put_faults + pieces book.log
+        mine true g ef eg full le = let h = (fits.each id v at).sparing ef in omega arith
+        mine false true ef eg full le =
+            let z : length v.known.log ≡ 0 = ap (λ z. length z.log) ((fits.each id v at).blank ef) in
+            let a = no_pieces v.known.log z in let b = no_pieces w.known.log (omega arith) in
+            let h = (fits.each other w there).sparing eg in omega arith
+        mine false false ef eg full le = absurd (false≢true full)
 
     opening_both : (h f g : Bool) → v.holds ≡ h → v.filled ≡ f → w.filled ≡ g → (f || g) ≡ true → (filled ≡ true) × ((known_of h f).opening ≡ book.opening)
     opening_both true true g eh ef eg k = (fits.each id v at).opening ef
@@ -471,12 +556,45 @@ module _ {B : Type 0} (told : B → Known) (count : ℕ) (words : List ℕ) (hom
     merged_knows =
         record {
           earlier = earlier_both v.holds;
+          sparing = sparing_both v.holds refl;
           epoch = let a = (fits.each id v at).epoch in let b = (fits.each other w there).epoch in omega arith;
           opening = opening_both v.holds v.filled w.filled refl refl refl;
           blank = blank_both v.holds v.filled w.filled refl refl;
           made = made_both;
           one = (fits.each id v at).earlier;
           other = (fits.each other w there).earlier;
+        }
+
+    -- together they know each count at least as high
+    counts_both : (f : Known → ℕ) → (f v.known ≤ f book) → (f w.known ≤ f book) → (h : Bool) → v.holds ≡ h
+        → (f v.known ≤ f (later (if v.filled then v.known.opening else w.known.opening) v.known w.known))
+        → (f w.known ≤ f (later (if v.filled then v.known.opening else w.known.opening) v.known w.known))
+        → (f v.known ≤ f (known_of h v.filled)) × (f w.known ≤ f (known_of h v.filled))
+    counts_both f a b true e p q = let same = ap f (holder_knows id v at e) in (omega arith, omega arith)
+    counts_both f a b false e p q = (p, q)
+
+    united_reach : (f : Turn → ℕ) (n : ℕ) → (f v ≤ f (merged v w)) × (f w ≤ f (merged v w)) → n ≤ greatest f turns → n ≤ greatest f united
+    united_reach f n both reached = le_trans reached (greatest_least f turns _ (λ j u e. dite (ℕ_discrete j id)
+        (λ same. let is : u ≡ v = some-injective u v (sym e ∙ (ap (get_elem? turns) same ∙ at)) in
+        subst (λ z. f z ≤ greatest f united) (sym is) (le_trans both.0 here_united))
+        (λ not_id. dite (ℕ_discrete j other)
+        (λ same. let is : u ≡ w = some-injective u w (sym e ∙ (ap (get_elem? turns) same ∙ there)) in
+        subst (λ z. f z ≤ greatest f united) (sym is) (le_trans both.1 here_united))
+        (λ not_other. greatest_at f united j u (set_else (set turns id (merged v w)) other j no_turn not_other ∙ (set_else turns id j (merged v w) not_id ∙ e))))))
+      where
+        here_united : f (merged v w) ≤ greatest f united
+        here_united = greatest_at f united id (merged v w)
+            (set_else (set turns id (merged v w)) other id no_turn (λ e. apart (sym e)) ∙ set_here turns id (merged v w) (at_below turns id v at))
+
+    united_reached : IsReached book united
+    united_reached =
+        let k = (fits.each id v at).earlier in let j = (fits.each other w there).earlier in
+        let r = fits.reached in
+        record {
+          changes = united_reach (λ u. u.known.changes) book.changes (counts_both (λ z. z.changes) k.changes j.changes v.holds refl (omega arith) (omega arith)) r.changes;
+          faults = united_reach (λ u. u.known.faults) book.faults (counts_both (λ z. z.faults) k.faults j.faults v.holds refl (omega arith) (omega arith)) r.faults;
+          standing = united_reach (λ u. u.known.standing) book.standing (counts_both (λ z. z.standing) k.standing j.standing v.holds refl (omega arith) (omega arith)) r.standing;
+          put_faults = united_reach (λ u. u.known.put_faults) book.put_faults (counts_both (λ z. z.put_faults) k.put_faults j.put_faults v.holds refl (omega arith) (omega arith)) r.put_faults;
         }
 
     none_left : (f g : Bool) (t total' : ℕ) → total' + one_if f + one_if g ≡ t + one_if (f || g) → one_if f + one_if g ≤ t → 0 < t → 0 < total'
@@ -505,5 +623,6 @@ module _ {B : Type 0} (told : B → Known) (count : ℕ) (words : List ℕ) (hom
           known = λ f.
               none_left v.filled w.filled (fillers turns) (fillers united) (united_total (λ u. one_if u.filled) refl)
               (total_two (λ u. one_if u.filled) turns id other v w at there (λ e. apart (sym e))) (fits.known f);
+          reached = united_reached;
           each = united_each (KnowsBook book filled) (ended_knows book filled) merged_knows fits.each;
         }

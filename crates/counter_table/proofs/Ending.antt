@@ -19,7 +19,7 @@ use Rattle.counter_table.specs.Close.{Closes}
 use Rattle.counter_table.proofs.Sums.{each_snoc}
 use Rattle.counter_table.proofs.Knowing.{ended_knows}
 use Rattle.counter_table.proofs.Booking.{false≢true}
-use Rattle.counter_table.proofs.Alone.{knows, covers, row_stands, made_only, whole, home}
+use Rattle.counter_table.proofs.Alone.{as_known, knows, covers, row_stands, made_only, whole, home}
 
 -- one worker
 single : {V : Type 0} (P : V → Type 0) (v : V) → P v → (j : ℕ) (u : V) → get_elem? (v ∷ []) j ≡ some u → P u
@@ -99,6 +99,7 @@ module _ (count : ℕ) where
           limits = λ row b. let w = word_row (limit_at row) (omega arith) (omega arith) in omega arith;
           made = λ p. sym (none_below p);
           known = λ e. absurd (false≢true e);
+          reached = record { changes = omega arith; faults = omega arith; standing = omega arith; put_faults = omega arith };
           each = single (Rattle.counter_table.specs.Rule.KnowsBook unknown false) no_turn (ended_knows unknown false);
         };
         ended = single (λ u. u.numbers.shares ≡ 0 → u.turn ≡ no_turn) first_view (λ e. refl);
@@ -112,8 +113,9 @@ module _ {B : Type 0} (told : B → Known) (count : ℕ) (s : State (Option B) V
         rows = rows;
         each = λ row c. rw (same row c) (row_stands told count s id v at kept all row c);
         covered = covers told count s id v at kept;
-        follows = let k = knows told count s id v at kept in record { earlier = k.earlier; epoch = k.epoch; opening = sym (k.opening full).1 };
+        follows = let k = knows told count s id v at kept in record { earlier = k.earlier; sparing = k.sparing full; epoch = k.epoch; opening = sym (k.opening full).1 };
         log = whole told count s id v at kept all;
+        as_known = as_known told count s id v at kept all;
         made = made_only told count s id v at kept all;
       }
 

@@ -13,15 +13,15 @@ use Rattle.counter_table.specs.declared.view.Known.{Known}
 use Rattle.counter_table.specs.declared.view.Numbers.{Numbers}
 use Rattle.counter_table.specs.declared.view.Turn.{Turn}
 use Rattle.counter_table.specs.declared.view.View.{View}
-use Rattle.counter_table.specs.Known.{mark_of, Earlier, MayGive, MayFill, unknown}
+use Rattle.counter_table.specs.Known.{mark_of, Earlier, IsSparing, MayGive, MayFill, unknown}
 use Rattle.counter_table.specs.Numbers.{keeper, newcomer, joined, no_numbers, lifting}
 use Rattle.counter_table.specs.Turn.{beginner, merged, no_turn, taking, giving, filling, learning, seeing, turning}
 use Rattle.counter_table.specs.Rule.{next_at, limit_at, NumbersFit, TurnFits, IsKept}
-use Rattle.counter_table.specs.Play.{no_view, takes, IsCovered, gives, empties, fills, lifts, sees, turns, looks}
+use Rattle.counter_table.specs.Play.{no_view, takes, IsAsKnown, IsCovered, gives, empties, fills, lifts, sees, turns, looks}
 use Rattle.counter_table.proofs.Fitting.{limit_apart, limit_set, drawn_once, lift_fits as numbers_lift}
 use Rattle.counter_table.proofs.Sharing.{cut_fits, met_fits}
 use Rattle.counter_table.proofs.Booking.{home_free, word_taken, holder_knows, see_fits, take_fits, give_fits, lift_fits, turn_fits, empty_fits, fill_fits, free_of, beginner_fits, united_fits}
-use Rattle.counter_table.proofs.Alone.{covers, alone, is_whole, look}
+use Rattle.counter_table.proofs.Alone.{as_known, covers, alone, is_whole, look}
 use Rattle.counter_table.proofs.Keeping.{numbers_of, turns_of, words_fit, at_numbers, at_turn, both_parts}
 
 map-snoc : {A C : Type 0} (f : A → C) (l : List A) (a : A) → map f (l ++ a ∷ []) ≡ map f l ++ f a ∷ []
@@ -111,10 +111,12 @@ module _ {B : Type 0} (told : B → Known) (count : ℕ) where
                   refl,
                   record {
                     earlier = subst (Earlier m.0.turn.known) (sym home.book.2) k.earlier;
+                    sparing = subst (IsSparing m.0.turn.known) (sym home.book.2) (k.sparing full);
                     epoch = subst (λ y. m.0.turn.epoch ≤ y.changes) (sym home.book.2) k.epoch;
                     opening = ap (λ y. y.opening) home.book.2 ∙ sym (k.opening full).1;
                   },
                   subst (IsCovered count m.0.numbers) (sym home.book.2) (covers told count s id m.0 at kept),
+                  (λ all. subst (IsAsKnown m.0.turn) (sym home.book.2) (as_known told count s id m.0 at kept all)),
                 )),
                 (λ n. absurd (n zero_word)),
               ),

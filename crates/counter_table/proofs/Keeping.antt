@@ -38,6 +38,7 @@ module _ {B : Type 0} (told : B → Known) (count : ℕ) where
         limits = limits;
         made = fits.made;
         known = fits.known;
+        reached = fits.reached;
         each = fits.each;
       }
 

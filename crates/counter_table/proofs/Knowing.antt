@@ -5,7 +5,7 @@ use Rattle.sdls_base.specs.declared.entry.Logged.{Logged}
 use Rattle.counter_table.specs.declared.view.Opening.{Opening}
 use Rattle.counter_table.specs.declared.view.Known.{Known}
 use Rattle.counter_table.specs.declared.view.Turn.{Turn}
-use Rattle.counter_table.specs.Known.{entries, is_entry, HasRisen, Earlier, unknown, longer, later}
+use Rattle.counter_table.specs.Known.{entries, is_entry, HasRisen, Earlier, IsSparing, pieces, unknown, longer, later}
 use Rattle.counter_table.specs.Turn.{places, stands, no_turn, beginner}
 use Rattle.sdls_base.specs.Numbers.{once_below}
 use Rattle.counter_table.specs.Rule.{KnowsBook}
@@ -41,10 +41,10 @@ risen_either o m n r = ⊎_elim (λ a. elim_lt (ltb m n) refl a) (λ b. elim_le 
     elim_le false is b = let le : n ≤ m = grind (arith, nat_tests) in inl (inr (omega arith))
 
 pub earlier_itself : (k : Known) → Earlier k k
-earlier_itself k = record { log = ([], sym (append-nil k.log)); changes = omega arith; faults = omega arith; stopped = λ r. refl }
+earlier_itself k = record { log = ([], sym (append-nil k.log)); changes = omega arith; faults = omega arith; standing = omega arith; put_faults = omega arith; stopped = λ r. refl }
 
 pub earlier_unknown : (k : Known) → Earlier unknown k
-earlier_unknown k = record { log = (k.log, refl); changes = omega arith; faults = omega arith; stopped = λ r. absurd (⊎_elim (λ a. omega arith) (λ b. omega arith) r) }
+earlier_unknown k = record { log = (k.log, refl); changes = omega arith; faults = omega arith; standing = omega arith; put_faults = omega arith; stopped = λ r. absurd (⊎_elim (λ a. omega arith) (λ b. omega arith) r) }
 
 pub earlier_further : (a b c : Known) → Earlier a b → Earlier b c → c.opening ≡ b.opening → Earlier a c
 earlier_further a b c ab bc same =
@@ -52,11 +52,35 @@ earlier_further a b c ab bc same =
       log = (ab.log.0 ++ bc.log.0, bc.log.1 ∙ (ap (λ z. z ++ bc.log.0) ab.log.1 ∙ append_assoc a.log ab.log.0 bc.log.0));
       changes = le_trans ab.changes bc.changes;
       faults = le_trans ab.faults bc.faults;
+      standing = le_trans ab.standing bc.standing;
+      put_faults = le_trans ab.put_faults bc.put_faults;
       stopped = λ r.
           let o : c.opening.faults ≡ b.opening.faults = ap (λ z. z.faults) same in
           let r' : HasRisen b.opening.faults a.faults = subst (λ z. HasRisen z a.faults) o r in
           bc.stopped (risen_more c.opening.faults a.faults b.faults ab.faults r) ∙ ab.stopped r';
     }
+
+-- no more puts failed than pieces were put
+pub sparing_itself : (k : Known) → IsSparing k k
+sparing_itself k = omega arith
+
+pub sparing_further : (a b c : Known) → IsSparing a b → IsSparing b c → IsSparing a c
+sparing_further a b c ab bc = omega arith
+
+-- a log with no line has no piece
+pub no_pieces : (log : List Logged) → length log ≡ 0 → pieces log ≡ 0
+no_pieces [] e = refl
+no_pieces (line ∷ log) e = absurd (omega arith)
+
+-- also by what two workers know together
+pub sparing_later : (o : Opening) (a b k : Known) → (length b.log ≤ length a.log → k.put_faults + pieces a.log ≤ max a.put_faults b.put_faults + pieces k.log) → (length a.log < length b.log → IsSparing b k)
+    → IsSparing (later o a b) k
+sparing_later o a b k ak bk = go (ltb (length a.log) (length b.log)) refl
+  where
+    go : (t : Bool) → ltb (length a.log) (length b.log) ≡ t
+        → k.put_faults + pieces (if t then b.log else a.log) ≤ max a.put_faults b.put_faults + pieces k.log
+    go true is = let lt : length a.log < length b.log = grind (arith, nat_tests) in let h = bk lt in omega arith
+    go false is = let le : length b.log ≤ length a.log = grind (arith, nat_tests) in let h = ak le in omega arith
 
 pub earlier_length : (a b : Known) → Earlier a b → length a.log ≤ length b.log
 earlier_length a b e = let h : length b.log ≡ length (a.log ++ e.log.0) = ap length e.log.1 in let l = length-append a.log e.log.0 in omega arith
@@ -69,22 +93,26 @@ no_rest (x ∷ xs) r e = cc
 pub earlier_first : (a k : Known) → Earlier a unknown → Earlier a k
 earlier_first a k h =
     let empty : a.log ≡ [] = no_rest a.log h.log.0 h.log.1 in
-    let c = h.changes in let f = h.faults in
+    let c = h.changes in let f = h.faults in let t = h.standing in let p = h.put_faults in
     record {
       log = (k.log, ap (λ (l : List Logged). l ++ k.log) (sym empty));
       changes = omega arith;
       faults = omega arith;
+      standing = omega arith;
+      put_faults = omega arith;
       stopped = λ r. absurd (⊎_elim (λ x. omega arith) (λ x. omega arith) r);
     }
 
 -- of two earlier times the one that knows less is the earlier
 pub earlier_between : (a b k : Known) → Earlier a k → Earlier b k → b.opening ≡ k.opening → length a.log ≤ length b.log
-    → a.changes ≤ b.changes → a.faults ≤ b.faults → Earlier a b
-earlier_between a b k ak bk same shorter fewer less =
+    → a.changes ≤ b.changes → a.faults ≤ b.faults → a.standing ≤ b.standing → a.put_faults ≤ b.put_faults → Earlier a b
+earlier_between a b k ak bk same shorter fewer less low put =
     record {
       log = prefix a.log b.log ak.log.0 bk.log.0 (sym ak.log.1 ∙ bk.log.1) shorter;
       changes = fewer;
       faults = less;
+      standing = low;
+      put_faults = put;
       stopped = λ r.
           let o : b.opening.faults ≡ k.opening.faults = ap (λ (z : Opening). z.faults) same in
           let r' : HasRisen k.opening.faults a.faults = subst (λ (z : ℕ). HasRisen z a.faults) o r in
@@ -109,19 +137,21 @@ earlier_later o a b k ak bk = go (ltb (length a.log) (length b.log)) refl
     same = sym ak.log.1 ∙ bk.log.1
 
     fits : (log : List Logged) → ((rest : List Logged) × (k.log ≡ log ++ rest)) → entries a.log ≤ entries log → entries b.log ≤ entries log
-        → Earlier record { marks = a.marks; log = log; changes = max a.changes b.changes; faults = max a.faults b.faults; opening = o } k
+        → Earlier record { marks = a.marks; log = log; changes = max a.changes b.changes; faults = max a.faults b.faults; standing = max a.standing b.standing; put_faults = max a.put_faults b.put_faults; opening = o } k
     fits log p ea eb =
         record {
           log = p;
           changes = let x = ak.changes in let y = bk.changes in omega arith;
           faults = let x = ak.faults in let y = bk.faults in omega arith;
+          standing = let x = ak.standing in let y = bk.standing in omega arith;
+          put_faults = let x = ak.put_faults in let y = bk.put_faults in omega arith;
           stopped = λ r.
               let whole : entries k.log ≡ entries log + entries p.0 = ap entries p.1 ∙ entries-append log p.0 in
               ⊎_elim (λ x. let s = ak.stopped x in omega arith) (λ y. let s = bk.stopped y in omega arith) (risen_either k.opening.faults a.faults b.faults r);
         }
 
     go : (t : Bool) → ltb (length a.log) (length b.log) ≡ t
-        → Earlier record { marks = a.marks; log = (if t then b.log else a.log); changes = max a.changes b.changes; faults = max a.faults b.faults; opening = o } k
+        → Earlier record { marks = a.marks; log = (if t then b.log else a.log); changes = max a.changes b.changes; faults = max a.faults b.faults; standing = max a.standing b.standing; put_faults = max a.put_faults b.put_faults; opening = o } k
     go true is = let lt : length a.log < length b.log = grind (arith, nat_tests) in fits b.log bk.log (entries_shorter a.log b.log ak.log.0 bk.log.0 same (omega arith)) (omega arith)
     go false is = let le : length b.log ≤ length a.log = grind (arith, nat_tests) in fits a.log ak.log (omega arith) (entries_shorter b.log a.log bk.log.0 ak.log.0 (sym same) le)
 
@@ -153,11 +183,11 @@ places_low p from count h = let e = places_next p from count in lemma (stands p 
 -- a worker that ended
 pub ended_knows : (book : Known) (filled : Bool) → KnowsBook book filled no_turn
 ended_knows book filled =
-    record { earlier = earlier_unknown book; epoch = omega arith; opening = λ e. absurd (false≢true e); blank = λ e. refl; made = λ p h. absurd (omega arith); one = earlier_unknown book; other = earlier_unknown book }
+    record { earlier = earlier_unknown book; sparing = λ e. absurd (false≢true e); epoch = omega arith; opening = λ e. absurd (false≢true e); blank = λ e. refl; made = λ p h. absurd (omega arith); one = earlier_unknown book; other = earlier_unknown book }
   where
     false≢true : false ≡ true → ⊥
     false≢true e = cc
 
 -- a worker that was split off
 pub beginner_knows : (book : Known) (filled : Bool) (v : Turn) → KnowsBook book filled v → KnowsBook book filled (beginner v)
-beginner_knows book filled v k = record { earlier = k.earlier; epoch = k.epoch; opening = k.opening; blank = k.blank; made = λ p h. absurd (omega arith); one = earlier_unknown book; other = earlier_unknown book }
+beginner_knows book filled v k = record { earlier = k.earlier; sparing = k.sparing; epoch = k.epoch; opening = k.opening; blank = k.blank; made = λ p h. absurd (omega arith); one = earlier_unknown book; other = earlier_unknown book }

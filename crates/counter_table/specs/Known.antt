@@ -5,6 +5,7 @@ use Rattle.sdls_base.specs.declared.entry.Logged.TheVariants.{Entry, Piece}
 use Rattle.unit_plan.specs.PlanLines.{no_lines}
 use Rattle.unit_state.specs.Initial.{bare}
 use Rattle.counter_table.specs.declared.view.Opening.{Opening}
+use Rattle.counter_table.specs.Trail.{no_trace}
 use Rattle.counter_table.specs.declared.view.Known.{Known}
 
 -- a row that the book lacks has mark 1
@@ -20,6 +21,11 @@ abbrev pub entries : List Logged → ℕ
 entries [] = 0
 entries (line ∷ log) = (if is_entry line then 1 else 0) + entries log
 
+-- how many lines of the log are pieces
+abbrev pub pieces : List Logged → ℕ
+pieces [] = 0
+pieces (line ∷ log) = (if is_entry line then 0 else 1) + pieces log
+
 -- a count of faults rose: it is greater, or stands at its last value
 abbrev pub HasRisen : ℕ → ℕ → Type 0
 HasRisen before after = (before < after) ⊎ (18446744073709551615 ≤ after)
@@ -29,7 +35,13 @@ pub record Earlier (one other : Known) : Type 0 where
   pub log : (rest : List Logged) × (other.log ≡ one.log ++ rest)
   pub changes : one.changes ≤ other.changes
   pub faults : one.faults ≤ other.faults
+  pub standing : one.standing ≤ other.standing
+  pub put_faults : one.put_faults ≤ other.put_faults
   pub stopped : HasRisen other.opening.faults one.faults → entries other.log ≡ entries one.log
+
+-- from the one to the other no more puts failed than pieces were put
+abbrev pub IsSparing : Known → Known → Type 0
+IsSparing one other = other.put_faults + pieces one.log ≤ one.put_faults + pieces other.log
 
 -- no mark fell
 abbrev pub KeepsMarks : Known → Known → Type 0
@@ -39,6 +51,7 @@ KeepsMarks one other = (row : ℕ) → mark_of one row ≤ mark_of other row
 pub record MayGive (known held : Known) : Type 0 where
   pub marks : KeepsMarks known held
   pub earlier : Earlier known held
+  pub sparing : IsSparing known held
   pub opening : held.opening ≡ known.opening
   pub changes : held.changes ≡ known.changes
 
@@ -49,10 +62,10 @@ pub record MayFill (book : Known) : Type 0 where
 
 -- before a book was filled
 abbrev pub unopened : Opening
-unopened = record { image = []; plan = no_lines; start = bare no_lines; faults = 0 }
+unopened = record { image = []; plan = no_lines; start = bare no_lines; trail = no_trace; faults = 0 }
 
 abbrev pub unknown : Known
-unknown = record { marks = []; log = []; changes = 0; faults = 0; opening = unopened }
+unknown = record { marks = []; log = []; changes = 0; faults = 0; standing = 0; put_faults = 0; opening = unopened }
 
 abbrev pub longer : List Logged → List Logged → List Logged
 longer one other = if nat_lt (length one) (length other) then other else one
@@ -60,4 +73,12 @@ longer one other = if nat_lt (length one) (length other) then other else one
 -- what two workers know together
 abbrev pub later : Opening → Known → Known → Known
 later opening one other =
-    record { marks = one.marks; log = longer one.log other.log; changes = max one.changes other.changes; faults = max one.faults other.faults; opening = opening }
+    record {
+      marks = one.marks;
+      log = longer one.log other.log;
+      changes = max one.changes other.changes;
+      faults = max one.faults other.faults;
+      standing = max one.standing other.standing;
+      put_faults = max one.put_faults other.put_faults;
+      opening = opening;
+    }

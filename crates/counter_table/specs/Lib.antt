@@ -3,6 +3,7 @@ pub mod Known
 pub mod Numbers
 pub mod Play
 pub mod Rule
+pub mod Trail
 pub mod Turn
 pub mod Worker
 pub mod Whole

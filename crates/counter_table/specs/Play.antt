@@ -5,7 +5,7 @@ use Rattle.counter_table.specs.declared.view.Known.{Known}
 use Rattle.counter_table.specs.declared.view.Numbers.{Numbers}
 use Rattle.counter_table.specs.declared.view.Turn.{Turn}
 use Rattle.counter_table.specs.declared.view.View.{View}
-use Rattle.counter_table.specs.Known.{Earlier, mark_of}
+use Rattle.counter_table.specs.Known.{Earlier, IsSparing, mark_of}
 use Rattle.sdls_base.specs.Numbers.{times, once_below}
 use Rattle.counter_table.specs.Numbers.{top, arming, drawing, peeking, raising, lifting, first_numbers, no_numbers}
 use Rattle.counter_table.specs.Whole.{IsWhole, Look}
@@ -57,8 +57,17 @@ module _ {S : Type 0} where
 -- the book that was found follows what was known of it
 pub record Follows (v : Turn) (book : Known) : Type 0 where
   pub earlier : Earlier v.known book
+  pub sparing : IsSparing v.known book
   pub epoch : v.epoch ≤ book.changes
   pub opening : book.opening ≡ v.known.opening
+
+-- the book that was found is the one that was known, but for its marks
+pub record IsAsKnown (v : Turn) (book : Known) : Type 0 where
+  pub log : book.log ≡ v.known.log
+  pub changes : book.changes ≡ v.known.changes
+  pub faults : book.faults ≡ v.known.faults
+  pub standing : book.standing ≡ v.known.standing
+  pub put_faults : book.put_faults ≡ v.known.put_faults
 
 -- the numbers spent are below the book's marks
 abbrev pub IsCovered : ℕ → Numbers → Known → Type 0
@@ -69,6 +78,7 @@ module _ {B : Type 0} (told : B → Known) where
   Took count m w =
       (b : B) × (w.1 ≡ (0, Some b) ∷ m.1) × (w.0 ≡ record m.0 { turn = taking (told b) m.0.turn })
       × Follows m.0.turn (told b) × IsCovered count m.0.numbers (told b)
+      × (m.0.numbers.shares ≡ 1024 → IsAsKnown m.0.turn (told b))
 
   -- the turn was taken with the book, where it was free
   abbrev pub takes : ℕ → Me (Option B) View → ℕ → Me (Option B) View → Type 0

@@ -8,7 +8,7 @@ use Rattle.counter_table.specs.declared.view.Known.{Known}
 use Rattle.counter_table.specs.declared.view.Numbers.{Numbers}
 use Rattle.counter_table.specs.declared.view.Turn.{Turn}
 use Rattle.counter_table.specs.declared.view.View.{View}
-use Rattle.counter_table.specs.Known.{mark_of, Earlier, unknown}
+use Rattle.counter_table.specs.Known.{mark_of, Earlier, IsSparing, unknown}
 use Rattle.sdls_base.specs.Numbers.{one_if, times, total, once_below}
 use Rattle.counter_table.specs.Numbers.{count_of, amount, top, is_armed, is_last, no_numbers}
 use Rattle.counter_table.specs.Turn.{stands, no_turn}
@@ -64,12 +64,20 @@ pub record NumbersFit (count : ℕ) (words : List ℕ) (views : List Numbers) : 
 -- what a worker knows of the book, where this is the book at home, or out as its holder knows it
 pub record KnowsBook (book : Known) (filled : Bool) (v : Turn) : Type 0 where
   pub earlier : Earlier v.known book
+  pub sparing : v.filled ≡ true → IsSparing v.known book
   pub epoch : v.epoch ≤ book.changes
   pub opening : v.filled ≡ true → (filled ≡ true) × (v.known.opening ≡ book.opening)
   pub blank : v.filled ≡ false → v.known ≡ unknown
   pub made : (place : ℕ) → 0 < stands place v.made → place < length v.known.log
   pub one : Earlier v.one book
   pub other : Earlier v.other book
+
+-- each count of the book is one that some worker knows
+pub record IsReached (book : Known) (views : List Turn) : Type 0 where
+  pub changes : book.changes ≤ greatest (λ v. v.known.changes) views
+  pub faults : book.faults ≤ greatest (λ v. v.known.faults) views
+  pub standing : book.standing ≤ greatest (λ v. v.known.standing) views
+  pub put_faults : book.put_faults ≤ greatest (λ v. v.known.put_faults) views
 
 module _ {B : Type 0} (told : B → Known) where
   -- where the book is
@@ -102,6 +110,7 @@ module _ {B : Type 0} (told : B → Known) where
     -- all places of the log, each made once
     pub made : (place : ℕ) → total (λ v. stands place v.made) views ≡ once_below place (length book.log)
     pub known : filled ≡ true → 0 < total (λ v. one_if v.filled) views
+    pub reached : IsReached book views
     pub each : (id : ℕ) (v : Turn) → get_elem? views id ≡ slot.some v → KnowsBook book filled v
 
   -- the rule

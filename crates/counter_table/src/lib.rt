@@ -20,4 +20,4 @@ mod view;
 pub use counters::{Counters, Held, Worker};
 pub use rule::{Counted, Rule};
 pub use ticket::{Arm, Armed, Funded, Ticket};
-pub use view::{Known, Numbers, Opening, Turn, View};
+pub use view::{Known, Numbers, Opening, Trail, Turn, View};

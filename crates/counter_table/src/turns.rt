@@ -3,7 +3,7 @@ ghost use Rattle.std.specs.Prelude.{◌≡◌, ◌+◌, ◌<◌, ◌≤◌, ◌^
 ghost use Rattle.counter_table.specs.Known.{mark_of, KeepsMarks, MayFill, MayGive};
 ghost use Rattle.counter_table.specs.Numbers.{lifting, raising, top};
 ghost use Rattle.counter_table.specs.Turn.{epoch_seen, filling, giving, learning, seeing, taking, turning};
-ghost use Rattle.counter_table.specs.Play.{Follows, IsCovered, Took};
+ghost use Rattle.counter_table.specs.Play.{Follows, IsAsKnown, IsCovered, Took};
 ghost use Rattle.counter_table.specs.Worker.{view, rows_of, IsOf, IsSame, KeepsNumbers, KeepsTurn};
 
 use crate::counters::{Counters, Held, Worker};
@@ -51,6 +51,9 @@ impl<B: Counted> Counters<B> {
 
         // No number was spent that is not below its row's mark.
         ensures covered { IsCovered (rows_of self.now) (view worker.old).numbers (B.told result.book) }
+
+        // Who has all shares finds the book as it was known.
+        ensures as_known { (view worker.old).numbers.shares ≡ 1024 → IsAsKnown (view worker.old).turn (B.told result.book) }
     {
         self.seize::<Brand, R>(rt, &mut worker.seat, self.rows);
         let book = self.lift_out(&mut worker.seat);

@@ -2,6 +2,7 @@
 
 use sdls_base::Logged;
 use std::collections::LinkedList;
+use std::marker::Model;
 use unit_plan::Plan;
 use unit_state::State;
 
@@ -31,12 +32,27 @@ pub struct Numbers {
     pub tickets: u64,
 }
 
-/// What a run began with: the image as it was read, the plan that it holds and the state that it shows, and the count of
-/// faults.
+/// What a site held, call by call. Contracts see it as its trace.
+pub struct Trail {
+    octets: LinkedList<u8>,
+}
+
+impl Model for Trail {
+    ghost use Rattle.sdls_outside.specs.Moments.{Trace};
+    ghost use Rattle.counter_table.specs.Trail.{no_trace};
+
+    ghost Value = { Trace };
+
+    ghost view = { λ _. no_trace };
+}
+
+/// What a run began with: the image as it was read, the plan that it holds and the state that it shows; and of the site, as
+/// the opening left it, what it held until then and the count of faults.
 pub struct Opening {
     pub image: LinkedList<u8>,
     pub plan: Plan,
     pub start: State,
+    pub trail: Trail,
     pub faults: u64,
 }
 
@@ -50,6 +66,10 @@ pub struct Known {
     pub changes: u64,
     /// The site's count of faults.
     pub faults: u64,
+    /// How many entries of the log stand: all but a last one whose append failed.
+    pub standing: u64,
+    /// The site's count of puts that failed.
+    pub put_faults: u64,
     pub opening: Opening,
 }
 

@@ -1,11 +1,11 @@
 -- The words of the rows, raised one after the other, and what the first worker knows.
-use Rattle.std.proofs.Common.{◌≡◌, ◌≢◌, ◌⊎◌, inl, inr, ℕ, zero, suc, ◌+◌, ◌-◌, ◌<◌, ◌≤◌, max, nat_lt, Bool, true, false, List, [], ◌∷◌, ◌++◌, length, take, refl, sym, ap, subst, ◌∙◌, append-nil, eq-eqb, ◌==◌, if◌then◌else◌, arith}
+use Rattle.std.proofs.Common.{◌≡◌, ◌≢◌, ◌⊎◌, inl, inr, ℕ, zero, suc, ◌+◌, ◌-◌, ◌<◌, ◌≤◌, max, nat_lt, Bool, true, false, List, [], ◌∷◌, ◌++◌, length, refl, sym, ap, subst, ◌∙◌, append-nil, eq-eqb, ◌==◌, if◌then◌else◌, arith}
+use Rattle.std.proofs.lemmas.Bool.Decides.{nat_tests}
 use mathlib.Core.Logic.{dite}
 use native.Mathlib.Decide.{ℕ_discrete}
 use Rattle.sdls_outside.specs.Moments.{Trace}
 use Rattle.sdls_base.specs.Numbers.{one_if, once_below}
 use Rattle.sdls_base.specs.declared.entry.Logged.{Logged}
-use Rattle.sdls_base.specs.declared.entry.Entry.{Entry}
 use Rattle.unit_plan.specs.PlanLines.{PlanLines}
 use Rattle.unit_state.specs.declared.state.State.{State}
 use Rattle.unit_state.specs.History.{after_first}
@@ -16,17 +16,18 @@ use Rattle.counter_table.specs.declared.view.Turn.{Turn}
 use Rattle.counter_table.specs.declared.view.View.{View}
 use Rattle.counter_table.specs.declared.counters.Counters.{Counters}
 use Rattle.counter_table.specs.declared.counters.Worker.{Worker}
-use Rattle.counter_table.specs.Known.{mark_of}
-use Rattle.counter_table.specs.Numbers.{top, raising, lifting, joined, keeper, newcomer, first_numbers}
+use Rattle.counter_table.specs.Known.{mark_of, pieces}
+use Rattle.counter_table.specs.Numbers.{amount, count_of, top, raising, lifting, joined, keeper, newcomer, first_numbers}
 use Rattle.counter_table.specs.Turn.{stands, places, no_turn, filling, learning, merged, beginner}
 use Rattle.counter_table.specs.Whole.{IsWhole}
 use Rattle.counter_table.specs.Worker.{view}
 use Rattle.unit_history.specs.Log.{entries_of}
 use Rattle.unit_book.specs.Book.{BookView, IsKept}
 use Rattle.unit_book.specs.Marks.{mark_at}
+use Rattle.unit_book.proofs.KeptLaws.{bounds_of}
 use Rattle.shared_unit.specs.Told.{told_by}
 use Rattle.shared_unit.specs.Turn.{IsReady, TakesOnce, taking_once}
-use Rattle.shared_unit.specs.Sharing.{Begins, IsRaised, KnowsHeld}
+use Rattle.shared_unit.specs.Sharing.{Begins, IsRaised}
 use Rattle.shared_unit.proofs.Reserved.{not_both}
 use Rattle.shared_unit.proofs.Tops.{top-append}
 
@@ -41,6 +42,7 @@ raised_none book v known = record {
   spent = refl;
   shares = refl;
   raised = λ row h. absurd (omega arith);
+  low = λ row. omega arith;
 }
 
 top_raised : (row m mark : ℕ) (ps : List (ℕ × ℕ)) → mark ≤ top row (ps ++ (row, m) ∷ (row, max m mark) ∷ [])
@@ -48,6 +50,23 @@ top_raised row m mark ps = rw (top-append row ps ((row, m) ∷ (row, max m mark)
 
 top_kept : (row : ℕ) (ps qs : List (ℕ × ℕ)) → top row ps ≤ top row (ps ++ qs)
 top_kept row ps qs = let h = top-append row ps qs in omega arith
+
+low_numbers : (row n mark : ℕ) (ps : List (ℕ × ℕ)) → top row (ps ++ (n, mark) ∷ []) ≡ max (top row ps) (max (if n == row then mark else 0) 0)
+low_numbers row n mark ps = top-append row ps ((n, mark) ∷ [])
+
+none_else : (n row mark : ℕ) → (row ≡ n → ⊥) → max (if n == row then mark else 0) 0 ≡ 0
+none_else n row mark apart = grind (arith, nat_tests)
+
+some_here : (n row mark : ℕ) → max (if n == row then mark else 0) 0 ≤ mark
+some_here n row mark = go (n == row)
+  where
+    go : (b : Bool) → max (if b then mark else 0) 0 ≤ mark
+    go true = omega arith
+    go false = omega arith
+
+none_counted : (row : ℕ) (ps : List (ℕ × ℕ)) → ps ≡ [] → count_of row ps ≡ 0
+none_counted row [] e = refl
+none_counted row (p ∷ ps) e = absurd cc
 
 pub raised_more : (book : Known) (n m mark lifted : ℕ) (v u x w : View) → IsRaised book n v u → mark ≡ mark_of book n
     → x.numbers ≡ raising n mark m u.numbers → x.turn ≡ u.turn → w.numbers ≡ lifting n lifted x.numbers → w.turn ≡ learning book.marks x.turn
@@ -63,6 +82,7 @@ raised_more book n m mark lifted v u x w r is one same two learned =
       spent = ap (λ (k : Numbers). k.spent) numbers ∙ r.spent;
       shares = ap (λ (k : Numbers). k.shares) numbers ∙ r.shares;
       raised = λ row h. dite (ℕ_discrete row n) (λ e. here row e) (λ a. before row a h);
+      low = λ row. dite (ℕ_discrete row n) (λ e. low_here row e) (λ a. low_else row a);
     } where
       numbers : w.numbers ≡ lifting n lifted (raising n mark m u.numbers)
       numbers = two ∙ ap (lifting n lifted) one
@@ -75,6 +95,24 @@ raised_more book n m mark lifted v u x w r is one same two learned =
           let a : mark ≤ top n w.numbers.nexts = subst (λ (ps : List (ℕ × ℕ)). mark ≤ top n ps) (sym nexts) (top_raised n m mark u.numbers.nexts) in
           let b : mark_of book n ≤ top n w.numbers.nexts = omega arith in
           subst (λ (q : ℕ). mark_of book q ≤ top q w.numbers.nexts) (sym e) b
+
+      raised_is : w.numbers.raised ≡ u.numbers.raised ++ (n, mark) ∷ []
+      raised_is = ap (λ (k : Numbers). k.raised) numbers
+
+      low_here : (row : ℕ) → row ≡ n → top row w.numbers.raised ≤ max (top row v.numbers.raised) (mark_of book row)
+      low_here row e =
+          let a = ap (top row) raised_is in
+          let b = low_numbers row n mark u.numbers.raised in
+          let c = some_here n row mark in
+          let d : mark ≡ mark_of book row = is ∙ ap (mark_of book) (sym e) in
+          let l = r.low row in omega arith
+
+      low_else : (row : ℕ) → row ≢ n → top row w.numbers.raised ≤ max (top row v.numbers.raised) (mark_of book row)
+      low_else row apart =
+          let a = ap (top row) raised_is in
+          let b = low_numbers row n mark u.numbers.raised in
+          let c = none_else n row mark apart in
+          let l = r.low row in omega arith
 
       before : (row : ℕ) → row ≢ n → row < n + 1 → mark_of book row ≤ top row w.numbers.nexts
       before row apart h =
@@ -112,19 +150,28 @@ module _ (k : Known) (t u : Turn) (is : u ≡ taking_once k k t) where
   pub back_opening : (merged u (beginner u)).known.opening ≡ k.opening
   back_opening = ap (λ (v : Turn). (merged v (beginner v)).known.opening) is ∙ same_if t.filled k.opening
 
+  pub back_puts : (merged u (beginner u)).known.put_faults ≡ k.put_faults
+  back_puts = ap (λ (v : Turn). (merged v (beginner v)).known.put_faults) is ∙ (let p : max k.put_faults k.put_faults ≡ k.put_faults = omega arith in p)
+
+  pub back_faults : (merged u (beginner u)).known.faults ≡ k.faults
+  back_faults = ap (λ (v : Turn). (merged v (beginner v)).known.faults) is ∙ (let p : max k.faults k.faults ≡ k.faults = omega arith in p)
+
+  pub back_standing : (merged u (beginner u)).known.standing ≡ k.standing
+  back_standing = ap (λ (v : Turn). (merged v (beginner v)).known.standing) is ∙ (let p : max k.standing k.standing ≡ k.standing = omega arith in p)
+
   pub back_made : t.made ≡ [] → (merged u (beginner u)).made ≡ []
   back_made none = append-nil u.made ∙ ap (λ (v : Turn). v.made) is
       ∙ ap (λ (ps : List ℕ). ps ++ places (length k.log) (length k.log - length k.log)) none
       ∙ no_places (length k.log) (length k.log - length k.log) (omega arith)
 
-module _ {O B : Type 0} (told : Bool) (trace : O → Trace) (faults : O → ℕ) (book found : BookView O) where
+module _ {O B : Type 0} (told : Bool) (trace : O → Trace) (faults puts : O → ℕ) (book found : BookView O) where
   pub begins : (counters : Counters B) (plan : PlanLines) (worker : Worker B) (t : Turn) (v w u : View)
-      → t ≡ filling (told_by faults book) no_turn → book.log ≡ [] → TakesOnce (told_by faults found) (told_by faults found) t u.turn
-      → IsKept told trace faults found → v.numbers ≡ first_numbers → IsRaised (told_by faults found) 512 v w → u.numbers ≡ w.numbers
+      → t ≡ filling (told_by trace faults puts book) no_turn → book.log ≡ [] → TakesOnce (told_by trace faults puts found) (told_by trace faults puts found) t u.turn
+      → IsKept told trace faults book → IsKept told trace faults found → v.numbers ≡ first_numbers → IsRaised (told_by trace faults puts found) 512 v w → u.numbers ≡ w.numbers
       → view worker ≡ record { numbers = joined (keeper u.numbers) (newcomer u.numbers); turn = merged u.turn (beginner u.turn) }
       → IsReady counters plan worker → ((view worker).numbers.shares ≡ 1024 → IsWhole 512 (view worker))
-      → Begins faults book counters plan worker
-  begins counters plan worker t v w u filled first takes kept numbers raised later is ready whole =
+      → Begins trace faults puts book counters plan worker
+  begins counters plan worker t v w u filled first takes begun kept numbers raised later is ready whole =
       record {
         ready = ready;
         shares = shares;
@@ -136,10 +183,16 @@ module _ {O B : Type 0} (told : Bool) (trace : O → Trace) (faults : O → ℕ)
         log = log;
         opening = opening;
         whole = whole shares;
-        words = words;
+        standing = ap (λ (x : View). x.turn.known.standing) is ∙ back_standing k t u.turn takes.turn ∙ none_stand found kept log_found
+            ∙ sym (none_stand book begun first);
+        put_faults = put_faults;
+        later = faults_later;
+        words = λ row h. (exact row h).0;
+        raised = raised_low;
+        added = λ row h. (exact row h).1;
       } where
         k : Known
-        k = told_by faults found
+        k = told_by trace faults puts found
 
         shares : (view worker).numbers.shares ≡ 1024
         shares =
@@ -150,19 +203,19 @@ module _ {O B : Type 0} (told : Bool) (trace : O → Trace) (faults : O → ℕ)
 
         made : (view worker).turn.made ≡ []
         made = ap (λ (x : View). x.turn.made) is
-            ∙ back_made (told_by faults found) t u.turn takes.turn
+            ∙ back_made (told_by trace faults puts found) t u.turn takes.turn
             (ap (λ (x : Turn). x.made) filled ∙ no_places 0 (length book.log) (ap length first))
 
         log : (view worker).turn.known.log ≡ []
         log = empty_log (view worker).turn.known.log
             (λ place. sym (ap (stands place) made) ∙ (whole shares).made place)
 
-        opening : (view worker).turn.known.opening ≡ (told_by faults book).opening
-        opening = ap (λ (x : View). x.turn.known.opening) is ∙ back_opening (told_by faults found) t u.turn takes.turn
+        opening : (view worker).turn.known.opening ≡ (told_by trace faults puts book).opening
+        opening = ap (λ (x : View). x.turn.known.opening) is ∙ back_opening (told_by trace faults puts found) t u.turn takes.turn
             ∙ takes.follows.opening ∙ ap (λ (x : Turn). x.known.opening) filled
 
         log_found : found.log ≡ []
-        log_found = sym (ap (λ (x : View). x.turn.known.log) is ∙ back_log (told_by faults found) t u.turn takes.turn) ∙ log
+        log_found = sym (ap (λ (x : View). x.turn.known.log) is ∙ back_log (told_by trace faults puts found) t u.turn takes.turn) ∙ log
 
         start : found.start ≡ book.start
         start = ap (λ (o : Opening). o.start) (takes.follows.opening ∙ ap (λ (x : Turn). x.known.opening) filled)
@@ -171,6 +224,46 @@ module _ {O B : Type 0} (told : Bool) (trace : O → Trace) (faults : O → ℕ)
         state = kept.led ∙ ap (λ (ls : List Logged). after_first found.start (entries_of ls) found.standing) log_found
             ∙ first_none found.start found.standing ∙ start
 
+        none_stand : (b : BookView O) → IsKept told trace faults b → b.log ≡ [] → b.standing ≡ 0
+        none_stand b held none =
+            let e = ap (λ (ls : List Logged). length (entries_of ls)) none in
+            let s = held.stands in omega arith
+
+        known_filled : t.known ≡ told_by trace faults puts book
+        known_filled = ap (λ (x : Turn). x.known) filled
+
+        put_faults : (view worker).turn.known.put_faults ≡ puts book.site
+        put_faults =
+            let a = ap (λ (x : View). x.turn.known.put_faults) is ∙ back_puts k t u.turn takes.turn in
+            let b = ap (λ (x : Known). x.put_faults) known_filled in
+            let c = takes.follows.earlier.put_faults in
+            let d = takes.follows.sparing in
+            let e = ap (λ (x : Known). pieces x.log) known_filled ∙ ap pieces first in
+            let f = ap pieces log_found in omega arith
+
+        faults_later : faults book.site ≤ (view worker).turn.known.faults
+        faults_later =
+            let a = ap (λ (x : View). x.turn.known.faults) is ∙ back_faults k t u.turn takes.turn in
+            let b = ap (λ (x : Known). x.faults) known_filled in
+            let c = takes.follows.earlier.faults in omega arith
+
+        marked : (row : ℕ) → mark_of (told_by trace faults puts found) row ≡ mark_at book.start row
+        marked row = ap (λ (s : State). mark_at s row) state
+
+        raised_low : (row : ℕ) → row < 512 → top row (view worker).numbers.raised ≤ mark_at book.start row
+        raised_low row h =
+            let a = ap (λ (x : View). top row x.numbers.raised) is in
+            let b = ap (λ (ps : List (ℕ × ℕ)). top row ps) (append-nil u.numbers.raised) in
+            let c = ap (λ (n : Numbers). top row n.raised) later in
+            let d = raised.low row in
+            let e = ap (λ (n : Numbers). top row n.raised) numbers in
+            let m = marked row in omega arith
+
+        none_drawn : (row : ℕ) → count_of row (view worker).numbers.drawn ≡ 0
+        none_drawn row = none_counted row (view worker).numbers.drawn
+            (ap (λ (x : View). x.numbers.drawn) is ∙ append-nil u.numbers.drawn ∙ ap (λ (n : Numbers). n.drawn) later ∙ raised.drawn
+            ∙ ap (λ (n : Numbers). n.drawn) numbers)
+
         words : (row : ℕ) → row < 512 → mark_at book.start row ≤ top row (view worker).numbers.nexts
         words row h =
             let a : mark_at book.start row ≤ top row w.numbers.nexts =
@@ -178,3 +271,29 @@ module _ {O B : Type 0} (told : Bool) (trace : O → Trace) (faults : O → ℕ)
             let b = top_kept row u.numbers.nexts u.numbers.nexts in
             let c = ap (λ (n : Numbers). top row n.nexts) later in
             let d = ap (λ (x : View). top row x.numbers.nexts) is in omega arith
+
+        exact : (row : ℕ) → row < 512 → (top row (view worker).numbers.nexts ≡ mark_at book.start row)
+            × (top row (view worker).numbers.nexts ≡ 1 + amount row (view worker).numbers.added)
+        exact row h =
+            let (next, stands_at) = (whole shares).rows row h in
+            let low = words row h in
+            let one = (bounds_of found.state kept.rules).from_one row in
+            let m = marked row in
+            let r = raised_low row h in
+            let none = none_drawn row in
+            let bound = stands_at.bound in
+            let seen = stands_at.seen in
+            let grown = stands_at.grown in
+            by_last next stands_at.last low m one r none bound seen grown where
+              by_last : (next : ℕ) → (next ≡ 1) ⊎ (top row (view worker).numbers.nexts ≡ next)
+                  → mark_at book.start row ≤ top row (view worker).numbers.nexts
+                  → mark_of (told_by trace faults puts found) row ≡ mark_at book.start row
+                  → 1 ≤ mark_of (told_by trace faults puts found) row
+                  → top row (view worker).numbers.raised ≤ mark_at book.start row
+                  → count_of row (view worker).numbers.drawn ≡ 0
+                  → next ≤ max 1 (top row (view worker).numbers.raised) + count_of row (view worker).numbers.drawn
+                  → top row (view worker).numbers.nexts ≤ next → next ≡ 1 + amount row (view worker).numbers.added
+                  → (top row (view worker).numbers.nexts ≡ mark_at book.start row)
+                  × (top row (view worker).numbers.nexts ≡ 1 + amount row (view worker).numbers.added)
+              by_last next (inl e) low m one r none bound seen grown = (omega arith, omega arith)
+              by_last next (inr e) low m one r none bound seen grown = (omega arith, omega arith)

@@ -1,5 +1,5 @@
 -- The checks for which the plan is enough, and those in a state.
-use Rattle.std.proofs.Common.{◌≡◌, ℕ, Bool, true, false, if◌then◌else◌, List, [], ◌∷◌, Option, Some, None, is_none, is_some, IsSome, unwrap_or, IsSomeAnd, Result, Ok, Err, refl, sym, ap, subst, ◌∙◌}
+use Rattle.std.proofs.Common.{◌≡◌, ℕ, Bool, true, false, List, [], ◌∷◌, Option, Some, None, is_none, is_some, IsSome, unwrap_or, IsSomeAnd, Result, Ok, Err, refl, sym, ap, subst, ◌∙◌}
 use Rattle.std.specs.Option.{option_map, option_and_then, option_map_or}
 use Rattle.sdls_base.specs.FirstFailing.{first_failing}
 use Rattle.sdls_base.specs.declared.layout.FrameFault.{FrameFault}
@@ -13,7 +13,6 @@ use Rattle.unit_state.specs.State.{key_row}
 use Rattle.frame_shield.specs.declared.binding.Binding.{Binding}
 use Rattle.frame_shield.specs.declared.protecting.ShieldFault.{ShieldFault}
 use Rattle.frame_shield.specs.declared.protecting.ShieldFault.TheVariants.{Layout, Channel, State as NoSender}
-use Rattle.frame_shield.specs.Binding.{clear_fault}
 use Rattle.frame_shield.specs.ShieldFault.{fault_number}
 use Rattle.frame_checks.specs.Header.{lacks_header, is_clear, channel_of}
 use Rattle.frame_checks.specs.Binding.{binding_of}

@@ -1,13 +1,10 @@
 -- The parts of a command, put together.
-use Rattle.std.proofs.Common.{◌≡◌, ◌⊎◌, inl, inr, ℕ, ◌+◌, ◌<◌, ◌≤◌, Bool, true, false, if◌then◌else◌, List, [], ◌∷◌, ◌++◌, Option, Some, None, IsSome, IsSomeAnd, Result, Ok, Err, refl, sym, ap, subst, ◌∙◌, arith}
+use Rattle.std.proofs.Common.{◌≡◌, ◌⊎◌, inl, inr, ℕ, ◌+◌, ◌<◌, Bool, true, false, if◌then◌else◌, List, Option, Some, None, IsSome, IsSomeAnd, Ok, refl, sym, ap, subst, ◌∙◌, arith}
 use Rattle.std.specs.Option.{option_map_or}
-use Rattle.sdls_base.specs.KeyId.{end_of}
 use Rattle.sdls_base.specs.declared.entry.Seen.{Seen}
 use Rattle.sdls_base.specs.declared.entry.Seen.TheVariants as sights
 use Rattle.sdls_outside.specs.Moments.{Trace}
 use Rattle.key_book.specs.declared.key_row.KeyRow.{KeyRow}
-use Rattle.key_book.specs.KeyBook.{place_of, row_of}
-use Rattle.unit_state.specs.declared.state.State.{State}
 use Rattle.unit_state.specs.State.{key_row}
 use Rattle.unit_state.specs.Restart.{counts, still}
 use Rattle.ep_core.specs.declared.need.Need.{Need}
@@ -17,7 +14,7 @@ use Rattle.ep_core.specs.Seen.{Fits}
 use Rattle.counter_table.specs.declared.view.Known.{Known}
 use Rattle.counter_table.specs.declared.view.Numbers.{Numbers}
 use Rattle.counter_table.specs.declared.view.Turn.{Turn}
-use Rattle.counter_table.specs.Known.{MayGive, mark_of}
+use Rattle.counter_table.specs.Known.{MayGive}
 use Rattle.counter_table.specs.Turn.{taking, giving, learning}
 use Rattle.counter_table.specs.Play.{Follows}
 use Rattle.unit_history.specs.Entries.{IsNeedOf, record_entry}
@@ -34,22 +31,24 @@ use Rattle.shared_unit.specs.Told.{told_by}
 use Rattle.shared_unit.specs.Going.{GoesUp}
 use Rattle.shared_unit.specs.Turn.{Visits}
 use Rattle.shared_unit.specs.Sharing.{KnowsHeld}
-use Rattle.shared_unit.specs.Commanding.{Satisfies, FailsFor, IsCommanded, knowing}
+use Rattle.shared_unit.specs.Commanding.{Satisfies, knowing}
 use Rattle.shared_unit.proofs.Epochs.{state_at_stays}
 use Rattle.shared_unit.proofs.Places.{place_there}
 use Rattle.shared_unit.proofs.Reserved.{reserves_place}
-use Rattle.shared_unit.proofs.Steps.{Continues, continues, goes_opening}
+use Rattle.shared_unit.proofs.Steps.{continues, goes_opening}
 use Rattle.shared_unit.proofs.Passing.{reserves_changes}
 
 above_held : (o : Option KeyRow) (n : ℕ) → IsSome o → n < option_map_or (λ (held : KeyRow). held.mark) o 1 → IsSomeAnd o (λ held. n < held.mark)
 above_held (Some held) n there h = h
 above_held None n there h = absurd (cc)
 
-module _ {O : Type 0} (faults : O → ℕ) where
-  pub goes_up_then : (a b c : BookView O) → GoesUp faults a b → GoesUp faults b c → GoesUp faults a c
+module _ {O : Type 0} (faults puts : O → ℕ) where
+  pub goes_up_then : (a b c : BookView O) → GoesUp faults puts a b → GoesUp faults puts b c → GoesUp faults puts a c
   goes_up_then a b c one two = record {
     goes = goes_then faults a b c one.goes two.goes;
     marks = λ row. (let p = one.marks row in let q = two.marks row in omega arith);
+    puts_later = (let p = one.puts_later in let q = two.puts_later in omega arith);
+    sparing = (let p = one.sparing in let q = two.sparing in omega arith);
   }
 
   -- what the words show turns no epoch
@@ -74,81 +73,6 @@ module _ {O : Type 0} (faults : O → ℕ) where
   fits_need (needs.Number key) (sights.Exhausted n) found middle v w h = h.1.out.0
   fits_need need seen found middle v w h = absurd h
 
-  module _ (told : Bool) (trace : O → Trace) where
-    -- a book that goes on with the same count of changes needs the same
-    needs_same : (found middle : BookView O) → IsKept told trace faults found → IsKept told trace faults middle → GoesUp faults found middle
-        → middle.changes ≡ found.changes → still middle.state ≡ still found.state
-    needs_same found middle before after up same =
-        let k : Known = told_by faults found in
-        let l : Known = told_by faults middle in
-        let at : epoch_state middle ≡ epoch_state found =
-        state_at_stays k l up.goes.added middle.changes (goes_opening faults found middle up) up.goes.log
-        (let a = kept_changes told trace faults found before in omega arith)
-        ∙ ap (λ (n : ℕ). epoch_state (record found { changes = n })) same in
-        kept_still told trace faults middle after ∙ ap still at ∙ sym (kept_still told trace faults found before)
-
-    pub satisfies_fits : (pdu : List ℕ) (need other : Need) (seen : Seen) (found middle : BookView O) (v w : Numbers)
-        → Satisfies faults need seen found middle v w → IsNeedOf found.state pdu need
-        → IsKept told trace faults found → IsKept told trace faults middle → GoesUp faults found middle
-        → IsNeedOf middle.state pdu other → Fits middle.state other seen
-    satisfies_fits pdu need other seen found middle v w h is before after up there =
-        let served = alike_served found.plan middle.state found.state
-        (needs_same found middle before after up (satisfies_changes need seen found middle v w h)) in
-        let one : need ≡ other = one_need found.state pdu need other is ((served.needs pdu other).0 there) in
-        subst (λ (n : Need). Fits middle.state n seen) one (fits_need need seen found middle v w h)
-
-    pub holds_visits : (found given : BookView O) (t v w u : Turn) → IsKept told trace faults found → IsKept told trace faults given
-        → Follows t (told_by faults found) → GoesUp faults found given → v ≡ taking (told_by faults found) t
-        → KnowsHeld (told_by faults given) v w → u ≡ giving (told_by faults given) w → Visits told trace faults found given t u
-    holds_visits found given t v w u before after follows up took holds gave =
-        let on = continues faults found given up in
-        record {
-          found_kept = before;
-          given_kept = after;
-          takes = record {
-            follows = follows;
-            earlier = on.earlier;
-            opening = on.opening;
-            turn = gave ∙ ap (giving (told_by faults given)) holds.is
-                ∙ ap (λ (k : Turn). giving (told_by faults given) (record k { known = record k.known { marks = holds.marks; changes = given.changes } })) took;
-          };
-        }
-
-  pub holds_here : (given : BookView O) (v w : Turn) → v.known ≡ told_by faults given → w ≡ v → KnowsHeld (told_by faults given) v w
-  holds_here given v w known same = record {
-    marks = marks_of given.state;
-    below = λ row. omega arith;
-    is = same ∙ ap (λ (k : Known). record v { known = record v.known { marks = k.marks; changes = k.changes } }) known;
-  }
-
-  pub holds_of : (found middle given : BookView O) (v u w : Turn) → v.known ≡ told_by faults found → GoesUp faults found middle
-      → KeepsMarks middle.state given.state → (u ≡ v) ⊎ (u ≡ learning (marks_of middle.state) v) → w ≡ knowing given.changes u
-      → KnowsHeld (told_by faults given) v w
-  holds_of found middle given v u w known on keeps (inl same) is = record {
-    marks = marks_of found.state;
-    below = λ row. (let a = on.marks row in let b = keeps row in omega arith);
-    is = is ∙ ap (knowing given.changes) same
-        ∙ ap (λ (k : Known). record v { known = record v.known { marks = k.marks; changes = given.changes } }) known;
-  }
-  holds_of found middle given v u w known on keeps (inr learned) is = record {
-    marks = marks_of middle.state;
-    below = λ row. keeps row;
-    is = is ∙ ap (knowing given.changes) learned;
-  }
-
-  pub changes_known : (found middle : BookView O) (v u : Turn) → v.known ≡ told_by faults found
-      → (u ≡ v) ⊎ (u ≡ learning (marks_of middle.state) v) → u.known.changes ≡ found.changes
-  changes_known found middle v u known (inl same) = ap (λ (t : Turn). t.known.changes) same ∙ ap (λ (k : Known). k.changes) known
-  changes_known found middle v u known (inr learned) = ap (λ (t : Turn). t.known.changes) learned ∙ ap (λ (k : Known). k.changes) known
-
-  -- where the count of changes is as it was, the holder knows it
-  pub holds_still : (found middle given : BookView O) (v u : Turn) → v.known ≡ told_by faults found → GoesUp faults found middle
-      → KeepsMarks middle.state given.state → middle.changes ≡ found.changes → given.changes ≡ middle.changes
-      → (u ≡ v) ⊎ (u ≡ learning (marks_of middle.state) v) → KnowsHeld (told_by faults given) v u
-  holds_still found middle given v u known on keeps same last turn =
-      holds_of found middle given v u u known on keeps turn
-      (ap (λ (n : ℕ). knowing n u) (changes_known found middle v u known turn ∙ sym same ∙ sym last))
-
   pub handles_changes : (index : ℕ) (pdu : List ℕ) (seen : Seen) (found given : BookView O) (reply : Reply) (position before : ℕ)
       → Handles faults index pdu seen found given reply position → before ≡ found.changes
       → (given.changes ≡ before) ⊎ (given.changes ≡ before + 1)
@@ -170,15 +94,93 @@ module _ {O : Type 0} (faults : O → ℕ) where
     by_fault SessionFull u = absurd u
     by_fault NoMemory u = absurd u
 
-  pub holds_gives : (found given : BookView O) (t v w : Turn) → v ≡ taking (told_by faults found) t → KnowsHeld (told_by faults given) v w
-      → GoesUp faults found given → MayGive w.known (told_by faults given)
+module _ {O : Type 0} (trace : O → Trace) (faults puts : O → ℕ) where
+  module _ (told : Bool) where
+    -- a book that goes on with the same count of changes needs the same
+    needs_same : (found middle : BookView O) → IsKept told trace faults found → IsKept told trace faults middle → GoesUp faults puts found middle
+        → middle.changes ≡ found.changes → still middle.state ≡ still found.state
+    needs_same found middle before after up same =
+        let k : Known = told_by trace faults puts found in
+        let l : Known = told_by trace faults puts middle in
+        let at : epoch_state middle ≡ epoch_state found =
+        state_at_stays k l up.goes.added middle.changes (goes_opening trace faults puts found middle up) up.goes.log
+        (let a = kept_changes told trace faults found before in omega arith)
+        ∙ ap (λ (n : ℕ). epoch_state (record found { changes = n })) same in
+        kept_still told trace faults middle after ∙ ap still at ∙ sym (kept_still told trace faults found before)
+
+    pub satisfies_fits : (pdu : List ℕ) (need other : Need) (seen : Seen) (found middle : BookView O) (v w : Numbers)
+        → Satisfies faults need seen found middle v w → IsNeedOf found.state pdu need
+        → IsKept told trace faults found → IsKept told trace faults middle → GoesUp faults puts found middle
+        → IsNeedOf middle.state pdu other → Fits middle.state other seen
+    satisfies_fits pdu need other seen found middle v w h is before after up there =
+        let served = alike_served found.plan middle.state found.state
+        (needs_same found middle before after up (satisfies_changes faults puts need seen found middle v w h)) in
+        let one : need ≡ other = one_need found.state pdu need other is ((served.needs pdu other).0 there) in
+        subst (λ (n : Need). Fits middle.state n seen) one (fits_need faults puts need seen found middle v w h)
+
+    pub holds_visits : (found given : BookView O) (t v w u : Turn) → IsKept told trace faults found → IsKept told trace faults given
+        → Follows t (told_by trace faults puts found) → GoesUp faults puts found given → v ≡ taking (told_by trace faults puts found) t
+        → KnowsHeld (told_by trace faults puts given) v w → u ≡ giving (told_by trace faults puts given) w → Visits told trace faults puts found given t u
+    holds_visits found given t v w u before after follows up took holds gave =
+        let on = continues trace faults puts found given up in
+        record {
+          found_kept = before;
+          given_kept = after;
+          takes = record {
+            follows = follows;
+            earlier = on.earlier;
+            sparing = on.sparing;
+            opening = on.opening;
+            turn = gave ∙ ap (giving (told_by trace faults puts given)) holds.is
+                ∙ ap (λ (k : Turn). giving (told_by trace faults puts given) (record k { known = record k.known { marks = holds.marks; changes = given.changes } })) took;
+          };
+        }
+
+  pub holds_here : (given : BookView O) (v w : Turn) → v.known ≡ told_by trace faults puts given → w ≡ v → KnowsHeld (told_by trace faults puts given) v w
+  holds_here given v w known same = record {
+    marks = marks_of given.state;
+    below = λ row. omega arith;
+    is = same ∙ ap (λ (k : Known). record v { known = record v.known { marks = k.marks; changes = k.changes } }) known;
+  }
+
+  pub holds_of : (found middle given : BookView O) (v u w : Turn) → v.known ≡ told_by trace faults puts found → GoesUp faults puts found middle
+      → KeepsMarks middle.state given.state → (u ≡ v) ⊎ (u ≡ learning (marks_of middle.state) v) → w ≡ knowing given.changes u
+      → KnowsHeld (told_by trace faults puts given) v w
+  holds_of found middle given v u w known on keeps (inl same) is = record {
+    marks = marks_of found.state;
+    below = λ row. (let a = on.marks row in let b = keeps row in omega arith);
+    is = is ∙ ap (knowing given.changes) same
+        ∙ ap (λ (k : Known). record v { known = record v.known { marks = k.marks; changes = given.changes } }) known;
+  }
+  holds_of found middle given v u w known on keeps (inr learned) is = record {
+    marks = marks_of middle.state;
+    below = λ row. keeps row;
+    is = is ∙ ap (knowing given.changes) learned;
+  }
+
+  pub changes_known : (found middle : BookView O) (v u : Turn) → v.known ≡ told_by trace faults puts found
+      → (u ≡ v) ⊎ (u ≡ learning (marks_of middle.state) v) → u.known.changes ≡ found.changes
+  changes_known found middle v u known (inl same) = ap (λ (t : Turn). t.known.changes) same ∙ ap (λ (k : Known). k.changes) known
+  changes_known found middle v u known (inr learned) = ap (λ (t : Turn). t.known.changes) learned ∙ ap (λ (k : Known). k.changes) known
+
+  -- where the count of changes is as it was, the holder knows it
+  pub holds_still : (found middle given : BookView O) (v u : Turn) → v.known ≡ told_by trace faults puts found → GoesUp faults puts found middle
+      → KeepsMarks middle.state given.state → middle.changes ≡ found.changes → given.changes ≡ middle.changes
+      → (u ≡ v) ⊎ (u ≡ learning (marks_of middle.state) v) → KnowsHeld (told_by trace faults puts given) v u
+  holds_still found middle given v u known on keeps same last turn =
+      holds_of found middle given v u u known on keeps turn
+      (ap (λ (n : ℕ). knowing n u) (changes_known found middle v u known turn ∙ sym same ∙ sym last))
+
+  pub holds_gives : (found given : BookView O) (t v w : Turn) → v ≡ taking (told_by trace faults puts found) t → KnowsHeld (told_by trace faults puts given) v w
+      → GoesUp faults puts found given → MayGive w.known (told_by trace faults puts given)
   holds_gives found given t v w took holds up =
-      let on = continues faults found given up in
-      let known : w.known ≡ record (told_by faults found) { marks = holds.marks; changes = given.changes } =
+      let on = continues trace faults puts found given up in
+      let known : w.known ≡ record (told_by trace faults puts found) { marks = holds.marks; changes = given.changes } =
       ap (λ (k : Turn). k.known) holds.is ∙ ap (λ (k : Turn). record k.known { marks = holds.marks; changes = given.changes }) took in
-      subst (λ (k : Known). MayGive k (told_by faults given)) (sym known) (record {
+      subst (λ (k : Known). MayGive k (told_by trace faults puts given)) (sym known) (record {
         marks = holds.below;
-        earlier = record { log = on.earlier.log; changes = omega arith; faults = on.earlier.faults; stopped = on.earlier.stopped };
+        earlier = record { log = on.earlier.log; changes = omega arith; faults = on.earlier.faults; standing = on.earlier.standing; put_faults = on.earlier.put_faults; stopped = on.earlier.stopped };
+        sparing = on.sparing;
         opening = on.opening;
         changes = refl;
       })

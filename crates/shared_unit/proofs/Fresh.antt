@@ -1,7 +1,6 @@
 -- A book that was opened and has no line yet.
-use Rattle.std.proofs.Common.{◌≡◌, ℕ, zero, suc, ◌+◌, ◌≤◌, Bool, List, [], take, refl, sym, ap, subst, ◌∙◌, arith}
+use Rattle.std.proofs.Common.{◌≡◌, ℕ, zero, suc, Bool, List, [], take, refl, ap, ◌∙◌}
 use Rattle.sdls_outside.specs.Moments.{Trace}
-use Rattle.sdls_base.specs.declared.entry.Entry.{Entry}
 use Rattle.sdls_base.specs.declared.entry.Logged.{Logged}
 use Rattle.unit_state.specs.History.{epoch_after}
 use Rattle.counter_table.specs.Known.{MayFill}
@@ -14,9 +13,9 @@ none_taken : (n : ℕ) → epoch_after (take n []) ≡ 0
 none_taken zero = refl
 none_taken (suc n) = refl
 
-pub may_fill : {O : Type 0} (told : Bool) (trace : O → Trace) (faults : O → ℕ) (book : BookView O) → IsKept told trace faults book → book.log ≡ []
-    → MayFill (told_by faults book)
-may_fill told trace faults book kept first = record {
+pub may_fill : {O : Type 0} (told : Bool) (trace : O → Trace) (faults puts : O → ℕ) (book : BookView O) → IsKept told trace faults book → book.log ≡ []
+    → MayFill (told_by trace faults puts book)
+may_fill told trace faults puts book kept first = record {
   marks = λ row. (bounds_of book.state kept.rules).from_one row;
   changes = kept.epoch ∙ ap (λ (log : List Logged). epoch_after (take book.standing (entries_of log))) first ∙ none_taken book.standing;
 }

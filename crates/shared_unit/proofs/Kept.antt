@@ -2,7 +2,7 @@
 use Rattle.std.proofs.Common.{◌≡◌, ℕ, ◌<◌, ◌≤◌, Bool, List, Some, sym}
 use Rattle.sdls_outside.specs.Moments.{Trace}
 use Rattle.key_book.specs.KeyBook.{place_of}
-use Rattle.unit_state.specs.History.{at_epoch, epoch_after}
+use Rattle.unit_state.specs.History.{epoch_after}
 use Rattle.frame_checks.specs.Protecting.{protect_check}
 use Rattle.unit_history.specs.Log.{entries_of}
 use Rattle.unit_book.specs.Book.{BookView, IsKept}

@@ -1,13 +1,11 @@
 -- The parts of a call, put together: what became of the turn.
-use Rattle.std.proofs.Common.{◌≡◌, ◌⊎◌, inl, inr, ℕ, ◌+◌, ◌<◌, ◌≤◌, max, Bool, true, false, if◌then◌else◌, List, [], ◌∷◌, ◌++◌, length, Option, Some, None, Result, Ok, Err, refl, sym, ap, subst, ◌∙◌, append-nil, arith}
+use Rattle.std.proofs.Common.{◌≡◌, ◌⊎◌, inl, inr, ℕ, ◌<◌, ◌≤◌, Bool, [], Option, Some, None, Result, Ok, Err, refl, sym, ap, subst, ◌∙◌, append-nil, arith}
 use Rattle.sdls_outside.specs.Moments.{Trace}
 use Rattle.unit_plan.specs.PlanLines.{PlanLines}
-use Rattle.counter_table.specs.declared.view.Known.{Known}
 use Rattle.counter_table.specs.declared.view.Opening.{Opening}
 use Rattle.counter_table.specs.declared.view.Turn.{Turn}
 use Rattle.counter_table.specs.declared.counters.Counters.{Counters}
 use Rattle.counter_table.specs.declared.counters.Worker.{Worker}
-use Rattle.counter_table.specs.Known.{Earlier}
 use Rattle.counter_table.specs.Turn.{epoch_seen, seeing}
 use Rattle.counter_table.specs.Worker.{view, IsSame}
 use Rattle.unit_book.specs.declared.fault.BookFault.{BookFault}
@@ -18,7 +16,7 @@ use Rattle.shared_unit.specs.declared.permit.Permit.{Permit}
 use Rattle.shared_unit.specs.Told.{told_by}
 use Rattle.shared_unit.specs.Turn.{IsReady, Visits, Grows, Loads}
 use Rattle.shared_unit.specs.Funding.{Reserves}
-use Rattle.shared_unit.specs.Protecting.{AddsReserve, TakesAtMostOnce, IsTrueIfKept}
+use Rattle.shared_unit.specs.Protecting.{AddsReserve, Looks, MayTakeTurn, TakesTurn, TakesAtMostOnce, IsTrueIfKept}
 use Rattle.shared_unit.proofs.Steps.{takes_grows}
 use Rattle.shared_unit.proofs.Trust.{permit_stays}
 
@@ -69,9 +67,15 @@ ready_kept counters plan one other ready same is = record {
   planned = ap (λ (t : Turn). t.known.opening.plan) is ∙ ready.planned;
 }
 
-module _ {O : Type 0} (told : Bool) (trace : O → Trace) (faults : O → ℕ) where
+pub loads_looks : (e : ℕ) (v w : Turn) → Loads e v w → Looks v w
+loads_looks e v w l = record { epoch = e; later = (let a = l.later in omega arith); is = l.is }
+
+pub none_looks : (v w : Turn) → w ≡ v → Looks v w
+none_looks v w is = record { epoch = v.epoch; later = omega arith; is = is }
+
+module _ {O : Type 0} (told : Bool) (trace : O → Trace) (faults puts : O → ℕ) where
   pub ready_after : {B : Type 0} (counters : Counters B) (plan : PlanLines) (one other : Worker B) (found given : BookView O)
-      → IsReady counters plan one → IsSame one other → Visits told trace faults found given (view one).turn (view other).turn
+      → IsReady counters plan one → IsSame one other → Visits told trace faults puts found given (view one).turn (view other).turn
       → IsReady counters plan other
   ready_after counters plan one other found given ready same v =
       let is = v.takes.turn in
@@ -82,54 +86,86 @@ module _ {O : Type 0} (told : Bool) (trace : O → Trace) (faults : O → ℕ) w
         planned = ap (λ (t : Turn). t.known.opening.plan) is ∙ ap (λ (o : Opening). o.plan) (v.takes.opening ∙ v.takes.follows.opening) ∙ ready.planned;
       }
 
-  pub passes_loads : (e : ℕ) (v w : Turn) → Loads e v w → TakesAtMostOnce told trace faults v w
-  passes_loads e v w l = record { epoch = e; later = (let a = l.later in omega arith); is = inl l.is }
+  pub visit_takes : (done : BookView O → BookView O → Type 0) (found given : BookView O) (v w : Turn) → Visits told trace faults puts found given v w → done found given
+      → TakesTurn told trace faults puts done v w
+  visit_takes done found given v w visits does =
+      record { epoch = v.epoch; later = omega arith; found = found; given = given; visits = visits; does = does }
 
-  pub passes_none : (v w : Turn) → w ≡ v → TakesAtMostOnce told trace faults v w
-  passes_none v w is = record { epoch = v.epoch; later = omega arith; is = inl is }
+  pub takes_after : (done : BookView O → BookView O → Type 0) (e : ℕ) (v u w : Turn) → Loads e v u → TakesTurn told trace faults puts done u w
+      → TakesTurn told trace faults puts done v w
+  takes_after done e v u w l t =
+      let q : TakesTurn told trace faults puts done (seeing e v) w = subst (λ (k : Turn). TakesTurn told trace faults puts done k w) l.is t in
+      record {
+        epoch = q.epoch;
+        later = (let a = q.later in let b = l.later in omega arith);
+        found = q.found;
+        given = q.given;
+        visits = q.visits;
+        does = q.does;
+      }
 
-  pub passes_served : (key : ℕ) (found given : BookView O) (v w : Turn) → Visits told trace faults found given v w
-      → AddsReserve told trace faults key found given → TakesAtMostOnce told trace faults v w
-  passes_served key found given v w s a = record { epoch = v.epoch; later = omega arith; is = inr (found, given, key, s, a) }
+  pub takes_on : (done : BookView O → BookView O → Type 0) (v u w : Turn) → ((u ≡ v) ⊎ ((epoch : ℕ) × Loads epoch v u)) → TakesTurn told trace faults puts done u w
+      → TakesTurn told trace faults puts done v w
+  takes_on done v u w (inl same) t = subst (λ (k : Turn). TakesTurn told trace faults puts done k w) same t
+  takes_on done v u w (inr l) t = takes_after done l.0 v u w l.1 t
 
-  pub passes_after : (e : ℕ) (v u w : Turn) → Loads e v u → TakesAtMostOnce told trace faults u w → TakesAtMostOnce told trace faults v w
-  passes_after e v u w l p =
-      let P : Turn → Type 0 = λ t. TakesAtMostOnce told trace faults t w in
-      let q : TakesAtMostOnce told trace faults (seeing e v) w = subst P l.is p in
-      record { epoch = q.epoch; later = (let a = q.later in let b = l.later in omega arith); is = q.is }
+  pub may_after : (done : BookView O → BookView O → Type 0) (e : ℕ) (v u w : Turn) → Loads e v u → MayTakeTurn told trace faults puts done u w
+      → MayTakeTurn told trace faults puts done v w
+  may_after done e v u w l (inl look) =
+      let q : Looks (seeing e v) w = subst (λ (k : Turn). Looks k w) l.is look in
+      inl (record { epoch = q.epoch; later = (let a = q.later in let b = l.later in omega arith); is = q.is })
+  may_after done e v u w l (inr t) = inr (takes_after done e v u w l t)
+
+  pub may_on : (done : BookView O → BookView O → Type 0) (v u w : Turn) → ((u ≡ v) ⊎ ((epoch : ℕ) × Loads epoch v u)) → MayTakeTurn told trace faults puts done u w
+      → MayTakeTurn told trace faults puts done v w
+  may_on done v u w (inl same) t = subst (λ (k : Turn). MayTakeTurn told trace faults puts done k w) same t
+  may_on done v u w (inr l) t = may_after done l.0 v u w l.1 t
+
+  abbrev Once : BookView O → BookView O → Type 0
+  Once found given = (key : ℕ) × AddsReserve told trace faults puts key found given
+
+  pub passes_loads : (e : ℕ) (v w : Turn) → Loads e v w → TakesAtMostOnce told trace faults puts v w
+  passes_loads e v w l = inl (loads_looks e v w l)
+
+  pub passes_none : (v w : Turn) → w ≡ v → TakesAtMostOnce told trace faults puts v w
+  passes_none v w is = inl (none_looks v w is)
+
+  pub passes_served : (key : ℕ) (found given : BookView O) (v w : Turn) → Visits told trace faults puts found given v w
+      → AddsReserve told trace faults puts key found given → TakesAtMostOnce told trace faults puts v w
+  passes_served key found given v w s a = inr (visit_takes Once found given v w s (key, a))
+
+  pub passes_after : (e : ℕ) (v u w : Turn) → Loads e v u → TakesAtMostOnce told trace faults puts u w → TakesAtMostOnce told trace faults puts v w
+  passes_after e v u w l p = may_after Once e v u w l p
 
   pub passes_funded : (p : Permit) (n : ℕ) (result : Result ℕ BookFault) (v u w : Turn) (found given : BookView O)
-      → Loads p.epoch v u → Visits told trace faults found given u w → Reserves faults p.binding.key n result found given
-      → TakesAtMostOnce told trace faults v w
+      → Loads p.epoch v u → Visits told trace faults puts found given u w → Reserves faults p.binding.key n result found given
+      → TakesAtMostOnce told trace faults puts v w
   passes_funded p n result v u w found given l s r =
       passes_after p.epoch v u w l (passes_served p.binding.key found given u w s (inr (n, result, r)))
 
-  pub passes_grows : (v w : Turn) → TakesAtMostOnce told trace faults v w → Grows v w
-  passes_grows v w p = by_case p.is where
-    seen : Grows v (seeing p.epoch v)
-    seen = record {
-      earlier = record { log = ([], sym (append-nil v.known.log)); changes = omega arith; faults = omega arith; stopped = λ _. refl };
-      opening = refl;
-      epoch = p.later;
-    }
+  looks_grows : (v w : Turn) → Looks v w → Grows v w
+  looks_grows v w l = subst (λ (t : Turn). Grows v t) (sym l.is) (record {
+    earlier = record { log = ([], sym (append-nil v.known.log)); changes = omega arith; faults = omega arith; standing = omega arith; put_faults = omega arith; stopped = λ _. refl };
+    sparing = omega arith;
+    opening = refl;
+    epoch = l.later;
+  })
 
-    by_case : ((w ≡ seeing p.epoch v)
-        ⊎ ((found : BookView O) × (given : BookView O) × (key : ℕ) × Visits told trace faults found given (seeing p.epoch v) w
-        × AddsReserve told trace faults key found given)) → Grows v w
-    by_case (inl is) = subst (λ (t : Turn). Grows v t) (sym is) seen
-    by_case (inr s) =
-        let g = takes_grows (told_by faults s.0) (told_by faults s.1) (seeing p.epoch v) w s.3.takes in
-        record {
-          earlier = record { log = g.earlier.log; changes = g.earlier.changes; faults = g.earlier.faults; stopped = g.earlier.stopped };
-          opening = g.opening;
-          epoch = (let a = p.later in let b = g.epoch in omega arith);
-        }
+  pub passes_grows : (v w : Turn) → TakesAtMostOnce told trace faults puts v w → Grows v w
+  passes_grows v w (inl look) = looks_grows v w look
+  passes_grows v w (inr t) =
+      let g = takes_grows (told_by trace faults puts t.found) (told_by trace faults puts t.given) (seeing t.epoch v) w t.visits.takes in
+      record {
+        earlier = record { log = g.earlier.log; changes = g.earlier.changes; faults = g.earlier.faults; standing = g.earlier.standing; put_faults = g.earlier.put_faults; stopped = g.earlier.stopped };
+        sparing = g.sparing;
+        opening = g.opening;
+        epoch = (let a = t.later in let b = g.epoch in omega arith);
+      }
 
-  pub kept_stays : (o : Option Permit) (v w : Turn) → TakesAtMostOnce told trace faults v w → IsTrueIfKept o v → IsTrueIfKept o w
+  pub kept_stays : (o : Option Permit) (v w : Turn) → TakesAtMostOnce told trace faults puts v w → IsTrueIfKept o v → IsTrueIfKept o w
   kept_stays None v w p k = k
   kept_stays (Some q) v w p k = permit_stays q v w (passes_grows v w p) k
 
-  pub passes_on : (v u w : Turn) → ((u ≡ v) ⊎ ((epoch : ℕ) × Loads epoch v u)) → TakesAtMostOnce told trace faults u w
-      → TakesAtMostOnce told trace faults v w
-  passes_on v u w (inl same) p = subst (λ (t : Turn). TakesAtMostOnce told trace faults t w) same p
-  passes_on v u w (inr l) p = passes_after l.0 v u w l.1 p
+  pub passes_on : (v u w : Turn) → ((u ≡ v) ⊎ ((epoch : ℕ) × Loads epoch v u)) → TakesAtMostOnce told trace faults puts u w
+      → TakesAtMostOnce told trace faults puts v w
+  passes_on v u w h p = may_on Once v u w h p

@@ -1,8 +1,8 @@
 -- A reserve that succeeds leaves the mark of the key's row above the number.
-use Rattle.std.proofs.Common.{◌≡◌, ◌⊎◌, inl, inr, ℕ, ◌<◌, ◌≤◌, nat_lt, Bool, true, false, if◌then◌else◌, List, Some, Result, Ok, Err, refl, sym, ap, subst, ◌∙◌, arith}
+use Rattle.std.proofs.Common.{◌≡◌, ◌⊎◌, inl, inr, ℕ, ◌<◌, ◌≤◌, nat_lt, Bool, true, false, if◌then◌else◌, Some, Ok, refl, ap, ◌∙◌, arith}
 use Rattle.std.proofs.lemmas.Bool.Decides.{nat_tests}
+use Rattle.sdls_outside.specs.Moments.{Trace}
 use Rattle.key_book.specs.KeyBook.{place_of}
-use Rattle.unit_state.specs.declared.state.State.{State}
 use Rattle.unit_state.proofs.StateLaws.{places_kept}
 use Rattle.counter_table.specs.declared.view.Numbers.{Numbers}
 use Rattle.counter_table.specs.Known.{mark_of}
@@ -24,9 +24,9 @@ reserves_place {O} faults key n mark row found given h place = by_case h.2 where
   by_case (inr p) = ap (λ (b : BookView O). place_of b.state.keys key) p.1.1.1.is
       ∙ places_kept found.state (reserve_of found.plan found.state key n).change key row place
 
-pub reserved_mark : {O : Type 0} (faults : O → ℕ) (key n mark row : ℕ) (found given : BookView O) → Reserves faults key n (Ok mark) found given
-    → place_of found.state.keys key ≡ Some row → n < mark_of (told_by faults given) row
-reserved_mark faults key n mark row found given h place =
+pub reserved_mark : {O : Type 0} (trace : O → Trace) (faults puts : O → ℕ) (key n mark row : ℕ) (found given : BookView O) → Reserves faults key n (Ok mark) found given
+    → place_of found.state.keys key ≡ Some row → n < mark_of (told_by trace faults puts given) row
+reserved_mark trace faults puts key n mark row found given h place =
     let a = mark_placed given.state key row (reserves_place faults key n mark row found given h place) in
     let b = h.1 in
     let c = h.0 in omega arith

@@ -1,5 +1,5 @@
 -- No call but a split and a join moves shares.
-use Rattle.std.proofs.Common.{◌≡◌, ◌⊎◌, inl, inr, ℕ, ◌≤◌, Bool, List, Option, Some, None, Result, Ok, Err, refl, sym, ap, ◌∙◌}
+use Rattle.std.proofs.Common.{◌≡◌, ◌⊎◌, inl, inr, ℕ, ◌≤◌, Bool, List, Option, Result, Ok, Err, ap, ◌∙◌}
 use Rattle.sdls_base.specs.declared.entry.Seen.{Seen}
 use Rattle.sdls_base.specs.declared.entry.Seen.TheVariants as sights
 use Rattle.sdls_outside.specs.Moments.{Trace}
@@ -17,7 +17,7 @@ use Rattle.shared_unit.specs.declared.permit.Protected.{Protected}
 use Rattle.shared_unit.specs.declared.permit.Protected.TheVariants as answers
 use Rattle.shared_unit.specs.Numbers.{Draws, ComesBack, RunsOut}
 use Rattle.shared_unit.specs.Commanding.{Satisfies, IsCommanded}
-use Rattle.shared_unit.specs.Protecting.{IsKeptStep, IsProtectStep}
+use Rattle.shared_unit.specs.Protecting.{IsUnder, IsProtectStep}
 
 draws_shares : (row end n : ℕ) (v w : Numbers) → Draws row end n v w → w.shares ≡ v.shares
 draws_shares row end n v w d = ap (λ (k : Numbers). k.shares) d.is
@@ -35,22 +35,22 @@ either_shares : (row end n : ℕ) (v w : Numbers) → Draws row end n v w ⊎ Co
 either_shares row end n v w (inl d) = draws_shares row end n v w d
 either_shares row end n v w (inr b) = comes_shares row end n v w b
 
-module _ {O : Type 0} (told : Bool) (trace : O → Trace) (faults : O → ℕ) where
-  pub kept_shares : (p : Permit) (clear out : List ℕ) (a : Protected) (v w : View) → IsKeptStep told trace faults p clear out (Some a) v w
+module _ {O : Type 0} (told : Bool) (trace : O → Trace) (faults puts : O → ℕ) where
+  pub kept_shares : (p : Permit) (clear out : List ℕ) (a : Protected) (v w : View) → IsUnder told trace faults puts p clear out a v w
       → w.numbers.shares ≡ v.numbers.shares
   kept_shares p clear out (answers.Done d) v w h = h.0.uses.shares
   kept_shares p clear out answers.Clear v w h = absurd h
   kept_shares p clear out (answers.Refused fault epoch) v w h = ap (λ (k : Numbers). k.shares) h.2
-  kept_shares p clear out (answers.Exhausted key n epoch) v w h = out_shares _ _ _ v.numbers w.numbers h.3
+  kept_shares p clear out (answers.Exhausted key n epoch) v w h = out_shares _ _ _ v.numbers w.numbers h.0.3
   kept_shares p clear out (answers.Fault fault position) v w h = either_shares _ _ _ v.numbers w.numbers h.2.2
 
   pub step_shares : (plan : PlanLines) (link : ℕ) (clear out : List ℕ) (kept : Option Permit) (a : Protected) (v w : View)
-      → IsProtectStep told trace faults plan link clear out kept a v w → w.numbers.shares ≡ v.numbers.shares
-  step_shares plan link clear out kept (answers.Done d) v w h = h.3.uses.shares
+      → IsProtectStep told trace faults puts plan link clear out kept a v w → w.numbers.shares ≡ v.numbers.shares
+  step_shares plan link clear out kept (answers.Done d) v w h = h.3.0.uses.shares
   step_shares plan link clear out kept answers.Clear v w h = ap (λ (k : Numbers). k.shares) h.1
   step_shares plan link clear out kept (answers.Refused fault epoch) v w h = ap (λ (k : Numbers). k.shares) h.1
-  step_shares plan link clear out kept (answers.Exhausted key n epoch) v w h = out_shares _ _ _ v.numbers w.numbers h.3.3
-  step_shares plan link clear out kept (answers.Fault fault position) v w h = either_shares _ _ _ v.numbers w.numbers h.3.2.2
+  step_shares plan link clear out kept (answers.Exhausted key n epoch) v w h = out_shares _ _ _ v.numbers w.numbers h.2.0.3
+  step_shares plan link clear out kept (answers.Fault fault position) v w h = either_shares _ _ _ v.numbers w.numbers h.2.2.2
 
 module _ {O : Type 0} (faults : O → ℕ) where
   satisfied_shares : (need : Need) (seen : Seen) (found middle : BookView O) (v w : Numbers) → Satisfies faults need seen found middle v w

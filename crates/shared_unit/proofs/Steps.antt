@@ -1,21 +1,25 @@
 -- A book that goes on may be given back, and the worker then took the turn once.
-use Rattle.std.proofs.Common.{◌≡◌, ◌⊎◌, inl, inr, ℕ, ◌+◌, ◌<◌, ◌≤◌, min, Bool, List, [], ◌∷◌, ◌++◌, length, Some, Result, Ok, Err, refl, sym, ap, subst, ◌∙◌, append-nil, append_assoc, arith}
+use Rattle.std.proofs.Common.{◌≡◌, inl, inr, ℕ, ◌+◌, ◌≤◌, Bool, List, [], ◌∷◌, ◌++◌, length, Result, Ok, Err, sym, ap, subst, ◌∙◌, append-nil, append_assoc, arith}
 use Rattle.sdls_base.specs.declared.entry.Entry.{Entry}
 use Rattle.sdls_base.specs.declared.entry.Logged.{Logged}
+use Rattle.sdls_base.specs.declared.entry.Logged.TheVariants as logged
 use Rattle.sdls_outside.specs.Faults.{Rose}
 use Rattle.sdls_outside.specs.Moments.{Trace}
+use Rattle.sdls_outside.specs.Site.{after_put}
 use Rattle.unit_plan.specs.PlanLines.{PlanLines}
 use Rattle.unit_state.specs.declared.state.State.{State}
 use Rattle.counter_table.specs.declared.view.Known.{Known}
 use Rattle.counter_table.specs.declared.view.Opening.{Opening}
 use Rattle.counter_table.specs.declared.view.Turn.{Turn}
-use Rattle.counter_table.specs.Known.{Earlier, KeepsMarks, MayGive, HasRisen, entries, mark_of}
-use Rattle.counter_table.specs.Turn.{epoch_seen, taking, giving, learning}
+use Rattle.counter_table.specs.Known.{Earlier, IsSparing, KeepsMarks, MayGive, HasRisen, pieces}
+use Rattle.counter_table.specs.Turn.{taking, giving, learning}
 use Rattle.counter_table.specs.Play.{Follows}
 use Rattle.unit_history.specs.Log.{entries_of}
 use Rattle.unit_book.specs.Book.{BookView, IsKept}
 use Rattle.shared_unit.specs.Told.{told_by}
-use Rattle.unit_book.specs.Marks.{marks_of}
+use Rattle.unit_book.specs.Marks.{marks_of, KeepsMarks as StateMarks}
+use Rattle.unit_book.specs.declared.fault.BookFault.{BookFault}
+use Rattle.unit_book.specs.GoesOn.{GoesOn}
 use Rattle.shared_unit.specs.Turn.{Grows, TakesOnce, Visits}
 use Rattle.shared_unit.specs.Going.{GoesUp}
 use Rattle.unit_book.proofs.GoingOn.{goes_same}
@@ -24,6 +28,7 @@ use Rattle.shared_unit.proofs.Epochs.{entries_counted, entries_of-append}
 pub record Continues (found given : Known) : Type 0 where
   pub marks : KeepsMarks found given
   pub earlier : Earlier found given
+  pub sparing : IsSparing found given
   pub opening : given.opening ≡ found.opening
 
 rose_of : (before now : ℕ) → HasRisen before now → Rose before now
@@ -39,26 +44,56 @@ earlier_again a b c one two opening = record {
   log = (one.log.0 ++ two.log.0, two.log.1 ∙ ap (λ (ls : List Logged). ls ++ two.log.0) one.log.1 ∙ append_assoc a.log one.log.0 two.log.0);
   changes = (let p = one.changes in let q = two.changes in omega arith);
   faults = (let p = one.faults in let q = two.faults in omega arith);
+  standing = (let p = one.standing in let q = two.standing in omega arith);
+  put_faults = (let p = one.put_faults in let q = two.put_faults in omega arith);
   stopped = λ r. two.stopped (later_risen _ a.faults b.faults one.faults r)
       ∙ one.stopped (subst (λ (o : Opening). HasRisen o.faults a.faults) opening r);
 }
 
-module _ {O : Type 0} (faults : O → ℕ) where
-  pub goes_itself : (book : BookView O) → GoesUp faults book book
-  goes_itself book = record { goes = goes_same faults book; marks = λ row. omega arith }
+pub pieces-append : (xs ys : List Logged) → pieces (xs ++ ys) ≡ pieces xs + pieces ys
+pieces-append [] ys = omega arith
+pieces-append (line ∷ xs) ys = let h = pieces-append xs ys in omega arith
 
-  pub goes_unchanged : (old new : BookView O) → new ≡ old → GoesUp faults old new
-  goes_unchanged old new same = subst (λ (book : BookView O). GoesUp faults old book) (sym same) (goes_itself old)
+-- after a put no more failed than before, or one more
+after_low : (result : Result (Unit {0}) BookFault) (n : ℕ) → (n ≤ after_put result n) × (after_put result n ≤ n + 1)
+after_low (Ok done) n = (omega arith, omega arith)
+after_low (Err fault) n = (omega arith, omega arith)
 
-  pub goes_opening : (old new : BookView O) → GoesUp faults old new → (told_by faults new).opening ≡ (told_by faults old).opening
+module _ {O : Type 0} (faults puts : O → ℕ) where
+  -- a call that puts nothing
+  pub goes_up : (old new : BookView O) → GoesOn faults old new → StateMarks old.state new.state → puts new.site ≡ puts old.site
+      → GoesUp faults puts old new
+  goes_up old new goes marks same =
+      let p = ap pieces goes.log in
+      let q = pieces-append old.log goes.added in
+      record { goes = goes; marks = marks; puts_later = omega arith; sparing = omega arith }
+
+  -- a put
+  pub goes_up_put : (piece : List ℕ) (result : Result (Unit {0}) BookFault) (old new : BookView O) → GoesOn faults old new
+      → StateMarks old.state new.state → new.log ≡ old.log ++ logged.Piece piece ∷ [] → puts new.site ≡ after_put result (puts old.site)
+      → GoesUp faults puts old new
+  goes_up_put piece result old new goes marks made same =
+      let p = ap pieces made in
+      let q = pieces-append old.log (logged.Piece piece ∷ []) in
+      let l = after_low result (puts old.site) in
+      record { goes = goes; marks = marks; puts_later = omega arith; sparing = omega arith }
+
+  pub goes_itself : (book : BookView O) → GoesUp faults puts book book
+  goes_itself book = record { goes = goes_same faults book; marks = λ row. omega arith; puts_later = omega arith; sparing = omega arith }
+
+  pub goes_unchanged : (old new : BookView O) → new ≡ old → GoesUp faults puts old new
+  goes_unchanged old new same = subst (λ (book : BookView O). GoesUp faults puts old book) (sym same) (goes_itself old)
+
+module _ {O : Type 0} (trace : O → Trace) (faults puts : O → ℕ) where
+  pub goes_opening : (old new : BookView O) → GoesUp faults puts old new → (told_by trace faults puts new).opening ≡ (told_by trace faults puts old).opening
   goes_opening old new up =
       let g = up.goes in
-      ap (λ (i : List ℕ). let o : Opening = record { image = i; plan = new.plan; start = new.start; faults = faults new.opened } in o) g.image
-      ∙ ap (λ (p : PlanLines). let o : Opening = record { image = old.image; plan = p; start = new.start; faults = faults new.opened } in o) g.plan
-      ∙ ap (λ (s : State). let o : Opening = record { image = old.image; plan = old.plan; start = s; faults = faults new.opened } in o) g.start
-      ∙ ap (λ (z : O). let o : Opening = record { image = old.image; plan = old.plan; start = old.start; faults = faults z } in o) g.opened
+      ap (λ (i : List ℕ). let o : Opening = record { image = i; plan = new.plan; start = new.start; trail = trace new.opened; faults = faults new.opened } in o) g.image
+      ∙ ap (λ (p : PlanLines). let o : Opening = record { image = old.image; plan = p; start = new.start; trail = trace new.opened; faults = faults new.opened } in o) g.plan
+      ∙ ap (λ (s : State). let o : Opening = record { image = old.image; plan = old.plan; start = s; trail = trace new.opened; faults = faults new.opened } in o) g.start
+      ∙ ap (λ (z : O). let o : Opening = record { image = old.image; plan = old.plan; start = old.start; trail = trace z; faults = faults z } in o) g.opened
 
-  pub continues : (old new : BookView O) → GoesUp faults old new → Continues (told_by faults old) (told_by faults new)
+  pub continues : (old new : BookView O) → GoesUp faults puts old new → Continues (told_by trace faults puts old) (told_by trace faults puts new)
   continues old new up =
       let g = up.goes in
       record {
@@ -67,6 +102,8 @@ module _ {O : Type 0} (faults : O → ℕ) where
           log = (g.added, g.log);
           changes = g.changes;
           faults = g.later;
+          standing = g.standing;
+          put_faults = up.puts_later;
           stopped = λ risen.
               let none : entries_of g.added ≡ [] =
               g.stopped (subst (λ (z : O). Rose (faults z) (faults old.site)) g.opened (rose_of (faults new.opened) (faults old.site) risen)) in
@@ -75,54 +112,56 @@ module _ {O : Type 0} (faults : O → ℕ) where
               ∙ append-nil (entries_of old.log))
               ∙ sym (entries_counted old.log);
         };
+        sparing = up.sparing;
         opening = goes_opening old new up;
       }
 
   -- a book that was found may be given back as it is then, where its changes are known
-  pub may_give : (known : Known) (found given : BookView O) → known ≡ told_by faults found → GoesUp faults found given
-      → given.changes ≡ found.changes → MayGive known (told_by faults given)
+  pub may_give : (known : Known) (found given : BookView O) → known ≡ told_by trace faults puts found → GoesUp faults puts found given
+      → given.changes ≡ found.changes → MayGive known (told_by trace faults puts given)
   may_give known found given same g changes =
       let c = continues found given g in
-      subst (λ (k : Known). MayGive k (told_by faults given)) (sym same)
-      (record { marks = c.marks; earlier = c.earlier; opening = c.opening; changes = changes })
+      subst (λ (k : Known). MayGive k (told_by trace faults puts given)) (sym same)
+      (record { marks = c.marks; earlier = c.earlier; sparing = c.sparing; opening = c.opening; changes = changes })
 
   -- after a lift the holder knows the held book's marks
-  pub may_give_learned : (known : Known) (found given : BookView O) → known ≡ record (told_by faults found) { marks = marks_of given.state }
-      → GoesUp faults found given → given.changes ≡ found.changes → MayGive known (told_by faults given)
+  pub may_give_learned : (known : Known) (found given : BookView O) → known ≡ record (told_by trace faults puts found) { marks = marks_of given.state }
+      → GoesUp faults puts found given → given.changes ≡ found.changes → MayGive known (told_by trace faults puts given)
   may_give_learned known found given same g changes =
       let c = continues found given g in
-      subst (λ (k : Known). MayGive k (told_by faults given)) (sym same) (record {
+      subst (λ (k : Known). MayGive k (told_by trace faults puts given)) (sym same) (record {
         marks = λ row. omega arith;
-        earlier = record { log = c.earlier.log; changes = c.earlier.changes; faults = c.earlier.faults; stopped = c.earlier.stopped };
+        earlier = record { log = c.earlier.log; changes = c.earlier.changes; faults = c.earlier.faults; standing = c.earlier.standing; put_faults = c.earlier.put_faults; stopped = c.earlier.stopped };
+        sparing = c.sparing;
         opening = c.opening;
         changes = changes;
       })
 
-  pub keeps_more : (known : Known) (old new : BookView O) → KeepsMarks known (told_by faults old) → GoesUp faults old new
-      → KeepsMarks known (told_by faults new)
+  pub keeps_more : (known : Known) (old new : BookView O) → KeepsMarks known (told_by trace faults puts old) → GoesUp faults puts old new
+      → KeepsMarks known (told_by trace faults puts new)
   keeps_more known old new h g row = let a = h row in let b = g.marks row in omega arith
 
-  module _ (told : Bool) (trace : O → Trace) where
+  module _ (told : Bool) where
     pub visits : (found given : BookView O) (v m w : Turn) → IsKept told trace faults found → IsKept told trace faults given
-        → Follows v (told_by faults found) → GoesUp faults found given → m ≡ taking (told_by faults found) v
-        → w ≡ giving (told_by faults given) m → Visits told trace faults found given v w
+        → Follows v (told_by trace faults puts found) → GoesUp faults puts found given → m ≡ taking (told_by trace faults puts found) v
+        → w ≡ giving (told_by trace faults puts given) m → Visits told trace faults puts found given v w
     visits found given v m w before after follows g took gave =
         let c = continues found given g in
         record {
           found_kept = before;
           given_kept = after;
-          takes = record { follows = follows; earlier = c.earlier; opening = c.opening; turn = gave ∙ ap (giving (told_by faults given)) took };
+          takes = record { follows = follows; earlier = c.earlier; sparing = c.sparing; opening = c.opening; turn = gave ∙ ap (giving (told_by trace faults puts given)) took };
         }
 
     pub visits_learned : (found given : BookView O) (v m w : Turn) → IsKept told trace faults found → IsKept told trace faults given
-        → Follows v (told_by faults found) → GoesUp faults found given → m ≡ learning (marks_of given.state) (taking (told_by faults found) v)
-        → w ≡ giving (told_by faults given) m → Visits told trace faults found given v w
+        → Follows v (told_by trace faults puts found) → GoesUp faults puts found given → m ≡ learning (marks_of given.state) (taking (told_by trace faults puts found) v)
+        → w ≡ giving (told_by trace faults puts given) m → Visits told trace faults puts found given v w
     visits_learned found given v m w before after follows g took gave =
         let c = continues found given g in
         record {
           found_kept = before;
           given_kept = after;
-          takes = record { follows = follows; earlier = c.earlier; opening = c.opening; turn = gave ∙ ap (giving (told_by faults given)) took };
+          takes = record { follows = follows; earlier = c.earlier; sparing = c.sparing; opening = c.opening; turn = gave ∙ ap (giving (told_by trace faults puts given)) took };
         }
 
 -- what a worker knows grows when it takes the turn
@@ -131,6 +170,7 @@ takes_grows found given v w s =
     let P : Turn → Type 0 = λ t. Grows v t in
     subst P (sym s.turn) (record {
       earlier = earlier_again v.known found given s.follows.earlier s.earlier s.opening;
+      sparing = (let a = s.follows.sparing in let b = s.sparing in omega arith);
       opening = s.opening ∙ s.follows.opening;
       epoch = (let a = s.follows.epoch in let b = s.follows.earlier.changes in let c = s.earlier.changes in omega arith);
     })

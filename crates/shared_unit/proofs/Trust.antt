@@ -1,17 +1,14 @@
 -- Permits: they are true where the book gives them, and stay true.
-use Rattle.std.proofs.Common.{◌≡◌, ℕ, ◌+◌, ◌<◌, ◌≤◌, max, Bool, List, [], ◌∷◌, ◌++◌, length, Option, Some, None, Ok, Result, refl, sym, ap, subst, ◌∙◌, arith}
+use Rattle.std.proofs.Common.{◌≡◌, ℕ, List, Some, sym, ap, subst, ◌∙◌, arith}
 use Rattle.sdls_outside.specs.Moments.{Trace}
-use Rattle.sdls_base.specs.declared.link.Link.{Link}
 use Rattle.key_book.specs.KeyBook.{place_of}
 use Rattle.unit_plan.specs.PlanLines.{PlanLines, link_of}
 use Rattle.unit_state.specs.declared.state.State.{State}
-use Rattle.unit_state.specs.History.{at_epoch, epoch_after}
-use Rattle.frame_shield.specs.declared.binding.Binding.{Binding}
-use Rattle.frame_checks.specs.Protecting.{channel_check, protect_check}
+use Rattle.frame_checks.specs.Protecting.{channel_check}
 use Rattle.counter_table.specs.declared.view.Known.{Known}
 use Rattle.counter_table.specs.declared.view.Opening.{Opening}
 use Rattle.counter_table.specs.declared.view.Turn.{Turn}
-use Rattle.counter_table.specs.Known.{Earlier}
+use Rattle.counter_table.specs.Known.{Earlier, IsSparing}
 use Rattle.counter_table.specs.Turn.{epoch_seen, taking}
 use Rattle.counter_table.specs.Play.{Follows}
 use Rattle.unit_history.specs.Log.{entries_of}
@@ -45,11 +42,11 @@ permit_stays p v w grows is =
     }
 
 -- the held book has the permit's row for its key
-pub row_held : {O : Type 0} (faults : O → ℕ) (p : Permit) (v : Turn) (book : BookView O) → Follows v (told_by faults book) → IsTrueFor p v
+pub row_held : {O : Type 0} (trace : O → Trace) (faults puts : O → ℕ) (p : Permit) (v : Turn) (book : BookView O) → Follows v (told_by trace faults puts book) → IsTrueFor p v
     → IsLevel book → place_of book.state.keys p.binding.key ≡ Some p.row
-row_held faults p v book follows is level =
+row_held trace faults puts p v book follows is level =
     let more = follows.earlier.log in
-    let k : Known = told_by faults book in
+    let k : Known = told_by trace faults puts book in
     let same : state_at k p.epoch ≡ state_at v.known p.epoch = state_at_stays v.known k more.0 p.epoch follows.opening more.1 is.reached in
     sym (level.rows p.binding.key)
     ∙ row_later book.start (entries_of book.log) p.epoch book.changes p.binding.key p.row
@@ -57,15 +54,16 @@ row_held faults p v book follows is level =
     (ap (λ (s : State). place_of s.keys p.binding.key) same ∙ is.row)
 
 -- what the book permits is true for the worker that found the book so
-pub permit_true : {O : Type 0} (faults : O → ℕ) (link : ℕ) (clear : List ℕ) (p : Permit) (found : BookView O) (given : Known) (v w : Turn)
-    → Permits link clear (replies.Permit p) found → IsLevel found → TakesOnce (told_by faults found) given v w → IsTrueFor p w
-permit_true faults link clear p found given v w h level s =
-    let k : Known = told_by faults found in
+pub permit_true : {O : Type 0} (trace : O → Trace) (faults puts : O → ℕ) (link : ℕ) (clear : List ℕ) (p : Permit) (found : BookView O) (given : Known) (v w : Turn)
+    → Permits link clear (replies.Permit p) found → IsLevel found → TakesOnce (told_by trace faults puts found) given v w → IsTrueFor p w
+permit_true trace faults puts link clear p found given v w h level s =
+    let k : Known = told_by trace faults puts found in
     let here = h.0 in
     let epoch : p.epoch ≡ found.changes = h.2 in
     let bound = check_bound found.plan (state_at k found.changes) link clear p.channel p.binding h.1 (level.binds link clear ∙ h.3) in
     permit_stays p (taking k v) w (record {
       earlier = subst (λ (t : Turn). Earlier k t.known) (sym s.turn) s.earlier;
+      sparing = subst (λ (t : Turn). IsSparing k t.known) (sym s.turn) s.sparing;
       opening = ap (λ (t : Turn). t.known.opening) s.turn ∙ s.opening;
       epoch = (let e = ap epoch_seen s.turn in let b = s.earlier.changes in omega arith);
     })
@@ -85,10 +83,10 @@ pub of_permit : {O : Type 0} (link : ℕ) (clear : List ℕ) (p : Permit) (found
 of_permit link clear p found plan h same =
     ap (λ (l : PlanLines). channel_check l p.link clear) (sym same) ∙ ap (λ (n : ℕ). channel_check found.plan n clear) h.0 ∙ h.1
 
-pub permitted : {O : Type 0} (faults : O → ℕ) (plan : PlanLines) (link : ℕ) (clear : List ℕ) (reply : PermitReply) (found : BookView O) (given : Known) (v w : Turn)
-    → Permits link clear reply found → IsLevel found → TakesOnce (told_by faults found) given v w → found.plan ≡ plan
+pub permitted : {O : Type 0} (trace : O → Trace) (faults puts : O → ℕ) (plan : PlanLines) (link : ℕ) (clear : List ℕ) (reply : PermitReply) (found : BookView O) (given : Known) (v w : Turn)
+    → Permits link clear reply found → IsLevel found → TakesOnce (told_by trace faults puts found) given v w → found.plan ≡ plan
     → IfPermit reply (λ p. IsTrueFor p w × IsOfPermit plan p clear)
-permitted faults plan link clear (replies.Permit p) found given v w h level s same =
-    (permit_true faults link clear p found given v w h level s, of_permit link clear p found plan h same)
-permitted faults plan link clear replies.Clear found given v w h level s same = tt
-permitted faults plan link clear (replies.Refused fault epoch) found given v w h level s same = tt
+permitted trace faults puts plan link clear (replies.Permit p) found given v w h level s same =
+    (permit_true trace faults puts link clear p found given v w h level s, of_permit link clear p found plan h same)
+permitted trace faults puts plan link clear replies.Clear found given v w h level s same = tt
+permitted trace faults puts plan link clear (replies.Refused fault epoch) found given v w h level s same = tt

@@ -1,5 +1,5 @@
 -- Three ways of a number: below the limit at once; its ticket came back and the turn was taken; and under the turn.
-use Rattle.std.proofs.Common.{◌≡◌, ℕ, ◌+◌, ◌<◌, ◌≤◌, max, ◌==◌, false, List, [], ◌∷◌, ◌++◌, refl, sym, ap, subst, ◌∙◌, arith, if◌then◌else◌}
+use Rattle.std.proofs.Common.{◌≡◌, ℕ, ◌+◌, ◌≤◌, ◌==◌, false, List, [], ◌∷◌, ◌++◌, refl, sym, ap, subst, ◌∙◌, arith}
 use Rattle.counter_table.specs.declared.view.Numbers.{Numbers}
 use Rattle.counter_table.specs.Numbers.{top, arming, drawing, spending, returning, lifting}
 use Rattle.shared_unit.specs.Numbers.{Draws, Spends, ComesBack, Lifts, UsesNumber}

@@ -51,6 +51,7 @@ pub record FailsFor {O : Type 0} (faults : O → ℕ) (need : Need) (fault : Boo
   pub row : ℕ
   pub place : place_of found.state.keys key ≡ Some row
   pub n : ℕ
+  pub below : n < end_of key
   pub draws : Draws row (end_of key) n v w
   pub reserved : Reserves faults key n (Err fault) found middle
 

@@ -1,5 +1,5 @@
 -- A frame that is protected under the turn (profile).
-use Rattle.std.specs.Prelude.{◌≡◌, ℕ, ◌<◌, List, None, Result, Ok, Err}
+use Rattle.std.specs.Prelude.{◌≡◌, ℕ, ◌<◌, List, length, None, Ok, Err}
 use Rattle.sdls_base.specs.KeyId.{end_of}
 use Rattle.frame_shield.specs.Binding.{clear_fault}
 use Rattle.counter_table.specs.declared.view.View.{View}
@@ -8,7 +8,7 @@ use Rattle.unit_book.specs.Book.{BookView}
 use Rattle.shared_unit.specs.declared.permit.Permit.{Permit}
 use Rattle.shared_unit.specs.declared.permit.Protected.{Protected}
 use Rattle.shared_unit.specs.declared.permit.Protected.TheVariants as answers
-use Rattle.shared_unit.specs.Told.{told_by, entry_count}
+use Rattle.unit_history.specs.Log.{entries_of}
 use Rattle.unit_book.specs.Marks.{marks_of}
 use Rattle.shared_unit.specs.Numbers.{Draws, RunsOut, UsesNumber}
 use Rattle.shared_unit.specs.Permit.{IsProtected, IsUnfit}
@@ -26,6 +26,6 @@ IsFinished faults p clear out (answers.Exhausted key n epoch) found given v w =
     (clear_fault p.binding clear ≡ None) × (key ≡ p.binding.key) × (epoch ≡ p.epoch) × RunsOut p.row (end_of key) n v.numbers w.numbers
     × (w.turn ≡ v.turn) × (given ≡ found)
 IsFinished faults p clear out (answers.Fault fault position) found given v w =
-    (clear_fault p.binding clear ≡ None) × (position ≡ entry_count (told_by faults given)) × (w.turn ≡ v.turn)
+    (clear_fault p.binding clear ≡ None) × (position ≡ length (entries_of given.log)) × (w.turn ≡ v.turn)
     × ((n : ℕ) × (n < end_of p.binding.key) × Draws p.row (end_of p.binding.key) n v.numbers w.numbers
     × Reserves faults p.binding.key n (Err fault) found given)

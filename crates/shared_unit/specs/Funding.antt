@@ -1,10 +1,9 @@
 -- A number that is reserved under the turn, and spent (profile).
-use Rattle.std.specs.Prelude.{◌≡◌, ◌⊎◌, ℕ, ◌<◌, ◌≤◌, Bool, List, take, Result, Ok, Err}
+use Rattle.std.specs.Prelude.{◌≡◌, ◌⊎◌, ℕ, ◌<◌, ◌≤◌, Bool, List, Result, Ok, Err}
 use Rattle.sdls_outside.specs.Moments.{Trace}
 use Rattle.counter_table.specs.declared.view.View.{View}
 use Rattle.counter_table.specs.Turn.{learning}
 use Rattle.unit_book.specs.declared.fault.BookFault.{BookFault}
-use Rattle.unit_history.specs.Log.{entries_of}
 use Rattle.unit_book.specs.Book.{BookView, Made, Refuses}
 use Rattle.unit_history.specs.Numbers.{mark_of, reserve_of}
 use Rattle.shared_unit.specs.declared.permit.Permit.{Permit}
@@ -32,12 +31,12 @@ IsFunded faults key row n (Err fault) found given v w =
     Reserves faults key n (Err fault) found given × (w.numbers ≡ v.numbers) × (w.turn ≡ v.turn)
 
 -- what `fund` does, by its answer
-abbrev pub IsFundStep : {O : Type 0} → Bool → (O → Trace) → (O → ℕ) → Permit → ℕ → List ℕ → List ℕ → Result Done (BookFault × ℕ) → View → View → Type 0
-IsFundStep {O} told trace faults p n clear out (Ok done) v w =
+abbrev pub IsFundStep : {O : Type 0} → Bool → (O → Trace) → (O → ℕ) → (O → ℕ) → Permit → ℕ → List ℕ → List ℕ → Result Done (BookFault × ℕ) → View → View → Type 0
+IsFundStep {O} told trace faults puts p n clear out (Ok done) v w =
     (done.number ≡ n) × IsProtected p clear out done × Lifts p.row n v.numbers w.numbers
-    × ((found : BookView O) × (given : BookView O) × (mark : ℕ) × Visits told trace faults found given v.turn w.turn
+    × ((found : BookView O) × (given : BookView O) × (mark : ℕ) × Visits told trace faults puts found given v.turn w.turn
     × Reserves faults p.binding.key n (Ok mark) found given)
-IsFundStep {O} told trace faults p n clear out (Err fault) v w =
+IsFundStep {O} told trace faults puts p n clear out (Err fault) v w =
     (w.numbers ≡ v.numbers)
-    × ((found : BookView O) × (given : BookView O) × Visits told trace faults found given v.turn w.turn
-    × Reserves faults p.binding.key n (Err fault.0) found given × (fault.1 ≡ entry_count (told_by faults given)))
+    × ((found : BookView O) × (given : BookView O) × Visits told trace faults puts found given v.turn w.turn
+    × Reserves faults p.binding.key n (Err fault.0) found given × (fault.1 ≡ entry_count (told_by trace faults puts given)))

@@ -1,5 +1,5 @@
 -- Permits: what a worker may protect frames under, and what it does with one (CCSDS 355.0-B, ApplySecurity; permits profile).
-use Rattle.std.specs.Prelude.{◌≡◌, ◌≢◌, ℕ, ◌<◌, ◌≤◌, List, take, Option, Some, None, Ok, Err, ⊤}
+use Rattle.std.specs.Prelude.{◌≡◌, ◌≢◌, ℕ, ◌<◌, ◌≤◌, List, take, Some, None, Ok, Err, ⊤}
 use Rattle.sdls_base.specs.KeyId.{end_of}
 use Rattle.sdls_base.specs.declared.layout.FrameFault.{FrameFault}
 use Rattle.key_book.specs.KeyBook.{place_of}

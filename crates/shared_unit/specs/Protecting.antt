@@ -24,12 +24,12 @@ use Rattle.shared_unit.specs.Numbers.{Draws, ComesBack, RunsOut, UsesNumber}
 use Rattle.shared_unit.specs.Permit.{IsTrueFor, IsOfPermit, IsProtected, IsUnfit}
 use Rattle.shared_unit.specs.Funding.{Reserves}
 
--- The check that fails first at an epoch that was seen; where the plan is enough for it, no state is looked at.
+-- The first check that fails in the state of an epoch that was seen. Those for which the plan is enough were passed.
 pub record FailsAt (link : ℕ) (clear : List ℕ) (fault : ShieldFault) (epoch : ℕ) (w : Turn) : Type 0 where
   pub seen : epoch ≤ epoch_seen w
-  pub is : (channel_check w.known.opening.plan link clear ≡ Err fault)
-      ⊎ ((epoch ≤ epoch_after (entries_of w.known.log))
-      × (protect_reply w.known.opening.plan (state_at w.known epoch) link clear ≡ Err fault))
+  pub reached : epoch ≤ epoch_after (entries_of w.known.log)
+  pub passes : (channel : ℕ) × (channel_check w.known.opening.plan link clear ≡ Ok (Some channel))
+  pub is : protect_reply w.known.opening.plan (state_at w.known epoch) link clear ≡ Err fault
 
 -- the key had no number left
 abbrev pub RunsOutUnder : Permit → List ℕ → ℕ → ℕ → ℕ → View → View → Type 0
@@ -46,48 +46,91 @@ abbrev pub IsTrueIfKept : Option Permit → Turn → Type 0
 IsTrueIfKept None w = ⊤
 IsTrueIfKept (Some p) w = IsTrueFor p w
 
-module _ {O : Type 0} (told : Bool) (trace : O → Trace) (faults : O → ℕ) where
+-- the permit that was used: it is of the frame and its link, and true afterwards
+pub record IsUsed (plan : PlanLines) (link : ℕ) (clear : List ℕ) (p : Permit) (w : Turn) : Type 0 where
+  pub linked : p.link ≡ link
+  pub frame : IsOfPermit plan p clear
+  pub trusted : IsTrueFor p w
+
+-- the turn was taken no more often than a ticket came back
+abbrev pub TakesByTicket : View → View → Type 0
+TakesByTicket v w = w.turn.turns + v.numbers.tickets ≤ v.turn.turns + w.numbers.tickets
+
+-- the epoch was loaded, at most
+pub record Looks (v w : Turn) : Type 0 where
+  pub epoch : ℕ
+  pub later : epoch_seen v ≤ epoch_seen (seeing epoch v)
+  pub is : w ≡ seeing epoch v
+
+-- the book was given back as it was found
+abbrev pub Rests : {O : Type 0} → BookView O → BookView O → Type 0
+Rests found given = given ≡ found
+
+-- a number of the key was reserved, or its mark was above it already
+abbrev pub Funds : {O : Type 0} → (O → ℕ) → ℕ → ℕ → BookView O → BookView O → Type 0
+Funds faults key n found given = (mark : ℕ) × Reserves faults key n (Ok mark) found given
+
+module _ {O : Type 0} (told : Bool) (trace : O → Trace) (faults puts : O → ℕ) where
+  -- The epoch was loaded, at most, and then the turn was taken once: with this done to the book.
+  pub record TakesTurn (done : BookView O → BookView O → Type 0) (v w : Turn) : Type 0 where
+    pub epoch : ℕ
+    pub later : epoch_seen v ≤ epoch_seen (seeing epoch v)
+    pub found : BookView O
+    pub given : BookView O
+    pub visits : Visits told trace faults puts found given (seeing epoch v) w
+    pub does : done found given
+
+  -- the turn was taken once at most, with this done to the book
+  abbrev pub MayTakeTurn : (BookView O → BookView O → Type 0) → Turn → Turn → Type 0
+  MayTakeTurn done v w = Looks v w ⊎ TakesTurn done v w
+
   -- one reserve was stored, or refused, or there was none
   abbrev pub AddsReserve : ℕ → BookView O → BookView O → Type 0
   AddsReserve key found given = (given ≡ found) ⊎ ((n : ℕ) × (result : Result ℕ BookFault) × Reserves faults key n result found given)
 
   -- the epoch was loaded, and the turn was taken at most once, for at most one reserve
-  pub record TakesAtMostOnce (v w : Turn) : Type 0 where
-    pub epoch : ℕ
-    pub later : epoch_seen v ≤ epoch_seen (seeing epoch v)
-    pub is : (w ≡ seeing epoch v)
-        ⊎ ((found : BookView O) × (given : BookView O) × (key : ℕ) × Visits told trace faults found given (seeing epoch v) w
-        × AddsReserve key found given)
+  abbrev pub TakesAtMostOnce : Turn → Turn → Type 0
+  TakesAtMostOnce v w = MayTakeTurn (λ found given. (key : ℕ) × AddsReserve key found given) v w
 
   -- the reserve of a number that was drawn was refused
   abbrev pub IsRefusedUnder : Permit → List ℕ → BookFault → ℕ → View → View → Type 0
   IsRefusedUnder p clear fault position v w = (clear_fault p.binding clear ≡ None) × (position ≡ entry_count w.turn.known)
       × ((n : ℕ) × (n < end_of p.binding.key)
       × (Draws p.row (end_of p.binding.key) n v.numbers w.numbers ⊎ ComesBack p.row (end_of p.binding.key) n v.numbers w.numbers)
-      × ((found : BookView O) × (given : BookView O) × (before : Turn) × Visits told trace faults found given before w.turn
-      × Reserves faults p.binding.key n (Err fault) found given))
+      × TakesTurn (Reserves faults p.binding.key n (Err fault)) v.turn w.turn)
+
+  -- What was done under a permit, by the answer. The turn is taken for a reserve of the number that was drawn here, or the book
+  -- is given back as it was found.
+  abbrev pub IsUnder : Permit → List ℕ → List ℕ → Protected → View → View → Type 0
+  IsUnder p clear out (answers.Done d) v w = IsDone p clear out d v w × MayTakeTurn (Funds faults p.binding.key d.number) v.turn w.turn
+  IsUnder p clear out answers.Clear v w = ⊥
+  IsUnder p clear out (answers.Refused fault epoch) v w =
+      IsUnfit p.binding clear fault × (epoch ≡ p.epoch) × (w.numbers ≡ v.numbers) × MayTakeTurn Rests v.turn w.turn
+  IsUnder p clear out (answers.Exhausted key n epoch) v w = RunsOutUnder p clear key n epoch v w × MayTakeTurn Rests v.turn w.turn
+  IsUnder p clear out (answers.Fault fault position) v w = IsRefusedUnder p clear fault position v w
 
   -- With a kept permit the turn is taken for a ticket that came back alone. There is no answer where the epoch went on.
   abbrev pub IsKeptStep : Permit → List ℕ → List ℕ → Option Protected → View → View → Type 0
   IsKeptStep p clear out None v w = (w.numbers ≡ v.numbers) × ((epoch : ℕ) × (p.epoch < epoch) × Loads epoch v.turn w.turn)
-  IsKeptStep p clear out (Some (answers.Done d)) v w =
-      IsDone p clear out d v w × (w.turn.turns + v.numbers.tickets ≤ v.turn.turns + w.numbers.tickets)
-  IsKeptStep p clear out (Some answers.Clear) v w = ⊥
-  IsKeptStep p clear out (Some (answers.Refused fault epoch)) v w =
-      IsUnfit p.binding clear fault × (epoch ≡ p.epoch) × (w.numbers ≡ v.numbers)
-  IsKeptStep p clear out (Some (answers.Exhausted key n epoch)) v w = RunsOutUnder p clear key n epoch v w
-  IsKeptStep p clear out (Some (answers.Fault fault position)) v w = IsRefusedUnder p clear fault position v w
+  IsKeptStep p clear out (Some answer) v w = IsUnder p clear out answer v w × TakesByTicket v w
 
-  -- what `protect` does, by its answer and the permit that is kept afterwards
+  -- Where the plan is enough for the check that fails first, nothing is looked at.
+  abbrev pub IsRefusedAt : PlanLines → ℕ → List ℕ → ShieldFault → ℕ → Turn → Turn → Type 0
+  IsRefusedAt plan link clear fault epoch v w =
+      ((channel_check plan link clear ≡ Err fault) × (epoch ≡ 0) × (w ≡ v)) ⊎ (FailsAt link clear fault epoch w × MayTakeTurn Rests v w)
+
+  -- What `protect` does, by its answer and the permit that is kept afterwards.
   abbrev pub IsProtectStep : PlanLines → ℕ → List ℕ → List ℕ → Option Permit → Protected → View → View → Type 0
   IsProtectStep plan link clear out kept (answers.Done d) v w =
-      (p : Permit) × (kept ≡ Some p) × IsOfPermit plan p clear × IsDone p clear out d v w
-  IsProtectStep plan link clear out kept answers.Clear v w = (channel_check plan link clear ≡ Ok None) × (w.numbers ≡ v.numbers)
-  IsProtectStep plan link clear out kept (answers.Refused fault epoch) v w = FailsAt link clear fault epoch w.turn × (w.numbers ≡ v.numbers)
+      (p : Permit) × (kept ≡ Some p) × IsUsed plan link clear p w.turn × IsUnder p clear out (answers.Done d) v w
+  IsProtectStep plan link clear out kept answers.Clear v w =
+      (channel_check plan link clear ≡ Ok None) × (w.numbers ≡ v.numbers) × (w.turn ≡ v.turn)
+  IsProtectStep plan link clear out kept (answers.Refused fault epoch) v w =
+      IsRefusedAt plan link clear fault epoch v.turn w.turn × (w.numbers ≡ v.numbers)
   IsProtectStep plan link clear out kept (answers.Exhausted key n epoch) v w =
-      (p : Permit) × IsTrueFor p w.turn × IsOfPermit plan p clear × RunsOutUnder p clear key n epoch v w
+      (p : Permit) × IsUsed plan link clear p w.turn × IsUnder p clear out (answers.Exhausted key n epoch) v w
   IsProtectStep plan link clear out kept (answers.Fault fault position) v w =
-      (p : Permit) × IsTrueFor p w.turn × IsOfPermit plan p clear × IsRefusedUnder p clear fault position v w
+      (p : Permit) × IsUsed plan link clear p w.turn × IsUnder p clear out (answers.Fault fault position) v w
 
   -- with what is kept, for a frame of a channel
   abbrev pub IsByKept : PlanLines → Option Permit → ℕ → List ℕ → List ℕ → Option Protected → View → View → Type 0
@@ -95,4 +138,4 @@ module _ {O : Type 0} (told : Bool) (trace : O → Trace) (faults : O → ℕ) w
       × ((w.turn ≡ v.turn) ⊎ ((epoch : ℕ) × Loads epoch v.turn w.turn))
       × ((p : Permit) → kept ≡ Some p → p.link ≡ link → IsOfPermit plan p clear → p.epoch < w.turn.epoch)
   IsByKept plan kept link clear out (Some answer) v w =
-      (p : Permit) × (kept ≡ Some p) × (p.link ≡ link) × IsOfPermit plan p clear × IsTrueFor p w.turn × IsKeptStep p clear out (Some answer) v w
+      (p : Permit) × (kept ≡ Some p) × IsUsed plan link clear p w.turn × IsKeptStep p clear out (Some answer) v w

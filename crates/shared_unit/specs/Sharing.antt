@@ -1,5 +1,5 @@
 -- The words at the beginning of a run (profile).
-use Rattle.std.specs.Prelude.{◌≡◌, ℕ, ◌<◌, ◌≤◌, Bool, IsTrue, List, [], slice_index_or, Ok}
+use Rattle.std.specs.Prelude.{◌≡◌, ℕ, ◌+◌, ◌<◌, ◌≤◌, max, Bool, IsTrue, List, [], slice_index_or, Ok}
 use Rattle.sdls_outside.specs.Moments.{Trace, EachMoment}
 use Rattle.disk_journal.specs.Image.{held}
 use Rattle.unit_plan.specs.Plan.{plan_of}
@@ -10,7 +10,7 @@ use Rattle.counter_table.specs.declared.view.Known.{Known}
 use Rattle.counter_table.specs.declared.view.Turn.{Turn}
 use Rattle.counter_table.specs.declared.view.View.{View}
 use Rattle.counter_table.specs.Known.{mark_of}
-use Rattle.counter_table.specs.Numbers.{top}
+use Rattle.counter_table.specs.Numbers.{amount, top}
 use Rattle.counter_table.specs.Whole.{IsWhole}
 use Rattle.counter_table.specs.Worker.{view}
 use Rattle.counter_table.specs.declared.counters.Counters.{Counters}
@@ -33,9 +33,10 @@ pub record IsRaised (book : Known) (count : ℕ) (v w : View) : Type 0 where
   pub spent : w.numbers.spent ≡ v.numbers.spent
   pub shares : w.numbers.shares ≡ v.numbers.shares
   pub raised : (row : ℕ) → row < count → mark_of book row ≤ top row w.numbers.nexts
+  pub low : (row : ℕ) → top row w.numbers.raised ≤ max (top row v.numbers.raised) (mark_of book row)
 
 -- The book that was opened on the site, as the opening left both.
-pub record IsOpened {O : Type 0} (told : Bool) (trace : O → Trace) (faults : O → ℕ) (site : O) (book : BookView O) : Type 0 where
+pub record IsOpened {O : Type 0} (told : Bool) (trace : O → Trace) (faults puts : O → ℕ) (site : O) (book : BookView O) : Type 0 where
   pub kept : IsKept told trace faults book
   pub begun_is : book ≡ begun book.site (trace site).now.image book.plan book.start book.journal
   pub shows : IsTrue told → Shows (trace site).now.image book.start × Shows (trace book.site).now.image book.start
@@ -43,15 +44,22 @@ pub record IsOpened {O : Type 0} (told : Bool) (trace : O → Trace) (faults : O
   pub plan : IsTrue told → plan_of (held (trace site).now.image).plan ≡ Ok book.plan
   pub any_moment : IsTrue told → EachMoment (trace site) (trace book.site) (Opening (trace site))
   pub later : faults site ≤ faults book.site
+  pub puts_same : puts book.site ≡ puts site
 
--- The first worker, which has all shares: it drew, spent and made nothing yet, and each word is at least its key's mark.
-pub record Begins {O B : Type 0} (faults : O → ℕ) (book : BookView O) (counters : Counters B) (plan : PlanLines) (worker : Worker B) : Type 0 where
+-- The first worker, which has all shares: it drew, spent and made nothing yet, and each word is its key's mark, 1 where there
+-- is no key.
+pub record Begins {O B : Type 0} (trace : O → Trace) (faults puts : O → ℕ) (book : BookView O) (counters : Counters B) (plan : PlanLines) (worker : Worker B) : Type 0 where
   pub ready : IsReady counters plan worker
   pub shares : (view worker).numbers.shares ≡ 1024
   pub drawn : (view worker).numbers.drawn ≡ []
   pub spent : (view worker).numbers.spent ≡ []
   pub made : (view worker).turn.made ≡ []
   pub log : (view worker).turn.known.log ≡ []
-  pub opening : (view worker).turn.known.opening ≡ (told_by faults book).opening
+  pub opening : (view worker).turn.known.opening ≡ (told_by trace faults puts book).opening
   pub whole : IsWhole 512 (view worker)
-  pub words : (row : ℕ) → row < 512 → mark_at book.start row ≤ top row (view worker).numbers.nexts
+  pub standing : (view worker).turn.known.standing ≡ book.standing
+  pub put_faults : (view worker).turn.known.put_faults ≡ puts book.site
+  pub later : faults book.site ≤ (view worker).turn.known.faults
+  pub words : (row : ℕ) → row < 512 → top row (view worker).numbers.nexts ≡ mark_at book.start row
+  pub raised : (row : ℕ) → row < 512 → top row (view worker).numbers.raised ≤ mark_at book.start row
+  pub added : (row : ℕ) → row < 512 → top row (view worker).numbers.nexts ≡ 1 + amount row (view worker).numbers.added

@@ -1,5 +1,6 @@
 -- What a book tells the counters, and what can be read of it (profile).
 use Rattle.std.specs.Prelude.{ℕ, length}
+use Rattle.sdls_outside.specs.Moments.{Trace}
 use Rattle.unit_state.specs.declared.state.State.{State}
 use Rattle.unit_state.specs.History.{at_epoch}
 use Rattle.counter_table.specs.declared.view.Known.{Known}
@@ -7,13 +8,15 @@ use Rattle.unit_book.specs.Book.{BookView}
 use Rattle.unit_book.specs.Marks.{marks_of}
 use Rattle.unit_history.specs.Log.{entries_of}
 
-abbrev pub told_by : {O : Type 0} → (O → ℕ) → BookView O → Known
-told_by faults book = record {
+abbrev pub told_by : {O : Type 0} → (O → Trace) → (O → ℕ) → (O → ℕ) → BookView O → Known
+told_by trace faults puts book = record {
   marks = marks_of book.state;
   log = book.log;
   changes = book.changes;
   faults = faults book.site;
-  opening = record { image = book.image; plan = book.plan; start = book.start; faults = faults book.opened };
+  standing = book.standing;
+  put_faults = puts book.site;
+  opening = record { image = book.image; plan = book.plan; start = book.start; trail = trace book.opened; faults = faults book.opened };
 }
 
 -- the state that an epoch began with, by the log that is known

@@ -1,12 +1,12 @@
 -- What a call that takes the turn once makes of what the worker knows of the book (profile).
-use Rattle.std.specs.Prelude.{◌≡◌, ℕ, ◌+◌, ◌-◌, ◌≤◌, Bool, true, false, List, ◌++◌, length}
+use Rattle.std.specs.Prelude.{◌≡◌, ℕ, ◌+◌, ◌-◌, ◌≤◌, Bool, true, false, ◌++◌, length}
 use Rattle.sdls_outside.specs.Moments.{Trace}
 use Rattle.unit_plan.specs.PlanLines.{PlanLines}
 use Rattle.counter_table.specs.declared.view.Known.{Known}
 use Rattle.counter_table.specs.declared.view.Turn.{Turn}
 use Rattle.counter_table.specs.declared.counters.Counters.{Counters}
 use Rattle.counter_table.specs.declared.counters.Worker.{Worker}
-use Rattle.counter_table.specs.Known.{Earlier}
+use Rattle.counter_table.specs.Known.{Earlier, IsSparing}
 use Rattle.counter_table.specs.Turn.{epoch_seen, places, seeing}
 use Rattle.counter_table.specs.Play.{Follows}
 use Rattle.counter_table.specs.Worker.{view, IsOf}
@@ -33,18 +33,20 @@ taking_once found given v = record v {
 pub record TakesOnce (found given : Known) (v w : Turn) : Type 0 where
   pub follows : Follows v found
   pub earlier : Earlier found given
+  pub sparing : IsSparing found given
   pub opening : given.opening ≡ found.opening
   pub turn : w ≡ taking_once found given v
 
 -- the same of two kept books
-pub record Visits {O : Type 0} (told : Bool) (trace : O → Trace) (faults : O → ℕ) (found given : BookView O) (v w : Turn) : Type 0 where
+pub record Visits {O : Type 0} (told : Bool) (trace : O → Trace) (faults puts : O → ℕ) (found given : BookView O) (v w : Turn) : Type 0 where
   pub found_kept : IsKept told trace faults found
   pub given_kept : IsKept told trace faults given
-  pub takes : TakesOnce (told_by faults found) (told_by faults given) v w
+  pub takes : TakesOnce (told_by trace faults puts found) (told_by trace faults puts given) v w
 
 -- what a worker knows of the book only grows
 pub record Grows (v w : Turn) : Type 0 where
   pub earlier : Earlier v.known w.known
+  pub sparing : IsSparing v.known w.known
   pub opening : w.known.opening ≡ v.known.opening
   pub epoch : epoch_seen v ≤ epoch_seen w
 

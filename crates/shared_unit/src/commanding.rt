@@ -46,12 +46,12 @@ impl<O: Site> Unit<O> {
         requires own { IsOf self.now.counters worker.old }
         requires turn { (view worker.old).turn.holds ≡ true }
         requires filled { (view worker.old).turn.filled ≡ true }
-        requires marks { KeepsMarks (view worker.old).turn.known (told_by O.faults held.old.book) }
+        requires marks { KeepsMarks (view worker.old).turn.known (told_by O.trace O.faults O.put_faults held.old.book) }
         requires key { (row : ℕ) × (place_of held.old.book.state.keys key ≡ Some row) }
         requires kept { IsKept O.told O.trace O.faults held.old.book }
         ensures same { IsSame worker.old worker.new }
         ensures kept { IsKept O.told O.trace O.faults held.new.book }
-        ensures goes_on { GoesUp O.faults held.old.book held.new.book }
+        ensures goes_on { GoesUp O.faults O.put_faults held.old.book held.new.book }
         ensures seen { IsSeen O.faults (needs.Number key) result held.old.book held.new.book (view worker.old) (view worker.new) }
     {
         let row = self.row_in(held, key);
@@ -73,12 +73,12 @@ impl<O: Site> Unit<O> {
         requires own { IsOf self.now.counters worker.old }
         requires turn { (view worker.old).turn.holds ≡ true }
         requires filled { (view worker.old).turn.filled ≡ true }
-        requires marks { KeepsMarks (view worker.old).turn.known (told_by O.faults held.old.book) }
+        requires marks { KeepsMarks (view worker.old).turn.known (told_by O.trace O.faults O.put_faults held.old.book) }
         requires names { NamesKey held.old.book.state need }
         requires kept { IsKept O.told O.trace O.faults held.old.book }
         ensures same { IsSame worker.old worker.new }
         ensures kept { IsKept O.told O.trace O.faults held.new.book }
-        ensures goes_on { GoesUp O.faults held.old.book held.new.book }
+        ensures goes_on { GoesUp O.faults O.put_faults held.old.book held.new.book }
         ensures seen { IsSeen O.faults need result held.old.book held.new.book (view worker.old) (view worker.new) }
     {
         match need {
@@ -121,12 +121,12 @@ impl<O: Site> Unit<O> {
         requires own { IsOf self.now.counters worker.old }
         requires turn { (view worker.old).turn.holds ≡ true }
         requires filled { (view worker.old).turn.filled ≡ true }
-        requires known { (view worker.old).turn.known ≡ told_by O.faults held.old.book }
+        requires known { (view worker.old).turn.known ≡ told_by O.trace O.faults O.put_faults held.old.book }
         ensures same { IsSame worker.old worker.new }
         ensures was_kept { IsKept O.told O.trace O.faults held.old.book }
         ensures kept { IsKept O.told O.trace O.faults held.new.book }
-        ensures goes_on { GoesUp O.faults held.old.book held.new.book }
-        ensures holds { KnowsHeld (told_by O.faults held.new.book) (view worker.old).turn (view worker.new).turn }
+        ensures goes_on { GoesUp O.faults O.put_faults held.old.book held.new.book }
+        ensures holds { KnowsHeld (told_by O.trace O.faults O.put_faults held.new.book) (view worker.old).turn (view worker.new).turn }
         ensures step { IsCommanded O.faults index pdu.now result held.old.book held.new.book (view worker.old).numbers (view worker.new).numbers }
     {
         let Ok(need) = held.book.need(pdu) else {
@@ -156,8 +156,8 @@ impl<O: Site> Unit<O> {
         ensures ready { IsReady self.now.counters self.now.plan worker.new }
         ensures same { IsSame worker.old worker.new }
         ensures shares { (view worker.new).numbers.shares ≡ (view worker.old).numbers.shares }
-        ensures commanded { (found given : BookView O) × Visits O.told O.trace O.faults found given (view worker.old).turn (view worker.new).turn
-            × WithPosition result (told_by O.faults given)
+        ensures commanded { (found given : BookView O) × Visits O.told O.trace O.faults O.put_faults found given (view worker.old).turn (view worker.new).turn
+            × WithPosition result (told_by O.trace O.faults O.put_faults given)
             (λ answer. IsCommanded O.faults index pdu.now answer found given (view worker.old).numbers (view worker.new).numbers) }
     {
         let mut held = self.counters.take(rt, worker);

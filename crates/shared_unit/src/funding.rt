@@ -35,14 +35,14 @@ impl<O: Site> Unit<O> {
         requires own { IsOf self.now.counters worker.old }
         requires turn { (view worker.old).turn.holds ≡ true }
         requires filled { (view worker.old).turn.filled ≡ true }
-        requires marks { KeepsMarks (view worker.old).turn.known (told_by O.faults held.old.book) }
+        requires marks { KeepsMarks (view worker.old).turn.known (told_by O.trace O.faults O.put_faults held.old.book) }
         requires row { row < 512 }
         requires place { place_of held.old.book.state.keys key ≡ Some row }
         requires ticket { (ticket.0 ≡ row) × (ticket.1 < end_of key) × ((view worker.old).numbers.last ≡ Some ticket) }
         ensures same { IsSame worker.old worker.new }
         ensures was_kept { IsKept O.told O.trace O.faults held.old.book }
         ensures kept { IsKept O.told O.trace O.faults held.new.book }
-        ensures goes_on { GoesUp O.faults held.old.book held.new.book }
+        ensures goes_on { GoesUp O.faults O.put_faults held.old.book held.new.book }
         ensures funded { IsFunded O.faults key row ticket.1 result held.old.book held.new.book (view worker.old) (view worker.new) }
     {
         let number = ticket.number();
@@ -74,7 +74,7 @@ impl<O: Site> Unit<O> {
         requires room { length out.old ≡ 2048 }
         ensures ready { IsReady self.now.counters self.now.plan worker.new }
         ensures same { IsSame worker.old worker.new }
-        ensures step { IsFundStep O.told O.trace O.faults permit.now ticket.1 clear.now out.new result (view worker.old) (view worker.new) }
+        ensures step { IsFundStep O.told O.trace O.faults O.put_faults permit.now ticket.1 clear.now out.new result (view worker.old) (view worker.new) }
     {
         let mut held = self.counters.take(rt, worker);
         held.book.look();

@@ -6,7 +6,7 @@ ghost use Rattle.counter_table.specs.Worker.{view, IsSame};
 ghost use Rattle.shared_unit.specs.declared.permit.Permit.{Permit};
 ghost use Rattle.shared_unit.specs.declared.permit.Done.{Done};
 ghost use Rattle.shared_unit.specs.Permit.{IsOfPermit, IsTrueFor};
-ghost use Rattle.shared_unit.specs.Protecting.{IsByKept, IsKeptStep, IsProtectStep, IsTrueIfKept, TakesAtMostOnce};
+ghost use Rattle.shared_unit.specs.Protecting.{IsByKept, IsKeptStep, IsProtectStep, IsTrueIfKept, TakesAtMostOnce, TakesByTicket};
 ghost use Rattle.shared_unit.specs.Turn.{IsReady};
 
 use crate::permit::{Permit, PermitReply, Protected, Ready};
@@ -32,8 +32,8 @@ impl<O: Site> Unit<O> {
         requires room { length out.old ≡ 2048 }
         ensures ready { IsReady self.now.counters self.now.plan worker.new }
         ensures same { IsSame worker.old worker.new }
-        ensures turn { TakesAtMostOnce O.told O.trace O.faults (view worker.old).turn (view worker.new).turn }
-        ensures step { IsKeptStep O.told O.trace O.faults permit.now clear.now out.new result (view worker.old) (view worker.new) }
+        ensures turn { TakesAtMostOnce O.told O.trace O.faults O.put_faults (view worker.old).turn (view worker.new).turn }
+        ensures step { IsKeptStep O.told O.trace O.faults O.put_faults permit.now clear.now out.new result (view worker.old) (view worker.new) }
     {
         match self.protect_ready(worker, permit, clear, out) {
             Ready::Done(done) => Some(Protected::Done(done)),
@@ -73,8 +73,8 @@ impl<O: Site> Unit<O> {
         requires room { length out.old ≡ 2048 }
         ensures ready { IsReady self.now.counters self.now.plan worker.new }
         ensures same { IsSame worker.old worker.new }
-        ensures turn { TakesAtMostOnce O.told O.trace O.faults (view worker.old).turn (view worker.new).turn }
-        ensures step { IsByKept O.told O.trace O.faults self.now.plan kept.now link clear.now out.new result (view worker.old) (view worker.new) }
+        ensures turn { TakesAtMostOnce O.told O.trace O.faults O.put_faults (view worker.old).turn (view worker.new).turn }
+        ensures step { IsByKept O.told O.trace O.faults O.put_faults self.now.plan kept.now link clear.now out.new result (view worker.old) (view worker.new) }
     {
         let Some(permit) = kept else {
             return None;
@@ -104,10 +104,11 @@ impl<O: Site> Unit<O> {
         requires room { length out.old ≡ 2048 }
         ensures ready { IsReady self.now.counters self.now.plan worker.new }
         ensures same { IsSame worker.old worker.new }
-        ensures turn { TakesAtMostOnce O.told O.trace O.faults (view worker.old).turn (view worker.new).turn }
+        ensures turn { TakesAtMostOnce O.told O.trace O.faults O.put_faults (view worker.old).turn (view worker.new).turn }
         ensures kept { IsTrueIfKept kept.new (view worker.new).turn }
-        ensures step { IsProtectStep O.told O.trace O.faults self.now.plan link clear.now out.new kept.new result (view worker.old) (view worker.new) }
+        ensures step { IsProtectStep O.told O.trace O.faults O.put_faults self.now.plan link clear.now out.new kept.new result (view worker.old) (view worker.new) }
         ensures later { (d : Done) → result ≡ Protected.Done d → epoch_seen (view worker.old).turn ≤ d.epoch }
+        ensures epoch { (view worker.new).turn.epoch ≡ (view worker.old).turn.epoch }
     {
         let mut held = self.counters.take(rt, worker);
         match permit_in(&self.plan, &held.book, link, clear) {
@@ -126,7 +127,8 @@ impl<O: Site> Unit<O> {
     }
 
     /// Protects a frame in clear (CCSDS 355.0-B, ApplySecurity): with the kept permit where that is of the frame's channel and
-    /// the epoch did not go on, and else with a new one, which is kept then. Takes no memory.
+    /// the epoch did not go on, and else with a new one, which is kept then. Where the plan is enough for the check that fails
+    /// first, the epoch beside it is 0, and nothing is looked at. Takes no memory.
     pub fn protect<R: Wait>(
         &self,
         rt: &R,
@@ -142,17 +144,18 @@ impl<O: Site> Unit<O> {
         ensures ready { IsReady self.now.counters self.now.plan worker.new }
         ensures same { IsSame worker.old worker.new }
         ensures shares { (view worker.new).numbers.shares ≡ (view worker.old).numbers.shares }
-        ensures turn { TakesAtMostOnce O.told O.trace O.faults (view worker.old).turn (view worker.new).turn }
+        ensures turn { TakesAtMostOnce O.told O.trace O.faults O.put_faults (view worker.old).turn (view worker.new).turn }
         ensures kept { IsTrueIfKept kept.new (view worker.new).turn }
-        ensures step { IsProtectStep O.told O.trace O.faults self.now.plan link clear.now out.new kept.new result (view worker.old) (view worker.new) }
+        ensures step { IsProtectStep O.told O.trace O.faults O.put_faults self.now.plan link clear.now out.new kept.new result (view worker.old) (view worker.new) }
 
-        // With the kept permit the turn is taken for a ticket that came back alone.
+        // With the kept permit, where its epoch was the one loaded last, the turn is taken for a ticket that came back alone.
         ensures turns { (p : Permit) (d : Done) → kept.old ≡ Some p → p.link ≡ link → IsOfPermit self.now.plan p clear.now
-            → result ≡ Protected.Done d → d.epoch ≡ p.epoch
-            → (view worker.new).turn.turns + (view worker.old).numbers.tickets ≤ (view worker.old).turn.turns + (view worker.new).numbers.tickets }
+            → result ≡ Protected.Done d → d.epoch ≡ p.epoch → TakesByTicket (view worker.old) (view worker.new) }
+        ensures turns_kept { (p : Permit) → kept.old ≡ Some p → p.link ≡ link → IsOfPermit self.now.plan p clear.now
+            → (view worker.new).turn.epoch ≤ p.epoch → TakesByTicket (view worker.old) (view worker.new) }
     {
         let channel = match frame_checks::channel(&self.plan, link, clear) {
-            Err(fault) => return Protected::Refused(fault, self.counters.see_epoch(worker)),
+            Err(fault) => return Protected::Refused(fault, 0),
             Ok(None) => return Protected::Clear,
             Ok(Some(channel)) => channel,
         };

@@ -37,10 +37,10 @@ impl<O: Site> Unit<O> {
         requires own { IsOf self.now.counters worker.old }
         requires turn { (view worker.old).turn.holds ≡ true }
         requires filled { (view worker.old).turn.filled ≡ true }
-        requires known { (view worker.old).turn.known ≡ told_by O.faults held.now.book }
-        requires marks { (row : ℕ) → mark_of (told_by O.faults held.now.book) row ≤ 2 ^ 48 }
+        requires known { (view worker.old).turn.known ≡ told_by O.trace O.faults O.put_faults held.now.book }
+        requires marks { (row : ℕ) → mark_of (told_by O.trace O.faults O.put_faults held.now.book) row ≤ 2 ^ 48 }
         ensures own { IsOf self.now.counters worker.new }
-        ensures raised { IsRaised (told_by O.faults held.now.book) 512 (view worker.old) (view worker.new) }
+        ensures raised { IsRaised (told_by O.trace O.faults O.put_faults held.now.book) 512 (view worker.old) (view worker.new) }
     {
         for row in 0..ROWS {
             let mark = held.book.mark(row);
@@ -53,7 +53,7 @@ impl<O: Site> Unit<O> {
     fn over<R: Wait>(rt: &R, alloc: Global, book: Book<O>) -> Result<(Unit<O>, Worker<O>), O>
         requires kept { IsKept O.told O.trace O.faults book }
         requires first { book.log ≡ [] }
-        ensures made { IfOk result (λ made. Begins O.faults book made.0.counters made.0.plan made.1) }
+        ensures made { IfOk result (λ made. Begins O.trace O.faults O.put_faults book made.0.counters made.0.plan made.1) }
         ensures refused { IfErr result (λ site. site ≡ book.site) }
     {
         let plan = match book.plan().copy() {
@@ -84,8 +84,8 @@ impl<O: Site> Unit<O> {
         alloc: Global,
         site: O,
     ) -> Result<(Unit<O>, Worker<O>), (OpenFault, O)>
-        ensures opened { IfOk result (λ made. (book : BookView O) × IsOpened O.told O.trace O.faults site book
-            × Begins O.faults book made.0.counters made.0.plan made.1) }
+        ensures opened { IfOk result (λ made. (book : BookView O) × IsOpened O.told O.trace O.faults O.put_faults site book
+            × Begins O.trace O.faults O.put_faults book made.0.counters made.0.plan made.1) }
 
         // Only an image that shows no state is refused as one, and nothing is written then.
         ensures refused { IfErr result (λ refused. IsOpenCause (O.faults site) (O.faults refused.1)
@@ -95,6 +95,7 @@ impl<O: Site> Unit<O> {
         // A crash at any moment leaves what one before may have left, or the image but for its closed gates.
         ensures any_moment { IfErr result (λ refused. IsTrue O.told → EachMoment (O.trace site) (O.trace refused.1) (Opening (O.trace site))) }
         ensures later { IfErr result (λ refused. O.faults site ≤ O.faults refused.1) }
+        ensures puts { IfErr result (λ refused. O.put_faults refused.1 ≡ O.put_faults site) }
     {
         let book = match Book::open(alloc, site) {
             Ok(book) => book,

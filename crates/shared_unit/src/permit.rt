@@ -56,7 +56,7 @@ pub enum Protected {
     Done(Done),
     /// The frame is sent as it stands.
     Clear,
-    /// The first check that fails, and an epoch in which it does.
+    /// The first check that fails, and an epoch in which it does; 0 where the plan is enough for it.
     Refused(ShieldFault, u64),
     /// The key has no number left: the key, the word or the number that was found, at or above its end, and the epoch.
     Exhausted(KeyId, u64, u64),

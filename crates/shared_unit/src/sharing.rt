@@ -56,7 +56,7 @@ impl<O: Site> Unit<O> {
         requires ready { IsReady self.counters self.plan worker }
         requires all { (view worker).numbers.shares ≡ 1024 }
         ensures kept { IsKept O.told O.trace O.faults result.0 }
-        ensures closes { Closes 512 (view worker) (told_by O.faults result.0) result.1.items }
+        ensures closes { Closes 512 (view worker) (told_by O.trace O.faults O.put_faults result.0) result.1.items }
     {
         let Unit { counters, plan: _ } = self;
         let (shelf, nexts) = counters.close(worker);

@@ -42,7 +42,7 @@ impl<O: Site> Model for Shelf<O> {
 }
 
 impl<O: Site> Counted for Shelf<O> {
-    ghost told = { λ shelf. told_by O.faults shelf };
+    ghost told = { λ shelf. told_by O.trace O.faults O.put_faults shelf };
 
     fn mark(&self, row: u16) -> u64 {
         let row = usize::from(row);
@@ -110,7 +110,7 @@ impl<O: Site> Shelf<O> {
         ensures was_kept { IsKept O.told O.trace O.faults self.old }
         ensures kept { IsKept O.told O.trace O.faults self.new }
         ensures reserved { Reserves O.faults key number result self.old self.new }
-        ensures goes_on { GoesUp O.faults self.old self.new }
+        ensures goes_on { GoesUp O.faults O.put_faults self.old self.new }
     {
         self.book.reserve(key, number)
     }
@@ -127,7 +127,7 @@ impl<O: Site> Shelf<O> {
             (λ answer. Opens O.faults index link frame.old (field_in answer.0 frame.new) self.old self.new answer.0 answer.1
             × Leaves answer.0 frame.old frame.new)
             (RefusesFrame O.faults index link frame.old self.old self.new) }
-        ensures goes_on { GoesUp O.faults self.old self.new }
+        ensures goes_on { GoesUp O.faults O.put_faults self.old self.new }
         ensures changes { self.new.changes ≡ self.old.changes }
     {
         self.book.accept(index, link, frame)
@@ -152,7 +152,7 @@ impl<O: Site> Shelf<O> {
         ensures made { MatchResult result
             (λ answer. Handles O.faults index pdu.now seen self.old self.new answer.0 answer.1)
             (RefusesMessage O.faults index pdu.now seen self.old self.new) }
-        ensures goes_on { GoesUp O.faults self.old self.new }
+        ensures goes_on { GoesUp O.faults O.put_faults self.old self.new }
     {
         self.book.command(index, pdu, seen)
     }
@@ -160,8 +160,8 @@ impl<O: Site> Shelf<O> {
     pub(crate) fn put(&mut self, octets: &[u8]) -> Result<(), BookFault>
         ensures was_kept { IsKept O.told O.trace O.faults self.old }
         ensures kept { IsKept O.told O.trace O.faults self.new }
-        ensures put { IsPut O.told O.trace O.faults octets.now result self.old self.new }
-        ensures goes_on { GoesUp O.faults self.old self.new }
+        ensures put { IsPut O.told O.trace O.faults O.put_faults octets.now result self.old self.new }
+        ensures goes_on { GoesUp O.faults O.put_faults self.old self.new }
         ensures changes { self.new.changes ≡ self.old.changes }
     {
         self.book.put(octets)

@@ -48,9 +48,9 @@ front_is (x ∷ log) line = ap (λ (l : List Logged). x ∷ l) (front_is log lin
 longer : (log : List Logged) (line : Logged) → length (log ++ line ∷ []) ≡ length log + 1
 longer log line = length-append log (line ∷ [])
 
-module _ {O : Type 0} (told : Bool) (trace : O → Trace) (faults : O → ℕ) (begin : Begin) (found given : BookView O) (v w : View)
-    (h : Visited told trace faults begin found given v w) where
-  turn_is : w.turn ≡ taking_once (told_by faults found) (told_by faults given) v.turn
+module _ {O : Type 0} (told : Bool) (trace : O → Trace) (faults puts : O → ℕ) (begin : Begin) (found given : BookView O) (v w : View)
+    (h : Visited told trace faults puts begin found given v w) where
+  turn_is : w.turn ≡ taking_once (told_by trace faults puts found) (told_by trace faults puts given) v.turn
   turn_is = h.visits.takes.turn
 
   pub plan_is : found.plan ≡ begin.plan
@@ -69,7 +69,7 @@ module _ {O : Type 0} (told : Bool) (trace : O → Trace) (faults : O → ℕ) (
       let b = takes.earlier.changes in
       record {
         nexts = λ row. rw h.numbers (omega arith);
-        earlier = rw turn_is (earlier_again v.turn.known (told_by faults found) (told_by faults given) takes.follows.earlier takes.earlier takes.opening);
+        earlier = rw turn_is (earlier_again v.turn.known (told_by trace faults puts found) (told_by trace faults puts given) takes.follows.earlier takes.earlier takes.opening);
         opening = ap (λ (t : Turn). t.known.opening) turn_is ∙ (takes.opening ∙ takes.follows.opening);
         epochs = rw turn_is (omega arith);
       }

@@ -26,24 +26,24 @@ use Rattle.unit_work.specs.Work.{Worked}
 use Rattle.unit_calls.specs.Visiting.{Visited}
 use Rattle.unit_calls.proofs.Lines.{plan_is, start_is, none_works, line_works}
 
-module _ {O : Type 0} (told : Bool) (trace : O → Trace) (faults : O → ℕ) (begin : Begin) where
-  pub visiting_works : (v w : View) (found : BookView O) (tasks : List Record) → Visited told trace faults begin found found v w → Worked begin v w tasks
-  visiting_works v w found tasks h = none_works told trace faults begin found found v w h tasks refl
+module _ {O : Type 0} (told : Bool) (trace : O → Trace) (faults puts : O → ℕ) (begin : Begin) where
+  pub visiting_works : (v w : View) (found : BookView O) (tasks : List Record) → Visited told trace faults puts begin found found v w → Worked begin v w tasks
+  visiting_works v w found tasks h = none_works told trace faults puts begin found found v w h tasks refl
 
   pub putting_works : (v w : View) (found given : BookView O) (tasks : List Record) (octets : List ℕ) (result : Result (Unit {0}) BookFault)
-      → Visited told trace faults begin found given v w → IsPut told trace faults octets result found given → Worked begin v w tasks
+      → Visited told trace faults puts begin found given v w → IsPut told trace faults puts octets result found given → Worked begin v w tasks
   putting_works v w found given tasks octets result h put =
-      line_works told trace faults begin found given v w h tasks (lines.Piece _) (ap (λ (b : BookView O). b.log) put.made)
+      line_works told trace faults puts begin found given v w h tasks (lines.Piece _) (ap (λ (b : BookView O). b.log) put.made)
       (λ entry same. absurd (let e = same in cc)) (λ index. omega arith) (omega arith)
 
-  module _ (v w : View) (found given : BookView O) (task : Record) (opens : task.kind ≡ Open) (h : Visited told trace faults begin found given v w) where
+  module _ (v w : View) (found given : BookView O) (task : Record) (opens : task.kind ≡ Open) (h : Visited told trace faults puts begin found given v w) where
     legal : (reply : OpenReply) (field : List ℕ) → CanEnter faults found → IsOpenReply found.plan found.state task.link task.octets reply field
         → IsLegal (IsBetween begin v w) begin.plan (after begin.start (entries_of found.log)) (task ∷ []) (frame_entry found.plan found.state task.index reply)
     legal reply field can replies =
         let state_is : found.state ≡ after begin.start (entries_of found.log) =
         (kept_whole told trace faults found h.visits.found_kept can.0).0
-        ∙ ap (λ (s : State). after s (entries_of found.log)) (start_is told trace faults begin found given v w h) in
-        let plan : found.plan ≡ begin.plan = plan_is told trace faults begin found given v w h in
+        ∙ ap (λ (s : State). after s (entries_of found.log)) (start_is told trace faults puts begin found given v w h) in
+        let plan : found.plan ≡ begin.plan = plan_is told trace faults puts begin found given v w h in
         inl (record {
           task = task;
           there = (0, omega arith, refl);
@@ -61,13 +61,13 @@ module _ {O : Type 0} (told : Bool) (trace : O → Trace) (faults : O → ℕ) (
         → IsOpenReply found.plan found.state task.link task.octets reply field
         → given.log ≡ found.log ++ lines.Entry (frame_entry found.plan found.state task.index reply) ∷ [] → Worked begin v w (task ∷ [])
     entry_works reply field can replies is =
-        line_works told trace faults begin found given v w h (task ∷ []) (lines.Entry (frame_entry found.plan found.state task.index reply)) is
+        line_works told trace faults puts begin found given v w h (task ∷ []) (lines.Entry (frame_entry found.plan found.state task.index reply)) is
         (λ entry same. let e : frame_entry found.plan found.state task.index reply ≡ entry = cc in
         subst (λ (x : Entry). IsLegal (IsBetween begin v w) begin.plan (after begin.start (entries_of found.log)) (task ∷ []) x) e (legal reply field can replies))
         (λ index. omega arith) (omega arith)
 
     left_works : given ≡ found → Worked begin v w (task ∷ [])
-    left_works same = none_works told trace faults begin found given v w h (task ∷ []) (ap (λ (b : BookView O). b.log) same)
+    left_works same = none_works told trace faults puts begin found given v w h (task ∷ []) (ap (λ (b : BookView O). b.log) same)
 
     unstored_works : (reply : OpenReply) (field : List ℕ) (fault : BookFault) → CanEnter faults found
         → IsOpenReply found.plan found.state task.link task.octets reply field

@@ -13,8 +13,8 @@ pub record BeganWith (begin : Begin) (v : View) : Type 0 where
 
 -- A worker of the run, which had not the turn, took it once, with the one book found and the other given back, and left the
 -- numbers.
-pub record Visited {O : Type 0} (told : Bool) (trace : O → Trace) (faults : O → ℕ) (begin : Begin) (found given : BookView O) (v w : View) : Type 0 where
+pub record Visited {O : Type 0} (told : Bool) (trace : O → Trace) (faults puts : O → ℕ) (begin : Begin) (found given : BookView O) (v w : View) : Type 0 where
   pub began : BeganWith begin v
   pub free : v.turn.holds ≡ false
-  pub visits : Visits told trace faults found given v.turn w.turn
+  pub visits : Visits told trace faults puts found given v.turn w.turn
   pub numbers : w.numbers ≡ v.numbers

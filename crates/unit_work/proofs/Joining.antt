@@ -25,7 +25,7 @@ top_both row [] b = omega arith
 top_both row (p ∷ a) b = let h = top_both row a b in omega arith
 
 earlier_itself : (k : Known) → Earlier k k
-earlier_itself k = record { log = ([], sym (append-nil k.log)); changes = omega arith; faults = omega arith; stopped = λ r. refl }
+earlier_itself k = record { log = ([], sym (append-nil k.log)); changes = omega arith; faults = omega arith; standing = omega arith; put_faults = omega arith; stopped = λ r. refl }
 
 earlier_further : (a b c : Known) → Earlier a b → Earlier b c → c.opening ≡ b.opening → Earlier a c
 earlier_further a b c ab bc same =
@@ -33,6 +33,8 @@ earlier_further a b c ab bc same =
       log = (ab.log.0 ++ bc.log.0, bc.log.1 ∙ (ap (λ (z : List Logged). z ++ bc.log.0) ab.log.1 ∙ append_assoc a.log ab.log.0 bc.log.0));
       changes = le_trans ab.changes bc.changes;
       faults = le_trans ab.faults bc.faults;
+      standing = le_trans ab.standing bc.standing;
+      put_faults = le_trans ab.put_faults bc.put_faults;
       stopped = λ r.
           let o : c.opening.faults ≡ b.opening.faults = ap (λ (z : Opening). z.faults) same in
           let f = ab.faults in

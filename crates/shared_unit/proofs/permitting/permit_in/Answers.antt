@@ -1,7 +1,6 @@
-use Rattle.std.proofs.Common.{◌≡◌, ℕ, Ok, Some, None, Option, Result, sym, ap, ◌∙◌}
+use Rattle.std.proofs.Common.{◌≡◌, Ok, Some, None, Option, sym, ap, ◌∙◌}
 use Rattle.frame_shield.specs.declared.binding.Binding.{Binding}
-use Rattle.frame_shield.specs.declared.protecting.ShieldFault.{ShieldFault}
-use Rattle.frame_checks.specs.Protecting.{Answer, channel_check, protect_check}
+use Rattle.frame_checks.specs.Protecting.{Answer, protect_check}
 use Rattle.shared_unit.proofs.Checks.{bound_channel, bound_there, clear_channel}
 use Rattle.shared_unit.proofs.Places.{there_place}
 use Rattle.shared_unit.proofs.permitting.permit_in.Goals as goal

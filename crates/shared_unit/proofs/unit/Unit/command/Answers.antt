@@ -1,4 +1,4 @@
-use Rattle.std.proofs.Common.{◌≡◌, ap, sym, subst, ◌∙◌, Ok, Err}
+use Rattle.std.proofs.Common.{ap, sym, subst, ◌∙◌, Ok, Err}
 use Rattle.counter_table.specs.declared.view.Numbers.{Numbers}
 use Rattle.counter_table.specs.Worker.{view}
 use Rattle.unit_book.specs.Book.{BookView}
@@ -12,7 +12,7 @@ pub give-requires-clause-book : goal.give-requires-clause-book
 give-requires-clause-book g c =
     let found : BookView g.row.O.Denot = c.take-held.result.book in
     let given : BookView g.row.O.Denot = c.commanded-result.new.held.book in
-    holds_gives g.O.Site.faults found given (view c.args.worker.now).turn (view c.take-held.new.worker).turn (view c.commanded-result.new.worker).turn c.take-held.ensures.turn
+    holds_gives g.O.Site.trace g.O.Site.faults g.O.Site.put_faults found given (view c.args.worker.now).turn (view c.take-held.new.worker).turn (view c.commanded-result.new.worker).turn c.take-held.ensures.turn
     c.commanded-result.ensures.holds c.commanded-result.ensures.goes_on
 
 pub returns-in-Ok-clause-commanded : goal.returns-in-Ok-clause-commanded
@@ -21,7 +21,7 @@ returns-in-Ok-clause-commanded g c =
     let given : BookView g.row.O.Denot = c.commanded-result.new.held.book in (
       found,
       given,
-      (holds_visits g.O.Site.faults g.O.Site.told g.O.Site.trace found given (view c.args.worker.now).turn (view c.take-held.new.worker).turn (view c.commanded-result.new.worker).turn (view c.give.new.worker).turn
+      (holds_visits g.O.Site.trace g.O.Site.faults g.O.Site.put_faults g.O.Site.told found given (view c.args.worker.now).turn (view c.take-held.new.worker).turn (view c.commanded-result.new.worker).turn (view c.give.new.worker).turn
           c.commanded-result.ensures.was_kept c.commanded-result.ensures.kept c.take-held.ensures.follows c.commanded-result.ensures.goes_on c.take-held.ensures.turn
           c.commanded-result.ensures.holds c.give.ensures.turn),
       subst (λ (k : Numbers). IsCommanded g.O.Site.faults c.args.index c.args.pdu.now (Ok c.in-Ok.reply) found given (view c.args.worker.now).numbers k) (sym c.give.ensures.same.1)
@@ -32,10 +32,10 @@ pub returns-in-Ok-clause-ready : goal.returns-in-Ok-clause-ready
 returns-in-Ok-clause-ready g c =
     let found : BookView g.row.O.Denot = c.take-held.result.book in
     let given : BookView g.row.O.Denot = c.commanded-result.new.held.book in
-    ready_after g.O.Site.told g.O.Site.trace g.O.Site.faults _ _ c.args.worker.now c.give.new.worker found given c.requires.ready
+    ready_after g.O.Site.told g.O.Site.trace g.O.Site.faults g.O.Site.put_faults _ _ c.args.worker.now c.give.new.worker found given c.requires.ready
     (same_twice c.args.worker.now c.commanded-result.new.worker c.give.new.worker
     (same_twice c.args.worker.now c.take-held.new.worker c.commanded-result.new.worker c.take-held.ensures.same.0 c.commanded-result.ensures.same) c.give.ensures.same.0)
-    (holds_visits g.O.Site.faults g.O.Site.told g.O.Site.trace found given (view c.args.worker.now).turn (view c.take-held.new.worker).turn (view c.commanded-result.new.worker).turn (view c.give.new.worker).turn
+    (holds_visits g.O.Site.trace g.O.Site.faults g.O.Site.put_faults g.O.Site.told found given (view c.args.worker.now).turn (view c.take-held.new.worker).turn (view c.commanded-result.new.worker).turn (view c.give.new.worker).turn
     c.commanded-result.ensures.was_kept c.commanded-result.ensures.kept c.take-held.ensures.follows c.commanded-result.ensures.goes_on c.take-held.ensures.turn
     c.commanded-result.ensures.holds c.give.ensures.turn)
 
@@ -45,7 +45,7 @@ returns-in-Err-clause-commanded g c =
     let given : BookView g.row.O.Denot = c.commanded-result.new.held.book in (
       found,
       given,
-      (holds_visits g.O.Site.faults g.O.Site.told g.O.Site.trace found given (view c.args.worker.now).turn (view c.take-held.new.worker).turn (view c.commanded-result.new.worker).turn (view c.give.new.worker).turn
+      (holds_visits g.O.Site.trace g.O.Site.faults g.O.Site.put_faults g.O.Site.told found given (view c.args.worker.now).turn (view c.take-held.new.worker).turn (view c.commanded-result.new.worker).turn (view c.give.new.worker).turn
           c.commanded-result.ensures.was_kept c.commanded-result.ensures.kept c.take-held.ensures.follows c.commanded-result.ensures.goes_on c.take-held.ensures.turn
           c.commanded-result.ensures.holds c.give.ensures.turn),
       (
@@ -59,10 +59,10 @@ pub returns-in-Err-clause-ready : goal.returns-in-Err-clause-ready
 returns-in-Err-clause-ready g c =
     let found : BookView g.row.O.Denot = c.take-held.result.book in
     let given : BookView g.row.O.Denot = c.commanded-result.new.held.book in
-    ready_after g.O.Site.told g.O.Site.trace g.O.Site.faults _ _ c.args.worker.now c.give.new.worker found given c.requires.ready
+    ready_after g.O.Site.told g.O.Site.trace g.O.Site.faults g.O.Site.put_faults _ _ c.args.worker.now c.give.new.worker found given c.requires.ready
     (same_twice c.args.worker.now c.commanded-result.new.worker c.give.new.worker
     (same_twice c.args.worker.now c.take-held.new.worker c.commanded-result.new.worker c.take-held.ensures.same.0 c.commanded-result.ensures.same) c.give.ensures.same.0)
-    (holds_visits g.O.Site.faults g.O.Site.told g.O.Site.trace found given (view c.args.worker.now).turn (view c.take-held.new.worker).turn (view c.commanded-result.new.worker).turn (view c.give.new.worker).turn
+    (holds_visits g.O.Site.trace g.O.Site.faults g.O.Site.put_faults g.O.Site.told found given (view c.args.worker.now).turn (view c.take-held.new.worker).turn (view c.commanded-result.new.worker).turn (view c.give.new.worker).turn
     c.commanded-result.ensures.was_kept c.commanded-result.ensures.kept c.take-held.ensures.follows c.commanded-result.ensures.goes_on c.take-held.ensures.turn
     c.commanded-result.ensures.holds c.give.ensures.turn)
 

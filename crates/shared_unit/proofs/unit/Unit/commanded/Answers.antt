@@ -1,4 +1,4 @@
-use Rattle.std.proofs.Common.{◌≡◌, ◌<◌, ℕ, ap, sym, subst, refl, ◌∙◌, arith, inl, inr, Ok, Err}
+use Rattle.std.proofs.Common.{sym, subst, refl, ◌∙◌, inl, inr, Err}
 use Rattle.counter_table.specs.Worker.{view}
 use Rattle.counter_table.specs.declared.view.Numbers.{Numbers}
 use Rattle.unit_book.specs.Book.{BookView}
@@ -10,17 +10,17 @@ use Rattle.shared_unit.proofs.Commands.{goes_up_then, satisfies_changes, satisfi
 use Rattle.shared_unit.proofs.unit.Unit.commanded.Goals as goal
 
 pub returns-in_default-clause-holds : goal.returns-in_default-clause-holds
-returns-in_default-clause-holds g c = holds_here g.O.Site.faults c.args.held.now.book (view c.args.worker.now).turn _ c.requires.known refl
+returns-in_default-clause-holds g c = holds_here g.O.Site.trace g.O.Site.faults g.O.Site.put_faults c.args.held.now.book (view c.args.worker.now).turn _ c.requires.known refl
 
 pub returns-in_default-clause-goes_on : goal.returns-in_default-clause-goes_on
-returns-in_default-clause-goes_on g c = goes_itself g.O.Site.faults c.args.held.now.book
+returns-in_default-clause-goes_on g c = goes_itself g.O.Site.faults g.O.Site.put_faults c.args.held.now.book
 
 pub returns-in_err-seen-clause-holds : goal.returns-in_err-seen-clause-holds
 returns-in_err-seen-clause-holds g c =
     let found : BookView g.row.O.Denot = c.args.held.now.book in
     let given : BookView g.row.O.Denot = c.seen_for.new.held.book in
     let s = c.in_err-seen.ensures.seen in
-    holds_still g.O.Site.faults found found given (view c.args.worker.now).turn (view c.seen_for.new.worker).turn c.requires.known (goes_itself g.O.Site.faults found)
+    holds_still g.O.Site.trace g.O.Site.faults g.O.Site.put_faults found found given (view c.args.worker.now).turn (view c.seen_for.new.worker).turn c.requires.known (goes_itself g.O.Site.faults g.O.Site.put_faults found)
     c.seen_for.ensures.goes_on.marks refl
     (reserves_changes g.O.Site.faults s.0.key s.0.n (Err c.in_err-seen.field-0.0) found given s.0.reserved) (inl s.1)
 
@@ -30,7 +30,7 @@ command-requires g c =
     let middle : BookView g.row.O.Denot = c.seen_for.new.held.book in
     let s = c.in_ok-seen.ensures.seen in
     record {
-      seen = λ other there. satisfies_fits g.O.Site.faults g.O.Site.told g.O.Site.trace c.args.pdu.now c.in-Ok.need other c.in_ok-seen.seen found middle
+      seen = λ other there. satisfies_fits g.O.Site.trace g.O.Site.faults g.O.Site.put_faults g.O.Site.told c.args.pdu.now c.in-Ok.need other c.in_ok-seen.seen found middle
           (view c.args.worker.now).numbers (view c.seen_for.new.worker).numbers s.0 c.in-Ok.ensures.need c.in-Ok.ensures.kept c.seen_for.ensures.kept c.seen_for.ensures.goes_on there;
     }
 
@@ -40,29 +40,29 @@ returns-in-Err-clause-holds g c =
     let middle : BookView g.row.O.Denot = c.seen_for.new.held.book in
     let given : BookView g.row.O.Denot = c.command.new.self in
     let s = c.in_ok-seen.ensures.seen in
-    holds_still g.O.Site.faults found middle given (view c.args.worker.now).turn (view c.seen_for.new.worker).turn c.requires.known c.seen_for.ensures.goes_on
+    holds_still g.O.Site.trace g.O.Site.faults g.O.Site.put_faults found middle given (view c.args.worker.now).turn (view c.seen_for.new.worker).turn c.requires.known c.seen_for.ensures.goes_on
     c.command.ensures.goes_on.marks
-    (satisfies_changes g.O.Site.faults c.in-Ok.need c.in_ok-seen.seen found middle (view c.args.worker.now).numbers (view c.seen_for.new.worker).numbers s.0)
-    (refuses_changes g.O.Site.faults c.args.index c.args.pdu.now c.in_ok-seen.seen middle given c.in-Err.fault c.in-Err.ensures.made) s.1
+    (satisfies_changes g.O.Site.faults g.O.Site.put_faults c.in-Ok.need c.in_ok-seen.seen found middle (view c.args.worker.now).numbers (view c.seen_for.new.worker).numbers s.0)
+    (refuses_changes g.O.Site.faults g.O.Site.put_faults c.args.index c.args.pdu.now c.in_ok-seen.seen middle given c.in-Err.fault c.in-Err.ensures.made) s.1
 
 pub returns-in-Err-clause-goes_on : goal.returns-in-Err-clause-goes_on
 returns-in-Err-clause-goes_on g c =
-    goes_up_then g.O.Site.faults c.args.held.now.book c.seen_for.new.held.book c.command.new.self c.seen_for.ensures.goes_on c.command.ensures.goes_on
+    goes_up_then g.O.Site.faults g.O.Site.put_faults c.args.held.now.book c.seen_for.new.held.book c.command.new.self c.seen_for.ensures.goes_on c.command.ensures.goes_on
 
 pub turned-requires-clause-known : goal.turned-requires-clause-known
 turned-requires-clause-known g c =
     let found : BookView g.row.O.Denot = c.args.held.now.book in
     let middle : BookView g.row.O.Denot = c.seen_for.new.held.book in
     let s = c.in_ok-seen.ensures.seen in
-    changes_known g.O.Site.faults found middle (view c.args.worker.now).turn (view c.seen_for.new.worker).turn c.requires.known s.1
-    ∙ sym (satisfies_changes g.O.Site.faults c.in-Ok.need c.in_ok-seen.seen found middle (view c.args.worker.now).numbers (view c.seen_for.new.worker).numbers s.0)
+    changes_known g.O.Site.trace g.O.Site.faults g.O.Site.put_faults found middle (view c.args.worker.now).turn (view c.seen_for.new.worker).turn c.requires.known s.1
+    ∙ sym (satisfies_changes g.O.Site.faults g.O.Site.put_faults c.in-Ok.need c.in_ok-seen.seen found middle (view c.args.worker.now).numbers (view c.seen_for.new.worker).numbers s.0)
     ∙ sym c.changes-before.ensures
 
 pub turned-requires-clause-one : goal.turned-requires-clause-one
 turned-requires-clause-one g c =
     let middle : BookView g.row.O.Denot = c.seen_for.new.held.book in
     let given : BookView g.row.O.Denot = c.command.new.self in
-    handles_changes g.O.Site.faults c.args.index c.args.pdu.now c.in_ok-seen.seen middle given c.in-Ok-command.reply.0 c.in-Ok-command.reply.1 c.changes-before.result
+    handles_changes g.O.Site.faults g.O.Site.put_faults c.args.index c.args.pdu.now c.in_ok-seen.seen middle given c.in-Ok-command.reply.0 c.in-Ok-command.reply.1 c.changes-before.result
     c.in-Ok-command.ensures.made c.changes-before.ensures
 
 pub returns-clause-holds : goal.returns-clause-holds
@@ -71,12 +71,12 @@ returns-clause-holds g c =
     let middle : BookView g.row.O.Denot = c.seen_for.new.held.book in
     let given : BookView g.row.O.Denot = c.command.new.self in
     let s = c.in_ok-seen.ensures.seen in
-    holds_of g.O.Site.faults found middle given (view c.args.worker.now).turn (view c.seen_for.new.worker).turn (view c.turned.new.worker).turn c.requires.known
+    holds_of g.O.Site.trace g.O.Site.faults g.O.Site.put_faults found middle given (view c.args.worker.now).turn (view c.seen_for.new.worker).turn (view c.turned.new.worker).turn c.requires.known
     c.seen_for.ensures.goes_on c.command.ensures.goes_on.marks s.1 c.turned.ensures.turn
 
 pub returns-clause-goes_on : goal.returns-clause-goes_on
 returns-clause-goes_on g c =
-    goes_up_then g.O.Site.faults c.args.held.now.book c.seen_for.new.held.book c.command.new.self c.seen_for.ensures.goes_on c.command.ensures.goes_on
+    goes_up_then g.O.Site.faults g.O.Site.put_faults c.args.held.now.book c.seen_for.new.held.book c.command.new.self c.seen_for.ensures.goes_on c.command.ensures.goes_on
 
 pub seen_for-requires-clause-names : goal.seen_for-requires-clause-names
 seen_for-requires-clause-names g c = names_key c.args.held.now.book.state c.args.pdu.now c.in-Ok.need c.in-Ok.ensures.kept.rules c.in-Ok.ensures.need

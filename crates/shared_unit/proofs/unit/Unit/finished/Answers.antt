@@ -1,11 +1,10 @@
-use Rattle.std.proofs.Common.{◌≡◌, ◌<◌, ℕ, ap, sym, subst, refl, ◌∙◌, arith, Ok, rules}
+use Rattle.std.proofs.Common.{◌≡◌, ℕ, ap, sym, subst, refl, ◌∙◌, arith, Ok, rules}
 use Rattle.counter_table.specs.Turn.{learning}
 use Rattle.counter_table.specs.Worker.{view}
 use Rattle.unit_book.specs.Book.{BookView}
 use Rattle.unit_book.specs.Marks.{marks_of}
 use Rattle.shared_unit.specs.Numbers.{UsesNumber}
 use Rattle.shared_unit.specs.Funding.{Reserves}
-use Rattle.shared_unit.proofs.Steps.{goes_itself}
 use Rattle.shared_unit.proofs.Using.{holder_uses}
 use Rattle.shared_unit.proofs.unit.Unit.finished.Goals as goal
 

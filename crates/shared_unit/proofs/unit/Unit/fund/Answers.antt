@@ -1,12 +1,10 @@
-use Rattle.std.proofs.Common.{◌≡◌, ◌<◌, ℕ, ap, sym, subst, refl, arith, ◌∙◌, Ok, Err}
+use Rattle.std.proofs.Common.{◌≡◌, ℕ, ap, sym, subst, refl, arith, ◌∙◌, Ok, Err}
 use Rattle.counter_table.specs.declared.view.Turn.{Turn}
 use Rattle.counter_table.specs.declared.view.Numbers.{Numbers}
-use Rattle.counter_table.specs.Turn.{learning, taking}
+use Rattle.counter_table.specs.Turn.{learning}
 use Rattle.counter_table.specs.Worker.{view}
 use Rattle.unit_book.specs.Book.{BookView}
 use Rattle.unit_book.specs.Marks.{marks_of}
-use Rattle.shared_unit.specs.Told.{told_by}
-use Rattle.shared_unit.specs.Turn.{Visits}
 use Rattle.shared_unit.specs.Numbers.{Lifts}
 use Rattle.shared_unit.proofs.Kept.{level_of}
 use Rattle.shared_unit.proofs.Steps.{may_give, may_give_learned, visits, visits_learned}
@@ -16,7 +14,7 @@ use Rattle.shared_unit.proofs.unit.Unit.fund.Goals as goal
 
 pub reserved-requires-clause-place : goal.reserved-requires-clause-place
 reserved-requires-clause-place g c =
-    row_held g.O.Site.faults c.args.permit.now (view c.args.worker.now).turn c.take-held.result.book c.take-held.ensures.follows c.requires.permit
+    row_held g.O.Site.trace g.O.Site.faults g.O.Site.put_faults c.args.permit.now (view c.args.worker.now).turn c.take-held.result.book c.take-held.ensures.follows c.requires.permit
     (level_of g.O.Site.told g.O.Site.trace g.O.Site.faults c.take-held.result.book c.look.ensures)
 
 pub give-requires-clause-book : goal.give-requires-clause-book
@@ -24,7 +22,7 @@ give-requires-clause-book g c =
     let found : BookView g.row.O.Denot = c.take-held.result.book in
     let given : BookView g.row.O.Denot = c.reserved.new.held.book in
     let f = c.in-Err.ensures.funded in
-    may_give g.O.Site.faults _ found given (ap (λ (t : Turn). t.known) (f.2 ∙ c.take-held.ensures.turn)) c.reserved.ensures.goes_on
+    may_give g.O.Site.trace g.O.Site.faults g.O.Site.put_faults _ found given (ap (λ (t : Turn). t.known) (f.2 ∙ c.take-held.ensures.turn)) c.reserved.ensures.goes_on
     (reserves_changes g.O.Site.faults c.args.permit.now.binding.key c.args.ticket.1 (Err c.in-Err.fault) found given f.0)
 
 pub give-requires-2-clause-book : goal.give-requires-2-clause-book
@@ -32,7 +30,7 @@ give-requires-2-clause-book g c =
     let found : BookView g.row.O.Denot = c.take-held.result.book in
     let given : BookView g.row.O.Denot = c.reserved.new.held.book in
     let f = c.in-Ok.ensures.funded in
-    may_give_learned g.O.Site.faults _ found given
+    may_give_learned g.O.Site.trace g.O.Site.faults g.O.Site.put_faults _ found given
     (ap (λ (t : Turn). t.known) f.3 ∙ ap (λ (t : Turn). (learning (marks_of given.state) t).known) c.take-held.ensures.turn) c.reserved.ensures.goes_on
     (reserves_changes g.O.Site.faults c.args.permit.now.binding.key c.args.ticket.1 (Ok f.1.0) found given f.1.1)
 
@@ -45,7 +43,7 @@ returns-in-Err-clause-step g c =
       (
         found,
         given,
-        visits g.O.Site.faults g.O.Site.told g.O.Site.trace found given (view c.args.worker.now).turn (view c.reserved.new.worker).turn (view c.give.new.worker).turn
+        visits g.O.Site.trace g.O.Site.faults g.O.Site.put_faults g.O.Site.told found given (view c.args.worker.now).turn (view c.reserved.new.worker).turn (view c.give.new.worker).turn
             c.reserved.ensures.was_kept c.reserved.ensures.kept c.take-held.ensures.follows c.reserved.ensures.goes_on (f.2 ∙ c.take-held.ensures.turn) c.give.ensures.turn,
         f.0,
         c.count-count.ensures.count,
@@ -57,10 +55,10 @@ returns-in-Err-clause-ready g c =
     let found : BookView g.row.O.Denot = c.take-held.result.book in
     let given : BookView g.row.O.Denot = c.reserved.new.held.book in
     let f = c.in-Err.ensures.funded in
-    ready_after g.O.Site.told g.O.Site.trace g.O.Site.faults _ _ c.args.worker.now c.give.new.worker found given c.requires.ready
+    ready_after g.O.Site.told g.O.Site.trace g.O.Site.faults g.O.Site.put_faults _ _ c.args.worker.now c.give.new.worker found given c.requires.ready
     (same_twice c.args.worker.now c.reserved.new.worker c.give.new.worker
     (same_twice c.args.worker.now c.take-held.new.worker c.reserved.new.worker c.take-held.ensures.same.0 c.reserved.ensures.same) c.give.ensures.same.0)
-    (visits g.O.Site.faults g.O.Site.told g.O.Site.trace found given (view c.args.worker.now).turn (view c.reserved.new.worker).turn (view c.give.new.worker).turn
+    (visits g.O.Site.trace g.O.Site.faults g.O.Site.put_faults g.O.Site.told found given (view c.args.worker.now).turn (view c.reserved.new.worker).turn (view c.give.new.worker).turn
     c.reserved.ensures.was_kept c.reserved.ensures.kept c.take-held.ensures.follows c.reserved.ensures.goes_on (f.2 ∙ c.take-held.ensures.turn) c.give.ensures.turn)
 
 pub returns-clause-step : goal.returns-clause-step
@@ -78,7 +76,7 @@ returns-clause-step g c =
         found,
         given,
         f.1.0,
-        visits_learned g.O.Site.faults g.O.Site.told g.O.Site.trace found given (view c.args.worker.now).turn (view c.reserved.new.worker).turn (view c.give-2.new.worker).turn
+        visits_learned g.O.Site.trace g.O.Site.faults g.O.Site.put_faults g.O.Site.told found given (view c.args.worker.now).turn (view c.reserved.new.worker).turn (view c.give-2.new.worker).turn
             c.reserved.ensures.was_kept c.reserved.ensures.kept c.take-held.ensures.follows c.reserved.ensures.goes_on
             (f.3 ∙ ap (learning (marks_of given.state)) c.take-held.ensures.turn) c.give-2.ensures.turn,
         f.1.1,
@@ -90,9 +88,9 @@ returns-clause-ready g c =
     let found : BookView g.row.O.Denot = c.take-held.result.book in
     let given : BookView g.row.O.Denot = c.reserved.new.held.book in
     let f = c.in-Ok.ensures.funded in
-    ready_after g.O.Site.told g.O.Site.trace g.O.Site.faults _ _ c.args.worker.now c.give-2.new.worker found given c.requires.ready
+    ready_after g.O.Site.told g.O.Site.trace g.O.Site.faults g.O.Site.put_faults _ _ c.args.worker.now c.give-2.new.worker found given c.requires.ready
     (same_twice c.args.worker.now c.reserved.new.worker c.give-2.new.worker
     (same_twice c.args.worker.now c.take-held.new.worker c.reserved.new.worker c.take-held.ensures.same.0 c.reserved.ensures.same) c.give-2.ensures.same.0)
-    (visits_learned g.O.Site.faults g.O.Site.told g.O.Site.trace found given (view c.args.worker.now).turn (view c.reserved.new.worker).turn (view c.give-2.new.worker).turn
+    (visits_learned g.O.Site.trace g.O.Site.faults g.O.Site.put_faults g.O.Site.told found given (view c.args.worker.now).turn (view c.reserved.new.worker).turn (view c.give-2.new.worker).turn
     c.reserved.ensures.was_kept c.reserved.ensures.kept c.take-held.ensures.follows c.reserved.ensures.goes_on
     (f.3 ∙ ap (learning (marks_of given.state)) c.take-held.ensures.turn) c.give-2.ensures.turn)

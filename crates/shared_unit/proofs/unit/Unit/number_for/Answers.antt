@@ -1,4 +1,4 @@
-use Rattle.std.proofs.Common.{◌≡◌, ◌<◌, ℕ, ap, sym, subst, ◌∙◌, arith, inr, Ok}
+use Rattle.std.proofs.Common.{◌≡◌, ℕ, ap, sym, subst, ◌∙◌, arith, inr}
 use Rattle.counter_table.specs.Turn.{learning}
 use Rattle.counter_table.specs.Worker.{view}
 use Rattle.unit_book.specs.Book.{BookView}

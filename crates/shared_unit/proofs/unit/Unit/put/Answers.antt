@@ -1,4 +1,4 @@
-use Rattle.std.proofs.Common.{◌≡◌, ℕ, ap, refl}
+use Rattle.std.proofs.Common.{ap}
 use Rattle.counter_table.specs.declared.view.Turn.{Turn}
 use Rattle.counter_table.specs.Worker.{view}
 use Rattle.unit_book.specs.Book.{BookView}
@@ -10,7 +10,7 @@ pub give-requires-clause-book : goal.give-requires-clause-book
 give-requires-clause-book g c =
     let found : BookView g.row.O.Denot = c.take-held.result.book in
     let given : BookView g.row.O.Denot = c.put-result.new.self in
-    may_give g.O.Site.faults _ found given (ap (λ (t : Turn). t.known) c.take-held.ensures.turn) c.put-result.ensures.goes_on c.put-result.ensures.changes
+    may_give g.O.Site.trace g.O.Site.faults g.O.Site.put_faults _ found given (ap (λ (t : Turn). t.known) c.take-held.ensures.turn) c.put-result.ensures.goes_on c.put-result.ensures.changes
 
 pub returns-clause-put : goal.returns-clause-put
 returns-clause-put g c =
@@ -18,17 +18,18 @@ returns-clause-put g c =
     let given : BookView g.row.O.Denot = c.put-result.new.self in (
       found,
       given,
-      visits g.O.Site.faults g.O.Site.told g.O.Site.trace found given (view c.args.worker.now).turn (view c.take-held.new.worker).turn (view c.give.new.worker).turn
+      visits g.O.Site.trace g.O.Site.faults g.O.Site.put_faults g.O.Site.told found given (view c.args.worker.now).turn (view c.take-held.new.worker).turn (view c.give.new.worker).turn
           c.put-result.ensures.was_kept c.put-result.ensures.kept c.take-held.ensures.follows c.put-result.ensures.goes_on c.take-held.ensures.turn c.give.ensures.turn,
       c.put-result.ensures.put,
       rw c.args.self.now.rows at c.take-held.ensures.covered,
+      c.take-held.ensures.as_known,
     )
 
 pub returns-clause-ready : goal.returns-clause-ready
 returns-clause-ready g c =
     let found : BookView g.row.O.Denot = c.take-held.result.book in
     let given : BookView g.row.O.Denot = c.put-result.new.self in
-    ready_after g.O.Site.told g.O.Site.trace g.O.Site.faults _ _ c.args.worker.now c.give.new.worker found given c.requires.ready
+    ready_after g.O.Site.told g.O.Site.trace g.O.Site.faults g.O.Site.put_faults _ _ c.args.worker.now c.give.new.worker found given c.requires.ready
     (same_twice c.args.worker.now c.take-held.new.worker c.give.new.worker c.take-held.ensures.same.0 c.give.ensures.same.0)
-    (visits g.O.Site.faults g.O.Site.told g.O.Site.trace found given (view c.args.worker.now).turn (view c.take-held.new.worker).turn (view c.give.new.worker).turn
+    (visits g.O.Site.trace g.O.Site.faults g.O.Site.put_faults g.O.Site.told found given (view c.args.worker.now).turn (view c.take-held.new.worker).turn (view c.give.new.worker).turn
     c.put-result.ensures.was_kept c.put-result.ensures.kept c.take-held.ensures.follows c.put-result.ensures.goes_on c.take-held.ensures.turn c.give.ensures.turn)

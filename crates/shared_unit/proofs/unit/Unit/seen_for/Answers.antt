@@ -1,4 +1,3 @@
-use Rattle.std.proofs.Common.{◌≡◌}
 use Rattle.shared_unit.proofs.Places.{there_place}
 use Rattle.shared_unit.proofs.unit.Unit.seen_for.Goals as goal
 

@@ -1,0 +1,10 @@
+use Rattle.std.proofs.Common.{subst}
+use Rattle.unit_book.specs.Book.{BookView}
+use Rattle.shared_unit.specs.Going.{GoesUp}
+use Rattle.shared_unit.proofs.Steps.{goes_up}
+use Rattle.shared_unit.proofs.shelf.Shelf.reserve.Goals as goal
+
+pub returns-clause-goes_on : goal.returns-clause-goes_on
+returns-clause-goes_on g c =
+    subst (λ (b : BookView g.row.O.Denot). GoesUp g.O.Site.faults g.O.Site.put_faults b c.reserve.new.self) c.self.view_is
+    (goes_up g.O.Site.faults g.O.Site.put_faults c.self.inside.book c.reserve.new.self c.reserve.ensures.goes_on c.reserve.ensures.marks c.reserve.ensures.puts)
