@@ -112,7 +112,7 @@ module _ (begin : Begin) (u v z : View) (us : List Record) (es : List Deed) (d :
         let (row, few, is, in') = d.answers.used k x low key number uses_it in
         let t : times row number v.numbers.spent ≡ times row number u.numbers.spent + times row number d.gains.spent =
         ap (times row number) d.gained.spent ∙ times_both row number u.numbers.spent d.gains.spent in
-        tells.marks key row number (row_later begin u u v z (grows_itself u) grows key row is) (omega arith);
+        tells.marks key row number few (row_later begin u u v z (grows_itself u) grows key row is) (omega arith);
     accepted = floored k x low;
   }
 

@@ -34,13 +34,13 @@ AreSettled begin course stored log at (deed ∷ deeds) =
 
 -- What the first put behind a segment tells of the book that it found: so many lines and entries stood there, so many of the
 -- entries were stored, whose epoch is not below the one that the worker had seen, and whose marks are above each number that
--- the worker has spent.
+-- the worker has spent on a row of the table.
 pub record SettlesAt (begin : Begin) (old new : View) (stored entries lines : ℕ) : Type 0 where
   pub within : lines ≤ length (log_of new)
   pub low : entries ≤ length (entries_of (take lines (log_of new)))
   pub is_stored : entries ≤ stored
   pub epoch : epoch_seen old.turn ≤ epoch_after (take entries (entries_in new))
-  pub marks : (key row number : ℕ) → IsRow begin new key row → 0 < times row number old.numbers.spent
+  pub marks : (key row number : ℕ) → row < begin.rows → IsRow begin new key row → 0 < times row number old.numbers.spent
       → number < mark_of (after_first begin.start (entries_in new) entries) key
 
 -- A run under way: what the first worker did since the opening, that the answers were put, and that each was settled before.
