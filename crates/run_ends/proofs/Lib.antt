@@ -1,0 +1,4 @@
+pub mod Statuses
+pub mod Segments
+pub mod Placed
+pub mod Living

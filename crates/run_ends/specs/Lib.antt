@@ -1,0 +1,6 @@
+pub mod Call
+pub mod Account
+pub mod Causes
+pub mod Ends
+pub mod Lives
+pub mod Says
