@@ -1,0 +1,50 @@
+//! Laws of runs, from segment to segment.
+ghost use Rattle.std.specs.Prelude.{◌≡◌, ℕ, ◌<◌, ◌≤◌, List, [], ◌++◌, length};
+ghost use Rattle.std.specs.List.{All, AllPairs};
+ghost use Rattle.sdls_base.specs.declared.entry.Entry.{Entry};
+ghost use Rattle.sdls_outside.specs.Faults.{Rose};
+ghost use Rattle.counter_table.specs.declared.view.View.{View};
+ghost use Rattle.counter_table.specs.Whole.{IsWhole, RowStands};
+ghost use Rattle.record_io.specs.declared.answers.Answer.{Answer};
+ghost use Rattle.record_io.specs.Places.{Place, records_of};
+ghost use Rattle.record_io.specs.Answers.{answers_octets};
+ghost use Rattle.unit_work.specs.Begin.{Begin};
+ghost use Rattle.unit_work.specs.Views.{entries_in};
+ghost use Rattle.unit_work.specs.Deeds.{deeds_of};
+ghost use Rattle.unit_work.specs.Order.{Handled, Layout, LiesIn};
+ghost use Rattle.unit_runs.specs.Ending.{EndsRun};
+ghost use Rattle.unit_runs.specs.Release.{AreReleases};
+ghost use Rattle.run_ends.specs.Account.{deeds_from};
+ghost use Rattle.run_steps.specs.Doing.{AreSettledInside, HasDone, HasSettled, IsBefore, IsFounded, IsSegment, octets_put, Puts, Settles};
+
+/// Law: a run goes on by a segment, whose records were handled and whose answers were put; and these are settled.
+pub fn segment_goes_on()
+    ensures done { (begin : Begin) (first v mid w : View) (places more : List Place) (answers next : List Answer) (number : ℕ)
+        → HasDone begin first v places answers → length answers ≡ length places → IsWhole begin.rows v → IsSegment number places more
+        → ((layout : Layout) → LiesIn layout number (records_of more)
+        → Handled layout begin v mid (records_of more) (deeds_of number (records_of more) next))
+        → Puts begin mid w → HasDone begin first w (places ++ more) (answers ++ next) }
+    ensures settled { (begin : Begin) (first v mid w : View) (places more : List Place) (answers next : List Answer) (number : ℕ)
+        → HasDone begin first v places answers → length answers ≡ length places → IsWhole begin.rows v → IsSegment number places more
+        → ((layout : Layout) → LiesIn layout number (records_of more)
+        → Handled layout begin v mid (records_of more) (deeds_of number (records_of more) next))
+        → Puts begin mid w → IsFounded begin first → IsWhole begin.rows mid → IsWhole begin.rows w → AllPairs IsBefore (places ++ more)
+        → (known stored : ℕ) → HasSettled begin v known places answers → known ≤ stored → octets_put v ≡ answers_octets answers
+        → (inside : ℕ) → Settles begin mid w inside stored → AreSettledInside inside (deeds_from more next)
+        → HasSettled begin w stored (places ++ more) (answers ++ next) }
+    ensures quiet { (begin : Begin) (first v mid w : View) (places more : List Place) (answers next : List Answer) (number : ℕ)
+        → HasDone begin first v places answers → length answers ≡ length places → IsWhole begin.rows v → IsSegment number places more
+        → ((layout : Layout) → LiesIn layout number (records_of more)
+        → Handled layout begin v mid (records_of more) (deeds_of number (records_of more) next))
+        → Puts begin mid w → IsWhole begin.rows mid → octets_put mid ≡ octets_put v }
+{}
+
+/// Law: what is known of a run at its end, with the releases behind it.
+pub fn run_stands()
+    ensures { (begin : Begin) (first now : View) (places : List Place) (answers : List Answer) → IsFounded begin first
+        → HasDone begin first now places answers → IsWhole begin.rows now → AllPairs IsBefore places
+        → (words : ℕ → ℕ) → ((row : ℕ) → row < begin.rows → RowStands row (words row) now.numbers)
+        → (releases : List Entry) → AreReleases words begin.start (entries_in now) releases
+        → (faults : ℕ) → now.turn.known.faults ≤ faults → (Rose now.turn.known.opening.faults now.turn.known.faults → releases ≡ [])
+        → EndsRun begin first now places (deeds_from places answers) words releases faults }
+{}
