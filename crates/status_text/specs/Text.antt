@@ -1,0 +1,66 @@
+-- The text that tells the state of a unit (profile): the slots, each key, each association, a line each.
+use Rattle.std.specs.Prelude.{ℕ, ◌+◌, List, [], ◌∷◌, ◌++◌, suc, zero, codes, decimal, unwrap_or}
+use Rattle.std.specs.Option.{option_map_or}
+use Rattle.sdls_base.specs.declared.states.KeyState.{KeyState}
+use Rattle.sdls_base.specs.declared.states.KeyState.TheVariants.{PreActive, Active, Deactivated, Destroyed}
+use Rattle.sdls_base.specs.declared.states.SaState.{SaState}
+use Rattle.sdls_base.specs.declared.states.SaState.TheVariants.{Unkeyed, Keyed, Operational}
+use Rattle.sdls_base.specs.declared.states.Direction.{Direction}
+use Rattle.sdls_base.specs.declared.states.Direction.TheVariants.{Send, Receive}
+use Rattle.sdls_base.specs.declared.states.Suite.{Suite}
+use Rattle.sdls_base.specs.declared.states.Suite.TheVariants.{Cmac, Gcm}
+use Rattle.key_book.specs.declared.key_row.KeyRow.{KeyRow}
+use Rattle.key_book.specs.KeyBook.{row_of}
+use Rattle.sa_book.specs.declared.sa_row.SaRow.{SaRow}
+use Rattle.unit_state.specs.declared.state.State.{State}
+
+abbrev pub key_state_word : KeyState → List ℕ
+key_state_word PreActive = codes "preactive"
+key_state_word Active = codes "active"
+key_state_word Deactivated = codes "deactivated"
+key_state_word Destroyed = codes "destroyed"
+
+abbrev pub sa_state_word : SaState → List ℕ
+sa_state_word Unkeyed = codes "unkeyed"
+sa_state_word Keyed = codes "keyed"
+sa_state_word Operational = codes "operational"
+
+abbrev pub direction_word : Direction → List ℕ
+direction_word Send = codes "send"
+direction_word Receive = codes "receive"
+
+abbrev pub suite_word : Suite → List ℕ
+suite_word Cmac = codes "cmac"
+suite_word Gcm = codes "gcm"
+
+-- so many slots of the image are used, of so many
+unfoldable pub slots_line : ℕ → ℕ → List ℕ
+slots_line used slots = codes "slots " ++ decimal used ++ codes " of " ++ decimal slots ++ codes "\n"
+
+unfoldable pub key_line : KeyRow → List ℕ
+key_line row = codes "key " ++ decimal row.id ++ codes " " ++ key_state_word row.state ++ codes " mark " ++ decimal row.mark
+    ++ codes " floor " ++ decimal row.floor ++ codes "\n"
+
+-- an association without a key has key 0
+unfoldable pub association_line : SaRow → List ℕ
+association_line row = codes "sa " ++ decimal row.spi ++ codes " " ++ direction_word row.direction ++ codes " " ++ suite_word row.suite
+    ++ codes " " ++ sa_state_word row.state ++ codes " key " ++ decimal (unwrap_or row.key 0) ++ codes " window " ++ decimal row.window.width
+    ++ codes "\n"
+
+-- a line for each key whose identifier is one of so many from the first on, ascending
+unfoldable pub keys_text : List KeyRow → ℕ → ℕ → List ℕ
+keys_text rows first zero = []
+keys_text rows first (suc count) = option_map_or key_line (row_of rows first) [] ++ keys_text rows (first + 1) count
+
+-- a line for each association, in their order, which ascends
+unfoldable pub associations_text : List SaRow → List ℕ
+associations_text [] = []
+associations_text (row ∷ rows) = association_line row ++ associations_text rows
+
+abbrev pub highest_identifier : ℕ
+highest_identifier = 65535
+
+-- the text of a state, with the slots of its image that are used
+abbrev pub status_text : State → ℕ → ℕ → List ℕ
+status_text state used slots =
+    slots_line used slots ++ keys_text state.keys 1 highest_identifier ++ associations_text state.associations

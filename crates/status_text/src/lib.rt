@@ -1,0 +1,10 @@
+//! The text that tells the state of a unit, a line each for the slots, the keys and the associations (profile).
+//!
+//! [`status_text`] is the one call.
+#![tactic(auto)]
+
+mod lines;
+mod text;
+mod words;
+
+pub use text::status_text;

@@ -1,0 +1,73 @@
+//! The lines, each put behind a text.
+ghost use Rattle.std.specs.Prelude.{◌≡◌, ◌++◌, decimal, OnOk};
+ghost use Rattle.status_text.specs.Text.{association_line, key_line, slots_line};
+
+use crate::words::{direction_word, key_state_word, sa_state_word, suite_word};
+use itoa::Buffer;
+use key_book::KeyRow;
+use sa_book::SaRow;
+use sdls_base::NoMemory;
+
+fn put_octets(text: &mut Vec<u8>, octets: &[u8]) -> Result<(), NoMemory>
+    ensures { OnOk result (text.new.items ≡ text.old.items ++ octets.now) }
+{
+    text.extend_from_slice(octets)?;
+    Ok(())
+}
+
+/// Puts a number in decimal digits.
+fn put_number(text: &mut Vec<u8>, number: u64) -> Result<(), NoMemory>
+    ensures { OnOk result (text.new.items ≡ text.old.items ++ decimal number) }
+{
+    let mut buffer = Buffer::new();
+    put_octets(text, buffer.format(number).as_bytes())
+}
+
+#[tactic(auto, unfolding(crate::specs::Text::slots_line))]
+pub(crate) fn put_slots(text: &mut Vec<u8>, used: u32, slots: u32) -> Result<(), NoMemory>
+    ensures { OnOk result (text.new.items ≡ text.old.items ++ slots_line used slots) }
+{
+    put_octets(text, b"slots ")?;
+    put_number(text, u64::from(used))?;
+    put_octets(text, b" of ")?;
+    put_number(text, u64::from(slots))?;
+    put_octets(text, b"\n")
+}
+
+#[tactic(auto, unfolding(crate::specs::Text::key_line))]
+pub(crate) fn put_key(text: &mut Vec<u8>, row: &KeyRow) -> Result<(), NoMemory>
+    ensures { OnOk result (text.new.items ≡ text.old.items ++ key_line row.now) }
+{
+    put_octets(text, b"key ")?;
+    put_number(text, u64::from(row.id.get()))?;
+    put_octets(text, b" ")?;
+    put_octets(text, key_state_word(row.state))?;
+    put_octets(text, b" mark ")?;
+    put_number(text, row.mark)?;
+    put_octets(text, b" floor ")?;
+    put_number(text, row.floor)?;
+    put_octets(text, b"\n")
+}
+
+#[tactic(auto, unfolding(crate::specs::Text::association_line))]
+pub(crate) fn put_association(text: &mut Vec<u8>, row: &SaRow) -> Result<(), NoMemory>
+    ensures { OnOk result (text.new.items ≡ text.old.items ++ association_line row.now) }
+{
+    let key = match row.key {
+        Some(key) => key.get(),
+        None => 0,
+    };
+    put_octets(text, b"sa ")?;
+    put_number(text, u64::from(row.spi.get()))?;
+    put_octets(text, b" ")?;
+    put_octets(text, direction_word(row.direction))?;
+    put_octets(text, b" ")?;
+    put_octets(text, suite_word(row.suite))?;
+    put_octets(text, b" ")?;
+    put_octets(text, sa_state_word(row.state))?;
+    put_octets(text, b" key ")?;
+    put_number(text, u64::from(key))?;
+    put_octets(text, b" window ")?;
+    put_number(text, row.window.width)?;
+    put_octets(text, b"\n")
+}
