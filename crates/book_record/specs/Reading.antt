@@ -1,5 +1,6 @@
 -- What stands at the places of a body, and when it may stand there (profile).
 use Rattle.std.specs.Prelude.{◌≡◌, ⊤, ℕ, zero, suc, ◌+◌, ◌==◌, ◌≤◌, if◌then◌else◌, List, [], ◌∷◌, take, drop, slice_index, Option, Some, None, Result, Ok, Err}
+use Rattle.std.specs.Option.{option_map}
 use Rattle.std.specs.Int.{w16, w64, from_be_bytes}
 use Rattle.sdls_base.specs.Bounds.{AreChannels, IsKeyLength}
 use Rattle.sdls_base.specs.declared.change.Change.{Change}
@@ -17,6 +18,7 @@ use Rattle.book_record.specs.declared.kind.Kind.{Kind}
 use Rattle.book_record.specs.declared.kind.Kind.TheVariants as kinds
 use Rattle.book_record.specs.declared.record_error.RecordError.{RecordError}
 use Rattle.book_record.specs.declared.record_error.RecordError.TheVariants.{Malformed, NoMemory}
+use Rattle.book_record.specs.Kind.{kind_of}
 use Rattle.book_record.specs.Record.{IsCount, IsKey, IsSpi}
 
 -- ---- answers
@@ -118,6 +120,10 @@ change_at kinds.Rekey octets = Rekey (word_at 3 octets) (word_at 5 octets) (numb
 change_at kinds.SaTo octets = SaTo (word_at 3 octets) (sa_state_of (octet_at 5 octets))
 change_at kinds.SetNumber octets = SetNumber (word_at 3 octets) (number_at 5 octets)
 change_at kinds.SetWindow octets = SetWindow (word_at 3 octets) (number_at 5 octets)
+
+-- the change that stands at the places of the body's kind, where it has a kind
+abbrev pub change_of : List ℕ → Option Change
+change_of octets = option_map (λ kind. change_at kind octets) (kind_of (octet_at 0 octets))
 
 -- what stands at the places of the fields may stand there
 unfoldable pub MayStand : Kind → List ℕ → Type 0

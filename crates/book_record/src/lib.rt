@@ -14,7 +14,7 @@ mod reading;
 mod record_error;
 mod writing;
 
-pub use laws::one_change;
+pub use laws::{change_of_its_kind, one_change};
 pub use layout::BODY_LENGTH;
 pub use reading::read_record;
 pub use record_error::RecordError;
