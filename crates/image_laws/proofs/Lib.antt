@@ -1,0 +1,4 @@
+pub mod Deciding
+pub mod Allowing
+pub mod Recording
+pub mod Showing
