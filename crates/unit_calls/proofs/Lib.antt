@@ -1,2 +1,11 @@
-pub mod Lines
-pub mod Opened
+pub mod Behind
+pub mod OneRecord
+pub mod Counting
+pub mod Fitted
+pub mod Visit
+pub mod Stages
+pub mod Reserves
+pub mod Unserved
+pub mod Openings
+pub mod Commandings
+pub mod Puts

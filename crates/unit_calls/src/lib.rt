@@ -1,9 +1,12 @@
-//! What calls on the unit that lanes share are as work: what a worker drew, spent, raised and made in a call (profile).
+//! What calls on the unit that lanes share are as work: what a worker drew, spent, raised and made in a call, and the answer
+//! that its record has (profile).
 //!
 //! There is no code to run here: definitions stand in `specs`, and the functions are laws over them, with an empty body. Each
-//! takes what a call of `shared_unit` ensures, and tells the piece of work that it is.
+//! takes what a call of `shared_unit` ensures, and tells the piece of work that it is. Read [`opening_answers`] first.
 #![tactic(auto)]
 
-mod laws;
+mod answering;
+mod putting;
 
-pub use laws::{opening_works, putting_works, visiting_works};
+pub use answering::{commanding_answers, opening_answers, unserved_answers};
+pub use putting::{putting_settles, putting_works, visiting_works};

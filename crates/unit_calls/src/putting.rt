@@ -1,15 +1,15 @@
-//! Laws of calls that take the turn once and draw no number.
-ghost use Rattle.std.specs.Prelude.{◌≡◌, ℕ, List, [], ◌∷◌, Result, MatchResult, false};
-ghost use Rattle.frame_checks.specs.declared.open_reply.OpenReply.{OpenReply};
+//! Laws of calls that take the turn once, draw no number and make no entry.
+ghost use Rattle.std.specs.Prelude.{◌≡◌, ℕ, List, Result, length};
 ghost use Rattle.record_io.specs.declared.records.Record.{Record};
-ghost use Rattle.record_io.specs.declared.kinds.RecordKind.TheVariants.{Open};
 ghost use Rattle.counter_table.specs.declared.view.View.{View};
+ghost use Rattle.counter_table.specs.Play.{IsCovered};
 ghost use Rattle.unit_book.specs.declared.fault.BookFault.{BookFault};
 ghost use Rattle.unit_book.specs.Book.{BookView};
-ghost use Rattle.unit_book.specs.Records.{Opens, RefusesFrame};
 ghost use Rattle.shared_unit.specs.Calls.{IsPut};
+ghost use Rattle.shared_unit.specs.Told.{told_by};
 ghost use Rattle.unit_work.specs.Begin.{Begin};
 ghost use Rattle.unit_work.specs.Work.{Worked};
+ghost use Rattle.unit_runs.specs.Settled.{SettlesAt};
 ghost use Rattle.unit_calls.specs.Visiting.{Visited};
 
 use sdls_outside::Site;
@@ -27,12 +27,11 @@ pub fn putting_works<O: Site>()
         → IsPut O.told O.trace O.faults O.put_faults octets result found given → Worked begin v w tasks }
 {}
 
-/// Law: who opened a frame, or was refused, worked with that frame's record.
-pub fn opening_works<O: Site>()
-    ensures { (begin : Begin) (v w : View) (found given : BookView O) (task : Record) (field : OpenReply → List ℕ)
-        (result : Result (OpenReply × ℕ) BookFault) → task.kind ≡ Open → Visited O.told O.trace O.faults O.put_faults begin found given v w
-        → MatchResult result
-        (λ told. Opens O.faults task.index task.link task.octets (field told.0) found given told.0 told.1)
-        (RefusesFrame O.faults task.index task.link task.octets found given)
-        → Worked begin v w (task ∷ []) }
+/// Law: the first put behind a segment settles its answers, where it says that no number spent is at or above its row's mark.
+pub fn putting_settles<O: Site>()
+    ensures { (begin : Begin) (v w : View) (found given : BookView O) (octets : List ℕ)
+        (result : Result (Unit {0}) BookFault) → Visited O.told O.trace O.faults O.put_faults begin found given v w
+        → IsPut O.told O.trace O.faults O.put_faults octets result found given
+        → IsCovered 512 v.numbers (told_by O.trace O.faults O.put_faults found)
+        → SettlesAt begin v w given.standing found.standing (length found.log) }
 {}

@@ -1,0 +1,37 @@
+-- A record for whose answer memory was wanting before its call.
+use Rattle.std.proofs.Common.{ℕ, [], Some, refl, sym, append-nil, arith}
+use Rattle.record_io.specs.declared.records.Record.{Record}
+use Rattle.counter_table.specs.declared.view.View.{View}
+use Rattle.unit_work.specs.Begin.{Begin}
+use Rattle.unit_work.specs.Views.{IsBetween}
+use Rattle.unit_work.specs.Deeds.{course_in}
+use Rattle.unit_work.specs.Order.{Layout}
+use Rattle.unit_calls.specs.Answering.{Answered, unserved_answer}
+use Rattle.unit_calls.proofs.Counting.{counted_none}
+use Rattle.unit_calls.proofs.Fitted.{wanting_fits}
+use Rattle.unit_calls.proofs.OneRecord.{handled_answered}
+use Rattle.unit_calls.proofs.Stages.{late_stands, unused_late}
+
+pub unserved : (begin : Begin) (layout : Layout) (segment : ℕ) (v : View) (task : Record) → Answered layout begin segment v v task (Some unserved_answer)
+unserved begin layout segment v task =
+    handled_answered begin task v v layout segment v.turn.known.log [] [] [] [] [] (record {
+      earlier = record {
+        log = ([], sym (append-nil v.turn.known.log));
+        changes = omega arith;
+        faults = omega arith;
+        standing = omega arith;
+        put_faults = omega arith;
+        stopped = λ _. refl;
+      };
+      opening = refl;
+      epochs = omega arith;
+      low = omega arith;
+      log_is = sym (append-nil v.turn.known.log);
+      made = sym (append-nil v.turn.made);
+      holds = refl;
+      filled = refl;
+    }) (counted_none begin task v v refl) tt (λ index. omega arith) (omega arith) (omega arith) unserved_answer
+    (wanting_fits (IsBetween begin v v) (course_in begin v) task)
+    (late_stands begin segment task v v 0x33 0 0 refl refl (λ is. absurd (omega arith)))
+    (λ key number uses. absurd (unused_late 0x33 0 0 key number (λ is. absurd (omega arith)) (λ is. absurd (omega arith)) uses))
+    (λ is. absurd (omega arith))

@@ -1,5 +1,0 @@
-use Rattle.unit_calls.proofs.Opened.{visiting_works}
-use Rattle.unit_calls.proofs.laws.visiting_works.Goals as goal
-
-pub returns : goal.returns
-returns g c = λ begin v w found tasks h. visiting_works g.O.Site.told g.O.Site.trace g.O.Site.faults g.O.Site.put_faults begin v w found tasks h
