@@ -4,6 +4,7 @@ use Rattle.sdls_base.specs.KeyId.{end_of}
 use Rattle.sdls_outside.specs.Moments.{Trace}
 use Rattle.unit_plan.specs.PlanLines.{PlanLines}
 use Rattle.frame_shield.specs.declared.protecting.ShieldFault.{ShieldFault}
+use Rattle.frame_shield.specs.Binding.{clear_fault}
 use Rattle.frame_checks.specs.Protecting.{channel_check}
 use Rattle.counter_table.specs.declared.view.Known.{Known}
 use Rattle.counter_table.specs.declared.view.Numbers.{Numbers}
@@ -11,7 +12,7 @@ use Rattle.counter_table.specs.declared.view.Turn.{Turn}
 use Rattle.counter_table.specs.declared.view.View.{View}
 use Rattle.counter_table.specs.Known.{MayGive}
 use Rattle.counter_table.specs.Numbers.{top, arming}
-use Rattle.counter_table.specs.Turn.{taking, giving, learning}
+use Rattle.counter_table.specs.Turn.{epoch_seen, taking, giving, learning}
 use Rattle.counter_table.specs.Play.{Follows}
 use Rattle.unit_book.specs.declared.fault.BookFault.{BookFault}
 use Rattle.unit_book.specs.Book.{BookView, IsKept}
@@ -65,6 +66,12 @@ refused_at told trace faults puts link clear fault epoch found v w h level visit
       is = refused_answer found.plan (state_at k found.changes) link clear fault (level.binds link clear ∙ h.0);
     }))
 
+-- a load of the epoch lets none be seen that is less
+seen_on : (v u : Turn) → (u ≡ v) ⊎ ((epoch : ℕ) × Loads epoch v u) → epoch_seen v ≤ epoch_seen u
+seen_on v u (inl same) = let at : epoch_seen u ≡ epoch_seen v = ap epoch_seen same in omega arith
+seen_on v u (inr (epoch, loads)) = let low = loads.later in
+    subst (λ (t : Turn). epoch_seen v ≤ epoch_seen t) (sym loads.is) (omega arith)
+
 back_tickets : (row end n : ℕ) (v w : Numbers) → ComesBack row end n v w → w.tickets ≡ v.tickets + 1
 back_tickets row end n v w b = let p = ap (λ (k : Numbers). k.tickets) b.is in let q = ap (λ (k : Numbers). k.tickets) b.draws.is in omega arith
 
@@ -80,7 +87,16 @@ module _ {O : Type 0} (told : Bool) (trace : O → Trace) (faults puts : O → �
   done_ready d v w h =
       let uses = spends_uses p.row (end_of p.binding.key) d.number v.numbers w.numbers h.3 in
       let turns = ap (λ (t : Turn). t.turns) h.1.is in (
-        (record { protected = h.2; back = 0; uses = uses }, inl (loads_looks p.epoch v.turn w.turn h.1)),
+        (
+          record {
+            fits = h.0;
+            protected = h.2;
+            later = (let seen = h.1.later in let at = h.2.epoch in omega arith);
+            back = 0;
+            uses = uses;
+          },
+          inl (loads_looks p.epoch v.turn w.turn h.1),
+        ),
         let t = uses.tickets in omega arith,
       )
 
@@ -97,7 +113,13 @@ module _ {O : Type 0} (told : Bool) (trace : O → Trace) (faults puts : O → �
       let funds : Funds faults p.binding.key d.number funded.3.0 funded.3.1 =
       subst (λ (n : ℕ). Funds faults p.binding.key n funded.3.0 funded.3.1) (sym funded.0) (funded.3.2, funded.3.4) in (
         (
-          record { protected = funded.1; back = 1; uses = subst (λ (n : ℕ). UsesNumber p.row n 1 v.numbers w.numbers) (sym funded.0) uses },
+          record {
+            fits = need.0;
+            protected = funded.1;
+            later = (let seen = need.1.later in let at = funded.1.epoch in omega arith);
+            back = 1;
+            uses = subst (λ (n : ℕ). UsesNumber p.row n 1 v.numbers w.numbers) (sym funded.0) uses;
+          },
           inr (takes_after told trace faults puts (Funds faults p.binding.key d.number) p.epoch v.turn u.turn w.turn need.1
               (visit_takes told trace faults puts (Funds faults p.binding.key d.number) funded.3.0 funded.3.1 u.turn w.turn visit funds)),
         ),
@@ -135,7 +157,7 @@ module _ {O : Type 0} (told : Bool) (trace : O → Trace) (faults puts : O → �
   exhausted_ready n v w h =
       let turns = ap (λ (t : Turn). t.turns) h.1.is in
       let tickets = out_tickets p.row (end_of p.binding.key) n v.numbers w.numbers h.2 in
-      (((h.0, refl, refl, h.2), inl (loads_looks p.epoch v.turn w.turn h.1)), omega arith)
+      (((h.0, refl, refl, h.2, h.1.later), inl (loads_looks p.epoch v.turn w.turn h.1)), omega arith)
 
   pub refused_ready : (fault : ShieldFault) (epoch : ℕ) (v u w : View) → IsReadyStep p clear out (readies.Refused fault) v u
       → Loads epoch u.turn w.turn → w.numbers ≡ u.numbers → epoch ≡ p.epoch
@@ -145,7 +167,8 @@ module _ {O : Type 0} (told : Bool) (trace : O → Trace) (faults puts : O → �
       let two = ap (λ (t : Turn). t.turns) loads.is in
       let looks : Looks v.turn w.turn = subst (λ (t : Turn). Looks t w.turn) h.2 (loads_looks epoch u.turn w.turn loads) in
       let tickets = ap (λ (k : Numbers). k.tickets) (numbers ∙ h.1) in
-      ((h.0, same, numbers ∙ h.1, inl looks), omega arith)
+      let later : epoch_seen v.turn ≤ epoch = subst (λ (t : Turn). epoch_seen t ≤ epoch) h.2 loads.later in
+      ((h.0, same, numbers ∙ h.1, later, inl looks), omega arith)
 
   module _ (found given : BookView O) where
     pub finished_changes : (a : Protected) (v w : View) → IsFinished faults p clear out a found given v w → given.changes ≡ found.changes
@@ -198,22 +221,35 @@ module _ {O : Type 0} (told : Bool) (trace : O → Trace) (faults puts : O → �
 
     -- the same step, as it is seen from before the take
     pub finished_under : (a : Protected) (v w x y : View) → IsFinished faults p clear out a found given v w → v.numbers ≡ x.numbers
-        → y.numbers ≡ w.numbers → Visits told trace faults puts found given x.turn y.turn → IsUnder told trace faults puts p clear out a x y
-    finished_under a v w x y h before later s =
+        → y.numbers ≡ w.numbers → Visits told trace faults puts found given x.turn y.turn → p.epoch ≡ found.changes
+        → IsUnder told trace faults puts p clear out a x y
+    finished_under a v w x y h before later s at =
         by_answer a (subst (λ (k : Numbers). IsFinished faults p clear out a found given (record v { numbers = x.numbers }) (record w { numbers = k })) (sym later)
         (subst (λ (k : Numbers). IsFinished faults p clear out a found given (record v { numbers = k }) w) before h)) where
           known : y.turn.known ≡ told_by trace faults puts given
           known = ap (λ (t : Turn). t.known) s.takes.turn
+
+          seen : epoch_seen x.turn ≤ p.epoch
+          seen = let a = s.takes.follows.epoch in let b = s.takes.follows.earlier.changes in omega arith
 
           taken : (done : BookView O → BookView O → Type 0) → done found given → TakesTurn told trace faults puts done x.turn y.turn
           taken done does = visit_takes told trace faults puts done found given x.turn y.turn s does
 
           by_answer : (b : Protected) → IsFinished faults p clear out b found given (record v { numbers = x.numbers }) (record w { numbers = y.numbers })
               → IsUnder told trace faults puts p clear out b x y
-          by_answer (answers.Done d) k = (record { protected = k.1; back = 0; uses = k.2 }, inr (taken (Funds faults p.binding.key d.number) k.4))
+          by_answer (answers.Done d) k = (
+            record {
+              fits = k.0;
+              protected = k.1;
+              later = (let low = seen in let same = k.1.epoch in omega arith);
+              back = 0;
+              uses = k.2;
+            },
+            inr (taken (Funds faults p.binding.key d.number) k.4),
+          )
           by_answer answers.Clear k = absurd k
-          by_answer (answers.Refused fault epoch) k = (k.0, k.1, k.2, inr (taken Rests k.4))
-          by_answer (answers.Exhausted key n epoch) k = ((k.0, k.1, k.2, k.3), inr (taken Rests k.5))
+          by_answer (answers.Refused fault epoch) k = (k.0, k.1, k.2, (let low = seen in let same = k.1 in omega arith), inr (taken Rests k.4))
+          by_answer (answers.Exhausted key n epoch) k = ((k.0, k.1, k.2, k.3, (let low = seen in let same = k.2 in omega arith)), inr (taken Rests k.5))
           by_answer (answers.Fault fault position) k = (
             k.0,
             k.1 ∙ ap entry_count (sym known),
@@ -226,7 +262,7 @@ module _ {O : Type 0} (told : Bool) (trace : O → Trace) (faults puts : O → �
   under_step plan link (answers.Done d) v w h used planned o same = (p, same, used, h)
   under_step plan link answers.Clear v w h used planned o same = absurd h
   under_step plan link (answers.Refused fault epoch) v w h used planned o same =
-      (inr (fails_at plan p link clear fault epoch w.turn used planned h.0 h.1, h.3), h.2)
+      (inr (fails_at plan p link clear fault epoch w.turn used planned h.0 h.1, h.3, h.4), h.2)
   under_step plan link (answers.Exhausted key n epoch) v w h used planned o same = (p, used, h)
   under_step plan link (answers.Fault fault position) v w h used planned o same = (p, used, h)
 
@@ -247,7 +283,9 @@ module _ {O : Type 0} (told : Bool) (trace : O → Trace) (faults puts : O → �
       → IsUnder told trace faults puts p clear out a u w → IsUnder told trace faults puts p clear out a v w
   under_from (answers.Done d) v u w same turn h = (
     record {
+      fits = h.0.fits;
       protected = h.0.protected;
+      later = (let on = seen_on v.turn u.turn turn in let low = h.0.later in omega arith);
       back = h.0.back;
       uses = subst (λ (k : Numbers). UsesNumber p.row d.number h.0.back k w.numbers) same h.0.uses;
     },
@@ -255,9 +293,15 @@ module _ {O : Type 0} (told : Bool) (trace : O → Trace) (faults puts : O → �
   )
   under_from answers.Clear v u w same turn h = absurd h
   under_from (answers.Refused fault epoch) v u w same turn h =
-      (h.0, h.1, h.2 ∙ same, may_on told trace faults puts Rests v.turn u.turn w.turn turn h.3)
+      (h.0, h.1, h.2 ∙ same, (let on = seen_on v.turn u.turn turn in let low = h.3 in omega arith), may_on told trace faults puts Rests v.turn u.turn w.turn turn h.4)
   under_from (answers.Exhausted key n epoch) v u w same turn h = (
-    (h.0.0, h.0.1, h.0.2, subst (λ (k : Numbers). RunsOut p.row (end_of key) n k w.numbers) same h.0.3),
+    (
+      h.0.0,
+      h.0.1,
+      h.0.2,
+      subst (λ (k : Numbers). RunsOut p.row (end_of key) n k w.numbers) same h.0.3,
+      let on = seen_on v.turn u.turn turn in let low = h.0.4 in omega arith,
+    ),
     may_on told trace faults puts Rests v.turn u.turn w.turn turn h.1,
   )
   under_from (answers.Fault fault position) v u w same turn h = (
@@ -307,7 +351,11 @@ module _ {O : Type 0} (told : Bool) (trace : O → Trace) (faults puts : O → �
     by_case : IsRefusedAt told trace faults puts plan link clear fault epoch u.turn w.turn
         → IsRefusedAt told trace faults puts plan link clear fault epoch v.turn w.turn
     by_case (inl k) = absurd (no_fault (channel_check plan link clear) passes k.0)
-    by_case (inr k) = inr (k.0, may_on told trace faults puts Rests v.turn u.turn w.turn turn k.1)
+    by_case (inr k) = inr (
+      k.0,
+      (let on = seen_on v.turn u.turn turn in let low = k.1 in omega arith),
+      may_on told trace faults puts Rests v.turn u.turn w.turn turn k.2,
+    )
   step_from plan link clear out o (answers.Exhausted key n epoch) v u w same turn channel passes h =
       (h.0, h.1, under_from told trace faults puts h.0 clear out (answers.Exhausted key n epoch) v u w same turn h.2)
   step_from plan link clear out o (answers.Fault fault position) v u w same turn channel passes h =

@@ -31,14 +31,16 @@ pub record FailsAt (link : ℕ) (clear : List ℕ) (fault : ShieldFault) (epoch 
   pub passes : (channel : ℕ) × (channel_check w.known.opening.plan link clear ≡ Ok (Some channel))
   pub is : protect_reply w.known.opening.plan (state_at w.known epoch) link clear ≡ Err fault
 
--- the key had no number left
+-- the key had no number left, in an epoch that is no less than the one seen before
 abbrev pub RunsOutUnder : Permit → List ℕ → ℕ → ℕ → ℕ → View → View → Type 0
 RunsOutUnder p clear key n epoch v w = (clear_fault p.binding clear ≡ None) × (key ≡ p.binding.key) × (epoch ≡ p.epoch)
-    × RunsOut p.row (end_of key) n v.numbers w.numbers
+    × RunsOut p.row (end_of key) n v.numbers w.numbers × (epoch_seen v.turn ≤ epoch)
 
--- The number was drawn and spent, and the frame is protected with it.
+-- The number was drawn and spent, and the frame is protected with it, in an epoch that is no less than the one seen before.
 pub record IsDone (p : Permit) (clear out : List ℕ) (d : Done) (v w : View) : Type 0 where
+  pub fits : clear_fault p.binding clear ≡ None
   pub protected : IsProtected p clear out d
+  pub later : epoch_seen v.turn ≤ d.epoch
   pub back : ℕ
   pub uses : UsesNumber p.row d.number back v.numbers w.numbers
 
@@ -105,7 +107,7 @@ module _ {O : Type 0} (told : Bool) (trace : O → Trace) (faults puts : O → �
   IsUnder p clear out (answers.Done d) v w = IsDone p clear out d v w × MayTakeTurn (Funds faults p.binding.key d.number) v.turn w.turn
   IsUnder p clear out answers.Clear v w = ⊥
   IsUnder p clear out (answers.Refused fault epoch) v w =
-      IsUnfit p.binding clear fault × (epoch ≡ p.epoch) × (w.numbers ≡ v.numbers) × MayTakeTurn Rests v.turn w.turn
+      IsUnfit p.binding clear fault × (epoch ≡ p.epoch) × (w.numbers ≡ v.numbers) × (epoch_seen v.turn ≤ epoch) × MayTakeTurn Rests v.turn w.turn
   IsUnder p clear out (answers.Exhausted key n epoch) v w = RunsOutUnder p clear key n epoch v w × MayTakeTurn Rests v.turn w.turn
   IsUnder p clear out (answers.Fault fault position) v w = IsRefusedUnder p clear fault position v w
 
@@ -114,10 +116,11 @@ module _ {O : Type 0} (told : Bool) (trace : O → Trace) (faults puts : O → �
   IsKeptStep p clear out None v w = (w.numbers ≡ v.numbers) × ((epoch : ℕ) × (p.epoch < epoch) × Loads epoch v.turn w.turn)
   IsKeptStep p clear out (Some answer) v w = IsUnder p clear out answer v w × TakesByTicket v w
 
-  -- Where the plan is enough for the check that fails first, nothing is looked at.
+  -- Where the plan is enough for the check that fails first, nothing is looked at. Else the epoch is no less than the one seen
+  -- before.
   abbrev pub IsRefusedAt : PlanLines → ℕ → List ℕ → ShieldFault → ℕ → Turn → Turn → Type 0
   IsRefusedAt plan link clear fault epoch v w =
-      ((channel_check plan link clear ≡ Err fault) × (epoch ≡ 0) × (w ≡ v)) ⊎ (FailsAt link clear fault epoch w × MayTakeTurn Rests v w)
+      ((channel_check plan link clear ≡ Err fault) × (epoch ≡ 0) × (w ≡ v)) ⊎ (FailsAt link clear fault epoch w × (epoch_seen v ≤ epoch) × MayTakeTurn Rests v w)
 
   -- What `protect` does, by its answer and the permit that is kept afterwards.
   abbrev pub IsProtectStep : PlanLines → ℕ → List ℕ → List ℕ → Option Permit → Protected → View → View → Type 0

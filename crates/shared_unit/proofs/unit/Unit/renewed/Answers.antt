@@ -1,4 +1,4 @@
-use Rattle.std.proofs.Common.{◌≡◌, ℕ, Ok, Some, None, Option, Result, inl, inr, refl, sym, ap, ◌∙◌}
+use Rattle.std.proofs.Common.{◌≡◌, ℕ, Ok, Some, None, Option, Result, inl, inr, refl, sym, ap, ◌∙◌, arith}
 use Rattle.frame_checks.specs.Protecting.{channel_check}
 use Rattle.frame_shield.specs.declared.protecting.ShieldFault.{ShieldFault}
 use Rattle.unit_plan.specs.PlanLines.{PlanLines}
@@ -60,6 +60,7 @@ returns-in-Refused-clause-step g c =
         refused_at g.O.Site.told g.O.Site.trace g.O.Site.faults g.O.Site.put_faults c.args.link c.args.clear.now c.in-Refused.fault c.in-Refused.epoch found (view c.args.worker.now).turn (view c.give.new.worker).turn
             c.in-Refused.ensures.permits (level_of g.O.Site.told g.O.Site.trace g.O.Site.faults found c.in-Refused.ensures.kept) visit
             (c.requires.channel.0, ap (λ (l : PlanLines). channel_check l c.args.link c.args.clear.now) planned ∙ c.requires.channel.1),
+        (let a = c.take-held.ensures.follows.epoch in let b = c.take-held.ensures.follows.earlier.changes in let e = c.in-Refused.ensures.permits.1 in omega arith),
         inr (visit_takes g.O.Site.told g.O.Site.trace g.O.Site.faults g.O.Site.put_faults Rests found found (view c.args.worker.now).turn (view c.give.new.worker).turn visit refl),
       ),
       c.give.ensures.same.1 ∙ c.take-held.ensures.same.1,
@@ -125,7 +126,7 @@ returns-in-Permit-clause-step g c =
     let y = view c.give-in-Permit.new.worker in
     under_step g.O.Site.told g.O.Site.trace g.O.Site.faults g.O.Site.put_faults p c.args.clear.now c.finished-answer.new.out c.args.self.now.plan c.args.link a x y
     (finished_under g.O.Site.told g.O.Site.trace g.O.Site.faults g.O.Site.put_faults p c.args.clear.now c.finished-answer.new.out found given a (view c.take-held.new.worker) (view c.finished-answer.new.worker)
-    x y c.finished-answer.ensures.step (c.take-held.ensures.same).1 (c.give-in-Permit.ensures.same).1 visit)
+    x y c.finished-answer.ensures.step (c.take-held.ensures.same).1 (c.give-in-Permit.ensures.same).1 visit (c.in-Permit.ensures.permits).2)
     record {
       linked = (c.in-Permit.ensures.permits).0;
       frame = of_permit c.args.link c.args.clear.now p found c.args.self.now.plan c.in-Permit.ensures.permits planned;
