@@ -8,4 +8,6 @@ pub mod Reserves
 pub mod Unserved
 pub mod Openings
 pub mod Commandings
+pub mod Permitted
+pub mod Protectings
 pub mod Puts

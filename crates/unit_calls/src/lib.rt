@@ -2,11 +2,11 @@
 //! that its record has (profile).
 //!
 //! There is no code to run here: definitions stand in `specs`, and the functions are laws over them, with an empty body. Each
-//! takes what a call of `shared_unit` ensures, and tells the piece of work that it is. Read [`opening_answers`] first.
+//! takes what a call of `shared_unit` ensures, and tells the piece of work that it is. Read [`protecting_answers`] first.
 #![tactic(auto)]
 
 mod answering;
 mod putting;
 
-pub use answering::{commanding_answers, opening_answers, unserved_answers};
+pub use answering::{commanding_answers, opening_answers, protecting_answers, unserved_answers};
 pub use putting::{putting_settles, putting_works, visiting_works};
