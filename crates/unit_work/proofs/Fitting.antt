@@ -92,7 +92,7 @@ module _ (near far : ℕ → ℕ → Type 0) (more : (k n : ℕ) → near k n �
     is = unmarked_more p h.key h.number low h.is;
   }
 
-  can_append : (kind : RecordKind) (p : ℕ) (t : Record) → p ≤ length es → CanAppend near old p t kind → CanAppend far new p t kind
+  pub can_append : (kind : RecordKind) (p : ℕ) (t : Record) → p ≤ length es → CanAppend near old p t kind → CanAppend far new p t kind
   can_append Protect p t low h = can_reserve p t low h
   can_append Open p t low h = can_raise p t low h
   can_append Command p t low (inl h) = inl (can_change p t low h)

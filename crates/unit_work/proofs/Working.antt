@@ -19,13 +19,13 @@ use Rattle.unit_state.proofs.Histories.{after_more}
 use Rattle.unit_history.specs.Log.{entries_of}
 use Rattle.unit_history.specs.Legal.{IsLegalAt}
 use Rattle.unit_history.specs.Counts.{is_of_record, is_of_none}
-use Rattle.unit_history.specs.Fits.{Course, Fits}
+use Rattle.unit_history.specs.Fits.{Course, Fits, MayAppend}
 use Rattle.unit_work.specs.Begin.{Begin}
 use Rattle.unit_work.specs.Views.{Gains, both_gains, log_of, entries_in, IsRow, IsBetween, Grows}
 use Rattle.unit_work.specs.Work.{IsAsked, Works}
 use Rattle.unit_work.specs.Deeds.{Deed, course_in, is_ordered, epoch_told, StandsBehind, StandsWithin, IsLastAt, Agree, EachTwo, AllBoth, MadeLast, IsSpent, Answers}
 use Rattle.unit_work.proofs.Histories.{entries_both, entries_counted, row_kept}
-use Rattle.unit_work.proofs.Fitting.{fits_more}
+use Rattle.unit_work.proofs.Fitting.{can_append, fits_more}
 use Rattle.unit_work.proofs.Logs.{stands_both, times_both, count_of_both, last_kept, drawers_both, indexed_both, count_at_both, count_kept, legal_more, legal_wider, told_kept}
 
 -- a count that rose has risen: the two layers say it in two ways
@@ -84,6 +84,22 @@ module _ (begin : Begin) (u v w z : View) (low : Grows u v) (high : Grows w z) w
       let here : Fits near (course_with (entries_in w ++ r) z.turn.known.opening.faults) t x =
       subst (λ (o : Opening). Fits near (course_with (entries_in w ++ r) o.faults) t x) (sym high.opening) there in
       subst (λ (es : List Entry). Fits near (course_with es z.turn.known.opening.faults) t x) (sym grown) here
+
+  -- a record that may need an append may still need it
+  pub may_later : (t : Record) (p : ℕ) → p ≤ length (entries_in w) → MayAppend (IsBetween begin v w) (course_in begin w) p t
+      → MayAppend (IsBetween begin u z) (course_in begin z) p t
+  may_later t p within may =
+      let r : List Entry = (grown_entries w z high).0 in
+      let near : ℕ → ℕ → Type 0 = IsBetween begin u z in
+      let closed : Rose w.turn.known.opening.faults w.turn.known.faults → length (entries_in w ++ r) ≡ length (entries_in w) =
+      λ rose. let s = high.earlier.stopped (subst (λ (o : Opening). HasRisen o.faults w.turn.known.faults) (sym high.opening) (risen_of _ _ rose)) in
+      ap length (sym grown) ∙ (sym (entries_counted (log_of z)) ∙ (s ∙ entries_counted (log_of w))) in
+      let there : MayAppend near (course_with (entries_in w ++ r) w.turn.known.opening.faults) p t =
+      can_append (IsBetween begin v w) near between begin.plan begin.start begin.slots begin.used begin.told
+      w.turn.known.opening.faults w.turn.known.faults z.turn.known.faults (entries_in w) r high.earlier.faults closed t.kind p t within may in
+      let here : MayAppend near (course_with (entries_in w ++ r) z.turn.known.opening.faults) p t =
+      subst (λ (o : Opening). MayAppend near (course_with (entries_in w ++ r) o.faults) p t) (sym high.opening) there in
+      subst (λ (es : List Entry). MayAppend near (course_with es z.turn.known.opening.faults) p t) (sym grown) here
 
   pub told_later : (d : Deed) → StandsWithin begin v w d → IsTrue (is_ordered begin d) → epoch_told (entries_in z) d ≡ epoch_told (entries_in w) d
   told_later d s ordered = rw grown
