@@ -1,1 +1,4 @@
 pub mod Doing
+pub mod Coming
+pub mod Finishing
+pub mod Ran

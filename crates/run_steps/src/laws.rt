@@ -15,7 +15,17 @@ ghost use Rattle.unit_work.specs.Order.{Handled, Layout, LiesIn};
 ghost use Rattle.unit_runs.specs.Ending.{EndsRun};
 ghost use Rattle.unit_runs.specs.Release.{AreReleases};
 ghost use Rattle.run_ends.specs.Account.{deeds_from};
+ghost use Rattle.record_io.specs.Reading.{SourceSeen};
+ghost use Rattle.unit_book.specs.Book.{BookView};
+ghost use Rattle.run_ends.specs.declared.end.RunEnd.{RunEnd};
+ghost use Rattle.run_ends.specs.Lives.{EndsAndLives};
+ghost use Rattle.run_steps.specs.Finishing.{Finishes};
+ghost use Rattle.run_steps.specs.Ran.{call_seen, CountsSlots, Ran};
 ghost use Rattle.run_steps.specs.Doing.{AreSettledInside, HasDone, HasSettled, IsBefore, IsFounded, IsSegment, octets_put, Puts, Settles};
+
+use run_ends::sound_call_keeps_lives;
+use sdls_outside::Site;
+use unit_image::{refused_with_one, shows_one};
 
 /// Law: a run goes on by a segment, whose records were handled and whose answers were put; and these are settled.
 pub fn segment_goes_on()
@@ -48,3 +58,18 @@ pub fn run_stands()
         → (faults : ℕ) → now.turn.known.faults ≤ faults → (Rose now.turn.known.opening.faults now.turn.known.faults → releases ≡ [])
         → EndsRun begin first now places (deeds_from places answers) words releases faults }
 {}
+
+/// Law: a call whose book was opened, whose records one worker served, and which released its keys and put End, ends as a run
+/// ends, and goes on with each life that left the image at its entry.
+pub fn run_ends_well<O: Site>()
+    ensures { (site after : O) (source source_after : SourceSeen) (first now : View) (came : RunEnd) (book : BookView O)
+        (words : List ℕ) (entries : List Entry) (status : ℕ)
+        → Ran O.told O.trace O.faults O.put_faults site source source_after first now came book words
+        → (end : Finishes O.told O.trace O.faults O.put_faults (O.faults site) words came book after entries status)
+        → CountsSlots O.told O.faults (O.trace site).now.image end.last
+        → EndsAndLives (call_seen O.told O.trace O.faults O.put_faults site after source source_after status entries) }
+{
+    shows_one();
+    refused_with_one();
+    sound_call_keeps_lives();
+}
