@@ -19,6 +19,7 @@ use Rattle.counter_table.specs.declared.counters.Worker.{Worker}
 use Rattle.counter_table.specs.Known.{mark_of, pieces}
 use Rattle.counter_table.specs.Numbers.{amount, count_of, top, raising, lifting, joined, keeper, newcomer, first_numbers}
 use Rattle.counter_table.specs.Turn.{stands, places, no_turn, filling, learning, merged, beginner}
+use Rattle.counter_table.specs.Play.{IsAsKnown}
 use Rattle.counter_table.specs.Whole.{IsWhole}
 use Rattle.counter_table.specs.Worker.{view}
 use Rattle.unit_history.specs.Log.{entries_of}
@@ -167,11 +168,11 @@ module _ (k : Known) (t u : Turn) (is : u ≡ taking_once k k t) where
 module _ {O B : Type 0} (told : Bool) (trace : O → Trace) (faults puts : O → ℕ) (book found : BookView O) where
   pub begins : (counters : Counters B) (plan : PlanLines) (worker : Worker B) (t : Turn) (v w u : View)
       → t ≡ filling (told_by trace faults puts book) no_turn → book.log ≡ [] → TakesOnce (told_by trace faults puts found) (told_by trace faults puts found) t u.turn
-      → IsKept told trace faults book → IsKept told trace faults found → v.numbers ≡ first_numbers → IsRaised (told_by trace faults puts found) 512 v w → u.numbers ≡ w.numbers
+      → IsAsKnown t (told_by trace faults puts found) → IsKept told trace faults book → IsKept told trace faults found → v.numbers ≡ first_numbers → IsRaised (told_by trace faults puts found) 512 v w → u.numbers ≡ w.numbers
       → view worker ≡ record { numbers = joined (keeper u.numbers) (newcomer u.numbers); turn = merged u.turn (beginner u.turn) }
       → IsReady counters plan worker → ((view worker).numbers.shares ≡ 1024 → IsWhole 512 (view worker))
       → Begins trace faults puts book counters plan worker
-  begins counters plan worker t v w u filled first takes begun kept numbers raised later is ready whole =
+  begins counters plan worker t v w u filled first takes known_as begun kept numbers raised later is ready whole =
       record {
         ready = ready;
         shares = shares;
@@ -186,7 +187,7 @@ module _ {O B : Type 0} (told : Bool) (trace : O → Trace) (faults puts : O →
         standing = ap (λ (x : View). x.turn.known.standing) is ∙ back_standing k t u.turn takes.turn ∙ none_stand found kept log_found
             ∙ sym (none_stand book begun first);
         put_faults = put_faults;
-        later = faults_later;
+        faults_same = faults_same;
         words = λ row h. (exact row h).0;
         raised = raised_low;
         added = λ row h. (exact row h).1;
@@ -241,11 +242,11 @@ module _ {O B : Type 0} (told : Bool) (trace : O → Trace) (faults puts : O →
             let e = ap (λ (x : Known). pieces x.log) known_filled ∙ ap pieces first in
             let f = ap pieces log_found in omega arith
 
-        faults_later : faults book.site ≤ (view worker).turn.known.faults
-        faults_later =
+        faults_same : (view worker).turn.known.faults ≡ faults book.site
+        faults_same =
             let a = ap (λ (x : View). x.turn.known.faults) is ∙ back_faults k t u.turn takes.turn in
             let b = ap (λ (x : Known). x.faults) known_filled in
-            let c = takes.follows.earlier.faults in omega arith
+            let c = known_as.faults in omega arith
 
         marked : (row : ℕ) → mark_of (told_by trace faults puts found) row ≡ mark_at book.start row
         marked row = ap (λ (s : State). mark_at s row) state

@@ -44,6 +44,7 @@ pub record IsOpened {O : Type 0} (told : Bool) (trace : O → Trace) (faults put
   pub plan : IsTrue told → plan_of (held (trace site).now.image).plan ≡ Ok book.plan
   pub any_moment : IsTrue told → EachMoment (trace site) (trace book.site) (Opening (trace site))
   pub later : faults site ≤ faults book.site
+  pub stood : faults book.site ≡ faults site
   pub puts_same : puts book.site ≡ puts site
 
 -- The first worker, which has all shares: it drew, spent and made nothing yet, and each word is its key's mark, 1 where there
@@ -59,7 +60,7 @@ pub record Begins {O B : Type 0} (trace : O → Trace) (faults puts : O → ℕ)
   pub whole : IsWhole 512 (view worker)
   pub standing : (view worker).turn.known.standing ≡ book.standing
   pub put_faults : (view worker).turn.known.put_faults ≡ puts book.site
-  pub later : faults book.site ≤ (view worker).turn.known.faults
+  pub faults_same : (view worker).turn.known.faults ≡ faults book.site
   pub words : (row : ℕ) → row < 512 → top row (view worker).numbers.nexts ≡ mark_at book.start row
   pub raised : (row : ℕ) → row < 512 → top row (view worker).numbers.raised ≤ mark_at book.start row
   pub added : (row : ℕ) → row < 512 → top row (view worker).numbers.nexts ≡ 1 + amount row (view worker).numbers.added

@@ -58,7 +58,7 @@ impl<O: Site> Unit<O> {
         ensures kept { IsKept O.told O.trace O.faults result.0 }
         ensures closes { Closes 512 (view worker) (told_by O.trace O.faults O.put_faults result.0) result.1.items }
     {
-        let Unit { counters, plan: _ } = self;
+        let counters = self.into_counters();
         let (shelf, nexts) = counters.close(worker);
         (shelf.into_book(), nexts)
     }

@@ -58,6 +58,12 @@ impl<O: Site> Counted for Shelf<O> {
     }
 }
 
+impl<O: Site + Drop> Drop for Shelf<O> {
+    fn drop(self) {
+        let (_site, _entries) = self.into_book().into_site();
+    }
+}
+
 impl<O: Site> Shelf<O> {
     pub(crate) fn new(book: Book<O>) -> Shelf<O>
         requires { IsKept O.told O.trace O.faults book }

@@ -15,10 +15,26 @@ pub struct Unit<O: Site> {
     ghost rows: { counters.rows ≡ 512 },
 }
 
+impl<O: Site + Drop> Drop for Unit<O> {
+    fn drop(self) {
+        let Unit {
+            counters: _,
+            plan: _,
+        } = self;
+    }
+}
+
 /// One who makes calls on a unit. It has no octets.
 pub type Worker<O> = counter_table::Worker<Shelf<O>>;
 
 impl<O: Site> Unit<O> {
+    pub(crate) fn into_counters(self) -> Counters<Shelf<O>>
+        ensures { result ≡ self.counters }
+    {
+        let Unit { counters, plan: _ } = self;
+        counters
+    }
+
     /// The channel of a frame in clear that is to be protected, or the first check that fails of those for which the plan is
     /// enough. `None` is a frame that is sent as it stands. Takes neither memory nor the turn.
     pub fn channel(&self, link: u8, clear: &[u8]) -> Result<Option<ChannelId>, ShieldFault>

@@ -1,5 +1,6 @@
 use Rattle.std.proofs.Common.{ap, sym, subst, ◌∙◌}
 use Rattle.counter_table.specs.declared.view.View.{View}
+use Rattle.counter_table.specs.declared.view.Numbers.{Numbers}
 use Rattle.counter_table.specs.declared.view.Turn.{Turn}
 use Rattle.counter_table.specs.Worker.{view}
 use Rattle.counter_table.specs.Numbers.{keeper, joined}
@@ -44,6 +45,7 @@ returns-clause-made g c =
     (holds_visits g.O.Site.trace g.O.Site.faults g.O.Site.put_faults g.O.Site.told found found t (view c.take-held.new.worker).turn (view c.raise_all.new.worker).turn u.turn
     c.look.ensures c.look.ensures c.take-held.ensures.follows (goes_itself g.O.Site.faults g.O.Site.put_faults found) c.take-held.ensures.turn
     c.raise_all.ensures.raised.holds c.give.ensures.turn).takes
+    (c.take-held.ensures.as_known (ap (λ (n : Numbers). n.shares) (c.fill.ensures.same.1 ∙ ap (λ (x : View). x.numbers) first)))
     c.requires.kept c.look.ensures
     (c.take-held.ensures.same.1 ∙ c.fill.ensures.same.1 ∙ ap (λ (x : View). x.numbers) first)
     c.raise_all.ensures.raised c.give.ensures.same.1
