@@ -312,6 +312,28 @@ module _ {O : Type 0} (told : Bool) (trace : O → Trace) (faults puts : O → �
   commanded (Err (fault, position)) (inr (need, needed, inr (seen, middle, shows, r)), at) =
       refuses need seen middle needed (satisfied need seen middle needed shows) fault position at r
 
+-- the call that took the turn at once
+abbrev pub call_of : {O : Type 0} (told : Bool) (trace : O → Trace) (faults puts : O → ℕ) (begin : Begin) (layout : Layout) (segment : ℕ)
+    (task : Record) (v w : View) (found given : BookView O) → BeganWith told begin v.turn.known.opening → v.turn.holds ≡ false
+    → Visits told trace faults puts found given v.turn w.turn → Call told trace faults puts
+call_of {O} told trace faults puts begin layout segment task v w found given began free visits = record {
+  begin = begin;
+  layout = layout;
+  segment = segment;
+  task = task;
+  old_view = v;
+  new_view = w;
+  taken = v.turn;
+  found = found;
+  given = given;
+  began = began;
+  free = free;
+  visits = visits;
+  known = refl;
+  seen = omega arith;
+  pass = λ log es t. t;
+}
+
 pub commanding_answers : {O : Type 0} (told : Bool) (trace : O → Trace) (faults puts : O → ℕ) (begin : Begin) (layout : Layout) (segment : ℕ)
     (task : Record) (v w : View) (found given : BookView O) → BeganWith told begin v.turn.known.opening → v.turn.holds ≡ false
     → task.kind ≡ Command → Visits told trace faults puts found given v.turn w.turn → (result : Result (Reply × ℕ) (BookFault × ℕ))
@@ -319,20 +341,4 @@ pub commanding_answers : {O : Type 0} (told : Bool) (trace : O → Trace) (fault
     (λ answer. IsCommanded faults task.index task.octets answer found given v.numbers w.numbers)
     → Answered layout begin segment v w task (commanded_answer result)
 commanding_answers {O} told trace faults puts begin layout segment task v w found given began free commands visits result handled =
-    commanded told trace faults puts (record {
-      begin = begin;
-      layout = layout;
-      segment = segment;
-      task = task;
-      old_view = v;
-      new_view = w;
-      taken = v.turn;
-      found = found;
-      given = given;
-      began = began;
-      free = free;
-      visits = visits;
-      known = refl;
-      seen = omega arith;
-      pass = λ log es t. t;
-    }) commands result handled
+    commanded told trace faults puts (call_of told trace faults puts begin layout segment task v w found given began free visits) commands result handled

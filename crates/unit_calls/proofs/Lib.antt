@@ -5,9 +5,13 @@ pub mod Fitted
 pub mod Visit
 pub mod Stages
 pub mod Reserves
+pub mod Moving
+pub mod Exactness
 pub mod Unserved
 pub mod Openings
 pub mod Commandings
 pub mod Permitted
 pub mod Protectings
+pub mod OpensExactly
+pub mod CommandsExactly
 pub mod Puts

@@ -6,7 +6,9 @@
 #![tactic(auto)]
 
 mod answering;
+mod exactly;
 mod putting;
 
 pub use answering::{commanding_answers, opening_answers, protecting_answers, unserved_answers};
+pub use exactly::{commanding_is_exact, opening_is_exact, unserved_is_exact};
 pub use putting::{putting_settles, putting_works, visiting_works};

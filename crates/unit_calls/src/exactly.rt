@@ -1,0 +1,35 @@
+//! Laws of one lane alone: how a record moves the words, as its answer tells.
+ghost use Rattle.std.specs.Prelude.{◌≡◌, ℕ, List, Result, Some, false};
+ghost use Rattle.frame_checks.specs.declared.open_reply.OpenReply.{OpenReply};
+ghost use Rattle.ep_core.specs.declared.reply.Reply.{Reply};
+ghost use Rattle.record_io.specs.declared.records.Record.{Record};
+ghost use Rattle.record_io.specs.declared.kinds.RecordKind.TheVariants.{Open, Command};
+ghost use Rattle.counter_table.specs.declared.view.View.{View};
+ghost use Rattle.unit_book.specs.declared.fault.BookFault.{BookFault};
+ghost use Rattle.unit_work.specs.Begin.{Begin};
+ghost use Rattle.unit_calls.specs.Visiting.{BeganWith};
+ghost use Rattle.unit_calls.specs.Answering.{AnsweredExactly, commanded_answer, CommandsRecord, opened_answer, OpensRecord, unserved_answer};
+
+use sdls_outside::Site;
+
+/// Law: a record for whose answer memory was wanting before its call moved no word.
+pub fn unserved_is_exact()
+    ensures { (begin : Begin) (segment : ℕ) (v : View) (task : Record)
+        → AnsweredExactly begin segment v v task (Some unserved_answer) }
+{}
+
+/// Law: a frame that is opened moves no word.
+pub fn opening_is_exact<O: Site>()
+    ensures { (begin : Begin) (segment : ℕ) (v w : View) (task : Record) (left : List ℕ)
+        (result : Result (OpenReply × ℕ) (BookFault × ℕ)) → BeganWith O.told begin v.turn.known.opening → v.turn.holds ≡ false
+        → task.kind ≡ Open → w.numbers ≡ v.numbers → OpensRecord O.told O.trace O.faults O.put_faults task left result v w
+        → AnsweredExactly begin segment v w task (opened_answer result left) }
+{}
+
+/// Law: a message moves the word that it needs, and its answer tells how.
+pub fn commanding_is_exact<O: Site>()
+    ensures { (begin : Begin) (segment : ℕ) (v w : View) (task : Record)
+        (result : Result (Reply × ℕ) (BookFault × ℕ)) → BeganWith O.told begin v.turn.known.opening → v.turn.holds ≡ false
+        → task.kind ≡ Command → CommandsRecord O.told O.trace O.faults O.put_faults task result v w
+        → AnsweredExactly begin segment v w task (commanded_answer result) }
+{}
