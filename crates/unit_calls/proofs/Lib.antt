@@ -14,4 +14,5 @@ pub mod Permitted
 pub mod Protectings
 pub mod OpensExactly
 pub mod CommandsExactly
+pub mod ProtectsExactly
 pub mod Puts

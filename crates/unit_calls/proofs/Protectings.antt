@@ -54,7 +54,7 @@ use Rattle.unit_calls.proofs.Visit.{changes_are, standing_found, led_known}
 use Rattle.unit_calls.proofs.Stages.{Call, Stage, stage_found, answered}
 use Rattle.unit_calls.proofs.Reserves.{reserved, refused}
 
-one_drawer : (task : Record) → task.kind ≡ Protect → drawers (task ∷ []) ≡ 1
+pub one_drawer : (task : Record) → task.kind ≡ Protect → drawers (task ∷ []) ≡ 1
 one_drawer task is = ap (λ (k : RecordKind). drawers (record task { kind = k } ∷ [])) is
 
 -- an answer of a frame tells an epoch, where the frame has a channel
@@ -81,7 +81,7 @@ module _ {O : Type 0} (told : Bool) (trace : O → Trace) (faults puts : O → �
       → ((key number : ℕ) → Uses answer key number → (row : ℕ) × (row < begin.rows) × IsRow begin w key row × (0 < times row number spent))
       → answer.code ≢ 0x31 → Handled layout begin v w (task ∷ []) (deed_of segment task answer ∷ [])
 
-  looked : Looks v.turn w.turn → Turned v.turn.known.log [] v.turn w.turn
+  pub looked : Looks v.turn w.turn → Turned v.turn.known.log [] v.turn w.turn
   looked l = subst (λ (t : Turn). Turned v.turn.known.log [] v.turn t) (sym l.is) (record {
     earlier = record {
       log = ([], sym (append-nil v.turn.known.log));
@@ -106,7 +106,7 @@ module _ {O : Type 0} (told : Bool) (trace : O → Trace) (faults puts : O → �
       (omega arith) (omega arith) answer fits within used (λ is. absurd (plain is))
 
   -- the call that took the turn behind a look at the epoch
-  abbrev call_of : (done : BookView O → BookView O → Type 0) → TakesTurn told trace faults puts done v.turn w.turn → Call told trace faults puts
+  abbrev pub call_of : (done : BookView O → BookView O → Type 0) → TakesTurn told trace faults puts done v.turn w.turn → Call told trace faults puts
   call_of done t = record {
     begin = begin;
     layout = layout;
@@ -183,10 +183,10 @@ module _ {O : Type 0} (told : Bool) (trace : O → Trace) (faults puts : O → �
     place_then : place_of (at_epoch begin.start (entries_in w) p.epoch).keys p.binding.key ≡ Some p.row
     place_then = subst (λ (s : State). place_of (at_epoch s (entries_in w) p.epoch).keys p.binding.key ≡ Some p.row) start_is used.trusted.row
 
-    row_is : IsRow begin w p.binding.key p.row
+    pub row_is : IsRow begin w p.binding.key p.row
     row_is = row_last begin.start (entries_in w) p.epoch p.binding.key p.row reached place_then
 
-    row_below : p.row < begin.rows
+    pub row_below : p.row < begin.rows
     row_below = let rows = began.rows in let there = used.trusted.there in omega arith
 
     near_row : (n : ℕ) (drawn spent raised added : List (ℕ × ℕ)) → Shows begin task v w p.row n drawn spent raised added → IsBetween begin v w p.binding.key n
@@ -237,11 +237,11 @@ module _ {O : Type 0} (told : Bool) (trace : O → Trace) (faults puts : O → �
   opening_looked : Looks v.turn w.turn → w.turn.known.opening ≡ v.turn.known.opening
   opening_looked l = ap (λ (t : Turn). t.known.opening) l.is
 
-  opening_taken : (done : BookView O → BookView O → Type 0) → TakesTurn told trace faults puts done v.turn w.turn
+  pub opening_taken : (done : BookView O → BookView O → Type 0) → TakesTurn told trace faults puts done v.turn w.turn
       → w.turn.known.opening ≡ v.turn.known.opening
   opening_taken done t = ap (λ (k : Turn). k.known.opening) t.visits.takes.turn ∙ t.visits.takes.opening ∙ t.visits.takes.follows.opening
 
-  opening_same : (done : BookView O → BookView O → Type 0) → MayTakeTurn told trace faults puts done v.turn w.turn
+  pub opening_same : (done : BookView O → BookView O → Type 0) → MayTakeTurn told trace faults puts done v.turn w.turn
       → w.turn.known.opening ≡ v.turn.known.opening
   opening_same done (inl l) = opening_looked l
   opening_same done (inr t) = opening_taken done t

@@ -10,5 +10,5 @@ mod exactly;
 mod putting;
 
 pub use answering::{commanding_answers, opening_answers, protecting_answers, unserved_answers};
-pub use exactly::{commanding_is_exact, opening_is_exact, unserved_is_exact};
+pub use exactly::{commanding_is_exact, opening_is_exact, protecting_is_exact, unserved_is_exact};
 pub use putting::{putting_settles, putting_works, visiting_works};
