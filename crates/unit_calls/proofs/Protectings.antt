@@ -259,6 +259,7 @@ module _ {O : Type 0} (told : Bool) (trace : O → Trace) (faults puts : O → �
       ap (λ (b : Bool). if b then epoch else epoch_after (take epoch (entries_in w))) kind_true in
       record {
         entry = λ t. absurd (protected_only task.kind (nat_lt 0 fields.code) (nat_lt fields.code 0x18) protects t);
+        stored = λ t. absurd (protected_only task.kind (nat_lt 0 fields.code) (nat_lt fields.code 0x18) protects t);
         epoch = λ _. (omega arith, omega arith);
         number = λ is _. number is;
       }
@@ -268,6 +269,7 @@ module _ {O : Type 0} (told : Bool) (trace : O → Trace) (faults puts : O → �
       → StandsWithin begin v w (deed_of segment task (answer_of fields 0))
   plain_stands fields some none = record {
     entry = λ t. absurd (protected_only task.kind (nat_lt 0 fields.code) (nat_lt fields.code 0x18) protects t);
+    stored = λ t. absurd (protected_only task.kind (nat_lt 0 fields.code) (nat_lt fields.code 0x18) protects t);
     epoch = λ o.
         let there = channel_passed begin.plan task.link task.octets (ordered_channel task.kind (nat_lt 0 fields.code) (nat_lt fields.code 0x18)
         (has_channel begin.plan task.link task.octets) (nat_lt fields.code 0x21) protects o) in

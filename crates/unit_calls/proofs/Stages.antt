@@ -70,6 +70,8 @@ late_stands begin segment task v w code n position p q some =
     record {
       entry = λ t. absurd (late_entry task.kind (nat_lt 0 code)
           (subst (λ (b : Bool). IsTrue (not (is_protected task.kind) && (nat_lt 0 code && b))) p t));
+      stored = λ t. absurd (late_entry task.kind (nat_lt 0 code)
+          (subst (λ (b : Bool). IsTrue (not (is_protected task.kind) && (nat_lt 0 code && b))) p t));
       epoch = λ t. absurd (late task.kind channel (nat_lt 0 code)
           (subst (λ (b : Bool). IsTrue ((not (is_protected task.kind) && (nat_lt 0 code && b)) || (is_protected task.kind && (channel && false)))) p
           (subst (λ (b : Bool). IsTrue ((not (is_protected task.kind) && (nat_lt 0 code && nat_lt code 0x18)) || (is_protected task.kind && (channel && b)))) q t)));
@@ -401,6 +403,10 @@ module _ {O : Type 0} (told : Bool) (trace : O → Trace) (faults puts : O → �
                 omega arith,
             omega arith,
           );
+          stored = λ _.
+              let stand : given.standing ≡ old.standing + 1 = ap (λ (b : BookView O). b.standing) enters.is in
+              let known_standing : w.turn.known.standing ≡ given.standing = ap (λ (t : Turn). t.known.standing) c.visits.takes.turn in
+              let all = stage.all_stand can.0 in omega arith;
           epoch = λ _.
               let told_is : epoch_told (entries_in w) (deed_of segment task (answer_of fields position)) ≡ epoch_after (entries_in w) =
               ap (λ (b : Bool). if b then position else epoch_after (take position (entries_in w))) none

@@ -112,6 +112,7 @@ module _ (begin : Begin) (u v w z : View) (low : Grows u v) (high : Grows w z) w
         let m : length (entries_in v) ≡ length (entries_in u) + length r = ap length lower ∙ length-append (entries_in u) r in
         let n : length (entries_in z) ≡ length (entries_in w) + length (grown_entries w z high).0 = ap length grown ∙ length-append (entries_in w) (grown_entries w z high).0 in
         (omega arith, omega arith);
+    stored = λ e. let a = s.stored e in let h = high.earlier.standing in omega arith;
     epoch = λ o. let a = s.epoch o in let same = told_later d s o in let l = low.epochs in let h = high.epochs in (omega arith, omega arith);
     number = λ c k. let a = s.number c k in (a.0, row_later d.answer.key a.0 a.1, le_trans (low.nexts a.0) a.2, let h = high.nexts a.0 in omega arith);
   }

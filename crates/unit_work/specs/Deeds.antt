@@ -81,9 +81,10 @@ pub record StandsBehind (begin : Begin) (history : List Entry) (one other : Deed
 abbrev pub InTurn : Deed → Deed → Type 0
 InTurn one other = (one.task.lane ≡ other.task.lane) ⊎ (one.segment ≢ other.segment)
 
--- where the answer stands, between what was seen before and after
+-- where the answer stands, between what was seen before and after; an entry that it tells stands in the book
 pub record StandsWithin (begin : Begin) (old new : View) (deed : Deed) : Type 0 where
   pub entry : IsTrue (tells_entry deed) → (length (entries_in old) < deed.answer.position) × (deed.answer.position ≤ length (entries_in new))
+  pub stored : IsTrue (tells_entry deed) → deed.answer.position ≤ new.turn.known.standing
   pub epoch : IsTrue (is_ordered begin deed) → (epoch_seen old.turn ≤ epoch_told (entries_in new) deed)
       × (epoch_told (entries_in new) deed ≤ epoch_seen new.turn)
   pub number : deed.answer.code ≡ 0 → IsTrue (is_protected deed.task.kind) → (row : ℕ) × IsRow begin new deed.answer.key row
