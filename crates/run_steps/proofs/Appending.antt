@@ -8,7 +8,7 @@ use Rattle.record_io.specs.declared.kinds.RecordKind.TheVariants.{Protect, Open,
 use Rattle.record_io.specs.declared.records.Record.{Record}
 use Rattle.unit_plan.specs.PlanLines.{PlanLines}
 use Rattle.unit_state.specs.declared.state.State.{State}
-use Rattle.unit_history.specs.Fits.{Course, CanAppend, CanChange, CanDraw, CanRaiseFloor, CanReserve, IsUnmarked, MayAppend}
+use Rattle.unit_history.specs.Fits.{Course, CanAppend, IsUnmarked, MayAppend}
 use Rattle.unit_history.specs.Legal.{SeenNear}
 
 seen_near : (near far : ℕ → ℕ → Type 0) → ((k n : ℕ) → near k n → far k n) → (k : ℕ) (seen : Seen) → SeenNear near k seen → SeenNear far k seen

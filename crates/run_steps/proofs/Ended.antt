@@ -1,5 +1,5 @@
 -- A run whose book was opened, from the close of its counters to its end: for `run_ends_well`.
-use Rattle.std.proofs.Common.{◌≡◌, ◌≢◌, ◌⊎◌, ℕ, suc, zero, ◌+◌, ◌-◌, ◌<◌, ◌≤◌, Bool, IsTrue, List, [], ◌∷◌, ◌++◌, length, take, drop, min, get_or, Some, None, Result, Ok, Err, refl, sym, ◌∙◌, ap, subst, inl, inr, arith, append-nil, append_assoc, length-append}
+use Rattle.std.proofs.Common.{◌≡◌, ◌≢◌, ◌⊎◌, ℕ, suc, zero, ◌+◌, ◌-◌, ◌≤◌, Bool, IsTrue, List, [], ◌∷◌, ◌++◌, length, take, drop, min, get_or, Result, Ok, Err, refl, sym, ◌∙◌, ap, subst, inl, inr, arith, append-nil, append_assoc, length-append}
 use Rattle.std.specs.Prelude.{MatchResult}
 use Rattle.std.proofs.Math.Seq.{drop-append_seam, take-append-add}
 use Rattle.std.proofs.lemmas.List.{length-take, take-append-le, take_all, take_at}
@@ -27,8 +27,8 @@ use Rattle.run_ends.specs.Call.{CallSeen, ShowsAtEntry, SiteSeen}
 use Rattle.run_ends.specs.Account.{Account, TellsFault, begin_of, course_of, deeds_from, due_octets, end_answer, end_octets, end_status}
 use Rattle.run_ends.specs.Causes.{CameBy, PutsDue, PutsFront, TellsEnd}
 use Rattle.run_steps.specs.Doing.{IsFounded, octets_put}
-use Rattle.run_steps.specs.Coming.{HasBroken, HasCome, HasPut, IsFullHistory, PutsBy, ReadsTo}
-use Rattle.run_steps.specs.Finishing.{Finishes, IsEndPut, IsToldEnd, PutsEnd}
+use Rattle.run_steps.specs.Coming.{HasBroken, HasPut, IsFullHistory, PutsBy, ReadsTo}
+use Rattle.run_steps.specs.Finishing.{Finishes, IsEndPut}
 use Rattle.run_steps.specs.Ran.{CountsSlots, Ran, begin_by}
 use Rattle.run_steps.proofs.Faults.{told_rose}
 use Rattle.run_steps.proofs.Doing.{ends_run}
@@ -58,7 +58,7 @@ use Rattle.unit_state.specs.History.{after_first}
 use Rattle.unit_state.specs.History as histories
 use Rattle.unit_history.specs.Fits.{Course, Fits}
 use Rattle.unit_history.specs.Run.{LegalRun, NearWord, TurnIn}
-use Rattle.std.specs.List.{All, AllPairs, slice_index, slice_index_or, slice_get}
+use Rattle.std.specs.List.{All, AllPairs, slice_index}
 use Rattle.std.proofs.lemmas.Option.{slice_get_within, get_or_from_slice_get}
 use Rattle.std.proofs.lemmas.Bool.{cases_lt}
 use Rattle.record_io.specs.declared.answers.Answer.{Answer}

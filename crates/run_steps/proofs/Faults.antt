@@ -1,6 +1,6 @@
 -- An answer that tells a fault of the site fits only where its count had risen.
-use Rattle.std.proofs.Common.{◌≡◌, ◌⊎◌, ℕ, ◌<◌, ◌≤◌, ◌||◌, nat_lt, Bool, true, false, List, [], ◌∷◌, length, Some, None, Ok, Err, inl, inr, refl, sym, ap, ◌∙◌, subst, arith, suc, zero}
-use Rattle.std.specs.List.{All, slice_index_or}
+use Rattle.std.proofs.Common.{◌≡◌, ℕ, ◌≤◌, ◌||◌, nat_lt, Bool, true, false, List, [], ◌∷◌, length, Some, None, Ok, Err, inl, inr, refl, sym, ap, ◌∙◌, arith, suc, zero}
+use Rattle.std.specs.List.{All}
 use Rattle.std.proofs.lemmas.Option.{none-some, same_Some}
 use Rattle.sdls_outside.specs.Faults.{Rose}
 use Rattle.frame_shield.specs.declared.protecting.ShieldFault.TheVariants as faults

@@ -6,3 +6,4 @@ pub mod Faults
 pub mod Moved
 pub mod Appending
 pub mod Ended
+pub mod Looping

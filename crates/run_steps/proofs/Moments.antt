@@ -1,12 +1,10 @@
 -- The moments of a call of `run` whose book was opened: while it was opened, and while it served.
-use Rattle.std.proofs.Common.{◌≡◌, ◌⊎◌, ℕ, suc, zero, ◌+◌, ◌-◌, ◌<◌, ◌≤◌, List, [], ◌∷◌, ◌++◌, length, take, drop, refl, sym, ◌∙◌, ap, subst, inl, inr, arith, append-nil, length-append}
+use Rattle.std.proofs.Common.{◌≡◌, ◌⊎◌, ℕ, ◌+◌, ◌-◌, List, [], ◌∷◌, ◌++◌, length, take, drop, refl, sym, ◌∙◌, ap, subst, inl, inr, arith, length-append}
 use Rattle.std.proofs.Math.Seq.{drop-append_seam, take-append-add}
 use Rattle.std.proofs.lemmas.List.{drop_all}
 use Rattle.sdls_base.specs.declared.entry.Logged.{Logged}
-use Rattle.sdls_outside.specs.Disk.{Leaves}
 use Rattle.sdls_outside.specs.Moments.{Trace, Between, EachMoment}
 use Rattle.sdls_outside.proofs.Moments.{each_then, each_weaker}
-use Rattle.disk_journal.specs.Forms.{Settles}
 use Rattle.record_io.specs.Answers.{answer_octets}
 use Rattle.unit_image.specs.Opening.{Opening}
 use Rattle.unit_plan.specs.PlanLines.{PlanLines}
@@ -17,7 +15,6 @@ use Rattle.unit_work.specs.Deeds.{Deed}
 use Rattle.unit_runs.specs.Settled.{AreSettled}
 use Rattle.unit_runs.specs.Sound.{EachBegun, SoundMoment, StaysCovered, deeds_octets}
 use Rattle.unit_runs.proofs.Moments.{moment_sound}
-use Rattle.run_ends.specs.declared.end.RunEnd.{RunEnd}
 use Rattle.run_ends.specs.Call.{CallSeen, image_at_entry, sunk_since}
 use Rattle.run_ends.specs.Account.{Account, begin_of, course_of, deeds_in, end_octets}
 use Rattle.run_ends.specs.Ends.{IsEarly, IsServed}

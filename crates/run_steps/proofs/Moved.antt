@@ -1,5 +1,5 @@
 -- What was settled stays so in a longer log, and a legal run is one of the same entries.
-use Rattle.std.proofs.Common.{◌≡◌, ℕ, ◌+◌, ◌<◌, ◌≤◌, IsTrue, List, [], ◌∷◌, ◌++◌, length, take, Some, refl, sym, ◌∙◌, ap, subst, arith, le_trans, length-append}
+use Rattle.std.proofs.Common.{◌≡◌, ℕ, ◌+◌, ◌<◌, ◌≤◌, List, [], ◌∷◌, ◌++◌, length, take, Some, sym, ◌∙◌, ap, subst, arith, le_trans, length-append}
 use Rattle.std.specs.List.{slice_get}
 use Rattle.std.proofs.lemmas.List.{take-append-le, take_all}
 use Rattle.sdls_base.specs.declared.entry.Entry.{Entry}
@@ -11,7 +11,7 @@ use Rattle.unit_state.specs.declared.state.State.{State}
 use Rattle.unit_state.specs.History.{after, after_first, epoch_after}
 use Rattle.unit_history.specs.Fits.{Course}
 use Rattle.unit_history.specs.Legal.{IsLegal, IsRelease}
-use Rattle.unit_history.specs.Log.{entries_of, pieces_of}
+use Rattle.unit_history.specs.Log.{entries_of}
 use Rattle.unit_history.specs.Run.{LegalRun, NearWord}
 use Rattle.unit_history.specs.Counts.{drawers, reserves_of}
 use Rattle.unit_work.specs.Begin.{Begin}
@@ -19,7 +19,6 @@ use Rattle.unit_work.specs.Deeds.{Deed, epoch_told}
 use Rattle.unit_work.proofs.Histories.{entries_both}
 use Rattle.unit_work.proofs.Logs.{entries_low, told_kept}
 use Rattle.unit_runs.specs.Settled.{AreSettled, IsSettled}
-use Rattle.unit_runs.specs.Sound.{IsCoveredBy}
 
 module _ (begin : Begin) (old new : Course) (start_is : new.start ≡ old.start) (stored more : ℕ) (fewer : stored ≤ more) (log rest : List Logged)
     (old_entries : old.entries ≡ entries_of log) (new_entries : new.entries ≡ entries_of (log ++ rest)) where

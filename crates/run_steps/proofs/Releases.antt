@@ -1,9 +1,8 @@
 -- The releases that a book made at the end of a run, as entries behind those of the lanes.
-use Rattle.std.proofs.Common.{◌≡◌, ◌≢◌, ◌⊎◌, ℕ, suc, zero, ◌+◌, ◌-◌, ◌<◌, ◌≤◌, List, [], ◌∷◌, ◌++◌, length, take, Some, None, Option, Result, Ok, Err, refl, sym, ◌∙◌, ap, subst, inl, inr, arith, append-nil, append_assoc, length-append, get_or, drop}
-use Rattle.std.specs.List.{slice_get, slice_index}
+use Rattle.std.proofs.Common.{◌≡◌, ◌⊎◌, ℕ, suc, ◌+◌, ◌-◌, ◌<◌, ◌≤◌, List, [], ◌∷◌, ◌++◌, length, take, Some, Result, Ok, Err, refl, sym, ◌∙◌, ap, subst, inl, inr, arith, append-nil, append_assoc, length-append, get_or, drop}
+use Rattle.std.specs.List.{slice_get}
 use Rattle.std.proofs.Math.Seq.{take-append-add}
-use Rattle.std.proofs.lemmas.List.{take_all, take_at, take-append-drop}
-use Rattle.std.proofs.lemmas.Bool.{cases_lt}
+use Rattle.std.proofs.lemmas.List.{take_at, take-append-drop}
 use Rattle.std.proofs.lemmas.Option.{slice_get_within, get_or_from_slice_get}
 use Rattle.sdls_base.specs.declared.entry.Entry.{Entry}
 use Rattle.sdls_base.specs.declared.entry.Logged.{Logged}
@@ -19,13 +18,13 @@ use Rattle.unit_history.specs.Legal.{AreNear}
 use Rattle.unit_history.specs.Log.{entries_of, pieces_of}
 use Rattle.unit_history.specs.Numbers.{release_of, releases}
 use Rattle.unit_history.proofs.Releasing.{made_release}
-use Rattle.unit_work.proofs.Histories.{entries_both, get_front}
+use Rattle.unit_work.proofs.Histories.{entries_both}
 use Rattle.unit_runs.specs.Release.{AreReleases}
 use Rattle.unit_runs.proofs.Rows.{row_placed}
 use Rattle.unit_book.specs.declared.fault.BookFault.{BookFault}
 use Rattle.unit_book.specs.declared.fault.BookFault.TheVariants.{SiteFault, Stopped, SessionFull, JournalFull, NoMemory}
 use Rattle.unit_book.specs.declared.limits.TheConstants.{MOST_ENTRIES}
-use Rattle.unit_book.specs.Book.{BookView, IsBarred, IsUnstored, Made, Refuses}
+use Rattle.unit_book.specs.Book.{BookView, IsBarred, IsUnstored, Refuses}
 use Rattle.unit_book.specs.GoesOn.{TellsRise}
 use Rattle.unit_book.specs.Numbers.{AllMade, EndsReleases, Releases}
 use Rattle.std.specs.Prelude.{IfErr}

@@ -1,4 +1,5 @@
 pub mod Doing
 pub mod Coming
+pub mod Segment
 pub mod Finishing
 pub mod Ran
