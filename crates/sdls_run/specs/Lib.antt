@@ -1,12 +1,7 @@
-pub mod Answer
-pub mod Check
 pub mod Fits
-pub mod Init
 pub mod Life
-pub mod Output
 pub mod Records
 pub mod RecordSteps
 pub mod Run
 pub mod Serving
 pub mod Sound
-pub mod Words

@@ -11,26 +11,15 @@
 //! `sdls_outside`, so that a clause can speak of what they hold.
 #![tactic(auto)]
 
-mod answer;
-mod check;
-mod frame_check;
 mod gate;
-mod init;
 mod laws;
-mod outcome;
-mod output;
 mod records;
-mod refusal;
 mod running;
 mod serving;
 mod top;
-mod words;
 
-pub use frame_check::check_frame;
 pub use gate::Gate;
-pub use init::InitEnd;
 pub use laws::{covered_in_a_life, used_once_in_a_life};
-pub use outcome::Outcome;
 pub use record_io::status;
-pub use refusal::Refusal;
-pub use top::{run, run_plain};
+pub use sdls_plain::{InitEnd, Outcome, Refusal, check_frame, run_plain};
+pub use top::run;

@@ -9,7 +9,6 @@ ghost use Rattle.sdls_outside.specs.Site.{Sank};
 ghost use Rattle.record_io.specs.Answers.{answer_octets};
 ghost use Rattle.sdls_run.specs.Serving.{IsReady, IsServed};
 
-use crate::outcome::Outcome;
 use crate::records::{Reader, SegmentEnd};
 use crate::serving::{Session, Stop};
 use crate::status::{DONE, MALFORMED, NO_MEMORY, NO_STATE, SITE_FAULT, SOURCE_FAULT};
@@ -17,6 +16,7 @@ use channel_book::{Book, OpenFault};
 use record_io::{Answer, answer_header, code};
 use sdls_base::{Entry, NoMemory, Octets};
 use sdls_outside::{Failed, Site, Source};
+use sdls_plain::Outcome;
 use std::alloc::{AllocError, Global};
 
 /// The octets of answers that are put at once, at most.

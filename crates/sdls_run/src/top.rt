@@ -1,118 +1,21 @@
 ghost use Rattle.std.specs.Prelude.{◌≡◌, ℕ, ◌+◌, ◌≤◌, List, [], IsTrue};
 ghost use Rattle.sdls_outside.specs.Faults.{Rose};
-ghost use Rattle.sdls_run.specs.Answer.{Ends, EndsCheck, usage_text};
-ghost use Rattle.sdls_run.specs.Init.{EndsInit};
+ghost use Rattle.sdls_plain.specs.Answer.{Ends, EndsCheck, usage_text};
+ghost use Rattle.sdls_plain.specs.Init.{EndsInit};
+ghost use Rattle.sdls_plain.specs.Stat.{EndsStat};
 ghost use Rattle.sdls_outside.specs.Intake.{TakesAtMost};
-ghost use Rattle.sdls_run.specs.Words.{IsCheck, IsInit, IsNoCommand, IsRun};
+ghost use Rattle.sdls_plain.specs.Words.{IsCheck, IsInit, IsNoCommand, IsRun, IsStat};
 ghost use Rattle.sdls_run.specs.Run.{RunEnds, StatusSays};
 
-use crate::check::put_check;
-use crate::frame_check::GREATEST_LENGTH;
 use crate::gate::Gate;
-use crate::init::run_init;
-use crate::outcome::Outcome;
-use crate::output::put_text;
 use crate::running::run_frames;
-use crate::status::{SITE_FAULT, USAGE};
-use crate::words::{check_key, is_init, is_run};
-use aes_block::Schedule;
-use sdls_outside::{Failed, Site, Source};
+use record_io::status::USAGE;
+use sdls_outside::{Site, Source};
+use sdls_plain::{GREATEST_LENGTH, Outcome, is_run, run_plain};
 use std::alloc::Global;
 use std::sync::Wait;
 use std::thread::Threads;
 use unit_plan::MOST_OCTETS;
-
-const USAGE_TEXT: &[u8] = b"usage: sdls check KEY, init, run, stat, drill N\n";
-
-/// Runs `check KEY`.
-fn run_check<S: Source, O: Site>(
-    alloc: Global,
-    key: &Schedule,
-    source: &mut S,
-    mut site: O,
-) -> Outcome<O>
-    ensures due { EndsCheck key.now
-        (λ input. IsTrue S.told → input ≡ S.left source.old) (Rose (S.faults source.old) (S.faults source.new))
-        O.told (O.trace site) (O.trace result.site) (Rose (O.faults site) (O.faults result.site)) result.status }
-    ensures taken { IsTrue S.told → TakesAtMost (GREATEST_LENGTH + 1) (S.left source.old) (S.left source.new) }
-    ensures no_history { result.entries.items ≡ [] }
-{
-    match put_check(key, source, &mut site) {
-        Ok(status) => Outcome {
-            status,
-            site,
-            entries: Vec::new(alloc),
-        },
-        Err(Failed) => Outcome {
-            status: SITE_FAULT,
-            site,
-            entries: Vec::new(alloc),
-        },
-    }
-}
-
-/// Answers words that are no command.
-fn run_usage<O: Site>(alloc: Global, mut site: O) -> Outcome<O>
-    ensures ends { Ends O.told (O.trace site) (O.trace result.site) (Rose (O.faults site) (O.faults result.site))
-        usage_text USAGE result.status }
-    ensures no_history { result.entries.items ≡ [] }
-{
-    match put_text(&mut site, USAGE_TEXT) {
-        Ok(()) => Outcome {
-            status: USAGE,
-            site,
-            entries: Vec::new(alloc),
-        },
-        Err(Failed) => Outcome {
-            status: SITE_FAULT,
-            site,
-            entries: Vec::new(alloc),
-        },
-    }
-}
-
-/// Serves the words that need no threads: `check KEY` and `init`. Other words, `run` among them, are answered with the
-/// usage line.
-///
-/// `check KEY` reads one AOS transfer frame from the source and puts `ok` with its data field in
-/// hexadecimal digits, or `refused` with the first check that fails. It takes no memory.
-///
-/// `init` reads a plan from the source and makes the image of it, where there is none, and puts
-/// nothing; or it puts why not, and the image is as it was, except after a fault of the site.
-///
-/// Nothing is put after a failed put.
-pub fn run_plain<S: Source, O: Site>(
-    alloc: Global,
-    words: &[String],
-    source: &mut S,
-    site: O,
-) -> Outcome<O>
-    ensures check { (key : List ℕ) → IsCheck words.now key → EndsCheck key
-        (λ input. IsTrue S.told → input ≡ S.left source.old) (Rose (S.faults source.old) (S.faults source.new))
-        O.told (O.trace site) (O.trace result.site) (Rose (O.faults site) (O.faults result.site)) result.status }
-    ensures taken { IsTrue S.told → ¬ IsInit words.now
-        → TakesAtMost (GREATEST_LENGTH + 1) (S.left source.old) (S.left source.new) }
-
-    ensures init { IsInit words.now → EndsInit
-        (λ input. IsTrue S.told → input ≡ S.left source.old) (Rose (S.faults source.old) (S.faults source.new))
-        O.told (O.trace site) (O.trace result.site) (Rose (O.faults site) (O.faults result.site)) result.status }
-    ensures plan_taken { IsTrue S.told → IsInit words.now
-        → TakesAtMost (MOST_OCTETS + 1) (S.left source.old) (S.left source.new) }
-
-    ensures usage { IsNoCommand words.now
-        → Ends O.told (O.trace site) (O.trace result.site) (Rose (O.faults site) (O.faults result.site))
-        usage_text USAGE result.status }
-    ensures untouched { IsNoCommand words.now → source.new ≡ source.old }
-    ensures no_history { result.entries.items ≡ [] }
-{
-    if is_init(words) {
-        return run_init(alloc, source, site);
-    }
-    match check_key(words) {
-        Some(key) => run_check(alloc, &key, source, site),
-        None => run_usage(alloc, site),
-    }
-}
 
 /// Serves the words after the program's name, and answers the status, the site and the run's entries.
 ///
@@ -150,6 +53,10 @@ pub fn run<R: Threads + Wait + Sync, S: Source, O: Site + Send, G: Gate + Sync>(
         O.told (O.trace site) (O.trace result.site) (Rose (O.faults site) (O.faults result.site)) result.status }
     ensures plan_taken { IsTrue S.told → IsInit words.now
         → TakesAtMost (MOST_OCTETS + 1) (S.left source.old) (S.left source.new) }
+
+    ensures stat { IsStat words.now
+        → EndsStat O.told (O.trace site) (O.trace result.site) (Rose (O.faults site) (O.faults result.site)) result.status }
+    ensures unread { IsStat words.now → source.new ≡ source.old }
 
     ensures usage { IsNoCommand words.now → ¬ IsRun words.now
         → Ends O.told (O.trace site) (O.trace result.site) (Rose (O.faults site) (O.faults result.site))

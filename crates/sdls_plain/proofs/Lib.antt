@@ -1,0 +1,8 @@
+pub mod CheckWords
+pub mod Delivering
+pub mod Rooms
+pub mod Judging
+pub mod Making
+pub mod Spelling
+pub mod Sinking
+pub mod Telling

@@ -1,0 +1,155 @@
+-- What `stat` puts, and what its moments leave, for `tell_state` and `run_stat`.
+use Rattle.std.proofs.Common.{◌≡◌, ◌⊎◌, inl, inr, ℕ, ◌+◌, ◌≤◌, Bool, IsTrue, List, [], ◌∷◌, ◌++◌, length, take, refl, sym, ◌∙◌, ap, subst, arith, append_assoc, Ok}
+use Rattle.std.proofs.lemmas.List.{length-append}
+use Rattle.sdls_outside.specs.Disk.{Leaves}
+use Rattle.sdls_outside.specs.Faults.{Rose}
+use Rattle.sdls_outside.specs.Moments.{Trace, clock, Between, EachMoment}
+use Rattle.sdls_outside.specs.Site.{Sank}
+use Rattle.sdls_outside.proofs.Moments.{each_then, each_weaker, moment_now}
+use Rattle.sdls_base.specs.declared.entry.Logged.{Logged}
+use Rattle.sdls_base.specs.declared.entry.Logged.TheVariants as logged
+use Rattle.disk_journal.specs.Image.{held, records}
+use Rattle.unit_plan.specs.Plan.{plan_of}
+use Rattle.status_text.specs.Text.{status_text}
+use Rattle.unit_image.specs.declared.fault.OpenFault.{OpenFault}
+use Rattle.unit_image.specs.declared.fault.OpenFault.TheVariants as faults
+use Rattle.unit_state.specs.declared.state.State.{State}
+use Rattle.unit_state.specs.Restart.{restarted}
+use Rattle.unit_state.specs.History.{after_first}
+use Rattle.unit_image.specs.Opening.{IsOpenCause, Opening}
+use Rattle.unit_image.specs.Shows.{Shows, ShowsNone}
+use Rattle.unit_book.specs.Book.{BookView, IsKept, Serves, with_put}
+use Rattle.sdls_plain.specs.declared.stat.StatEnd.{StatEnd}
+use Rattle.sdls_plain.specs.declared.stat.StatEnd.TheVariants.{Told, SiteFault, NoMemory, NoState}
+use Rattle.sdls_plain.specs.Output.{OnlySinks, SinksFront}
+use Rattle.sdls_plain.specs.Answer.{Ends}
+use Rattle.sdls_plain.specs.Stat.{PutsText, ShowsAlone, StatMoment, StatDue, TellsBook, end_of_open, fault_text}
+use Rattle.sdls_plain.proofs.Sinking.{sinks_leave}
+
+-- a book whose log is one piece serves the state at its start alone
+pub serves_alone : (start : State) (piece : List ℕ) (standing : ℕ) (before image sunk : List ℕ)
+    → Serves start (logged.Piece piece ∷ []) standing before image sunk → ShowsAlone start image
+serves_alone start piece standing before image sunk serves =
+    let shown = serves.shows in
+    let after = shown.2 in
+    let none : shown.0 ≡ 0 = (let low = after.within in omega arith) in
+    let first : after_first start [] shown.0 ≡ start = ap (after_first start []) none in
+    record {
+      shows = subst (λ (s : State). Shows image (restarted s)) first after.shows;
+      no_form = λ form is. let later = after.forms form is in let more = later.1 in let within = later.2 in absurd (omega arith);
+    }
+
+-- a moment of the opening, and one behind it
+pub opening_moment : (entry : Trace) (image sunk : List ℕ) → Opening entry image sunk → StatMoment entry image
+opening_moment entry image sunk opening = elim opening.0 [
+  | inl leaves ↦ inl leaves
+  | inr settles ↦ inr (inl settles)
+]
+
+-- nothing was put while the image was opened
+pub sunk_same : (old new : Trace) → Leaves new.now new.now.image → EachMoment old new (Opening old) → new.now.sunk ≡ old.now.sunk
+sunk_same old new stays each =
+    let here = each.each new.now.image new.now.sunk (moment_now new (clock old) new.now.image stays) in here.1
+
+-- a text that was put from a later time on, where nothing was put before
+pub puts_from : (told : Bool) (text : List ℕ) (due status : ℕ) (old mid new : Trace) (rose late : Type 0) → (late → rose)
+    → (IsTrue told → mid.now.sunk ≡ old.now.sunk) → PutsText told text due status mid new late → PutsText told text due status old new rose
+puts_from told text due status old mid new rose late weaker same (inl whole) =
+    inl (whole.0, λ is. whole.1 is ∙ ap (λ (sunk : List ℕ). sunk ++ text) (same is))
+puts_from told text due status old mid new rose late weaker same (inr front) =
+    inr (front.0, weaker front.1, λ is. subst (λ (sunk : List ℕ). Between sunk (sunk ++ text) new.now.sunk) (same is) (front.2 is))
+
+-- one put of the text
+pub one_put : (text : List ℕ) (old new : Trace) → (new ≡ old) ⊎ Sank text old new → Between old.now.sunk (old.now.sunk ++ text) new.now.sunk
+one_put text old new (inl same) = subst (λ (trace : Trace). Between old.now.sunk (old.now.sunk ++ text) trace.now.sunk) (sym same)
+    (record { least = omega arith; prefix = sym (take_front old.now.sunk text) })
+  where
+    take_front : (xs ys : List ℕ) → take (length xs) (xs ++ ys) ≡ xs
+    take_front [] ys = refl
+    take_front (x ∷ xs) ys = ap (λ (l : List ℕ). x ∷ l) (take_front xs ys)
+one_put text old new (inr sank) = sank.sunk
+
+-- all moments of `stat`, those of the opening and those behind it
+pub all_moments : (entry opened last : Trace) (state : State) → Shows entry.now.image state → EachMoment entry opened (Opening entry)
+    → EachMoment opened last (λ image sunk. ShowsAlone state image) → EachMoment entry last (λ image sunk. StatMoment entry image)
+all_moments entry opened last state shows opening alone = each_then entry opened last (λ image sunk. StatMoment entry image)
+    (each_weaker entry opened (Opening entry) (λ image sunk. StatMoment entry image) (opening_moment entry) opening)
+    (each_weaker opened last (λ image sunk. ShowsAlone state image) (λ image sunk. StatMoment entry image)
+    (λ image sunk shown. inr (inr (state, shows, shown))) alone)
+
+-- the moments of a book behind its opening, which put one piece
+pub book_moments : {O : Type 0} (told : Bool) (trace : O → Trace) (faults : O → ℕ) (old new : BookView O) (piece : List ℕ)
+    → new ≡ with_put piece (record old { site = new.site }) → old.log ≡ [] → old.opened ≡ old.site → IsKept told trace faults new
+    → IsTrue told → EachMoment (trace old.site) (trace new.site) (λ image sunk. ShowsAlone old.start image)
+book_moments {O} told trace faults old new piece made none first kept is_told =
+    let opened : new.opened ≡ old.site = ap (λ (b : BookView O). b.opened) made ∙ first in
+    let start : new.start ≡ old.start = ap (λ (b : BookView O). b.start) made in
+    let log : new.log ≡ logged.Piece piece ∷ [] = ap (λ (b : BookView O). b.log) made ∙ ap (λ (l : List Logged). l ++ logged.Piece piece ∷ []) none in
+    each_weaker (trace old.site) (trace new.site) (Serves new.start new.log new.standing (trace new.opened).now.sunk)
+    (λ image sunk. ShowsAlone old.start image)
+    (λ image sunk serves. subst (λ (s : State). ShowsAlone s image) start (serves_alone new.start piece new.standing (trace new.opened).now.sunk image sunk
+    (subst (λ (l : List Logged). Serves new.start l new.standing (trace new.opened).now.sunk image sunk) log serves)))
+    (subst (λ (o : O). EachMoment (trace o) (trace new.site) (Serves new.start new.log new.standing (trace new.opened).now.sunk)) opened
+    (kept.history is_told).moments)
+
+-- what is told of the book is what is due for the image that it was opened on
+pub told_due : {O : Type 0} (told : Bool) (rose : Type 0) (image text : List ℕ) (book : BookView O) (end : StatEnd) → TellsBook book text end
+    → (IsTrue told → plan_of (held image).plan ≡ Ok book.plan) → (IsTrue told → Shows image book.state)
+    → (IsTrue told → book.journal.used ≡ length (records image)) → StatDue told rose image text end
+told_due told rose image text book Told tells plan shows used = λ is. record {
+  plan = book.plan;
+  state = book.state;
+  says = plan is;
+  shows = shows is;
+  text_is = tells ∙ ap (λ (n : ℕ). status_text book.state n book.plan.slots) (used is);
+}
+told_due told rose image text book SiteFault tells plan shows used = absurd tells
+told_due told rose image text book NoMemory tells plan shows used = tells
+told_due told rose image text book (NoState offset) tells plan shows used = absurd tells
+
+-- why there is no state is what is due for the image that was refused
+pub fault_due : (told : Bool) (image : List ℕ) (before mid now : ℕ) (None : ℕ → Type 0) (fault : OpenFault) → mid ≤ now
+    → ((offset : ℕ) → None offset → IsTrue told → ShowsNone image offset) → IsOpenCause before mid None fault
+    → StatDue told (Rose before now) image (fault_text (end_of_open fault)) (end_of_open fault)
+fault_due told image before mid now None (faults.SiteFault count) low weaker cause = (omega (arith, cause.0), refl)
+fault_due told image before mid now None (faults.Image offset) low weaker cause = (weaker offset cause, refl)
+fault_due told image before mid now None faults.NoMemory low weaker cause = refl
+
+-- a text that was put by any number of puts
+pub ends_put : (told : Bool) (text : List ℕ) (due status : ℕ) (old new : Trace) (rose : Type 0) → Ends told old new rose text due status
+    → PutsText told text due status old new rose
+ends_put told text due status old new rose (inl whole) = inl (whole.0, λ is. (whole.1 is).sunk)
+ends_put told text due status old new rose (inr front) = inr (front.0, front.1, λ is. between (front.2 is))
+  where
+    take_front : (xs ys : List ℕ) → take (length xs) (xs ++ ys) ≡ xs
+    take_front [] ys = refl
+    take_front (x ∷ xs) ys = ap (λ (l : List ℕ). x ∷ l) (take_front xs ys)
+
+    between : SinksFront text old new → Between old.now.sunk (old.now.sunk ++ text) new.now.sunk
+    between part =
+        let longer : length new.now.sunk ≡ length old.now.sunk + length part.front = ap length part.sunk ∙ length-append old.now.sunk part.front in
+        let whole : old.now.sunk ++ text ≡ (old.now.sunk ++ part.front) ++ part.rest =
+        ap (λ (l : List ℕ). old.now.sunk ++ l) part.is_front ∙ sym (append_assoc old.now.sunk part.front part.rest) in
+        record {
+          least = omega arith;
+          prefix = part.sunk ∙ sym (take_front (old.now.sunk ++ part.front) part.rest)
+              ∙ (ap (λ (l : List ℕ). take (length (old.now.sunk ++ part.front)) l) (sym whole)
+              ∙ ap (λ (l : List ℕ). take (length l) (old.now.sunk ++ text)) (sym part.sunk));
+        }
+
+-- where it was put, nothing else was done
+ends_sink : (told : Bool) (text : List ℕ) (due status : ℕ) (old new : Trace) (rose : Type 0) → Ends told old new rose text due status
+    → IsTrue told → OnlySinks old new
+ends_sink told text due status old new rose (inl whole) is = (whole.1 is).only_sinks
+ends_sink told text due status old new rose (inr front) is = (front.2 is).only_sinks
+
+-- all moments of `stat` where the image was refused
+pub refused_moments : (told : Bool) (text : List ℕ) (due status : ℕ) (entry mid new : Trace) (rose : Type 0)
+    → EachMoment entry mid (Opening entry) → Ends told mid new rose text due status → IsTrue told
+    → EachMoment entry new (λ image sunk. StatMoment entry image)
+refused_moments told text due status entry mid new rose opening ends is =
+    each_then entry mid new (λ image sunk. StatMoment entry image)
+    (each_weaker entry mid (Opening entry) (λ image sunk. StatMoment entry image) (opening_moment entry) opening)
+    (each_weaker mid new (λ image sunk. Leaves mid.now image) (λ image sunk. StatMoment entry image)
+    (λ image sunk leaves. opening_moment entry image mid.now.sunk (opening.each image mid.now.sunk (moment_now mid (clock entry) image leaves)))
+    (sinks_leave mid new (ends_sink told text due status mid new rose ends is)))

@@ -1,0 +1,48 @@
+use Rattle.std.proofs.Common.{◌≡◌, IsTrue, subst, sym, ap, arith}
+use Rattle.sdls_outside.specs.Faults.{Rose}
+use Rattle.unit_image.specs.Shows.{Shows, ShowsNone}
+use Rattle.unit_book.specs.Book.{BookView}
+use Rattle.disk_journal.specs.Changes.{OnlySyncs}
+use Rattle.sdls_plain.specs.Stat.{end_of_open, fault_text, stat_status}
+use Rattle.sdls_plain.proofs.Telling.{all_moments, ends_put, fault_due, puts_from, refused_moments, sunk_same, told_due}
+use Rattle.sdls_plain.proofs.stat.run_stat.Goals as goal
+
+pub returns-in-Ok-clause-ends : goal.returns-in-Ok-clause-ends
+returns-in-Ok-clause-ends g c =
+    let site = c.args.site in let book = c.in-Ok.book in let last = c.tell_state.result.site in
+    let told = c.tell_state.ensures.told in
+    let start : book.state ≡ book.start = ap (λ (b : BookView _). b.state) c.in-Ok.ensures.begun in
+    let low = c.in-Ok.ensures.later in
+    record {
+      end = told.0;
+      text = told.1;
+      due = told_due g.O.Site.told _ (g.O.Site.trace site).now.image told.1 book told.0 told.2 c.in-Ok.ensures.plan
+          (λ is. subst (Shows (g.O.Site.trace site).now.image) (sym start) (c.in-Ok.ensures.shows is).0)
+          (λ is. (c.in-Ok.ensures.shows is).2.used);
+      put = puts_from g.O.Site.told told.1 (stat_status told.0) c.tell_state.result.status (g.O.Site.trace site) (g.O.Site.trace book.site) (g.O.Site.trace last)
+          (Rose (g.O.Site.faults site) (g.O.Site.faults last)) (Rose (g.O.Site.faults book.site) (g.O.Site.faults last)) (λ late. omega (arith, late))
+          (λ is. sunk_same (g.O.Site.trace site) (g.O.Site.trace book.site) (g.met.O.Site.image_may_stay book.site is) (c.in-Ok.ensures.any_moment is)) told.3;
+      moments = λ is. all_moments (g.O.Site.trace site) (g.O.Site.trace book.site) (g.O.Site.trace last) book.start (c.in-Ok.ensures.shows is).0
+          (c.in-Ok.ensures.any_moment is) (c.tell_state.ensures.moments is);
+    }
+
+pub returns-in-Err-clause-ends : goal.returns-in-Err-clause-ends
+returns-in-Err-clause-ends g c =
+    let site = c.args.site in let mid = c.in-Err.site in let last = c.tell_fault.result.site in let fault = c.in-Err.fault in
+    let low = c.in-Err.ensures.later in
+    record {
+      end = end_of_open fault;
+      text = fault_text (end_of_open fault);
+      due = fault_due g.O.Site.told (g.O.Site.trace site).now.image (g.O.Site.faults site) (g.O.Site.faults mid) (g.O.Site.faults last)
+          (λ offset. IsTrue g.O.Site.told → ShowsNone (g.O.Site.trace site).now.image offset × OnlySyncs (g.O.Site.trace site) (g.O.Site.trace mid)) fault
+          c.tell_fault.ensures.later (λ offset none is. (none is).0) c.in-Err.ensures.refused;
+      put = puts_from g.O.Site.told (fault_text (end_of_open fault)) (stat_status (end_of_open fault)) c.tell_fault.result.status (g.O.Site.trace site)
+          (g.O.Site.trace mid) (g.O.Site.trace last) (Rose (g.O.Site.faults site) (g.O.Site.faults last)) (Rose (g.O.Site.faults mid) (g.O.Site.faults last))
+          (λ late. omega (arith, late))
+          (λ is. sunk_same (g.O.Site.trace site) (g.O.Site.trace mid) (g.met.O.Site.image_may_stay mid is) (c.in-Err.ensures.any_moment is))
+          (ends_put g.O.Site.told (fault_text (end_of_open fault)) (stat_status (end_of_open fault)) c.tell_fault.result.status (g.O.Site.trace mid) (g.O.Site.trace last)
+          (Rose (g.O.Site.faults mid) (g.O.Site.faults last)) c.tell_fault.ensures.ends);
+      moments = λ is. refused_moments g.O.Site.told (fault_text (end_of_open fault)) (stat_status (end_of_open fault)) c.tell_fault.result.status
+          (g.O.Site.trace site) (g.O.Site.trace mid) (g.O.Site.trace last) (Rose (g.O.Site.faults mid) (g.O.Site.faults last))
+          (c.in-Err.ensures.any_moment is) c.tell_fault.ensures.ends is;
+    }

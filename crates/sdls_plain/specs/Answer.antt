@@ -1,0 +1,64 @@
+-- The texts that are put, and how a run ends (profile).
+use Rattle.std.specs.Prelude.{◌≡◌, ℕ, ◌⊎◌, Bool, IsTrue, List, [], ◌∷◌, ◌++◌, codes, Result, IfOk}
+use Rattle.hex.specs.Hex.{encode_lower}
+use Rattle.sdls_outside.specs.Moments.{Trace}
+use Rattle.sdls_plain.specs.declared.refusal.Refusal.{Refusal}
+use Rattle.sdls_plain.specs.declared.refusal.Refusal.TheVariants.{Short, Long, Version, Spare, Spi, Mac}
+use Rattle.record_io.specs.declared.status.TheConstants.{DONE, REFUSED, SOURCE_FAULT, SITE_FAULT}
+use Rattle.sdls_plain.specs.Check.{Passes, IsFirstFault, data_field}
+use Rattle.sdls_plain.specs.Output.{Sinks, SinksFront, Delivers}
+
+-- a text and a line feed
+abbrev pub line : List ℕ → List ℕ
+line text = text ++ 10 ∷ []
+
+abbrev pub usage_text : List ℕ
+usage_text = line (codes "usage: sdls check KEY, init, run, stat, drill N")
+
+abbrev pub source_fault_text : List ℕ
+source_fault_text = line (codes "source fault")
+
+-- the word for a refusal
+abbrev pub word : Refusal → List ℕ
+word Short = codes "short"
+word Long = codes "long"
+word Version = codes "version"
+word Spare = codes "spare"
+word Spi = codes "spi"
+word Mac = codes "mac"
+
+abbrev pub refused_text : Refusal → List ℕ
+refused_text fault = line (codes "refused " ++ word fault)
+
+-- the data field, each octet as two hexadecimal digits, with lower-case letters
+abbrev pub accepted_text : List ℕ → List ℕ
+accepted_text field = line (codes "ok " ++ encode_lower field)
+
+-- what `check KEY` puts for an input, and the status that goes with it
+abbrev pub CheckOutput : List ℕ → List ℕ → List ℕ → ℕ → Type 0
+CheckOutput key input text status =
+    (Passes key input × (text ≡ accepted_text (data_field input)) × (status ≡ DONE))
+    ⊎ ((fault : Refusal) × IsFirstFault key input fault × (text ≡ refused_text fault) × (status ≡ REFUSED))
+
+-- the text is delivered, and the status that goes with it is answered
+pub record Answers {E : Type 0} (told : Bool) (text : List ℕ) (due : ℕ) (result : Result ℕ E) (old new : Trace) : Type 0 where
+  pub status : IfOk result (λ status. status ≡ due)
+  pub delivered : IsTrue told → Delivers text result old new
+
+-- The text and the status that are due: those for the input, or where the source failed its own.
+abbrev pub CheckDue : List ℕ → (List ℕ → Type 0) → Type 0 → List ℕ → ℕ → Type 0
+CheckDue key IsInput source_rose text status =
+    ((input : List ℕ) × IsInput input × CheckOutput key input text status)
+    ⊎ (source_rose × (text ≡ source_fault_text) × (status ≡ SOURCE_FAULT))
+
+-- The text that is due was put whole, and the status is the one that is due; or the site failed, the
+-- status says so, and a front of the text was put. Nothing else was done.
+abbrev pub Ends : Bool → Trace → Trace → Type 0 → List ℕ → ℕ → ℕ → Type 0
+Ends told old new site_rose text due status =
+    ((status ≡ due) × (IsTrue told → Sinks text old new))
+    ⊎ ((status ≡ SITE_FAULT) × site_rose × (IsTrue told → SinksFront text old new))
+
+-- How `check KEY` ends: with the text that is due for its input.
+abbrev pub EndsCheck : List ℕ → (List ℕ → Type 0) → Type 0 → Bool → Trace → Trace → Type 0 → ℕ → Type 0
+EndsCheck key IsInput source_rose told old new site_rose status = (text : List ℕ) × (due : ℕ)
+    × CheckDue key IsInput source_rose text due × Ends told old new site_rose text due status

@@ -1,0 +1,6 @@
+pub mod Output
+pub mod Check
+pub mod Answer
+pub mod Init
+pub mod Stat
+pub mod Words

@@ -1,0 +1,170 @@
+//! The word `stat`.
+ghost use Rattle.std.specs.Prelude.{◌≡◌, ◌≤◌, ◌++◌, [], ℕ, List, IsTrue, decimal};
+ghost use Rattle.sdls_outside.specs.Faults.{HasCause, Rose};
+ghost use Rattle.sdls_outside.specs.Moments.{EachMoment};
+ghost use Rattle.unit_book.specs.Book.{IsKept, with_put};
+ghost use Rattle.unit_book.specs.Log.{sunk_between};
+ghost use Rattle.sdls_plain.specs.Answer.{Ends};
+ghost use Rattle.sdls_plain.specs.Output.{Delivers};
+ghost use Rattle.sdls_plain.specs.Stat.{EndsStat, PutsText, ShowsAlone, TellsBook, end_of_open, fault_text, image_text, stat_status};
+
+use crate::outcome::Outcome;
+use crate::output::put_text;
+use crate::status::{DONE, NO_MEMORY, NO_STATE, SITE_FAULT};
+use itoa::Buffer;
+use sdls_base::NoMemory;
+use sdls_outside::{Failed, Site};
+use status_text::status_text;
+use std::alloc::Global;
+use unit_book::Book;
+use unit_image::OpenFault;
+
+/// Why `stat` ends.
+#[derive(Clone, Copy, Debug, PartialEq, Eq)]
+pub enum StatEnd {
+    /// The state is told.
+    Told,
+    /// The site failed.
+    SiteFault,
+    /// Memory is wanting.
+    NoMemory,
+    /// The image shows no state: the offset of the first check that fails.
+    NoState(u64),
+}
+
+impl StatEnd {
+    fn status(self) -> u8
+        ensures { result ≡ stat_status self }
+    {
+        match self {
+            StatEnd::Told => DONE,
+            StatEnd::SiteFault => SITE_FAULT,
+            StatEnd::NoMemory => NO_MEMORY,
+            StatEnd::NoState(_) => NO_STATE,
+        }
+    }
+}
+
+/// Puts a text through the book, and answers the status: this one, or that of a put that failed.
+fn put_through<O: Site>(book: &mut Book<O>, text: &[u8], status: u8) -> u8
+    requires kept { IsKept O.told O.trace O.faults book.old }
+    ensures kept { IsKept O.told O.trace O.faults book.new }
+    ensures made { book.new ≡ with_put (sunk_between (O.trace book.old.site) (O.trace book.new.site))
+        (record book.old { site = book.new.site }) }
+    ensures put { PutsText O.told text.now status result (O.trace book.old.site) (O.trace book.new.site)
+        (Rose (O.faults book.old.site) (O.faults book.new.site)) }
+    ensures later { O.faults book.old.site ≤ O.faults book.new.site }
+{
+    match book.put(text) {
+        Ok(()) => status,
+        Err(_) => SITE_FAULT,
+    }
+}
+
+/// Puts the state of the book as text, or that memory is wanting, and answers the status.
+fn put_state<O: Site>(alloc: Global, book: &mut Book<O>) -> u8
+    requires kept { IsKept O.told O.trace O.faults book.old }
+    ensures kept { IsKept O.told O.trace O.faults book.new }
+    ensures made { (piece : List ℕ) × (book.new ≡ with_put piece (record book.old { site = book.new.site })) }
+    ensures told { (end : StatEnd) × (text : List ℕ) × TellsBook book.old text end
+        × PutsText O.told text (stat_status end) result (O.trace book.old.site) (O.trace book.new.site)
+        (Rose (O.faults book.old.site) (O.faults book.new.site)) }
+    ensures later { O.faults book.old.site ≤ O.faults book.new.site }
+{
+    match status_text(alloc, book.state(), book.used(), book.plan().slots()) {
+        Ok(text) => put_through(book, &text, DONE),
+        Err(NoMemory) => put_through(book, b"no memory\n", NO_MEMORY),
+    }
+}
+
+/// Tells the state of a book that was opened.
+fn tell_state<O: Site>(alloc: Global, mut book: Book<O>) -> Outcome<O>
+    requires kept { IsKept O.told O.trace O.faults book }
+    requires first { (book.log ≡ []) × (book.opened ≡ book.site) }
+    ensures told { (end : StatEnd) × (text : List ℕ) × TellsBook book text end
+        × PutsText O.told text (stat_status end) result.status (O.trace book.site) (O.trace result.site)
+        (Rose (O.faults book.site) (O.faults result.site)) }
+    ensures moments { IsTrue O.told → EachMoment (O.trace book.site) (O.trace result.site) (λ image sunk. ShowsAlone book.start image) }
+    ensures later { O.faults book.site ≤ O.faults result.site }
+    ensures no_history { result.entries.items ≡ [] }
+{
+    let status = put_state(alloc, &mut book);
+    let (site, _entries) = book.into_site();
+    Outcome {
+        status,
+        site,
+        entries: Vec::new(alloc),
+    }
+}
+
+/// Puts an offset in decimal digits.
+fn put_offset<O: Site>(site: &mut O, offset: u64) -> Result<(), Failed>
+    ensures delivered { IsTrue O.told → Delivers (decimal offset) result (O.trace site.old) (O.trace site.new) }
+    ensures cause { HasCause (O.faults site.old) (O.faults site.new) result }
+{
+    let mut buffer = Buffer::new();
+    put_text(site, buffer.format(offset).as_bytes())
+}
+
+/// Puts the line that names the offset at which an image is refused.
+fn put_refused<O: Site>(site: &mut O, offset: u64) -> Result<(), Failed>
+    ensures delivered { IsTrue O.told → Delivers (image_text offset) result (O.trace site.old) (O.trace site.new) }
+    ensures cause { HasCause (O.faults site.old) (O.faults site.new) result }
+{
+    put_text(site, b"image at ")?;
+    put_offset(site, offset)?;
+    put_text(site, b"\n")
+}
+
+/// Puts the line that says why there is no state to be told.
+fn put_fault<O: Site>(site: &mut O, end: StatEnd) -> Result<(), Failed>
+    ensures delivered { IsTrue O.told → Delivers (fault_text end) result (O.trace site.old) (O.trace site.new) }
+    ensures cause { HasCause (O.faults site.old) (O.faults site.new) result }
+{
+    match end {
+        StatEnd::NoState(offset) => put_refused(site, offset),
+        StatEnd::SiteFault => put_text(site, b"site fault\n"),
+        StatEnd::Told | StatEnd::NoMemory => put_text(site, b"no memory\n"),
+    }
+}
+
+/// Why there is no state to be told.
+fn end_of(fault: OpenFault) -> StatEnd
+    ensures { result ≡ end_of_open fault }
+{
+    match fault {
+        OpenFault::SiteFault(_) => StatEnd::SiteFault,
+        OpenFault::Image(offset) => StatEnd::NoState(offset),
+        OpenFault::NoMemory => StatEnd::NoMemory,
+    }
+}
+
+/// Tells why there is no state to be told.
+fn tell_fault<O: Site>(alloc: Global, fault: OpenFault, mut site: O) -> Outcome<O>
+    ensures ends { Ends O.told (O.trace site) (O.trace result.site) (Rose (O.faults site) (O.faults result.site))
+        (fault_text (end_of_open fault)) (stat_status (end_of_open fault)) result.status }
+    ensures later { O.faults site ≤ O.faults result.site }
+    ensures no_history { result.entries.items ≡ [] }
+{
+    let end = end_of(fault);
+    let status = match put_fault(&mut site, end) {
+        Ok(()) => end.status(),
+        Err(Failed) => SITE_FAULT,
+    };
+    Outcome {
+        status,
+        site,
+        entries: Vec::new(alloc),
+    }
+}
+
+/// Runs `stat`.
+pub(crate) fn run_stat<O: Site>(alloc: Global, site: O) -> Outcome<O>
+    ensures ends { EndsStat O.told (O.trace site) (O.trace result.site) (Rose (O.faults site) (O.faults result.site)) result.status }
+    ensures no_history { result.entries.items ≡ [] }
+{
+    match Book::open(alloc, site) {
+        Ok(book) => tell_state(alloc, book),
+        Err((fault, site)) => tell_fault(alloc, fault, site),
+    }
+}
