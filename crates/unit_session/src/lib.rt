@@ -1,0 +1,13 @@
+//! One worker that serves a run of the unit: it reads segments, has their records handled, puts the answers, and at the end
+//! releases what was not used and puts End.
+#![tactic(auto)]
+
+mod finishing;
+mod heading;
+mod outcome;
+mod putting;
+mod session;
+
+pub use finishing::finish;
+pub use outcome::Outcome;
+pub use session::Session;
