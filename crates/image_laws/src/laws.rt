@@ -1,6 +1,11 @@
-//! The law.
-ghost use Rattle.std.specs.Prelude.{◌↔◌, ◌⊎◌, ℕ, List};
+//! The laws.
+ghost use Rattle.std.specs.Prelude.{◌≡◌, ◌↔◌, ◌⊎◌, ℕ, List, Ok};
+ghost use Rattle.unit_plan.specs.Plan.{plan_of};
+ghost use Rattle.unit_plan.specs.PlanLines.{PlanLines};
+ghost use Rattle.unit_plan.specs.PlanRules.{IsPlan};
 ghost use Rattle.unit_state.specs.declared.state.State.{State};
+ghost use Rattle.unit_state.specs.Restart.{restarted};
+ghost use Rattle.unit_state.specs.State.{KeepsRules};
 ghost use Rattle.unit_image.specs.Shows.{Shows, ShowsNone};
 
 use book_record::change_of_its_kind;
@@ -14,3 +19,11 @@ pub fn refused_exactly()
     change_of_its_kind();
     refused_with_one();
 }
+
+/// Law: the plan that a text says keeps the rules of plans, and the state that an image shows those of states; a restart leaves
+/// that state.
+pub fn shown_keeps_rules()
+    ensures plan { (text : List ℕ) (plan : PlanLines) → plan_of text ≡ Ok plan → IsPlan plan }
+    ensures state { (image : List ℕ) (state : State) → Shows image state → KeepsRules state }
+    ensures left { (image : List ℕ) (state : State) → Shows image state → restarted state ≡ state }
+{}
