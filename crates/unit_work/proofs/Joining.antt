@@ -7,7 +7,7 @@ use Rattle.sdls_base.specs.declared.entry.Logged.{Logged}
 use Rattle.counter_table.specs.declared.view.Opening.{Opening}
 use Rattle.counter_table.specs.declared.view.Known.{Known}
 use Rattle.counter_table.specs.declared.view.View.{View}
-use Rattle.counter_table.specs.Known.{HasRisen, Earlier, later}
+use Rattle.counter_table.specs.Known.{HasRisen, Earlier, IsSparing, pieces, later}
 use Rattle.counter_table.specs.Numbers.{top}
 use Rattle.counter_table.specs.Turn.{stands}
 use Rattle.record_io.specs.declared.records.Record.{Record}
@@ -17,7 +17,7 @@ use Rattle.unit_work.specs.Begin.{Begin}
 use Rattle.unit_work.specs.Views.{Gains, no_gains, both_gains, log_of, entries_in, IsRow, Grows, Gained, keeping, starting, meeting, Meets}
 use Rattle.unit_work.specs.Work.{Works, Worked}
 use Rattle.unit_work.specs.Deeds.{Deed, StandsBehind, InTurn, StandsWithin, Agree, MadeLast, IsSpent, Answers, Does, AtOnce, AllBoth}
-use Rattle.unit_work.proofs.Logs.{stands_both, times_both, last_once, entries_low}
+use Rattle.unit_work.proofs.Logs.{stands_both, times_both, piece_count_both, last_once, entries_low}
 use Rattle.unit_work.proofs.Working.{widen_works, widen_answers, merge_works, merge_answers, row_later, told_later, closed}
 
 pub top_both : (row : ℕ) (a b : List (ℕ × ℕ)) → top row (a ++ b) ≡ max (top row a) (top row b)
@@ -41,6 +41,12 @@ earlier_further a b c ab bc same =
           let r' : HasRisen b.opening.faults a.faults = subst (λ (z : ℕ). HasRisen z a.faults) o r in
           bc.stopped (⊎_elim (λ x. inl (omega arith)) (λ x. inr (omega arith)) r) ∙ ab.stopped r';
     }
+
+-- a front of a log has no more pieces
+pieces_front : (a b : Known) → Earlier a b → pieces a.log ≤ pieces b.log
+pieces_front a b e =
+    let whole : pieces b.log ≡ pieces (a.log ++ e.log.0) = ap pieces e.log.1 in
+    let parts = piece_count_both a.log e.log.0 in omega arith
 
 pub grows_itself : (v : View) → Grows v v
 grows_itself v = record { nexts = λ r. omega arith; earlier = earlier_itself v.turn.known; opening = refl; epochs = omega arith }
@@ -92,6 +98,7 @@ does_nothing begin v tasks = record {
   gains = no_gains;
   gained = gained_nothing v;
   grows = grows_itself v;
+  sparing = omega arith;
   works = works_nothing begin v tasks;
   answers = no_answers begin v v no_gains;
 }
@@ -106,6 +113,7 @@ does_unanswered begin v w tasks d = record {
   gains = d.gains;
   gained = d.gained;
   grows = d.grows;
+  sparing = d.sparing;
   works = d.works;
   answers = no_answers begin v w d.gains;
 }
@@ -188,6 +196,7 @@ module _ (begin : Begin) (u v w : View) (ts us : List Record) (ds es : List Deed
         gains = both_gains a.gains b.gains;
         gained = gained_then u v w a.gains b.gains a.gained b.gained;
         grows = grows_further u v w a.grows b.grows;
+        sparing = (let x = a.sparing in let y = b.sparing in omega arith);
         works = merge_works begin u w a.gains b.gains ts us first second;
         answers = merge_answers begin u w a.gains b.gains ds es early late cross
             (λ j e m i d l. agree_back begin w (slice_index_or ds i d) (slice_index_or es j e) (turns i d l j e m) (cross i d l j e m));
@@ -297,6 +306,15 @@ module _ (begin : Begin) (u v w : View) (ts us : List Record) (ds es : List Deed
     filled = ap (λ (f : Bool). f || w.turn.filled) v_filled ∙ sym filled;
   }
 
+  -- each of the two logs is a front of the joined one
+  sparing_both : IsSparing u.turn.known z.turn.known
+  sparing_both =
+      let x = a.sparing in let y = b.sparing in
+      let left_pieces = pieces_front v.turn.known z.turn.known meet.earlier in
+      let right_pieces = pieces_front w.turn.known z.turn.known meet.other_earlier in
+      let failed : z.turn.known.put_faults ≡ max v.turn.known.put_faults w.turn.known.put_faults = ap (λ (k : Known). k.put_faults) known in
+      omega arith
+
   -- what was done by two workers at once, of which one was split from the other
   pub does_beside : Does begin u z (ts ++ us) (ds ++ es)
   does_beside =
@@ -314,6 +332,7 @@ module _ (begin : Begin) (u v w : View) (ts us : List Record) (ds es : List Deed
         gains = both_gains a.gains b.gains;
         gained = beside;
         grows = grows_further u (keeping u) z from_left (grows_further (keeping u) v z a.grows grows_left);
+        sparing = sparing_both;
         works = merge_works begin u z a.gains b.gains ts us
             (widen_works begin u (keeping u) v z from_left grows_left a.gains ts a.works)
             (widen_works begin u (starting u) w z from_right grows_right b.gains us b.works);

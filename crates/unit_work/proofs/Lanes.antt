@@ -246,6 +246,7 @@ lanes_handled layout begin base now s tasks parts deeds lies few free filled is 
         gains = d.gains;
         gained = d.gained;
         grows = d.grows;
+        sparing = d.sparing;
         works = works_among begin base (meeting_all now parts) d.gains (parts_tasks tasks parts) tasks drawn
             (λ i. let a = indexed_sum i (parts_tasks tasks parts) in let b = indexed_sum i tasks in
             let c = sum_lanes (λ (t : Record). if eqb t.index i then 1 else 0) tasks parts apart in omega arith)

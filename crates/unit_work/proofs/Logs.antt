@@ -8,6 +8,7 @@ use Rattle.sdls_base.specs.Numbers.{times}
 use Rattle.sdls_base.specs.declared.entry.Entry.{Entry}
 use Rattle.sdls_base.specs.declared.entry.Logged.{Logged}
 use Rattle.sdls_base.specs.declared.entry.Logged.TheVariants as lines
+use Rattle.counter_table.specs.Known.{pieces}
 use Rattle.counter_table.specs.Turn.{stands}
 use Rattle.counter_table.specs.Numbers.{count_of}
 use Rattle.record_io.specs.declared.records.Record.{Record}
@@ -47,6 +48,10 @@ indexed_both i (t ∷ a) b = let h = indexed_both i a b in omega arith
 pub count_at_both : (test : Option Logged → Bool) (log : List Logged) (a b : List ℕ) → count_at test log (a ++ b) ≡ count_at test log a + count_at test log b
 count_at_both test log [] b = omega arith
 count_at_both test log (p ∷ a) b = let h = count_at_both test log a b in omega arith
+
+pub piece_count_both : (a b : List Logged) → pieces (a ++ b) ≡ pieces a + pieces b
+piece_count_both [] b = omega arith
+piece_count_both (line ∷ a) b = let h = piece_count_both a b in omega arith
 
 pub stands_head : (p : ℕ) (places : List ℕ) → 0 < stands p (p ∷ places)
 stands_head p places = rw (eq-eqb p p refl) (omega arith)

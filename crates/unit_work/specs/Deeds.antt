@@ -11,7 +11,7 @@ use Rattle.record_io.specs.declared.kinds.RecordKind.{RecordKind}
 use Rattle.record_io.specs.declared.kinds.RecordKind.TheVariants.{Protect, Open, Command}
 use Rattle.unit_state.specs.History.{epoch_after}
 use Rattle.counter_table.specs.declared.view.View.{View}
-use Rattle.counter_table.specs.Known.{HasRisen}
+use Rattle.counter_table.specs.Known.{HasRisen, IsSparing}
 use Rattle.counter_table.specs.Numbers.{top}
 use Rattle.counter_table.specs.Turn.{stands, epoch_seen}
 use Rattle.unit_history.specs.Log.{entries_of}
@@ -131,11 +131,13 @@ pub record Answers (begin : Begin) (old new : View) (gains : Gains) (deeds : Lis
   -- who answers that the site failed made the last entry
   pub failed : All (λ deed. deed.answer.code ≡ 0x31 → MadeLast new gains) deeds
 
--- What a worker did from the old view to the new one with these records, and the answers that it gave.
+-- What a worker did from the old view to the new one with these records, and the answers that it gave. No more puts failed than
+-- pieces were put.
 pub record Does (begin : Begin) (old new : View) (tasks : List Record) (deeds : List Deed) : Type 0 where
   pub gains : Gains
   pub gained : Gained old new gains
   pub grows : Grows old new
+  pub sparing : IsSparing old.turn.known new.turn.known
   pub works : Works begin old new gains tasks
   pub answers : Answers begin old new gains deeds
 

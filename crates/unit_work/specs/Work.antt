@@ -8,6 +8,7 @@ use Rattle.record_io.specs.declared.kinds.RecordKind.TheVariants.{Command}
 use Rattle.key_book.specs.KeyBook.{place_of}
 use Rattle.unit_state.specs.History.{after_first}
 use Rattle.counter_table.specs.declared.view.View.{View}
+use Rattle.counter_table.specs.Known.{IsSparing}
 use Rattle.counter_table.specs.Numbers.{count_of, top}
 use Rattle.counter_table.specs.Turn.{stands}
 use Rattle.unit_history.specs.Legal.{AsksFor, IsLegalAt}
@@ -49,9 +50,11 @@ pub record Works (begin : Begin) (old new : View) (gains : Gains) (tasks : List 
   -- words were raised to 1, or to what was asked for
   pub raised : All (λ pair. (pair.1 ≤ 1) ⊎ IsAsked begin (entries_in new) tasks pair.0 pair.1) gains.raised
 
--- What a worker did from the old view to the new one: something of this, and what it knew it knows.
+-- What a worker did from the old view to the new one: something of this, and what it knew it knows. No more puts failed than
+-- pieces were put.
 pub record Worked (begin : Begin) (old new : View) (tasks : List Record) : Type 0 where
   pub gains : Gains
   pub gained : Gained old new gains
   pub grows : Grows old new
+  pub sparing : IsSparing old.turn.known new.turn.known
   pub works : Works begin old new gains tasks
