@@ -9,6 +9,7 @@ use Rattle.sdls_base.specs.declared.entry.Entry.{Entry}
 use Rattle.sdls_base.specs.declared.entry.Logged.{Logged}
 use Rattle.sdls_base.specs.declared.entry.Logged.TheVariants as lines
 use Rattle.counter_table.specs.declared.view.View.{View}
+use Rattle.counter_table.specs.Known.{pieces}
 use Rattle.counter_table.specs.Turn.{stands, places}
 use Rattle.counter_table.specs.Whole.{IsWhole}
 use Rattle.record_io.specs.declared.records.Record.{Record}
@@ -19,7 +20,7 @@ use Rattle.unit_work.specs.Views.{log_of, entries_in}
 use Rattle.unit_work.specs.Deeds.{Deed, Does}
 use Rattle.unit_work.specs.Order.{is_piece, is_line, Lined}
 use Rattle.unit_work.proofs.Histories.{place_of_entry}
-use Rattle.unit_work.proofs.Logs.{stands_both, entries_low, count_one}
+use Rattle.unit_work.proofs.Logs.{stands_both, piece_count_both, entries_low, count_one}
 
 pub pieces_both : (a b : List Logged) → pieces_of (a ++ b) ≡ pieces_of a ++ pieces_of b
 pieces_both [] b = refl
@@ -126,6 +127,11 @@ get_behind [] ys k = let e : 0 + k ≡ k = omega arith in ap (slice_get ys) e
 get_behind (x ∷ xs) ys k = let e : suc (length xs) + k ≡ suc (length xs + k) = omega arith in
     ap (slice_get (x ∷ xs ++ ys)) e ∙ get_behind xs ys k
 
+none_counted : (rest : List Logged) → ((k : ℕ) → k < length rest → is_piece (slice_get rest k) ≡ false) → pieces rest ≡ 0
+none_counted [] h = refl
+none_counted (lines.Entry e ∷ rest) h = let k = none_counted rest (λ k low. h (suc k) (omega arith)) in omega arith
+none_counted (lines.Piece e ∷ rest) h = absurd (let k : true ≡ false = h 0 (omega arith) in cc)
+
 not_true : (b : Bool) → (b ≡ true → ⊥) → b ≡ false
 not_true true h = absurd (h refl)
 not_true false h = refl
@@ -138,18 +144,35 @@ module _ (begin : Begin) (old new : View) (tasks : List Record) (deeds : List De
       let s : stands x new.turn.made ≡ stands x old.turn.made + stands x d.gains.made = ap (stands x) d.gained.made ∙ stands_both x old.turn.made d.gains.made in
       grind (arith, nat_tests)
 
+  -- where no piece was made, none stands behind the log that was known
+  none_behind : IsWhole begin.rows old → count_at is_piece (log_of new) d.gains.made ≡ 0
+      → (k : ℕ) → k < length d.grows.earlier.log.0 → is_piece (slice_get d.grows.earlier.log.0 k) ≡ false
+  none_behind before none k low =
+      let rest : List Logged = d.grows.earlier.log.0 in
+      let is : log_of new ≡ log_of old ++ rest = d.grows.earlier.log.1 in
+      let size : length (log_of new) ≡ length (log_of old) + length rest = ap length is ∙ length-append (log_of old) rest in
+      not_true (is_piece (slice_get rest k)) (λ yes.
+      let here : is_piece (slice_get (log_of new) (length (log_of old) + k)) ≡ true =
+      ap (λ (l : List Logged). is_piece (slice_get l (length (log_of old) + k))) is ∙ (ap is_piece (get_behind (log_of old) rest k) ∙ yes) in
+      let c = count_one is_piece (log_of new) (length (log_of old) + k) d.gains.made (made_then before (length (log_of old) + k) (omega arith) (omega arith)) here in
+      omega arith)
+
   -- nothing was put
   pub nothing_put : IsWhole begin.rows old → count_at is_piece (log_of new) d.gains.made ≡ 0 → pieces_of (log_of new) ≡ pieces_of (log_of old)
   nothing_put before none =
       let rest : List Logged = d.grows.earlier.log.0 in
       let is : log_of new ≡ log_of old ++ rest = d.grows.earlier.log.1 in
-      let size : length (log_of new) ≡ length (log_of old) + length rest = ap length is ∙ length-append (log_of old) rest in
-      let quiet : pieces_of rest ≡ [] = no_pieces rest (λ k low. not_true (is_piece (slice_get rest k)) (λ yes.
-      let here : is_piece (slice_get (log_of new) (length (log_of old) + k)) ≡ true =
-      ap (λ (l : List Logged). is_piece (slice_get l (length (log_of old) + k))) is ∙ (ap is_piece (get_behind (log_of old) rest k) ∙ yes) in
-      let c = count_one is_piece (log_of new) (length (log_of old) + k) d.gains.made (made_then before (length (log_of old) + k) (omega arith) (omega arith)) here in
-      omega arith)) in
+      let quiet : pieces_of rest ≡ [] = no_pieces rest (none_behind before none) in
       ap pieces_of is ∙ (pieces_both (log_of old) rest ∙ (ap (λ (l : List ℕ). pieces_of (log_of old) ++ l) quiet ∙ append-nil (pieces_of (log_of old))))
+
+  -- and no put failed
+  pub none_failed : IsWhole begin.rows old → count_at is_piece (log_of new) d.gains.made ≡ 0 → new.turn.known.put_faults ≡ old.turn.known.put_faults
+  none_failed before none =
+      let rest : List Logged = d.grows.earlier.log.0 in
+      let is : pieces (log_of new) ≡ pieces (log_of old ++ rest) = ap pieces d.grows.earlier.log.1 in
+      let both = piece_count_both (log_of old) rest in
+      let quiet = none_counted rest (none_behind before none) in
+      let sparing = d.sparing in let later = d.grows.earlier.put_faults in omega arith
 
   -- at most one reserve a record that can draw, in the whole log
   pub few_reserves : ((x : ℕ) → stands x old.turn.made ≡ 0) → reserves_of (entries_in new) ≤ drawers tasks
