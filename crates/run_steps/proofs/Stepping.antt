@@ -38,7 +38,7 @@ use Rattle.unit_work.proofs.Logs.{entries_low, stands_both, stands_head, stands_
 use Rattle.unit_work.proofs.Ordering.{lined_on, lined_then}
 use Rattle.unit_runs.specs.Settled.{AreSettled}
 use Rattle.unit_runs.specs.Sound.{deeds_octets}
-use Rattle.unit_runs.proofs.Counting.{nothing_put}
+use Rattle.unit_runs.proofs.Counting.{none_failed, nothing_put}
 use Rattle.unit_runs.proofs.Settling.{settle, settled_later, settled_both}
 use Rattle.run_ends.specs.Account.{deeds_from}
 use Rattle.run_steps.specs.Doing.{HasDone, HasSettled, IsBefore, IsFounded, IsSegment, LieIn, Puts, Settles, octets_put}
@@ -330,6 +330,14 @@ module _ (begin : Begin) (first v mid w : View) (places more : List Place) (answ
       let h : Handled (record { lane_of = lane_at more; segment_of = λ index. number }) begin v mid (records_of more) (deeds_of number (records_of more) next) =
       handled (record { lane_of = lane_at more; segment_of = λ index. number }) own_lies in
       nothing_put begin v mid (records_of more) (deeds_of number (records_of more) next) h.does whole_mid whole
+      (let a = h.lined.few_pieces in omega arith)
+
+  -- and no put failed
+  pub unfailed : IsWhole begin.rows mid → mid.turn.known.put_faults ≡ v.turn.known.put_faults
+  unfailed whole_mid =
+      let h : Handled (record { lane_of = lane_at more; segment_of = λ index. number }) begin v mid (records_of more) (deeds_of number (records_of more) next) =
+      handled (record { lane_of = lane_at more; segment_of = λ index. number }) own_lies in
+      none_failed begin v mid (records_of more) (deeds_of number (records_of more) next) h.does whole_mid whole
       (let a = h.lined.few_pieces in omega arith)
 
   pub own_does : Does begin v mid (records_of more) (deeds_from more next)

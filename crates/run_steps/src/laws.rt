@@ -47,6 +47,11 @@ pub fn segment_goes_on()
         → ((layout : Layout) → LiesIn layout number (records_of more)
         → Handled layout begin v mid (records_of more) (deeds_of number (records_of more) next))
         → Puts begin mid w → IsWhole begin.rows mid → octets_put mid ≡ octets_put v }
+    ensures unfailed { (begin : Begin) (first v mid w : View) (places more : List Place) (answers next : List Answer) (number : ℕ)
+        → HasDone begin first v places answers → length answers ≡ length places → IsWhole begin.rows v → IsSegment number places more
+        → ((layout : Layout) → LiesIn layout number (records_of more)
+        → Handled layout begin v mid (records_of more) (deeds_of number (records_of more) next))
+        → Puts begin mid w → IsWhole begin.rows mid → mid.turn.known.put_faults ≡ v.turn.known.put_faults }
 {}
 
 /// Law: what is known of a run at its end, with the releases behind it.

@@ -1,4 +1,4 @@
-use Rattle.run_steps.proofs.Stepping.{goes_on, settled_on, quiet}
+use Rattle.run_steps.proofs.Stepping.{goes_on, settled_on, quiet, unfailed}
 use Rattle.run_steps.proofs.laws.segment_goes_on.Goals as goal
 
 pub returns : goal.returns
@@ -9,4 +9,5 @@ returns c = record {
       settled_on begin first v mid w places more answers next number done each whole segment handled puts founded whole_mid whole_w up known stored settled fewer
       put inside settles entered;
   quiet = quiet;
+  unfailed = unfailed;
 }
