@@ -112,7 +112,7 @@ nothing_between : (old xs : List ℕ) → Between old (old ++ xs) old
 nothing_between old xs = between-old old (old ++ xs) (take_at old xs (length old) refl)
 
 -- what a put that failed has sunk
-failed_put : (octets : List ℕ) (old new : Trace) → (new ≡ old) ⊎ sites.Sank octets old new → Between old.now.sunk (old.now.sunk ++ octets) new.now.sunk
+pub failed_put : (octets : List ℕ) (old new : Trace) → (new ≡ old) ⊎ sites.Sank octets old new → Between old.now.sunk (old.now.sunk ++ octets) new.now.sunk
 failed_put octets old new (inl same) =
     subst (λ (trace : Trace). Between old.now.sunk (old.now.sunk ++ octets) trace.now.sunk) (sym same) (nothing_between old.now.sunk octets)
 failed_put octets old new (inr sank) = sank.sunk

@@ -7,3 +7,4 @@ pub mod Moved
 pub mod Appending
 pub mod Ended
 pub mod Looping
+pub mod Refusing

@@ -3,3 +3,4 @@ pub mod Coming
 pub mod Segment
 pub mod Finishing
 pub mod Ran
+pub mod Refused

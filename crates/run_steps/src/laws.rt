@@ -8,6 +8,7 @@ ghost use Rattle.counter_table.specs.Whole.{IsWhole, RowStands};
 ghost use Rattle.record_io.specs.declared.answers.Answer.{Answer};
 ghost use Rattle.record_io.specs.Places.{Place, records_of};
 ghost use Rattle.record_io.specs.Answers.{answers_octets};
+ghost use Rattle.unit_image.specs.declared.fault.OpenFault.{OpenFault};
 ghost use Rattle.unit_work.specs.Begin.{Begin};
 ghost use Rattle.unit_work.specs.Views.{entries_in};
 ghost use Rattle.unit_work.specs.Deeds.{deeds_of};
@@ -21,8 +22,10 @@ ghost use Rattle.run_ends.specs.declared.end.RunEnd.{RunEnd};
 ghost use Rattle.run_ends.specs.Lives.{EndsAndLives};
 ghost use Rattle.run_steps.specs.Finishing.{Finishes};
 ghost use Rattle.run_steps.specs.Ran.{call_seen, CountsSlots, Ran};
+ghost use Rattle.run_steps.specs.Refused.{Refused};
 ghost use Rattle.run_steps.specs.Doing.{AreSettledInside, HasDone, HasSettled, IsBefore, IsFounded, IsSegment, octets_put, Puts, Settles};
 
+use image_laws::shown_keeps_rules;
 use run_ends::sound_call_keeps_lives;
 use sdls_outside::Site;
 use unit_image::{refused_with_one, shows_one};
@@ -76,5 +79,17 @@ pub fn run_ends_well<O: Site>()
 {
     shows_one();
     refused_with_one();
+    sound_call_keeps_lives();
+}
+
+/// Law: a call whose book was not opened, which took nothing of its source and put End alone, ends as a run ends, and goes on
+/// with each life that left the image at its entry.
+pub fn refused_run_ends<O: Site>()
+    ensures { (site back after : O) (source : SourceSeen) (fault : OpenFault) (status : ℕ)
+        → Refused O.told O.trace O.faults O.put_faults site back after fault status
+        → EndsAndLives (call_seen O.told O.trace O.faults O.put_faults site after source source status []) }
+{
+    refused_with_one();
+    shown_keeps_rules();
     sound_call_keeps_lives();
 }

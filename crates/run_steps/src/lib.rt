@@ -5,4 +5,4 @@
 
 mod laws;
 
-pub use laws::{run_ends_well, run_stands, segment_goes_on};
+pub use laws::{refused_run_ends, run_ends_well, run_stands, segment_goes_on};
