@@ -11,7 +11,7 @@ use Rattle.record_io.specs.declared.answers.Answer.{Answer}
 use Rattle.unit_state.specs.History.{after}
 use Rattle.counter_table.specs.declared.view.Turn.{Turn}
 use Rattle.counter_table.specs.declared.view.View.{View}
-use Rattle.counter_table.specs.Known.{Earlier}
+use Rattle.counter_table.specs.Known.{Earlier, IsSparing}
 use Rattle.counter_table.specs.Numbers.{count_of, top}
 use Rattle.counter_table.specs.Turn.{places, epoch_seen}
 use Rattle.unit_history.specs.Log.{entries_of}
@@ -36,6 +36,7 @@ none_all {X} P i e low = absurd (omega arith)
 -- What became of the turn: nothing that was known is forgotten, and these entries stand behind the log that was found.
 pub record Turned (log : List Logged) (es : List Entry) (v w : Turn) : Type 0 where
   pub earlier : Earlier v.known w.known
+  pub sparing : IsSparing v.known w.known
   pub opening : w.known.opening ≡ v.known.opening
   pub epochs : epoch_seen v ≤ epoch_seen w
   pub low : length v.known.log ≤ length log
@@ -132,6 +133,7 @@ module _ (begin : Begin) (task : Record) (v w : View) where
         gains = gains;
         gained = gained;
         grows = grows;
+        sparing = turned.sparing;
         works = works;
         answers = record {
           fit = none_all _;
@@ -153,6 +155,7 @@ module _ (begin : Begin) (task : Record) (v w : View) where
         gains = gains;
         gained = gained;
         grows = grows;
+        sparing = turned.sparing;
         works = works;
         answers = record {
           fit = one_all (λ (d : Deed). Fits (IsBetween begin v w) (course_in begin w) d.task d.answer) (deed_of segment task answer) fits;

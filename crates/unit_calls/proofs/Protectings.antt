@@ -91,6 +91,7 @@ module _ {O : Type 0} (told : Bool) (trace : O → Trace) (faults puts : O → �
       put_faults = omega arith;
       stopped = λ _. refl;
     };
+    sparing = omega arith;
     opening = refl;
     epochs = l.later;
     low = omega arith;
@@ -124,6 +125,7 @@ module _ {O : Type 0} (told : Bool) (trace : O → Trace) (faults puts : O → �
     seen = t.later;
     pass = λ log es p. record {
       earlier = p.earlier;
+      sparing = p.sparing;
       opening = p.opening;
       epochs = (let a = t.later in let b = p.epochs in omega arith);
       low = p.low;

@@ -15,6 +15,7 @@ use Rattle.unit_state.specs.History.{after, after_first, epoch_after}
 use Rattle.counter_table.specs.declared.view.Numbers.{Numbers}
 use Rattle.counter_table.specs.declared.view.Turn.{Turn}
 use Rattle.counter_table.specs.declared.view.View.{View}
+use Rattle.counter_table.specs.Known.{IsSparing}
 use Rattle.counter_table.specs.Play.{IsCovered}
 use Rattle.counter_table.specs.Turn.{places, stands}
 use Rattle.unit_history.specs.Log.{entries_of}
@@ -34,7 +35,7 @@ use Rattle.unit_runs.proofs.Rows.{mark_known}
 use Rattle.unit_calls.specs.Visiting.{Visited}
 use Rattle.unit_calls.proofs.Behind.{after_both}
 use Rattle.unit_calls.proofs.OneRecord.{none_all}
-use Rattle.unit_calls.proofs.Visit.{epoch_low, led_known, log_is, log_low, standing_found}
+use Rattle.unit_calls.proofs.Visit.{epoch_low, led_known, log_is, log_low, sparing_seen, standing_found}
 
 -- nothing but places of the log
 abbrev making : List ℕ → Gains
@@ -90,6 +91,9 @@ module _ {O : Type 0} (told : Bool) (trace : O → Trace) (faults puts : O → �
     filled = ap (λ (t : Turn). t.filled) turn_is;
   }
 
+  sparing : IsSparing v.turn.known w.turn.known
+  sparing = sparing_seen told trace faults puts begin found given v.turn w.turn h.began h.free h.visits
+
   -- the log stands
   pub none_works : (tasks : List Record) → given.log ≡ found.log → Worked begin v w tasks
   none_works tasks is =
@@ -98,6 +102,7 @@ module _ {O : Type 0} (told : Bool) (trace : O → Trace) (faults puts : O → �
         gains = making [];
         gained = gained [] (ap (places (length found.log)) n);
         grows = grows;
+        sparing = sparing;
         works = record {
           made = λ x l. absurd (omega arith);
           legal = λ x l. absurd (omega arith);
@@ -129,6 +134,7 @@ module _ {O : Type 0} (told : Bool) (trace : O → Trace) (faults puts : O → �
           gains = making (length found.log ∷ []);
           gained = gained (length found.log ∷ []) (ap (places (length found.log)) one);
           grows = grows;
+          sparing = sparing;
           works = record {
             made = λ x l.
                 let at = one_place (length found.log) x l in

@@ -26,6 +26,7 @@ same_turn v = record {
     put_faults = omega arith;
     stopped = λ _. refl;
   };
+  sparing = omega arith;
   opening = refl;
   epochs = omega arith;
   low = omega arith;

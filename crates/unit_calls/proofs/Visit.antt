@@ -11,7 +11,7 @@ use Rattle.unit_state.specs.declared.state.State.{State}
 use Rattle.unit_state.specs.History.{after, after_first, epoch_after}
 use Rattle.counter_table.specs.declared.view.Opening.{Opening}
 use Rattle.counter_table.specs.declared.view.Turn.{Turn}
-use Rattle.counter_table.specs.Known.{Earlier, HasRisen}
+use Rattle.counter_table.specs.Known.{Earlier, HasRisen, IsSparing}
 use Rattle.counter_table.specs.Turn.{epoch_seen, places}
 use Rattle.unit_history.specs.Log.{entries_of}
 use Rattle.unit_book.specs.Book.{BookView}
@@ -48,6 +48,11 @@ module _ {O : Type 0} (told : Bool) (trace : O → Trace) (faults puts : O → �
 
   pub start_is : found.start ≡ begin.start
   start_is = ap (λ (o : Opening). o.start) found_opening ∙ began.start
+
+  -- no more puts failed than pieces were put
+  pub sparing_seen : IsSparing v.known w.known
+  sparing_seen = subst (λ (t : Turn). IsSparing v.known t.known) (sym turn_is)
+      (let a = visits.takes.follows.sparing in let b = visits.takes.sparing in omega arith)
 
   -- what is known afterwards
   pub log_is : w.known.log ≡ given.log
@@ -158,6 +163,7 @@ module _ {O : Type 0} (told : Bool) (trace : O → Trace) (faults puts : O → �
         record {
           earlier = subst (λ (t : Turn). Earlier v.known t.known) (sym turn_is)
               (earlier_again v.known (told_by trace faults puts found) (told_by trace faults puts given) visits.takes.follows.earlier visits.takes.earlier visits.takes.opening);
+          sparing = sparing_seen;
           opening = ap (λ (t : Turn). t.known.opening) turn_is ∙ opening_is;
           epochs = (let a = epoch_low in let b = epoch_high in let c = visits.takes.earlier.changes in omega arith);
           low = log_low;
