@@ -1,0 +1,36 @@
+-- A history that is full stays so while the views grow apart; and a worker that was split off and joined at once.
+use Rattle.std.proofs.Common.{◌≡◌, ◌+◌, ◌<◌, List, [], ◌++◌, length, sym, ◌∙◌, ap, subst, inl, inr, ⊎_elim, arith, append-nil, length-append, true, false}
+use Rattle.counter_table.specs.declared.view.Opening.{Opening}
+use Rattle.counter_table.specs.declared.view.View.{View}
+use Rattle.counter_table.specs.Known.{HasRisen}
+use Rattle.record_io.specs.declared.records.Record.{Record}
+use Rattle.unit_book.specs.declared.limits.TheConstants.{MOST_ENTRIES}
+use Rattle.unit_work.specs.Begin.{Begin}
+use Rattle.unit_work.specs.Views.{Grows, keeping, starting, meeting, Meets, entries_in}
+use Rattle.unit_work.specs.Deeds.{Deed}
+use Rattle.unit_work.specs.Order.{Layout, Handled}
+use Rattle.unit_work.proofs.Working.{grown_entries, may_later}
+use Rattle.unit_work.proofs.Handling.{handled_nothing, handled_then, handled_beside}
+use Rattle.unit_calls.specs.Answering.{IsFullFor}
+
+pub full_stays : (begin : Begin) (u v w z : View) (task : Record) → Grows u v → Grows w z → IsFullFor begin v w task → IsFullFor begin u z task
+full_stays begin u v w z task low high is = record {
+  full = (let (rest, more) = grown_entries w z high in let size : length (entries_in z) ≡ length (entries_in w) + length rest = ap length more ∙ length-append (entries_in w) rest in
+      let few = is.full in omega arith);
+  not_failed = λ risen. is.not_failed (
+      let f = low.earlier.faults in
+      subst (λ (o : Opening). HasRisen o.faults v.turn.known.faults) (sym low.opening) (⊎_elim (λ a. inl (omega arith)) (λ b. inr (omega arith)) risen));
+  due = ⊎_elim inl (λ may. inr (may_later begin u v w z low high task MOST_ENTRIES is.full may)) is.due;
+}
+
+-- a worker that is split off and joined at once
+pub looked_back : (layout : Layout) (begin : Begin) (u v : View) (ts : List Record) (ds : List Deed) → Handled layout begin u v ts ds → 1 < v.numbers.shares
+    → v.turn.holds ≡ false → v.turn.filled ≡ true → Meets begin.rows (keeping v) (starting v) → Handled layout begin u (meeting (keeping v) (starting v)) ts ds
+looked_back layout begin u v ts ds done two free filled meet =
+    let z : View = meeting (keeping v) (starting v) in
+    let idle : Handled layout begin v z [] [] =
+    handled_beside layout begin v (keeping v) (starting v) [] [] [] [] (handled_nothing layout begin (keeping v) []) (handled_nothing layout begin (starting v) [])
+    two free filled meet (λ i j a b. absurd (omega arith)) (λ i d l j e m. absurd (omega arith)) in
+    subst (λ (l : List Record). Handled layout begin u z l ds) (append-nil ts)
+    (subst (Handled layout begin u z (ts ++ [])) (append-nil ds)
+    (handled_then layout begin u v z ts [] ds [] done idle (λ i j a b. absurd (omega arith)) (λ i d l j e m. absurd (omega arith))))

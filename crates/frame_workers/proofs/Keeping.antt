@@ -1,0 +1,23 @@
+-- What a run began with that goes on from an opening, and permits that are kept.
+use Rattle.std.proofs.Common.{Bool, Option, Some, None, length, refl}
+use Rattle.disk_journal.specs.Image.{records, slot_count}
+use Rattle.counter_table.specs.declared.view.Opening.{Opening}
+use Rattle.counter_table.specs.declared.view.Turn.{Turn}
+use Rattle.shared_unit.specs.declared.permit.Permit.{Permit}
+use Rattle.shared_unit.specs.Protecting.{IsTrueIfKept}
+use Rattle.shared_unit.specs.Permit.{IsTrueFor}
+use Rattle.unit_work.specs.Begin.{Begin}
+use Rattle.unit_calls.specs.Visiting.{BeganWith}
+
+-- a run that began with the opening
+pub begun_at : Bool → Opening → Begin
+begun_at told opening = record { rows = 512; told = told; plan = opening.plan; start = opening.start; slots = slot_count opening.image; used = length (records opening.image) }
+
+pub began_at : (told : Bool) (opening : Opening) → BeganWith told (begun_at told opening) opening
+unfolding begun_at
+began_at told opening = record { rows = refl; tells = refl; plan = refl; start = refl; slots = λ t. refl; used = λ t. refl }
+
+-- a permit that is kept stays true where each one does
+pub kept_stays : (v w : Turn) (kept : Option Permit) → ((permit : Permit) → IsTrueFor permit v → IsTrueFor permit w) → IsTrueIfKept kept v → IsTrueIfKept kept w
+kept_stays v w None each h = h
+kept_stays v w (Some permit) each h = each permit h

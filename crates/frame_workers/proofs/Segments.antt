@@ -1,0 +1,223 @@
+-- All lanes of a segment, split off, run and joined.
+use Rattle.std.proofs.Common.{◌≡◌, ℕ, zero, suc, ◌+◌, ◌-◌, ◌<◌, ◌==◌, List, [], ◌∷◌, ◌++◌, length, take, drop, get_or, Bool, true, false, ◌||◌, Some, None, Option, refl, sym, ◌∙◌, ap, subst, arith, length-append, append-nil}
+use Rattle.std.specs.List.{All, AllPairs, Contains, list_any, slice_get, slice_index_or}
+use Rattle.std.proofs.lemmas.Bool.Decides.{nat_tests}
+use Rattle.std.proofs.lemmas.List.{take_all, drop_all}
+use Rattle.std.proofs.lemmas.List.Elements.{All-contains}
+use Rattle.counter_table.specs.declared.counters.Worker.{Worker}
+use Rattle.counter_table.specs.declared.view.View.{View}
+use Rattle.counter_table.specs.Worker.{view}
+use Rattle.record_io.specs.declared.records.Record.{Record}
+use Rattle.record_io.specs.declared.answers.Answer.{Answer}
+use Rattle.unit_work.specs.Begin.{Begin}
+use Rattle.unit_work.specs.Views.{Grows, keeping, starting, meeting, Meets}
+use Rattle.unit_work.specs.Deeds.{deeds_of}
+use Rattle.unit_work.specs.Order.{Layout, LiesIn, Handled}
+use Rattle.unit_work.specs.Lanes.{is_of_lane, of_lane, giving, Part, DidPart, meeting_all, MeetAll, parts_deeds}
+use Rattle.unit_work.proofs.Joining.{grows_itself, grows_further}
+use Rattle.unit_work.proofs.Handling.{handled_nothing}
+use Rattle.unit_work.proofs.Lanes.{lanes_handled, lanes_grow}
+use Rattle.frame_workers.specs.declared.lane.Lane.{Lane}
+use Rattle.unit_calls.specs.Answering.{IsFullFor}
+use Rattle.unit_calls.specs.Visiting.{BeganWith}
+use Rattle.frame_workers.specs.Ends.{EndsSegment}
+use Rattle.frame_workers.specs.Lanes.{HasRun, IsSplit, part_of, parts_of, answers_of, AreApart, IsThere, StopsAt}
+use Rattle.frame_workers.proofs.Keeping.{begun_at, began_at}
+use Rattle.frame_workers.proofs.Steps.{lane_next, lane_whole}
+use Rattle.frame_workers.proofs.Fulls.{full_stays, looked_back}
+use Rattle.frame_workers.proofs.Joins.{parts_all, parts_apart, parts_counted, part_among, answers_found}
+
+-- one worker took in those of lanes that have a share each
+pub shares_met : (now : View) (parts : List Part) → All (λ (p : Part). p.knows.numbers.shares ≡ 1) parts
+    → (meeting_all now parts).numbers.shares ≡ now.numbers.shares + length parts
+shares_met now [] h = omega arith
+shares_met now (p ∷ parts) h =
+    let one = h 0 p (omega arith) in let rest = shares_met (meeting now p.knows) parts (λ k d l. h (suc k) d (omega arith)) in omega arith
+
+pub free_met : (now : View) (parts : List Part) → (meeting_all now parts).turn.holds ≡ now.turn.holds
+free_met now [] = refl
+free_met now (p ∷ parts) = free_met (meeting now p.knows) parts
+
+pub filled_met : (now : View) (parts : List Part) → now.turn.filled ≡ true → (meeting_all now parts).turn.filled ≡ true
+filled_met now [] h = h
+filled_met now (p ∷ parts) h = filled_met (meeting now p.knows) parts (ap (λ (b : Bool). b || p.knows.turn.filled) h)
+
+-- a slice of a whole list, given back
+pub slice_whole : {X : Type 0} (n : ℕ) (new old : List X) → length new ≡ length old → n ≡ length old → take n (new ++ drop (length new) old) ≡ new
+slice_whole {X} n new old same is =
+    let none : drop (length new) old ≡ [] = drop_all (length new) old (omega arith) in
+    ap (λ (l : List X). take n (new ++ l)) none ∙ (ap (take n) (append-nil new) ∙ take_all n new (omega arith))
+
+-- answers that end, or do not
+pub by_flag : (begin : Begin) (old new : View) (tasks : List Record) (answers : List Answer) (full : Bool) → (full ≡ false → length answers ≡ length tasks)
+    → (full ≡ true → EndsSegment begin old new tasks answers true) → EndsSegment begin old new tasks answers full
+by_flag begin old new tasks answers false all stops = all refl
+by_flag begin old new tasks answers true all stops = stops refl
+
+pub stops_same : (tasks : List Record) (place : ℕ) (one other : ℕ → List Answer) → ((n : ℕ) → one n ≡ other n) → StopsAt tasks one place → StopsAt tasks other place
+stops_same tasks place one other same stop = record {
+  task = stop.task;
+  there = stop.there;
+  none_left = ap length (sym (same stop.task.lane)) ∙ stop.none_left;
+}
+
+-- the element at a place
+found : {X : Type 0} (xs : List X) (k : ℕ) (x : X) → slice_get xs k ≡ Some x → (k < length xs) × (x ≡ get_or xs k x)
+found [] k x is = absurd (let n : ◌≡◌ {A = Option _} None (Some x) = is in cc)
+found (y ∷ xs) zero x is = (omega arith, (let e : Some y ≡ Some x = is in cc))
+found (y ∷ xs) (suc k) x is = let (low, same) = found xs k x is in (omega arith, same)
+
+used : (rs : List Record) (k : ℕ) (r : Record) → slice_get rs k ≡ Some r → list_any (is_of_lane r.lane) rs ≡ true
+used [] k r is = absurd (let n : ◌≡◌ {A = Option _} None (Some r) = is in cc)
+used (t ∷ rs) zero r is = (let e : Some t ≡ Some r = is in let same : t ≡ r = cc in
+    let own : is_of_lane r.lane t ≡ true = subst (λ (x : Record). is_of_lane r.lane x ≡ true) (sym same) (itself r.lane) in ap (λ (b : Bool). b || list_any (is_of_lane r.lane) rs) own)
+  where
+    itself : (n : ℕ) → (n == n) ≡ true
+    itself n = grind (arith, nat_tests)
+used (t ∷ rs) (suc k) r is = let rest = used rs k r is in or_right (is_of_lane r.lane t) (list_any (is_of_lane r.lane) rs) rest
+  where
+    or_right : (a b : Bool) → b ≡ true → (a || b) ≡ true
+    or_right true b h = refl
+    or_right false b h = h
+
+module _ {B : Type 0} (ready : Worker B → Type 0) (told : Bool) (rs : List Record) (base : View) (old new : List (Lane B))
+    (split : All (IsSplit ready rs base) old) (apart : AllPairs AreApart old)
+    (each : (n : ℕ) → n < 16 → list_any (is_of_lane n) rs ≡ true → IsThere n old) (many : length new ≡ length old)
+    (ran : (k : ℕ) (d : Lane B) → k < length old → HasRun ready told rs (slice_index_or old k d) (slice_index_or new k d)) where
+  pub new_apart : AllPairs AreApart new
+  new_apart i j d lt low e =
+      let one = ran i d (omega arith) in let two = ran j d (omega arith) in
+      apart i j d lt (omega arith) (sym one.number ∙ (e ∙ two.number))
+
+  pub new_ready : All (λ (lane : Lane B). ready lane.worker × (lane.number < 16)) new
+  new_ready k d low =
+      let run = ran k d (omega arith) in let is = split k d (omega arith) in let number = run.number in let below = is.below in
+      (run.is_ready, omega arith)
+
+  opening_of : (k : ℕ) (d : Lane B) → k < length old → (view (slice_index_or old k d).worker).turn.known.opening ≡ base.turn.known.opening
+  opening_of k d low = ap (λ (v : View). v.turn.known.opening) (split k d low).from
+
+  began : (begin : Begin) → BeganWith told begin base.turn.known.opening → (k : ℕ) (d : Lane B) → k < length old
+      → BeganWith told begin (view (slice_index_or old k d).worker).turn.known.opening
+  began begin b k d low = subst (BeganWith told begin) (sym (opening_of k d low)) b
+
+  one_share : All (λ (p : Part). p.knows.numbers.shares ≡ 1) (parts_of new)
+  one_share = parts_all (λ (p : Part). p.knows.numbers.shares ≡ 1) new
+      (λ k d low. (ran k d (omega arith)).shares ∙ ap (λ (v : View). v.numbers.shares) (split k d (omega arith)).from)
+
+  same_opening : All (λ (p : Part). p.knows.turn.known.opening ≡ base.turn.known.opening) (parts_of new)
+  same_opening = parts_all (λ (p : Part). p.knows.turn.known.opening ≡ base.turn.known.opening) new
+      (λ k d low.
+      let begin : Begin = begun_at told base.turn.known.opening in
+      let b = began begin (began_at told base.turn.known.opening) k d (omega arith) in
+      let h = (ran k d (omega arith)).handled begin (record { lane_of = λ i. 0; segment_of = λ i. 0 }) 0 b in
+      h.does.grows.opening ∙ opening_of k d (omega arith))
+
+  did : (begin : Begin) (layout : Layout) (s : ℕ) → BeganWith told begin base.turn.known.opening → All (DidPart layout begin base s rs) (parts_of new)
+  did begin layout s b = parts_all (DidPart layout begin base s rs) new
+      (λ k d low.
+      let run = ran k d (omega arith) in
+      let h = run.handled begin layout s (began begin b k d (omega arith)) in
+      let from = (split k d (omega arith)).from in
+      let g = subst (λ (v : View). Handled layout begin v (view (slice_index_or new k d).worker) (of_lane (slice_index_or old k d).number rs)
+      (deeds_of s (of_lane (slice_index_or old k d).number rs) (slice_index_or new k d).answers.items)) from h in
+      subst (λ (n : ℕ). Handled layout begin (starting base) (view (slice_index_or new k d).worker) (of_lane n rs)
+      (deeds_of s (of_lane n rs) (slice_index_or new k d).answers.items)) (sym run.number) g)
+
+  module _ (now : View) (given : now ≡ giving (length old) base) (few : length old < base.numbers.shares) (free : base.turn.holds ≡ false)
+      (filled : base.turn.filled ≡ true) (meet : MeetAll 512 now (parts_of new)) where
+    abbrev joined : View
+    joined = meeting_all now (parts_of new)
+
+    now_free : now.turn.holds ≡ false
+    now_free = ap (λ (v : View). v.turn.holds) given ∙ free
+
+    now_filled : now.turn.filled ≡ true
+    now_filled = ap (λ (v : View). v.turn.filled) given ∙ filled
+
+    pub joined_free : joined.turn.holds ≡ false
+    joined_free = free_met now (parts_of new) ∙ now_free
+
+    pub joined_filled : joined.turn.filled ≡ true
+    joined_filled = filled_met now (parts_of new) now_filled
+
+    pub joined_shares : joined.numbers.shares ≡ base.numbers.shares
+    joined_shares =
+        let a = shares_met now (parts_of new) one_share in let b = parts_counted new in
+        let c : now.numbers.shares ≡ base.numbers.shares - length old = ap (λ (v : View). v.numbers.shares) given in omega arith
+
+    pub joined_grows : All (λ (p : Part). Grows p.knows joined) (parts_of new)
+    joined_grows =
+        let same : now.turn.known.opening ≡ base.turn.known.opening = ap (λ (v : View). v.turn.known.opening) given in
+        let begin : Begin = begun_at told base.turn.known.opening in
+        let rows = (began_at told base.turn.known.opening).rows in
+        lanes_grow begin now (parts_of new) now_free now_filled (λ k d low. same_opening k d low ∙ sym same)
+        (subst (λ (n : ℕ). MeetAll n now (parts_of new)) (sym rows) meet)
+
+    module _ (two : 1 < base.numbers.shares) (back : Meets 512 (keeping joined) (starting joined)) where
+      abbrev last : View
+      last = meeting (keeping joined) (starting joined)
+
+      pub all_handled : (begin : Begin) (layout : Layout) (s : ℕ) → BeganWith told begin base.turn.known.opening → LiesIn layout s rs → (answers : List Answer)
+          → All (Contains (parts_deeds s rs (parts_of new))) (deeds_of s rs answers) → Handled layout begin base last rs (deeds_of s rs answers)
+      all_handled begin layout s b lies answers among =
+          let size = parts_counted new in
+          let given' : now ≡ giving (length (parts_of new)) base = subst (λ (n : ℕ). now ≡ giving n base) (sym many ∙ sym size) given in
+          let done = lanes_handled layout begin base now s rs (parts_of new) (deeds_of s rs answers) lies (omega arith) free filled given'
+          (did begin layout s b) (subst (λ (n : ℕ). MeetAll n now (parts_of new)) (sym b.rows) meet) (parts_apart new new_apart) among in
+          let shares = joined_shares in
+          looked_back layout begin base joined rs (deeds_of s rs answers) done (omega arith) joined_free joined_filled
+          (subst (λ (n : ℕ). Meets n (keeping joined) (starting joined)) (sym b.rows) back)
+
+      last_grows : Grows joined last
+      last_grows =
+          let begin : Begin = begun_at told base.turn.known.opening in
+          let layout : Layout = record { lane_of = λ i. 0; segment_of = λ i. 0 } in
+          let rows = (began_at told base.turn.known.opening).rows in
+          let shares = joined_shares in
+          (looked_back layout begin joined joined [] [] (handled_nothing layout begin joined []) (omega arith) joined_free joined_filled
+          (subst (λ (n : ℕ). Meets n (keeping joined) (starting joined)) (sym rows) back)).does.grows
+
+      starts : Grows base (starting base)
+      starts = record { nexts = λ r. omega arith; earlier = (grows_itself base).earlier; opening = refl; epochs = omega arith }
+
+      -- the first record without an answer is one for which the history is full
+      pub all_ends : (begin : Begin) → BeganWith told begin base.turn.known.opening → All (λ (t : Record). t.lane < 16) rs → (answers : List Answer)
+          → StopsAt rs (λ n. answers_of n (parts_of new)) (length answers) → EndsSegment begin base last rs answers true
+      all_ends begin b lanes answers stop =
+          let r : Record = stop.task in
+          let place = found rs (length answers) r stop.there in
+          let below : r.lane < 16 = subst (λ (t : Record). t.lane < 16) (sym place.1) (lanes (length answers) r place.0) in
+          let there = each r.lane below (used rs (length answers) r stop.there) in
+          go stop place there
+        where
+          go : (stop : StopsAt rs (λ n. answers_of n (parts_of new)) (length answers)) → (length answers < length rs) × (stop.task ≡ get_or rs (length answers) stop.task)
+              → IsThere stop.task.lane old → EndsSegment begin base last rs answers true
+          go stop place (lane, (k, low, here), number) =
+              let r : Record = stop.task in
+              let run = ran k lane low in
+              let at_old : (slice_index_or old k lane).number ≡ r.lane = ap (λ (l : Lane B). l.number) here ∙ number in
+              let at_new : (slice_index_or new k lane).number ≡ r.lane = run.number ∙ at_old in
+              let its = answers_found new k lane new_apart (omega arith) in
+              let size : length (slice_index_or new k lane).answers.items ≡ length (of_lane r.lane (take (length answers) rs)) =
+              ap length (sym its) ∙ (ap (λ (n : ℕ). length (answers_of n (parts_of new))) at_new ∙ stop.none_left) in
+              let own : is_of_lane r.lane r ≡ true = grind (arith, nat_tests) in
+              let v : View = view (slice_index_or old k lane).worker in let w : View = view (slice_index_or new k lane).worker in
+              let ends : EndsSegment begin v w (of_lane r.lane rs) (slice_index_or new k lane).answers.items (slice_index_or new k lane).full =
+              subst (λ (n : ℕ). EndsSegment begin v w (of_lane n rs) (slice_index_or new k lane).answers.items (slice_index_or new k lane).full) at_old
+              (run.ends begin (began begin b k lane low)) in
+              let low_grows : Grows base v = subst (Grows base) (sym (split k lane low).from) starts in
+              let high_grows : Grows w last = grows_further w joined last
+              (All-contains (λ (p : Part). Grows p.knows joined) (parts_of new) (part_of (slice_index_or new k lane)) joined_grows (part_among new k lane (omega arith))) last_grows in
+              let next = lane_next r.lane rs (length answers) r place.1 place.0 own in
+              let whole = ap length (lane_whole r.lane rs (length answers) r place.1 place.0 own) ∙ length-append (of_lane r.lane (take (length answers) rs)) _ in
+              cases r stop.there v w low_grows high_grows (of_lane r.lane rs) (slice_index_or new k lane).answers.items (length (of_lane r.lane (take (length answers) rs)))
+              size next (omega arith) (slice_index_or new k lane).full ends
+            where
+              cases : (r : Record) → slice_get rs (length answers) ≡ Some r → (v w : View) → Grows base v → Grows w last → (own : List Record) (xs : List Answer) (m : ℕ)
+                  → length xs ≡ m → slice_get own m ≡ Some r → m < length own → (full : Bool) → EndsSegment begin v w own xs full → EndsSegment begin base last rs answers true
+              cases r there v w low_grows high_grows own xs m size next more false e = absurd (let f : length xs ≡ length own = e in omega arith)
+              cases r there v w low_grows high_grows own xs m size next more true (task, at, full) =
+                  let other : Some task ≡ Some r = sym at ∙ (ap (slice_get own) size ∙ next) in
+                  let same : task ≡ r = cc in
+                  (r, there, full_stays begin base v w last r low_grows high_grows (subst (IsFullFor begin v w) same full))

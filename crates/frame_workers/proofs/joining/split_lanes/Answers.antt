@@ -1,0 +1,51 @@
+use Rattle.std.proofs.Common.{◌≡◌, ℕ, ◌≤◌, ◌+◌, length, [], ◌∷◌, true, refl, sym, ap, subst, ◌∙◌, arith, length-append, inl, inr}
+use Rattle.std.specs.List.{All, AllPairs, list_any}
+use Rattle.std.proofs.lemmas.Bool.{cases_eq}
+use Rattle.std.proofs.lemmas.List.Elements.{All-push}
+use Rattle.std.proofs.lemmas.List.Quantifiers.{all_pairs_push}
+use Rattle.counter_table.specs.declared.view.View.{View}
+use Rattle.counter_table.specs.Worker.{view}
+use Rattle.shared_unit.specs.Turn.{IsReady}
+use Rattle.unit_work.specs.Lanes.{giving, is_of_lane}
+use Rattle.frame_workers.specs.Lanes.{AreApart, IsRoom, IsSplit, IsThere}
+use Rattle.frame_workers.proofs.Splits.{gives_more, starts_so, there_push, there_last, room_last, rooms_left}
+use Rattle.frame_workers.proofs.joining.split_lanes.Goals as goal
+
+pub rooms-preserved : goal.rooms-preserved
+rooms-preserved g c =
+    let inv = c.rooms.invariant in
+    let base : View = view c.args.worker.now in
+    let pushed = c.push_reserved.ensures in
+    let items = c.in-Some.ensures.items in
+    let left = c.pop.new.self.items in
+    let ok = c.pop.new.self.ok in let len = c.len-number.ensures in
+    let number : c.len-number.result ≡ length left = omega arith in
+    let less : length c.rooms.rooms.items ≡ length left + 1 = ap length items ∙ length-append left (c.in-Some.answers ∷ []) in
+    let more : length c.push_reserved.new.self.items ≡ length c.rooms.lanes.items + 1 = ap length pushed.items ∙ length-append c.rooms.lanes.items _ in
+    let many = inv.many in
+    let room : IsRoom c.args.records.now c.len-number.result c.in-Some.answers =
+    subst (λ (n : ℕ). IsRoom c.args.records.now n c.in-Some.answers) (sym number) (room_last c.args.records.now c.rooms.rooms.items left c.in-Some.answers items inv.rooms) in
+    let used : list_any (is_of_lane c.len-number.result) c.args.records.now ≡ true = sym c.is_used.ensures ∙ c.if-not-is_used.false in
+    record {
+      is_ready = c.split-split.ensures.ready;
+      given = subst (λ (n : ℕ). view c.split-split.new.worker ≡ giving n base) (sym more)
+          (gives_more base (view c.rooms.worker) (view c.split-split.new.worker) (length c.rooms.lanes.items) inv.given c.split-split.ensures.keeper);
+      shares = inv.shares;
+      many = omega arith;
+      rooms = rooms_left c.args.records.now c.rooms.rooms.items left c.in-Some.answers items inv.rooms;
+      room = let a = pushed.capacity in let b = inv.room in omega arith;
+      split = subst (λ l. All (IsSplit (IsReady c.args.unit.now.counters c.args.unit.now.plan) c.args.records.now base) l) (sym pushed.items)
+          (All-push (IsSplit (IsReady c.args.unit.now.counters c.args.unit.now.plan) c.args.records.now base) c.rooms.lanes.items _ inv.split (record {
+            below = omega arith;
+            can = record { is_ready = c.split-split.ensures.new; kept = tt; empty = room.empty; room = room.roomy used; going = refl };
+            from = starts_so base (view c.rooms.worker) (view c.split-split.result) (length c.rooms.lanes.items) inv.given c.split-split.ensures.newcomer;
+          }));
+      above = subst (λ l. All (λ lane. length left ≤ lane.number) l) (sym pushed.items)
+          (All-push (λ lane. length left ≤ lane.number) c.rooms.lanes.items _ (λ k d l. let a = inv.above k d l in omega arith) (omega arith));
+      apart = subst (λ l. AllPairs AreApart l) (sym pushed.items)
+          (all_pairs_push AreApart c.rooms.lanes.items _ inv.apart (λ k d l e. let a = inv.above k d l in absurd (omega arith)));
+      each = λ n low high there. elim (cases_eq (length left) n) [
+        | inl is ↦ subst (IsThere n) (sym pushed.items) (there_last n c.rooms.lanes.items _ (number ∙ is))
+        | inr off ↦ subst (IsThere n) (sym pushed.items) (there_push n c.rooms.lanes.items _ (inv.each n (omega arith) high there))
+      ];
+    }

@@ -1,0 +1,25 @@
+use Rattle.std.proofs.Common.{◌≡◌, ℕ, ◌≤◌, length, take, false, vec_capacity}
+use Rattle.counter_table.specs.Worker.{view}
+use Rattle.shared_unit.specs.Protecting.{IsTrueIfKept}
+use Rattle.shared_unit.specs.Turn.{IsReady}
+use Rattle.unit_work.specs.Begin.{Begin}
+use Rattle.unit_work.specs.Deeds.{Ascend, deeds_of}
+use Rattle.unit_work.specs.Order.{Layout, Handled}
+use Rattle.unit_work.specs.Lanes.{of_lane}
+use Rattle.unit_calls.specs.Visiting.{BeganWith}
+use Rattle.frame_workers.proofs.lane.run_lane.Given as goal
+
+abbrev pub invariant-loop-task : goal.invariant-loop-task
+invariant-loop-task g l = record {
+  number : l.lane.number ≡ l.initial.lane.number;
+  is_ready : IsReady l.unit.counters l.unit.plan l.lane.worker;
+  kept : IsTrueIfKept l.lane.kept (view l.lane.worker).turn;
+  shares : (view l.lane.worker).numbers.shares ≡ (view l.initial.lane.worker).numbers.shares;
+  going : l.lane.full ≡ false;
+  room : length l.records ≤ vec_capacity l.lane.answers;
+  ascend : Ascend l.records;
+  count : length l.lane.answers.items ≡ length (of_lane l.initial.lane.number (take l.task-index l.records));
+  handled : (begin : Begin) (layout : Layout) (segment : ℕ) → BeganWith g.O.Site.told begin (view l.initial.lane.worker).turn.known.opening
+      → Handled layout begin (view l.initial.lane.worker) (view l.lane.worker) (of_lane l.initial.lane.number (take l.task-index l.records))
+      (deeds_of segment (of_lane l.initial.lane.number (take l.task-index l.records)) l.lane.answers.items);
+}

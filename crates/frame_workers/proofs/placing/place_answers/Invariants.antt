@@ -1,0 +1,19 @@
+use Rattle.std.proofs.Common.{◌≡◌, ℕ, ◌<◌, ◌≤◌, ◌+◌, List, length, take, drop, vec_capacity}
+use Rattle.std.specs.List.{All, Contains}
+use Rattle.record_io.specs.declared.records.Record.{Record}
+use Rattle.unit_work.specs.Deeds.{Deed, deeds_of}
+use Rattle.unit_work.specs.Lanes.{of_lane}
+use Rattle.frame_workers.specs.Lanes.{AreAmong, left_at}
+use Rattle.frame_workers.proofs.placing.place_answers.Given as goal
+
+abbrev pub invariant-loop-task : goal.invariant-loop-task
+invariant-loop-task l = record {
+  many : length l.parts ≡ 16;
+  lanes : All (λ (task : Record). task.lane < 16) l.records;
+  room : length l.records ≤ vec_capacity l.answers;
+  count : length l.answers.items ≡ l.task-index;
+  left : (deeds : List Deed) (segment : ℕ) → ((number : ℕ) → AreAmong deeds segment number l.records (left_at number l.initial.parts))
+      → ((number : ℕ) → AreAmong deeds segment number (drop l.task-index l.records) (left_at number l.parts))
+      × All (Contains deeds) (deeds_of segment (take l.task-index l.records) l.answers.items);
+  given : (number : ℕ) → length (left_at number l.parts) + length (of_lane number (take l.task-index l.records)) ≡ length (left_at number l.initial.parts);
+}

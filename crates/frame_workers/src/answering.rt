@@ -1,0 +1,240 @@
+// The answers to records, by what the calls on the unit answered.
+ghost use Rattle.std.specs.Prelude.{◌≡◌, ◌≤◌, ◌++◌, vec_capacity, slice_range, take};
+ghost use Rattle.std.specs.Int.{w64, to_be_bytes};
+ghost use Rattle.ep_codec.specs.Field.{sa_state_code};
+ghost use Rattle.frame_checks.specs.Accepting.{field_in};
+ghost use Rattle.record_io.specs.declared.code.TheConstants.{PROTECTED};
+ghost use Rattle.unit_history.specs.Answers as told;
+ghost use Rattle.unit_calls.specs.Answering as answering;
+
+use ep_core::Reply;
+use frame_checks::OpenReply;
+use frame_shield::ShieldFault;
+use record_io::{Answer, code};
+use sdls_base::{KeyId, Octets, SaState};
+use shared_unit::{Done, Protected};
+use std::alloc::Global;
+use unit_book::BookFault;
+
+/// An answer with neither key nor body.
+fn counted(alloc: Global, code: u8, detail: u8, number: u64, position: u64) -> Answer
+    ensures { result ≡ answering.answer_of (told.counting code detail number) position }
+{
+    Answer {
+        code,
+        detail,
+        key: 0,
+        position,
+        number,
+        body: Octets::new(Vec::new(alloc)),
+    }
+}
+
+/// Memory was wanting.
+pub(crate) fn unserved(alloc: Global) -> Answer
+    ensures { result ≡ answering.unserved_answer }
+{
+    counted(alloc, code::NO_MEMORY, 0, 0, 0)
+}
+
+/// An entry was refused; none where the run has as many as it may.
+fn refused(alloc: Global, fault: BookFault, position: u64) -> Option<Answer>
+    ensures { result ≡ answering.fault_answer fault position }
+{
+    match fault {
+        BookFault::SiteFault(count) => Some(counted(alloc, code::SITE_FAULT, 0, count, position)),
+        BookFault::Stopped(count) => Some(counted(alloc, code::STOPPED, 0, count, position)),
+        BookFault::JournalFull(slots) => Some(counted(
+            alloc,
+            code::JOURNAL_FULL,
+            0,
+            slots as u64,
+            position,
+        )),
+        BookFault::SessionFull => None,
+        BookFault::NoMemory => Some(unserved(alloc)),
+    }
+}
+
+/// The data field of a frame that was opened in place: the octets from `from` to before `to`.
+fn field_of(mut octets: Vec<u8>, from: usize, to: usize) -> Vec<u8>
+    ensures { result.items ≡ slice_range octets.items from to }
+{
+    octets.truncate(to);
+    if octets.len() <= from {
+        octets.clear();
+        return octets;
+    }
+    let left = octets.len() - from;
+    octets.as_mut_slice().copy_within(from.., 0);
+    octets.truncate(left);
+    octets
+}
+
+/// The highest number accepted and the width of the window, 8 octets each.
+fn window_octets(mut room: Vec<u8>, high: u64, width: u64) -> Vec<u8>
+    requires { 16 ≤ vec_capacity room }
+    ensures { result.items ≡ to_be_bytes w64 high ++ to_be_bytes w64 width }
+{
+    room.clear();
+    let Ok(()) = room.extend_from_slice(&high.to_be_bytes()) else {
+        unreachable!()
+    };
+    let Ok(()) = room.extend_from_slice(&width.to_be_bytes()) else {
+        unreachable!()
+    };
+    room
+}
+
+/// A number of a key, and the octets that go with it.
+fn numbered(code: u8, key: KeyId, number: u64, position: u64, body: Vec<u8>) -> Answer
+    ensures { result ≡ answering.answer_of (told.numbered code key number body.items) position }
+{
+    Answer {
+        code,
+        detail: 0,
+        key: key.get(),
+        position,
+        number,
+        body: Octets::new(body),
+    }
+}
+
+/// The code of a state of an association.
+fn state_code(state: SaState) -> u8
+    ensures { result ≡ sa_state_code state }
+{
+    match state {
+        SaState::Unkeyed => 1,
+        SaState::Keyed => 2,
+        SaState::Operational => 3,
+    }
+}
+
+/// By the checks of a frame that was opened; `octets` are the frame's as the call left them.
+fn opened(alloc: Global, reply: OpenReply, position: u64, octets: Vec<u8>) -> Answer
+    requires { 16 ≤ vec_capacity octets }
+    ensures { result ≡ answering.answer_of (told.opened_told reply (field_in reply octets.items)) position }
+{
+    match reply {
+        OpenReply::Accepted {
+            spi: _,
+            key,
+            number,
+            from,
+            to,
+        } => numbered(
+            code::ACCEPTED,
+            key,
+            number,
+            position,
+            field_of(octets, from, to),
+        ),
+        OpenReply::Clear => counted(alloc, code::CLEAR, 0, 0, position),
+        OpenReply::Layout(fault) => counted(alloc, code::LAYOUT, fault, 0, position),
+        OpenReply::Channel => counted(alloc, code::CHANNEL, 0, 0, position),
+        OpenReply::Spi => counted(alloc, code::SPI, 0, 0, position),
+        OpenReply::Direction => counted(alloc, code::DIRECTION, 0, 0, position),
+        OpenReply::State(state) => counted(alloc, code::STATE, state_code(state), 0, position),
+        OpenReply::Coverage => counted(alloc, code::COVERAGE, 0, 0, position),
+        OpenReply::Mac => counted(alloc, code::MAC, 0, 0, position),
+        OpenReply::Number {
+            key,
+            number,
+            high,
+            width,
+        } => numbered(
+            code::NUMBER,
+            key,
+            number,
+            position,
+            window_octets(octets, high, width),
+        ),
+    }
+}
+
+/// By what `open_frame` answered; `octets` are the frame's as the call left them.
+pub(crate) fn opened_answer(
+    alloc: Global,
+    outcome: Result<(OpenReply, u64), (BookFault, u64)>,
+    octets: Vec<u8>,
+) -> Option<Answer>
+    requires { 16 ≤ vec_capacity octets }
+    ensures { result ≡ answering.opened_answer outcome octets.items }
+{
+    match outcome {
+        Ok((reply, position)) => Some(opened(alloc, reply, position, octets)),
+        Err((fault, position)) => refused(alloc, fault, position),
+    }
+}
+
+/// By the reply to a command.
+fn replied(alloc: Global, reply: Reply, position: u64) -> Answer
+    ensures { result ≡ answering.answer_of (told.replied_told reply) position }
+{
+    match reply {
+        Reply::Done { key, number, pdu } => Answer {
+            code: code::DONE,
+            detail: 0,
+            key: match key {
+                Some(key) => key.get(),
+                None => 0,
+            },
+            position,
+            number,
+            body: pdu,
+        },
+        Reply::Refused { code, value } => counted(alloc, code::REFUSED, code, value, position),
+    }
+}
+
+/// By what `command` answered.
+pub(crate) fn commanded_answer(
+    alloc: Global,
+    outcome: Result<(Reply, u64), (BookFault, u64)>,
+) -> Option<Answer>
+    ensures { result ≡ answering.commanded_answer outcome }
+{
+    match outcome {
+        Ok((reply, position)) => Some(replied(alloc, reply, position)),
+        Err((fault, position)) => refused(alloc, fault, position),
+    }
+}
+
+/// A frame that was protected into the front of the room.
+fn protected(done: Done, mut room: Vec<u8>) -> Answer
+    ensures { result ≡ answering.answer_of (told.numbered PROTECTED done.key done.number (take done.length room.items)) done.epoch }
+{
+    room.truncate(done.length);
+    numbered(code::PROTECTED, done.key, done.number, done.epoch, room)
+}
+
+/// By the first check that fails of a frame that is to be protected.
+fn unprotected(alloc: Global, fault: ShieldFault, epoch: u64) -> Answer
+    ensures { result ≡ answering.answer_of (told.fault_told fault) epoch }
+{
+    match fault {
+        ShieldFault::Layout(number) => counted(alloc, code::LAYOUT, number, 0, epoch),
+        ShieldFault::Channel => counted(alloc, code::CHANNEL, 0, 0, epoch),
+        ShieldFault::State => counted(alloc, code::STATE, 0, 0, epoch),
+    }
+}
+
+/// By what `protect` answered; `room` is what it wrote to.
+pub(crate) fn protected_answer(alloc: Global, outcome: Protected, room: Vec<u8>) -> Option<Answer>
+    ensures { result ≡ answering.protected_answer outcome room.items }
+{
+    match outcome {
+        Protected::Done(done) => Some(protected(done, room)),
+        Protected::Clear => Some(counted(alloc, code::CLEAR, 0, 0, 0)),
+        Protected::Refused(fault, epoch) => Some(unprotected(alloc, fault, epoch)),
+        Protected::Exhausted(key, number, epoch) => Some(numbered(
+            code::EXHAUSTED,
+            key,
+            number,
+            epoch,
+            Vec::new(alloc),
+        )),
+        Protected::Fault(fault, position) => refused(alloc, fault, position),
+    }
+}

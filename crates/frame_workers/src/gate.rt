@@ -1,0 +1,10 @@
+/// What a caller may see of the work while it goes on: called before and after each record.
+///
+/// `lane` is the lane of the record, `index` its number in the input. The unit relies on nothing that these calls do.
+pub trait Gate {
+    /// Called before the record is handled.
+    fn pass(&self, lane: u8, index: u64);
+
+    /// Called after the record was handled.
+    fn done(&self, lane: u8, index: u64);
+}

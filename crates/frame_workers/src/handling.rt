@@ -1,0 +1,132 @@
+// One record.
+ghost use Rattle.std.specs.Prelude.{◌≡◌, ◌≤◌, ℕ, IfOk, length, vec_capacity};
+ghost use Rattle.counter_table.specs.Worker.{view};
+ghost use Rattle.record_io.specs.declared.kinds.RecordKind.TheVariants as kinds;
+ghost use Rattle.shared_unit.specs.declared.permit.Permit.{Permit};
+ghost use Rattle.shared_unit.specs.Permit.{IsTrueFor};
+ghost use Rattle.shared_unit.specs.Protecting.{IsTrueIfKept};
+ghost use Rattle.shared_unit.specs.Turn.{IsReady};
+ghost use Rattle.unit_work.specs.Begin.{Begin};
+ghost use Rattle.unit_work.specs.Order.{Layout};
+ghost use Rattle.unit_calls.specs.Answering.{Answered};
+ghost use Rattle.unit_calls.specs.Visiting.{BeganWith};
+
+use crate::answering::{commanded_answer, opened_answer, protected_answer, unserved};
+use record_io::{Answer, Record, RecordKind};
+use sdls_outside::Site;
+use shared_unit::{Permit, Unit, Worker};
+use std::alloc::{AllocError, Global};
+use std::sync::Wait;
+
+/// The octets of the longest protected frame.
+const ROOM: usize = 2_048;
+
+/// A room for a protected frame.
+fn room(alloc: Global) -> Result<Vec<u8>, AllocError>
+    ensures { IfOk result (λ room. length room.items ≡ 2048) }
+{
+    vec![in alloc; 0; ROOM]
+}
+
+/// Protects the record's frame.
+fn protect<R: Wait, O: Site>(
+    rt: &R,
+    alloc: Global,
+    unit: &Unit<O>,
+    worker: &mut Worker<O>,
+    kept: &mut Option<Permit>,
+    task: &Record,
+) -> Option<Answer>
+    requires kind { task.now.kind ≡ kinds.Protect }
+    requires ready { IsReady unit.now.counters unit.now.plan worker.old }
+    requires kept { IsTrueIfKept kept.old (view worker.old).turn }
+    ensures ready { IsReady unit.now.counters unit.now.plan worker.new }
+    ensures kept { IsTrueIfKept kept.new (view worker.new).turn }
+    ensures shares { (view worker.new).numbers.shares ≡ (view worker.old).numbers.shares }
+    ensures answered { (layout : Layout) (begin : Begin) (segment : ℕ) → BeganWith O.told begin (view worker.old).turn.known.opening
+        → Answered layout begin segment (view worker.old) (view worker.new) task.now result }
+{
+    let Ok(mut out) = room(alloc) else {
+        return Some(unserved(alloc));
+    };
+    let clear = task.octets.as_slice();
+    let protected = unit.protect(rt, worker, kept, task.link, clear, out.as_mut_slice());
+    protected_answer(alloc, protected, out)
+}
+
+/// A copy of the octets, with room for 16 at least.
+fn copied(alloc: Global, octets: &[u8]) -> Result<Vec<u8>, AllocError>
+    ensures items { IfOk result (λ copy. copy.items ≡ octets.now) }
+    ensures room { IfOk result (λ copy. 16 ≤ vec_capacity copy) }
+{
+    let mut copy = Vec::with_capacity(alloc, octets.len().max(16))?;
+    copy.extend_from_slice(octets)?;
+    Ok(copy)
+}
+
+/// Opens the record's frame in the room of its answer.
+fn open<R: Wait, O: Site>(
+    rt: &R,
+    alloc: Global,
+    unit: &Unit<O>,
+    worker: &mut Worker<O>,
+    task: &Record,
+) -> Option<Answer>
+    requires kind { task.now.kind ≡ kinds.Open }
+    requires ready { IsReady unit.now.counters unit.now.plan worker.old }
+    ensures ready { IsReady unit.now.counters unit.now.plan worker.new }
+    ensures keeps { (permit : Permit) → IsTrueFor permit (view worker.old).turn → IsTrueFor permit (view worker.new).turn }
+    ensures shares { (view worker.new).numbers.shares ≡ (view worker.old).numbers.shares }
+    ensures answered { (layout : Layout) (begin : Begin) (segment : ℕ) → BeganWith O.told begin (view worker.old).turn.known.opening
+        → Answered layout begin segment (view worker.old) (view worker.new) task.now result }
+{
+    let Ok(mut frame) = copied(alloc, task.octets.as_slice()) else {
+        return Some(unserved(alloc));
+    };
+    let opened = unit.open_frame(rt, worker, task.index, task.link, frame.as_mut_slice());
+    opened_answer(alloc, opened, frame)
+}
+
+/// Does the record's command.
+fn command<R: Wait, O: Site>(
+    rt: &R,
+    alloc: Global,
+    unit: &Unit<O>,
+    worker: &mut Worker<O>,
+    task: &Record,
+) -> Option<Answer>
+    requires kind { task.now.kind ≡ kinds.Command }
+    requires ready { IsReady unit.now.counters unit.now.plan worker.old }
+    ensures ready { IsReady unit.now.counters unit.now.plan worker.new }
+    ensures keeps { (permit : Permit) → IsTrueFor permit (view worker.old).turn → IsTrueFor permit (view worker.new).turn }
+    ensures shares { (view worker.new).numbers.shares ≡ (view worker.old).numbers.shares }
+    ensures answered { (layout : Layout) (begin : Begin) (segment : ℕ) → BeganWith O.told begin (view worker.old).turn.known.opening
+        → Answered layout begin segment (view worker.old) (view worker.new) task.now result }
+{
+    let commanded = unit.command(rt, worker, task.index, task.octets.as_slice());
+    commanded_answer(alloc, commanded)
+}
+
+/// Handles a record. There is no answer where the run has as many entries as it may.
+pub(crate) fn handle<R: Wait, O: Site>(
+    rt: &R,
+    alloc: Global,
+    unit: &Unit<O>,
+    worker: &mut Worker<O>,
+    kept: &mut Option<Permit>,
+    task: &Record,
+) -> Option<Answer>
+    requires ready { IsReady unit.now.counters unit.now.plan worker.old }
+    requires kept { IsTrueIfKept kept.old (view worker.old).turn }
+    ensures ready { IsReady unit.now.counters unit.now.plan worker.new }
+    ensures kept { IsTrueIfKept kept.new (view worker.new).turn }
+    ensures shares { (view worker.new).numbers.shares ≡ (view worker.old).numbers.shares }
+    ensures answered { (layout : Layout) (begin : Begin) (segment : ℕ) → BeganWith O.told begin (view worker.old).turn.known.opening
+        → Answered layout begin segment (view worker.old) (view worker.new) task.now result }
+{
+    match task.kind {
+        RecordKind::Protect => protect(rt, alloc, unit, worker, kept, task),
+        RecordKind::Open => open(rt, alloc, unit, worker, task),
+        RecordKind::Command => command(rt, alloc, unit, worker, task),
+    }
+}

@@ -1,0 +1,109 @@
+// The workers of lanes, split from one and joined to it again.
+ghost use Rattle.std.specs.Prelude.{◌≡◌, ◌≢◌, ◌<◌, ◌≤◌, ℕ, All, true, [], IfOk, length, slice_index_or, vec_capacity};
+ghost use Rattle.std.specs.List.{AllPairs, list_any};
+ghost use Rattle.counter_table.specs.Worker.{view};
+ghost use Rattle.shared_unit.specs.Turn.{IsReady};
+ghost use Rattle.unit_work.specs.Lanes.{giving, is_of_lane, MeetAll, meeting_all, Part};
+ghost use Rattle.frame_workers.specs.Lanes.{answers_of, AreApart, IsRoom, IsSplit, IsThere, left_at, parts_of};
+
+use crate::lane::Lane;
+use crate::segment::LANES;
+use record_io::{Answer, Record};
+use sdls_base::NoMemory;
+use sdls_outside::Site;
+use shared_unit::{Shelf, Unit, Worker};
+use std::alloc::Global;
+
+/// Whether a record is of the lane.
+fn is_used(records: &[Record], number: u8) -> bool
+    ensures { result ≡ list_any (is_of_lane number) records.now }
+{
+    records.iter().any(|task| task.lane == number)
+}
+
+/// A room for the answers of a lane: for as many as there are records, where one of them is the lane's.
+fn room_for(alloc: Global, records: &[Record], number: u8) -> Result<Vec<Answer>, NoMemory>
+    ensures { IfOk result (λ room. IsRoom records.now number room) }
+{
+    if !is_used(records, number) {
+        return Ok(Vec::new(alloc));
+    }
+    let room = Vec::with_capacity(alloc, records.len())?;
+    Ok(room)
+}
+
+/// Rooms for the answers of the lanes.
+pub(crate) fn rooms_for(alloc: Global, records: &[Record]) -> Result<Vec<Vec<Answer>>, NoMemory>
+    ensures many { IfOk result (λ rooms. length rooms.items ≡ 16) }
+    ensures rooms { IfOk result (λ rooms. (k : ℕ) (d : _) → k < 16 → IsRoom records.now k (slice_index_or rooms.items k d)) }
+{
+    let mut rooms = Vec::with_capacity(alloc, usize::from(LANES))?;
+    for number in 0..LANES {
+        let room = room_for(alloc, records, number)?;
+        rooms.push_reserved(room);
+    }
+    Ok(rooms)
+}
+
+/// Splits a worker off for each lane that has records.
+pub(crate) fn split_lanes<O: Site>(
+    unit: &Unit<O>,
+    worker: &mut Worker<O>,
+    records: &[Record],
+    mut rooms: Vec<Vec<Answer>>,
+    lanes: &mut Vec<Lane<Shelf<O>>>,
+)
+    requires ready { IsReady unit.now.counters unit.now.plan worker.old }
+    requires shares { 17 ≤ (view worker.old).numbers.shares }
+    requires many { length rooms.items ≡ 16 }
+    requires rooms { (k : ℕ) (d : _) → k < 16 → IsRoom records.now k (slice_index_or rooms.items k d) }
+    requires room { (lanes.old.items ≡ []) × (16 ≤ vec_capacity lanes.old) }
+    ensures ready { IsReady unit.now.counters unit.now.plan worker.new }
+    ensures many { length lanes.new.items ≤ 16 }
+    ensures given { view worker.new ≡ giving (length lanes.new.items) (view worker.old) }
+    ensures split { All (IsSplit (IsReady unit.now.counters unit.now.plan) records.now (view worker.old)) lanes.new.items }
+    ensures apart { AllPairs AreApart lanes.new.items }
+    ensures each { (number : ℕ) → number < 16 → list_any (is_of_lane number) records.now ≡ true → IsThere number lanes.new.items }
+{
+    'rooms: while let Some(answers) = rooms.pop() {
+        let number = rooms.len() as u8;
+        if !is_used(records, number) {
+            continue;
+        }
+        let split = unit.split(worker);
+        lanes.push_reserved(Lane {
+            number,
+            worker: split,
+            kept: None,
+            answers,
+            full: false,
+        });
+    }
+}
+
+/// Joins the lanes' workers, the last lane first, and keeps the answers of each under its number, the last one first.
+pub(crate) fn join_lanes<O: Site>(
+    unit: &Unit<O>,
+    worker: &mut Worker<O>,
+    mut lanes: Vec<Lane<Shelf<O>>>,
+    parts: &mut [Vec<Answer>],
+)
+    requires ready { IsReady unit.now.counters unit.now.plan worker.old }
+    requires lanes { All (λ lane. IsReady unit.now.counters unit.now.plan lane.worker × (lane.number < 16)) lanes.items }
+    requires apart { AllPairs AreApart lanes.items }
+    requires many { length parts.old ≡ 16 }
+    requires empty { (number : ℕ) → left_at number parts.old ≡ [] }
+    ensures ready { IsReady unit.now.counters unit.now.plan worker.new }
+    ensures joined { view worker.new ≡ meeting_all (view worker.old) (parts_of lanes.items) }
+    ensures meet { MeetAll 512 (view worker.old) (parts_of lanes.items) }
+    ensures many { length parts.new ≡ 16 }
+    ensures parts { (number : ℕ) → left_at number parts.new ≡ answers_of number (parts_of lanes.items) }
+{
+    'lanes: while let Some(lane) = lanes.pop() {
+        let number = usize::from(lane.number);
+        let (other, mut answers) = lane.into_parts();
+        unit.join(worker, other);
+        answers.reverse();
+        parts[number] = answers;
+    }
+}

@@ -1,0 +1,17 @@
+//! The records of a segment, handled by workers of the unit that lanes share (profile): the lanes at once, the records of each
+//! lane in their order.
+//!
+//! [`run_segment`] answers the records in the order of the input. How a lane waits for another at the turn, and when, is seen
+//! by the caller's [`Gate`] alone.
+#![tactic(auto)]
+
+mod answering;
+mod gate;
+mod handling;
+mod joining;
+mod lane;
+mod placing;
+mod segment;
+
+pub use gate::Gate;
+pub use segment::{LANES, Segment, run_segment};

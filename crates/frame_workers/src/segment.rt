@@ -1,0 +1,104 @@
+// A segment.
+ghost use Rattle.std.specs.Prelude.{◌≡◌, ◌<◌, ◌≤◌, ℕ, All, [], IfOk, OnErr, length};
+ghost use Rattle.counter_table.specs.Whole.{IsWhole};
+ghost use Rattle.counter_table.specs.Worker.{view};
+ghost use Rattle.record_io.specs.declared.records.Record.{Record};
+ghost use Rattle.shared_unit.specs.Turn.{IsReady};
+ghost use Rattle.unit_work.specs.Begin.{Begin};
+ghost use Rattle.unit_work.specs.Deeds.{Ascend, deeds_of};
+ghost use Rattle.unit_work.specs.Order.{Handled, Layout, LiesIn};
+ghost use Rattle.unit_calls.specs.Visiting.{BeganWith};
+ghost use Rattle.unit_work.specs.Views.{keeping, meeting, Meets, starting};
+ghost use Rattle.frame_workers.specs.Ends.{EndsSegment};
+ghost use Rattle.frame_workers.specs.Lanes.{left_at};
+
+use crate::gate::Gate;
+use crate::joining::{join_lanes, rooms_for, split_lanes};
+use crate::lane::run_lanes;
+use crate::placing::place_answers;
+use record_io::{Answer, Record};
+use sdls_base::NoMemory;
+use sdls_outside::Site;
+use shared_unit::{Unit, Worker};
+use std::alloc::Global;
+use std::sync::Wait;
+use std::thread::Threads;
+
+/// The lanes of the input are those below this number.
+pub const LANES: u8 = 16;
+
+/// What a segment was answered.
+#[derive(Drop)]
+pub struct Segment {
+    /// In the order of the records, up to the first one for which the history was full.
+    pub answers: Vec<Answer>,
+    /// Whether there is such a record.
+    pub full: bool,
+}
+
+/// Empty rooms for the answers of each lane.
+fn empty_rooms(alloc: Global) -> Result<Vec<Vec<Answer>>, NoMemory>
+    ensures many { IfOk result (λ rooms. length rooms.items ≡ 16) }
+    ensures empty { IfOk result (λ rooms. (number : ℕ) → left_at number rooms.items ≡ []) }
+{
+    let mut rooms = Vec::with_capacity(alloc, usize::from(LANES))?;
+    'rooms: while rooms.len() < usize::from(LANES) {
+        rooms.push_reserved(Vec::new(alloc));
+    }
+    Ok(rooms)
+}
+
+/// Splits a worker off and joins it at once: who has all shares then knows that it did all.
+fn look_back<O: Site>(unit: &Unit<O>, worker: &mut Worker<O>)
+    requires ready { IsReady unit.now.counters unit.now.plan worker.old }
+    requires two { 1 < (view worker.old).numbers.shares }
+    ensures ready { IsReady unit.now.counters unit.now.plan worker.new }
+    ensures joined { view worker.new ≡ meeting (keeping (view worker.old)) (starting (view worker.old)) }
+    ensures meets { Meets 512 (keeping (view worker.old)) (starting (view worker.old)) }
+    ensures whole { (view worker.new).numbers.shares ≡ 1024 → IsWhole 512 (view worker.new) }
+{
+    let other = unit.split(worker);
+    unit.join(worker, other);
+}
+
+/// Handles the records of a segment, the lanes at the same time, each by a worker of its own, and the records of a lane one
+/// after the other. The answers stand in the order of the records. Where memory is wanting, no record was handled.
+pub fn run_segment<R: Threads + Wait + Sync, O: Site + Send, G: Gate + Sync>(
+    rt: &R,
+    alloc: Global,
+    unit: &Unit<O>,
+    worker: &mut Worker<O>,
+    records: &[Record],
+    gate: &G,
+) -> Result<Segment, NoMemory>
+    requires ready { IsReady unit.now.counters unit.now.plan worker.old }
+    requires shares { 17 ≤ (view worker.old).numbers.shares }
+    requires lanes { All (λ (task : Record). task.lane < LANES) records.now }
+    requires ascend { Ascend records.now }
+    ensures ready { IsReady unit.now.counters unit.now.plan worker.new }
+    ensures shares { (view worker.new).numbers.shares ≡ (view worker.old).numbers.shares }
+    ensures no_memory { OnErr result (view worker.new ≡ view worker.old) }
+
+    // Each answer fits its record; entries of one lane stand in input order, and nothing was put.
+    ensures handled { IfOk result (λ segment. (begin : Begin) (layout : Layout) (number : ℕ)
+        → BeganWith O.told begin (view worker.old).turn.known.opening → LiesIn layout number records.now
+        → Handled layout begin (view worker.old) (view worker.new) records.now (deeds_of number records.now segment.answers.items)) }
+
+    // All records are answered, or those before the first for which the history was full.
+    ensures full { IfOk result (λ segment. (begin : Begin) → BeganWith O.told begin (view worker.old).turn.known.opening
+        → EndsSegment begin (view worker.old) (view worker.new) records.now segment.answers.items segment.full) }
+
+    // Who has all shares did all.
+    ensures whole { (view worker.old).numbers.shares ≡ 1024 → IfOk result (λ segment. IsWhole 512 (view worker.new)) }
+{
+    let rooms = rooms_for(alloc, records)?;
+    let mut lanes = Vec::with_capacity(alloc, usize::from(LANES))?;
+    let mut parts = empty_rooms(alloc)?;
+    let mut answers = Vec::with_capacity(alloc, records.len())?;
+    split_lanes(unit, worker, records, rooms, &mut lanes);
+    run_lanes(rt, alloc, unit, records, gate, lanes.as_mut_slice());
+    join_lanes(unit, worker, lanes, parts.as_mut_slice());
+    look_back(unit, worker);
+    let full = place_answers(records, parts.as_mut_slice(), &mut answers);
+    Ok(Segment { answers, full })
+}
