@@ -1,5 +1,5 @@
 -- One put by the one worker of a unit: for the clauses of `put_alone`.
-use Rattle.std.proofs.Common.{◌≡◌, ◌⊎◌, ℕ, zero, suc, ◌+◌, ◌-◌, ◌<◌, ◌≤◌, ◌==◌, eqb, Bool, IsTrue, true, false, List, [], ◌∷◌, ◌++◌, length, take, drop, refl, sym, ◌∙◌, ap, subst, inl, inr, arith, append-nil, append_assoc, length-append, Result, Ok, Err, cond}
+use Rattle.std.proofs.Common.{◌≡◌, ℕ, zero, suc, ◌+◌, ◌-◌, ◌≤◌, eqb, Bool, false, List, [], ◌∷◌, ◌++◌, length, take, drop, refl, sym, ◌∙◌, ap, subst, arith, append-nil, length-append, Result, Ok, Err, cond}
 use Rattle.std.specs.Prelude.{OnErr, IfErr}
 use Rattle.std.proofs.lemmas.Bool.Decides.{nat_tests}
 use Rattle.std.proofs.Math.Seq.{drop-append_seam, take-append-add}
@@ -13,7 +13,7 @@ use Rattle.sdls_outside.specs.Site as sites
 use Rattle.counter_table.specs.declared.view.Known.{Known}
 use Rattle.counter_table.specs.declared.view.Turn.{Turn}
 use Rattle.counter_table.specs.declared.view.View.{View}
-use Rattle.counter_table.specs.Play.{IsAsKnown, IsCovered}
+use Rattle.counter_table.specs.Play.{IsAsKnown}
 use Rattle.counter_table.specs.Turn.{places, stands}
 use Rattle.counter_table.specs.Whole.{IsWhole, RowStands}
 use Rattle.record_io.specs.declared.records.Record.{Record}
@@ -34,7 +34,7 @@ use Rattle.unit_work.proofs.Logs.{stands_both}
 use Rattle.unit_runs.specs.Settled.{SettlesAt}
 use Rattle.unit_runs.proofs.Counting.{pieces_both}
 use Rattle.unit_calls.specs.Visiting.{BeganWith, Visited}
-use Rattle.run_steps.specs.Doing.{Puts, Settles, octets_put}
+use Rattle.run_steps.specs.Doing.{Puts, octets_put}
 use Rattle.unit_session.specs.Putting.{Adds, PutsOctets, SettlesAll}
 use Rattle.unit_session.proofs.Octets.{puts_adds}
 

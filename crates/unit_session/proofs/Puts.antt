@@ -1,28 +1,24 @@
 -- What puts leave, one after the other: for the clauses `puts` and `takes` of a session.
-use Rattle.std.proofs.Common.{◌≡◌, ◌⊎◌, ℕ, ◌+◌, ◌-◌, ◌<◌, ◌≤◌, Bool, IsTrue, List, [], ◌∷◌, ◌++◌, length, take, refl, sym, ◌∙◌, ap, subst, inl, inr, arith, append-nil, append_assoc, length-append, get_or, Result, Ok, Err, Some}
+use Rattle.std.proofs.Common.{◌≡◌, ℕ, ◌+◌, ◌<◌, Bool, List, [], ◌++◌, length, take, refl, sym, ◌∙◌, ap, subst, inl, inr, arith, append-nil, append_assoc, length-append, get_or, Result, Ok, Err, Some}
 use Rattle.std.specs.Prelude.{OnErr}
-use Rattle.std.proofs.lemmas.List.{take-append-le, take_all}
+use Rattle.std.proofs.lemmas.List.{take-append-le}
 use Rattle.sdls_base.specs.Numbers.{times}
 use Rattle.sdls_base.specs.declared.entry.Entry.{Entry}
 use Rattle.sdls_base.specs.declared.entry.Logged.{Logged}
-use Rattle.sdls_outside.specs.Faults.{Rose}
 use Rattle.sdls_outside.specs.Site.{after_put}
 use Rattle.counter_table.specs.declared.view.Opening.{Opening}
 use Rattle.counter_table.specs.declared.view.View.{View}
-use Rattle.counter_table.specs.Turn.{epoch_seen}
 use Rattle.key_book.specs.KeyBook.{place_of}
 use Rattle.unit_state.specs.History.{after, after_first, epoch_after}
 use Rattle.unit_history.specs.Log.{entries_of, pieces_of}
 use Rattle.unit_history.specs.Numbers.{mark_of}
 use Rattle.unit_work.specs.Begin.{Begin}
-use Rattle.unit_work.specs.Views.{log_of, entries_in, Grows, IsRow}
-use Rattle.unit_work.specs.Deeds.{Does}
-use Rattle.unit_work.proofs.Joining.{does_then, does_nothing, grows_further}
-use Rattle.unit_work.proofs.Logs.{times_both, entries_low}
-use Rattle.unit_runs.specs.Settled.{SettlesAt}
+use Rattle.unit_work.specs.Views.{log_of}
+use Rattle.unit_work.proofs.Joining.{does_then, does_nothing}
+use Rattle.unit_work.proofs.Logs.{times_both}
 use Rattle.unit_calls.specs.Visiting.{BeganWith}
-use Rattle.run_steps.specs.Doing.{Puts, Settles, octets_put}
-use Rattle.unit_session.specs.Putting.{Adds, Begun, Leaves, OfRun, PutsOctets, SettlesAll, TakesOctets, TakesOver, TakesSoFar}
+use Rattle.run_steps.specs.Doing.{Puts, octets_put}
+use Rattle.unit_session.specs.Putting.{Begun, Leaves, OfRun, PutsOctets, SettlesAll, TakesOctets, TakesSoFar}
 use Rattle.unit_session.proofs.Octets.{adds_then, takes_behind, between_wider, put_last, put_more, put_some}
 use Rattle.record_io.specs.declared.answers.Answer.{Answer}
 use Rattle.record_io.specs.Answers.{answer_octets, answers_octets}

@@ -6,8 +6,10 @@ mod finishing;
 mod heading;
 mod outcome;
 mod putting;
+mod serving;
 mod session;
 
 pub use finishing::finish;
 pub use outcome::Outcome;
+pub use serving::Stop;
 pub use session::Session;

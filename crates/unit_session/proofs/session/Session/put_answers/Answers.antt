@@ -1,4 +1,4 @@
-use Rattle.std.proofs.Common.{◌≡◌, ◌<◌, ℕ, List, ◌∙◌, length, take, ap, subst, arith, refl}
+use Rattle.std.proofs.Common.{◌≡◌, ◌<◌, List, ◌∙◌, length, take, subst, arith, refl}
 use Rattle.std.proofs.lemmas.Grind.{common_steps}
 use Rattle.record_io.specs.declared.answers.Answer.{Answer}
 use Rattle.record_io.specs.Answers.{answers_octets}

@@ -1,7 +1,6 @@
-use Rattle.std.proofs.Common.{◌≡◌, ◌≤◌, ◌++◌, IsTrue, length, take}
+use Rattle.std.proofs.Common.{◌≡◌, take}
 use Rattle.counter_table.specs.Worker.{view}
 use Rattle.record_io.specs.Answers.{answers_octets}
-use Rattle.run_steps.specs.Doing.{octets_put}
 use Rattle.unit_session.specs.Putting.{IsAlone, TakesSoFar}
 use Rattle.unit_session.proofs.session.Session.put_answers.Given as goal
 

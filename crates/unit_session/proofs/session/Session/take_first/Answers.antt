@@ -1,4 +1,4 @@
-use Rattle.std.proofs.Common.{◌≡◌, ℕ, List, [], ◌++◌, ◌∙◌, sym, ap, subst, Ok}
+use Rattle.std.proofs.Common.{ℕ, List, [], ◌++◌, ◌∙◌, sym, ap, subst, Ok}
 use Rattle.record_io.specs.Answers.{answer_octets}
 use Rattle.counter_table.specs.Worker.{view}
 use Rattle.unit_session.specs.Putting.{TakesOctets}

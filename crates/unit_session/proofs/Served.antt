@@ -1,0 +1,132 @@
+-- A segment that was handled, and whose answers were put: for the clauses of `serve`.
+use Rattle.std.proofs.Common.{◌≡◌, ℕ, ◌+◌, ◌≤◌, Bool, true, false, IsTrue, List, length, Result, Ok, Err, refl, sym, ◌∙◌, ap, subst, arith}
+use Rattle.std.proofs.lemmas.Option.{slice_get_within}
+use Rattle.counter_table.specs.declared.view.Opening.{Opening}
+use Rattle.counter_table.specs.declared.view.View.{View}
+use Rattle.counter_table.specs.Whole.{IsWhole}
+use Rattle.disk_journal.specs.Image.{records, slot_count}
+use Rattle.record_io.specs.declared.answers.Answer.{Answer}
+use Rattle.record_io.specs.declared.records.Record.{Record}
+use Rattle.record_io.specs.Answers.{answers_octets}
+use Rattle.unit_book.specs.declared.fault.BookFault.{BookFault}
+use Rattle.unit_work.specs.Begin.{Begin}
+use Rattle.unit_work.specs.Deeds.{Ascend, Deed, deeds_of}
+use Rattle.unit_work.specs.Order.{Handled, Layout, LiesIn}
+use Rattle.unit_runs.proofs.Counting.{none_failed}
+use Rattle.unit_calls.specs.Visiting.{BeganWith}
+use Rattle.run_steps.specs.Segment.{HandlesAndPuts, PutsWell}
+use Rattle.frame_workers.specs.Ends.{EndsSegment}
+use Rattle.unit_session.specs.Putting.{PutsOctets}
+use Rattle.unit_session.specs.Serving.{ServesSegment, served_as}
+use Rattle.unit_session.proofs.Lying.{own_layout, own_lies}
+
+-- a run that began with this opening
+abbrev pub begin_with : Bool → Opening → Begin
+begin_with told opening = record {
+  rows = 512;
+  told = told;
+  plan = opening.plan;
+  start = opening.start;
+  slots = slot_count opening.image;
+  used = length (records opening.image);
+}
+
+pub began_with : (told : Bool) (opening : Opening) → BeganWith told (begin_with told opening) opening
+began_with told opening = record {
+  rows = refl;
+  tells = refl;
+  plan = refl;
+  start = refl;
+  slots = λ is_told. refl;
+  used = λ is_told. refl;
+}
+
+-- while records are handled no put fails
+pub no_put_failed : (layout : Layout) (begin : Begin) (v mid : View) (tasks : List Record) (deeds : List Deed) → Handled layout begin v mid tasks deeds
+    → IsWhole begin.rows v → IsWhole begin.rows mid → mid.turn.known.put_faults ≡ v.turn.known.put_faults
+no_put_failed layout begin v mid tasks deeds handled whole_v whole_mid =
+    none_failed begin v mid tasks deeds handled.does whole_mid whole_v (let a = handled.lined.few_pieces in omega arith)
+
+module _ (told : Bool) (v mid w : View) (tasks : List Record) (up : Ascend tasks) (answers : List Answer) (result : Result (Unit {0}) BookFault)
+    (handled : (begin : Begin) (layout : Layout) (number : ℕ) → BeganWith told begin v.turn.known.opening → LiesIn layout number tasks
+    → Handled layout begin v mid tasks (deeds_of number tasks answers))
+    (put : PutsOctets told (answers_octets answers) result mid w) where
+  own : (begin : Begin) (number : ℕ) → BeganWith told begin v.turn.known.opening
+      → Handled (own_layout number tasks) begin v mid tasks (deeds_of number tasks answers)
+  own begin number began = handled begin (own_layout number tasks) number began (own_lies number tasks up)
+
+  mid_opening : mid.turn.known.opening ≡ v.turn.known.opening
+  mid_opening = (own (begin_with told v.turn.known.opening) 0 (began_with told v.turn.known.opening)).does.grows.opening
+
+  pub same_opening : w.turn.known.opening ≡ v.turn.known.opening
+  same_opening = put.leaves.opening ∙ mid_opening
+
+  module _ (begin : Begin) (began : BeganWith told begin v.turn.known.opening) (whole_v : IsWhole 512 v) (whole_mid : IsWhole 512 mid) (whole_w : IsWhole 512 w) where
+    began_mid : BeganWith told begin mid.turn.known.opening
+    began_mid = subst (BeganWith told begin) (sym mid_opening) began
+
+    whole_at : (u : View) → IsWhole 512 u → IsWhole begin.rows u
+    whole_at u h = subst (λ (rows : ℕ). IsWhole rows u) (sym began.rows) h
+
+    few_answers : (full : Bool) → EndsSegment begin v mid tasks answers full → length answers ≤ length tasks
+    few_answers false same = omega arith
+    few_answers true (task, there, is) = let low = slice_get_within tasks (length answers) task there in omega arith
+
+    handles : (full : Bool) → EndsSegment begin v mid tasks answers full → HandlesAndPuts begin v mid w tasks answers w.turn.known.standing
+    handles full ends = record {
+      handled = λ layout number lies. handled begin layout number began lies;
+      few = few_answers full ends;
+      whole_mid = whole_at mid whole_mid;
+      whole = whole_at w whole_w;
+      puts = put.leaves.puts begin began_mid;
+      known = mid.turn.known.standing;
+      settles = put.settles begin began_mid;
+      entered = λ number k d low told. ((own begin number began).does.answers.stand k d low).stored told;
+    }
+
+    stands : v.turn.known.standing ≤ w.turn.known.standing
+    stands =
+        let a = (own begin 0 began).does.grows.earlier.standing in
+        let b = (put.leaves.puts begin began_mid).does.grows.earlier.standing in
+        omega arith
+
+    none : mid.turn.known.put_faults ≡ v.turn.known.put_faults
+    none = no_put_failed (own_layout 0 tasks) begin v mid tasks (deeds_of 0 tasks answers) (own begin 0 began) (whole_at v whole_v) (whole_at mid whole_mid)
+
+    tells : IsTrue begin.told → IsTrue told
+    tells is_told = subst IsTrue began.tells is_told
+
+    pub serves : (full : Bool) → EndsSegment begin v mid tasks answers full → ServesSegment begin tasks (served_as result full) v w
+    serves full ends = go result full ends put
+      where
+        well : (done : Unit {0}) → PutsOctets {T = Unit {0}} {E = BookFault} told (answers_octets answers) (Ok done) mid w
+            → PutsWell begin mid w answers v.turn.known.put_faults w.turn.known.put_faults
+        well done p = record { octets = λ is_told. p.adds (tells is_told); none_failed = p.leaves.counted ∙ none }
+
+        go : (r : Result (Unit {0}) BookFault) (f : Bool) → EndsSegment begin v mid tasks answers f → PutsOctets told (answers_octets answers) r mid w
+            → ServesSegment begin tasks (served_as r f) v w
+        go (Ok done) false same p = record {
+          mid = mid;
+          answers = answers;
+          handles = handles false same;
+          stands = stands;
+          so = (well done p, same);
+        }
+        go (Ok done) true (task, there, is) p = record {
+          mid = mid;
+          answers = answers;
+          handles = handles true (task, there, is);
+          stands = stands;
+          so = (well done p, record { task = task; first_without = there; full = is.full; due = is.due });
+        }
+        go (Err fault) f ends p = record {
+          mid = mid;
+          answers = answers;
+          handles = handles f ends;
+          stands = stands;
+          so = record {
+            octets = λ is_told. p.adds (tells is_told);
+            one_failed = p.leaves.counted ∙ ap (λ (n : ℕ). n + 1) none;
+            rose = p.leaves.rose;
+          };
+        }

@@ -1,0 +1,66 @@
+-- What serving a segment does (profile).
+use Rattle.std.specs.Prelude.{◌≡◌, ◌≤◌, Bool, true, false, List, length, Result, Ok, Err}
+use Rattle.counter_table.specs.declared.view.View.{View}
+use Rattle.record_io.specs.declared.answers.Answer.{Answer}
+use Rattle.record_io.specs.declared.records.Record.{Record}
+use Rattle.record_io.specs.declared.records.SegmentEnd.{SegmentEnd}
+use Rattle.record_io.specs.declared.records.SegmentEnd.TheVariants as segments
+use Rattle.record_io.specs.Reading.{SourceSeen, Standing}
+use Rattle.std.specs.Prelude.{Option, Some, None}
+use Rattle.unit_work.specs.Begin.{Begin}
+use Rattle.run_ends.specs.declared.end.RunEnd.{RunEnd}
+use Rattle.run_ends.specs.declared.end.RunEnd.TheVariants as ends
+use Rattle.run_steps.specs.Coming.{HasCome, IsUnderWay}
+use Rattle.run_steps.specs.Segment.{HandlesAndPuts, IsFullSegment, PutsBadly, PutsWell}
+use Rattle.unit_session.specs.declared.serving.Stop.{Stop}
+use Rattle.unit_session.specs.declared.serving.Stop.TheVariants as stops
+
+-- the records were handled, and the answers put, with this put
+pub record IsServed (begin : Begin) (records : List Record) (v w : View) (P : View → List Answer → Type 0) : Type 0 where
+  pub mid : View
+  pub answers : List Answer
+  pub handles : HandlesAndPuts begin v mid w records answers w.turn.known.standing
+  pub stands : v.turn.known.standing ≤ w.turn.known.standing
+  pub so : P mid answers
+
+-- Each record was answered, and all was put; or memory was wanting, and nothing was done; or the history was full, and the answers
+-- before were put; or a put failed.
+abbrev pub ServesSegment : Begin → List Record → Result (Unit {0}) Stop → View → View → Type 0
+ServesSegment begin records (Ok done) v w = IsServed begin records v w (λ mid answers.
+    PutsWell begin mid w answers v.turn.known.put_faults w.turn.known.put_faults × (length answers ≡ length records))
+ServesSegment begin records (Err stops.NoMemory) v w = w ≡ v
+ServesSegment begin records (Err stops.Full) v w = IsServed begin records v w (λ mid answers.
+    PutsWell begin mid w answers v.turn.known.put_faults w.turn.known.put_faults × IsFullSegment begin v mid records answers)
+ServesSegment begin records (Err stops.PutFailed) v w = IsServed begin records v w (λ mid answers.
+    PutsBadly begin mid w answers v.turn.known.put_faults w.turn.known.put_faults)
+
+-- whether more records are served, by how the put of the answers ended, and by whether the history was full
+abbrev pub served_as : {E : Type 0} → Result (Unit {0}) E → Bool → Result (Unit {0}) Stop
+served_as (Ok done) true = Err stops.Full
+served_as (Ok done) false = Ok tt
+served_as (Err fault) full = Err stops.PutFailed
+
+-- what the worker knows of the run so far
+abbrev pub Goes : SourceSeen → SourceSeen → Standing → Begin → View → View → Type 0
+Goes start source standing begin first now = IsUnderWay start source standing begin first now
+    first.turn.known.put_faults now.turn.known.put_faults now.turn.known.standing
+
+abbrev pub Comes : SourceSeen → SourceSeen → Begin → View → View → RunEnd → Type 0
+Comes start source begin first now came =
+    HasCome start source begin first now first.turn.known.put_faults now.turn.known.put_faults now.turn.known.standing came
+
+abbrev pub end_after : SegmentEnd → Option RunEnd
+end_after segments.More = None
+end_after segments.End = Some ends.Ended
+end_after (segments.Malformed offset) = Some (ends.Malformed offset)
+end_after (segments.SourceFault count) = Some (ends.SourceFault count)
+
+abbrev pub end_of_stop : Stop → RunEnd
+end_of_stop stops.NoMemory = ends.NoMemory
+end_of_stop stops.Full = ends.SessionFull
+end_of_stop stops.PutFailed = ends.PutFailed
+
+-- one segment more: the run goes on, or came to its end
+abbrev pub Leads : SourceSeen → SourceSeen → Standing → Begin → View → View → Option RunEnd → Type 0
+Leads start source standing begin first now None = Goes start source standing begin first now
+Leads start source standing begin first now (Some came) = Comes start source begin first now came

@@ -1,0 +1,152 @@
+// Segments that are served, one after the other, to the end of the input.
+ghost use Rattle.std.specs.Prelude.{◌≡◌, ◌<◌, ℕ, List, [], IfNone};
+ghost use Rattle.std.specs.List.{All};
+ghost use Rattle.record_io.specs.declared.kinds.TheConstants.{LANES};
+ghost use Rattle.record_io.specs.declared.records.Record.{Record};
+ghost use Rattle.record_io.specs.Input.{Item};
+ghost use Rattle.record_io.specs.Reading.{first_standing, IsReading, SourceSeen};
+ghost use Rattle.counter_table.specs.Worker.{view};
+ghost use Rattle.counter_table.specs.declared.view.View.{View};
+ghost use Rattle.unit_work.specs.Begin.{Begin};
+ghost use Rattle.unit_work.specs.Deeds.{Ascend};
+ghost use Rattle.unit_calls.specs.Visiting.{BeganWith};
+ghost use Rattle.unit_session.specs.Putting.{IsAlone, OfRun};
+ghost use Rattle.unit_session.specs.Serving.{Comes, end_after, end_of_stop, Goes, Leads, served_as, ServesSegment};
+
+use crate::session::Session;
+use frame_workers::{Gate, run_segment};
+use record_io::{Reader, Record, SegmentEnd};
+use run_ends::RunEnd;
+use sdls_base::NoMemory;
+use sdls_outside::{Site, Source};
+use std::alloc::Global;
+use std::sync::Wait;
+use std::thread::Threads;
+use unit_book::BookFault;
+
+/// Why no more records are served.
+#[derive(Clone, Copy, Debug, PartialEq, Eq)]
+pub enum Stop {
+    /// Memory is wanting.
+    NoMemory,
+    /// The history is full.
+    Full,
+    /// A put failed.
+    PutFailed,
+}
+
+/// What a segment's end says of the run: nothing, where the input may go on.
+fn end_after(end: SegmentEnd) -> Option<RunEnd>
+    ensures { result ≡ end_after end }
+{
+    match end {
+        SegmentEnd::More => None,
+        SegmentEnd::End => Some(RunEnd::Ended),
+        SegmentEnd::Malformed(offset) => Some(RunEnd::Malformed(offset)),
+        SegmentEnd::SourceFault(count) => Some(RunEnd::SourceFault(count)),
+    }
+}
+
+fn end_of(stop: Stop) -> RunEnd
+    ensures { result ≡ end_of_stop stop }
+{
+    match stop {
+        Stop::NoMemory => RunEnd::NoMemory,
+        Stop::Full => RunEnd::SessionFull,
+        Stop::PutFailed => RunEnd::PutFailed,
+    }
+}
+
+/// Whether more records are served, behind answers that were put, or a front of them.
+fn served(put: Result<(), BookFault>, full: bool) -> Result<(), Stop>
+    ensures { result ≡ served_as put full }
+{
+    match put {
+        Ok(()) if full => Err(Stop::Full),
+        Ok(()) => Ok(()),
+        Err(_) => Err(Stop::PutFailed),
+    }
+}
+
+impl<O: Site + Send> Session<O> {
+    /// Handles the records of a segment, and puts their answers in input order.
+    fn serve<R: Threads + Wait + Sync, G: Gate + Sync>(
+        &mut self,
+        rt: &R,
+        alloc: Global,
+        records: &[Record],
+        gate: &G,
+    ) -> Result<(), Stop>
+        requires alone { IsAlone self.old.unit.counters self.old.unit.plan self.old.worker }
+        requires lanes { All (λ (task : Record). task.lane < LANES) records.now }
+        requires ascend { Ascend records.now }
+        ensures alone { IsAlone self.new.unit.counters self.new.unit.plan self.new.worker }
+        ensures opening { (view self.new.worker).turn.known.opening ≡ (view self.old.worker).turn.known.opening }
+        ensures serves { OfRun O.told (view self.old.worker) (λ begin. ServesSegment begin records.now result (view self.old.worker) (view self.new.worker)) }
+    {
+        let segment = match run_segment(rt, alloc, &self.unit, &mut self.worker, records, gate) {
+            Ok(segment) => segment,
+            Err(NoMemory) => return Err(Stop::NoMemory),
+        };
+        let put = self.put_answers(rt, &segment.answers);
+        served(put, segment.full)
+    }
+
+    /// Reads the next segment and serves it. `None`: the input may go on.
+    fn serve_next<R: Threads + Wait + Sync, S: Source, G: Gate + Sync>(
+        &mut self,
+        rt: &R,
+        alloc: Global,
+        source: &mut S,
+        reader: &mut Reader,
+        gate: &G,
+    ) -> Option<RunEnd>
+        requires alone { IsAlone self.old.unit.counters self.old.unit.plan self.old.worker }
+        requires reading { let before : SourceSeen = record { told = S.told; left = S.left source.old; faults = S.faults source.old } in
+            (start : SourceSeen) × (items : List Item) × (read : List ℕ) × IsReading start before reader.old items read }
+        ensures alone { IsAlone self.new.unit.counters self.new.unit.plan self.new.worker }
+        ensures opening { (view self.new.worker).turn.known.opening ≡ (view self.old.worker).turn.known.opening }
+        ensures leads { let before : SourceSeen = record { told = S.told; left = S.left source.old; faults = S.faults source.old } in
+            let after : SourceSeen = record { told = S.told; left = S.left source.new; faults = S.faults source.new } in
+            (start : SourceSeen) (begin : Begin) (first : View) → BeganWith O.told begin (view self.old.worker).turn.known.opening
+            → Goes start before reader.old begin first (view self.old.worker)
+            → Leads start after reader.new begin first (view self.new.worker) result }
+        ensures forth { IfNone result (reader.old.taken < reader.new.taken) }
+    {
+        let (records, end) = match reader.next_segment(alloc, source) {
+            Ok(read) => read,
+            Err(NoMemory) => return Some(RunEnd::NoMemory),
+        };
+        match self.serve(rt, alloc, &records, gate) {
+            Ok(()) => end_after(end),
+            Err(stop) => Some(end_of(stop)),
+        }
+    }
+
+    /// Reads and serves segments until the input ends, or something else does.
+    pub fn serve_input<R: Threads + Wait + Sync, S: Source, G: Gate + Sync>(
+        &mut self,
+        rt: &R,
+        alloc: Global,
+        source: &mut S,
+        gate: &G,
+    ) -> RunEnd
+        requires alone { IsAlone self.old.unit.counters self.old.unit.plan self.old.worker }
+        requires no_log { (view self.old.worker).turn.known.log ≡ [] }
+        requires none_made { (view self.old.worker).turn.made ≡ [] }
+        ensures alone { IsAlone self.new.unit.counters self.new.unit.plan self.new.worker }
+        ensures opening { (view self.new.worker).turn.known.opening ≡ (view self.old.worker).turn.known.opening }
+        ensures comes { let before : SourceSeen = record { told = S.told; left = S.left source.old; faults = S.faults source.old } in
+            let after : SourceSeen = record { told = S.told; left = S.left source.new; faults = S.faults source.new } in
+            (begin : Begin) → BeganWith O.told begin (view self.old.worker).turn.known.opening
+            → Comes before after begin (view self.old.worker) (view self.new.worker) result }
+    {
+        let mut reader = Reader::new();
+        'segments: loop {
+            match self.serve_next(rt, alloc, source, &mut reader, gate) {
+                None => {}
+                Some(end) => return end,
+            }
+        }
+    }
+}
