@@ -4,3 +4,4 @@ pub mod Alone
 pub mod Leading
 pub mod Lying
 pub mod Served
+pub mod Closed

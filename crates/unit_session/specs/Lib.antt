@@ -1,2 +1,3 @@
 pub mod Putting
 pub mod Serving
+pub mod Running

@@ -25,7 +25,7 @@ fn rose(before: u64, now: u64) -> bool
 
 /// The end that is told: a fault of the site that came before all answers were put; else what came; and behind an input that
 /// ended, what the release met.
-fn told_end(
+pub(crate) fn told_end(
     before: u64,
     last: u64,
     now: u64,

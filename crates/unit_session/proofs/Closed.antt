@@ -1,0 +1,142 @@
+-- A run whose book was opened, served by one worker and closed: for `run_recorded`.
+use Rattle.std.proofs.Common.{◌≡◌, ℕ, ◌+◌, ◌≤◌, Bool, IsTrue, List, length, Ok, refl, sym, ◌∙◌, ap, subst, inl, inr}
+use Rattle.sdls_base.specs.declared.entry.Entry.{Entry}
+use Rattle.sdls_outside.specs.Disk.{Leaves}
+use Rattle.sdls_outside.specs.Moments.{Trace, EachMoment, clock}
+use Rattle.sdls_outside.proofs.Moments.{moment_now}
+use Rattle.counter_table.specs.declared.counters.Counters.{Counters}
+use Rattle.counter_table.specs.declared.counters.Worker.{Worker}
+use Rattle.counter_table.specs.declared.view.Opening as openings
+use Rattle.counter_table.specs.Numbers.{top}
+use Rattle.counter_table.specs.Worker.{view}
+use Rattle.disk_journal.specs.Image.{held, records, slot_count}
+use Rattle.record_io.specs.Reading.{SourceSeen}
+use Rattle.unit_plan.specs.Plan.{plan_of}
+use Rattle.unit_plan.specs.PlanLines.{PlanLines}
+use Rattle.unit_plan.specs.PlanRules.{IsPlan}
+use Rattle.unit_state.specs.declared.state.State.{State}
+use Rattle.unit_state.specs.Restart.{restarted}
+use Rattle.unit_image.specs.Opening.{Opening}
+use Rattle.unit_image.specs.Shows.{Shows}
+use Rattle.unit_history.specs.Log.{entries_of}
+use Rattle.unit_history.specs.Stored.{stored_count}
+use Rattle.unit_book.specs.Book.{BookView}
+use Rattle.unit_book.specs.Marks.{mark_at}
+use Rattle.shared_unit.specs.Sharing.{Begins, IsOpened}
+use Rattle.shared_unit.specs.Told.{told_by}
+use Rattle.unit_calls.specs.Visiting.{BeganWith}
+use Rattle.run_steps.specs.Coming.{HasCome}
+use Rattle.run_steps.specs.Finishing.{PutsEnd}
+use Rattle.run_steps.specs.Ran.{CountsSlots, Ran, begin_by}
+use Rattle.run_ends.specs.declared.end.RunEnd.{RunEnd}
+use Rattle.unit_session.specs.Running.{RunsUnit}
+
+-- the octets sunk stand where they stood while the image is opened
+pub opened_sunk : (old new : Trace) → EachMoment old new (Opening old) → Leaves new.now new.now.image → new.now.sunk ≡ old.now.sunk
+opened_sunk old new each leaves = (each.each new.now.image new.now.sunk (moment_now new (clock old) new.now.image leaves)).1
+
+-- the image that is known of stays while End is put
+image_stays : {O : Type 0} → (told : Bool) (trace : O → Trace) (faults puts : O → ℕ) (came end : RunEnd) (old new : BookView O) (status : ℕ)
+    → PutsEnd told trace faults puts came end old new status → new.image ≡ old.image
+image_stays {O} told trace faults puts came end old new status (inl (came_is, same, status_is)) = ap (λ (b : BookView O). b.image) same
+image_stays {O} told trace faults puts came end old new status (inr (came_is, put)) = ap (λ (b : BookView O). b.image) put.made
+
+module _ {O B : Type 0} (told : Bool) (trace : O → Trace) (faults puts : O → ℕ) (site after : O) (opened : BookView O) (counters : Counters B) (plan : PlanLines)
+    (worker : Worker B) (here : IsOpened told trace faults puts site opened) (begins : Begins trace faults puts opened counters plan worker)
+    (source source_after : SourceSeen) (entries : List Entry) (status : ℕ)
+    (runs : RunsUnit told trace faults puts (faults site) source source_after (view worker) after entries status) where
+  -- what the book was opened with
+  same_opening : (told_by trace faults puts runs.book).opening ≡ (told_by trace faults puts opened).opening
+  same_opening = runs.closes.follows.opening ∙ runs.opening ∙ begins.opening
+
+  image_is : runs.book.image ≡ (trace site).now.image
+  image_is = ap (λ (o : openings.Opening). o.image) same_opening ∙ ap (λ (b : BookView O). b.image) here.begun_is
+
+  plan_is : runs.book.plan ≡ opened.plan
+  plan_is = ap (λ (o : openings.Opening). o.plan) same_opening
+
+  start_is : runs.book.start ≡ opened.start
+  start_is = ap (λ (o : openings.Opening). o.start) same_opening
+
+  trail_is : trace runs.book.opened ≡ trace opened.site
+  trail_is = ap (λ (o : openings.Opening). o.trail) same_opening ∙ ap (λ (b : BookView O). trace b.opened) here.begun_is
+
+  faults_are : faults runs.book.opened ≡ faults site
+  faults_are = ap (λ (o : openings.Opening). o.faults) same_opening ∙ ap (λ (b : BookView O). faults b.opened) here.begun_is ∙ here.stood
+
+  pub says : IsTrue told → plan_of (held (trace site).now.image).plan ≡ Ok runs.book.plan
+  says is_told = subst (λ (p : PlanLines). plan_of (held (trace site).now.image).plan ≡ Ok p) (sym plan_is) (here.plan is_told)
+
+  shows : IsTrue told → Shows (trace site).now.image runs.book.start
+  shows is_told = subst (Shows (trace site).now.image) (sym start_is) (here.shows is_told).0
+
+  began : BeganWith told (begin_by told (trace site).now.image runs.book.plan runs.book.start) (view worker).turn.known.opening
+  began =
+      let first : (told_by trace faults puts runs.book).opening ≡ (view worker).turn.known.opening = runs.closes.follows.opening ∙ runs.opening in
+      let same : (view worker).turn.known.opening.image ≡ (trace site).now.image =
+      ap (λ (o : openings.Opening). o.image) (sym first) ∙ image_is in
+      record {
+        rows = refl;
+        tells = refl;
+        plan = ap (λ (o : openings.Opening). o.plan) (sym first);
+        start = ap (λ (o : openings.Opening). o.start) (sym first);
+        slots = λ is_told. ap slot_count (sym same);
+        used = λ is_told. ap (λ (i : List ℕ). length (records i)) (sym same);
+      }
+
+  come : HasCome source source_after (begin_by told (trace site).now.image runs.book.plan runs.book.start) (view worker) runs.now
+      (puts site) (puts runs.book.site) runs.book.standing runs.came
+  come =
+      let before : (view worker).turn.known.put_faults ≡ puts site = begins.put_faults ∙ here.puts_same in
+      subst (λ (n : ℕ). HasCome source source_after (begin_by told (trace site).now.image runs.book.plan runs.book.start) (view worker) runs.now
+      n (puts runs.book.site) runs.book.standing runs.came) before
+      (subst (λ (n : ℕ). HasCome source source_after (begin_by told (trace site).now.image runs.book.plan runs.book.start) (view worker) runs.now
+      (view worker).turn.known.put_faults n runs.book.standing runs.came) (sym runs.closes.as_known.put_faults)
+      (subst (λ (n : ℕ). HasCome source source_after (begin_by told (trace site).now.image runs.book.plan runs.book.start) (view worker) runs.now
+      (view worker).turn.known.put_faults runs.now.turn.known.put_faults n runs.came) (sym runs.closes.as_known.standing)
+      (runs.comes (begin_by told (trace site).now.image runs.book.plan runs.book.start) began)))
+
+  pub has_run : ((site : O) → IsTrue told → Leaves (trace site).now (trace site).now.image)
+      → ((text : List ℕ) (plan : PlanLines) → plan_of text ≡ Ok plan → IsPlan plan)
+      → ((image : List ℕ) (state : State) → Shows image state → restarted state ≡ state)
+      → Ran told trace faults puts site source source_after (view worker) runs.now runs.came runs.book runs.words
+  has_run may_stay plans left = record {
+    says = says;
+    shows = shows;
+    opening = λ is_told. subst (λ (t : Trace). EachMoment (trace site) t (Opening (trace site))) (sym trail_is) (here.any_moment is_told);
+    sunk = λ is_told. ap (λ (t : Trace). t.now.sunk) trail_is ∙ opened_sunk (trace site) (trace opened.site) (here.any_moment is_told) (may_stay opened.site is_told);
+    same_faults = faults_are;
+    founded = λ is_told. record {
+      rows = refl;
+      plan_is = plans (held (trace site).now.image).plan runs.book.plan (says is_told);
+      rules = runs.kept.begins;
+      left = left (trace site).now.image runs.book.start (shows is_told);
+      opened = record {
+        none_drawn = begins.drawn;
+        none_made = begins.made;
+        no_log = begins.log;
+        nexts = λ row low. begins.words row low ∙ ap (λ (s : State). mark_at s row) (sym start_is);
+        raised = λ row low. subst (λ (s : State). top row (view worker).numbers.raised ≤ mark_at s row) (sym start_is) (begins.raised row low);
+        added = λ row low. begins.added row low;
+      };
+    };
+    come = come;
+    whole = runs.whole;
+    kept = runs.kept;
+    log = runs.closes.log;
+    known = sym runs.closes.as_known.faults;
+    known_first = ap (λ (o : openings.Opening). o.faults) (sym runs.closes.follows.opening);
+    rows = runs.closes.rows;
+    stand = runs.closes.each;
+  }
+
+  -- the slots of the image are counted to the end
+  pub counts : CountsSlots told faults (trace site).now.image runs.finishes.last
+  counts = λ is_told stood.
+      let counted = runs.finishes.kept.counted is_told stood in
+      let same : runs.finishes.last.image ≡ (trace site).now.image =
+      image_stays told trace faults puts runs.came runs.finishes.end runs.finishes.released runs.finishes.last status runs.finishes.puts_end
+      ∙ runs.finishes.goes_on.image ∙ image_is in (
+        counted.slots ∙ ap slot_count same,
+        counted.used ∙ ap (λ (i : List ℕ). length (records i) + stored_count runs.finishes.last.start (entries_of runs.finishes.last.log)) same,
+      )

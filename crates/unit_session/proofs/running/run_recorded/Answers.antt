@@ -1,0 +1,58 @@
+use Rattle.std.proofs.Common.{ℕ, List, sym, subst}
+use Rattle.sdls_base.specs.declared.entry.Entry.{Entry}
+use Rattle.record_io.specs.Reading.{SourceSeen}
+use Rattle.counter_table.specs.declared.view.View.{View}
+use Rattle.counter_table.specs.Worker.{view}
+use Rattle.run_ends.specs.Lives.{EndsAndLives}
+use Rattle.run_steps.specs.Ran.{call_seen}
+use Rattle.unit_session.specs.Running.{PutsRefusal, RunsUnit}
+use Rattle.unit_session.proofs.Closed.{counts, has_run}
+use Rattle.unit_session.proofs.running.run_recorded.Goals as goal
+
+pub returns-in-Ok : goal.returns-in-Ok
+returns-in-Ok g c =
+    let told = g.O.Site.told in
+    let trace = g.O.Site.trace in
+    let faults = g.O.Site.faults in
+    let puts = g.O.Site.put_faults in
+    let source : SourceSeen = record { told = g.S.Source.told; left = g.S.Source.left c.args.source.now; faults = g.S.Source.faults c.args.source.now } in
+    let after : SourceSeen =
+    record { told = g.S.Source.told; left = g.S.Source.left c.serve_unit.new.source; faults = g.S.Source.faults c.serve_unit.new.source } in
+    let first : View = view c.in-Ok.worker in
+    let entries : List Entry = c.serve_unit.result.entries.items in
+    let (book, opened, begins) = c.in-Ok.ensures.opened in
+    let runs : RunsUnit told trace faults puts (faults c.args.site) source after first c.serve_unit.result.site entries c.serve_unit.result.status =
+    subst (λ (n : ℕ). RunsUnit told trace faults puts n source after first c.serve_unit.result.site entries c.serve_unit.result.status)
+    c.faults-before.ensures c.serve_unit.ensures in
+    c.run_ends_well.ensures c.args.site c.serve_unit.result.site source after first runs.now runs.came runs.book runs.words entries c.serve_unit.result.status
+    (has_run told trace faults puts c.args.site c.serve_unit.result.site book c.in-Ok.unit.counters c.in-Ok.unit.plan c.in-Ok.worker opened begins source after
+    entries c.serve_unit.result.status runs c.image_stays.ensures c.shown_keeps_rules.ensures.plan c.shown_keeps_rules.ensures.left)
+    runs.finishes
+    (counts told trace faults puts c.args.site c.serve_unit.result.site book c.in-Ok.unit.counters c.in-Ok.unit.plan c.in-Ok.worker opened begins source after
+    entries c.serve_unit.result.status runs)
+
+pub returns-in-Err : goal.returns-in-Err
+returns-in-Err g c =
+    let told = g.O.Site.told in
+    let trace = g.O.Site.trace in
+    let faults = g.O.Site.faults in
+    let puts = g.O.Site.put_faults in
+    let source : SourceSeen = record { told = g.S.Source.told; left = g.S.Source.left c.args.source.now; faults = g.S.Source.faults c.args.source.now } in
+    let put : PutsRefusal told trace faults puts (faults c.args.site) c.in-Err.fault c.in-Err.site c.refuse.result.site c.refuse.result.status =
+    subst (λ (n : ℕ). PutsRefusal told trace faults puts n c.in-Err.fault c.in-Err.site c.refuse.result.site c.refuse.result.status)
+    c.faults-before.ensures c.refuse.ensures.puts in
+    subst (λ (es : List Entry). EndsAndLives (call_seen told trace faults puts c.args.site c.refuse.result.site source source c.refuse.result.status es))
+    (sym c.refuse.ensures.entries)
+    (c.refused_run_ends.ensures c.args.site c.in-Err.site c.refuse.result.site source c.in-Err.fault c.refuse.result.status (record {
+      cause = c.in-Err.ensures.refused;
+      opening = c.in-Err.ensures.any_moment;
+      later = c.in-Err.ensures.later;
+      same_puts = c.in-Err.ensures.puts;
+      end = put.end;
+      end_is = put.end_is;
+      put = put.put;
+      sinks = put.sinks;
+      counted = put.counted;
+      put_cause = put.cause;
+      status_is = put.status_is;
+    }))

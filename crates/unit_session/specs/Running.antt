@@ -1,0 +1,49 @@
+-- A unit that was opened, served and closed, or was not opened (profile).
+use Rattle.std.specs.Prelude.{◌≡◌, ℕ, Bool, IsTrue, List, Result, Ok, MatchResult}
+use Rattle.sdls_base.specs.declared.entry.Entry.{Entry}
+use Rattle.sdls_outside.specs.declared.source.Failed.{Failed}
+use Rattle.sdls_outside.specs.Faults.{HasCause}
+use Rattle.sdls_outside.specs.Moments.{Trace}
+use Rattle.sdls_outside.specs.Site as sites
+use Rattle.counter_table.specs.declared.view.View.{View}
+use Rattle.counter_table.specs.Close.{Closes}
+use Rattle.counter_table.specs.Whole.{IsWhole}
+use Rattle.record_io.specs.declared.status.TheConstants.{SITE_FAULT}
+use Rattle.record_io.specs.Answers.{answer_octets}
+use Rattle.record_io.specs.Reading.{SourceSeen}
+use Rattle.unit_image.specs.declared.fault.OpenFault.{OpenFault}
+use Rattle.unit_book.specs.Book.{BookView, IsKept}
+use Rattle.shared_unit.specs.Told.{told_by}
+use Rattle.unit_work.specs.Begin.{Begin}
+use Rattle.unit_calls.specs.Visiting.{BeganWith}
+use Rattle.run_ends.specs.declared.end.RunEnd.{RunEnd}
+use Rattle.run_ends.specs.Account.{end_answer, end_status}
+use Rattle.run_steps.specs.Finishing.{Finishes, IsToldEnd}
+use Rattle.run_steps.specs.Refused.{refused_end}
+use Rattle.unit_session.specs.Serving.{Comes}
+
+-- The one worker, from the first view to the last, served the input of the source until this end came; then the unit was closed with
+-- these words `next`, and the run was ended, which left the site so. So many faults had been counted before the run.
+pub record RunsUnit {O : Type 0} (told : Bool) (trace : O → Trace) (faults puts : O → ℕ) (before : ℕ) (source source_after : SourceSeen)
+    (first : View) (site : O) (entries : List Entry) (status : ℕ) : Type 0 where
+  pub now : View
+  pub came : RunEnd
+  pub book : BookView O
+  pub words : List ℕ
+  pub comes : (begin : Begin) → BeganWith told begin first.turn.known.opening → Comes source source_after begin first now came
+  pub opening : now.turn.known.opening ≡ first.turn.known.opening
+  pub whole : IsWhole 512 now
+  pub kept : IsKept told trace faults book
+  pub closes : Closes 512 now (told_by trace faults puts book) words
+  pub finishes : Finishes told trace faults puts before words came book site entries status
+
+-- where a book was not opened: End was put, or a front of it; so many faults had been counted before the run
+pub record PutsRefusal {O : Type 0} (told : Bool) (trace : O → Trace) (faults_of puts : O → ℕ) (before : ℕ) (fault : OpenFault) (site after : O)
+    (status : ℕ) : Type 0 where
+  pub end : RunEnd
+  pub end_is : IsToldEnd before (faults_of site) (faults_of site) (refused_end fault) (Ok tt) end
+  pub put : Result (Unit {0}) Failed
+  pub sinks : IsTrue told → sites.Puts (answer_octets (end_answer end 0)) put (trace site) (trace after)
+  pub counted : puts after ≡ sites.after_put put (puts site)
+  pub cause : HasCause (faults_of site) (faults_of after) put
+  pub status_is : MatchResult put (λ _. status ≡ end_status end) (λ _. status ≡ SITE_FAULT)

@@ -1,0 +1,126 @@
+// The word `run`: a recorded input is served, with the unit of an image.
+ghost use Rattle.std.specs.Prelude.{◌≡◌, ◌≤◌, IsTrue, [], MatchResult};
+ghost use Rattle.sdls_outside.specs.Disk.{Leaves};
+ghost use Rattle.counter_table.specs.Worker.{view};
+ghost use Rattle.record_io.specs.Reading.{SourceSeen};
+ghost use Rattle.run_ends.specs.Lives.{EndsAndLives};
+ghost use Rattle.run_ends.specs.Account.{end_status};
+ghost use Rattle.run_steps.specs.Ran.{call_seen};
+ghost use Rattle.run_steps.specs.Refused.{refused_end};
+ghost use Rattle.unit_session.specs.Putting.{IsAlone};
+ghost use Rattle.unit_session.specs.Running.{PutsRefusal, RunsUnit};
+
+use crate::finishing::{answer_of, finish, told_end};
+use crate::heading::heading;
+use crate::outcome::Outcome;
+use crate::session::Session;
+use frame_workers::Gate;
+use image_laws::shown_keeps_rules;
+use record_io::status::SITE_FAULT;
+use run_ends::RunEnd;
+use run_steps::{refused_run_ends, run_ends_well};
+use sdls_outside::{Failed, Site, Source};
+use shared_unit::{Unit, Worker};
+use std::alloc::Global;
+use std::sync::Wait;
+use std::thread::Threads;
+use unit_book::states_have_bounds;
+use unit_image::OpenFault;
+
+/// Why a run ends whose book was not opened.
+fn refused_end(fault: OpenFault) -> RunEnd
+    ensures { result ≡ refused_end fault }
+{
+    match fault {
+        OpenFault::SiteFault(count) => RunEnd::SiteFault(count),
+        OpenFault::Image(offset) => RunEnd::NoState(offset),
+        OpenFault::NoMemory => RunEnd::NoMemory,
+    }
+}
+
+/// The status of a run for which this End was put, or a front of it.
+fn status_of(put: Result<(), Failed>, told: RunEnd) -> u8
+    ensures { MatchResult put (λ _. result ≡ end_status told) (λ _. result ≡ SITE_FAULT) }
+{
+    match put {
+        Ok(()) => told.status(),
+        Err(Failed) => SITE_FAULT,
+    }
+}
+
+/// Puts End where the book was not opened. `before` is the site's count of faults before the run.
+fn refuse<O: Site>(alloc: Global, before: u64, fault: OpenFault, mut site: O) -> Outcome<O>
+    requires later { before ≤ O.faults site }
+    ensures puts { PutsRefusal O.told O.trace O.faults O.put_faults before fault site result.site result.status }
+    ensures entries { result.entries.items ≡ [] }
+{
+    let now = site.faults();
+    let told = told_end(before, now, now, refused_end(fault), Ok(()));
+    let answer = answer_of(alloc, told, 0);
+    let put = site.put(&heading(&answer));
+    Outcome {
+        status: status_of(put, told),
+        site,
+        entries: Vec::new(alloc),
+    }
+}
+
+/// Law: the image as it reads is one that a crash may leave. Here a function that starts threads can cite it.
+fn image_stays<O: Site>()
+    ensures { (site : O) → IsTrue O.told → Leaves (O.trace site).now (O.trace site).now.image }
+{}
+
+/// Serves the input of a source with a unit that was opened, closes the unit, and ends the run. `before` is the site's count of
+/// faults before the run.
+fn serve_unit<R: Threads + Wait + Sync, S: Source, O: Site + Send, G: Gate + Sync>(
+    rt: &R,
+    alloc: Global,
+    source: &mut S,
+    gate: &G,
+    unit: Unit<O>,
+    worker: Worker<O>,
+    before: u64,
+) -> Outcome<O>
+    requires alone { IsAlone unit.counters unit.plan worker }
+    requires no_log { (view worker).turn.known.log ≡ [] }
+    requires none_made { (view worker).turn.made ≡ [] }
+    requires before { before ≤ (view worker).turn.known.opening.faults }
+    ensures { let seen : SourceSeen = record { told = S.told; left = S.left source.old; faults = S.faults source.old } in
+        let after : SourceSeen = record { told = S.told; left = S.left source.new; faults = S.faults source.new } in
+        RunsUnit O.told O.trace O.faults O.put_faults before seen after (view worker) result.site result.entries.items result.status }
+{
+    let mut session = Session::new(alloc, unit, worker);
+    let came = session.serve_input(rt, alloc, source, gate);
+    let Session {
+        unit,
+        worker,
+        piece: _,
+    } = session;
+    let (book, words) = unit.close(worker);
+    states_have_bounds();
+    finish(alloc, book, &words, before, came)
+}
+
+/// Serves the recorded input of a source with the unit of the site's image: its records in segments, the lanes of a segment at
+/// once, the answers in input order, and End behind them.
+pub fn run_recorded<R: Threads + Wait + Sync, S: Source, O: Site + Send, G: Gate + Sync>(
+    rt: &R,
+    alloc: Global,
+    source: &mut S,
+    site: O,
+    gate: &G,
+) -> Outcome<O>
+    ensures { let before : SourceSeen = record { told = S.told; left = S.left source.old; faults = S.faults source.old } in
+        let after : SourceSeen = record { told = S.told; left = S.left source.new; faults = S.faults source.new } in
+        EndsAndLives (call_seen O.told O.trace O.faults O.put_faults site result.site before after result.status result.entries.items) }
+{
+    let before = site.faults();
+    image_stays::<O>();
+    shown_keeps_rules();
+    run_ends_well::<O>();
+    refused_run_ends::<O>();
+    match Unit::open(rt, alloc, site) {
+        Ok((unit, worker)) => serve_unit(rt, alloc, source, gate, unit, worker, before),
+        Err((fault, site)) => refuse(alloc, before, fault, site),
+    }
+}
