@@ -8,3 +8,4 @@ pub mod Appending
 pub mod Ended
 pub mod Looping
 pub mod Refusing
+pub mod Resting

@@ -7,7 +7,7 @@ use Rattle.std.proofs.Math.Seq.{drop-append_seam, take-append-add}
 use Rattle.std.proofs.lemmas.Bool.Decides.{nat_tests}
 use Rattle.std.proofs.lemmas.List.{drop_all, length-replicate}
 use Rattle.std.proofs.lemmas.List.Folds.{find_at}
-use Rattle.std.proofs.lemmas.Option.{get_or_from_slice_get, none-some, slice_get_within}
+use Rattle.std.proofs.lemmas.Option.{get_or_from_slice_get, slice_get_within}
 use Rattle.sdls_base.specs.KeyId.{class_of, end_of, end_of_class}
 use Rattle.sdls_base.specs.declared.TheConstants.{MOST_KEYS}
 use Rattle.sdls_base.specs.declared.entry.Entry.{Entry}
@@ -52,6 +52,7 @@ use Rattle.run_ends.specs.Ends.{IsEarly, IsRefusal, IsRefused, IsReleased, IsSer
 use Rattle.run_steps.specs.Ran.{call_seen}
 use Rattle.run_steps.specs.Refused.{Refused, refused_end}
 use Rattle.run_steps.proofs.Ended.{failed_put}
+use Rattle.run_steps.proofs.Resting.{no_records}
 
 -- ---- no release is due in a state that a restart left
 
@@ -294,30 +295,7 @@ module _ {O : Type 0} (told : Bool) (trace : O → Trace) (faults puts : O → �
       ]
 
       sound_run : IsPlan plan → KeepsRules state → IsSound (begin_of call plan state) (course_of call account plan state) [] []
-      sound_run plan_is rules = record {
-        begins = refl;
-        history = record {
-          plan_is = plan_is;
-          rules = rules;
-          run = record {
-            ends = 0;
-            within = omega arith;
-            each = λ p entry low there. absurd (omega arith);
-            releases = λ p entry low there. absurd (none-some entry there);
-            once = λ p q a b index low at_p at_q is_a is_b. absurd (none-some a at_p);
-            few_entries = omega arith;
-            few_reserves = omega arith;
-            in_order = λ p q i j a b at_p at_q is_a is_b low turn. absurd (none-some a at_p);
-          };
-        };
-        answers = λ k d low. absurd (omega arith);
-        pairs = λ i j d less low. absurd (omega arith);
-        pairs_above = λ k d low. absurd (omega arith);
-        accepted = λ i j d less low. absurd (omega arith);
-        accepted_above = λ k d low. absurd (omega arith);
-        one_fault = λ i j d less low. absurd (omega arith);
-        order = λ i j d less low. absurd (omega arith);
-      }
+      sound_run plan_is rules = no_records _ _ refl plan_is rules refl
 
       sound_call : IsTrue told → IsPlan plan → KeepsRules state → IsSoundCall call account plan state
       sound_call is_told plan_is rules = record {

@@ -4,3 +4,4 @@ pub mod Segment
 pub mod Finishing
 pub mod Ran
 pub mod Refused
+pub mod Reads

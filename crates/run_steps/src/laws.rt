@@ -15,18 +15,23 @@ ghost use Rattle.unit_work.specs.Deeds.{deeds_of};
 ghost use Rattle.unit_work.specs.Order.{Handled, Layout, LiesIn};
 ghost use Rattle.unit_runs.specs.Ending.{EndsRun};
 ghost use Rattle.unit_runs.specs.Release.{AreReleases};
-ghost use Rattle.run_ends.specs.Account.{deeds_from};
+ghost use Rattle.unit_runs.specs.Sound.{IsSound};
+ghost use Rattle.unit_plan.specs.PlanLines.{PlanLines};
+ghost use Rattle.unit_state.specs.declared.state.State.{State};
+ghost use Rattle.run_ends.specs.Account.{Account, begin_of, course_of, deeds_from};
+ghost use Rattle.run_ends.specs.Call.{CallSeen, ShowsAtEntry};
 ghost use Rattle.record_io.specs.Reading.{SourceSeen};
 ghost use Rattle.unit_book.specs.Book.{BookView};
 ghost use Rattle.run_ends.specs.declared.end.RunEnd.{RunEnd};
-ghost use Rattle.run_ends.specs.Lives.{EndsAndLives};
+ghost use Rattle.run_ends.specs.Lives.{EndsAndLives, KeepsLivesReading};
 ghost use Rattle.run_steps.specs.Finishing.{Finishes};
 ghost use Rattle.run_steps.specs.Ran.{call_seen, CountsSlots, Ran};
+ghost use Rattle.run_steps.specs.Reads.{ReadsAlone};
 ghost use Rattle.run_steps.specs.Refused.{Refused};
 ghost use Rattle.run_steps.specs.Doing.{AreSettledInside, HasDone, HasSettled, IsBefore, IsFounded, IsSegment, octets_put, Puts, Settles};
 
 use image_laws::shown_keeps_rules;
-use run_ends::sound_call_keeps_lives;
+use run_ends::{sound_call_keeps_lives, sound_reading_keeps_lives};
 use sdls_outside::Site;
 use unit_image::{refused_with_one, shows_one};
 
@@ -92,4 +97,23 @@ pub fn refused_run_ends<O: Site>()
     refused_with_one();
     shown_keeps_rules();
     sound_call_keeps_lives();
+}
+
+/// Law: a run without records is sound, where the image at the entry shows a state.
+pub fn no_records_are_sound()
+    ensures { (call : CallSeen) (account : Account) (plan : PlanLines) (state : State) → ShowsAtEntry call plan state → call.entries ≡ []
+        → IsSound (begin_of call plan state) (course_of call account plan state) [] [] }
+{
+    shown_keeps_rules();
+}
+
+/// Law: a call that reads an image and stores nothing goes on with each life that left the image at its entry, as a run without
+/// records.
+pub fn reading_keeps_lives()
+    ensures { (call : CallSeen) (plan : PlanLines) (state : State) → ShowsAtEntry call plan state → call.entries ≡ []
+        → ReadsAlone call → KeepsLivesReading call }
+{
+    shows_one();
+    no_records_are_sound();
+    sound_reading_keeps_lives();
 }

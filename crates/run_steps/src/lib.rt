@@ -5,4 +5,7 @@
 
 mod laws;
 
-pub use laws::{refused_run_ends, run_ends_well, run_stands, segment_goes_on};
+pub use laws::{
+    no_records_are_sound, reading_keeps_lives, refused_run_ends, run_ends_well, run_stands,
+    segment_goes_on,
+};
