@@ -28,7 +28,7 @@ fn mixed_answers(alloc: Global) -> Result<Vec<u8>, Fail> {
     for kind in [[0x10, 2], [2, 0], [0x10, 0], [0x10, 1], [0x11, 0]] {
         push_bare(&mut octets, kind, 0, 0)?;
     }
-    push_bare(&mut octets, [0xff, 0], 1, 0)?;
+    push_bare(&mut octets, [0xff, 0], 2, 0)?;
     Ok(octets)
 }
 
@@ -53,20 +53,20 @@ fn judges_a_frame_before_it_protects_it(rt: HostRuntime) -> Result<(), Fail> {
     ];
     let (status, entries, site) = life_of(&rt, alloc, &input, quiet_site(alloc)?)?;
     assert!(rt; site.sunk() == mixed_answers(alloc)?.as_slice());
-    assert_eq!(rt; (status, entries), (DONE, 1));
+    assert_eq!(rt; (status, entries), (DONE, 2));
     Ok(())
 }
 
 #[test]
-fn numbers_go_on_from_the_mark(rt: HostRuntime) -> Result<(), Fail> {
+fn numbers_go_on_where_the_run_before_ended(rt: HostRuntime) -> Result<(), Fail> {
     let alloc = rt.alloc();
     let (status, entries, site) = life_of_frames(&rt, alloc, 5, quiet_site(alloc)?)?;
     assert_eq!(rt;
         site.sunk(),
-        whole(alloc, &NUMBERS[..5], DONE, 2, 0)?.as_slice()
+        whole(alloc, &NUMBERS[..5], DONE, 3, 0)?.as_slice()
     );
-    assert_eq!(rt; (status, entries), (DONE, 2));
-    goes_on_with(&rt, alloc, site.crashed(Crash::Kept), &NUMBERS[8..9])
+    assert_eq!(rt; (status, entries), (DONE, 3));
+    goes_on_with(&rt, alloc, site.crashed(Crash::Kept), &NUMBERS[5..6])
 }
 
 #[test]

@@ -34,7 +34,7 @@ fn answers_the_frames_before_a_fault_of_the_source(rt: HostRuntime) -> Result<()
         let (status, _, site) = life(&rt, alloc, &mut source, site)?;
         let frames = frames_within(call);
         let numbers = NUMBERS.get(..frames).ok_or("more frames than numbers")?;
-        let position = if frames == 0 { 0 } else { 1 };
+        let position = if frames == 0 { 0 } else { 2 };
         let (ended, count) = if call == 33 {
             (DONE, 0)
         } else {
@@ -68,7 +68,7 @@ fn has_served(alloc: Global, sunk: &[u8], number: u32) -> Result<bool, AllocErro
 fn no_number_serves_twice_after_any_fault(rt: HostRuntime) -> Result<(), Fail> {
     let alloc = rt.alloc();
     let image = image_of(alloc, PLAN, 168)?;
-    let full = whole(alloc, &NUMBERS[..5], DONE, 2, 0)?;
+    let full = whole(alloc, &NUMBERS[..5], DONE, 3, 0)?;
     let (status, _, site) = life_of_frames(
         &rt,
         alloc,

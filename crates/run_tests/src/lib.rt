@@ -1,5 +1,5 @@
-//! Tests of `sdls_run` by sources and sites in memory, which fail and crash where a test says so, and of the frames that
-//! `channel_book` protects. No part of the unit.
+//! Tests of `sdls_run` by sources and sites in memory, which fail and crash where a test says so, and by gates that hold a
+//! lane until another was seen. No part of the unit.
 //!
 //! They stand here since a crate that has tests in it is proved twice.
 #![tactic(auto)]
@@ -15,6 +15,8 @@ mod init;
 #[cfg(test)]
 mod inputs;
 #[cfg(test)]
-mod shielding;
+mod lanes;
+#[cfg(test)]
+mod lives;
 #[cfg(test)]
 mod support;

@@ -93,8 +93,9 @@ pub(crate) const SYNC_OF_THE_GATE: u64 = 25;
 /// The call that follows the fourth answer.
 pub(crate) const CALL_AFTER_FOUR: u64 = 30;
 
-/// The calls of a run with five frames, each with a segment of its own.
-pub(crate) const CALLS_OF_FIVE: u64 = 38;
+/// The calls of a run with five frames, each with a segment of its own: the opening, two appends, a put for each segment and for the
+/// one behind the last fence, the append of the release, and the put of End.
+pub(crate) const CALLS_OF_FIVE: u64 = CALL_AFTER_OPENING + 2 * 4 + 6 + 4 + 1;
 
 pub(crate) fn joined(alloc: Global, pieces: &[&[u8]]) -> Result<Vec<u8>, AllocError> {
     let mut octets = Vec::new(alloc);
@@ -105,9 +106,9 @@ pub(crate) fn joined(alloc: Global, pieces: &[&[u8]]) -> Result<Vec<u8>, AllocEr
 }
 
 /// The image of a plan with 16 slots, octet for octet as its format says: gate, magic, the plan's length, slots, the plan.
-pub(crate) fn image_of(alloc: Global, plan: &[u8], length: u8) -> Result<Vec<u8>, AllocError> {
-    let mut image = Vec::from_slice(alloc, b"\x01SDLSIMG1\x00\x00\x00")?;
-    image.push(length)?;
+pub(crate) fn image_of(alloc: Global, plan: &[u8], length: u16) -> Result<Vec<u8>, AllocError> {
+    let mut image = Vec::from_slice(alloc, b"\x01SDLSIMG1\x00\x00")?;
+    image.extend_from_slice(&length.to_be_bytes())?;
     image.extend_from_slice(b"\x00\x00\x00\x10")?;
     fill_up(&mut image, 512)?;
     image.extend_from_slice(plan)?;
@@ -229,7 +230,7 @@ pub(crate) fn whole(
     Ok(octets)
 }
 
-/// Runs over one frame: it gets the number of the table, for which one entry is made.
+/// Runs over one frame: it gets the number of the table. One entry is made for it, and one by the release of what was not used.
 pub(crate) fn goes_on_with<R: Threads + Wait + Sync + Abort>(
     rt: &R,
     alloc: Global,
@@ -237,7 +238,7 @@ pub(crate) fn goes_on_with<R: Threads + Wait + Sync + Abort>(
     numbers: &[(u32, &str)],
 ) -> Result<(), Fail> {
     let (status, entries, site) = life_of(rt, alloc, &[BEGINNING, RECORD], site)?;
-    assert_eq!(rt; site.sunk(), whole(alloc, numbers, DONE, 1, 0)?.as_slice());
-    assert_eq!(rt; (status, entries), (DONE, 1));
+    assert_eq!(rt; site.sunk(), whole(alloc, numbers, DONE, 2, 0)?.as_slice());
+    assert_eq!(rt; (status, entries), (DONE, 2));
     Ok(())
 }

@@ -1,14 +1,15 @@
-ghost use Rattle.std.specs.Prelude.{◌≡◌, ℕ, ◌+◌, ◌≤◌, List, [], IsTrue};
+ghost use Rattle.std.specs.Prelude.{◌≡◌, ℕ, ◌+◌, List, [], IsTrue};
 ghost use Rattle.sdls_outside.specs.Faults.{Rose};
+ghost use Rattle.sdls_outside.specs.Intake.{TakesAtMost};
+ghost use Rattle.record_io.specs.Reading.{SourceSeen};
+ghost use Rattle.run_ends.specs.Lives.{EndsAndLives};
+ghost use Rattle.run_steps.specs.Ran.{call_seen};
 ghost use Rattle.sdls_plain.specs.Answer.{Ends, EndsCheck, usage_text};
 ghost use Rattle.sdls_plain.specs.Init.{EndsInit};
 ghost use Rattle.sdls_plain.specs.Stat.{EndsStat};
-ghost use Rattle.sdls_outside.specs.Intake.{TakesAtMost};
 ghost use Rattle.sdls_plain.specs.Words.{IsCheck, IsInit, IsNoCommand, IsRun, IsStat};
-ghost use Rattle.sdls_run.specs.Run.{RunEnds, StatusSays};
 
-use crate::gate::Gate;
-use crate::running::run_frames;
+use frame_workers::Gate;
 use record_io::status::USAGE;
 use sdls_outside::{Site, Source};
 use sdls_plain::{GREATEST_LENGTH, Outcome, is_run, run_plain};
@@ -16,31 +17,53 @@ use std::alloc::Global;
 use std::sync::Wait;
 use std::thread::Threads;
 use unit_plan::MOST_OCTETS;
+use unit_session::run_recorded;
+
+/// Serves the recorded input of the source, with the unit of the site's image.
+fn run_input<R: Threads + Wait + Sync, S: Source, O: Site + Send, G: Gate + Sync>(
+    rt: &R,
+    alloc: Global,
+    source: &mut S,
+    site: O,
+    gate: &G,
+) -> Outcome<O>
+    ensures { let before : SourceSeen = record { told = S.told; left = S.left source.old; faults = S.faults source.old } in
+        let after : SourceSeen = record { told = S.told; left = S.left source.new; faults = S.faults source.new } in
+        EndsAndLives (call_seen O.told O.trace O.faults O.put_faults site result.site before after result.status result.entries.items) }
+{
+    let unit_session::Outcome {
+        status,
+        site,
+        entries,
+    } = run_recorded(rt, alloc, source, site, gate);
+    Outcome {
+        status,
+        site,
+        entries,
+    }
+}
 
 /// Serves the words after the program's name, and answers the status, the site and the run's entries.
 ///
-/// `run` reads recorded telecommand frames from the source, protects each under the one association of the image's plan,
-/// and puts one answer for each, in their order, and an End answer behind them. A number that a frame is protected under
-/// is stored in the image before the frame is put, so that no life of the unit uses it again.
+/// `run` reads recorded records from the source: frames to protect, frames to open, and commands. It has them handled
+/// by the unit of the site's image, the lanes of a segment at once, and puts one answer for each, in their order, and an End
+/// answer behind them. What an answer rests on is stored in the image before it is put. The gate is called before and after
+/// each record.
 ///
 /// It hands all other words to [`run_plain`], whose clauses are its own.
 pub fn run<R: Threads + Wait + Sync, S: Source, O: Site + Send, G: Gate + Sync>(
-    _rt: &R,
+    rt: &R,
     alloc: Global,
     words: &[String],
     source: &mut S,
     site: O,
-    _gate: &G,
+    gate: &G,
 ) -> Outcome<O>
-    // Each moment of the run is early or sound, and why it ends is told.
-    ensures frames { IsRun words.now → RunEnds S.told O.told (S.left source.old) (S.left source.new)
-        (S.faults source.old) (S.faults source.new) (O.faults site) (O.faults result.site) (O.trace site) (O.trace result.site)
-        result.status result.entries.items }
-
-    // What a status says.
-    ensures status { IsRun words.now → StatusSays S.told O.told (S.left source.old) (S.left source.new)
-        (S.faults source.old) (S.faults source.new) (O.faults site) (O.faults result.site) (O.trace site) (O.trace result.site)
-        result.entries.items result.status }
+    // Each moment of the run is early or sound, and goes on with each life that left the image at the entry; why it ends is told.
+    ensures run { IsRun words.now →
+        let before : SourceSeen = record { told = S.told; left = S.left source.old; faults = S.faults source.old } in
+        let after : SourceSeen = record { told = S.told; left = S.left source.new; faults = S.faults source.new } in
+        EndsAndLives (call_seen O.told O.trace O.faults O.put_faults site result.site before after result.status result.entries.items) }
 
     ensures check { (key : List ℕ) → IsCheck words.now key → EndsCheck key
         (λ input. IsTrue S.told → input ≡ S.left source.old) (Rose (S.faults source.old) (S.faults source.new))
@@ -65,7 +88,7 @@ pub fn run<R: Threads + Wait + Sync, S: Source, O: Site + Send, G: Gate + Sync>(
     ensures no_history { ¬ IsRun words.now → result.entries.items ≡ [] }
 {
     if is_run(words) {
-        return run_frames(alloc, source, site);
+        return run_input(rt, alloc, source, site, gate);
     }
     run_plain(alloc, words, source, site)
 }
