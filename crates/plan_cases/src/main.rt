@@ -1,38 +1,25 @@
-//! Tables of texts, for the readers of `unit_plan` and `channel_book`. A line of standard input gathers a text or asks for an
-//! answer.
+//! Tables of texts, for the reader of `unit_plan`. A line of standard input gathers a text or asks for an answer.
 //!
 //! `new` begins a text. `: LINE` puts a line and its line feed before the place of the case, and `; LINE` a line feed and
-//! a line behind it. `fill N` puts number signs before the place, up to N octets. `plan LINE` and `nine LINE` put the line into
-//! the place, and print what `Plan::read` and `TelecommandPlan::read` answer to the whole; `show` and `show nine` print
-//! what they read of the text without a case, and `place LINK SPACECRAFT CHANNEL MAP` the channel that lies there. `#` and
-//! a title is printed as it is. In a line `\` and two hexadecimal digits stand for an octet.
+//! a line behind it. `fill N` puts number signs before the place, up to N octets. `plan LINE` puts the line into the
+//! place, and prints what `Plan::read` answers to the whole; `show` prints what it reads of the text without a case, and
+//! `place LINK SPACECRAFT CHANNEL MAP` the channel that lies there. `#` and a title is printed as it is. In a line `\` and two hexadecimal digits stand for an octet.
 #![tactic(auto)]
 
 mod showing;
 mod text;
 
-use channel_book::TelecommandPlan;
 use std::alloc::Global;
 use text::Text;
 use unit_plan::Plan;
 
-/// What the reader of whole plans answers to the text with a case.
+/// What the reader answers to the text with a case.
 fn print_plan(rt: &HostRuntime, text: &Text, case: &str) -> anyhow::Result<()> {
     let alloc: Global = rt.alloc();
     let octets = text.with(alloc, case)?;
     match Plan::read(alloc, octets.as_slice()) {
         Ok(_) => println!(rt; "plan")?,
         Err(error) => println!(rt; "{error}")?,
-    }
-    Ok(())
-}
-
-/// What the reader of nine lines answers to the text with a case.
-fn print_nine(rt: &HostRuntime, text: &Text, case: &str) -> anyhow::Result<()> {
-    let octets = text.with(rt.alloc(), case)?;
-    match TelecommandPlan::read(octets.as_slice()) {
-        Some(_) => println!(rt; "plan")?,
-        None => println!(rt; "none")?,
     }
     Ok(())
 }
@@ -46,7 +33,6 @@ fn step(rt: &HostRuntime, text: &mut Text, word: &str, rest: &str) -> anyhow::Re
         ";" => text.put_behind(alloc, rest)?,
         "fill" => text.fill(rest.parse().unwrap_or(0))?,
         "plan" => print_plan(rt, text, rest)?,
-        "nine" => print_nine(rt, text, rest)?,
         _ => println!(rt; "{word} {rest}")?,
     }
     Ok(())
@@ -59,7 +45,6 @@ fn main(rt: HostRuntime) -> anyhow::Result<()> {
         let line = line.as_str();
         let (word, rest) = line.split_once(' ').unwrap_or((line, ""));
         match (word, rest) {
-            ("show", "nine") => showing::print_nine(&rt, &text)?,
             ("show", _) => showing::print_plan(&rt, &text)?,
             ("place", place) => showing::print_channel(&rt, &text, place)?,
             (word, rest) => step(&rt, &mut text, word, rest)?,

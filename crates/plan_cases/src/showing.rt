@@ -1,6 +1,5 @@
 // What is read of a plan, a line for each of its lines.
 use crate::text::Text;
-use channel_book::TelecommandPlan;
 use sdls_base::{AnyLayout, Link};
 use std::alloc::{AllocError, Global};
 use unit_plan::{Plan, PlanKey, PlanSa};
@@ -57,7 +56,7 @@ fn print_heads(rt: &HostRuntime, plan: &Plan) -> anyhow::Result<()> {
     Ok(())
 }
 
-/// Prints all that is read of the text as a whole plan.
+/// Prints all that is read of the text.
 pub fn print_plan(rt: &HostRuntime, text: &Text) -> anyhow::Result<()> {
     let alloc: Global = rt.alloc();
     let plan = Plan::read(alloc, text.with(alloc, "")?.as_slice())?;
@@ -105,24 +104,4 @@ pub fn print_channel(rt: &HostRuntime, text: &Text, place: &str) -> anyhow::Resu
 /// The number as an octet, the greatest where it is none.
 fn octet(number: u16) -> u8 {
     u8::try_from(number).unwrap_or(u8::MAX)
-}
-
-/// Prints all that is read of the text as nine lines.
-pub fn print_nine(rt: &HostRuntime, text: &Text) -> anyhow::Result<()> {
-    let alloc: Global = rt.alloc();
-    let octets = text.with(alloc, "")?;
-    let Some(plan) = TelecommandPlan::read(octets.as_slice()) else {
-        println!(rt; "none")?;
-        return Ok(());
-    };
-    println!(rt; "{plan:?}")?;
-    let device = hex::encode(alloc, plan.device.as_slice())?;
-    let (slots, block, accept) = (plan.slots, plan.block, plan.accept);
-    println!(rt; "device {device} slots {slots} block {block} accept {accept}")?;
-    let (spacecraft, channel, map) = (plan.spacecraft, plan.channel, plan.map);
-    println!(rt; "spacecraft {spacecraft} channel {channel} map {map}")?;
-    let (key, spi, number) = (plan.key.get(), plan.spi.get(), plan.number);
-    let octets = hex::encode(alloc, plan.key_octets.as_slice())?;
-    println!(rt; "key {key} {octets} sa {spi} number {number}")?;
-    Ok(())
 }
