@@ -1,0 +1,225 @@
+//! The steps, and what they answer.
+
+use crate::answers::answers;
+use crate::words::{number_at, numbers, words};
+use sdls_outside::{Crash, MemSite, MemSource};
+use sdls_run::{Gate, Outcome, run};
+use std::alloc::{AllocError, Global};
+use std::mem;
+use std::sync::Wait;
+use std::thread::Threads;
+
+/// A gate that does nothing.
+struct Open;
+
+impl Gate for Open {
+    fn pass(&self, _lane: u8, _index: u64) {}
+
+    fn done(&self, _lane: u8, _index: u64) {}
+}
+
+/// What the word says a crash leaves.
+fn crash_of(word: &str) -> Crash {
+    match word {
+        "kept" => Crash::Kept,
+        "lost" => Crash::Lost,
+        _ => Crash::Filled(word.parse().unwrap_or(0)),
+    }
+}
+
+/// The text that was put, behind a line feed and without its own last one.
+fn text_put(alloc: Global, sunk: &[u8]) -> anyhow::Result<String> {
+    let put = String::from_utf8_lossy(alloc, sunk)?;
+    let text = put.as_str().trim_end();
+    if text.is_empty() {
+        return Ok(String::new(alloc));
+    }
+    Ok(format!(in alloc; "\n{text}")?)
+}
+
+/// What was gathered: a plan and an input, the calls that are to fail and the pieces of the source; the image as it lies, and the
+/// last site.
+#[derive(Drop)]
+pub struct Table {
+    plan: Vec<u8>,
+    input: Vec<u8>,
+    pieces: usize,
+    source: Vec<u64>,
+    failing: Vec<u64>,
+    image: Vec<u8>,
+    last: Option<MemSite>,
+}
+
+impl Table {
+    /// A table of which nothing was read.
+    pub fn new(alloc: Global) -> Table {
+        Table {
+            plan: Vec::new(alloc),
+            input: Vec::new(alloc),
+            pieces: usize::MAX,
+            source: Vec::new(alloc),
+            failing: Vec::new(alloc),
+            image: Vec::new(alloc),
+            last: None,
+        }
+    }
+
+    /// Gathers a line of a plan.
+    fn gather(&mut self, line: &str) -> Result<(), AllocError> {
+        self.plan.extend_from_slice(line.as_bytes())?;
+        self.plan.push(b'\n')?;
+        Ok(())
+    }
+
+    /// Gathers an item of the recorded input: kind, lane, link, zero, length, octets.
+    fn item(&mut self, kind: u8, lane: u8, link: u8, octets: &[u8]) -> Result<(), AllocError> {
+        let [high, low] = ((octets.len() % 65_536) as u16).to_be_bytes();
+        self.input
+            .extend_from_slice(&[kind, lane, link, 0, high, low])?;
+        self.input.extend_from_slice(octets)?;
+        Ok(())
+    }
+
+    /// Gathers the record that the line says: a lane, for a frame a link, and the octets, if there are any.
+    fn record(&mut self, alloc: Global, word: &str, rest: &str) -> anyhow::Result<String> {
+        let (kind, place) = match word {
+            "protect" => (1, 2),
+            "open" => (2, 2),
+            _ => (3, 1),
+        };
+        let octets = hex::decode(alloc, rest.split_whitespace().nth(place).unwrap_or(""))?;
+        let lane = (number_at(rest, 0) % 256) as u8;
+        let link = if kind == 3 {
+            0
+        } else {
+            (number_at(rest, 1) % 256) as u8
+        };
+        self.item(kind, lane, link, octets.as_slice())?;
+        Ok(String::new(alloc))
+    }
+
+    fn octets(&mut self, alloc: Global, rest: &str) -> anyhow::Result<String> {
+        let octets = hex::decode(alloc, rest)?;
+        self.input.extend_from_slice(octets.as_slice())?;
+        Ok(String::new(alloc))
+    }
+
+    /// Runs the words on the image, with this input.
+    fn command<R: Threads + Wait + Sync>(
+        &mut self,
+        rt: &R,
+        alloc: Global,
+        line: &str,
+        input: Vec<u8>,
+    ) -> anyhow::Result<String> {
+        let words = words(alloc, line)?;
+        let failing = mem::replace(&mut self.failing, Vec::new(alloc));
+        let broken = mem::replace(&mut self.source, Vec::new(alloc));
+        let image = mem::replace(&mut self.image, Vec::new(alloc));
+        let mut source = MemSource::new(input, self.pieces.max(1), broken);
+        let site = MemSite::new(alloc, image, failing, None);
+        let Outcome {
+            status,
+            site,
+            entries,
+        } = run(rt, alloc, words.as_slice(), &mut source, site, &Open);
+        let count = entries.len();
+        let text = match line {
+            "run" => answers(alloc, site.sunk())?,
+            _ => { text_put(alloc, site.sunk())? }
+        };
+        self.image = Vec::from_slice(alloc, site.image())?;
+        self.last = Some(site);
+        Ok(format!(in alloc; "status {status} entries {count}{text}")?)
+    }
+
+    fn init<R: Threads + Wait + Sync>(&mut self, rt: &R, alloc: Global) -> anyhow::Result<String> {
+        let plan = mem::replace(&mut self.plan, Vec::new(alloc));
+        self.command(rt, alloc, "init", plan)
+    }
+
+    fn other<R: Threads + Wait + Sync>(
+        &mut self,
+        rt: &R,
+        alloc: Global,
+        line: &str,
+    ) -> anyhow::Result<String> {
+        let input = mem::replace(&mut self.input, Vec::new(alloc));
+        self.command(rt, alloc, line, input)
+    }
+
+    fn crash(&mut self, alloc: Global, rest: &str) -> anyhow::Result<String> {
+        let Some(site) = self.last.take() else {
+            return Ok(format!(in alloc; "no site")?);
+        };
+        self.image = Vec::from_slice(alloc, site.crashed(crash_of(rest)).image())?;
+        Ok(format!(in alloc; "crashed")?)
+    }
+
+    fn set(&mut self, alloc: Global, rest: &str) -> anyhow::Result<String> {
+        let octets = hex::decode(alloc, rest.split_whitespace().nth(1).unwrap_or(""))?;
+        let at = usize::try_from(number_at(rest, 0)).unwrap_or(0);
+        for (i, octet) in octets.iter().enumerate() {
+            if let Some(place) = self.image.get_mut(at.saturating_add(i)) {
+                *place = *octet;
+            }
+        }
+        Ok(String::new(alloc))
+    }
+
+    fn setting(&mut self, alloc: Global, word: &str, rest: &str) -> anyhow::Result<String> {
+        match word {
+            "plan" => self.gather(rest)?,
+            "records" => self.input = Vec::from_slice(alloc, b"SDLSREC1")?,
+            "fence" => self.item(0, 0, 0, &[])?,
+            "pieces" => self.pieces = usize::try_from(number_at(rest, 0)).unwrap_or(usize::MAX),
+            "source" => self.source = numbers(alloc, rest)?,
+            "failing" => self.failing = numbers(alloc, rest)?,
+            _ => self.image.clear(),
+        }
+        Ok(String::new(alloc))
+    }
+
+    fn step<R: Threads + Wait + Sync>(
+        &mut self,
+        rt: &R,
+        alloc: Global,
+        line: &str,
+    ) -> anyhow::Result<String> {
+        let (word, rest) = line.split_once(' ').unwrap_or((line, ""));
+        match word {
+            "#" => Ok(format!(in alloc; "{line}")?),
+            "plan" | "records" | "fence" | "pieces" | "source" | "failing" | "lose" => self.setting(
+                alloc, word, rest,
+            ),
+            "protect" | "open" | "command" => self.record(alloc, word, rest),
+            "octets" => self.octets(alloc, rest),
+            "init" => self.init(rt, alloc),
+            "crash" => self.crash(alloc, rest),
+            "set" => self.set(alloc, rest),
+            "image" => {
+                let length = self.image.len();
+                Ok(format!(in alloc; "image of {length}")?)
+            }
+            _ => self.other(rt, alloc, line),
+        }
+    }
+
+    /// What a line answers.
+    pub fn answer<R: Threads + Wait + Sync>(
+        &mut self,
+        rt: &R,
+        alloc: Global,
+        line: &str,
+    ) -> anyhow::Result<String> {
+        let Some(("times", rest)) = line.split_once(' ') else {
+            return self.step(rt, alloc, line);
+        };
+        let (_, step) = rest.split_once(' ').unwrap_or((rest, ""));
+        let mut answer = String::new(alloc);
+        for _ in 0..number_at(rest, 0) {
+            answer = self.step(rt, alloc, step)?;
+        }
+        Ok(answer)
+    }
+}
