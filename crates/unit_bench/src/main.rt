@@ -1,16 +1,18 @@
-//! Measures what the unit's parts cost: draws, ciphers, the frame error control field, and frames. The
-//! figures go to standard error, since they differ from run to run.
+//! Measures what the unit and its parts cost: draws, ciphers, the frame error control field, frames, and
+//! frames that a unit protects. The figures go to standard error, since they differ from run to run.
 #![tactic(auto)]
 
 mod ciphers;
 mod draws;
 mod frames;
 mod rate;
+mod ready;
 
 use ciphers::measure_ciphers;
 use counter_table::Counters;
 use draws::{NoBook, TIMES, draw_many, draw_on_two};
 use frames::measure_frames;
+use ready::measure_ready;
 use std::io;
 use std::thread::join;
 use std::time::Instant;
@@ -42,5 +44,6 @@ fn main(rt: HostRuntime) -> io::Result<()> {
     eprintln!(rt; "the last numbers are {last} and {}", one.max(two))?;
     measure_ciphers(&rt)?;
     measure_frames(&rt)?;
+    measure_ready(&rt, rt.alloc())?;
     println!(rt; "measured")
 }

@@ -1,0 +1,159 @@
+// What a frame costs that a kept permit protects: on one thread, and on four that draw from one key at once.
+
+ghost use Rattle.std.specs.Prelude.{◌≡◌, ◌<◌, IfSome};
+ghost use Rattle.counter_table.specs.Worker.{view};
+ghost use Rattle.shared_unit.specs.Turn.{IsReady};
+
+use disk_journal::create;
+use sdls_outside::MemSite;
+use shared_unit::{PermitReply, Protected, Ready, Unit, Worker};
+use std::alloc::Global;
+use std::io;
+use std::rt::Clock;
+use std::sync::Wait;
+use std::thread::{Threads, join};
+use std::time::Instant;
+
+/// How many frames each thread protects: five times as many are fewer than the numbers of a block.
+const FRAMES: u64 = 12_000;
+
+const PERMITS: u64 = 1_000;
+
+/// A telecommand channel that one association protects, under a CMAC key, with the largest block.
+const PLAN: &[u8] = b"sdls 1
+device d0000001
+slots 16
+block 65536
+accept 1
+link 0 tc seg fecf -
+channel 0 0 42 5 3
+key 32769 active 2b7e151628aed2a6abf7158809cf4f3c
+sa 7 send cmac 32769 1 1 0
+";
+
+/// A frame of it in clear.
+const CLEAR: [u8; 32] = *b"\x00\x2a\x14\x1f\x09\xc3abcdefghijklmnopqrstuvwxyz";
+
+/// A unit over a site in memory, and its first worker.
+fn opened<R: Wait>(rt: &R, alloc: Global) -> Option<(Unit<MemSite>, Worker<MemSite>)>
+    ensures ready { IfSome result (λ made. IsReady made.0.counters made.0.plan made.1) }
+    ensures shares { IfSome result (λ made. (view made.1).numbers.shares ≡ 1024) }
+{
+    let mut site = MemSite::new(alloc, Vec::new(alloc), Vec::new(alloc), None);
+    create(&mut site, PLAN, 16).ok()?;
+    Unit::open(rt, alloc, site).ok()
+}
+
+/// Has a block of numbers reserved. Answers whether a frame was protected.
+fn fund<R: Wait>(rt: &R, unit: &Unit<MemSite>, worker: &mut Worker<MemSite>) -> bool
+    requires { IsReady unit.now.counters unit.now.plan worker.old }
+    ensures ready { IsReady unit.now.counters unit.now.plan worker.new }
+    ensures shares { (view worker.new).numbers.shares ≡ (view worker.old).numbers.shares }
+{
+    let mut out = [0; 2048];
+    match unit.protect(rt, worker, &mut None, 0, &CLEAR, &mut out) {
+        Protected::Done(_) => true,
+        _ => false,
+    }
+}
+
+/// Asks for permits, and answers how many were given.
+fn permit_many<R: Wait>(rt: &R, unit: &Unit<MemSite>, mut worker: Worker<MemSite>) -> u64
+    requires { IsReady unit.now.counters unit.now.plan worker }
+{
+    let mut count = 0;
+    for _ in 0..PERMITS {
+        if let PermitReply::Permit(_) = unit.permit(rt, &mut worker, 0, &CLEAR) {
+            count += 1;
+        }
+    }
+    count
+}
+
+/// Protects the frame again and again with one permit, and answers how often that was done.
+fn ready_many<R: Wait>(rt: &R, unit: &Unit<MemSite>, mut worker: Worker<MemSite>) -> u64
+    requires { IsReady unit.now.counters unit.now.plan worker }
+{
+    let mut out = [0; 2048];
+    let mut count = 0;
+    let PermitReply::Permit(permit) = unit.permit(rt, &mut worker, 0, &CLEAR) else {
+        return count;
+    };
+    for _ in 0..FRAMES {
+        match unit.protect_ready(&mut worker, &permit, &CLEAR, &mut out) {
+            Ready::Done(_) => count += 1,
+            _ => return count,
+        }
+    }
+    count
+}
+
+/// The same on two threads, which share the unit. Answers the lesser count.
+fn ready_on_two<R: Threads + Wait + Sync>(
+    rt: &R,
+    unit: &Unit<MemSite>,
+    one: Worker<MemSite>,
+    two: Worker<MemSite>,
+) -> u64
+    requires one { IsReady unit.now.counters unit.now.plan one }
+    requires two { IsReady unit.now.counters unit.now.plan two }
+{
+    let (one, two) = join(
+        rt,
+        move || ready_many(rt, unit, one),
+        move || ready_many(rt, unit, two),
+    );
+    one.min(two)
+}
+
+/// The same on four.
+fn ready_on_four<R: Threads + Wait + Sync>(
+    rt: &R,
+    unit: &Unit<MemSite>,
+    mut first: Worker<MemSite>,
+) -> u64
+    requires ready { IsReady unit.now.counters unit.now.plan first }
+    requires four { 3 < (view first).numbers.shares }
+{
+    let second = unit.split(&mut first);
+    let third = unit.split(&mut first);
+    let fourth = unit.split(&mut first);
+    let (one, two) = join(
+        rt,
+        move ||
+            requires one { IsReady unit.now.counters unit.now.plan first }
+            requires two { IsReady unit.now.counters unit.now.plan second }
+        { ready_on_two(rt, unit, first, second) },
+        move ||
+            requires one { IsReady unit.now.counters unit.now.plan third }
+            requires two { IsReady unit.now.counters unit.now.plan fourth }
+        { ready_on_two(rt, unit, third, fourth) },
+    );
+    one.min(two)
+}
+
+pub fn measure_ready<R: Threads + Wait + Sync + Clock + Eprint>(
+    rt: &R,
+    alloc: Global,
+) -> io::Result<()> {
+    let Some((unit, mut first)) = opened(rt, alloc) else {
+        return Err(io::ErrorKind::OutOfMemory.into());
+    };
+    let funded = fund(rt, &unit, &mut first);
+    let second = unit.split(&mut first);
+    let third = unit.split(&mut first);
+    let start = Instant::now(rt)?;
+    let permits = permit_many(rt, &unit, second);
+    let asking = start.elapsed(rt)?.as_nanos() / u128::from(PERMITS);
+    let start = Instant::now(rt)?;
+    let alone = ready_many(rt, &unit, third);
+    let one = start.elapsed(rt)?.as_nanos() / u128::from(FRAMES);
+    let start = Instant::now(rt)?;
+    let together = ready_on_four(rt, &unit, first);
+    let four = start.elapsed(rt)?.as_nanos() / u128::from(FRAMES);
+    eprintln!(rt; "a permit: {asking} ns ({permits} given, block reserved: {funded})")?;
+    eprintln!(rt;
+        "protect_ready, TC frame of {} octets, CMAC: {one} ns on one thread ({alone} done), {four} ns on each of four ({together} done by each)",
+        CLEAR.len()
+    )
+}
