@@ -10,6 +10,7 @@
 //! `sdls_outside`, so that a clause can speak of what they hold.
 #![tactic(auto)]
 
+mod laws;
 mod top;
 
 pub use frame_workers::Gate;

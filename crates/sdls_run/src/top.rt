@@ -2,13 +2,17 @@ ghost use Rattle.std.specs.Prelude.{◌≡◌, ℕ, ◌+◌, List, [], IsTrue};
 ghost use Rattle.sdls_outside.specs.Faults.{Rose};
 ghost use Rattle.sdls_outside.specs.Intake.{TakesAtMost};
 ghost use Rattle.record_io.specs.Reading.{SourceSeen};
-ghost use Rattle.run_ends.specs.Lives.{EndsAndLives};
+ghost use Rattle.unit_plan.specs.PlanLines.{PlanLines};
+ghost use Rattle.unit_state.specs.declared.state.State.{State};
+ghost use Rattle.run_ends.specs.Call.{CallSeen, ShowsAtEntry};
+ghost use Rattle.run_ends.specs.Lives.{EndsAndLives, KeepsLivesReading};
 ghost use Rattle.run_steps.specs.Ran.{call_seen};
 ghost use Rattle.sdls_plain.specs.Answer.{Ends, EndsCheck, usage_text};
 ghost use Rattle.sdls_plain.specs.Init.{EndsInit};
 ghost use Rattle.sdls_plain.specs.Stat.{EndsStat};
 ghost use Rattle.sdls_plain.specs.Words.{IsCheck, IsInit, IsNoCommand, IsRun, IsStat};
 
+use crate::laws::stat_keeps_lives;
 use frame_workers::Gate;
 use record_io::status::USAGE;
 use sdls_outside::{Site, Source};
@@ -80,6 +84,12 @@ pub fn run<R: Threads + Wait + Sync, S: Source, O: Site + Send, G: Gate + Sync>(
     ensures stat { IsStat words.now
         → EndsStat O.told (O.trace site) (O.trace result.site) (Rose (O.faults site) (O.faults result.site)) result.status }
     ensures unread { IsStat words.now → source.new ≡ source.old }
+    // It goes on with each life that left the image at the entry, as a run without records.
+    ensures stat_lives { IsStat words.now → (plan : PlanLines) (state : State) →
+        let before : SourceSeen = record { told = S.told; left = S.left source.old; faults = S.faults source.old } in
+        let after : SourceSeen = record { told = S.told; left = S.left source.new; faults = S.faults source.new } in
+        let call : CallSeen = call_seen O.told O.trace O.faults O.put_faults site result.site before after result.status result.entries.items in
+        ShowsAtEntry call plan state → KeepsLivesReading call }
 
     ensures usage { IsNoCommand words.now → ¬ IsRun words.now
         → Ends O.told (O.trace site) (O.trace result.site) (Rose (O.faults site) (O.faults result.site))
@@ -90,5 +100,6 @@ pub fn run<R: Threads + Wait + Sync, S: Source, O: Site + Send, G: Gate + Sync>(
     if is_run(words) {
         return run_input(rt, alloc, source, site, gate);
     }
+    stat_keeps_lives();
     run_plain(alloc, words, source, site)
 }
