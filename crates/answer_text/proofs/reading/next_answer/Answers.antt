@@ -1,0 +1,46 @@
+use Rattle.std.proofs.Common.{◌++◌, ◌<◌, ◌≤◌, length, None, ap, ◌∙◌, rules}
+use Rattle.answer_text.specs.Standing.{Stands, StandsBehind, header_of_head}
+use Rattle.answer_text.proofs.Fronts.{short_left, filled_left, nothing_left, some_left, stands_behind, ok_more}
+use Rattle.answer_text.proofs.reading.next_answer.Goals as goal
+
+pub returns-in-Err : goal.returns-in-Err
+unfolding Stands
+returns-in-Err g c told = tt
+
+pub returns-in-Ok-eq0 : goal.returns-in-Ok-eq0
+unfolding Stands
+returns-in-Ok-eq0 g c told =
+    let taken = c.in-Ok-eq0.ensures.collected told in
+    search (rules, nothing_left, taken)
+
+pub returns-in-Ok : goal.returns-in-Ok
+unfolding Stands
+returns-in-Ok g c told =
+    let taken = c.in-Ok.ensures.collected told in
+    let short : c.in-Ok.count < length c.collect.new.buffer = search rules in
+    let left = short_left _ _ _ _ taken short in
+    let some : 0 < c.in-Ok.count = search rules in
+    (some_left _ _ left some, (None, search (rules, left)))
+
+pub returns-then-head-gt-MOST_BODY : goal.returns-then-head-gt-MOST_BODY
+unfolding Stands
+returns-then-head-gt-MOST_BODY g c told =
+    let taken = c.in-Ok.ensures.collected told in
+    let filled : length c.collect.new.buffer ≤ c.in-Ok.count = search rules in
+    let left = filled_left _ _ _ _ taken filled in
+    let rest = g.S.Source.left c.collect.new.source in
+    (header_of_head c.head_of-head.result, rest, left ∙ ap (λ xs. xs ++ rest) c.head_of-head.ensures.spelled, c.if-head-gt-MOST_BODY.true)
+
+pub returns-else-head-gt-MOST_BODY : goal.returns-else-head-gt-MOST_BODY
+returns-else-head-gt-MOST_BODY g c told =
+    let taken = c.in-Ok.ensures.collected told in
+    let filled : length c.collect.new.buffer ≤ c.in-Ok.count = search rules in
+    let left = filled_left _ _ _ _ taken filled in
+    let middle = g.S.Source.left c.collect.new.source in
+    let header = header_of_head c.head_of-head.result in
+    let old = g.S.Source.left c.args.source.now in
+    let new = g.S.Source.left c.take_body.new.source in
+    let front = left ∙ ap (λ xs. xs ++ middle) c.head_of-head.ensures.spelled in
+    ok_more c.take_body.result (StandsBehind header middle new) (Stands old new)
+    (λ next behind. stands_behind header old middle new next c.head_of-head.ensures.widths c.if-head-gt-MOST_BODY.false front behind)
+    (c.take_body.ensures told)

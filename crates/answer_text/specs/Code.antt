@@ -1,0 +1,78 @@
+-- The codes of answers, and what their details name (profile).
+use Rattle.std.specs.Prelude.{ℕ, ◌==◌, codes, List, [], ◌∷◌, Option, find}
+use Rattle.answer_text.specs.declared.codes.Code.{Code}
+use Rattle.answer_text.specs.declared.codes.Code.TheVariants.{Protected, Accepted, Clear, Done, Refused, Layout, Channel, Spi, Direction, State, Coverage, Mac, Number, Exhausted, JournalFull, SiteFault, Stopped, NoMemory, End}
+
+abbrev pub code_octet : Code → ℕ
+code_octet Protected = 0x00
+code_octet Accepted = 0x01
+code_octet Clear = 0x02
+code_octet Done = 0x03
+code_octet Refused = 0x04
+code_octet Layout = 0x10
+code_octet Channel = 0x11
+code_octet Spi = 0x12
+code_octet Direction = 0x13
+code_octet State = 0x14
+code_octet Coverage = 0x15
+code_octet Mac = 0x16
+code_octet Number = 0x17
+code_octet Exhausted = 0x20
+code_octet JournalFull = 0x30
+code_octet SiteFault = 0x31
+code_octet Stopped = 0x32
+code_octet NoMemory = 0x33
+code_octet End = 0xff
+
+abbrev pub code_word : Code → List ℕ
+code_word Protected = codes "protected"
+code_word Accepted = codes "accepted"
+code_word Clear = codes "clear"
+code_word Done = codes "done"
+code_word Refused = codes "refused"
+code_word Layout = codes "layout"
+code_word Channel = codes "channel"
+code_word Spi = codes "spi"
+code_word Direction = codes "direction"
+code_word State = codes "state"
+code_word Coverage = codes "coverage"
+code_word Mac = codes "mac"
+code_word Number = codes "number"
+code_word Exhausted = codes "exhausted"
+code_word JournalFull = codes "journal-full"
+code_word SiteFault = codes "site-fault"
+code_word Stopped = codes "stopped"
+code_word NoMemory = codes "no-memory"
+code_word End = codes "end"
+
+abbrev pub all_codes : List Code
+all_codes = Protected ∷ Accepted ∷ Clear ∷ Done ∷ Refused ∷ Layout ∷ Channel ∷ Spi ∷ Direction ∷ State ∷ Coverage ∷ Mac
+    ∷ Number ∷ Exhausted ∷ JournalFull ∷ SiteFault ∷ Stopped ∷ NoMemory ∷ End ∷ []
+
+-- the code with this octet
+unfoldable pub code_at : ℕ → Option Code
+code_at octet = find (λ code. code_octet code == octet) all_codes
+
+-- the details of a frame that breaks its layout: the checks of the layouts, or that the plan has no such link
+abbrev pub layout_details : List (ℕ × List ℕ)
+layout_details =
+    (0, codes "NoLink") ∷ (1, codes "Short") ∷ (2, codes "Long") ∷ (3, codes "LengthField") ∷ (4, codes "Version")
+    ∷ (5, codes "Spare") ∷ (6, codes "SecondaryHeader") ∷ (7, codes "Fecf") ∷ []
+
+-- the details of an association that is not operational: its state, or none where none is operational
+abbrev pub state_details : List (ℕ × List ℕ)
+state_details = (0, codes "none") ∷ (1, codes "unkeyed") ∷ (2, codes "keyed") ∷ (3, codes "operational") ∷ []
+
+-- the details of a refused command
+abbrev pub refusal_details : List (ℕ × List ℕ)
+refusal_details =
+    (0x11, codes "AlreadyLoaded") ∷ (0x12, codes "DuplicateKey") ∷ (0x13, codes "BookFull") ∷ (0x14, codes "KeyInState")
+    ∷ (0x15, codes "KeyInUse") ∷ (0x16, codes "UnknownKey") ∷ (0x21, codes "UnknownSpi") ∷ (0x22, codes "SpiTaken")
+    ∷ (0x23, codes "SaInState") ∷ (0x24, codes "ChannelTaken") ∷ (0x25, codes "KeyNotActive") ∷ (0x26, codes "BelowFloor")
+    ∷ (0x27, codes "TableFull") ∷ (0x28, codes "WrongSuite") ∷ (0x29, codes "PastEnd") ∷ (0x2a, codes "UnknownChannel")
+    ∷ (0x2b, codes "KeyTaken") ∷ (0x31, codes "BadTag") ∷ (0x32, codes "BadItems") ∷ (0x33, codes "Exhausted")
+    ∷ (0x34, codes "PduFault") ∷ (0x35, codes "NotMaster") ∷ (0x36, codes "NotSession") ∷ []
+
+-- what the number of End is, by its status; where it is nothing the number is 0
+abbrev pub end_numbers : List (ℕ × List ℕ)
+end_numbers = (3, codes "offset") ∷ (4, codes "faults") ∷ (5, codes "faults") ∷ (7, codes "offset") ∷ []

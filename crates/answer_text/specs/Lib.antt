@@ -1,0 +1,6 @@
+pub mod Words
+pub mod Code
+pub mod Reply
+pub mod Line
+pub mod Standing
+pub mod Listing

@@ -1,0 +1,103 @@
+-- Answers as text, a line an answer (profile).
+use Rattle.std.specs.Prelude.{◌≡◌, ⊤, ℕ, ◌≤◌, ◌==◌, if◌then◌else◌, codes, decimal, List, [], ◌∷◌, ◌++◌, length, IsSomeAnd, MatchOption}
+use Rattle.record_io.specs.declared.answers.Answer.{Answer}
+use Rattle.ep_codec.specs.declared.reply_pdu.ReplyPdu.{ReplyPdu}
+use Rattle.ep_codec.specs.ReplyPdu.{IsReplyPdu}
+use Rattle.ep_codec.specs.Field.{number_at}
+use Rattle.answer_text.specs.declared.codes.Code.{Code}
+use Rattle.answer_text.specs.declared.codes.Code.TheVariants.{Protected, Accepted, Clear, Done, Refused, Layout, Channel, Spi, Direction, State, Coverage, Mac, Number, Exhausted, JournalFull, SiteFault, Stopped, NoMemory, End}
+use Rattle.answer_text.specs.declared.error.TextError.{TextError}
+use Rattle.answer_text.specs.declared.error.TextError.TheVariants as errors
+use Rattle.answer_text.specs.Code.{code_at, code_word, layout_details, state_details, refusal_details, end_numbers}
+use Rattle.answer_text.specs.Reply.{reply_name, reply_values}
+use Rattle.answer_text.specs.Words.{named, octets_word, word_of}
+
+-- a number of a key, and the position by its name
+abbrev pub numbered : Answer → List ℕ → List (List ℕ)
+numbered answer position = named (codes "key") answer.key ++ (named (codes "number") answer.number ++ named position answer.position)
+
+-- there is neither a key nor a body
+pub record IsBare (answer : Answer) : Type 0 where
+  pub no_key : answer.key ≡ 0
+  pub no_body : answer.body ≡ []
+
+-- there is nothing but a position
+pub record IsPlain (answer : Answer) : Type 0 where
+  pub no_detail : answer.detail ≡ 0
+  pub no_number : answer.number ≡ 0
+  pub bare : IsBare answer
+
+-- the number that was drawn for a command, with its key; where there is no key there is no number
+abbrev pub drawn : Answer → List (List ℕ)
+drawn answer = if answer.key == 0 then [] else codes "drawn" ∷ decimal answer.key ∷ decimal answer.number ∷ []
+
+-- the highest number that was accepted, and the width of the window
+unfoldable pub window_words : List ℕ → List (List ℕ)
+window_words body = named (codes "high") (number_at 0 body) ++ named (codes "width") (number_at 8 body)
+
+-- of a command that was done: the reply, and between its name and its values the position and what was drawn
+abbrev pub done_words : Answer → ReplyPdu → List (List ℕ)
+done_words answer reply = reply_name reply ++ (named (codes "entry") answer.position ++ (drawn answer ++ reply_values reply))
+
+-- there is nothing but a number and a position
+pub record IsCounting (answer : Answer) : Type 0 where
+  pub no_detail : answer.detail ≡ 0
+  pub bare : IsBare answer
+
+-- the number by its name, and the count of entries
+abbrev pub counting_words : Answer → List ℕ → List (List ℕ)
+counting_words answer name = named name answer.number ++ named (codes "entries") answer.position
+
+-- The answer is one of this code, and P holds of the words of its values.
+unfoldable pub HasValues : Code → Answer → (List (List ℕ) → Type 0) → Type 0
+HasValues Protected answer P =
+    (answer.detail ≡ 0) × P (numbered answer (codes "epoch") ++ codes "frame" ∷ octets_word answer.body ∷ [])
+HasValues Accepted answer P =
+    (answer.detail ≡ 0) × P (numbered answer (codes "entry") ++ codes "data" ∷ octets_word answer.body ∷ [])
+HasValues Clear answer P = IsPlain answer × P (named (codes "position") answer.position)
+HasValues Done answer P = (answer.detail ≡ 0) × (answer.key ≡ 0 → answer.number ≡ 0)
+    × ((reply : ReplyPdu) × IsReplyPdu reply answer.body
+    × P (done_words answer reply))
+HasValues Refused answer P = IsBare answer × IsSomeAnd (word_of refusal_details answer.detail)
+    (λ refusal. P (named refusal answer.number ++ named (codes "entry") answer.position))
+HasValues Layout answer P = IsBare answer × (answer.number ≡ 0) × IsSomeAnd (word_of layout_details answer.detail)
+    (λ fault. P (fault ∷ named (codes "position") answer.position))
+HasValues Channel answer P = IsPlain answer × P (named (codes "position") answer.position)
+HasValues Spi answer P = IsPlain answer × P (named (codes "entry") answer.position)
+HasValues Direction answer P = IsPlain answer × P (named (codes "entry") answer.position)
+HasValues State answer P = IsBare answer × (answer.number ≡ 0) × IsSomeAnd (word_of state_details answer.detail)
+    (λ state. P (state ∷ named (codes "position") answer.position))
+HasValues Coverage answer P = IsPlain answer × P (named (codes "entry") answer.position)
+HasValues Mac answer P = IsPlain answer × P (named (codes "entry") answer.position)
+HasValues Number answer P = (answer.detail ≡ 0) × (length answer.body ≡ 16)
+    × P (numbered answer (codes "entry") ++ window_words answer.body)
+HasValues Exhausted answer P = (answer.detail ≡ 0) × (answer.body ≡ []) × P (numbered answer (codes "epoch"))
+HasValues JournalFull answer P = IsCounting answer × P (counting_words answer (codes "slots"))
+HasValues SiteFault answer P = IsCounting answer × P (counting_words answer (codes "faults"))
+HasValues Stopped answer P = IsCounting answer × P (counting_words answer (codes "faults"))
+HasValues NoMemory answer P = IsPlain answer × (answer.position ≡ 0) × P []
+HasValues End answer P = IsBare answer × (answer.detail ≤ 8)
+    × (let words = named (codes "status") answer.detail ++ named (codes "entries") answer.position in
+    MatchOption (word_of end_numbers answer.detail) ((answer.number ≡ 0) × P words) (λ name. P (words ++ named name answer.number)))
+
+-- the first words: the number of the record and the code, and of End the code alone
+abbrev pub first_words : ℕ → Code → List (List ℕ)
+first_words index End = codes "end" ∷ []
+first_words index code = decimal index ∷ code_word code ∷ []
+
+-- The answer is one of the formats, and P holds of the words of its line.
+abbrev pub HasLine : ℕ → Answer → (List (List ℕ) → Type 0) → Type 0
+HasLine index answer P = MatchOption (code_at answer.code) ⊥ (λ code. HasValues code answer (λ values. P (first_words index code ++ values)))
+
+-- what is answered is want of memory, or that the fact does not hold
+abbrev pub LacksUnlessNoMemory : Type 0 → TextError → Type 0
+LacksUnlessNoMemory fact errors.NoMemory = ⊤
+LacksUnlessNoMemory fact errors.NoAnswer = ¬ fact
+
+-- the answer is none of this code, or memory was wanting
+abbrev pub LacksValues : Code → Answer → TextError → Type 0
+LacksValues code answer error = LacksUnlessNoMemory (HasValues code answer (λ _. ⊤)) error
+
+-- the answer is none of the formats, or memory was wanting
+abbrev pub LacksLine : ℕ → Answer → TextError → Type 0
+LacksLine index answer error = LacksUnlessNoMemory (HasLine index answer (λ _. ⊤)) error

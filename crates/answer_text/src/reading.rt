@@ -1,0 +1,93 @@
+//! The answers of a source.
+ghost use Rattle.std.specs.Prelude.{◌≡◌, ◌≤◌, IsTrue, IfOk, length};
+ghost use Rattle.record_io.specs.Answers.{HasWidths, header_octets};
+ghost use Rattle.answer_text.specs.Standing.{Stands, StandsBehind, header_of_head};
+
+use crate::fields::{double_word_at, number_at, word_at};
+use record_io::{ANSWER_HEADER, Answer};
+use sdls_base::{NoMemory, Octets};
+use sdls_outside::{Failed, Source, collect};
+use std::alloc::Global;
+
+/// The most octets of an answer's body.
+pub const MOST_BODY: u32 = 2048;
+
+/// What stands next in a source of answers.
+#[derive(Drop)]
+pub enum NextAnswer {
+    /// A whole answer, by its fields.
+    Answer(Answer),
+    /// Nothing.
+    End,
+    /// An answer that the end of the octets cuts.
+    Cut,
+    /// A header that says more octets than the body of an answer has.
+    Long,
+    SourceFault,
+}
+
+/// What the octets before the body say.
+#[derive(Drop)]
+pub(crate) struct Head {
+    pub code: u8,
+    pub detail: u8,
+    pub key: u16,
+    pub len: u32,
+    pub position: u64,
+    pub number: u64,
+}
+
+fn head_of(header: &[u8]) -> Head
+    requires { length header.now ≡ ANSWER_HEADER }
+    ensures spelled { header.now ≡ header_octets (header_of_head result) }
+    ensures widths { HasWidths (header_of_head result) }
+{
+    Head {
+        code: header[0],
+        detail: header[1],
+        key: word_at(header, 2),
+        len: double_word_at(header, 4),
+        position: number_at(header, 8),
+        number: number_at(header, 16),
+    }
+}
+
+/// Takes the body of an answer.
+fn take_body<S: Source>(alloc: Global, source: &mut S, head: Head) -> Result<NextAnswer, NoMemory>
+    requires { head.len ≤ MOST_BODY }
+    ensures { IsTrue S.told → IfOk result (StandsBehind (header_of_head head) (S.left source.old) (S.left source.new)) }
+{
+    let mut body = vec![in alloc; 0; head.len as usize]?;
+    match collect(source, body.as_mut_slice()) {
+        Err(Failed) => Ok(NextAnswer::SourceFault),
+        Ok(count) if count < body.len() => Ok(NextAnswer::Cut),
+        Ok(_) => Ok(NextAnswer::Answer(Answer {
+            code: head.code,
+            detail: head.detail,
+            key: head.key,
+            position: head.position,
+            number: head.number,
+            body: Octets::new(body),
+        })),
+    }
+}
+
+/// Takes the next answer. Of octets that are no answer's it takes the header at most.
+pub fn next_answer<S: Source>(alloc: Global, source: &mut S) -> Result<NextAnswer, NoMemory>
+    // What is told stands next in the source, and what was taken is no more than a whole answer.
+    ensures { IsTrue S.told → IfOk result (Stands (S.left source.old) (S.left source.new)) }
+{
+    let mut header = [0; ANSWER_HEADER];
+    match collect(source, &mut header) {
+        Err(Failed) => Ok(NextAnswer::SourceFault),
+        Ok(0) => Ok(NextAnswer::End),
+        Ok(count) if count < ANSWER_HEADER => Ok(NextAnswer::Cut),
+        Ok(_) => {
+            let head = head_of(&header);
+            if head.len > MOST_BODY {
+                return Ok(NextAnswer::Long);
+            }
+            take_body(alloc, source, head)
+        }
+    }
+}
