@@ -3,8 +3,8 @@ use Rattle.std.specs.Prelude.{◌≡◌, ⊤, ℕ, ◌++◌, ◌⊎◌, IsTrue, 
 use Rattle.record_io.specs.Input.{item_octets}
 use Rattle.input_text.specs.declared.line.Line.{Line}
 use Rattle.input_text.specs.Line.{Says, is_skipped, line_item}
-use Rattle.sdls_text.specs.declared.records.End.{End}
-use Rattle.sdls_text.specs.declared.records.End.TheVariants.{Done, LineFault, LongLine, SourceFault, OutputFault, NoMemory}
+use Rattle.sdls_text.specs.declared.ends.End.{End}
+use Rattle.sdls_text.specs.declared.ends.End.TheVariants.{Done, LineFault, LongLine, CutAnswer, NoAnswer, SourceFault, OutputFault, NoMemory}
 
 -- a line that is skipped adds nothing, and any other the octets of the item that it says
 abbrev pub Adds : List ℕ → List ℕ → List ℕ → Type 0
@@ -16,6 +16,8 @@ abbrev pub EndsAt : ℕ → List ℕ → End → Type 0
 EndsAt number text Done = ⊥
 EndsAt number text (LineFault at fault) = (at ≡ number) × ((line : Line) → Says text line → ⊥)
 EndsAt number text (LongLine at) = ⊥
+EndsAt number text (CutAnswer offset) = ⊥
+EndsAt number text (NoAnswer offset) = ⊥
 EndsAt number text SourceFault = ⊥
 EndsAt number text OutputFault = ⊥
 EndsAt number text NoMemory = ⊤

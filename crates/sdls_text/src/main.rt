@@ -1,11 +1,17 @@
-//! The program `sdls_text`: recorded input as text. `sdls_text records` reads lines from standard input and puts the
-//! recorded input that they say. What a line says is the matter of `input_text`.
+//! The program `sdls_text`: recorded input and answers as text. `sdls_text records` reads lines from standard input and puts
+//! the recorded input that they say; `sdls_text answers` reads answers and puts their lines. What a line says is the matter
+//! of `input_text` and `answer_text`.
 #![tactic(auto)]
 
+mod answers;
+mod ends;
 mod lines;
+mod putting;
 mod records;
 
-use records::{End, put_records};
+use answers::put_answers;
+use ends::End;
+use records::put_records;
 use sdls_outside::StdSource;
 use std::alloc::AllocError;
 use std::process::ExitCode;
@@ -13,14 +19,24 @@ use std::rt::Env;
 use std::{env, io};
 
 const USAGE: &str = "usage: sdls_text records < TEXT > INPUT
-Puts the recorded input of `sdls run` that the lines of the text say:
+       sdls_text answers < ANSWERS > TEXT
+records puts the recorded input of `sdls run` that the lines of the text say:
   fence
   protect LANE LINK OCTETS
   open LANE LINK OCTETS
   command LANE octets OCTETS
   command LANE PROCEDURE VALUE..
-An empty line and a line that begins with # are skipped. docs/FORMATS.md has the procedures.
-Status: 0 done, 1 a line is at fault, 2 usage, 4 the input failed, 5 the output failed, 6 no memory.";
+An empty line and a line that begins with # are skipped.
+answers puts a line for each answer of `sdls run`, with the number of its record.
+docs/FORMATS.md has the procedures, and the lines of answers.
+Status: 0 done, 1 a line or an answer is at fault, 2 usage, 4 the input failed, 5 the output failed, 6 no memory.";
+
+/// What the words ask for.
+#[derive(Clone, Copy)]
+enum Mode {
+    Records,
+    Answers,
+}
 
 /// The words after the program's name. Words that are not text are no command, so they are read as no words.
 fn words<R: Env + AllocGlobal>(rt: &R) -> Result<Vec<String>, AllocError> {
@@ -31,9 +47,16 @@ fn words<R: Env + AllocGlobal>(rt: &R) -> Result<Vec<String>, AllocError> {
     }
 }
 
-/// Whether this is the one word that is served.
-fn is_records(words: &[String]) -> bool {
-    words.len() == 1 && words[0].as_str() == "records"
+/// What is asked for by the one word that there is to be.
+fn asked(words: &[String]) -> Option<Mode> {
+    if words.len() != 1 {
+        return None;
+    }
+    match words[0].as_str() {
+        "records" => Some(Mode::Records),
+        "answers" => Some(Mode::Answers),
+        _ => None,
+    }
 }
 
 /// Says on standard error why the run ends, and answers its status.
@@ -42,6 +65,8 @@ fn told(rt: &HostRuntime, end: End) -> io::Result<u8> {
         End::Done => return Ok(0),
         End::LineFault(line, fault) => eprintln!(rt; "sdls_text: line {line}: {fault}")?,
         End::LongLine(line) => eprintln!(rt; "sdls_text: line {line}: more than 8192 octets")?,
+        End::CutAnswer(offset) => eprintln!(rt; "sdls_text: the answer at octet {offset} is cut")?,
+        End::NoAnswer(offset) => eprintln!(rt; "sdls_text: no answer at octet {offset}")?,
         End::SourceFault => eprintln!(rt; "sdls_text: the input failed")?,
         End::OutputFault => eprintln!(rt; "sdls_text: the output failed")?,
         End::NoMemory => eprintln!(rt; "sdls_text: no memory")?,
@@ -53,12 +78,15 @@ fn main(rt: HostRuntime) -> ExitCode {
     let Ok(words) = words(&rt) else {
         return ExitCode::from(6);
     };
-    if !is_records(words.as_slice()) {
+    let Some(mode) = asked(words.as_slice()) else {
         let _ = eprintln!(rt; "{USAGE}");
         return ExitCode::from(2);
-    }
+    };
     let mut source = StdSource::new(rt.stdin());
-    let end = put_records(&rt, rt.alloc(), &mut source);
+    let end = match mode {
+        Mode::Records => put_records(&rt, rt.alloc(), &mut source),
+        Mode::Answers => put_answers(&rt, rt.alloc(), &mut source),
+    };
     let status = end.status();
     match told(&rt, end) {
         Ok(status) => ExitCode::from(status),

@@ -4,52 +4,13 @@ ghost use Rattle.record_io.specs.Input.{item_octets};
 ghost use Rattle.input_text.specs.Line.{IsLine, line_item};
 ghost use Rattle.sdls_text.specs.TextLine.{Adds, EndsAt};
 
+use crate::ends::End;
 use crate::lines::{NextLine, next_line};
-use input_text::{Line, LineError, LineFault, put_item, read_line};
+use crate::putting::{put, put_full};
+use input_text::{Line, LineError, put_item, read_line};
 use sdls_base::NoMemory;
 use sdls_outside::Source;
 use std::alloc::Global;
-use std::io;
-use std::io::Write;
-
-/// So many octets are put together, or a few more.
-const PIECE: usize = 4096;
-
-/// Why the text was read no further.
-#[derive(Drop)]
-pub enum End {
-    /// It was read to its end.
-    Done,
-    /// This line, counted from 1, says nothing.
-    LineFault(u64, LineFault),
-    /// This line, counted from 1, is too long.
-    LongLine(u64),
-    SourceFault,
-    OutputFault,
-    NoMemory,
-}
-
-impl End {
-    /// The exit status.
-    pub fn status(&self) -> u8 {
-        match self {
-            End::Done => 0,
-            End::LineFault(_, _) | End::LongLine(_) => 1,
-            End::SourceFault => 4,
-            End::OutputFault => 5,
-            End::NoMemory => 6,
-        }
-    }
-}
-
-/// Puts what stands in the buffer, which is empty then.
-fn put(rt: &impl Print, out: &mut Vec<u8>) -> io::Result<()> {
-    let mut stdout = io::writer(rt);
-    stdout.write_all(out.as_slice())?;
-    stdout.flush()?;
-    out.clear();
-    Ok(())
-}
 
 /// Adds the octets of a line's item. After want of memory nothing was added.
 fn add(alloc: Global, out: &mut Vec<u8>, line: &Line) -> Result<(), NoMemory>
@@ -94,7 +55,7 @@ fn read_lines<S: Source>(rt: &impl Print, alloc: Global, source: &mut S, out: &m
             Ok(NextLine::SourceFault) => return End::SourceFault,
             Err(_) => return End::NoMemory,
         }
-        if out.len() >= PIECE && put(rt, out).is_err() {
+        if put_full(rt, out).is_err() {
             return End::OutputFault;
         }
     }
