@@ -66,24 +66,32 @@ fault_whole left_old left_new buffer count first sized collects is =
     ]
 
 -- what ends `init` for the text that was collected ends it for the input
-pub ends_of_input : (left_old left_new buffer : List ℕ) (count : ℕ) (source_told site_told : Bool) (source_rose site_rose : Type 0)
+pub ends_of_input : (left_old left_new buffer : List ℕ) (count : ℕ) (source_told site_told : Bool)
+    → (unread source_rose site_rose : Type 0)
     → (old new : Trace) (end : InitEnd) → length buffer ≡ 65537 → (IsTrue source_told → Collects left_old left_new buffer count)
-    → InitEnds (λ input. input ≡ take count buffer) ⊥ site_told site_rose old new end
-    → InitEnds (λ input. IsTrue source_told → input ≡ left_old) source_rose site_told site_rose old new end
-ends_of_input left_old left_new buffer count source_told site_told source_rose site_rose old new Made sized collects ends =
+    → InitEnds (λ input. input ≡ take count buffer) ⊥ ⊥ site_told site_rose old new end
+    → InitEnds (λ input. IsTrue source_told → input ≡ left_old) unread source_rose site_told site_rose old new end
+ends_of_input left_old left_new buffer count source_told site_told unread source_rose site_rose old new Made sized collects ends =
     let read : plan_of (take count buffer) ≡ Ok ends.1 = subst (λ (text : List ℕ). plan_of text ≡ Ok ends.1) ends.3 ends.4.read in
     (ends.0, ends.1, ends.2, λ told. ends.3 ∙ said_whole left_old left_new buffer count ends.1 sized (collects told) read, ends.4, ends.5)
-ends_of_input left_old left_new buffer count source_told site_told source_rose site_rose old new ImageExists sized collects ends = ends
-ends_of_input left_old left_new buffer count true site_told source_rose site_rose old new (Refused first) sized collects ends = (
+ends_of_input left_old left_new buffer count source_told site_told unread source_rose site_rose old new ImageExists sized collects ends =
+    absurd ends.0
+ends_of_input left_old left_new buffer count true site_told unread source_rose site_rose old new (Refused first) sized collects ends = (
   left_old,
   λ told. refl,
   fault_whole left_old left_new buffer count first sized (collects refl)
       (subst (λ (text : List ℕ). IsPlanFault text first) ends.1 ends.2),
   ends.3,
 )
-ends_of_input left_old left_new buffer count false site_told source_rose site_rose old new (Refused first) sized collects ends =
+ends_of_input left_old left_new buffer count false site_told unread source_rose site_rose old new (Refused first) sized collects ends =
     (ends.0, λ told. absurd (false≢true told), ends.2, ends.3)
-ends_of_input left_old left_new buffer count source_told site_told source_rose site_rose old new SourceFault sized collects ends =
+ends_of_input left_old left_new buffer count source_told site_told unread source_rose site_rose old new SourceFault sized collects ends =
     absurd ends.0
-ends_of_input left_old left_new buffer count source_told site_told source_rose site_rose old new SiteFault sized collects ends = ends
-ends_of_input left_old left_new buffer count source_told site_told source_rose site_rose old new NoMemory sized collects ends = ends
+ends_of_input left_old left_new buffer count source_told site_told unread source_rose site_rose old new SiteFault sized collects ends = elim ends.1 [
+  | inl never ↦ absurd never
+  | inr made ↦
+      let read : plan_of (take count buffer) ≡ Ok made.1 = subst (λ (text : List ℕ). plan_of text ≡ Ok made.1) made.3 made.4.read in
+      (ends.0, inr (made.0, made.1, made.2,
+        λ told. made.3 ∙ said_whole left_old left_new buffer count made.1 sized (collects told) read, made.4, made.5))
+]
+ends_of_input left_old left_new buffer count source_told site_told unread source_rose site_rose old new NoMemory sized collects ends = ends

@@ -64,21 +64,24 @@ init_status SiteFault = statuses.SITE_FAULT
 init_status NoMemory = statuses.NO_MEMORY
 
 -- Why `init` ends so, and what stands before the text is put: the initial image of the plan, on the disk,
--- or all as it was. After a fault of the site anything may stand. Want of memory needs no cause.
-abbrev pub InitEnds : (List ℕ → Type 0) → Type 0 → Bool → Type 0 → Trace → Trace → InitEnd → Type 0
-InitEnds IsInput source_rose told site_rose old new Made = (input : List ℕ) × (plan : PlanLines) × (first : State)
+-- or all as it was. After a fault of the site anything may stand. Nothing is taken of the source (`unread`) where an image
+-- exists; of a fault of the site too, unless there is no image and the input is a plan. Want of memory needs no cause.
+abbrev pub InitEnds : (List ℕ → Type 0) → Type 0 → Type 0 → Bool → Type 0 → Trace → Trace → InitEnd → Type 0
+InitEnds IsInput unread source_rose told site_rose old new Made = (input : List ℕ) × (plan : PlanLines) × (first : State)
     × IsInput input × SaysPlan input plan first × (IsTrue told → ((old.now.image ≡ []) × IsSynced new.now
     × (new.now.image ≡ initial_image input plan.slots) × (new.now.sunk ≡ old.now.sunk)))
-InitEnds IsInput source_rose told site_rose old new ImageExists =
-    IsTrue told → ((old.now.image ≢ []) × (new ≡ old))
-InitEnds IsInput source_rose told site_rose old new (Refused fault) = (input : List ℕ)
+InitEnds IsInput unread source_rose told site_rose old new ImageExists =
+    unread × (IsTrue told → ((old.now.image ≢ []) × (new ≡ old)))
+InitEnds IsInput unread source_rose told site_rose old new (Refused fault) = (input : List ℕ)
     × IsInput input × IsPlanFault input fault × (IsTrue told → ((old.now.image ≡ []) × (new ≡ old)))
-InitEnds IsInput source_rose told site_rose old new SourceFault = source_rose × (IsTrue told → new ≡ old)
-InitEnds IsInput source_rose told site_rose old new SiteFault = site_rose
-InitEnds IsInput source_rose told site_rose old new NoMemory = IsTrue told → new ≡ old
+InitEnds IsInput unread source_rose told site_rose old new SourceFault =
+    source_rose × (IsTrue told → ((old.now.image ≡ []) × (new ≡ old)))
+InitEnds IsInput unread source_rose told site_rose old new SiteFault = site_rose × (unread ⊎ ((input : List ℕ)
+    × (plan : PlanLines) × (first : State) × IsInput input × SaysPlan input plan first × (IsTrue told → old.now.image ≡ [])))
+InitEnds IsInput unread source_rose told site_rose old new NoMemory = IsTrue told → ((old.now.image ≡ []) × (new ≡ old))
 
 -- how `init` ends: for one of these reasons, and then with the text and the status that are due
-abbrev pub EndsInit : (List ℕ → Type 0) → Type 0 → Bool → Trace → Trace → Type 0 → ℕ → Type 0
-EndsInit IsInput source_rose told old new site_rose status = (middle : Trace) × (end : InitEnd)
-    × InitEnds IsInput source_rose told site_rose old middle end
+abbrev pub EndsInit : (List ℕ → Type 0) → Type 0 → Type 0 → Bool → Trace → Trace → Type 0 → ℕ → Type 0
+EndsInit IsInput unread source_rose told old new site_rose status = (middle : Trace) × (end : InitEnd)
+    × InitEnds IsInput unread source_rose told site_rose old middle end
     × Ends told middle new site_rose (init_text end) (init_status end) status

@@ -58,7 +58,7 @@ fn plan_of(alloc: Global, text: &[u8]) -> Result<Plan, PlanError>
 /// Makes the image of the plan that this text is, where there is none.
 fn make_image<O: Site>(alloc: Global, site: &mut O, text: &[u8]) -> InitEnd
     requires { IsTrue O.told → (O.trace site.old).now.image ≡ [] }
-    ensures ends { InitEnds (λ input. input ≡ text.now) ⊥ O.told (Rose (O.faults site.old) (O.faults site.new))
+    ensures ends { InitEnds (λ input. input ≡ text.now) ⊥ ⊥ O.told (Rose (O.faults site.old) (O.faults site.new))
         (O.trace site.old) (O.trace site.new) result }
     ensures later { O.faults site.old ≤ O.faults site.new }
 {
@@ -90,7 +90,7 @@ fn collect_and_make<S: Source, O: Site>(
 ) -> InitEnd
     requires empty { IsTrue O.told → (O.trace site.old).now.image ≡ [] }
     requires room { length room.old ≡ MOST_OCTETS + 1 }
-    ensures ends { InitEnds (λ input. IsTrue S.told → input ≡ S.left source.old)
+    ensures ends { InitEnds (λ input. IsTrue S.told → input ≡ S.left source.old) (source.new ≡ source.old)
         (Rose (S.faults source.old) (S.faults source.new)) O.told (Rose (O.faults site.old) (O.faults site.new))
         (O.trace site.old) (O.trace site.new) result }
     ensures taken { IsTrue S.told → TakesAtMost (MOST_OCTETS + 1) (S.left source.old) (S.left source.new) }
@@ -105,7 +105,7 @@ fn collect_and_make<S: Source, O: Site>(
 /// Reads the input to its end, and makes the image of the plan that it is.
 fn read_and_make<S: Source, O: Site>(alloc: Global, source: &mut S, site: &mut O) -> InitEnd
     requires { IsTrue O.told → (O.trace site.old).now.image ≡ [] }
-    ensures ends { InitEnds (λ input. IsTrue S.told → input ≡ S.left source.old)
+    ensures ends { InitEnds (λ input. IsTrue S.told → input ≡ S.left source.old) (source.new ≡ source.old)
         (Rose (S.faults source.old) (S.faults source.new)) O.told (Rose (O.faults site.old) (O.faults site.new))
         (O.trace site.old) (O.trace site.new) result }
     ensures taken { IsTrue S.told → TakesAtMost (MOST_OCTETS + 1) (S.left source.old) (S.left source.new) }
@@ -119,7 +119,7 @@ fn read_and_make<S: Source, O: Site>(alloc: Global, source: &mut S, site: &mut O
 
 /// Asks for the image, reads the plan and makes the image of it, in this order.
 fn initialize<S: Source, O: Site>(alloc: Global, source: &mut S, site: &mut O) -> InitEnd
-    ensures ends { InitEnds (λ input. IsTrue S.told → input ≡ S.left source.old)
+    ensures ends { InitEnds (λ input. IsTrue S.told → input ≡ S.left source.old) (source.new ≡ source.old)
         (Rose (S.faults source.old) (S.faults source.new)) O.told (Rose (O.faults site.old) (O.faults site.new))
         (O.trace site.old) (O.trace site.new) result }
     ensures taken { IsTrue S.told → TakesAtMost (MOST_OCTETS + 1) (S.left source.old) (S.left source.new) }
@@ -200,7 +200,7 @@ fn put_end<O: Site>(site: &mut O, end: InitEnd) -> Result<(), Failed>
 
 /// Runs `init`.
 pub(crate) fn run_init<S: Source, O: Site>(alloc: Global, source: &mut S, mut site: O) -> Outcome<O>
-    ensures ends { EndsInit (λ input. IsTrue S.told → input ≡ S.left source.old)
+    ensures ends { EndsInit (λ input. IsTrue S.told → input ≡ S.left source.old) (source.new ≡ source.old)
         (Rose (S.faults source.old) (S.faults source.new)) O.told (O.trace site) (O.trace result.site)
         (Rose (O.faults site) (O.faults result.site)) result.status }
     ensures taken { IsTrue S.told → TakesAtMost (MOST_OCTETS + 1) (S.left source.old) (S.left source.new) }

@@ -76,7 +76,7 @@ pub fn run<R: Threads + Wait + Sync, S: Source, O: Site + Send, G: Gate + Sync>(
         → TakesAtMost (GREATEST_LENGTH + 1) (S.left source.old) (S.left source.new) }
 
     ensures init { IsInit words.now → EndsInit
-        (λ input. IsTrue S.told → input ≡ S.left source.old) (Rose (S.faults source.old) (S.faults source.new))
+        (λ input. IsTrue S.told → input ≡ S.left source.old) (source.new ≡ source.old) (Rose (S.faults source.old) (S.faults source.new))
         O.told (O.trace site) (O.trace result.site) (Rose (O.faults site) (O.faults result.site)) result.status }
     ensures plan_taken { IsTrue S.told → IsInit words.now
         → TakesAtMost (MOST_OCTETS + 1) (S.left source.old) (S.left source.new) }
