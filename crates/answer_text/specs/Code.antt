@@ -1,28 +1,31 @@
 -- The codes of answers, and what their details name (profile).
 use Rattle.std.specs.Prelude.{ℕ, ◌==◌, codes, List, [], ◌∷◌, Option, find}
+use Rattle.record_io.specs.declared.code.TheConstants.{ACCEPTED, CHANNEL, CLEAR, COVERAGE, DIRECTION, DONE, END, EXHAUSTED, JOURNAL_FULL, LAYOUT, MAC, NO_MEMORY, NUMBER, PROTECTED, REFUSED, SITE_FAULT, SPI, STATE, STOPPED}
+use Rattle.record_io.specs.declared.status.TheConstants.{MALFORMED, NO_STATE, SOURCE_FAULT}
+use Rattle.record_io.specs.declared.status.TheConstants as statuses
 use Rattle.answer_text.specs.declared.codes.Code.{Code}
 use Rattle.answer_text.specs.declared.codes.Code.TheVariants.{Protected, Accepted, Clear, Done, Refused, Layout, Channel, Spi, Direction, State, Coverage, Mac, Number, Exhausted, JournalFull, SiteFault, Stopped, NoMemory, End}
 
 abbrev pub code_octet : Code → ℕ
-code_octet Protected = 0x00
-code_octet Accepted = 0x01
-code_octet Clear = 0x02
-code_octet Done = 0x03
-code_octet Refused = 0x04
-code_octet Layout = 0x10
-code_octet Channel = 0x11
-code_octet Spi = 0x12
-code_octet Direction = 0x13
-code_octet State = 0x14
-code_octet Coverage = 0x15
-code_octet Mac = 0x16
-code_octet Number = 0x17
-code_octet Exhausted = 0x20
-code_octet JournalFull = 0x30
-code_octet SiteFault = 0x31
-code_octet Stopped = 0x32
-code_octet NoMemory = 0x33
-code_octet End = 0xff
+code_octet Protected = PROTECTED
+code_octet Accepted = ACCEPTED
+code_octet Clear = CLEAR
+code_octet Done = DONE
+code_octet Refused = REFUSED
+code_octet Layout = LAYOUT
+code_octet Channel = CHANNEL
+code_octet Spi = SPI
+code_octet Direction = DIRECTION
+code_octet State = STATE
+code_octet Coverage = COVERAGE
+code_octet Mac = MAC
+code_octet Number = NUMBER
+code_octet Exhausted = EXHAUSTED
+code_octet JournalFull = JOURNAL_FULL
+code_octet SiteFault = SITE_FAULT
+code_octet Stopped = STOPPED
+code_octet NoMemory = NO_MEMORY
+code_octet End = END
 
 abbrev pub code_word : Code → List ℕ
 code_word Protected = codes "protected"
@@ -75,4 +78,5 @@ refusal_details =
 
 -- what the number of End is, by its status; where it is nothing the number is 0
 abbrev pub end_numbers : List (ℕ × List ℕ)
-end_numbers = (3, codes "offset") ∷ (4, codes "faults") ∷ (5, codes "faults") ∷ (7, codes "offset") ∷ []
+end_numbers =
+    (MALFORMED, codes "offset") ∷ (SOURCE_FAULT, codes "faults") ∷ (statuses.SITE_FAULT, codes "faults") ∷ (NO_STATE, codes "offset") ∷ []

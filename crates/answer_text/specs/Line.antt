@@ -4,13 +4,15 @@ use Rattle.record_io.specs.declared.answers.Answer.{Answer}
 use Rattle.ep_codec.specs.declared.reply_pdu.ReplyPdu.{ReplyPdu}
 use Rattle.ep_codec.specs.ReplyPdu.{IsReplyPdu}
 use Rattle.ep_codec.specs.Field.{number_at}
+use Rattle.record_io.specs.declared.status.TheConstants.{SESSION_FULL}
 use Rattle.answer_text.specs.declared.codes.Code.{Code}
 use Rattle.answer_text.specs.declared.codes.Code.TheVariants.{Protected, Accepted, Clear, Done, Refused, Layout, Channel, Spi, Direction, State, Coverage, Mac, Number, Exhausted, JournalFull, SiteFault, Stopped, NoMemory, End}
 use Rattle.answer_text.specs.declared.error.TextError.{TextError}
 use Rattle.answer_text.specs.declared.error.TextError.TheVariants as errors
 use Rattle.answer_text.specs.Code.{code_at, code_word, layout_details, state_details, refusal_details, end_numbers}
 use Rattle.answer_text.specs.Reply.{reply_name, reply_values}
-use Rattle.answer_text.specs.Words.{named, octets_word, word_of}
+use Rattle.text_words.specs.Words.{octets_word}
+use Rattle.answer_text.specs.Words.{named, word_of}
 
 -- a number of a key, and the position by its name
 abbrev pub numbered : Answer → List ℕ → List (List ℕ)
@@ -76,7 +78,7 @@ HasValues JournalFull answer P = IsCounting answer × P (counting_words answer (
 HasValues SiteFault answer P = IsCounting answer × P (counting_words answer (codes "faults"))
 HasValues Stopped answer P = IsCounting answer × P (counting_words answer (codes "faults"))
 HasValues NoMemory answer P = IsPlain answer × (answer.position ≡ 0) × P []
-HasValues End answer P = IsBare answer × (answer.detail ≤ 8)
+HasValues End answer P = IsBare answer × (answer.detail ≤ SESSION_FULL)
     × (let words = named (codes "status") answer.detail ++ named (codes "entries") answer.position in
     MatchOption (word_of end_numbers answer.detail) ((answer.number ≡ 0) × P words) (λ name. P (words ++ named name answer.number)))
 

@@ -2,6 +2,11 @@
 ghost use Rattle.std.specs.Prelude.{◌≡◌};
 ghost use Rattle.answer_text.specs.Code.{code_at, code_word};
 
+use record_io::code::{
+    ACCEPTED, CHANNEL, CLEAR, COVERAGE, DIRECTION, DONE, END, EXHAUSTED, JOURNAL_FULL, LAYOUT, MAC,
+    NO_MEMORY, NUMBER, PROTECTED, REFUSED, SITE_FAULT, SPI, STATE, STOPPED,
+};
+
 /// What an answer is.
 #[derive(Clone, Copy, Debug, PartialEq, Eq)]
 pub(crate) enum Code {
@@ -33,25 +38,25 @@ impl Code {
         ensures { result ≡ code_at octet }
     {
         match octet {
-            0x00 => Some(Code::Protected),
-            0x01 => Some(Code::Accepted),
-            0x02 => Some(Code::Clear),
-            0x03 => Some(Code::Done),
-            0x04 => Some(Code::Refused),
-            0x10 => Some(Code::Layout),
-            0x11 => Some(Code::Channel),
-            0x12 => Some(Code::Spi),
-            0x13 => Some(Code::Direction),
-            0x14 => Some(Code::State),
-            0x15 => Some(Code::Coverage),
-            0x16 => Some(Code::Mac),
-            0x17 => Some(Code::Number),
-            0x20 => Some(Code::Exhausted),
-            0x30 => Some(Code::JournalFull),
-            0x31 => Some(Code::SiteFault),
-            0x32 => Some(Code::Stopped),
-            0x33 => Some(Code::NoMemory),
-            0xFF => Some(Code::End),
+            PROTECTED => Some(Code::Protected),
+            ACCEPTED => Some(Code::Accepted),
+            CLEAR => Some(Code::Clear),
+            DONE => Some(Code::Done),
+            REFUSED => Some(Code::Refused),
+            LAYOUT => Some(Code::Layout),
+            CHANNEL => Some(Code::Channel),
+            SPI => Some(Code::Spi),
+            DIRECTION => Some(Code::Direction),
+            STATE => Some(Code::State),
+            COVERAGE => Some(Code::Coverage),
+            MAC => Some(Code::Mac),
+            NUMBER => Some(Code::Number),
+            EXHAUSTED => Some(Code::Exhausted),
+            JOURNAL_FULL => Some(Code::JournalFull),
+            SITE_FAULT => Some(Code::SiteFault),
+            STOPPED => Some(Code::Stopped),
+            NO_MEMORY => Some(Code::NoMemory),
+            END => Some(Code::End),
             _ => None,
         }
     }

@@ -4,6 +4,8 @@ ghost use Rattle.std.specs.Option.{option_copied};
 ghost use Rattle.answer_text.specs.Words.{word_of};
 ghost use Rattle.answer_text.specs.Code.{layout_details, state_details, refusal_details, end_numbers};
 
+use record_io::status::{MALFORMED, NO_STATE, SITE_FAULT, SOURCE_FAULT};
+
 pub(crate) fn layout_detail(detail: u8) -> Option<&'static [u8]>
     ensures { option_copied result ≡ word_of layout_details detail }
 {
@@ -68,8 +70,8 @@ pub(crate) fn end_number(status: u8) -> Option<&'static [u8]>
     ensures { option_copied result ≡ word_of end_numbers status }
 {
     match status {
-        3 | 7 => Some(b"offset"),
-        4 | 5 => Some(b"faults"),
+        MALFORMED | NO_STATE => Some(b"offset"),
+        SOURCE_FAULT | SITE_FAULT => Some(b"faults"),
         _ => None,
     }
 }

@@ -6,14 +6,12 @@
 mod codes;
 mod details;
 mod error;
-mod fields;
 mod line;
 mod listing;
 mod putting;
 mod reading;
 mod reply;
 mod values;
-mod words;
 
 pub use error::TextError;
 pub use line::put_answer;

@@ -5,11 +5,12 @@ ghost use Rattle.answer_text.specs.Line.{HasLine, LacksLine, first_words};
 
 use crate::codes::Code;
 use crate::error::TextError;
-use crate::putting::{put_decimal, put_octets, put_word};
+use crate::putting::put_word;
 use crate::values::put_values;
 use record_io::Answer;
 use sdls_base::NoMemory;
 use std::alloc::Global;
+use text_words::{put_decimal, put_octets};
 
 /// Puts the first words of a line: the number of the record and the code, and of End the code alone.
 fn put_first(text: &mut Vec<u8>, index: u64, code: Code) -> Result<(), NoMemory>

@@ -1,25 +1,11 @@
 //! Words, each put behind a text.
 ghost use Rattle.std.specs.Prelude.{◌≡◌, ◌++◌, [], ◌∷◌, decimal, OnOk};
-ghost use Rattle.answer_text.specs.Words.{named, octets_word, spaced};
+ghost use Rattle.text_words.specs.Words.{octets_word};
+ghost use Rattle.answer_text.specs.Words.{named, spaced};
 
-use itoa::Buffer;
 use sdls_base::NoMemory;
 use std::alloc::Global;
-
-pub(crate) fn put_octets(text: &mut Vec<u8>, octets: &[u8]) -> Result<(), NoMemory>
-    ensures { OnOk result (text.new.items ≡ text.old.items ++ octets.now) }
-{
-    text.extend_from_slice(octets)?;
-    Ok(())
-}
-
-/// Puts a number in decimal digits.
-pub(crate) fn put_decimal(text: &mut Vec<u8>, number: u64) -> Result<(), NoMemory>
-    ensures { OnOk result (text.new.items ≡ text.old.items ++ decimal number) }
-{
-    let mut buffer = Buffer::new();
-    put_octets(text, buffer.format(number).as_bytes())
-}
+use text_words::{put_decimal, put_octets};
 
 /// Puts a word behind a space.
 pub(crate) fn put_word(text: &mut Vec<u8>, word: &[u8]) -> Result<(), NoMemory>

@@ -3,7 +3,7 @@ ghost use Rattle.std.specs.Prelude.{◌≡◌, ◌≤◌, IsTrue, IfOk, length};
 ghost use Rattle.record_io.specs.Answers.{HasWidths, header_octets};
 ghost use Rattle.answer_text.specs.Standing.{Stands, StandsBehind, header_of_head};
 
-use crate::fields::{double_word_at, number_at, word_at};
+use ep_codec::{double_word_at, number_at, word_at};
 use record_io::{ANSWER_HEADER, Answer};
 use sdls_base::{NoMemory, Octets};
 use sdls_outside::{Failed, Source, collect};

@@ -6,10 +6,10 @@ ghost use Rattle.answer_text.specs.Words.{spaced};
 ghost use Rattle.answer_text.specs.Reply.{reply_name, reply_values, row_words, sealed_words};
 
 use crate::putting::{put_named, put_named_octets, put_number, put_word};
-use crate::words::{direction_word, key_state_word, sa_state_word, suite_word};
 use ep_codec::ReplyPdu;
 use sdls_base::{Direction, KeyId, KeyState, NoMemory, SaState, Spi, Suite};
 use std::alloc::Global;
+use text_words::{direction_word, key_state_word, sa_state_word, suite_word};
 
 /// Puts the procedure, and of an inventory the count of the keys.
 #[tactic(auto, unfolding(crate::specs::Reply::reply_name))]

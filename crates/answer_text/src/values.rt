@@ -9,11 +9,11 @@ ghost use Rattle.answer_text.specs.Line.{HasValues, IsBare, IsCounting, IsPlain,
 use crate::codes::Code;
 use crate::details::{end_number, layout_detail, refusal_detail, state_detail};
 use crate::error::TextError;
-use crate::fields::number_at;
 use crate::putting::{put_named, put_named_octets, put_number, put_word};
 use crate::reply::{put_reply_name, put_reply_values};
-use ep_codec::{PduError, ReplyPdu, read_reply};
+use ep_codec::{PduError, ReplyPdu, number_at, read_reply};
 use record_io::Answer;
+use record_io::status::SESSION_FULL;
 use sdls_base::NoMemory;
 use std::alloc::Global;
 
@@ -228,7 +228,7 @@ fn end(text: &mut Vec<u8>, answer: &Answer) -> Result<(), TextError>
     ensures put { OnOk result (HasValues codes.End answer.now (λ values. text.new.items ≡ text.old.items ++ spaced values)) }
     ensures lacks { IfErr result (LacksValues codes.End answer.now) }
 {
-    if !is_bare(answer) || answer.detail > 8 {
+    if !is_bare(answer) || answer.detail > SESSION_FULL {
         return Err(TextError::NoAnswer);
     }
     let name = end_number(answer.detail);

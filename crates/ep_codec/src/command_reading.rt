@@ -11,7 +11,7 @@ ghost use Rattle.ep_codec.specs.Field.{count_check};
 
 use crate::command::Command;
 use crate::field_lists::{channels, keys};
-use crate::fields::{TAG, VECTOR, array, direction, key, number, spi, suite, window, word};
+use crate::fields::{TAG, VECTOR, array, direction, key, number_at, spi, suite, window, word_at};
 use crate::pdu_error::PduError;
 use crate::procedure::Procedure;
 use sdls_base::{NewSa, Octets};
@@ -47,8 +47,8 @@ fn inventory(octets: &[u8]) -> Result<Command, PduError>
     ensures { Judges result (command_checks Inventory octets.now)
         (λ command. command ≡ command_at Inventory octets.now) }
 {
-    let first = word(octets, 3);
-    let last = word(octets, 5);
+    let first = word_at(octets, 3);
+    let last = word_at(octets, 5);
     if last < first {
         return Err(PduError::Fault(5));
     }
@@ -118,7 +118,7 @@ fn rekey(octets: &[u8]) -> Result<Command, PduError>
     Ok(Command::Rekey {
         spi,
         key,
-        number: number(octets, 7),
+        number: number_at(octets, 7),
     })
 }
 
@@ -129,7 +129,7 @@ fn set_number(octets: &[u8]) -> Result<Command, PduError>
 {
     Ok(Command::SetNumber {
         spi: spi(octets, 3)?,
-        number: number(octets, 5),
+        number: number_at(octets, 5),
     })
 }
 

@@ -4,7 +4,7 @@ ghost use Rattle.ep_codec.specs.Check.{Judges};
 ghost use Rattle.ep_codec.specs.Field.{word_at, double_word_at, number_at, octet_at, is_key, key_check, spi_check, window_check, code_check, sa_state_of, direction_of, suite_of};
 
 use crate::pdu_error::PduError;
-use sdls_base::{Direction, KeyId, SaState, Spi, Suite};
+use sdls_base::{Direction, KeyId, MOST_WINDOW, SaState, Spi, Suite};
 
 /// The octets of a vector.
 pub(crate) const VECTOR: usize = 12;
@@ -18,21 +18,24 @@ pub(crate) const KEY: usize = 2;
 /// The octets around what is sealed: the key, the vector, and the tag.
 pub(crate) const SEALED_EXTRA: usize = KEY + VECTOR + TAG;
 
-pub(crate) fn word(octets: &[u8], at: usize) -> u16
+/// The number of 2 octets at a place, the most significant octet first.
+pub fn word_at(octets: &[u8], at: usize) -> u16
     requires { at + 2 ≤ length octets.now }
     ensures { result ≡ word_at at octets.now }
 {
     u16::from_be_bytes([octets[at], octets[at + 1]])
 }
 
-pub(crate) fn double_word(octets: &[u8], at: usize) -> u32
+/// The number of 4 octets at a place, the most significant octet first.
+pub fn double_word_at(octets: &[u8], at: usize) -> u32
     requires { at + 4 ≤ length octets.now }
     ensures { result ≡ double_word_at at octets.now }
 {
     u32::from_be_bytes([octets[at], octets[at + 1], octets[at + 2], octets[at + 3]])
 }
 
-pub(crate) fn number(octets: &[u8], at: usize) -> u64
+/// The number of 8 octets at a place, the most significant octet first.
+pub fn number_at(octets: &[u8], at: usize) -> u64
     requires { at + 8 ≤ length octets.now }
     ensures { result ≡ number_at at octets.now }
 {
@@ -71,7 +74,7 @@ pub(crate) fn key(octets: &[u8], at: usize) -> Result<KeyId, PduError>
     requires offset { at < 2 ^ 32 }
     ensures { Judges result (key_check at octets.now ∷ []) (λ key. key ≡ word_at at octets.now) }
 {
-    key_of(word(octets, at), at)
+    key_of(word_at(octets, at), at)
 }
 
 pub(crate) fn spi(octets: &[u8], at: usize) -> Result<Spi, PduError>
@@ -79,7 +82,7 @@ pub(crate) fn spi(octets: &[u8], at: usize) -> Result<Spi, PduError>
     requires offset { at < 2 ^ 32 }
     ensures { Judges result (spi_check at octets.now ∷ []) (λ spi. spi ≡ word_at at octets.now) }
 {
-    Spi::new(word(octets, at)).ok_or(PduError::Fault(at as u32))
+    Spi::new(word_at(octets, at)).ok_or(PduError::Fault(at as u32))
 }
 
 pub(crate) fn window(octets: &[u8], at: usize) -> Result<u64, PduError>
@@ -88,8 +91,8 @@ pub(crate) fn window(octets: &[u8], at: usize) -> Result<u64, PduError>
     ensures { Judges result (window_check at octets.now ∷ [])
         (λ window. window ≡ number_at at octets.now) }
 {
-    match number(octets, at) {
-        window @ 1..=0x1_0000_0000 => Ok(window),
+    match number_at(octets, at) {
+        window @ 1..=MOST_WINDOW => Ok(window),
         _ => Err(PduError::Fault(at as u32)),
     }
 }

@@ -4,7 +4,7 @@ ghost use Rattle.ep_codec.specs.Check.{Judges};
 ghost use Rattle.ep_codec.specs.MessageFault.{header_checks, procedure_in};
 ghost use Rattle.ep_codec.specs.Procedure.{has_length};
 
-use crate::fields::word;
+use crate::fields::word_at;
 use crate::pdu_error::PduError;
 use crate::procedure::{PduType, Procedure};
 
@@ -21,7 +21,7 @@ pub(crate) fn procedure(octets: &[u8], pdu_type: PduType) -> Result<Procedure, P
         return Err(PduError::Fault(octets.len() as u32));
     };
     let procedure = pdu_type.procedure(*tag).ok_or(PduError::Fault(0))?;
-    let bits = usize::from(word(octets, 1));
+    let bits = usize::from(word_at(octets, 1));
     if bits % 8 != 0 || !pdu_type.has_length(procedure, bits / 8) {
         return Err(PduError::Fault(1));
     }

@@ -23,8 +23,10 @@ mod writing;
 
 pub use command::Command;
 pub use command_writing::write_pdu;
+pub use fields::{double_word_at, number_at, word_at};
 pub use laws::{command_without_fault, one_command, one_reply, reply_without_fault};
 pub use pdu_error::PduError;
+pub use procedure::Procedure;
 pub use reading::{read_pdu, read_reply};
 pub use reply_pdu::ReplyPdu;
 pub use reply_writing::write_reply;

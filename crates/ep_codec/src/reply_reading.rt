@@ -11,7 +11,8 @@ ghost use Rattle.ep_codec.specs.Field.{word_at, sealing_key_check, mac_key_check
 
 use crate::field_lists::rows;
 use crate::fields::{
-    TAG, VECTOR, array, direction, double_word, key, number, sa_state, spi, suite, window, word,
+    TAG, VECTOR, array, direction, double_word_at, key, number_at, sa_state, spi, suite, window,
+    word_at,
 };
 use crate::pdu_error::PduError;
 use crate::procedure::Procedure;
@@ -67,7 +68,7 @@ fn verify_cmac(octets: &[u8]) -> Result<ReplyPdu, PduError>
 {
     Ok(ReplyPdu::VerifyCmac {
         key: mac_key(octets, 3)?,
-        number: double_word(octets, 5),
+        number: double_word_at(octets, 5),
         mac: array(octets, 9),
     })
 }
@@ -90,7 +91,7 @@ fn inventory(alloc: Global, octets: &[u8]) -> Result<ReplyPdu, PduError>
         (λ reply. reply ≡ reply_at Inventory octets.now) }
 {
     Ok(ReplyPdu::Inventory {
-        total: word(octets, 3),
+        total: word_at(octets, 3),
         rows: rows(alloc, &octets[5..], 5)?,
     })
 }
@@ -105,7 +106,7 @@ fn inner_header(octets: &[u8]) -> Result<(), PduError>
     if octets[3] != 1 {
         return Err(PduError::Fault(3));
     }
-    if usize::from(word(octets, 4)) != 8 * (octets.len() - 6) {
+    if usize::from(word_at(octets, 4)) != 8 * (octets.len() - 6) {
         return Err(PduError::Fault(4));
     }
     Ok(())
@@ -133,7 +134,7 @@ fn read_number(octets: &[u8]) -> Result<ReplyPdu, PduError>
 {
     Ok(ReplyPdu::ReadNumber {
         spi: spi(octets, 3)?,
-        number: number(octets, 5),
+        number: number_at(octets, 5),
     })
 }
 
@@ -147,7 +148,7 @@ fn status(octets: &[u8]) -> Result<ReplyPdu, PduError>
         state: sa_state(octets, 5)?,
         direction: direction(octets, 6)?,
         suite: suite(octets, 7)?,
-        key: KeyId::new(word(octets, 8)),
+        key: KeyId::new(word_at(octets, 8)),
         window: window(octets, 10)?,
     })
 }

@@ -1,44 +1,15 @@
 -- The words of the commands (profile).
 use Rattle.std.specs.Prelude.{⊤, ℕ, decimal, codes, map, List, [], ◌∷◌}
 use Rattle.hex.specs.Hex.{encode_lower, IsBytes}
-use Rattle.sdls_base.specs.declared.states.Direction.{Direction}
-use Rattle.sdls_base.specs.declared.states.Direction.TheVariants.{Send, Receive}
-use Rattle.sdls_base.specs.declared.states.Suite.{Suite}
-use Rattle.sdls_base.specs.declared.states.Suite.TheVariants.{Cmac, Gcm}
 use Rattle.sdls_base.specs.declared.change.NewSa.{NewSa}
 use Rattle.ep_codec.specs.Command.{IsInBounds, HasTypes}
-use Rattle.input_text.specs.declared.names.Name.{Name}
-use Rattle.input_text.specs.declared.names.Name.TheVariants as names
+use Rattle.ep_codec.specs.declared.procedure.Procedure.{Procedure}
+use Rattle.ep_codec.specs.declared.procedure.Procedure.TheVariants as procedures
+use Rattle.ep_codec.specs.CommandReading.{command_procedure}
+use Rattle.text_words.specs.Words.{direction_word, suite_word}
 use Rattle.ep_codec.specs.declared.command.Command.{Command}
 use Rattle.ep_codec.specs.declared.command.Command.TheVariants.{Rekeying, Activate, Deactivate, Verify, Destroy, Inventory, Compose, ReadNumber, Create, Delete, SetWindow, Rekey, Expire, SetNumber, Start, Stop, Status}
 use Rattle.input_text.specs.Name.{name_word}
-
-abbrev pub direction_word : Direction → List ℕ
-direction_word Send = codes "send"
-direction_word Receive = codes "receive"
-
-abbrev pub suite_word : Suite → List ℕ
-suite_word Cmac = codes "cmac"
-suite_word Gcm = codes "gcm"
-
-abbrev pub name_of : Command → Name
-name_of (Rekeying master vector sealed tag) = names.Rekeying
-name_of (Activate keys) = names.Activate
-name_of (Deactivate keys) = names.Deactivate
-name_of (Verify key challenge) = names.Verify
-name_of (Destroy keys) = names.Destroy
-name_of (Inventory first last) = names.Inventory
-name_of (Compose master keys) = names.Compose
-name_of (ReadNumber spi) = names.ReadNumber
-name_of (Create sa) = names.Create
-name_of (Delete spi) = names.Delete
-name_of (SetWindow spi window) = names.SetWindow
-name_of (Rekey spi key number) = names.Rekey
-name_of (Expire spi) = names.Expire
-name_of (SetNumber spi number) = names.SetNumber
-name_of (Start spi) = names.Start
-name_of (Stop spi) = names.Stop
-name_of (Status spi) = names.Status
 
 -- the values of a command, a word each, in the order of its message: numbers are decimal, octets hexadecimal
 unfoldable pub value_words : Command → List (List ℕ)
@@ -64,7 +35,7 @@ value_words (Status spi) = decimal spi ∷ []
 
 -- its name, and its values
 abbrev pub command_words : Command → List (List ℕ)
-command_words command = name_word (name_of command) ∷ value_words command
+command_words command = name_word (command_procedure command) ∷ value_words command
 
 -- what it carries as octets are octets
 unfoldable pub HasOctets : Command → Type 0
@@ -92,22 +63,22 @@ pub record IsCommand (command : Command) : Type 0 where
   pub bounds : IsInBounds command
   pub octets : HasOctets command
 
--- P holds of each command of this name
-abbrev pub ByName : (Command → Type 0) → Name → Type 0
-ByName P names.Rekeying = (master : ℕ) (vector sealed tag : List ℕ) → P (Rekeying master vector sealed tag)
-ByName P names.Activate = (keys : List ℕ) → P (Activate keys)
-ByName P names.Deactivate = (keys : List ℕ) → P (Deactivate keys)
-ByName P names.Verify = (key : ℕ) (challenge : List ℕ) → P (Verify key challenge)
-ByName P names.Destroy = (keys : List ℕ) → P (Destroy keys)
-ByName P names.Inventory = (first last : ℕ) → P (Inventory first last)
-ByName P names.Compose = (master : ℕ) (keys : List ℕ) → P (Compose master keys)
-ByName P names.ReadNumber = (spi : ℕ) → P (ReadNumber spi)
-ByName P names.Create = (sa : NewSa) → P (Create sa)
-ByName P names.Delete = (spi : ℕ) → P (Delete spi)
-ByName P names.SetWindow = (spi window : ℕ) → P (SetWindow spi window)
-ByName P names.Rekey = (spi key number : ℕ) → P (Rekey spi key number)
-ByName P names.Expire = (spi : ℕ) → P (Expire spi)
-ByName P names.SetNumber = (spi number : ℕ) → P (SetNumber spi number)
-ByName P names.Start = (spi : ℕ) → P (Start spi)
-ByName P names.Stop = (spi : ℕ) → P (Stop spi)
-ByName P names.Status = (spi : ℕ) → P (Status spi)
+-- P holds of each command of this procedure
+abbrev pub ByProcedure : (Command → Type 0) → Procedure → Type 0
+ByProcedure P procedures.Rekeying = (master : ℕ) (vector sealed tag : List ℕ) → P (Rekeying master vector sealed tag)
+ByProcedure P procedures.Activate = (keys : List ℕ) → P (Activate keys)
+ByProcedure P procedures.Deactivate = (keys : List ℕ) → P (Deactivate keys)
+ByProcedure P procedures.Verify = (key : ℕ) (challenge : List ℕ) → P (Verify key challenge)
+ByProcedure P procedures.Destroy = (keys : List ℕ) → P (Destroy keys)
+ByProcedure P procedures.Inventory = (first last : ℕ) → P (Inventory first last)
+ByProcedure P procedures.Compose = (master : ℕ) (keys : List ℕ) → P (Compose master keys)
+ByProcedure P procedures.ReadNumber = (spi : ℕ) → P (ReadNumber spi)
+ByProcedure P procedures.Create = (sa : NewSa) → P (Create sa)
+ByProcedure P procedures.Delete = (spi : ℕ) → P (Delete spi)
+ByProcedure P procedures.SetWindow = (spi window : ℕ) → P (SetWindow spi window)
+ByProcedure P procedures.Rekey = (spi key number : ℕ) → P (Rekey spi key number)
+ByProcedure P procedures.Expire = (spi : ℕ) → P (Expire spi)
+ByProcedure P procedures.SetNumber = (spi number : ℕ) → P (SetNumber spi number)
+ByProcedure P procedures.Start = (spi : ℕ) → P (Start spi)
+ByProcedure P procedures.Stop = (spi : ℕ) → P (Stop spi)
+ByProcedure P procedures.Status = (spi : ℕ) → P (Status spi)

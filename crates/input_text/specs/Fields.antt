@@ -1,6 +1,6 @@
 -- What taking words from a line answers (profile).
-use Rattle.std.specs.Prelude.{◌≡◌, ⊤, ℕ, ◌≤◌, codes, List, [], ◌∷◌, length, Result, Ok, Err}
-use Rattle.hex.specs.Hex.{encode_lower, IsBytes}
+use Rattle.std.specs.Prelude.{◌≡◌, ⊤, ℕ, ◌≤◌, List, length, Result, Ok, Err}
+use Rattle.hex.specs.Hex.{IsBytes}
 use Rattle.input_text.specs.declared.fault.LineError.{LineError}
 use Rattle.input_text.specs.declared.fault.LineError.TheVariants.{Fault, NoMemory}
 
@@ -16,11 +16,6 @@ IsFault (Fault fault) = ⊤
 abbrev pub Answers : {X : Type 0} → Result X LineError → X → Type 0
 Answers (Ok x) value = x ≡ value
 Answers (Err error) value = IsNoMemory error
-
--- octets as a word: hexadecimal digits, or - for none
-abbrev pub octets_word : List ℕ → List ℕ
-octets_word [] = codes "-"
-octets_word (octet ∷ octets) = encode_lower (octet ∷ octets)
 
 -- a record has such octets
 pub record AreRecorded (octets : List ℕ) : Type 0 where

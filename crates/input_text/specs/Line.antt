@@ -7,7 +7,8 @@ use Rattle.record_io.specs.declared.kinds.RecordKind.TheVariants as records
 use Rattle.ep_codec.specs.Command.{command_octets}
 use Rattle.input_text.specs.declared.line.Line.{Line}
 use Rattle.input_text.specs.declared.line.Line.TheVariants.{Fence, Protect, Open, Command, Message}
-use Rattle.input_text.specs.Fields.{AreRecorded, octets_word}
+use Rattle.text_words.specs.Words.{octets_word}
+use Rattle.input_text.specs.Fields.{AreRecorded}
 use Rattle.input_text.specs.Command.{command_words, IsCommand}
 
 -- the words of a line

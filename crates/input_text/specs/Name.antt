@@ -2,10 +2,10 @@
 use Rattle.std.specs.Prelude.{ℕ, codes, List, [], ◌∷◌, Option, Some, None, if◌then◌else◌}
 use Rattle.std.specs.Option.{option_or}
 use Rattle.std.specs.Str.{bytes_eq}
-use Rattle.input_text.specs.declared.names.Name.{Name}
-use Rattle.input_text.specs.declared.names.Name.TheVariants.{Rekeying, Activate, Deactivate, Verify, Destroy, Inventory, Compose, ReadNumber, Create, Delete, SetWindow, Rekey, Expire, SetNumber, Start, Stop, Status}
+use Rattle.ep_codec.specs.declared.procedure.Procedure.{Procedure}
+use Rattle.ep_codec.specs.declared.procedure.Procedure.TheVariants.{Rekeying, Activate, Deactivate, Verify, Destroy, Inventory, Compose, ReadNumber, Create, Delete, SetWindow, Rekey, Expire, SetNumber, Start, Stop, Status}
 
-abbrev pub name_word : Name → List ℕ
+abbrev pub name_word : Procedure → List ℕ
 name_word Rekeying = codes "rekeying"
 name_word Activate = codes "activate"
 name_word Deactivate = codes "deactivate"
@@ -24,18 +24,18 @@ name_word Start = codes "start"
 name_word Stop = codes "stop"
 name_word Status = codes "status"
 
--- the name that has this word, among these
-abbrev pub named_in : List Name → List ℕ → Option Name
+-- the procedure that has this word, among these
+abbrev pub named_in : List Procedure → List ℕ → Option Procedure
 named_in [] word = None
-named_in (name ∷ names) word = if bytes_eq word (name_word name) then Some name else named_in names word
+named_in (procedure ∷ procedures) word = if bytes_eq word (name_word procedure) then Some procedure else named_in procedures word
 
 -- those that manage keys
-abbrev pub key_names : List Name
-key_names = Rekeying ∷ Activate ∷ Deactivate ∷ Verify ∷ Destroy ∷ Inventory ∷ Compose ∷ []
+abbrev pub key_procedures : List Procedure
+key_procedures = Rekeying ∷ Activate ∷ Deactivate ∷ Verify ∷ Destroy ∷ Inventory ∷ Compose ∷ []
 
 -- those that manage associations
-abbrev pub association_names : List Name
-association_names = ReadNumber ∷ Create ∷ Delete ∷ SetWindow ∷ Rekey ∷ Expire ∷ SetNumber ∷ Start ∷ Stop ∷ Status ∷ []
+abbrev pub association_procedures : List Procedure
+association_procedures = ReadNumber ∷ Create ∷ Delete ∷ SetWindow ∷ Rekey ∷ Expire ∷ SetNumber ∷ Start ∷ Stop ∷ Status ∷ []
 
-abbrev pub named : List ℕ → Option Name
-named word = option_or (named_in key_names word) (named_in association_names word)
+abbrev pub named : List ℕ → Option Procedure
+named word = option_or (named_in key_procedures word) (named_in association_procedures word)

@@ -3,7 +3,8 @@ ghost use Rattle.std.specs.Prelude.{◌≡◌, ◌≢◌, ◌^◌, ◌<◌, ◌�
 ghost use Rattle.hex.specs.Hex.{encode_lower, IsBytes};
 ghost use Rattle.ep_codec.specs.Field.{is_key, is_spi};
 ghost use Rattle.unit_plan.specs.Lines.{words_of};
-ghost use Rattle.input_text.specs.Fields.{Answers, IsFault, IsNoMemory, AreRecorded, octets_word};
+ghost use Rattle.text_words.specs.Words.{octets_word};
+ghost use Rattle.input_text.specs.Fields.{Answers, IsFault, IsNoMemory, AreRecorded};
 
 use crate::fault::{Expected, LineError, LineFault};
 use hex::FromHexError;

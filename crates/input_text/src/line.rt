@@ -4,7 +4,8 @@
 ghost use Rattle.std.specs.Prelude.{◌≡◌, ◌≤◌, ◌<◌, ◌^◌, ℕ, List, [], ◌∷◌, length, codes, decimal, Some, None, Ok, IfOk, MatchOption, IsTrue};
 ghost use Rattle.ep_codec.specs.declared.command.Command.{Command};
 ghost use Rattle.input_text.specs.declared.line.Line.TheVariants as lines;
-ghost use Rattle.input_text.specs.Fields.{Answers, AreRecorded, octets_word};
+ghost use Rattle.text_words.specs.Words.{octets_word};
+ghost use Rattle.input_text.specs.Fields.{Answers, AreRecorded};
 ghost use Rattle.input_text.specs.Command.{command_words, IsCommand};
 ghost use Rattle.input_text.specs.Line.{IsLane, IsLine, Says, is_skipped, line_words};
 
@@ -69,7 +70,7 @@ fn named_command(alloc: Global, word: &[u8], fields: &mut Fields<'_>) -> Result<
         → Answers result command }
 {
     match named(word) {
-        Some(name) => command_named(alloc, name, fields),
+        Some(procedure) => command_named(alloc, procedure, fields),
         None => Err(fields.fault(Expected::Procedure)),
     }
 }

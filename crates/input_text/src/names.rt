@@ -1,98 +1,78 @@
 //! The procedures by their names in text.
 ghost use Rattle.std.specs.Prelude.{◌≡◌};
-ghost use Rattle.input_text.specs.Name.{named_in, named, key_names, association_names};
+ghost use Rattle.input_text.specs.Name.{named_in, named, key_procedures, association_procedures};
 
-/// A procedure (CCSDS 355.1-B by purpose).
-#[derive(Clone, Copy, Debug, PartialEq, Eq)]
-pub enum Name {
-    Rekeying,
-    Activate,
-    Deactivate,
-    Verify,
-    Destroy,
-    Inventory,
-    Compose,
-    ReadNumber,
-    Create,
-    Delete,
-    SetWindow,
-    Rekey,
-    Expire,
-    SetNumber,
-    Start,
-    Stop,
-    Status,
-}
+use ep_codec::Procedure;
 
-fn key_procedure(word: &[u8]) -> Option<Name>
-    ensures { result ≡ named_in key_names word.now }
+fn key_procedure(word: &[u8]) -> Option<Procedure>
+    ensures { result ≡ named_in key_procedures word.now }
 {
     if word == b"rekeying".as_slice() {
-        return Some(Name::Rekeying);
+        return Some(Procedure::Rekeying);
     }
     if word == b"activate".as_slice() {
-        return Some(Name::Activate);
+        return Some(Procedure::Activate);
     }
     if word == b"deactivate".as_slice() {
-        return Some(Name::Deactivate);
+        return Some(Procedure::Deactivate);
     }
     if word == b"verify".as_slice() {
-        return Some(Name::Verify);
+        return Some(Procedure::Verify);
     }
     if word == b"destroy".as_slice() {
-        return Some(Name::Destroy);
+        return Some(Procedure::Destroy);
     }
     if word == b"inventory".as_slice() {
-        return Some(Name::Inventory);
+        return Some(Procedure::Inventory);
     }
     if word == b"compose".as_slice() {
-        return Some(Name::Compose);
+        return Some(Procedure::Compose);
     }
     None
 }
 
-fn association_procedure(word: &[u8]) -> Option<Name>
-    ensures { result ≡ named_in association_names word.now }
+fn association_procedure(word: &[u8]) -> Option<Procedure>
+    ensures { result ≡ named_in association_procedures word.now }
 {
     if word == b"read-number".as_slice() {
-        return Some(Name::ReadNumber);
+        return Some(Procedure::ReadNumber);
     }
     if word == b"create".as_slice() {
-        return Some(Name::Create);
+        return Some(Procedure::Create);
     }
     if word == b"delete".as_slice() {
-        return Some(Name::Delete);
+        return Some(Procedure::Delete);
     }
     if word == b"set-window".as_slice() {
-        return Some(Name::SetWindow);
+        return Some(Procedure::SetWindow);
     }
     if word == b"rekey".as_slice() {
-        return Some(Name::Rekey);
+        return Some(Procedure::Rekey);
     }
     if word == b"expire".as_slice() {
-        return Some(Name::Expire);
+        return Some(Procedure::Expire);
     }
     if word == b"set-number".as_slice() {
-        return Some(Name::SetNumber);
+        return Some(Procedure::SetNumber);
     }
     if word == b"start".as_slice() {
-        return Some(Name::Start);
+        return Some(Procedure::Start);
     }
     if word == b"stop".as_slice() {
-        return Some(Name::Stop);
+        return Some(Procedure::Stop);
     }
     if word == b"status".as_slice() {
-        return Some(Name::Status);
+        return Some(Procedure::Status);
     }
     None
 }
 
 /// The procedure that a word names.
-pub(crate) fn named(word: &[u8]) -> Option<Name>
+pub(crate) fn named(word: &[u8]) -> Option<Procedure>
     ensures { result ≡ named word.now }
 {
     match key_procedure(word) {
-        Some(name) => Some(name),
+        Some(procedure) => Some(procedure),
         None => association_procedure(word),
     }
 }

@@ -8,9 +8,11 @@ ghost use Rattle.hex.specs.Hex.{encode_lower, IsBytes};
 ghost use Rattle.ep_codec.specs.Field.{is_key, is_spi};
 ghost use Rattle.ep_codec.specs.Command.{AreKeys, IsKeyCount, IsSealedLength};
 ghost use Rattle.ep_codec.specs.declared.command.Command.TheVariants as commands;
-ghost use Rattle.input_text.specs.declared.names.Name.TheVariants as names;
+ghost use Rattle.ep_codec.specs.CommandReading.{command_procedure};
+ghost use Rattle.ep_codec.specs.declared.procedure.Procedure.TheVariants as procedures;
+ghost use Rattle.text_words.specs.Words.{direction_word, suite_word};
 ghost use Rattle.input_text.specs.Fields.{Answers};
-ghost use Rattle.input_text.specs.Command.{direction_word, suite_word, name_of, value_words, IsCommand};
+ghost use Rattle.input_text.specs.Command.{value_words, IsCommand};
 
 use crate::fault::{Expected, LineError};
 use crate::fields::Fields;
@@ -31,7 +33,7 @@ fn key_and_number(fields: &mut Fields<'_>) -> Result<(KeyId, u64), LineError>
 }
 
 pub(crate) fn rekey(fields: &mut Fields<'_>) -> Result<Command, LineError>
-    ensures read { IfOk result (λ command. (fields.old ≡ value_words command) × IsCommand command × (name_of command ≡ names.Rekey)) }
+    ensures read { IfOk result (λ command. (fields.old ≡ value_words command) × IsCommand command × (command_procedure command ≡ procedures.Rekey)) }
     ensures only { (spi key number : ℕ) → IsTrue (is_spi spi) → IsTrue (is_key key) → number < 2 ^ 64
         → fields.old ≡ value_words (commands.Rekey spi key number) → Answers result (commands.Rekey spi key number) }
 {
@@ -41,7 +43,7 @@ pub(crate) fn rekey(fields: &mut Fields<'_>) -> Result<Command, LineError>
 }
 
 pub(crate) fn verify(alloc: Global, fields: &mut Fields<'_>) -> Result<Command, LineError>
-    ensures read { IfOk result (λ command. (fields.old ≡ value_words command) × IsCommand command × (name_of command ≡ names.Verify)) }
+    ensures read { IfOk result (λ command. (fields.old ≡ value_words command) × IsCommand command × (command_procedure command ≡ procedures.Verify)) }
     ensures only { (key : ℕ) (challenge : List ℕ) → IsTrue (is_key key) → IsBytes challenge → length challenge ≡ 16
         → fields.old ≡ value_words (commands.Verify key challenge) → Answers result (commands.Verify key challenge) }
 {
@@ -51,7 +53,7 @@ pub(crate) fn verify(alloc: Global, fields: &mut Fields<'_>) -> Result<Command, 
 }
 
 pub(crate) fn inventory(fields: &mut Fields<'_>) -> Result<Command, LineError>
-    ensures read { IfOk result (λ command. (fields.old ≡ value_words command) × IsCommand command × (name_of command ≡ names.Inventory)) }
+    ensures read { IfOk result (λ command. (fields.old ≡ value_words command) × IsCommand command × (command_procedure command ≡ procedures.Inventory)) }
     ensures only { (first last : ℕ) → first ≤ last → last < 2 ^ 16
         → fields.old ≡ value_words (commands.Inventory first last) → Answers result (commands.Inventory first last) }
 {
@@ -64,7 +66,7 @@ pub(crate) fn inventory(fields: &mut Fields<'_>) -> Result<Command, LineError>
 }
 
 pub(crate) fn set_number(fields: &mut Fields<'_>) -> Result<Command, LineError>
-    ensures read { IfOk result (λ command. (fields.old ≡ value_words command) × IsCommand command × (name_of command ≡ names.SetNumber)) }
+    ensures read { IfOk result (λ command. (fields.old ≡ value_words command) × IsCommand command × (command_procedure command ≡ procedures.SetNumber)) }
     ensures only { (spi number : ℕ) → IsTrue (is_spi spi) → number < 2 ^ 64
         → fields.old ≡ value_words (commands.SetNumber spi number) → Answers result (commands.SetNumber spi number) }
 {
@@ -111,7 +113,7 @@ fn behind_master(
 }
 
 pub(crate) fn rekeying(alloc: Global, fields: &mut Fields<'_>) -> Result<Command, LineError>
-    ensures read { IfOk result (λ command. (fields.old ≡ value_words command) × IsCommand command × (name_of command ≡ names.Rekeying)) }
+    ensures read { IfOk result (λ command. (fields.old ≡ value_words command) × IsCommand command × (command_procedure command ≡ procedures.Rekeying)) }
     ensures only { (master : ℕ) (vector sealed tag : List ℕ) → IsTrue (is_key master) → IsBytes vector
         → length vector ≡ 12 → IsBytes sealed → IsSealedLength sealed → IsBytes tag → length tag ≡ 16
         → fields.old ≡ value_words (commands.Rekeying master vector sealed tag)
@@ -128,7 +130,7 @@ pub(crate) fn rekeying(alloc: Global, fields: &mut Fields<'_>) -> Result<Command
 }
 
 pub(crate) fn set_window(fields: &mut Fields<'_>) -> Result<Command, LineError>
-    ensures read { IfOk result (λ command. (fields.old ≡ value_words command) × IsCommand command × (name_of command ≡ names.SetWindow)) }
+    ensures read { IfOk result (λ command. (fields.old ≡ value_words command) × IsCommand command × (command_procedure command ≡ procedures.SetWindow)) }
     ensures only { (spi window : ℕ) → IsTrue (is_spi spi) → IsWidth window
         → fields.old ≡ value_words (commands.SetWindow spi window) → Answers result (commands.SetWindow spi window) }
 {
@@ -138,7 +140,7 @@ pub(crate) fn set_window(fields: &mut Fields<'_>) -> Result<Command, LineError>
 }
 
 pub(crate) fn compose(alloc: Global, fields: &mut Fields<'_>) -> Result<Command, LineError>
-    ensures read { IfOk result (λ command. (fields.old ≡ value_words command) × IsCommand command × (name_of command ≡ names.Compose)) }
+    ensures read { IfOk result (λ command. (fields.old ≡ value_words command) × IsCommand command × (command_procedure command ≡ procedures.Compose)) }
     ensures only { (master : ℕ) (listed : List ℕ) → IsTrue (is_key master) → AreKeys listed → IsKeyCount listed
         → fields.old ≡ value_words (commands.Compose master listed) → Answers result (commands.Compose master listed) }
 {
@@ -216,7 +218,7 @@ fn from_direction(
 }
 
 pub(crate) fn create(alloc: Global, fields: &mut Fields<'_>) -> Result<Command, LineError>
-    ensures read { IfOk result (λ command. (fields.old ≡ value_words command) × IsCommand command × (name_of command ≡ names.Create)) }
+    ensures read { IfOk result (λ command. (fields.old ≡ value_words command) × IsCommand command × (command_procedure command ≡ procedures.Create)) }
     ensures only { (sa : NewSa) → IsTrue (is_spi sa.spi) → IsWidth sa.window → AreChannels sa.channels
         → AllByRecursion (λ channel. channel ≤ 63) sa.channels
         → fields.old ≡ value_words (commands.Create sa) → Answers result (commands.Create sa) }

@@ -1,37 +1,11 @@
 -- The text that tells the state of a unit (profile): the slots, each key, each association, a line each.
 use Rattle.std.specs.Prelude.{ℕ, ◌+◌, List, [], ◌∷◌, ◌++◌, suc, zero, codes, decimal, unwrap_or}
 use Rattle.std.specs.Option.{option_map_or}
-use Rattle.sdls_base.specs.declared.states.KeyState.{KeyState}
-use Rattle.sdls_base.specs.declared.states.KeyState.TheVariants.{PreActive, Active, Deactivated, Destroyed}
-use Rattle.sdls_base.specs.declared.states.SaState.{SaState}
-use Rattle.sdls_base.specs.declared.states.SaState.TheVariants.{Unkeyed, Keyed, Operational}
-use Rattle.sdls_base.specs.declared.states.Direction.{Direction}
-use Rattle.sdls_base.specs.declared.states.Direction.TheVariants.{Send, Receive}
-use Rattle.sdls_base.specs.declared.states.Suite.{Suite}
-use Rattle.sdls_base.specs.declared.states.Suite.TheVariants.{Cmac, Gcm}
+use Rattle.text_words.specs.Words.{direction_word, key_state_word, sa_state_word, suite_word}
 use Rattle.key_book.specs.declared.key_row.KeyRow.{KeyRow}
 use Rattle.key_book.specs.KeyBook.{row_of}
 use Rattle.sa_book.specs.declared.sa_row.SaRow.{SaRow}
 use Rattle.unit_state.specs.declared.state.State.{State}
-
-abbrev pub key_state_word : KeyState → List ℕ
-key_state_word PreActive = codes "preactive"
-key_state_word Active = codes "active"
-key_state_word Deactivated = codes "deactivated"
-key_state_word Destroyed = codes "destroyed"
-
-abbrev pub sa_state_word : SaState → List ℕ
-sa_state_word Unkeyed = codes "unkeyed"
-sa_state_word Keyed = codes "keyed"
-sa_state_word Operational = codes "operational"
-
-abbrev pub direction_word : Direction → List ℕ
-direction_word Send = codes "send"
-direction_word Receive = codes "receive"
-
-abbrev pub suite_word : Suite → List ℕ
-suite_word Cmac = codes "cmac"
-suite_word Gcm = codes "gcm"
 
 -- so many slots of the image are used, of so many
 unfoldable pub slots_line : ℕ → ℕ → List ℕ

@@ -5,6 +5,5 @@
 
 mod lines;
 mod text;
-mod words;
 
 pub use text::status_text;

@@ -1,36 +1,22 @@
 //! The lines, each put behind a text.
-ghost use Rattle.std.specs.Prelude.{◌≡◌, ◌++◌, decimal, OnOk};
+ghost use Rattle.std.specs.Prelude.{◌≡◌, ◌++◌, OnOk};
 ghost use Rattle.status_text.specs.Text.{association_line, key_line, slots_line};
 
-use crate::words::{direction_word, key_state_word, sa_state_word, suite_word};
-use itoa::Buffer;
 use key_book::KeyRow;
 use sa_book::SaRow;
 use sdls_base::NoMemory;
-
-fn put_octets(text: &mut Vec<u8>, octets: &[u8]) -> Result<(), NoMemory>
-    ensures { OnOk result (text.new.items ≡ text.old.items ++ octets.now) }
-{
-    text.extend_from_slice(octets)?;
-    Ok(())
-}
-
-/// Puts a number in decimal digits.
-fn put_number(text: &mut Vec<u8>, number: u64) -> Result<(), NoMemory>
-    ensures { OnOk result (text.new.items ≡ text.old.items ++ decimal number) }
-{
-    let mut buffer = Buffer::new();
-    put_octets(text, buffer.format(number).as_bytes())
-}
+use text_words::{
+    direction_word, key_state_word, put_decimal, put_octets, sa_state_word, suite_word,
+};
 
 #[tactic(auto, unfolding(crate::specs::Text::slots_line))]
 pub(crate) fn put_slots(text: &mut Vec<u8>, used: u32, slots: u32) -> Result<(), NoMemory>
     ensures { OnOk result (text.new.items ≡ text.old.items ++ slots_line used slots) }
 {
     put_octets(text, b"slots ")?;
-    put_number(text, u64::from(used))?;
+    put_decimal(text, u64::from(used))?;
     put_octets(text, b" of ")?;
-    put_number(text, u64::from(slots))?;
+    put_decimal(text, u64::from(slots))?;
     put_octets(text, b"\n")
 }
 
@@ -39,13 +25,13 @@ pub(crate) fn put_key(text: &mut Vec<u8>, row: &KeyRow) -> Result<(), NoMemory>
     ensures { OnOk result (text.new.items ≡ text.old.items ++ key_line row.now) }
 {
     put_octets(text, b"key ")?;
-    put_number(text, u64::from(row.id.get()))?;
+    put_decimal(text, u64::from(row.id.get()))?;
     put_octets(text, b" ")?;
     put_octets(text, key_state_word(row.state))?;
     put_octets(text, b" mark ")?;
-    put_number(text, row.mark)?;
+    put_decimal(text, row.mark)?;
     put_octets(text, b" floor ")?;
-    put_number(text, row.floor)?;
+    put_decimal(text, row.floor)?;
     put_octets(text, b"\n")
 }
 
@@ -58,7 +44,7 @@ pub(crate) fn put_association(text: &mut Vec<u8>, row: &SaRow) -> Result<(), NoM
         None => 0,
     };
     put_octets(text, b"sa ")?;
-    put_number(text, u64::from(row.spi.get()))?;
+    put_decimal(text, u64::from(row.spi.get()))?;
     put_octets(text, b" ")?;
     put_octets(text, direction_word(row.direction))?;
     put_octets(text, b" ")?;
@@ -66,8 +52,8 @@ pub(crate) fn put_association(text: &mut Vec<u8>, row: &SaRow) -> Result<(), NoM
     put_octets(text, b" ")?;
     put_octets(text, sa_state_word(row.state))?;
     put_octets(text, b" key ")?;
-    put_number(text, u64::from(key))?;
+    put_decimal(text, u64::from(key))?;
     put_octets(text, b" window ")?;
-    put_number(text, row.window.width)?;
+    put_decimal(text, row.window.width)?;
     put_octets(text, b"\n")
 }

@@ -1,10 +1,11 @@
 //! The words for states, directions and suites.
 ghost use Rattle.std.specs.Prelude.{◌≡◌};
-ghost use Rattle.answer_text.specs.Words.{direction_word, key_state_word, sa_state_word, suite_word};
+ghost use Rattle.text_words.specs.Words.{direction_word, key_state_word, sa_state_word, suite_word};
 
 use sdls_base::{Direction, KeyState, SaState, Suite};
 
-pub(crate) fn key_state_word(state: KeyState) -> &'static [u8]
+/// The word for a key's state.
+pub fn key_state_word(state: KeyState) -> &'static [u8]
     ensures { result.now ≡ key_state_word state }
 {
     match state {
@@ -15,7 +16,8 @@ pub(crate) fn key_state_word(state: KeyState) -> &'static [u8]
     }
 }
 
-pub(crate) fn sa_state_word(state: SaState) -> &'static [u8]
+/// The word for an association's state.
+pub fn sa_state_word(state: SaState) -> &'static [u8]
     ensures { result.now ≡ sa_state_word state }
 {
     match state {
@@ -25,7 +27,8 @@ pub(crate) fn sa_state_word(state: SaState) -> &'static [u8]
     }
 }
 
-pub(crate) fn direction_word(direction: Direction) -> &'static [u8]
+/// The word for an association's direction.
+pub fn direction_word(direction: Direction) -> &'static [u8]
     ensures { result.now ≡ direction_word direction }
 {
     match direction {
@@ -34,7 +37,8 @@ pub(crate) fn direction_word(direction: Direction) -> &'static [u8]
     }
 }
 
-pub(crate) fn suite_word(suite: Suite) -> &'static [u8]
+/// The word for an association's suite.
+pub fn suite_word(suite: Suite) -> &'static [u8]
     ensures { result.now ≡ suite_word suite }
 {
     match suite {
