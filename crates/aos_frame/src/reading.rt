@@ -10,7 +10,8 @@ use sdls_base::{AosLayout, FrameFault, before_fecf, cut_ocf, fecf_fails, flag};
 /// The octets of the primary header.
 const HEADER: usize = 6;
 
-fn fault_of(frame: &[u8], layout: &AosLayout) -> Option<FrameFault>
+/// The first check of a frame of the layout that fails: `Short`, `Long`, `Version`, `Spare`, `Fecf`. None where the octets are such a frame.
+pub fn fault_of(frame: &[u8], layout: &AosLayout) -> Option<FrameFault>
     requires { IsLayout layout.now }
     ensures { result ≡ first_fault layout.now frame.now }
 {
@@ -56,6 +57,19 @@ fn parts_of<'a>(body: &'a [u8], layout: &AosLayout) -> Parts<'a>
     }
 }
 
+/// Takes a frame of the layout apart of which it is known that no check fails: none is made again.
+pub fn take_apart<'a>(frame: &'a [u8], layout: &AosLayout) -> Parts<'a>
+    requires layout { IsLayout layout.now }
+    requires faultless { first_fault layout.now frame.now ≡ None }
+    ensures found { AosFrame layout.now (view result) frame.now }
+    ensures prefix { result.prefix.now ≡ prefix_of (view result) }
+    ensures prefix_length { length result.prefix.now ≡ 6 + layout.now.insert }
+    ensures whole { frame.now ≡ with_error_control layout.now.fecf
+        (result.prefix.now ++ result.room.now ++ unwrap_or (view result).ocf []) }
+{
+    parts_of(before_fecf(frame, layout.fecf), layout)
+}
+
 /// Takes a frame of the layout apart, or names the first check that fails: `Short`, `Long`, `Version`, `Spare`, `Fecf`.
 pub fn read<'a>(frame: &'a [u8], layout: &AosLayout) -> Result<Parts<'a>, FrameFault>
     requires { IsLayout layout.now }
@@ -76,6 +90,6 @@ pub fn read<'a>(frame: &'a [u8], layout: &AosLayout) -> Result<Parts<'a>, FrameF
 {
     match fault_of(frame, layout) {
         Some(fault) => Err(fault),
-        None => Ok(parts_of(before_fecf(frame, layout.fecf), layout)),
+        None => Ok(take_apart(frame, layout)),
     }
 }

@@ -1,4 +1,4 @@
-ghost use Rattle.std.specs.Prelude.{◌≡◌, ◌↔◌, None, Some, IfOk, IsOk, IfErr};
+ghost use Rattle.std.specs.Prelude.{◌≡◌, None};
 ghost use Rattle.frame_shield.specs.AnyFrame.{first_fault};
 ghost use Rattle.frame_shield.specs.Body.{IsLayout, IsBody};
 
@@ -15,59 +15,61 @@ pub struct Body<'a> {
     pub ocf: Option<&'a [u8]>,
 }
 
-fn tc_body<'a>(frame: &'a [u8], layout: &TcLayout) -> Result<Body<'a>, FrameFault>
-    ensures body { IfOk result (IsBody (AnyLayout.Tc layout.now) frame.now) }
-    ensures ok { IsOk result ↔ (first_fault (AnyLayout.Tc layout.now) frame.now ≡ None) }
-    ensures fault { IfErr result (λ fault. first_fault (AnyLayout.Tc layout.now) frame.now ≡ Some fault) }
+fn tc_body<'a>(frame: &'a [u8], layout: &TcLayout) -> Body<'a>
+    requires { first_fault (AnyLayout.Tc layout.now) frame.now ≡ None }
+    ensures { IsBody (AnyLayout.Tc layout.now) frame.now result }
 {
-    match tc_frame::read(frame, layout) {
-        Ok(parts) => Ok(Body {
-            prefix: parts.prefix,
-            room: parts.room,
-            ocf: None,
-        }),
-        Err(fault) => Err(fault),
+    let parts = tc_frame::take_apart(frame, layout);
+    Body {
+        prefix: parts.prefix,
+        room: parts.room,
+        ocf: None,
     }
 }
 
-fn tm_body<'a>(frame: &'a [u8], layout: &TmLayout) -> Result<Body<'a>, FrameFault>
-    requires { IsLayout (AnyLayout.Tm layout.now) }
-    ensures body { IfOk result (IsBody (AnyLayout.Tm layout.now) frame.now) }
-    ensures ok { IsOk result ↔ (first_fault (AnyLayout.Tm layout.now) frame.now ≡ None) }
-    ensures fault { IfErr result (λ fault. first_fault (AnyLayout.Tm layout.now) frame.now ≡ Some fault) }
+fn tm_body<'a>(frame: &'a [u8], layout: &TmLayout) -> Body<'a>
+    requires layout { IsLayout (AnyLayout.Tm layout.now) }
+    requires faultless { first_fault (AnyLayout.Tm layout.now) frame.now ≡ None }
+    ensures { IsBody (AnyLayout.Tm layout.now) frame.now result }
 {
-    match tm_frame::read(frame, layout) {
-        Ok(parts) => Ok(Body {
-            prefix: parts.prefix,
-            room: parts.room,
-            ocf: parts.ocf,
-        }),
-        Err(fault) => Err(fault),
+    let parts = tm_frame::take_apart(frame, layout);
+    Body {
+        prefix: parts.prefix,
+        room: parts.room,
+        ocf: parts.ocf,
     }
 }
 
-fn aos_body<'a>(frame: &'a [u8], layout: &AosLayout) -> Result<Body<'a>, FrameFault>
-    requires { IsLayout (AnyLayout.Aos layout.now) }
-    ensures body { IfOk result (IsBody (AnyLayout.Aos layout.now) frame.now) }
-    ensures ok { IsOk result ↔ (first_fault (AnyLayout.Aos layout.now) frame.now ≡ None) }
-    ensures fault { IfErr result (λ fault. first_fault (AnyLayout.Aos layout.now) frame.now ≡ Some fault) }
+fn aos_body<'a>(frame: &'a [u8], layout: &AosLayout) -> Body<'a>
+    requires layout { IsLayout (AnyLayout.Aos layout.now) }
+    requires faultless { first_fault (AnyLayout.Aos layout.now) frame.now ≡ None }
+    ensures { IsBody (AnyLayout.Aos layout.now) frame.now result }
 {
-    match aos_frame::read(frame, layout) {
-        Ok(parts) => Ok(Body {
-            prefix: parts.prefix,
-            room: parts.room,
-            ocf: parts.ocf,
-        }),
-        Err(fault) => Err(fault),
+    let parts = aos_frame::take_apart(frame, layout);
+    Body {
+        prefix: parts.prefix,
+        room: parts.room,
+        ocf: parts.ocf,
     }
 }
 
-/// Takes a frame of the layout apart, or names the first check that fails.
-pub fn body_of<'a>(frame: &'a [u8], layout: &AnyLayout) -> Result<Body<'a>, FrameFault>
+/// The first check of a frame of the layout that fails. None where the octets are such a frame.
+pub fn fault_of(frame: &[u8], layout: &AnyLayout) -> Option<FrameFault>
     requires { IsLayout layout.now }
-    ensures body { IfOk result (IsBody layout.now frame.now) }
-    ensures ok { IsOk result ↔ (first_fault layout.now frame.now ≡ None) }
-    ensures fault { IfErr result (λ fault. first_fault layout.now frame.now ≡ Some fault) }
+    ensures { result ≡ first_fault layout.now frame.now }
+{
+    match layout {
+        AnyLayout::Tc(layout) => tc_frame::fault_of(frame, layout),
+        AnyLayout::Tm(layout) => tm_frame::fault_of(frame, layout),
+        AnyLayout::Aos(layout) => aos_frame::fault_of(frame, layout),
+    }
+}
+
+/// Takes a frame of the layout apart of which it is known that no check fails: none is made again.
+pub fn body_of<'a>(frame: &'a [u8], layout: &AnyLayout) -> Body<'a>
+    requires layout { IsLayout layout.now }
+    requires faultless { first_fault layout.now frame.now ≡ None }
+    ensures { IsBody layout.now frame.now result }
 {
     match layout {
         AnyLayout::Tc(layout) => tc_body(frame, layout),

@@ -4,7 +4,7 @@ ghost use Rattle.frame_shield.specs.Found.{IsFound};
 ghost use Rattle.frame_shield.specs.Opens.{CarriesIndex, Opens, OpensInPlace, OnField};
 
 use crate::binding::Binding;
-use crate::body::{Body, body_of};
+use crate::body::body_of;
 use crate::covered::Covered;
 use crate::sealing::{number_of, open};
 use sdls_header::{SecurityHeader, Vector, split};
@@ -44,7 +44,7 @@ fn find(binding: &Binding, frame: &[u8]) -> Option<Found>
     ensures none { IsNone result → (n : ℕ) (field : List ℕ) → ¬ Opens binding.now frame.now n field }
     ensures found { IfSome result (IsFound binding.now frame.now) }
 {
-    let body = body_of(frame, &binding.link.layout).unwrap();
+    let body = body_of(frame, &binding.link.layout);
     let Some(pieces) = split(body.room, binding.suite) else {
         return None;
     };

@@ -12,7 +12,7 @@ ghost use Rattle.frame_shield.specs.Shield.{most_of, with_length_field, prefix_f
 ghost use Rattle.frame_shield.specs.ShieldFault.{fault_number};
 
 use crate::binding::{Binding, clear_layout, gain_of};
-use crate::body::{Body, body_of};
+use crate::body::{Body, body_of, fault_of};
 use crate::covered::{Covered, put_header};
 use crate::sealing::seal;
 use aes_block::Schedule;
@@ -43,9 +43,9 @@ pub fn fits(binding: &Binding, clear: &[u8]) -> Result<(), ShieldFault>
         (λ refusal. (fault : FrameFault) × (clear_fault binding.now clear.now ≡ Some fault)
         × (refusal ≡ ShieldFault.Layout (fault_number fault))) }
 {
-    match body_of(clear, &clear_layout(binding.suite, &binding.link.layout)) {
-        Ok(_) => Ok(()),
-        Err(fault) => Err(ShieldFault::Layout(fault as u8)),
+    match fault_of(clear, &clear_layout(binding.suite, &binding.link.layout)) {
+        None => Ok(()),
+        Some(fault) => Err(ShieldFault::Layout(fault as u8)),
     }
 }
 
@@ -160,7 +160,7 @@ fn clear_body<'a>(binding: &Binding, clear: &'a [u8]) -> Body<'a>
         ≤ most_of binding.now.link.layout }
     ensures short { most_of binding.now.link.layout ≤ 2048 }
 {
-    body_of(clear, &clear_layout(binding.suite, &binding.link.layout)).unwrap()
+    body_of(clear, &clear_layout(binding.suite, &binding.link.layout))
 }
 
 /// Protects a clear frame under a number of the key: writes the protected frame into the front of `out`, and answers

@@ -3,7 +3,7 @@ ghost use Rattle.frame_shield.specs.Binding.{IsBinding};
 ghost use Rattle.sdls_base.specs.Link.{IsLink};
 
 use super::*;
-use crate::body::body_of;
+use crate::body::{body_of, fault_of};
 use aes_block::Schedule;
 use sdls_base::{AosLayout, KeyClass, KeyId, Spi, Suite, TcLayout, TmLayout};
 use sdls_header::read_spi;
@@ -93,10 +93,10 @@ fn protected(alloc: Global, binding: &Binding, number: u64, clear: &[u8]) -> Opt
 fn opened(binding: &Binding, frame: &mut [u8]) -> Option<Opened>
     requires { IsBinding binding.now }
 {
-    let Ok(body) = body_of(frame, &binding.link.layout) else {
+    let None = fault_of(frame, &binding.link.layout) else {
         return None;
     };
-    match read_spi(body.room) {
+    match read_spi(body_of(frame, &binding.link.layout).room) {
         Some(spi) if spi == binding.spi.get() => Some(unshield(binding, frame)),
         _ => None,
     }

@@ -31,7 +31,8 @@ fn least_length(frame: &[u8], layout: &TcLayout) -> usize
     if layout.fecf { header + 2 } else { header }
 }
 
-fn fault_of(frame: &[u8], layout: &TcLayout) -> Option<FrameFault>
+/// The first check of a frame of the layout that fails: `Short`, `Long`, `LengthField`, `Version`, `Spare`, `Fecf`. None where the octets are such a frame.
+pub fn fault_of(frame: &[u8], layout: &TcLayout) -> Option<FrameFault>
     ensures { result ≡ first_fault layout.now frame.now }
 {
     if frame.len() < HEADER || frame.len() < least_length(frame, layout) {
@@ -87,6 +88,16 @@ fn parts_of<'a>(body: &'a [u8], layout: &TcLayout) -> Parts<'a>
     }
 }
 
+/// Takes a frame of the layout apart of which it is known that no check fails: none is made again.
+pub fn take_apart<'a>(frame: &'a [u8], layout: &TcLayout) -> Parts<'a>
+    requires faultless { first_fault layout.now frame.now ≡ None }
+    ensures found { TcFrame layout.now (view result) frame.now }
+    ensures prefix { result.prefix.now ≡ prefix_of layout.now (view result) }
+    ensures whole { frame.now ≡ with_error_control layout.now.fecf (result.prefix.now ++ result.room.now) }
+{
+    parts_of(before_fecf(frame, layout.fecf), layout)
+}
+
 /// Takes a frame of the layout apart, or names the first check that fails: `Short`, `Long`, `LengthField`, `Version`,
 /// `Spare`, `Fecf`.
 pub fn read<'a>(frame: &'a [u8], layout: &TcLayout) -> Result<Parts<'a>, FrameFault>
@@ -106,6 +117,6 @@ pub fn read<'a>(frame: &'a [u8], layout: &TcLayout) -> Result<Parts<'a>, FrameFa
 {
     match fault_of(frame, layout) {
         Some(fault) => Err(fault),
-        None => Ok(parts_of(before_fecf(frame, layout.fecf), layout)),
+        None => Ok(take_apart(frame, layout)),
     }
 }

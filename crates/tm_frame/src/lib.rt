@@ -10,5 +10,5 @@ mod reading;
 mod writing;
 
 pub use parts::Parts;
-pub use reading::read;
+pub use reading::{fault_of, read, take_apart};
 pub use writing::write;

@@ -37,7 +37,8 @@ fn secondary_fails(frame: &[u8], layout: &TmLayout) -> bool
         && (first >> 6 != 0 || octets_of_data(frame, layout) < usize::from(first & 0x3F) + 1)
 }
 
-fn fault_of(frame: &[u8], layout: &TmLayout) -> Option<FrameFault>
+/// The first check of a frame of the layout that fails: `Short`, `Long`, `Version`, `SecondaryHeader`, `Fecf`. None where the octets are such a frame.
+pub fn fault_of(frame: &[u8], layout: &TmLayout) -> Option<FrameFault>
     requires { IsLayout layout.now }
     ensures { result ≡ first_fault layout.now frame.now }
 {
@@ -93,6 +94,18 @@ fn parts_of(body: &[u8]) -> Parts<'_>
     }
 }
 
+/// Takes a frame of the layout apart of which it is known that no check fails: none is made again.
+pub fn take_apart<'a>(frame: &'a [u8], layout: &TmLayout) -> Parts<'a>
+    requires layout { IsLayout layout.now }
+    requires faultless { first_fault layout.now frame.now ≡ None }
+    ensures found { TmFrame layout.now (view result) frame.now }
+    ensures prefix { result.prefix.now ≡ prefix_of (view result) }
+    ensures whole { frame.now ≡ with_error_control layout.now.fecf
+        (result.prefix.now ++ result.room.now ++ unwrap_or (view result).ocf []) }
+{
+    parts_of(before_fecf(frame, layout.fecf))
+}
+
 /// Takes a frame of the layout apart, or names the first check that fails: `Short`, `Long`, `Version`,
 /// `SecondaryHeader`, `Fecf`.
 pub fn read<'a>(frame: &'a [u8], layout: &TmLayout) -> Result<Parts<'a>, FrameFault>
@@ -113,6 +126,6 @@ pub fn read<'a>(frame: &'a [u8], layout: &TmLayout) -> Result<Parts<'a>, FrameFa
 {
     match fault_of(frame, layout) {
         Some(fault) => Err(fault),
-        None => Ok(parts_of(before_fecf(frame, layout.fecf))),
+        None => Ok(take_apart(frame, layout)),
     }
 }

@@ -3,11 +3,11 @@ use Rattle.aos_frame.specs.AosFrame.{view}
 use Rattle.frame_shield.specs.AnyFrame.{aos}
 use Rattle.frame_shield.proofs.body.aos_body.Goals as goal
 
-pub returns-in-Ok-clause-body : goal.returns-in-Ok-clause-body
-returns-in-Ok-clause-body c = record {
-  parts = aos (view c.in-Ok.parts);
-  framed = c.in-Ok.ensures.found;
-  prefix = c.in-Ok.ensures.prefix;
+pub returns : goal.returns
+returns c = record {
+  parts = aos (view c.take_apart-parts.result);
+  framed = c.take_apart-parts.ensures.found;
+  prefix = c.take_apart-parts.ensures.prefix;
   room = refl;
   ocf = refl;
 }

@@ -3,11 +3,11 @@ use Rattle.tc_frame.specs.TcFrame.{view}
 use Rattle.frame_shield.specs.AnyFrame.{tc}
 use Rattle.frame_shield.proofs.body.tc_body.Goals as goal
 
-pub returns-in-Ok-clause-body : goal.returns-in-Ok-clause-body
-returns-in-Ok-clause-body c = record {
-  parts = tc (view c.in-Ok.parts);
-  framed = c.in-Ok.ensures.found;
-  prefix = c.in-Ok.ensures.prefix;
+pub returns : goal.returns
+returns c = record {
+  parts = tc (view c.take_apart-parts.result);
+  framed = c.take_apart-parts.ensures.found;
+  prefix = c.take_apart-parts.ensures.prefix;
   room = refl;
   ocf = refl;
 }

@@ -1,14 +1,10 @@
-use Rattle.std.proofs.Common.{◌≡◌, ℕ, ◌+◌, ◌≤◌, ◌++◌, List, length, ap, sym, ◌∙◌, subst, take, arith, refl, inl, inr, Result}
-use Rattle.std.specs.Prelude.{IfOk}
+use Rattle.std.proofs.Common.{◌≡◌, ℕ, ◌+◌, ◌≤◌, ◌++◌, List, length, ap, sym, ◌∙◌, subst, take, arith, refl, inl, inr}
 use Rattle.std.proofs.lemmas.Bool.{cases_lt, false≢true}
 use Rattle.sdls_base.specs.Suite.{overhead_of}
-use Rattle.sdls_base.specs.declared.layout.FrameFault.{FrameFault}
 use Rattle.sdls_header.specs.SecurityHeader.{Pieces, SplitsInto, header_octets, vector_octets, view}
 use Rattle.sdls_header.specs.Authenticated.{authenticated}
 use Rattle.frame_shield.specs.declared.binding.Binding.{Binding}
-use Rattle.frame_shield.specs.declared.body.Body.{Body}
 use Rattle.frame_shield.specs.AnyFrame.{AnyParts, room_of}
-use Rattle.frame_shield.specs.Body.{IsBody}
 use Rattle.sdls_base.specs.Link.{mask_octets}
 use Rattle.frame_shield.specs.Secured.{header_of}
 use Rattle.frame_shield.proofs.FoundFacts.{text_at}
@@ -16,21 +12,21 @@ use Rattle.frame_shield.proofs.Lengths.{bounded_insert, prefix_bounds}
 use Rattle.frame_shield.proofs.OpenFacts.{no_fault, one_frame}
 use Rattle.frame_shield.proofs.opening.find.Goals as goal
 
-pub unwrap-body-requires : goal.unwrap-body-requires
-unwrap-body-requires c =
-    c.body_of.ensures.ok.1 (no_fault c.args.binding.now.link.layout c.requires.frame.parts c.args.frame.now c.requires.frame.framed)
+pub body_of-body-requires-clause-faultless : goal.body_of-body-requires-clause-faultless
+body_of-body-requires-clause-faultless c =
+    no_fault c.args.binding.now.link.layout c.requires.frame.parts c.args.frame.now c.requires.frame.framed
 
 pub returns-in_default-clause-none : goal.returns-in_default-clause-none
 returns-in_default-clause-none c = λ none n field o.
     let b : Binding = c.args.binding.now in
-    let is = subst (λ (r : Result Body FrameFault). IfOk r (IsBody b.link.layout c.args.frame.now)) c.unwrap-body.ensures c.body_of.ensures.body in
+    let is = c.body_of-body.ensures in
     let parts : o.parts ≡ is.parts = one_frame b.link.layout o.parts is.parts c.args.frame.now o.framed is.framed in
     c.in_default.ensures.only o.pieces (subst (λ (r : List ℕ). SplitsInto b.suite r o.pieces) (ap room_of parts ∙ sym is.room) o.secured.split)
 
 pub new-requires : goal.new-requires
 new-requires c =
     let b : Binding = c.args.binding.now in
-    let is = subst (λ (r : Result Body FrameFault). IfOk r (IsBody b.link.layout c.args.frame.now)) c.unwrap-body.ensures c.body_of.ensures.body in
+    let is = c.body_of-body.ensures in
     let bounds = prefix_bounds b.link.layout is.parts c.args.frame.now (bounded_insert b.link.layout c.requires.binding.link.layout) is.framed in
     omega (arith, bounds.1, ap length is.prefix)
 
@@ -38,8 +34,8 @@ pub returns-clause-found : goal.returns-clause-found
 returns-clause-found c =
     let b : Binding = c.args.binding.now in
     let frame : List ℕ = c.args.frame.now in
-    let body = c.unwrap-body.result in
-    let is = subst (λ (r : Result Body FrameFault). IfOk r (IsBody b.link.layout frame)) c.unwrap-body.ensures c.body_of.ensures.body in
+    let body = c.body_of-body.result in
+    let is = c.body_of-body.ensures in
     let same : is.parts ≡ c.requires.frame.parts = one_frame b.link.layout is.parts c.requires.frame.parts frame is.framed c.requires.frame.framed in
     let pieces : Pieces = view c.in-Some.pieces in
     let split : SplitsInto b.suite (room_of is.parts) pieces = subst (λ (r : List ℕ). SplitsInto b.suite r pieces) is.room c.in-Some.ensures.found in

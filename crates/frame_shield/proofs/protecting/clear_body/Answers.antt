@@ -1,8 +1,6 @@
-use Rattle.std.proofs.Common.{ℕ, length, ap, subst, arith, [], List, Result}
-use Rattle.std.specs.Prelude.{IfOk, unwrap_or, Option}
+use Rattle.std.proofs.Common.{ℕ, length, ap, subst, arith, [], List}
+use Rattle.std.specs.Prelude.{unwrap_or, Option}
 use Rattle.sdls_base.specs.ErrorControl.{error_control_length}
-use Rattle.sdls_base.specs.declared.layout.FrameFault.{FrameFault}
-use Rattle.frame_shield.specs.declared.body.Body.{Body}
 use Rattle.sdls_base.specs.declared.link.AnyLayout.{AnyLayout}
 use Rattle.frame_shield.specs.Binding.{clear_layout}
 use Rattle.frame_shield.specs.Body.{IsBody}
@@ -10,9 +8,7 @@ use Rattle.frame_shield.proofs.Lengths.{length-frame, prefix_bounds, clear_inser
 use Rattle.frame_shield.proofs.protecting.clear_body.Goals as goal
 
 pub returns-clause-body : goal.returns-clause-body
-returns-clause-body c =
-    let found = subst (λ (r : Result Body FrameFault). IfOk r (IsBody c.clear_layout.result c.args.clear.now)) c.unwrap.ensures c.body_of.ensures.body in
-    subst (λ (layout : AnyLayout). IsBody layout c.args.clear.now c.unwrap.result) c.clear_layout.ensures found
+returns-clause-body c = subst (λ (layout : AnyLayout). IsBody layout c.args.clear.now c.body_of.result) c.clear_layout.ensures c.body_of.ensures
 
 pub returns-clause-least : goal.returns-clause-least
 returns-clause-least c =

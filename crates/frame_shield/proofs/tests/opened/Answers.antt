@@ -4,7 +4,7 @@ use Rattle.frame_shield.proofs.tests.opened.Goals as goal
 
 pub unshield-requires-clause-frame : goal.unshield-requires-clause-frame
 unshield-requires-clause-frame c =
-    let body = c.in-Ok.ensures.body in
+    let body = c.body_of.ensures in
     record {
       parts = body.parts;
       framed = body.framed;
