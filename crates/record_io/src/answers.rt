@@ -1,5 +1,5 @@
 // The answers of `run`.
-ghost use Rattle.std.specs.Prelude.{◌≡◌, ◌^◌, ◌<◌, ◌++◌, length};
+ghost use Rattle.std.specs.Prelude.{◌≡◌, ◌++◌};
 ghost use Rattle.record_io.specs.Answers.{answer_octets, header_octets, header_of};
 
 use byteorder::{BigEndian, ByteOrder};
@@ -24,14 +24,13 @@ pub struct Answer {
     pub body: Octets,
 }
 
-/// The first 24 octets of an answer, which its body follows.
+/// The first 24 octets of an answer, which its body follows; the length field is that of the body modulo 2^32.
 #[tactic(auto, unfolding(crate::specs::Answers::answer_octets))]
 pub fn answer_header(answer: &Answer) -> [u8; ANSWER_HEADER]
-    requires { length answer.now.body < 2 ^ 32 }
     ensures header { result ≡ header_octets (header_of answer.now) }
     ensures whole { result ++ answer.now.body ≡ answer_octets answer.now }
 {
-    let len = answer.body.as_slice().len() as u32;
+    let len = (answer.body.as_slice().len() % (1 << 32)) as u32;
     let mut header = [0; ANSWER_HEADER];
     header[0] = answer.code;
     header[1] = answer.detail;

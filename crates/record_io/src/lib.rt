@@ -2,7 +2,7 @@
 //!
 //! [`Reader::next_segment`] reads the records of the input, a segment a call, and says how the segment ends.
 //! [`answer_header`] writes what stands before an answer's body. The numbers that the formats give to kinds, answers
-//! and ends are named in `kinds`, [`code`] and [`status`].
+//! and ends are named in `kinds`, [`code`] and [`status`]; [`Outcome`] is how a call ends.
 #![tactic(auto)]
 
 mod answers;
@@ -10,6 +10,7 @@ pub mod code;
 mod heads;
 mod kinds;
 mod laws;
+mod outcome;
 mod reader;
 mod records;
 pub mod status;
@@ -17,5 +18,6 @@ pub mod status;
 pub use answers::{ANSWER_HEADER, Answer, answer_header};
 pub use kinds::{ItemKind, RecordKind};
 pub use laws::{answers_are_shown, answers_shown_once, begins_reading, input_reads_once};
+pub use outcome::Outcome;
 pub use reader::Reader;
 pub use records::{Record, SegmentEnd};

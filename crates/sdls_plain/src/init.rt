@@ -4,11 +4,11 @@ ghost use Rattle.sdls_plain.specs.Init.{EndsInit, InitEnds, JudgesPlan, cause_te
 ghost use Rattle.sdls_outside.specs.Intake.{TakesAtMost};
 ghost use Rattle.sdls_plain.specs.Output.{Delivers};
 
-use crate::outcome::Outcome;
 use crate::output::put_text;
 use crate::status::{DONE, MALFORMED, NO_MEMORY, NO_STATE, SITE_FAULT, SOURCE_FAULT};
 use disk_journal::create;
 use itoa::Buffer;
+use record_io::Outcome;
 use sdls_outside::{Failed, Site, Source, collect};
 use std::alloc::{AllocError, Global};
 use unit_plan::{MOST_OCTETS, Plan, PlanCause, PlanError, PlanFault};

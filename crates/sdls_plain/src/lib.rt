@@ -12,7 +12,6 @@ mod answer;
 mod check;
 mod frame_check;
 mod init;
-mod outcome;
 mod output;
 mod plain;
 mod refusal;
@@ -21,9 +20,8 @@ mod words;
 
 pub use frame_check::{GREATEST_LENGTH, check_frame};
 pub use init::InitEnd;
-pub use outcome::Outcome;
 pub use plain::run_plain;
-pub use record_io::status;
+pub use record_io::{Outcome, status};
 pub use refusal::Refusal;
 pub use stat::StatEnd;
 pub use words::is_run;

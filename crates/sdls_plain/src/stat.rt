@@ -8,10 +8,10 @@ ghost use Rattle.sdls_plain.specs.Answer.{Ends};
 ghost use Rattle.sdls_plain.specs.Output.{Delivers};
 ghost use Rattle.sdls_plain.specs.Stat.{EndsStat, PutsText, ShowsAlone, TellsBook, end_of_open, fault_text, image_text, stat_status};
 
-use crate::outcome::Outcome;
 use crate::output::put_text;
 use crate::status::{DONE, NO_MEMORY, NO_STATE, SITE_FAULT};
 use itoa::Buffer;
+use record_io::Outcome;
 use sdls_base::NoMemory;
 use sdls_outside::{Failed, Site};
 use status_text::status_text;

@@ -14,6 +14,6 @@ mod laws;
 mod top;
 
 pub use frame_workers::Gate;
-pub use record_io::status;
-pub use sdls_plain::{InitEnd, Outcome, Refusal, check_frame, run_plain};
+pub use record_io::{Outcome, status};
+pub use sdls_plain::{InitEnd, Refusal, check_frame, run_plain};
 pub use top::run;

@@ -14,38 +14,15 @@ ghost use Rattle.sdls_plain.specs.Words.{IsCheck, IsInit, IsNoCommand, IsRun, Is
 
 use crate::laws::stat_keeps_lives;
 use frame_workers::Gate;
+use record_io::Outcome;
 use record_io::status::USAGE;
 use sdls_outside::{Site, Source};
-use sdls_plain::{GREATEST_LENGTH, Outcome, is_run, run_plain};
+use sdls_plain::{GREATEST_LENGTH, is_run, run_plain};
 use std::alloc::Global;
 use std::sync::Wait;
 use std::thread::Threads;
 use unit_plan::MOST_OCTETS;
 use unit_session::run_recorded;
-
-/// Serves the recorded input of the source, with the unit of the site's image.
-fn run_input<R: Threads + Wait + Sync, S: Source, O: Site + Send, G: Gate + Sync>(
-    rt: &R,
-    alloc: Global,
-    source: &mut S,
-    site: O,
-    gate: &G,
-) -> Outcome<O>
-    ensures { let before : SourceSeen = record { told = S.told; left = S.left source.old; faults = S.faults source.old } in
-        let after : SourceSeen = record { told = S.told; left = S.left source.new; faults = S.faults source.new } in
-        EndsAndLives (call_seen O.told O.trace O.faults O.put_faults site result.site before after result.status result.entries.items) }
-{
-    let unit_session::Outcome {
-        status,
-        site,
-        entries,
-    } = run_recorded(rt, alloc, source, site, gate);
-    Outcome {
-        status,
-        site,
-        entries,
-    }
-}
 
 /// Serves the words after the program's name, and answers the status, the site and the run's entries.
 ///
@@ -98,7 +75,7 @@ pub fn run<R: Threads + Wait + Sync, S: Source, O: Site + Send, G: Gate + Sync>(
     ensures no_history { ¬ IsRun words.now → result.entries.items ≡ [] }
 {
     if is_run(words) {
-        return run_input(rt, alloc, source, site, gate);
+        return run_recorded(rt, alloc, source, site, gate);
     }
     stat_keeps_lives();
     run_plain(alloc, words, source, site)

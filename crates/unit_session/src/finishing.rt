@@ -5,10 +5,8 @@ ghost use Rattle.unit_book.specs.Book.{BookView, IsKept};
 ghost use Rattle.run_ends.specs.Account.{end_answer};
 ghost use Rattle.run_steps.specs.Finishing.{Finishes, IsToldEnd, PutsEnd};
 
-use crate::heading::heading;
-use crate::outcome::Outcome;
 use record_io::status::SITE_FAULT;
-use record_io::{Answer, code};
+use record_io::{Answer, Outcome, answer_header, code};
 use run_ends::RunEnd;
 use sdls_base::Octets;
 use sdls_outside::Site;
@@ -75,7 +73,7 @@ fn put_end<O: Site>(alloc: Global, book: &mut Book<O>, came: RunEnd, told: RunEn
         return SITE_FAULT;
     }
     let answer = answer_of(alloc, told, book.count());
-    match book.put(&heading(&answer)) {
+    match book.put(&answer_header(&answer)) {
         Ok(()) => told.status(),
         Err(_) => SITE_FAULT,
     }

@@ -3,15 +3,12 @@
 #![tactic(auto)]
 
 mod finishing;
-mod heading;
-mod outcome;
 mod putting;
 mod running;
 mod serving;
 mod session;
 
 pub use finishing::finish;
-pub use outcome::Outcome;
 pub use running::run_recorded;
 pub use serving::Stop;
 pub use session::Session;

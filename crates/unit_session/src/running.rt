@@ -11,12 +11,11 @@ ghost use Rattle.unit_session.specs.Putting.{IsAlone};
 ghost use Rattle.unit_session.specs.Running.{PutsRefusal, RunsUnit};
 
 use crate::finishing::{answer_of, finish, told_end};
-use crate::heading::heading;
-use crate::outcome::Outcome;
 use crate::session::Session;
 use frame_workers::Gate;
 use image_laws::shown_keeps_rules;
 use record_io::status::SITE_FAULT;
+use record_io::{Outcome, answer_header};
 use run_ends::RunEnd;
 use run_steps::{refused_run_ends, run_ends_well};
 use sdls_outside::{Failed, Site, Source};
@@ -57,7 +56,7 @@ fn refuse<O: Site>(alloc: Global, before: u64, fault: OpenFault, mut site: O) ->
     let now = site.faults();
     let told = told_end(before, now, now, refused_end(fault), Ok(()));
     let answer = answer_of(alloc, told, 0);
-    let put = site.put(&heading(&answer));
+    let put = site.put(&answer_header(&answer));
     Outcome {
         status: status_of(put, told),
         site,

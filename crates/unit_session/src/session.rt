@@ -4,9 +4,8 @@ ghost use Rattle.record_io.specs.Answers.{answer_octets, answers_octets};
 ghost use Rattle.counter_table.specs.Worker.{view};
 ghost use Rattle.unit_session.specs.Putting.{IsAlone, PutsOctets, TakesOctets};
 
-use crate::heading::heading;
 use crate::putting::put_alone;
-use record_io::{ANSWER_HEADER, Answer};
+use record_io::{ANSWER_HEADER, Answer, answer_header};
 use sdls_outside::Site;
 use shared_unit::{Unit, Worker};
 use std::alloc::{AllocError, Global};
@@ -80,7 +79,7 @@ impl<O: Site> Session<O> {
         ensures piece { self.new.piece ≡ self.old.piece }
         ensures puts { PutsOctets O.told (answer_octets answer.now) result (view self.old.worker) (view self.new.worker) }
     {
-        match put_alone(rt, &self.unit, &mut self.worker, &heading(answer)) {
+        match put_alone(rt, &self.unit, &mut self.worker, &answer_header(answer)) {
             Ok(()) => put_alone(rt, &self.unit, &mut self.worker, answer.body.as_slice()),
             Err(fault) => Err(fault),
         }
@@ -100,7 +99,7 @@ impl<O: Site> Session<O> {
         ensures piece { self.new.piece.items ≡ self.old.piece.items ++ answer_octets answer.now }
         ensures others { (self.new.unit ≡ self.old.unit) × (self.new.worker ≡ self.old.worker) }
     {
-        extend_within(&mut self.piece, &heading(answer));
+        extend_within(&mut self.piece, &answer_header(answer));
         extend_within(&mut self.piece, answer.body.as_slice());
     }
 
