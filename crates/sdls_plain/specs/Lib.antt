@@ -4,3 +4,4 @@ pub mod Answer
 pub mod Init
 pub mod Stat
 pub mod Words
+pub mod Taking

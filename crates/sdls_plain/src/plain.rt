@@ -5,6 +5,7 @@ ghost use Rattle.sdls_outside.specs.Intake.{TakesAtMost};
 ghost use Rattle.sdls_plain.specs.Answer.{Ends, EndsCheck, usage_text};
 ghost use Rattle.sdls_plain.specs.Init.{EndsInit};
 ghost use Rattle.sdls_plain.specs.Stat.{EndsStat};
+ghost use Rattle.sdls_plain.specs.Taking.{TakesFew};
 ghost use Rattle.sdls_plain.specs.Words.{IsCheck, IsInit, IsNoCommand, IsStat};
 
 use crate::check::put_check;
@@ -18,7 +19,6 @@ use aes_block::Schedule;
 use record_io::Outcome;
 use sdls_outside::{Failed, Site, Source};
 use std::alloc::Global;
-use unit_plan::MOST_OCTETS;
 
 const USAGE_TEXT: &[u8] = b"usage: sdls check KEY, init, run, stat, drill N\n";
 
@@ -91,14 +91,11 @@ pub fn run_plain<S: Source, O: Site>(
     ensures check { (key : List ℕ) → IsCheck words.now key → EndsCheck key
         (λ input. IsTrue S.told → input ≡ S.left source.old) (Rose (S.faults source.old) (S.faults source.new))
         O.told (O.trace site) (O.trace result.site) (Rose (O.faults site) (O.faults result.site)) result.status }
-    ensures taken { IsTrue S.told → ¬ IsInit words.now
-        → TakesAtMost (GREATEST_LENGTH + 1) (S.left source.old) (S.left source.new) }
+    ensures taken { IsTrue S.told → TakesFew words.now (S.left source.old) (S.left source.new) }
 
     ensures init { IsInit words.now → EndsInit
         (λ input. IsTrue S.told → input ≡ S.left source.old) (source.new ≡ source.old) (Rose (S.faults source.old) (S.faults source.new))
         O.told (O.trace site) (O.trace result.site) (Rose (O.faults site) (O.faults result.site)) result.status }
-    ensures plan_taken { IsTrue S.told → IsInit words.now
-        → TakesAtMost (MOST_OCTETS + 1) (S.left source.old) (S.left source.new) }
 
     ensures stat { IsStat words.now
         → EndsStat O.told (O.trace site) (O.trace result.site) (Rose (O.faults site) (O.faults result.site)) result.status }

@@ -1,6 +1,5 @@
-ghost use Rattle.std.specs.Prelude.{◌≡◌, ℕ, ◌+◌, List, [], IsTrue};
+ghost use Rattle.std.specs.Prelude.{◌≡◌, ℕ, List, [], IsTrue};
 ghost use Rattle.sdls_outside.specs.Faults.{Rose};
-ghost use Rattle.sdls_outside.specs.Intake.{TakesAtMost};
 ghost use Rattle.record_io.specs.Reading.{SourceSeen};
 ghost use Rattle.unit_plan.specs.PlanLines.{PlanLines};
 ghost use Rattle.unit_state.specs.declared.state.State.{State};
@@ -10,6 +9,7 @@ ghost use Rattle.run_steps.specs.Ran.{call_seen};
 ghost use Rattle.sdls_plain.specs.Answer.{Ends, EndsCheck, usage_text};
 ghost use Rattle.sdls_plain.specs.Init.{EndsInit};
 ghost use Rattle.sdls_plain.specs.Stat.{EndsStat};
+ghost use Rattle.sdls_plain.specs.Taking.{TakesFew};
 ghost use Rattle.sdls_plain.specs.Words.{IsCheck, IsInit, IsNoCommand, IsRun, IsStat};
 
 use crate::laws::stat_keeps_lives;
@@ -17,11 +17,10 @@ use frame_workers::Gate;
 use record_io::Outcome;
 use record_io::status::USAGE;
 use sdls_outside::{Site, Source};
-use sdls_plain::{GREATEST_LENGTH, is_run, run_plain};
+use sdls_plain::{is_run, run_plain};
 use std::alloc::Global;
 use std::sync::Wait;
 use std::thread::Threads;
-use unit_plan::MOST_OCTETS;
 use unit_session::run_recorded;
 
 /// Serves the words after the program's name, and answers the status, the site and the run's entries.
@@ -49,14 +48,11 @@ pub fn run<R: Threads + Wait + Sync, S: Source, O: Site + Send, G: Gate + Sync>(
     ensures check { (key : List ℕ) → IsCheck words.now key → EndsCheck key
         (λ input. IsTrue S.told → input ≡ S.left source.old) (Rose (S.faults source.old) (S.faults source.new))
         O.told (O.trace site) (O.trace result.site) (Rose (O.faults site) (O.faults result.site)) result.status }
-    ensures taken { IsTrue S.told → ¬ IsInit words.now → ¬ IsRun words.now
-        → TakesAtMost (GREATEST_LENGTH + 1) (S.left source.old) (S.left source.new) }
+    ensures taken { IsTrue S.told → ¬ IsRun words.now → TakesFew words.now (S.left source.old) (S.left source.new) }
 
     ensures init { IsInit words.now → EndsInit
         (λ input. IsTrue S.told → input ≡ S.left source.old) (source.new ≡ source.old) (Rose (S.faults source.old) (S.faults source.new))
         O.told (O.trace site) (O.trace result.site) (Rose (O.faults site) (O.faults result.site)) result.status }
-    ensures plan_taken { IsTrue S.told → IsInit words.now
-        → TakesAtMost (MOST_OCTETS + 1) (S.left source.old) (S.left source.new) }
 
     ensures stat { IsStat words.now
         → EndsStat O.told (O.trace site) (O.trace result.site) (Rose (O.faults site) (O.faults result.site)) result.status }
