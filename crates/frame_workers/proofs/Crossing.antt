@@ -70,7 +70,7 @@ module _ (O : RattleType) (g : Site.Ghosts O.Denot) (s : IsSend O) where
     ),
   ))
 
-  shelf_send : IsSend (Shelf.the_row O g)
+  pub shelf_send : IsSend (Shelf.the_row O g)
   shelf_send = view_send _ _ _ _ _ (declared_send (ShelfFields.the_type O g) (as_row_send (row_field (Book.the_row O g)) book_send, tt))
 
   pub unit_sync : IsSync (TheUnit.the_row O g)
