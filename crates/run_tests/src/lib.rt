@@ -1,5 +1,4 @@
-//! Tests of `sdls_run` by sources and sites in memory, which fail and crash where a test says so, and by gates that hold a
-//! lane until another was seen. No part of the unit.
+//! Tests of `sdls_run` by sources and sites in memory, which fail and crash where a test says so. No part of the unit.
 //!
 //! They stand here since a crate that has tests in it is proved twice.
 #![tactic(auto)]
@@ -14,8 +13,6 @@ mod faults;
 mod init;
 #[cfg(test)]
 mod inputs;
-#[cfg(test)]
-mod lanes;
 #[cfg(test)]
 mod lives;
 #[cfg(test)]

@@ -1,0 +1,70 @@
+// The answers of a run, as they were put.
+use std::alloc::Global;
+use std::test::Fail;
+
+/// The first 24 octets of an answer.
+#[derive(Clone, Copy, Debug, PartialEq, Eq)]
+pub(crate) struct Head {
+    pub(crate) code: u8,
+    pub(crate) length: u64,
+    pub(crate) position: u64,
+    pub(crate) number: u64,
+}
+
+/// The number that stands in these octets.
+fn number_in(octets: &[u8]) -> u64 {
+    octets
+        .iter()
+        .fold(0, |number, octet| number << 8 | u64::from(*octet))
+}
+
+/// The head that stands in these octets, if there are so many.
+fn head_of(octets: &[u8]) -> Option<Head> {
+    let code = octets.first()?;
+    let length = octets.get(4..8)?;
+    let position = octets.get(8..16)?;
+    let number = octets.get(16..24)?;
+    Some(Head {
+        code: *code,
+        length: number_in(length),
+        position: number_in(position),
+        number: number_in(number),
+    })
+}
+
+/// The heads of so many answers, where these are all that was put.
+pub(crate) fn heads(alloc: Global, sunk: &[u8], count: u64) -> Result<Vec<Head>, Fail> {
+    let mut heads = Vec::new(alloc);
+    let mut rest = sunk;
+    for _ in 0..count {
+        let (octets, behind) = rest.split_at_checked(24).ok_or("an answer lacks")?;
+        let head = head_of(octets).ok_or("an answer is cut")?;
+        rest = behind
+            .get(head.length as usize..)
+            .ok_or("an answer is cut")?;
+        heads.push(head)?;
+    }
+    if rest.is_empty() {
+        Ok(heads)
+    } else {
+        Err("more was put".into())
+    }
+}
+
+/// How many answers have this code.
+pub(crate) fn counted(heads: &[Head], code: u8) -> usize {
+    heads.iter().filter(|head| head.code == code).count()
+}
+
+/// The numbers of the answers with this code, in ascending order and each once.
+pub(crate) fn numbers_of(alloc: Global, heads: &[Head], code: u8) -> Result<Vec<u64>, Fail> {
+    let mut numbers = Vec::new(alloc);
+    for head in heads {
+        if head.code == code {
+            numbers.push(head.number)?;
+        }
+    }
+    numbers.sort()?;
+    numbers.dedup();
+    Ok(numbers)
+}
