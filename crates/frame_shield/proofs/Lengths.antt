@@ -25,7 +25,8 @@ use Rattle.frame_shield.specs.AnyFrame.{AnyParts, tc, tm, aos, IsFrame, prefix_o
 use Rattle.frame_shield.specs.Body.{ocf_of}
 use Rattle.sdls_base.specs.Link.{has_fecf, IsInBounds}
 use Rattle.frame_shield.specs.Binding.{clear_layout, gain_of}
-use Rattle.frame_shield.specs.Shield.{most_of}
+use Rattle.frame_shield.specs.Shield.{most_of, prefix_for}
+use Rattle.std.proofs.lemmas.List.{length-drop}
 
 -- the octets of a frame before its error control field
 abbrev pub octets_before : AnyLayout → AnyParts → List ℕ
@@ -163,3 +164,9 @@ length-tag key iv aad text = refl
 pub length-sealed : (key : List ℕ) (vector : Vector) (covered field : List ℕ) → length (sealed key vector covered field).1 ≡ 16
 length-sealed key (Sequence n) covered field = length-mac key (covered ++ field)
 length-sealed key (Wide device n) covered field = length-tag key (device ++ to_be_bytes w64 n) covered (gctr key (device ++ to_be_bytes w64 n) field)
+
+-- the length field takes no octet more
+pub length-prefix_for : (layout : AnyLayout) (prefix : List ℕ) (n : ℕ) → 5 ≤ length prefix → length (prefix_for layout prefix n) ≡ length prefix
+length-prefix_for (Tc layout) prefix n header = omega (arith, length-drop 5 prefix)
+length-prefix_for (Tm layout) prefix n header = refl
+length-prefix_for (Aos layout) prefix n header = refl

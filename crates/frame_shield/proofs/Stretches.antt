@@ -1,8 +1,7 @@
 -- Stretches of octets: what was written behind a front, and over a part.
-use Rattle.std.proofs.Common.{◌≡◌, ℕ, ◌+◌, ◌-◌, ◌≤◌, List, ◌++◌, length, take, drop, sym, ap, ◌∙◌, arith, length-take-le, append_assoc}
-use Rattle.std.proofs.lemmas.List.{drop-drop, take-take}
-use Rattle.std.proofs.lemmas.Slice.{between_is, take-put_mid, drop-put_mid}
-use borrow.Rule.Slice.PartMut.{put_mid}
+use Rattle.std.proofs.Common.{◌≡◌, ℕ, ◌+◌, ◌-◌, ◌≤◌, List, ◌++◌, length, take, drop, sym, ap, ◌∙◌, arith, length-take-le}
+use Rattle.std.proofs.lemmas.List.{drop-drop, take-take, take-append-drop}
+use Rattle.std.proofs.lemmas.Slice.{between_is}
 use Rattle.sdls_base.proofs.Endings.{take_front, drop_front}
 
 -- what is the same from m on is the same from n on
@@ -22,15 +21,11 @@ middle new old octets m n long e =
     let inner : take (n - m) (drop m new) ≡ drop m (take n new) = between_is new m n in
     inner ∙ ap (λ l. drop m l) e ∙ drop_front (take m old) octets m (sym (length-take-le m old long))
 
--- octets that were written, changed where they lie, and more behind them
-pub changed_written : (old new last octets text more : List ℕ) (m n next : ℕ) → n ≡ m + length text → m ≤ length old → m ≤ length new
-    → take n new ≡ take m old ++ octets → take next last ≡ take n (put_mid m (n - m) new text) ++ more → take next last ≡ take m old ++ (text ++ more)
-changed_written old new last octets text more m n next end long within front back =
-    back ∙ ap (λ l. l ++ more) (take-put_mid m (n - m) new text n end within)
-    ∙ ap (λ l. (l ++ text) ++ more) (take_earlier new old octets m n (omega arith) long front)
-    ∙ simp append_assoc
-
-pub changed_rest : (old new last text : List ℕ) (m n next : ℕ) → n ≡ m + length text → m ≤ length new → n ≤ next
-    → drop n new ≡ drop n old → drop next last ≡ drop next (put_mid m (n - m) new text) → drop next last ≡ drop next old
-changed_rest old new last text m n next end within later rest back =
-    back ∙ drop-put_mid m (n - m) new text next (omega arith) within (omega arith) ∙ drop_later new old n next later rest
+-- a front and the octets behind it, after the front was written anew
+pub front_again : (last new old octets front : List ℕ) (m n : ℕ) → m ≤ n → m ≤ length old → take m last ≡ front → drop m last ≡ drop m new
+    → take n new ≡ take m old ++ octets → take n last ≡ front ++ octets
+front_again last new old octets front m n h long here rest before =
+    let behind : drop m (take n last) ≡ take (n - m) (drop m last) = sym (between_is last m n) in
+    sym (take-append-drop m (take n last))
+    ∙ ap (λ l. l ++ drop m (take n last)) (take-take m n last h ∙ here)
+    ∙ ap (λ l. front ++ l) (behind ∙ ap (λ l. take (n - m) l) rest ∙ middle new old octets m n long before)

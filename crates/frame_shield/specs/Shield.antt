@@ -5,7 +5,9 @@ use Rattle.sdls_header.specs.SecurityHeader.{header_octets}
 use Rattle.frame_shield.specs.declared.binding.Binding.{Binding}
 use Rattle.sdls_base.specs.declared.link.AnyLayout.{AnyLayout}
 use Rattle.sdls_base.specs.declared.link.AnyLayout.TheVariants.{Tc, Tm, Aos}
-use Rattle.frame_shield.specs.Secured.{covered, header_of, sealed}
+use Rattle.sdls_base.specs.Link.{mask_octets}
+use Rattle.sdls_header.specs.Authenticated.{masked_octets}
+use Rattle.frame_shield.specs.Secured.{header_of, sealed}
 
 -- a TC prefix with the length field of a frame of n octets
 abbrev pub with_length_field : List ℕ → ℕ → List ℕ
@@ -25,8 +27,13 @@ prefix_for (Tc layout) prefix n = with_length_field prefix n
 prefix_for (Tm layout) prefix n = prefix
 prefix_for (Aos layout) prefix n = prefix
 
--- the room of a protected frame
+-- the room of a protected frame, behind what stands before it where the MAC is made
+abbrev pub room_behind : Binding → Vector → List ℕ → List ℕ → List ℕ
+room_behind b vector front field =
+    let header = header_octets (header_of b vector) in
+    let seal = sealed b.schedule vector (front ++ header) field in
+    header ++ (seal.0 ++ seal.1)
+
+-- the room of a protected frame with this prefix
 abbrev pub room_for : Binding → Vector → List ℕ → List ℕ → List ℕ
-room_for b vector prefix field =
-    let seal = sealed b.schedule vector (covered b prefix vector) field in
-    header_octets (header_of b vector) ++ (seal.0 ++ seal.1)
+room_for b vector prefix field = room_behind b vector (masked_octets prefix (mask_octets b.link.mask)) field

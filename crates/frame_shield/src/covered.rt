@@ -1,9 +1,8 @@
 ghost use Rattle.std.specs.Prelude.{◌≡◌, ◌+◌, ◌≤◌, ◌++◌, length, take, drop};
 ghost use Rattle.sdls_header.specs.Authenticated.{authenticated, masked_octets};
-ghost use Rattle.sdls_header.specs.SecurityHeader.{header_octets};
 
 use sdls_base::put;
-use sdls_header::{SecurityHeader, masked, write_header};
+use sdls_header::masked;
 use std::marker::Model;
 
 /// The most octets: a primary header of 6, an insert zone of 64 and a security header of 14.
@@ -34,27 +33,17 @@ fn put_masked(out: &mut [u8], prefix: &[u8], mask: &[u8])
     masked(prefix, mask, &mut out[..prefix.len()]);
 }
 
-/// Writes a security header into `out` from place `at` on, and answers the place after it.
-pub fn put_header(out: &mut [u8], at: usize, header: &SecurityHeader) -> usize
-    requires { at + 14 ≤ length out.old }
-    ensures place { result ≡ at + length (header_octets header.now) }
-    ensures written { take result out.new ≡ take at out.old ++ header_octets header.now }
-    ensures rest { drop result out.new ≡ drop result out.old }
-{
-    let mut octets = [0; 14];
-    let count = write_header(header, &mut octets);
-    put(out, at, &octets[..count])
-}
-
 impl Covered {
-    /// The covered text of a frame with this prefix, of at most 70 octets, and this security header.
-    pub fn new(prefix: &[u8], mask: &[u8], header: &SecurityHeader) -> Covered
-        requires { length prefix.now ≤ 70 }
-        ensures { result ≡ authenticated mask.now prefix.now (header_octets header.now) }
+    /// The covered text of a frame with this prefix, of at most 70 octets, and a security header of these octets, at
+    /// most 14.
+    pub fn new(prefix: &[u8], mask: &[u8], header: &[u8]) -> Covered
+        requires prefix { length prefix.now ≤ 70 }
+        requires header { length header.now ≤ 14 }
+        ensures { result ≡ authenticated mask.now prefix.now header.now }
     {
         let mut octets = [0; MOST];
         put_masked(&mut octets, prefix, mask);
-        let used = put_header(&mut octets, prefix.len(), header);
+        let used = put(&mut octets, prefix.len(), header);
         Covered { octets, used }
     }
 

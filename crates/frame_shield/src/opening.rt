@@ -7,7 +7,8 @@ use crate::binding::Binding;
 use crate::body::body_of;
 use crate::covered::Covered;
 use crate::sealing::{number_of, open};
-use sdls_header::{SecurityHeader, Vector, split};
+use sdls_header::{Vector, split};
+use std::simd::u8x16;
 
 /// What came of opening a frame.
 #[derive(Clone, Copy, Debug, PartialEq, Eq)]
@@ -32,9 +33,7 @@ fn mac_of(octets: &[u8]) -> [u8; 16]
     requires { length octets.now ≡ 16 }
     ensures { result ≡ octets.now }
 {
-    let mut mac = [0; 16];
-    mac.copy_from_slice(octets);
-    mac
+    u8x16::from_slice(octets).to_array()
 }
 
 /// Finds text and MAC in a frame of the link. There are none exactly where the room is too short for them.
@@ -48,14 +47,10 @@ fn find(binding: &Binding, frame: &[u8]) -> Option<Found>
     let Some(pieces) = split(body.room, binding.suite) else {
         return None;
     };
-    let header = SecurityHeader {
-        spi: binding.spi,
-        vector: pieces.vector,
-    };
     let start = body.prefix.len() + pieces.header.len();
     Some(Found {
         vector: pieces.vector,
-        covered: Covered::new(body.prefix, binding.link.mask.as_slice(), &header),
+        covered: Covered::new(body.prefix, binding.link.mask.as_slice(), pieces.header),
         mac: mac_of(pieces.mac),
         start,
         end: start + pieces.field.len(),

@@ -2,22 +2,20 @@ ghost use Rattle.std.specs.Prelude.{◌≡◌, ◌+◌, ◌^◌, ◌<◌, ◌≤
 ghost use Rattle.sdls_base.specs.declared.layout.FrameFault.{FrameFault};
 ghost use Rattle.sdls_base.specs.KeyId.{end_of};
 ghost use Rattle.sdls_base.specs.Suite.{overhead_of};
-ghost use Rattle.sdls_header.specs.SecurityHeader.{IsVectorOf};
+ghost use Rattle.sdls_header.specs.SecurityHeader.{IsVectorOf, header_octets};
 ghost use Rattle.frame_shield.specs.Binding.{IsBinding, clear_fault, clear_layout, gain_of};
 ghost use Rattle.frame_shield.specs.Body.{IsBody};
 ghost use Rattle.sdls_base.specs.Link.{IsInBounds};
 ghost use Rattle.frame_shield.specs.Protects.{Protects};
-ghost use Rattle.frame_shield.specs.Secured.{sealed, vector_for};
-ghost use Rattle.frame_shield.specs.Shield.{most_of, with_length_field, prefix_for, room_for};
+ghost use Rattle.frame_shield.specs.Secured.{vector_for};
+ghost use Rattle.frame_shield.specs.Shield.{most_of, with_length_field, prefix_for, room_behind, room_for};
 ghost use Rattle.frame_shield.specs.ShieldFault.{fault_number};
 
 use crate::binding::{Binding, clear_layout, gain_of};
 use crate::body::{Body, body_of, fault_of};
-use crate::covered::{Covered, put_header};
 use crate::sealing::seal;
-use aes_block::Schedule;
 use sdls_base::{AnyLayout, Suite, put, put_fecf, put_optional};
-use sdls_header::{SecurityHeader, Vector};
+use sdls_header::{SecurityHeader, Vector, mask_in_place, write_header};
 use thiserror::Error;
 
 /// Why a frame is not protected.
@@ -86,53 +84,66 @@ fn put_prefix(out: &mut [u8], layout: &AnyLayout, prefix: &[u8], count: usize) -
     }
 }
 
-/// Writes text and MAC of a data field into `out`, from `at` on.
-fn put_sealed(
-    out: &mut [u8],
-    at: usize,
-    key: &Schedule,
-    vector: Vector,
-    covered: &[u8],
-    field: &[u8],
-) -> usize
-    requires covered { length covered.now ≤ 65536 }
-    requires field { length field.now ≤ 65536 }
-    requires room { at + length field.now + 16 ≤ length out.old }
-    ensures place { result ≡ at + length field.now + 16 }
-    ensures written { let seal = sealed key.now vector covered.now field.now in
-        take result out.new ≡ take at out.old ++ (seal.0 ++ seal.1) }
+/// Writes a security header into `out` from place `at` on, and answers the place after it.
+fn put_header(out: &mut [u8], at: usize, header: &SecurityHeader) -> usize
+    requires { at + 14 ≤ length out.old }
+    ensures place { result ≡ at + length (header_octets header.now) }
+    ensures written { take result out.new ≡ take at out.old ++ header_octets header.now }
     ensures rest { drop result out.new ≡ drop result out.old }
 {
-    let text_end = put(out, at, field);
-    let mac = seal(key, vector, covered, &mut out[at..text_end]);
-    put(out, text_end, &mac)
+    let mut octets = [0; 14];
+    let count = write_header(header, &mut octets);
+    put(out, at, &octets[..count])
 }
 
-/// Writes security header, text and MAC of a data field into `out`, behind the prefix that ends at `at`.
+/// Writes security header, text and MAC of a data field into `out` from `at` on. The MAC covers what stands before `at`.
 fn put_room(out: &mut [u8], at: usize, binding: &Binding, vector: Vector, field: &[u8]) -> usize
-    requires mask { binding.now.link.mask.length ≤ 6 }
     requires vector { IsVectorOf binding.now.suite vector }
-    requires prefix { at ≤ 70 }
+    requires front { at ≤ 70 }
     requires field { length field.now ≤ 2048 }
     requires room { at + overhead_of binding.now.suite + length field.now ≤ length out.old }
     ensures place { result ≡ at + overhead_of binding.now.suite + length field.now }
-    ensures written { take result out.new ≡ take at out.old ++ room_for binding.now vector (take at out.old) field.now }
+    ensures written { take result out.new ≡ take at out.old ++ room_behind binding.now vector (take at out.old) field.now }
     ensures rest { drop result out.new ≡ drop result out.old }
 {
     let header = SecurityHeader {
         spi: binding.spi,
         vector,
     };
-    let covered = Covered::new(&out[..at], binding.link.mask.as_slice(), &header);
     let text_start = put_header(out, at, &header);
-    put_sealed(
-        out,
-        text_start,
-        &binding.schedule,
-        vector,
-        covered.as_slice(),
-        field,
-    )
+    let text_end = put(out, text_start, field);
+    let mac = seal(&binding.schedule, vector, &mut out[..text_end], text_start);
+    put(out, text_end, &mac)
+}
+
+/// Writes prefix, security header, text and MAC of the protected frame of `count` octets into the front of `out`. The
+/// MAC is over the masked prefix, which stands in the prefix's place until it is made.
+fn put_secured(
+    out: &mut [u8],
+    binding: &Binding,
+    vector: Vector,
+    prefix: &[u8],
+    field: &[u8],
+    count: usize,
+) -> usize
+    requires mask { binding.now.link.mask.length ≤ 6 }
+    requires vector { IsVectorOf binding.now.suite vector }
+    requires layout { IsInBounds binding.now.link.layout }
+    requires count { (1 ≤ count) × (count ≤ most_of binding.now.link.layout) }
+    requires prefix { (5 ≤ length prefix.now) × (length prefix.now ≤ 70) }
+    requires field { length field.now ≤ 2048 }
+    requires room { length prefix.now + overhead_of binding.now.suite + length field.now ≤ length out.old }
+    ensures place { result ≡ length prefix.now + overhead_of binding.now.suite + length field.now }
+    ensures written { let front = prefix_for binding.now.link.layout prefix.now count in
+        take result out.new ≡ front ++ room_for binding.now vector front field.now }
+    ensures rest { drop result out.new ≡ drop result out.old }
+{
+    let layout = &binding.link.layout;
+    let room_start = put_prefix(out, layout, prefix, count);
+    mask_in_place(&mut out[..room_start], binding.link.mask.as_slice());
+    let room_end = put_room(out, room_start, binding, vector, field);
+    put_prefix(out, layout, prefix, count);
+    room_end
 }
 
 /// The vector of the suite that carries a number.
@@ -179,8 +190,7 @@ pub fn shield(binding: &Binding, number: u64, clear: &[u8], out: &mut [u8]) -> u
     let body = clear_body(binding, clear);
     let count = clear.len() + gain_of(binding.suite, layout);
     let vector = vector_for(binding.suite, binding.device, number);
-    let room_start = put_prefix(out, layout, body.prefix, count);
-    let room_end = put_room(out, room_start, binding, vector, body.room);
+    let room_end = put_secured(out, binding, vector, body.prefix, body.room, count);
     let body_end = put_optional(out, room_end, body.ocf);
     put_fecf(out, body_end, layout.has_fecf())
 }

@@ -1,14 +1,13 @@
-ghost use Rattle.std.specs.Prelude.{◌≡◌, ℕ, ◌≤◌, ◌++◌, List, length};
+ghost use Rattle.std.specs.Prelude.{◌≡◌, ℕ, ◌≤◌, ◌++◌, List, length, take, drop};
 ghost use Rattle.std.specs.Bool.{OnTrue, OnFalse};
-ghost use Rattle.std.specs.Int.{w64, to_be_bytes};
 ghost use Rattle.cmac.specs.Cmac.{mac};
 ghost use Rattle.frame_shield.specs.Secured.{sealed, number_of};
 
 use aes_block::Schedule;
-use cmac::Running;
+use cmac::{Running, mac};
 use gcm::{BadTag, open_in_place, opens_what_was_sealed, seal_in_place};
-use sdls_base::{put, same_octets};
-use sdls_header::Vector;
+use sdls_base::same_octets;
+use sdls_header::{Vector, wide_octets};
 
 /// The MAC over one text followed by another.
 fn mac_over(key: &Schedule, covered: &[u8], field: &[u8]) -> [u8; 16]
@@ -18,16 +17,6 @@ fn mac_over(key: &Schedule, covered: &[u8], field: &[u8]) -> [u8; 16]
     running.update(covered);
     running.update(field);
     running.finish()
-}
-
-/// The octets of a vector.
-fn vector_octets(device: [u8; 4], number: u64) -> [u8; 12]
-    ensures { result ≡ device ++ to_be_bytes w64 number }
-{
-    let mut octets = [0; 12];
-    let device_end = put(&mut octets, 0, &device);
-    put(&mut octets, device_end, &number.to_be_bytes());
-    octets
 }
 
 /// The number that a vector carries.
@@ -40,16 +29,19 @@ pub fn number_of(vector: Vector) -> u64
     }
 }
 
-/// Makes the text of a data field where it lies, and gives its MAC.
-pub fn seal(key: &Schedule, vector: Vector, covered: &[u8], text: &mut [u8]) -> [u8; 16]
-    requires covered { length covered.now ≤ 65536 }
-    requires text { length text.old ≤ 65536 }
-    ensures { (text.new, result) ≡ sealed key.now vector covered.now text.old }
+/// Makes the text of a data field where it lies, from `start` on, and gives its MAC, which covers what stands before it.
+pub fn seal(key: &Schedule, vector: Vector, octets: &mut [u8], start: usize) -> [u8; 16]
+    requires start { start ≤ length octets.old }
+    requires most { length octets.old ≤ 65536 }
+    ensures covered { take start octets.new ≡ take start octets.old }
+    ensures text { (drop start octets.new, result)
+        ≡ sealed key.now vector (take start octets.old) (drop start octets.old) }
 {
     match vector {
-        Vector::Sequence(_) => mac_over(key, covered, text),
+        Vector::Sequence(_) => mac(key, octets),
         Vector::Wide { device, number } => {
-            seal_in_place(key, &vector_octets(device, number), covered, text)
+            let (covered, text) = octets.split_at_mut(start);
+            seal_in_place(key, &wide_octets(device, number), covered, text)
         }
     }
 }
@@ -67,7 +59,7 @@ pub fn open(key: &Schedule, vector: Vector, covered: &[u8], text: &mut [u8], mac
         Vector::Sequence(_) => same_octets(&mac_over(key, covered, text), mac),
         Vector::Wide { device, number } => {
             opens_what_was_sealed();
-            match open_in_place(key, &vector_octets(device, number), covered, text, mac) {
+            match open_in_place(key, &wide_octets(device, number), covered, text, mac) {
                 Ok(()) => true,
                 Err(BadTag) => false,
             }

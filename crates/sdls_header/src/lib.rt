@@ -1,16 +1,16 @@
 //! The security header and the authentication bit mask (CCSDS 355.0-B).
 //!
 //! `split` takes the room of a protected frame apart into security header, data field and MAC; `write_header` writes
-//! the header. `masked` puts a frame's prefix under the link's mask. Which suites there are is profile.
+//! the header. `mask_in_place` and `masked` put a frame's prefix under the link's mask. Which suites there are is profile.
 #![tactic(auto)]
 
 mod mask;
 mod pieces;
 mod splitting;
 
-pub use mask::masked;
+pub use mask::{mask_in_place, masked};
 pub use pieces::{SecurityHeader, Split, Vector};
-pub use splitting::{read_spi, split, write_header};
+pub use splitting::{read_spi, split, wide_octets, write_header};
 
 #[cfg(test)]
 mod tests;

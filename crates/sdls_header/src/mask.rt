@@ -1,19 +1,29 @@
 ghost use Rattle.std.specs.Prelude.{◌≡◌, ℕ, ◌<◌, length, slice_index, bit_and};
 ghost use Rattle.sdls_header.specs.Authenticated.{masked_octets};
 
-/// Puts each octet of a frame's prefix under its octet of the mask (CCSDS 355.0-B, authentication bit mask) into `out`.
-/// Past the mask's end the mask is 00; what the mask has past the prefix is not looked at.
+/// Puts each octet of a frame's prefix under its octet of the mask (CCSDS 355.0-B, authentication bit mask), where it
+/// lies. Past the mask's end the mask is 00; what the mask has past the prefix is not looked at.
+pub fn mask_in_place(prefix: &mut [u8], mask: &[u8])
+    ensures octets { (i : ℕ) → i < length prefix.old
+        → slice_index prefix.new i ≡ bit_and (slice_index prefix.old i) (slice_index mask.now i) }
+    ensures text { prefix.new ≡ masked_octets prefix.old mask.now }
+{
+    let under = prefix.len().min(mask.len());
+    'octets: for i in 0..under {
+        prefix[i] &= mask[i];
+    }
+    'rest: for i in under..prefix.len() {
+        prefix[i] = 0;
+    }
+}
+
+/// Writes a frame's prefix under the mask into `out`, as [`mask_in_place`] puts it.
 pub fn masked(prefix: &[u8], mask: &[u8], out: &mut [u8])
     requires { length prefix.now ≡ length out.old }
     ensures octets { (i : ℕ) → i < length prefix.now
         → slice_index out.new i ≡ bit_and (slice_index prefix.now i) (slice_index mask.now i) }
     ensures text { out.new ≡ masked_octets prefix.now mask.now }
 {
-    let under = prefix.len().min(mask.len());
-    'octets: for i in 0..under {
-        out[i] = prefix[i] & mask[i];
-    }
-    'rest: for i in under..prefix.len() {
-        out[i] = 0;
-    }
+    out.copy_from_slice(prefix);
+    mask_in_place(out, mask);
 }

@@ -67,7 +67,8 @@ pub fn split<'a>(room: &'a [u8], suite: Suite) -> Option<Split<'a>>
     })
 }
 
-fn wide_octets(device: [u8; 4], number: u64) -> [u8; 12]
+/// The octets of the GCM suite's vector.
+pub fn wide_octets(device: [u8; 4], number: u64) -> [u8; 12]
     ensures { result ≡ device ++ to_be_bytes w64 number }
 {
     let [a, b, c, d] = device;

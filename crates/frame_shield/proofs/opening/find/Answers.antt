@@ -4,7 +4,7 @@ use Rattle.sdls_base.specs.Suite.{overhead_of}
 use Rattle.sdls_header.specs.SecurityHeader.{Pieces, SplitsInto, header_octets, vector_octets, view}
 use Rattle.sdls_header.specs.Authenticated.{authenticated}
 use Rattle.frame_shield.specs.declared.binding.Binding.{Binding}
-use Rattle.frame_shield.specs.AnyFrame.{AnyParts, room_of}
+use Rattle.frame_shield.specs.AnyFrame.{AnyParts, prefix_of, room_of}
 use Rattle.sdls_base.specs.Link.{mask_octets}
 use Rattle.frame_shield.specs.Secured.{header_of}
 use Rattle.frame_shield.proofs.FoundFacts.{text_at}
@@ -23,8 +23,8 @@ returns-in_default-clause-none c = λ none n field o.
     let parts : o.parts ≡ is.parts = one_frame b.link.layout o.parts is.parts c.args.frame.now o.framed is.framed in
     c.in_default.ensures.only o.pieces (subst (λ (r : List ℕ). SplitsInto b.suite r o.pieces) (ap room_of parts ∙ sym is.room) o.secured.split)
 
-pub new-requires : goal.new-requires
-new-requires c =
+pub new-requires-clause-prefix : goal.new-requires-clause-prefix
+new-requires-clause-prefix c =
     let b : Binding = c.args.binding.now in
     let is = c.body_of-body.ensures in
     let bounds = prefix_bounds b.link.layout is.parts c.args.frame.now (bounded_insert b.link.layout c.requires.binding.link.layout) is.framed in
@@ -58,8 +58,9 @@ returns-clause-found c =
       header = header;
       vector = refl;
       covered = c.new.ensures
-          ∙ ap (λ (l : List ℕ). authenticated l body.prefix.now (header_octets (header_of b pieces.vector))) c.as_slice.ensures
-          ∙ ap (λ (l : List ℕ). authenticated (mask_octets b.link.mask) l (header_octets (header_of b pieces.vector))) is.prefix;
+          ∙ ap (λ (l : List ℕ). authenticated l body.prefix.now pieces.header) c.as_slice.ensures
+          ∙ ap (λ (l : List ℕ). authenticated (mask_octets b.link.mask) l pieces.header) is.prefix
+          ∙ ap (λ (l : List ℕ). authenticated (mask_octets b.link.mask) (prefix_of b.link.layout is.parts) l) header;
       mac = c.mac_of.ensures;
       text = text.0;
       start = place;

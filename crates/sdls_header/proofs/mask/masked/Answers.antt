@@ -1,7 +1,0 @@
-use Rattle.std.proofs.Common.{arith}
-use Rattle.sdls_header.proofs.Masks.{masked_from_places}
-use Rattle.sdls_header.proofs.mask.masked.Goals as goal
-
-pub returns-clause-text : goal.returns-clause-text
-returns-clause-text c =
-    masked_from_places c.args.prefix.now c.args.mask.now c.rest.out (omega arith) (λ k h. c.rest.invariant k (omega arith))
