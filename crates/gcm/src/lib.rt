@@ -10,8 +10,6 @@ mod field;
 mod hash;
 mod seal;
 mod table;
-#[cfg(test)]
-mod tests;
 
 pub use seal::{BadTag, open_in_place, opens_what_was_sealed, seal_in_place};
 pub use table::Table;

@@ -1,12 +1,11 @@
-// A second GCM, octet by octet, with each power of the hash subkey made afresh.
+// GCM against a second one, octet by octet, with each power of the hash subkey made afresh.
 
 ghost use Rattle.std.specs.Prelude.{◌≤◌, length};
 
-use super::{IV, KEY, schedule_of, vector_of};
-use crate::seal_in_place;
+use crate::published::{IV, vector_of};
 use aes_block::Schedule;
+use gcm::seal_in_place;
 use std::alloc::{AllocError, Global};
-use std::test::Fail;
 
 // Horner's rule, from the coefficient of x^127 down.
 fn times(a: u128, b: u128) -> u128 {
@@ -75,16 +74,16 @@ fn plain_seal(
     Ok((ghash(h, &blocks) ^ mask).to_be_bytes())
 }
 
-#[test]
-fn equals_a_plain_gcm_at_each_length(rt: HostRuntime) -> Result<(), Fail> {
-    let key = schedule_of(&[KEY, KEY], 32)?;
+/// Texts of 0 to 257 octets: those to 65 with additional data of each length from 0 to 33, and each longer one with
+/// additional data of one of these lengths.
+pub fn lengths(alloc: Global, key: &Schedule) -> Result<u32, AllocError> {
     let iv = vector_of(IV);
     let mut octets = [0u8; 257];
     for i in 0..257 {
         octets[i] = (i % 256) as u8;
     }
+    let mut agreed = 0u32;
     for text_len in 0..258usize {
-        // A short text has each length of additional data, a longer one a length of its own.
         let (least, end) = if text_len < 66 {
             (0, 34)
         } else {
@@ -94,11 +93,12 @@ fn equals_a_plain_gcm_at_each_length(rt: HostRuntime) -> Result<(), Fail> {
             let mut text = octets;
             let mut plain = octets;
             let aad = &octets[..aad_len];
-            let tag = seal_in_place(&key, &iv, aad, &mut text[..text_len]);
-            let plain_tag = plain_seal(rt.alloc(), &key, &iv, aad, &mut plain[..text_len])?;
-            assert_eq!(rt; tag, plain_tag, "{text_len} and {aad_len}");
-            assert_eq!(rt; text, plain, "{text_len} and {aad_len}");
+            let tag = seal_in_place(key, &iv, aad, &mut text[..text_len]);
+            let plain_tag = plain_seal(alloc, key, &iv, aad, &mut plain[..text_len])?;
+            if tag == plain_tag && text == plain {
+                agreed = agreed.wrapping_add(1);
+            }
         }
     }
-    Ok(())
+    Ok(agreed)
 }
