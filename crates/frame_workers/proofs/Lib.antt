@@ -1,6 +1,7 @@
 pub mod Keeping
 pub mod Steps
 pub mod Fulls
+pub mod Exactly
 pub mod Joins
 pub mod Places
 pub mod Splits

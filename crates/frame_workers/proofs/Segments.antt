@@ -1,8 +1,9 @@
 -- All lanes of a segment, split off, run and joined.
-use Rattle.std.proofs.Common.{◌≡◌, ℕ, zero, suc, ◌+◌, ◌-◌, ◌<◌, ◌==◌, List, [], ◌∷◌, ◌++◌, length, take, drop, get_or, Bool, true, false, ◌||◌, Some, None, Option, refl, sym, ◌∙◌, ap, subst, arith, length-append, append-nil}
+use Rattle.std.proofs.Common.{◌≡◌, ℕ, zero, suc, ◌+◌, ◌-◌, ◌<◌, ◌≤◌, ◌==◌, ◌⊎◌, List, [], ◌∷◌, ◌++◌, length, take, drop, get_or, Bool, true, false, cond, if◌then◌else◌, ◌||◌, Some, None, Option, refl, sym, ◌∙◌, ap, subst, inl, inr, arith, length-append, append-nil}
 use Rattle.std.specs.List.{All, AllPairs, Contains, list_any, slice_get, slice_index_or}
+use Rattle.std.proofs.lemmas.Bool.{cases_eq}
 use Rattle.std.proofs.lemmas.Bool.Decides.{nat_tests}
-use Rattle.std.proofs.lemmas.List.{take_all, drop_all}
+use Rattle.std.proofs.lemmas.List.{take_all, drop_all, length-take}
 use Rattle.std.proofs.lemmas.List.Elements.{All-contains}
 use Rattle.counter_table.specs.declared.counters.Worker.{Worker}
 use Rattle.counter_table.specs.declared.view.View.{View}
@@ -18,6 +19,7 @@ use Rattle.unit_work.proofs.Joining.{grows_itself, grows_further}
 use Rattle.unit_work.proofs.Handling.{handled_nothing}
 use Rattle.unit_work.proofs.Lanes.{lanes_handled, lanes_grow}
 use Rattle.frame_workers.specs.declared.lane.Lane.{Lane}
+use Rattle.unit_machine.specs.Alone.{MovedExactly}
 use Rattle.unit_calls.specs.Answering.{IsFullFor}
 use Rattle.unit_calls.specs.Visiting.{BeganWith}
 use Rattle.frame_workers.specs.Ends.{EndsSegment}
@@ -25,6 +27,7 @@ use Rattle.frame_workers.specs.Lanes.{HasRun, IsSplit, part_of, parts_of, answer
 use Rattle.frame_workers.proofs.Keeping.{begun_at, began_at}
 use Rattle.frame_workers.proofs.Steps.{lane_next, lane_whole}
 use Rattle.frame_workers.proofs.Fulls.{full_stays, looked_back}
+use Rattle.frame_workers.proofs.Exactly.{looked, none_exactly, joined_exactly}
 use Rattle.frame_workers.proofs.Joins.{parts_all, parts_apart, parts_counted, part_among, answers_found}
 
 -- one worker took in those of lanes that have a share each
@@ -54,6 +57,10 @@ pub by_flag : (begin : Begin) (old new : View) (tasks : List Record) (answers : 
 by_flag begin old new tasks answers false all stops = all refl
 by_flag begin old new tasks answers true all stops = stops refl
 
+pub by_end : {P Q : Type 0} (full : Bool) → (full ≡ false → P) → (full ≡ true → Q) → P ⊎ Q
+by_end false one other = inl (one refl)
+by_end true one other = inr (other refl)
+
 pub stops_same : (tasks : List Record) (place : ℕ) (one other : ℕ → List Answer) → ((n : ℕ) → one n ≡ other n) → StopsAt tasks one place → StopsAt tasks other place
 stops_same tasks place one other same stop = record {
   task = stop.task;
@@ -79,6 +86,40 @@ used (t ∷ rs) (suc k) r is = let rest = used rs k r is in or_right (is_of_lane
     or_right : (a b : Bool) → b ≡ true → (a || b) ≡ true
     or_right true b h = refl
     or_right false b h = h
+
+-- the records of one lane, where all are
+one_of : (lane : ℕ) (rs : List Record) → All (λ (t : Record). t.lane ≡ lane) rs → of_lane lane rs ≡ rs
+one_of lane [] all = refl
+one_of lane (r ∷ rs) all =
+    let is : r.lane ≡ lane = all 0 r (omega arith) in
+    let own : is_of_lane lane r ≡ true = grind (arith, nat_tests) in
+    ap (λ (b : Bool). cond b (r ∷ of_lane lane rs) (of_lane lane rs)) own ∙ ap (λ (l : List Record). r ∷ l) (one_of lane rs (λ k d l. all (suc k) d (omega arith)))
+
+-- no other lane has a record then
+used_lane : (n lane : ℕ) (rs : List Record) → All (λ (t : Record). t.lane ≡ lane) rs → list_any (is_of_lane n) rs ≡ true → n ≡ lane
+used_lane n lane [] all some = absurd (let e : ◌≡◌ {A = Bool} false true = some in cc)
+used_lane n lane (r ∷ rs) all some = elim (cases_eq r.lane n) [
+  | inl is ↦ sym is ∙ all 0 r (omega arith)
+  | inr off ↦
+      let f : is_of_lane n r ≡ false = grind (arith, nat_tests) in
+      used_lane n lane rs (λ k d l. all (suc k) d (omega arith)) (subst (λ (b : Bool). (b || list_any (is_of_lane n) rs) ≡ true) f some)
+]
+
+short_lane : (n : ℕ) (rs : List Record) → length (of_lane n rs) ≤ length rs
+short_lane n [] = omega arith
+short_lane n (r ∷ rs) = let h = short_lane n rs in go (is_of_lane n r) h
+  where
+    go : (b : Bool) → length (of_lane n rs) ≤ length rs → length (cond b (r ∷ of_lane n rs) (of_lane n rs)) ≤ suc (length rs)
+    go true h = omega arith
+    go false h = omega arith
+
+few_of : (begin : Begin) (v w : View) (ts : List Record) (xs : List Answer) (full : Bool) → EndsSegment begin v w ts xs full → length xs ≤ length ts
+few_of begin v w ts xs false same = omega arith
+few_of begin v w ts xs true (task, there, is) = let low = (found ts (length xs) task there).0 in omega arith
+
+none_of : (xs : List Answer) → length xs ≡ 0 → xs ≡ []
+none_of [] h = refl
+none_of (x ∷ xs) h = absurd (omega arith)
 
 module _ {B : Type 0} (ready : Worker B → Type 0) (told : Bool) (rs : List Record) (base : View) (old new : List (Lane B))
     (split : All (IsSplit ready rs base) old) (apart : AllPairs AreApart old)
@@ -177,6 +218,95 @@ module _ {B : Type 0} (ready : Worker B → Type 0) (told : Bool) (rs : List Rec
           let shares = joined_shares in
           (looked_back layout begin joined joined [] [] (handled_nothing layout begin joined []) (omega arith) joined_free joined_filled
           (subst (λ (n : ℕ). Meets n (keeping joined) (starting joined)) (sym rows) back)).does.grows
+
+      -- Where all records are of one lane, there is one worker at most beside the one that it was split from.
+      at_most_one : (os : List (Lane B)) → All (IsSplit ready rs base) os → AllPairs AreApart os → (lane : ℕ) → All (λ (t : Record). t.lane ≡ lane) rs → length os ≤ 1
+      at_most_one [] of_them differ lane all = omega arith
+      at_most_one (l ∷ []) of_them differ lane all = omega arith
+      at_most_one (l ∷ m ∷ os) of_them differ lane all =
+          let a = used_lane l.number lane rs all (of_them 0 l (omega arith)).used in
+          let b = used_lane m.number lane rs all (of_them 1 l (omega arith)).used in
+          absurd (differ 0 1 l (omega arith) (omega arith) (a ∙ sym b))
+
+      no_records : old ≡ [] → All (λ (t : Record). t.lane < 16) rs → (ts : List Record) → ts ≡ rs → ts ≡ []
+      no_records none low [] is = refl
+      no_records none low (t ∷ ts) is =
+          let below : t.lane < 16 = subst (All (λ (r : Record). r.lane < 16)) (sym is) low 0 t (omega arith) in
+          let there = each t.lane below (subst (λ (l : List Record). list_any (is_of_lane t.lane) l ≡ true) is (used (t ∷ ts) 0 t refl)) in
+          absurd (nobody (subst (IsThere t.lane) none there))
+        where
+          nobody : {n : ℕ} → IsThere {B = B} n [] → ⊥
+          nobody (lane, (k, low, here), number) = omega arith
+
+      last_of : List (Lane B) → View
+      last_of ns = looked (meeting_all now (parts_of ns))
+
+      pub all_exactly : (lane : ℕ) → All (λ (t : Record). t.lane ≡ lane) rs → All (λ (t : Record). t.lane < 16) rs → (begin : Begin) (s : ℕ)
+          → BeganWith told begin base.turn.known.opening → (answers rest : List Answer) → answers ++ rest ≡ answers_of lane (parts_of new)
+          → (length answers ≡ length rs) ⊎ StopsAt rs (λ n. answers_of n (parts_of new)) (length answers)
+          → MovedExactly begin base last (length rs) (deeds_of s rs answers)
+      unfolding last_of
+      all_exactly lane all low begin s b answers rest is how = go old new refl refl many (at_most_one old split apart lane all)
+        where
+          go : (os ns : List (Lane B)) → old ≡ os → new ≡ ns → length ns ≡ length os → length os ≤ 1
+              → MovedExactly begin base last (length rs) (deeds_of s rs answers)
+          go [] [] old_is new_is size one =
+              let last_is : last ≡ looked (giving (length old) base) = ap last_of new_is ∙ ap looked given in
+              subst (λ (v : View). MovedExactly begin base v (length rs) (deeds_of s rs answers)) (sym last_is)
+              (subst (λ (ts : List Record). MovedExactly begin base (looked (giving (length old) base)) (length ts) (deeds_of s ts answers)) (sym (no_records old_is low rs refl))
+              (none_exactly begin (length old) base))
+          go [] (m ∷ ns) old_is new_is size one = absurd (omega arith)
+          go (l ∷ os) [] old_is new_is size one = absurd (omega arith)
+          go (l ∷ k ∷ os) ns old_is new_is size one = absurd (omega arith)
+          go (l ∷ []) (m ∷ k ∷ ns) old_is new_is size one = absurd (omega arith)
+          go (l ∷ []) (m ∷ []) old_is new_is size one =
+              let at_old : slice_index_or old 0 l ≡ l = ap (λ (ls : List (Lane B)). slice_index_or ls 0 l) old_is in
+              let at_new : slice_index_or new 0 l ≡ m = ap (λ (ls : List (Lane B)). slice_index_or ls 0 l) new_is in
+              let inside : 0 < length old = (let z = ap length old_is in omega arith) in
+              let run : HasRun ready told rs l m = subst (λ (o : Lane B). HasRun ready told rs o m) at_old
+              (subst (HasRun ready told rs (slice_index_or old 0 l)) at_new (ran 0 l inside)) in
+              let is_split : IsSplit ready rs base l = subst (IsSplit ready rs base) at_old (split 0 l inside) in
+              let number : l.number ≡ lane = used_lane l.number lane rs all is_split.used in
+              let w : View = view m.worker in
+              let xs : List Answer = m.answers.items in
+              let from : BeganWith told begin (view l.worker).turn.known.opening =
+              subst (λ (v : View). BeganWith told begin v.turn.known.opening) (sym is_split.from) b in
+              let mine : of_lane l.number rs ≡ rs = ap (λ (n : ℕ). of_lane n rs) number ∙ one_of lane rs all in
+              let exactly : MovedExactly begin (starting base) w (length rs) (deeds_of s rs xs) =
+              subst (λ (v : View). MovedExactly begin v w (length rs) (deeds_of s rs xs)) is_split.from
+              (subst (λ (ts : List Record). MovedExactly begin (view l.worker) w (length ts) (deeds_of s ts xs)) mine (run.exactly begin s from)) in
+              let apart_from : Layout = record { lane_of = λ i. 0; segment_of = λ i. 0 } in
+              let handled : Handled apart_from begin (starting base) w rs (deeds_of s rs xs) =
+              subst (λ (v : View). Handled apart_from begin v w rs (deeds_of s rs xs)) is_split.from
+              (subst (λ (ts : List Record). Handled apart_from begin (view l.worker) w ts (deeds_of s ts xs)) mine (run.handled begin apart_from s from)) in
+              let most : length xs ≤ length rs = few_of begin (view l.worker) w rs xs m.full
+              (subst (λ (ts : List Record). EndsSegment begin (view l.worker) w ts xs m.full) mine (run.ends begin from)) in
+              let own : m.number ≡ lane = run.number ∙ number in
+              let own_test : (m.number == lane) ≡ true = grind (arith, nat_tests) in
+              let theirs : answers_of lane (parts_of new) ≡ xs = ap (λ (ls : List (Lane B)). answers_of lane (parts_of ls)) new_is
+              ∙ ap (λ (t : Bool). if t then xs else []) own_test in
+              let no_more : rest ≡ [] = none_of rest (ends_with xs theirs most how) in
+              let same : answers ≡ xs = sym (append-nil answers) ∙ (ap (λ (l : List Answer). answers ++ l) (sym no_more) ∙ (is ∙ theirs)) in
+              let last_is : last ≡ looked (meeting (giving (length old) base) w) =
+              ap last_of new_is ∙ ap (λ (v : View). looked (meeting v w)) given in
+              let at_w : view (slice_index_or new 0 l).worker ≡ w = ap (λ (n : Lane B). view n.worker) at_new in
+              let grows : Grows w last = subst (λ (v : View). Grows v last) at_w (grows_further (view (slice_index_or new 0 l).worker) joined last
+              (All-contains (λ (p : Part). Grows p.knows joined) (parts_of new) (part_of (slice_index_or new 0 l)) joined_grows (part_among new 0 l (omega arith))) last_grows) in
+              subst (λ (v : View). MovedExactly begin base v (length rs) (deeds_of s rs answers)) (sym last_is)
+              (subst (λ (ys : List Answer). MovedExactly begin base (looked (meeting (giving (length old) base) w)) (length rs) (deeds_of s rs ys)) (sym same)
+              (joined_exactly begin (length old) base w rs (deeds_of s rs xs) (length rs) handled.does (subst (Grows w) last_is grows) exactly))
+            where
+              ends_with : (xs : List Answer) → answers_of lane (parts_of new) ≡ xs → length xs ≤ length rs
+                  → (length answers ≡ length rs) ⊎ StopsAt rs (λ n. answers_of n (parts_of new)) (length answers) → length rest ≡ 0
+              ends_with xs theirs most (inl each_has) = let sum = length-append answers rest in let z = ap length (is ∙ theirs) in omega arith
+              ends_with xs theirs most (inr stop) =
+                  let at = found rs (length answers) stop.task stop.there in
+                  let its : stop.task.lane ≡ lane = subst (λ (t : Record). t.lane ≡ lane) (sym at.1) (all (length answers) stop.task at.0) in
+                  let left : length (answers_of lane (parts_of new)) ≡ length (of_lane lane (take (length answers) rs)) =
+                  subst (λ (n : ℕ). length (answers_of n (parts_of new)) ≡ length (of_lane n (take (length answers) rs))) its stop.none_left in
+                  let short = short_lane lane (take (length answers) rs) in
+                  let front = length-take (length answers) rs in
+                  let sum = length-append answers rest in let z = ap length is in let y = ap length theirs in omega arith
 
       starts : Grows base (starting base)
       starts = record { nexts = λ r. omega arith; earlier = (grows_itself base).earlier; opening = refl; epochs = omega arith }

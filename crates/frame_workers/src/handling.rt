@@ -8,7 +8,7 @@ ghost use Rattle.shared_unit.specs.Protecting.{IsTrueIfKept};
 ghost use Rattle.shared_unit.specs.Turn.{IsReady};
 ghost use Rattle.unit_work.specs.Begin.{Begin};
 ghost use Rattle.unit_work.specs.Order.{Layout};
-ghost use Rattle.unit_calls.specs.Answering.{Answered};
+ghost use Rattle.unit_calls.specs.Answering.{Answered, AnsweredExactly};
 ghost use Rattle.unit_calls.specs.Visiting.{BeganWith};
 
 use crate::answering::{commanded_answer, opened_answer, protected_answer, unserved};
@@ -45,6 +45,8 @@ fn protect<R: Wait, O: Site>(
     ensures shares { (view worker.new).numbers.shares ≡ (view worker.old).numbers.shares }
     ensures answered { (layout : Layout) (begin : Begin) (segment : ℕ) → BeganWith O.told begin (view worker.old).turn.known.opening
         → Answered layout begin segment (view worker.old) (view worker.new) task.now result }
+    ensures exactly { (begin : Begin) (segment : ℕ) → BeganWith O.told begin (view worker.old).turn.known.opening
+        → AnsweredExactly begin segment (view worker.old) (view worker.new) task.now result }
 {
     let Ok(mut out) = room(alloc) else {
         return Some(unserved(alloc));
@@ -79,6 +81,8 @@ fn open<R: Wait, O: Site>(
     ensures shares { (view worker.new).numbers.shares ≡ (view worker.old).numbers.shares }
     ensures answered { (layout : Layout) (begin : Begin) (segment : ℕ) → BeganWith O.told begin (view worker.old).turn.known.opening
         → Answered layout begin segment (view worker.old) (view worker.new) task.now result }
+    ensures exactly { (begin : Begin) (segment : ℕ) → BeganWith O.told begin (view worker.old).turn.known.opening
+        → AnsweredExactly begin segment (view worker.old) (view worker.new) task.now result }
 {
     let Ok(mut frame) = copied(alloc, task.octets.as_slice()) else {
         return Some(unserved(alloc));
@@ -102,6 +106,8 @@ fn command<R: Wait, O: Site>(
     ensures shares { (view worker.new).numbers.shares ≡ (view worker.old).numbers.shares }
     ensures answered { (layout : Layout) (begin : Begin) (segment : ℕ) → BeganWith O.told begin (view worker.old).turn.known.opening
         → Answered layout begin segment (view worker.old) (view worker.new) task.now result }
+    ensures exactly { (begin : Begin) (segment : ℕ) → BeganWith O.told begin (view worker.old).turn.known.opening
+        → AnsweredExactly begin segment (view worker.old) (view worker.new) task.now result }
 {
     let commanded = unit.command(rt, worker, task.index, task.octets.as_slice());
     commanded_answer(alloc, commanded)
@@ -123,6 +129,8 @@ pub(crate) fn handle<R: Wait, O: Site>(
     ensures shares { (view worker.new).numbers.shares ≡ (view worker.old).numbers.shares }
     ensures answered { (layout : Layout) (begin : Begin) (segment : ℕ) → BeganWith O.told begin (view worker.old).turn.known.opening
         → Answered layout begin segment (view worker.old) (view worker.new) task.now result }
+    ensures exactly { (begin : Begin) (segment : ℕ) → BeganWith O.told begin (view worker.old).turn.known.opening
+        → AnsweredExactly begin segment (view worker.old) (view worker.new) task.now result }
 {
     match task.kind {
         RecordKind::Protect => protect(rt, alloc, unit, worker, kept, task),

@@ -1,5 +1,6 @@
 // The answers of the lanes, placed in the order of the input.
-ghost use Rattle.std.specs.Prelude.{◌≡◌, ◌<◌, ◌≤◌, ℕ, List, All, Contains, true, false, [], length, vec_capacity};
+ghost use Rattle.std.specs.Prelude.{◌≡◌, ◌<◌, ◌≤◌, ◌++◌, ℕ, List, All, Contains, true, false, [], length, vec_capacity};
+ghost use Rattle.record_io.specs.declared.answers.Answer.{Answer};
 ghost use Rattle.record_io.specs.declared.records.Record.{Record};
 ghost use Rattle.unit_work.specs.Deeds.{Deed, deeds_of};
 ghost use Rattle.frame_workers.specs.Lanes.{AreAmong, left_at, StopsAt};
@@ -17,6 +18,8 @@ pub(crate) fn place_answers(
     requires room { (answers.old.items ≡ []) × (length records.now ≤ vec_capacity answers.old) }
     ensures placed { (deeds : List Deed) (segment : ℕ) → ((number : ℕ) → AreAmong deeds segment number records.now (left_at number parts.old))
         → All (Contains deeds) (deeds_of segment records.now answers.new.items) }
+    ensures in_turn { (lane : ℕ) → All (λ (task : Record). task.lane ≡ lane) records.now
+        → (rest : List Answer) × (answers.new.items ++ rest ≡ left_at lane parts.old) }
     ensures all { result ≡ false → length answers.new.items ≡ length records.now }
     ensures stops { result ≡ true → StopsAt records.now (λ number. left_at number parts.old) (length answers.new.items) }
 {

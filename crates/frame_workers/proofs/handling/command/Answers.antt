@@ -4,9 +4,11 @@ use Rattle.counter_table.specs.Worker.{view}
 use Rattle.record_io.specs.declared.records.Record.{Record}
 use Rattle.shared_unit.specs.Calls.{WithPosition}
 use Rattle.shared_unit.specs.Told.{told_by}
-use Rattle.unit_calls.specs.Answering.{Answered}
+use Rattle.unit_calls.specs.Answering.{Answered, AnsweredExactly}
 use Rattle.shared_unit.specs.Commanding.{IsCommanded}
+use Rattle.unit_work.specs.Order.{Layout}
 use Rattle.unit_calls.proofs.Commandings.{commanding_answers}
+use Rattle.unit_calls.proofs.CommandsExactly.{commanding_exactly}
 use Rattle.shared_unit.proofs.Steps.{takes_grows}
 use Rattle.shared_unit.proofs.Trust.{permit_stays}
 use Rattle.frame_workers.proofs.handling.command.Goals as goal
@@ -19,6 +21,17 @@ returns-clause-answered g c layout begin segment b =
     (λ answer. IsCommanded g.O.Site.faults task.index l answer found given v.numbers w.numbers)) c.as_slice.ensures told in
     subst (Answered layout begin segment v w task) (sym c.commanded_answer.ensures)
     (commanding_answers g.O.Site.told g.O.Site.trace g.O.Site.faults g.O.Site.put_faults begin layout segment task v w found given b c.requires.ready.free c.requires.kind
+    visits c.command-commanded.result handled)
+
+pub returns-clause-exactly : goal.returns-clause-exactly
+returns-clause-exactly g c begin segment b =
+    let v : View = view c.args.worker.now in let w : View = view c.command-commanded.new.worker in let task : Record = c.args.task.now in
+    let apart : Layout = record { lane_of = λ i. 0; segment_of = λ i. 0 } in
+    let (found, given, visits, told) = c.command-commanded.ensures.commanded in
+    let handled = subst (λ (l : List ℕ). WithPosition c.command-commanded.result (told_by g.O.Site.trace g.O.Site.faults g.O.Site.put_faults given)
+    (λ answer. IsCommanded g.O.Site.faults task.index l answer found given v.numbers w.numbers)) c.as_slice.ensures told in
+    subst (AnsweredExactly begin segment v w task) (sym c.commanded_answer.ensures)
+    (commanding_exactly g.O.Site.told g.O.Site.trace g.O.Site.faults g.O.Site.put_faults begin apart segment task v w found given b c.requires.ready.free c.requires.kind
     visits c.command-commanded.result handled)
 
 pub returns-clause-keeps : goal.returns-clause-keeps

@@ -6,12 +6,13 @@ use Rattle.record_io.specs.declared.answers.Answer.{Answer}
 use Rattle.record_io.specs.declared.records.Record.{Record}
 use Rattle.shared_unit.specs.Calls.{WithPosition}
 use Rattle.shared_unit.specs.Told.{told_by}
-use Rattle.unit_calls.specs.Answering.{Answered}
+use Rattle.unit_calls.specs.Answering.{Answered, AnsweredExactly}
 use Rattle.frame_checks.specs.Accepting.{Leaves, field_in}
 use Rattle.unit_book.specs.Records.{Opens, RefusesFrame}
 use Rattle.unit_calls.specs.Answering.{opened_answer}
 use Rattle.unit_calls.proofs.Openings.{opening_answers}
-use Rattle.unit_calls.proofs.Unserved.{unserved}
+use Rattle.unit_calls.proofs.OpensExactly.{opens_exactly}
+use Rattle.unit_calls.proofs.Unserved.{unserved, unserved_exactly}
 use Rattle.shared_unit.proofs.Steps.{takes_grows}
 use Rattle.shared_unit.proofs.Trust.{permit_stays}
 use Rattle.frame_workers.proofs.Segments.{slice_whole}
@@ -36,6 +37,27 @@ returns-clause-answered g c layout begin segment b =
     let all : take c.in-Ok.frame.len (left ++ drop (length left) c.in-Ok.frame.items) ≡ left = slice_whole c.in-Ok.frame.len left c.in-Ok.frame.items size c.in-Ok.frame.ok.0 in
     subst (Answered layout begin segment v w task) (sym (c.opened_answer.ensures ∙ ap (opened_answer c.open_frame-opened.result) all))
     (opening_answers g.O.Site.told g.O.Site.trace g.O.Site.faults g.O.Site.put_faults begin layout segment task v w found given b c.requires.ready.free c.requires.kind
+    c.open_frame-opened.ensures.numbers.1 visits left c.open_frame-opened.result opened)
+
+pub returns-in_default-clause-exactly : goal.returns-in_default-clause-exactly
+returns-in_default-clause-exactly g c begin segment b = subst (λ (a : Answer). AnsweredExactly begin segment (view c.args.worker.now) (view c.args.worker.now) c.args.task.now (Some a))
+    (sym c.unserved.ensures) (unserved_exactly begin segment (view c.args.worker.now) c.args.task.now)
+
+pub returns-clause-exactly : goal.returns-clause-exactly
+returns-clause-exactly g c begin segment b =
+    let v : View = view c.args.worker.now in let w : View = view c.open_frame-opened.new.worker in let task : Record = c.args.task.now in
+    let left : List ℕ = c.open_frame-opened.new.frame in
+    let (found, given, visits, told) = c.open_frame-opened.ensures.opened in
+    let same : c.as_mut_slice.result.now ≡ task.octets = c.as_mut_slice.ensures.value ∙ (c.in-Ok.ensures.items ∙ c.as_slice.ensures) in
+    let opened = subst (λ (l : List ℕ). WithPosition c.open_frame-opened.result (told_by g.O.Site.trace g.O.Site.faults g.O.Site.put_faults given)
+    (λ answer. MatchResult answer
+    (λ told. Opens g.O.Site.faults task.index task.link l (field_in told.0 left) found given told.0 told.1 × Leaves told.0 l left)
+    (RefusesFrame g.O.Site.faults task.index task.link l found given))) same told in
+    let long : length left ≡ length c.as_mut_slice.result.now = c.open_frame-opened.auto.frame in
+    let size : length left ≡ length c.in-Ok.frame.items = long ∙ ap length c.as_mut_slice.ensures.value in
+    let all : take c.in-Ok.frame.len (left ++ drop (length left) c.in-Ok.frame.items) ≡ left = slice_whole c.in-Ok.frame.len left c.in-Ok.frame.items size c.in-Ok.frame.ok.0 in
+    subst (AnsweredExactly begin segment v w task) (sym (c.opened_answer.ensures ∙ ap (opened_answer c.open_frame-opened.result) all))
+    (opens_exactly g.O.Site.told g.O.Site.trace g.O.Site.faults g.O.Site.put_faults begin segment task v w found given b c.requires.ready.free c.requires.kind
     c.open_frame-opened.ensures.numbers.1 visits left c.open_frame-opened.result opened)
 
 pub returns-clause-keeps : goal.returns-clause-keeps

@@ -37,6 +37,7 @@ rooms-preserved g c =
       split = subst (λ l. All (IsSplit (IsReady c.args.unit.now.counters c.args.unit.now.plan) c.args.records.now base) l) (sym pushed.items)
           (All-push (IsSplit (IsReady c.args.unit.now.counters c.args.unit.now.plan) c.args.records.now base) c.rooms.lanes.items _ inv.split (record {
             below = omega arith;
+            used = used;
             can = record { is_ready = c.split-split.ensures.new; kept = tt; empty = room.empty; room = room.roomy used; going = refl };
             from = starts_so base (view c.rooms.worker) (view c.split-split.result) (length c.rooms.lanes.items) inv.given c.split-split.ensures.newcomer;
           }));

@@ -1,4 +1,4 @@
-use Rattle.std.proofs.Common.{◌≡◌, ℕ, List, length, take, false, true, [], ◌∷◌, ◌+◌, refl, sym, ap, subst, ◌∙◌, arith, length-append, Some, None}
+use Rattle.std.proofs.Common.{◌≡◌, ℕ, List, length, suc, take, drop, false, true, [], ◌∷◌, ◌++◌, ◌+◌, refl, sym, ap, subst, ◌∙◌, arith, length-append, Some, None}
 use Rattle.std.specs.List.{slice_get}
 use Rattle.std.proofs.lemmas.List.{take_all}
 use Rattle.std.proofs.lemmas.Bool.Decides.{nat_tests}
@@ -11,10 +11,13 @@ use Rattle.unit_work.specs.Order.{Layout, Handled}
 use Rattle.unit_work.specs.Lanes.{is_of_lane, of_lane}
 use Rattle.unit_work.proofs.Joining.{grows_itself}
 use Rattle.unit_work.proofs.Handling.{handled_nothing}
-use Rattle.unit_calls.specs.Answering.{Answered}
+use Rattle.unit_machine.specs.Alone.{MovedExactly}
+use Rattle.unit_machine.proofs.Alone.{moved_nothing}
+use Rattle.unit_calls.specs.Answering.{Answered, AnsweredExactly}
 use Rattle.unit_calls.specs.Visiting.{BeganWith}
 use Rattle.frame_workers.specs.Ends.{EndsSegment}
-use Rattle.frame_workers.proofs.Steps.{lane_own, lane_other, lane_short, lane_next, lane_step, lane_stop}
+use Rattle.frame_workers.proofs.Steps.{lane_own, lane_other, lane_short, lane_whole, lane_next, lane_step, lane_stop}
+use Rattle.frame_workers.proofs.Exactly.{next_exactly, stop_exactly}
 use Rattle.frame_workers.proofs.Fulls.{full_stays}
 use Rattle.frame_workers.proofs.lane.run_lane.Goals as goal
 
@@ -31,6 +34,7 @@ loop-task-init g c =
       ascend = c.requires.ascend;
       count = ap length can.empty;
       handled = λ begin layout s b. handled_nothing layout begin (view c.args.lane.now.worker) [];
+      exactly = λ begin s b. moved_nothing begin (view c.args.lane.now.worker);
     }
 
 pub loop-task-preserved-then-task-lane : goal.loop-task-preserved-then-task-lane
@@ -53,6 +57,8 @@ loop-task-preserved-then-task-lane g c =
       count = inv.count ∙ ap length (sym taken);
       handled = λ begin layout s b. subst (λ (l : List Record). Handled layout begin (view c.args.lane.now.worker) (view c.loop-task.lane.worker) l (deeds_of s l xs))
           (sym taken) (inv.handled begin layout s b);
+      exactly = λ begin s b. subst (λ (l : List Record). MovedExactly begin (view c.args.lane.now.worker) (view c.loop-task.lane.worker) (length l) (deeds_of s l xs))
+          (sym taken) (inv.exactly begin s b);
     }
 
 pub push_reserved-requires : goal.push_reserved-requires
@@ -95,6 +101,14 @@ returns-in-None g c =
               subst (λ (m : ℕ). slice_get (of_lane n rs) m ≡ Some r) (sym inv.count) (lane_next n rs k r c.task-item.is within own),
               full_stays begin u v w w r x.does.grows (grows_itself w) y.1,
             );
+        exactly = λ begin s b.
+            let layout : Layout = record { lane_of = λ i. 0; segment_of = λ i. 0 } in
+            let x = inv.handled begin layout s b in
+            let b' : BeganWith g.O.Site.told begin v.turn.known.opening = subst (BeganWith g.O.Site.told begin) (sym x.does.grows.opening) b in
+            let y : Answered layout begin s v w r None = subst (Answered layout begin s v w r) c.in-None.is (c.handle-answer.ensures.answered layout begin s b') in
+            let z : AnsweredExactly begin s v w r None = subst (AnsweredExactly begin s v w r) c.in-None.is (c.handle-answer.ensures.exactly begin s b') in
+            subst (λ (l : List Record). MovedExactly begin u w (length l) (deeds_of s l xs)) (sym (lane_whole n rs k r c.task-item.is within own))
+            (stop_exactly begin s u v w (of_lane n (take k rs)) xs inv.count x.does y.0.does.grows (inv.exactly begin s b) (of_lane n (drop (suc k) rs)) r z);
       };
     }
 
@@ -127,6 +141,17 @@ loop-task-preserved g c =
           subst (Answered layout begin s v w r) c.in-Some.is (c.handle-answer.ensures.answered layout begin s b') in
           subst (λ (l : List Answer). Handled layout begin u w (of_lane n (take (k + 1) rs)) (deeds_of s (of_lane n (take (k + 1) rs)) l)) (sym pushed.items)
           (lane_step n rs k r c.task-item.is within layout begin u v w s xs own inv.ascend inv.count c.in-Some.answer x y);
+      exactly = λ begin s b.
+          let layout : Layout = record { lane_of = λ i. 0; segment_of = λ i. 0 } in
+          let x = inv.handled begin layout s b in
+          let b' : BeganWith g.O.Site.told begin v.turn.known.opening = subst (BeganWith g.O.Site.told begin) (sym x.does.grows.opening) b in
+          let y : Answered layout begin s v w r (Some c.in-Some.answer) =
+          subst (Answered layout begin s v w r) c.in-Some.is (c.handle-answer.ensures.answered layout begin s b') in
+          let z : AnsweredExactly begin s v w r (Some c.in-Some.answer) =
+          subst (AnsweredExactly begin s v w r) c.in-Some.is (c.handle-answer.ensures.exactly begin s b') in
+          subst (λ (l : List Answer). MovedExactly begin u w (length (of_lane n (take (k + 1) rs))) (deeds_of s (of_lane n (take (k + 1) rs)) l)) (sym pushed.items)
+          (subst (λ (l : List Record). MovedExactly begin u w (length l) (deeds_of s l (xs ++ c.in-Some.answer ∷ []))) (sym taken)
+          (next_exactly begin s u v w (of_lane n (take k rs)) xs inv.count x.does y.does.grows (inv.exactly begin s b) r c.in-Some.answer z));
     }
 
 pub returns : goal.returns
@@ -142,6 +167,7 @@ returns g c =
         is_ready = inv.is_ready;
         shares = inv.shares;
         handled = λ begin layout s b. subst (λ (l : List Record). Handled layout begin u v (of_lane n l) (deeds_of s (of_lane n l) xs)) whole (inv.handled begin layout s b);
+        exactly = λ begin s b. subst (λ (l : List Record). MovedExactly begin u v (length (of_lane n l)) (deeds_of s (of_lane n l) xs)) whole (inv.exactly begin s b);
         ends = λ begin b. subst (EndsSegment begin u v (of_lane n rs) xs) (sym inv.going) (inv.count ∙ ap (λ (l : List Record). length (of_lane n l)) whole);
       };
     }

@@ -1,4 +1,4 @@
-use Rattle.std.proofs.Common.{◌≡◌, ◌≢◌, ℕ, ◌+◌, ◌<◌, List, [], ◌∷◌, ◌++◌, length, take, drop, slice_set, slice_index_or, Some, sym, ◌∙◌, ap, subst, arith, add-one, length-append}
+use Rattle.std.proofs.Common.{◌≡◌, ◌≢◌, ℕ, ◌+◌, ◌<◌, List, [], ◌∷◌, ◌++◌, length, take, drop, slice_set, slice_index_or, Some, sym, ◌∙◌, ap, subst, arith, add-one, append_assoc, length-append}
 use Rattle.std.specs.List.{All, Contains, slice_get}
 use Rattle.std.proofs.lemmas.List.{take_all, take-append-drop, length-take, length-set, length-reverse}
 use Rattle.record_io.specs.declared.records.Record.{Record}
@@ -69,6 +69,11 @@ loop-task-preserved c =
             subst (λ (l : List Answer). All (Contains deeds) (deeds_of s (take (k + 1) rs) l)) (sym pushed.items)
                 (placed_next deeds s rs k r c.task-item.is within c.loop-task.answers.items a inv.count before.1 next.0),
           );
+      in_turn = λ lane all.
+          let same : r.lane ≡ lane = subst (λ (t : Record). t.lane ≡ lane) (sym c.task-item.is) (all k r within) in
+          let own_lane : left_at lane old ≡ a ∷ left_at lane new = subst (λ (m : ℕ). left_at m old ≡ a ∷ left_at m new) same own in
+          ap (λ (l : List Answer). l ++ left_at lane new) pushed.items ∙ (append_assoc c.loop-task.answers.items (a ∷ []) (left_at lane new)
+          ∙ (ap (λ (l : List Answer). c.loop-task.answers.items ++ l) (sym own_lane) ∙ inv.in_turn lane all));
       given = λ n. given_next rs k r c.task-item.is within n (left_at n old) (left_at n new) a
           (λ same. subst (λ (m : ℕ). left_at m old ≡ a ∷ left_at m new) same own) (λ off. others n off) _ (inv.given n);
     }
@@ -79,3 +84,9 @@ returns-clause-placed c deeds s h =
     let rs : List Record = c.args.records.now in let k : ℕ = c.loop-task.task-index in
     let whole : take k rs ≡ rs = take_all k rs (omega arith) in
     subst (λ (l : List Record). All (Contains deeds) (deeds_of s l c.loop-task.answers.items)) whole (inv.left deeds s h).1
+
+pub returns-in-None-clause-in_turn : goal.returns-in-None-clause-in_turn
+returns-in-None-clause-in_turn c lane all = (left_at lane c.loop-task.parts, c.loop-task.invariant.in_turn lane all)
+
+pub returns-clause-in_turn : goal.returns-clause-in_turn
+returns-clause-in_turn c lane all = (left_at lane c.loop-task.parts, c.loop-task.invariant.in_turn lane all)

@@ -1,4 +1,4 @@
-use Rattle.std.proofs.Common.{◌≡◌, ℕ, ◌<◌, ◌≤◌, ◌+◌, List, length, take, drop, vec_capacity}
+use Rattle.std.proofs.Common.{◌≡◌, ℕ, ◌<◌, ◌≤◌, ◌+◌, ◌++◌, List, length, take, drop, vec_capacity}
 use Rattle.std.specs.List.{All, Contains}
 use Rattle.record_io.specs.declared.records.Record.{Record}
 use Rattle.unit_work.specs.Deeds.{Deed, deeds_of}
@@ -15,5 +15,7 @@ invariant-loop-task l = record {
   left : (deeds : List Deed) (segment : ℕ) → ((number : ℕ) → AreAmong deeds segment number l.records (left_at number l.initial.parts))
       → ((number : ℕ) → AreAmong deeds segment number (drop l.task-index l.records) (left_at number l.parts))
       × All (Contains deeds) (deeds_of segment (take l.task-index l.records) l.answers.items);
+  in_turn : (lane : ℕ) → All (λ (task : Record). task.lane ≡ lane) l.records
+      → l.answers.items ++ left_at lane l.parts ≡ left_at lane l.initial.parts;
   given : (number : ℕ) → length (left_at number l.parts) + length (of_lane number (take l.task-index l.records)) ≡ length (left_at number l.initial.parts);
 }

@@ -1,0 +1,23 @@
+-- Records of one lane, which one worker handles, one after the other (profile).
+use Rattle.std.specs.Prelude.{◌≡◌, ℕ, ◌≤◌, List, [], ◌++◌, length}
+use Rattle.std.specs.List.{All}
+use Rattle.record_io.specs.declared.records.Record.{Record}
+use Rattle.counter_table.specs.declared.view.View.{View}
+use Rattle.unit_work.specs.Begin.{Begin}
+use Rattle.unit_work.specs.Deeds.{Deed}
+use Rattle.unit_machine.specs.Machine.{Move}
+use Rattle.unit_machine.specs.Exact.{Exact}
+
+-- all records are of one lane
+abbrev pub OneLane : List Record → Type 0
+OneLane tasks = (lane : ℕ) × All (λ (task : Record). task.lane ≡ lane) tasks
+
+-- Of so many records these were answered. Each of them moved the words once, as its answer tells; of a record without an answer
+-- there may be one move more. All lines that the worker made since the old view are of these records.
+pub record MovedExactly (begin : Begin) (old new : View) (count : ℕ) (deeds : List Deed) : Type 0 where
+  pub made : List ℕ
+  pub made_is : new.turn.made ≡ old.turn.made ++ made
+  pub last : List Move
+  pub few : length last ≤ 1
+  pub each : length deeds ≡ count → last ≡ []
+  pub exact : Exact begin old new made deeds last
