@@ -9,6 +9,7 @@ use Rattle.sdls_outside.specs.Moments.{EachMoment}
 use Rattle.disk_journal.specs.Image.{records, slot_count}
 use Rattle.disk_journal.specs.Forms.{Settles}
 use Rattle.record_io.specs.declared.status.TheConstants as status
+use Rattle.record_io.specs.Places.{records_of}
 use Rattle.record_io.specs.Reading.{Takes}
 use Rattle.unit_plan.specs.PlanLines.{PlanLines}
 use Rattle.unit_state.specs.declared.state.State.{State}
@@ -18,10 +19,12 @@ use Rattle.unit_history.specs.Numbers.{releases}
 use Rattle.unit_history.specs.Stored.{stored_count}
 use Rattle.unit_book.specs.declared.limits.TheConstants.{MOST_ENTRIES}
 use Rattle.unit_runs.specs.Sound.{IsSound, SoundMoment}
+use Rattle.unit_machine.specs.Alone.{OneLane}
 use Rattle.run_ends.specs.declared.end.RunEnd.{RunEnd}
 use Rattle.run_ends.specs.declared.end.RunEnd.TheVariants.{Ended, SiteFault, NoMemory, NoState, SessionFull}
 use Rattle.run_ends.specs.Call.{CallSeen, ShowsAtEntry, image_at_entry, sunk_since}
 use Rattle.run_ends.specs.Account.{Account, AreAnswered, TellsFault, begin_of, course_of, deeds_in, end_octets}
+use Rattle.run_ends.specs.Alone.{IsExact}
 use Rattle.run_ends.specs.Causes.{CameBy, TellsEnd, PutsDue, PutsFront}
 
 -- An early moment: what a crash then leaves of the image, one at the entry may leave too, and nothing but End was sunk.
@@ -97,5 +100,6 @@ pub record RunEnds (call : CallSeen) : Type 0 where
   pub quiet : call.status ≡ status.DONE → call.site_after.faults ≡ call.site.faults
   pub bounded : length call.entries ≤ MOST_ENTRIES
   pub sound : IsTrue call.site.told → (plan : PlanLines) (state : State) → ShowsAtEntry call plan state
-      → (s : IsSoundCall call account plan state) × IsReleased call account state s.run.history.run.ends
+      → (s : IsSoundCall call account plan state) × (r : IsReleased call account state s.run.history.run.ends)
+      × (OneLane (records_of account.handled) → IsExact call account state r.words s.run.history.run.ends)
   pub refused : IsTrue call.site.told → (offset : ℕ) → ShowsNone (image_at_entry call) offset → IsRefused call account offset

@@ -41,6 +41,9 @@ use Rattle.unit_runs.specs.Release.{AreReleases}
 use Rattle.unit_runs.specs.Settled.{AreSettled}
 use Rattle.unit_runs.specs.Sound.{IsSound, StaysCovered, deeds_octets}
 use Rattle.run_steps.proofs.Stepping.{octets_of}
+use Rattle.unit_machine.specs.Alone.{OneLane}
+use Rattle.run_ends.specs.Alone.{IsExact}
+use Rattle.run_steps.proofs.Exacting.{exact_call}
 use Rattle.run_ends.specs.Ends.{IsEarly, IsJournalFull, IsReleased, IsServed, IsSoundCall, RunEnds}
 use Rattle.run_steps.proofs.Appending.{may_append}
 use Rattle.unit_runs.proofs.Ending.{near}
@@ -605,35 +608,41 @@ module _ {O : Type 0} (told : Bool) (trace : O → Trace) (faults puts : O → �
   rose_to_end : Rose (faults book.opened) (faults book.site) → Rose (faults site) (faults after)
   rose_to_end rose = let a = ran.same_faults in let b = end.goes_on.later in let c = last_later in let d = after_faults in omega arith
 
-  released_so : CountsSlots told faults (trace site).now.image end.last → IsTrue told → IsReleased call account book.start (length (entries_in now))
+  released_so : CountsSlots told faults (trace site).now.image end.last → IsTrue told
+      → (r : IsReleased call account book.start (length (entries_in now))) × (r.words ≡ words)
   released_so slots is_told = elim rose_or [
-    | inl rose ↦ record {
-      words = words;
-      rows = ran.rows;
-      count = 0;
-      are_due = drop_lanes ∙ none_released rose;
-      stopped = λ r. ap length entries_split ∙ ap (λ (l : List Entry). length (entries_in now ++ l)) (none_released rose) ∙ ap length (append-nil (entries_in now));
-      refused = λ few. inl (rose_to_end rose);
-      full = λ is_ended full. absurd ((full_answer is_ended full).1 (let a = ran.same_faults in let r = rose in omega arith));
-    }
+    | inl rose ↦ (
+      record {
+        words = words;
+        rows = ran.rows;
+        count = 0;
+        are_due = drop_lanes ∙ none_released rose;
+        stopped = λ r. ap length entries_split ∙ ap (λ (l : List Entry). length (entries_in now ++ l)) (none_released rose) ∙ ap length (append-nil (entries_in now));
+        refused = λ few. inl (rose_to_end rose);
+        full = λ is_ended full. absurd ((full_answer is_ended full).1 (let a = ran.same_faults in let r = rose in omega arith));
+      },
+      refl,
+    )
     | inr well ↦
         let state : after_first book.start entries (length (entries_in now)) ≡ book.state = state_at_end well in
         let size : length (releases (after_first book.start entries (length (entries_in now))) 0 words) ≡ length (releases book.state 0 words) =
-        ap (λ (st : State). length (releases st 0 words)) state in
-        record {
-          words = words;
-          rows = ran.rows;
-          count = entries_added.count;
-          are_due = drop_lanes ∙ ap (λ (st : State). take entries_added.count (releases st 0 words)) (sym state);
-          stopped = λ r. absurd (well (let a = ran.same_faults in let q = r in omega arith));
-          refused = λ few. refused_by (entries_added.refused (omega arith));
-          full = λ is_ended full.
-              let a = (released_full faults words book end.released end.answer end.releases (full_answer is_ended full).0).1 in
-              let b = ap length entries_added.entries in
-              let c = length-append (entries_of book.log) (take entries_added.count (releases book.state 0 words)) in
-              let d = length-take entries_added.count (releases book.state 0 words) in
-              omega arith;
-        }
+        ap (λ (st : State). length (releases st 0 words)) state in (
+          record {
+            words = words;
+            rows = ran.rows;
+            count = entries_added.count;
+            are_due = drop_lanes ∙ ap (λ (st : State). take entries_added.count (releases st 0 words)) (sym state);
+            stopped = λ r. absurd (well (let a = ran.same_faults in let q = r in omega arith));
+            refused = λ few. refused_by (entries_added.refused (omega arith));
+            full = λ is_ended full.
+                let a = (released_full faults words book end.released end.answer end.releases (full_answer is_ended full).0).1 in
+                let b = ap length entries_added.entries in
+                let c = length-append (entries_of book.log) (take entries_added.count (releases book.state 0 words)) in
+                let d = length-take entries_added.count (releases book.state 0 words) in
+                omega arith;
+          },
+          refl,
+        )
   ]
     where
       full_journal : end.released.journal.used ≡ end.released.journal.slots → (end.last.journal.used ≡ end.last.journal.slots)
@@ -729,12 +738,21 @@ module _ {O : Type 0} (told : Bool) (trace : O → Trace) (faults puts : O → �
 
     -- ---- all together
 
-    sound_call : IsTrue told → (s : IsSoundCall call account book.plan book.start) × IsReleased call account book.start s.run.history.run.ends
+    -- where its records are of one lane
+    exact_so : IsTrue told → OneLane (records_of (places_of ran.come.of)) → IsExact call account book.start words (length (entries_in now))
+    exact_so is_told one =
+        exact_call call account (begin_by told (trace site).now.image book.plan book.start) first now words
+        (take entries_added.count (releases book.state 0 words)) refl (ran.founded is_told).opened ran.whole ran.stand (ran.come.exactly one) entries_split
+
+    sound_call : IsTrue told → (s : IsSoundCall call account book.plan book.start) × (r : IsReleased call account book.start s.run.history.run.ends)
+        × (OneLane (records_of account.handled) → IsExact call account book.start r.words s.run.history.run.ends)
     unfolding legal_run
-    sound_call is_told = (
-      record { run = sound_call_run is_told; moments = moments_so is_told },
-      released_so slots is_told,
-    )
+    sound_call is_told =
+        let (r, same) = released_so slots is_told in (
+          record { run = sound_call_run is_told; moments = moments_so is_told },
+          r,
+          λ one. subst (λ (ws : List ℕ). IsExact call account book.start ws (length (entries_in now))) (sym same) (exact_so is_told one),
+        )
 
     pub run_ends_so : RunEnds call
     run_ends_so = record {
@@ -750,8 +768,10 @@ module _ {O : Type 0} (told : Bool) (trace : O → Trace) (faults puts : O → �
       quiet = quiet;
       bounded = entries_most;
       sound = λ is_told plan state shows.
-          subst (λ (pl : PlanLines). (s : IsSoundCall call account pl state) × IsReleased call account state s.run.history.run.ends) (sym (plan_same is_told plan state shows))
-          (subst (λ (st : State). (s : IsSoundCall call account book.plan st) × IsReleased call account st s.run.history.run.ends) (sym (state_same is_told plan state shows))
+          subst (λ (pl : PlanLines). (s : IsSoundCall call account pl state) × (r : IsReleased call account state s.run.history.run.ends)
+          × (OneLane (records_of account.handled) → IsExact call account state r.words s.run.history.run.ends)) (sym (plan_same is_told plan state shows))
+          (subst (λ (st : State). (s : IsSoundCall call account book.plan st) × (r : IsReleased call account st s.run.history.run.ends)
+          × (OneLane (records_of account.handled) → IsExact call account st r.words s.run.history.run.ends)) (sym (state_same is_told plan state shows))
           (sound_call is_told));
       refused = λ is_told offset none. absurd (shows_some (trace site).now.image book.start offset (ran.shows is_told) none);
     }

@@ -1,5 +1,6 @@
 pub mod Doing
 pub mod Stepping
+pub mod Exacting
 pub mod Releases
 pub mod Moments
 pub mod Faults

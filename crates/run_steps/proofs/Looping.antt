@@ -24,17 +24,20 @@ use Rattle.unit_work.specs.Views.{IsBetween, entries_in, log_of}
 use Rattle.unit_work.specs.Deeds.{Ascend, course_in, deeds_of}
 use Rattle.unit_work.specs.Order.{Layout, LiesIn, Handled, Lined, TakeTurns}
 use Rattle.unit_work.proofs.Joining.{does_nothing}
+use Rattle.unit_machine.specs.Alone.{MovedExactly, OneLane}
+use Rattle.unit_machine.proofs.Alone.{moved_nothing}
 use Rattle.unit_history.specs.Log.{pieces_of}
 use Rattle.run_ends.specs.declared.end.RunEnd.{RunEnd}
 use Rattle.run_ends.specs.declared.end.RunEnd.TheVariants as ends
 use Rattle.run_ends.specs.Account.{AreAnswered, of_first}
 use Rattle.run_ends.proofs.Placed.{IsBefore, deeds_of_segment, places_ascend, records_length}
 use Rattle.run_ends.proofs.Segments.{all_first, are_placed, first_segments, have_lanes}
-use Rattle.run_steps.specs.Doing.{AreSettledInside, HasDone, HasSettled, IsFounded, IsSegment, octets_put}
+use Rattle.run_steps.specs.Doing.{AreSettledInside, HasDone, HasSettled, IsFounded, IsSegment, MovedAlone, octets_put}
 use Rattle.run_steps.specs.Coming.{HasBroken, HasCome, HasPut, IsFullHistory, IsUnderWay, PutsBy, ReadsTo}
 use Rattle.run_steps.specs.Segment.{HandlesAndPuts, IsFullSegment, PutsBadly, PutsWell}
 use Rattle.run_steps.proofs.Appending.{may_append}
-use Rattle.run_steps.proofs.Stepping.{goes_on, quiet, settled_on}
+use Rattle.run_steps.proofs.Exacting.{moved_on}
+use Rattle.run_steps.proofs.Stepping.{goes_on, own_does, quiet, settled_on}
 
 -- ---- the records of one segment
 
@@ -211,6 +214,7 @@ module _ (start before now : SourceSeen) (standing : Standing) (begin : Begin) (
     done = way.done;
     put = way.put;
     settled = way.settled;
+    exactly = way.exactly;
     full = λ is. absurd (let t : ends.NoMemory ≡ ends.SessionFull = is in cc);
   }
 
@@ -226,6 +230,16 @@ module _ (start before now : SourceSeen) (standing : Standing) (begin : Begin) (
     done_on = subst (λ (ps : List Place). HasDone begin first w ps (way.answers ++ next)) (sym all_places)
         (goes_on begin first v mid w (places_of way.items) (places_from (counted first_count way.items) r.more) way.answers next
         (counted first_count way.items).segment way.done way.each whole_v segment handled h.puts)
+
+    pub exactly_on : MovedAlone begin first w (places_of (way.items ++ r.more)) (way.answers ++ next)
+    exactly_on = subst (λ (ps : List Place). MovedAlone begin first w ps (way.answers ++ next)) (sym all_places)
+        (moved_on begin first v mid w (places_of way.items) (places_from (counted first_count way.items) r.more) way.answers next
+        (counted first_count way.items).segment way.done.does way.each r.of
+        (own_does begin first v mid w (places_of way.items) (places_from (counted first_count way.items) r.more) way.answers next
+        (counted first_count way.items).segment way.done way.each whole_v segment handled h.puts)
+        h.puts h.same_numbers way.exactly
+        (subst (λ (rs : List Record). OneLane rs → MovedExactly begin v mid (length rs) (deeds_of (counted first_count way.items).segment rs next)) r.records_are
+        (λ one. h.exactly one (counted first_count way.items).segment)))
 
     still : octets_put mid ≡ octets_put v
     still = quiet begin first v mid w (places_of way.items) (places_from (counted first_count way.items) r.more) way.answers next
@@ -320,6 +334,7 @@ module _ (start before now : SourceSeen) (standing : Standing) (begin : Begin) (
       done = done_on;
       put = put;
       settled = settled_then;
+      exactly = exactly_on;
       full = λ is. full_on (full is);
     }
 
@@ -354,6 +369,7 @@ goes_next start before now standing standing_now begin first v failed_before fai
       each = size_all start before now standing begin first v failed_before failed stored way records (more_reads start now standing_now way.items records m) mid w next stored_now fewer whole_v h same;
       put = well start before now standing begin first v failed_before failed stored way records (more_reads start now standing_now way.items records m) mid w next stored_now fewer whole_v h failed_now put;
       settled = settled_then start before now standing begin first v failed_before failed stored way records (more_reads start now standing_now way.items records m) mid w next stored_now fewer whole_v h;
+      exactly = exactly_on start before now standing begin first v failed_before failed stored way records (more_reads start now standing_now way.items records m) mid w next stored_now fewer whole_v h;
     }
 
 -- memory was wanting while a segment was read
@@ -373,6 +389,7 @@ wants_reading start before now standing begin first v failed_before failed store
   done = way.done;
   put = way.put;
   settled = way.settled;
+  exactly = way.exactly;
   full = λ is. absurd (let t : ends.NoMemory ≡ ends.SessionFull = is in cc);
 }
 
@@ -409,4 +426,5 @@ begins_way start begin first failed stored none none_made = record {
   each = refl;
   put = record { octets = λ is_told. ap pieces_of none; none_failed = refl };
   settled = λ is_told founded. tt;
+  exactly = λ one. moved_nothing begin first;
 }

@@ -1,18 +1,15 @@
 -- A call whose book was not opened ends as a run ends: for `refused_run_ends`.
-use Rattle.std.proofs.Common.{◌≡◌, ◌⊎◌, ℕ, zero, suc, ◌+◌, ◌-◌, ◌≤◌, Bool, IsTrue, true, min, nat_eq, eq-eqb, eqb, List, [], ◌∷◌, ◌++◌, length, take, drop, Option, Some, None, Result, Ok, Err, refl, sym, ◌∙◌, ap, subst, inl, inr, arith}
-use Rattle.std.specs.Prelude.{MatchResult, replicate}
-use Rattle.std.specs.List.{position_or_len, slice_get}
+use Rattle.std.proofs.Common.{◌≡◌, ◌⊎◌, ℕ, zero, suc, ◌+◌, ◌-◌, ◌<◌, ◌≤◌, Bool, IsTrue, true, min, nat_eq, eq-eqb, eqb, List, [], ◌∷◌, ◌++◌, length, take, drop, Option, Some, None, Result, Ok, Err, refl, sym, ◌∙◌, ap, subst, inl, inr, arith}
+use Rattle.std.specs.Prelude.{MatchResult, map, slice_index}
+use Rattle.std.specs.List.{position_or_len, slice_get, slice_index_or}
 use Rattle.std.specs.Option.{option_and_then, option_map_or}
 use Rattle.std.proofs.Math.Seq.{drop-append_seam, take-append-add}
 use Rattle.std.proofs.lemmas.Bool.Decides.{nat_tests}
-use Rattle.std.proofs.lemmas.List.{drop_all, length-replicate}
+use Rattle.std.proofs.lemmas.List.{drop_all}
 use Rattle.std.proofs.lemmas.List.Folds.{find_at}
-use Rattle.std.proofs.lemmas.Option.{get_or_from_slice_get, slice_get_within}
-use Rattle.sdls_base.specs.KeyId.{class_of, end_of, end_of_class}
+use Rattle.std.proofs.lemmas.Option.{get_or_from_slice_get, same_Some, slice_get_within}
 use Rattle.sdls_base.specs.declared.TheConstants.{MOST_KEYS}
 use Rattle.sdls_base.specs.declared.entry.Entry.{Entry}
-use Rattle.sdls_base.specs.declared.key_id.KeyClass.{KeyClass}
-use Rattle.sdls_base.specs.declared.key_id.KeyClass.TheVariants.{Master, Gcm, Cmac}
 use Rattle.sdls_outside.specs.declared.source.Failed.{Failed}
 use Rattle.sdls_outside.specs.Disk.{Leaves}
 use Rattle.sdls_outside.specs.Faults.{HasCause}
@@ -42,6 +39,8 @@ use Rattle.unit_image.specs.Shows.{Shows, ShowsNone}
 use Rattle.unit_history.specs.Numbers.{release_at, release_of, released_floor, releases}
 use Rattle.unit_history.specs.Taken.{kept_floor}
 use Rattle.unit_history.proofs.Accepting.{kept_restarted}
+use Rattle.unit_book.specs.Marks.{mark_at}
+use Rattle.run_ends.specs.Alone.{IsExact}
 use Rattle.unit_runs.specs.Sound.{IsSound}
 use Rattle.unit_runs.proofs.Rows.{row_placed}
 use Rattle.run_ends.specs.declared.end.RunEnd.TheVariants as ends
@@ -56,14 +55,6 @@ use Rattle.run_steps.proofs.Resting.{no_records}
 
 -- ---- no release is due in a state that a restart left
 
-end_low : (id : ℕ) → end_of id ≤ 281474976710656
-end_low id = go (class_of id)
-  where
-    go : (c : KeyClass) → end_of_class c ≤ 281474976710656
-    go Master = omega arith
-    go Gcm = omega arith
-    go Cmac = omega arith
-
 place_at : (keys : List KeyRow) (key place : ℕ) → place_of keys key ≡ Some place → position_or_len (λ (row : KeyRow). nat_eq row.id key) keys ≡ place
 place_at keys key place is = grind (arith, nat_tests)
 
@@ -75,6 +66,27 @@ row_found keys place held rules there =
     subst (λ (row : KeyRow). place_of keys row.id ≡ Some place) (get_or_from_slice_get keys place held held there) (row_placed keys place held rules low) in
     find_at (λ (row : KeyRow). nat_eq row.id held.id) keys ∙ (ap (slice_get keys) (place_at keys held.id place placed) ∙ there)
 
+-- the marks of the keys from a place on, 1 where there is none
+abbrev marks_from : State → ℕ → ℕ → List ℕ
+marks_from state place zero = []
+marks_from state place (suc count) = mark_at state place ∷ marks_from state (place + 1) count
+
+marks_counted : (state : State) (place count : ℕ) → length (marks_from state place count) ≡ count
+marks_counted state place zero = refl
+marks_counted state place (suc count) = ap suc (marks_counted state (place + 1) count)
+
+marks_found : (state : State) (place count k : ℕ) → k < count → slice_index (marks_from state place count) k ≡ mark_at state (place + k)
+marks_found state place zero k low = absurd (omega arith)
+marks_found state place (suc count) zero low = let same : place ≡ place + 0 = omega arith in ap (mark_at state) same
+marks_found state place (suc count) (suc k) low =
+    let same : (place + 1) + k ≡ place + suc k = omega arith in marks_found state (place + 1) count k (omega arith) ∙ ap (mark_at state) same
+
+mark_there : (keys : List KeyRow) (place : ℕ) (held : KeyRow) → slice_get keys place ≡ Some held
+    → slice_index_or (map (λ (row : KeyRow). row.mark) keys) place 1 ≡ held.mark
+mark_there [] place held is = absurd (let low = slice_get_within [] place held is in omega arith)
+mark_there (row ∷ keys) zero held is = ap (λ (r : KeyRow). r.mark) (same_Some row held is)
+mark_there (row ∷ keys) (suc place) held is = mark_there keys place held is
+
 module _ (state : State) (rules : KeepsRules state) (left : restarted state ≡ state) where
   floor_left : (place : ℕ) (held : KeyRow) → slice_get state.keys place ≡ Some held → released_floor state held ≡ held.floor
   floor_left place held there =
@@ -83,31 +95,25 @@ module _ (state : State) (rules : KeepsRules state) (left : restarted state ≡ 
       let floor = ap (λ (o : Option KeyRow). option_map_or (λ (row : KeyRow). row.floor) o 0) found in
       let same = kept_restarted state held.id rules left in omega arith
 
-  mark_low : (place : ℕ) (held : KeyRow) → slice_get state.keys place ≡ Some held → held.mark ≤ end_of held.id
-  mark_low place held there =
-      subst (λ (row : KeyRow). row.mark ≤ end_of row.id) (get_or_from_slice_get state.keys place held held there)
-      (rules.keys.rules.each place held (slice_get_within state.keys place held there)).mark_to_end
-
-  none_due_at : (place word : ℕ) → 281474976710656 ≤ word → release_at state place word ≡ None
-  none_due_at place word high = go (slice_get state.keys place) refl
+  -- the word is the mark of the key at the place
+  none_due_at : (place : ℕ) → release_at state place (mark_at state place) ≡ None
+  none_due_at place = go (slice_get state.keys place) refl
     where
-      go : (o : Option KeyRow) → slice_get state.keys place ≡ o → option_and_then (release_of state word) o ≡ None
+      go : (o : Option KeyRow) → slice_get state.keys place ≡ o → option_and_then (release_of state (mark_at state place)) o ≡ None
       go None is = refl
       go (Some held) is =
-          let mark = mark_low place held is in
-          let end = end_low held.id in
-          let same : min held.mark word ≡ held.mark = omega arith in
-          let a : eqb (min held.mark word) held.mark ≡ true = eq-eqb (min held.mark word) held.mark same in
+          let mark : mark_at state place ≡ held.mark = mark_there state.keys place held is in
+          let same : min held.mark (mark_at state place) ≡ held.mark = omega arith in
+          let a : eqb (min held.mark (mark_at state place)) held.mark ≡ true = eq-eqb (min held.mark (mark_at state place)) held.mark same in
           let b : eqb (released_floor state held) held.floor ≡ true = eq-eqb (released_floor state held) held.floor (floor_left place held is) in
           rw (a, b) refl
 
-  none_due : (place count : ℕ) → releases state place (replicate count 281474976710656) ≡ []
+  none_due : (place count : ℕ) → releases state place (marks_from state place count) ≡ []
   none_due place zero = refl
   none_due place (suc count) =
-      let rest : List ℕ = replicate count 281474976710656 in
-      ap (λ (o : Option Entry). option_map_or (λ (entry : Entry). entry ∷ releases (applied state entry.change) (place + 1) (replicate count 281474976710656)) o
-      (releases state (place + 1) (replicate count 281474976710656)))
-      (none_due_at place 281474976710656 (omega arith)) ∙ none_due (place + 1) count
+      ap (λ (o : Option Entry). option_map_or (λ (entry : Entry). entry ∷ releases (applied state entry.change) (place + 1) (marks_from state (place + 1) count)) o
+      (releases state (place + 1) (marks_from state (place + 1) count)))
+      (none_due_at place) ∙ none_due (place + 1) count
 
 -- ---- what was sunk
 
@@ -304,18 +310,39 @@ module _ {O : Type 0} (told : Bool) (trace : O → Trace) (faults puts : O → �
             (λ image sunk. IsEarly call refused.end image sunk ⊎ IsServed call account plan state image sunk) served (unopened is_told);
       }
 
-      released : KeepsRules state → restarted state ≡ state → (ends : ℕ) → ends ≤ 0 → IsReleased call account state ends
+      released : KeepsRules state → restarted state ≡ state → (ends : ℕ) → ends ≤ 0
+          → (r : IsReleased call account state ends) × (r.words ≡ marks_from state 0 MOST_KEYS)
       released rules left ends low =
           let none : 0 ≡ ends = omega arith in
-          subst (IsReleased call account state) none (record {
-            words = replicate MOST_KEYS 281474976710656;
-            rows = length-replicate {A = ℕ} MOST_KEYS 281474976710656;
-            count = 0;
-            are_due = refl;
-            stopped = λ rose. refl;
-            refused = λ few. let due = ap length (none_due state rules left 0 MOST_KEYS) in absurd (omega arith);
-            full = λ is_ended full. absurd (not_ended fault is_ended);
-          })
+          subst (λ (n : ℕ). (r : IsReleased call account state n) × (r.words ≡ marks_from state 0 MOST_KEYS)) none (
+            record {
+              words = marks_from state 0 MOST_KEYS;
+              rows = marks_counted state 0 MOST_KEYS;
+              count = 0;
+              are_due = refl;
+              stopped = λ rose. refl;
+              refused = λ few. let due = ap length (none_due state rules left 0 MOST_KEYS) in absurd (omega arith);
+              full = λ is_ended full. absurd (not_ended fault is_ended);
+            },
+            refl,
+          )
+
+      -- nothing was drawn, and the words are the marks
+      exact_none : (words : List ℕ) (ends : ℕ) → words ≡ marks_from state 0 MOST_KEYS → IsExact call account state words ends
+      exact_none words ends is = record {
+        moves = [];
+        beyond = [];
+        few = omega arith;
+        each = λ all. refl;
+        told = tt;
+        runs = tt;
+        reserves = λ p entry low there none. absurd (let within = slice_get_within [] p entry there in omega arith);
+        last = λ row low.
+            let a = ap (λ (l : List ℕ). slice_index l row) is in
+            let b : slice_index (marks_from state 0 MOST_KEYS) row ≡ mark_at state (0 + row) = marks_found state 0 MOST_KEYS row low in
+            let same : 0 + row ≡ row = omega arith in
+            let c = ap (mark_at state) same in omega arith;
+      }
 
     -- ---- an image that shows none
 
@@ -360,10 +387,12 @@ module _ {O : Type 0} (told : Bool) (trace : O → Trace) (faults puts : O → �
         sound = λ is_told plan state shows.
             let is_plan = plans (held (trace site).now.image).plan plan shows.says in
             let keeps = rules (trace site).now.image state shows.shows in
-            let sound = sound_call plan state is_told is_plan keeps in (
+            let sound = sound_call plan state is_told is_plan keeps in
+            let (r, words) = released plan state keeps (lefts (trace site).now.image state shows.shows)
+            sound.run.history.run.ends sound.run.history.run.within in (
               sound,
-              released plan state keeps (lefts (trace site).now.image state shows.shows)
-                  sound.run.history.run.ends sound.run.history.run.within,
+              r,
+              λ one. exact_none plan state r.words sound.run.history.run.ends words,
             );
         refused = refused_so;
       }

@@ -17,7 +17,7 @@ use Rattle.unit_work.specs.Deeds.{course_in}
 use Rattle.run_ends.specs.declared.end.RunEnd.{RunEnd}
 use Rattle.run_ends.specs.declared.end.RunEnd.TheVariants as ends
 use Rattle.run_ends.specs.Account.{AreAnswered}
-use Rattle.run_steps.specs.Doing.{HasDone, HasSettled, IsFounded, octets_put}
+use Rattle.run_steps.specs.Doing.{HasDone, HasSettled, IsFounded, MovedAlone, octets_put}
 
 -- no put failed, and the answers were put; so many puts had failed before and have now
 pub record HasPut (begin : Begin) (now : View) (failed_before failed : ℕ) (answers : List Answer) : Type 0 where
@@ -41,6 +41,7 @@ pub record IsUnderWay (start source : SourceSeen) (standing : Standing) (begin :
   pub each : length answers ≡ length (places_of items)
   pub put : HasPut begin now failed_before failed answers
   pub settled : IsTrue begin.told → IsFounded begin first → HasSettled begin now stored (places_of items) answers
+  pub exactly : MovedAlone begin first now (places_of items) answers
 
 -- why the reading ended
 abbrev pub ReadsTo : SourceSeen → SourceSeen → List Item → List ℕ → List ℕ → RunEnd → Type 0
@@ -95,4 +96,5 @@ pub record HasCome (start source : SourceSeen) (begin : Begin) (first now : View
   pub done : HasDone begin first now (places_of of) answers
   pub put : PutsBy begin now failed_before failed answers came
   pub settled : IsTrue begin.told → IsFounded begin first → HasSettled begin now stored (places_of of) answers
+  pub exactly : MovedAlone begin first now (places_of of) answers
   pub full : came ≡ ends.SessionFull → IsFullHistory begin first now (places_of of) answers

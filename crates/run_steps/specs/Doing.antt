@@ -14,6 +14,7 @@ use Rattle.unit_work.specs.Begin.{Begin}
 use Rattle.unit_work.specs.Views.{entries_in, log_of}
 use Rattle.unit_work.specs.Deeds.{Deed, Does, course_in, tells_entry}
 use Rattle.unit_work.specs.Order.{Layout, TakeTurns, Lined}
+use Rattle.unit_machine.specs.Alone.{MovedExactly, OneLane}
 use Rattle.unit_runs.specs.Opened.{IsOpened}
 use Rattle.unit_runs.specs.Settled.{AreSettled, SettlesAt}
 use Rattle.run_ends.specs.Account.{deeds_from}
@@ -42,6 +43,10 @@ pub record HasDone (begin : Begin) (first now : View) (places : List Place) (ans
   pub does : Does begin first now (records_of places) (deeds_from places answers)
   pub lined : (layout : Layout) → LieIn layout places → (pieces : ℕ)
       × Lined (TakeTurns layout) (log_of now) now.turn.made (length (records_of places) + drawers (records_of places)) pieces
+
+-- where all records are of one lane, each moved the words as its answer tells
+abbrev pub MovedAlone : Begin → View → View → List Place → List Answer → Type 0
+MovedAlone begin first now places answers = OneLane (records_of places) → MovedExactly begin first now (length places) (deeds_from places answers)
 
 -- each answer was settled before an octet of it was put, so many entries being stored now
 abbrev pub HasSettled : Begin → View → ℕ → List Place → List Answer → Type 0

@@ -166,6 +166,7 @@ module _ {O : Type 0} (told : Bool) (trace : O → Trace) (faults puts : O → �
         counted = ap (λ (k : Known). k.put_faults) known_is ∙ put.counted ∙ ap (sites.after_put result) known.put_faults;
         rose = rose_since result (rose_from result put.fault) visits.found_kept.later;
         puts = puts_one;
+        numbers = numbers;
       };
       adds = λ is_told. subst (λ (l : List ℕ). Adds octets result (octets_put v) l) (sym octets_are)
           (sunk_adds octets (octets_put v) result (trace found.site) (trace given.site) (put.put is_told));

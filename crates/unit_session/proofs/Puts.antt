@@ -91,7 +91,7 @@ began_on : (told : Bool) (begin : Begin) (a b : Opening) → b ≡ a → BeganWi
 began_on told begin a b same h = subst (BeganWith told begin) (sym same) h
 
 pub leaves_none : {T E : Type 0} → (told : Bool) (value : T) (v : View) → Leaves {T = T} {E = E} told (Ok value) v v
-leaves_none told value v = record { opening = refl; counted = refl; rose = tt; puts = λ begin h. puts_none begin v }
+leaves_none told value v = record { opening = refl; counted = refl; rose = tt; puts = λ begin h. puts_none begin v; numbers = refl }
 
 pub leaves_then : {S T E : Type 0} → (told : Bool) (value : S) (result : Result T E) (u v w : View)
     → Leaves {T = S} {E = E} told (Ok value) u v → Leaves told result v w → Leaves told result u w
@@ -101,6 +101,7 @@ leaves_then {S = S} {T = T} {E = E} told value result u v w first second = recor
   rose = second.rose;
   puts = λ begin h. puts_then begin u v w (first.puts begin h)
       (second.puts begin (began_on told begin u.turn.known.opening v.turn.known.opening first.opening h));
+  numbers = second.numbers ∙ first.numbers;
 }
 
 -- octets, and more behind them
@@ -118,7 +119,13 @@ octets_then {S} {T} {E} told xs ys value result u v w first second = record {
 pub octets_cut : {S T E : Type 0} → (told : Bool) (xs ys : List ℕ) (fault : E) (u v : View)
     → PutsOctets {T = S} {E = E} told xs (Err fault) u v → PutsOctets {T = T} {E = E} told (xs ++ ys) (Err fault) u v
 octets_cut told xs ys fault u v first = record {
-  leaves = record { opening = first.leaves.opening; counted = first.leaves.counted; rose = first.leaves.rose; puts = first.leaves.puts };
+  leaves = record {
+    opening = first.leaves.opening;
+    counted = first.leaves.counted;
+    rose = first.leaves.rose;
+    puts = first.leaves.puts;
+    numbers = first.leaves.numbers;
+  };
   adds = λ is_told. between_wider (octets_put u) xs ys (octets_put v) (first.adds is_told);
   settles = first.settles;
 }
@@ -195,6 +202,7 @@ so_far_none told piece v none = record {
   opening = refl;
   counted = refl;
   puts = λ begin h. puts_none begin v;
+  numbers = refl;
   takes = λ is_told. (omega arith, ap (λ (l : List ℕ). octets_put v ++ l) none);
   begun = λ begin h. inl refl;
 }
@@ -206,6 +214,7 @@ so_far_next told answers i answer piece piece_now value u v w low is s t = recor
   opening = t.leaves.opening ∙ s.opening;
   counted = t.leaves.counted ∙ s.counted;
   puts = λ begin h. puts_then begin u v w (s.puts begin h) (t.leaves.puts begin (began_on told begin u.turn.known.opening v.turn.known.opening s.opening h));
+  numbers = t.leaves.numbers ∙ s.numbers;
   takes = λ is_told.
       let a = s.takes is_told in let b = t.takes is_told in let c = a.0 in let d = b.0 in
       (omega arith, put_more answers i answer (octets_put u) (octets_put v ++ piece) (octets_put w ++ piece_now) low is a.1 b.1);
@@ -223,6 +232,7 @@ so_far_cut told answers i answer piece piece_now fault u v w low is s t = record
     counted = t.leaves.counted ∙ ap (λ (n : ℕ). n + 1) s.counted;
     rose = t.leaves.rose;
     puts = λ begin h. puts_then begin u v w (s.puts begin h) (t.leaves.puts begin (began_on told begin u.turn.known.opening v.turn.known.opening s.opening h));
+    numbers = t.leaves.numbers ∙ s.numbers;
   };
   adds = λ is_told. put_some answers i answer (octets_put u) (octets_put v) piece (octets_put w) low is (s.takes is_told).1 (s.takes is_told).0 (t.takes is_told);
   settles = λ begin h.
@@ -238,6 +248,7 @@ so_far_last told octets piece result u v w s p = record {
     counted = p.leaves.counted ∙ ap (after_put result) s.counted;
     rose = p.leaves.rose;
     puts = λ begin h. puts_then begin u v w (s.puts begin h) (p.leaves.puts begin (began_on told begin u.turn.known.opening v.turn.known.opening s.opening h));
+    numbers = p.leaves.numbers ∙ s.numbers;
   };
   adds = λ is_told. put_last octets (octets_put u) (octets_put v) piece result (octets_put w) (s.takes is_told).1 (s.takes is_told).0 (p.adds is_told);
   settles = λ begin h.

@@ -13,6 +13,7 @@ use Rattle.unit_work.specs.Begin.{Begin}
 use Rattle.unit_work.specs.Deeds.{Ascend, Deed, deeds_of}
 use Rattle.unit_work.specs.Order.{Handled, Layout, LiesIn}
 use Rattle.unit_runs.proofs.Counting.{none_failed}
+use Rattle.unit_machine.specs.Alone.{MovedExactly, OneLane}
 use Rattle.unit_calls.specs.Visiting.{BeganWith}
 use Rattle.run_steps.specs.Segment.{HandlesAndPuts, PutsWell}
 use Rattle.frame_workers.specs.Ends.{EndsSegment}
@@ -50,6 +51,8 @@ no_put_failed layout begin v mid tasks deeds handled whole_v whole_mid =
 module _ (told : Bool) (v mid w : View) (tasks : List Record) (up : Ascend tasks) (answers : List Answer) (result : Result (Unit {0}) BookFault)
     (handled : (begin : Begin) (layout : Layout) (number : ℕ) → BeganWith told begin v.turn.known.opening → LiesIn layout number tasks
     → Handled layout begin v mid tasks (deeds_of number tasks answers))
+    (exactly : OneLane tasks → (begin : Begin) (number : ℕ) → BeganWith told begin v.turn.known.opening
+    → MovedExactly begin v mid (length tasks) (deeds_of number tasks answers))
     (put : PutsOctets told (answers_octets answers) result mid w) where
   own : (begin : Begin) (number : ℕ) → BeganWith told begin v.turn.known.opening
       → Handled (own_layout number tasks) begin v mid tasks (deeds_of number tasks answers)
@@ -82,6 +85,8 @@ module _ (told : Bool) (v mid w : View) (tasks : List Record) (up : Ascend tasks
       known = mid.turn.known.standing;
       settles = put.settles begin began_mid;
       entered = λ number k d low told. ((own begin number began).does.answers.stand k d low).stored told;
+      exactly = λ one number. exactly one begin number began;
+      same_numbers = put.leaves.numbers;
     }
 
     stands : v.turn.known.standing ≤ w.turn.known.standing

@@ -44,13 +44,14 @@ Begun begin v w = (log_of w ≡ log_of v) ⊎ SettlesAll begin v w
 abbrev pub OfRun : Bool → View → (Begin → Type 0) → Type 0
 OfRun told v P = (begin : Begin) → BeganWith told begin v.turn.known.opening → P begin
 
--- What every putting leaves: the opening stands, one more put failed where the answer is a fault, and the site's count then had
+-- What every putting leaves: the opening and the numbers stand, one more put failed where the answer is a fault, and the site's count then had
 -- risen.
 pub record Leaves {T E : Type 0} (told : Bool) (result : Result T E) (v w : View) : Type 0 where
   pub opening : w.turn.known.opening ≡ v.turn.known.opening
   pub counted : w.turn.known.put_faults ≡ after_put result v.turn.known.put_faults
   pub rose : OnErr result (Rose w.turn.known.opening.faults w.turn.known.faults)
   pub puts : OfRun told v (λ begin. Puts begin v w)
+  pub numbers : w.numbers ≡ v.numbers
 
 -- The octets were put, or a front of them.
 pub record PutsOctets {T E : Type 0} (told : Bool) (octets : List ℕ) (result : Result T E) (v w : View) : Type 0 where
@@ -70,5 +71,6 @@ pub record TakesSoFar (told : Bool) (octets piece : List ℕ) (v w : View) : Typ
   pub opening : w.turn.known.opening ≡ v.turn.known.opening
   pub counted : w.turn.known.put_faults ≡ v.turn.known.put_faults
   pub puts : OfRun told v (λ begin. Puts begin v w)
+  pub numbers : w.numbers ≡ v.numbers
   pub takes : IsTrue told → (length (octets_put v) ≤ length (octets_put w)) × (octets_put w ++ piece ≡ octets_put v ++ octets)
   pub begun : OfRun told v (λ begin. Begun begin v w)
