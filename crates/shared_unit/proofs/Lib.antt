@@ -9,6 +9,7 @@ pub mod Using
 pub mod Trust
 pub mod Passing
 pub mod Renewing
+pub mod Naming
 pub mod Commands
 pub mod Beginning
 pub mod Fresh

@@ -54,6 +54,14 @@ pub record IsUsed (plan : PlanLines) (link : ℕ) (clear : List ℕ) (p : Permit
   pub frame : IsOfPermit plan p clear
   pub trusted : IsTrueFor p w
 
+-- a fact of the epoch that an answer tells
+abbrev pub IfEpoch : Protected → (ℕ → Type 0) → Type 0
+IfEpoch (answers.Done d) P = P d.epoch
+IfEpoch answers.Clear P = ⊤
+IfEpoch (answers.Refused fault epoch) P = P epoch
+IfEpoch (answers.Exhausted key n epoch) P = P epoch
+IfEpoch (answers.Fault fault position) P = ⊤
+
 -- the turn was taken no more often than a ticket came back
 abbrev pub TakesByTicket : View → View → Type 0
 TakesByTicket v w = w.turn.turns + v.numbers.tickets ≤ v.turn.turns + w.numbers.tickets
@@ -85,6 +93,14 @@ module _ {O : Type 0} (told : Bool) (trace : O → Trace) (faults puts : O → �
   -- the turn was taken once at most, with this done to the book
   abbrev pub MayTakeTurn : (BookView O → BookView O → Type 0) → Turn → Turn → Type 0
   MayTakeTurn done v w = Looks v w ⊎ TakesTurn done v w
+
+  -- the turn was taken once, and the book found had counted so many changes
+  abbrev pub FindsEpoch : Turn → Turn → ℕ → Type 0
+  FindsEpoch v w epoch = TakesTurn (λ found given. found.changes ≡ epoch) v w
+
+  -- the epoch is the one loaded last, or that of the book held
+  abbrev pub IsEpochOf : Turn → Turn → ℕ → Type 0
+  IsEpochOf v w epoch = (w.epoch ≡ epoch) ⊎ FindsEpoch v w epoch
 
   -- one reserve was stored, or refused, or there was none
   abbrev pub AddsReserve : ℕ → BookView O → BookView O → Type 0

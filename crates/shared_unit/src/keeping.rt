@@ -1,12 +1,12 @@
 //! A frame is protected: with the kept permit where that still holds, and else under the turn.
-ghost use Rattle.std.specs.Prelude.{◌≡◌, ◌≤◌, ◌<◌, ◌+◌, ℕ, length, Some, Ok};
+ghost use Rattle.std.specs.Prelude.{◌≡◌, ◌≤◌, ◌<◌, ◌+◌, ℕ, length, Some, Ok, IfSome};
 ghost use Rattle.frame_checks.specs.Protecting.{channel_check};
 ghost use Rattle.counter_table.specs.Turn.{epoch_seen};
 ghost use Rattle.counter_table.specs.Worker.{view, IsSame};
 ghost use Rattle.shared_unit.specs.declared.permit.Permit.{Permit};
 ghost use Rattle.shared_unit.specs.declared.permit.Done.{Done};
 ghost use Rattle.shared_unit.specs.Permit.{IsOfPermit, IsTrueFor};
-ghost use Rattle.shared_unit.specs.Protecting.{IsByKept, IsKeptStep, IsProtectStep, IsTrueIfKept, TakesAtMostOnce, TakesByTicket};
+ghost use Rattle.shared_unit.specs.Protecting.{FindsEpoch, IfEpoch, IsByKept, IsEpochOf, IsKeptStep, IsProtectStep, IsTrueIfKept, TakesAtMostOnce, TakesByTicket};
 ghost use Rattle.shared_unit.specs.Turn.{IsReady};
 
 use crate::permit::{Permit, PermitReply, Protected, Ready};
@@ -33,6 +33,7 @@ impl<O: Site> Unit<O> {
         ensures ready { IsReady self.now.counters self.now.plan worker.new }
         ensures same { IsSame worker.old worker.new }
         ensures turn { TakesAtMostOnce O.told O.trace O.faults O.put_faults (view worker.old).turn (view worker.new).turn }
+        ensures epoch { IfSome result (λ answer. IfEpoch answer (λ epoch. (view worker.new).turn.epoch ≡ epoch)) }
         ensures step { IsKeptStep O.told O.trace O.faults O.put_faults permit.now clear.now out.new result (view worker.old) (view worker.new) }
     {
         match self.protect_ready(worker, permit, clear, out) {
@@ -74,6 +75,7 @@ impl<O: Site> Unit<O> {
         ensures ready { IsReady self.now.counters self.now.plan worker.new }
         ensures same { IsSame worker.old worker.new }
         ensures turn { TakesAtMostOnce O.told O.trace O.faults O.put_faults (view worker.old).turn (view worker.new).turn }
+        ensures epoch { IfSome result (λ answer. IfEpoch answer (λ epoch. (view worker.new).turn.epoch ≡ epoch)) }
         ensures step { IsByKept O.told O.trace O.faults O.put_faults self.now.plan kept.now link clear.now out.new result (view worker.old) (view worker.new) }
     {
         let Some(permit) = kept else {
@@ -107,6 +109,7 @@ impl<O: Site> Unit<O> {
         ensures turn { TakesAtMostOnce O.told O.trace O.faults O.put_faults (view worker.old).turn (view worker.new).turn }
         ensures kept { IsTrueIfKept kept.new (view worker.new).turn }
         ensures step { IsProtectStep O.told O.trace O.faults O.put_faults self.now.plan link clear.now out.new kept.new result (view worker.old) (view worker.new) }
+        ensures epochs { IfEpoch result (FindsEpoch O.told O.trace O.faults O.put_faults (view worker.old).turn (view worker.new).turn) }
         ensures later { (d : Done) → result ≡ Protected.Done d → epoch_seen (view worker.old).turn ≤ d.epoch }
         ensures epoch { (view worker.new).turn.epoch ≡ (view worker.old).turn.epoch }
     {
@@ -147,6 +150,10 @@ impl<O: Site> Unit<O> {
         ensures turn { TakesAtMostOnce O.told O.trace O.faults O.put_faults (view worker.old).turn (view worker.new).turn }
         ensures kept { IsTrueIfKept kept.new (view worker.new).turn }
         ensures step { IsProtectStep O.told O.trace O.faults O.put_faults self.now.plan link clear.now out.new kept.new result (view worker.old) (view worker.new) }
+
+        // The epoch beside an answer is the one loaded last, or that of the book held; where the plan is enough there is none.
+        ensures epochs { (channel : ℕ) → channel_check self.now.plan link clear.now ≡ Ok (Some channel)
+            → IfEpoch result (IsEpochOf O.told O.trace O.faults O.put_faults (view worker.old).turn (view worker.new).turn) }
 
         // With the kept permit, where its epoch was the one loaded last, the turn is taken for a ticket that came back alone.
         ensures turns { (p : Permit) (d : Done) → kept.old ≡ Some p → p.link ≡ link → IsOfPermit self.now.plan p clear.now

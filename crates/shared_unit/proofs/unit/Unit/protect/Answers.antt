@@ -5,6 +5,7 @@ use Rattle.counter_table.specs.Worker.{view}
 use Rattle.shared_unit.proofs.Shares.{kept_shares, step_shares}
 use Rattle.shared_unit.proofs.Passing.{passes_none, passes_on}
 use Rattle.shared_unit.proofs.Renewing.{kept_step, step_from}
+use Rattle.shared_unit.proofs.Naming.{found_epoch, loaded_epoch}
 use Rattle.shared_unit.proofs.unit.Unit.protect.Goals as goal
 
 pub returns-in-Ok-None-clause-turn : goal.returns-in-Ok-None-clause-turn
@@ -40,3 +41,13 @@ returns-clause-step g c =
 
 pub returns-in-Err-clause-turn : goal.returns-in-Err-clause-turn
 returns-in-Err-clause-turn g c = passes_none g.O.Site.told g.O.Site.trace g.O.Site.faults g.O.Site.put_faults _ _ refl
+
+pub returns-in-Some-clause-epochs : goal.returns-in-Some-clause-epochs
+returns-in-Some-clause-epochs g c =
+    λ channel passes. loaded_epoch g.O.Site.told g.O.Site.trace g.O.Site.faults g.O.Site.put_faults c.in-Some.answer
+    (view c.args.worker.now).turn (view c.by_kept.new.worker).turn c.in-Some.ensures.epoch
+
+pub returns-clause-epochs : goal.returns-clause-epochs
+returns-clause-epochs g c =
+    λ channel passes. found_epoch g.O.Site.told g.O.Site.trace g.O.Site.faults g.O.Site.put_faults c.renewed.result
+    (view c.args.worker.now).turn (view c.by_kept.new.worker).turn (view c.renewed.new.worker).turn (c.in_default.ensures.step).1 c.renewed.ensures.epochs

@@ -14,6 +14,7 @@ use Rattle.shared_unit.proofs.Steps.{goes_itself, may_give, visits}
 use Rattle.shared_unit.proofs.Trust.{permit_true, of_permit}
 use Rattle.shared_unit.proofs.Passing.{passes_served, kept_stays, ready_after, same_twice, visit_takes}
 use Rattle.shared_unit.proofs.Renewing.{finished_gives, finished_visits, finished_adds, finished_under, refused_at, under_step}
+use Rattle.shared_unit.proofs.Naming.{finds, finished_epoch}
 use Rattle.shared_unit.proofs.unit.Unit.renewed.Goals as goal
 
 pub unreachable-requires : goal.unreachable-requires
@@ -134,3 +135,24 @@ returns-in-Permit-clause-step g c =
           c.in-Permit.ensures.permits (level_of g.O.Site.told g.O.Site.trace g.O.Site.faults found c.in-Permit.ensures.kept) visit.takes;
     }
     (ap (λ (t : Turn). t.known.opening.plan) visit.takes.turn ∙ ap (λ (o : Opening). o.plan) visit.takes.opening ∙ planned) (Some p) refl
+
+pub returns-in-Refused-clause-epochs : goal.returns-in-Refused-clause-epochs
+returns-in-Refused-clause-epochs g c =
+    let found : BookView g.row.O.Denot = c.take-held.result.book in
+    finds g.O.Site.told g.O.Site.trace g.O.Site.faults g.O.Site.put_faults found found (view c.args.worker.now).turn (view c.give.new.worker).turn c.in-Refused.epoch
+    (visits g.O.Site.trace g.O.Site.faults g.O.Site.put_faults g.O.Site.told found found (view c.args.worker.now).turn (view c.take-held.new.worker).turn (view c.give.new.worker).turn
+    c.in-Refused.ensures.kept c.in-Refused.ensures.kept c.take-held.ensures.follows (goes_itself g.O.Site.faults g.O.Site.put_faults found) c.take-held.ensures.turn c.give.ensures.turn)
+    (sym c.in-Refused.ensures.permits.1)
+
+pub returns-in-Permit-clause-epochs : goal.returns-in-Permit-clause-epochs
+returns-in-Permit-clause-epochs g c =
+    let found : BookView g.row.O.Denot = c.take-held.result.book in
+    let given : BookView g.row.O.Denot = c.finished-answer.new.held.book in
+    let p = c.in-Permit.permit in
+    finished_epoch g.O.Site.told g.O.Site.trace g.O.Site.faults g.O.Site.put_faults p c.args.clear.now c.finished-answer.new.out found given c.finished-answer.result
+    (view c.take-held.new.worker) (view c.finished-answer.new.worker) (view c.args.worker.now).turn (view c.give-in-Permit.new.worker).turn
+    c.finished-answer.ensures.step (c.in-Permit.ensures.permits).2
+    (finished_visits g.O.Site.told g.O.Site.trace g.O.Site.faults g.O.Site.put_faults p c.args.clear.now c.finished-answer.new.out found given c.finished-answer.result
+    (view c.args.worker.now).turn (view c.give-in-Permit.new.worker).turn (view c.take-held.new.worker) (view c.finished-answer.new.worker)
+    c.finished-answer.ensures.step c.finished-answer.ensures.goes_on c.in-Permit.ensures.kept c.finished-answer.ensures.kept c.take-held.ensures.follows
+    c.take-held.ensures.turn c.give-in-Permit.ensures.turn)
