@@ -44,8 +44,8 @@ Begun begin v w = (log_of w ≡ log_of v) ⊎ SettlesAll begin v w
 abbrev pub OfRun : Bool → View → (Begin → Type 0) → Type 0
 OfRun told v P = (begin : Begin) → BeganWith told begin v.turn.known.opening → P begin
 
--- What every putting leaves: the opening and the numbers stand, one more put failed where the answer is a fault, and the site's count then had
--- risen.
+-- What every putting leaves: the opening and the numbers stand, one more put failed where the answer is a fault, and the site's
+-- count then had risen.
 pub record Leaves {T E : Type 0} (told : Bool) (result : Result T E) (v w : View) : Type 0 where
   pub opening : w.turn.known.opening ≡ v.turn.known.opening
   pub counted : w.turn.known.put_faults ≡ after_put result v.turn.known.put_faults
