@@ -1,0 +1,4 @@
+pub mod PlainWords
+pub mod PlainLines
+pub mod MessageOctets
+pub mod ItemLines

@@ -1,0 +1,18 @@
+use Rattle.std.proofs.Common.{rules}
+use Rattle.input_text.specs.Line.{IsLine}
+use Rattle.item_text.proofs.items.line_of.Goals as goal
+
+pub returns-in-Protect-clause-bounds : goal.returns-in-Protect-clause-bounds
+unfolding IsLine
+returns-in-Protect-clause-bounds c is =
+    (is.lane, (let all = c.well_formed in search rules), record { each = rw c.as_slice.ensures at c.hold_octets.ensures; few = is.short })
+
+pub returns-in-Open-clause-bounds : goal.returns-in-Open-clause-bounds
+unfolding IsLine
+returns-in-Open-clause-bounds c is =
+    (is.lane, (let all = c.well_formed in search rules), record { each = rw c.as_slice.ensures at c.hold_octets.ensures; few = is.short })
+
+pub returns-in-Command-clause-bounds : goal.returns-in-Command-clause-bounds
+unfolding IsLine
+returns-in-Command-clause-bounds c is =
+    c.command_line.ensures.bounds (is.lane, record { each = rw c.as_slice.ensures at c.hold_octets.ensures; few = is.short })
