@@ -1,24 +1,17 @@
 //! The program `sdls_text`: recorded input and answers as text. `sdls_text records` reads lines from standard input and puts
-//! the recorded input that they say; `sdls_text answers` reads answers and puts their lines. What a line says is the matter
-//! of `input_text` and `answer_text`.
+//! the recorded input that they say; `sdls_text show` puts the lines of recorded input; `sdls_text answers` reads answers and
+//! puts their lines. What is put is the matter of `text_streams`.
 #![tactic(auto)]
 
-mod answers;
-mod ends;
-mod lines;
-mod putting;
-mod records;
-
-use answers::put_answers;
-use ends::End;
-use records::put_records;
-use sdls_outside::StdSource;
+use sdls_outside::{FileSite, StdSource};
 use std::alloc::AllocError;
 use std::process::ExitCode;
 use std::rt::Env;
 use std::{env, io};
+use text_streams::{End, put_answers, put_lines, put_records};
 
 const USAGE: &str = "usage: sdls_text records < TEXT > INPUT
+       sdls_text show < INPUT > TEXT
        sdls_text answers < ANSWERS > TEXT
 records puts the recorded input of `sdls run` that the lines of the text say:
   fence
@@ -27,14 +20,16 @@ records puts the recorded input of `sdls run` that the lines of the text say:
   command LANE octets OCTETS
   command LANE PROCEDURE VALUE..
 An empty line and a line that begins with # are skipped.
+show puts the lines of recorded input.
 answers puts a line for each answer of `sdls run`, with the number of its record.
 docs/FORMATS.md has the procedures, and the lines of answers.
-Status: 0 done, 1 a line or an answer is at fault, 2 usage, 4 the input failed, 5 the output failed, 6 no memory.";
+Status: 0 done, 1 a line, an item or an answer is at fault, 2 usage, 4 the input failed, 5 the output failed, 6 no memory.";
 
 /// What the words ask for.
 #[derive(Clone, Copy)]
 enum Mode {
     Records,
+    Show,
     Answers,
 }
 
@@ -54,6 +49,7 @@ fn asked(words: &[String]) -> Option<Mode> {
     }
     match words[0].as_str() {
         "records" => Some(Mode::Records),
+        "show" => Some(Mode::Show),
         "answers" => Some(Mode::Answers),
         _ => None,
     }
@@ -67,6 +63,7 @@ fn told(rt: &HostRuntime, end: End) -> io::Result<u8> {
         End::LongLine(line) => eprintln!(rt; "sdls_text: line {line}: more than 8192 octets")?,
         End::CutAnswer(offset) => eprintln!(rt; "sdls_text: the answer at octet {offset} is cut")?,
         End::NoAnswer(offset) => eprintln!(rt; "sdls_text: no answer at octet {offset}")?,
+        End::NoItem(offset) => eprintln!(rt; "sdls_text: no item at octet {offset}")?,
         End::SourceFault => eprintln!(rt; "sdls_text: the input failed")?,
         End::OutputFault => eprintln!(rt; "sdls_text: the output failed")?,
         End::NoMemory => eprintln!(rt; "sdls_text: no memory")?,
@@ -82,10 +79,14 @@ fn main(rt: HostRuntime) -> ExitCode {
         let _ = eprintln!(rt; "{USAGE}");
         return ExitCode::from(2);
     };
+    let alloc = rt.alloc();
     let mut source = StdSource::new(rt.stdin());
+    // of this site nothing but its sink is used, which is standard output
+    let mut sink = FileSite::new(rt);
     let end = match mode {
-        Mode::Records => put_records(&rt, rt.alloc(), &mut source),
-        Mode::Answers => put_answers(&rt, rt.alloc(), &mut source),
+        Mode::Records => put_records(alloc, &mut source, &mut sink),
+        Mode::Show => put_lines(alloc, &mut source, &mut sink),
+        Mode::Answers => put_answers(alloc, &mut source, &mut sink),
     };
     let status = end.status();
     match told(&rt, end) {

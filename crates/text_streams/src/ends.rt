@@ -14,6 +14,8 @@ pub enum End {
     CutAnswer(u64),
     /// What begins at this octet, counted from 0, is no answer.
     NoAnswer(u64),
+    /// What begins at this octet, counted from 0, is no item of the recorded input.
+    NoItem(u64),
     SourceFault,
     OutputFault,
     NoMemory,
@@ -24,7 +26,11 @@ impl End {
     pub fn status(&self) -> u8 {
         match self {
             End::Done => 0,
-            End::LineFault(_, _) | End::LongLine(_) | End::CutAnswer(_) | End::NoAnswer(_) => 1,
+            End::LineFault(_, _)
+            | End::LongLine(_)
+            | End::CutAnswer(_)
+            | End::NoAnswer(_)
+            | End::NoItem(_) => 1,
             End::SourceFault => 4,
             End::OutputFault => 5,
             End::NoMemory => 6,

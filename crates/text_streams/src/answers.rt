@@ -1,12 +1,12 @@
 //! Answers in, text out.
 use crate::ends::End;
-use crate::putting::{put, put_full};
+use crate::putting::{put_full, put_rest};
 use answer_text::{AnswersEnd, Listing};
-use sdls_outside::Source;
+use sdls_outside::{Failed, Site, Source};
 use std::alloc::Global;
 
 /// Puts the lines of the answers up to the end or the first that is none, in pieces. The rest stands in the buffer.
-fn put_lines<S: Source>(rt: &impl Print, alloc: Global, source: &mut S, out: &mut Vec<u8>) -> End {
+fn list<S: Source, O: Site>(alloc: Global, source: &mut S, sink: &mut O, out: &mut Vec<u8>) -> End {
     let mut listing = Listing::new();
     for _ in 0..u64::MAX {
         match listing.next_line(alloc, source, out) {
@@ -17,7 +17,7 @@ fn put_lines<S: Source>(rt: &impl Print, alloc: Global, source: &mut S, out: &mu
             Some(AnswersEnd::SourceFault) => return End::SourceFault,
             Some(AnswersEnd::NoMemory) => return End::NoMemory,
         }
-        if put_full(rt, out).is_err() {
+        if let Err(Failed) = put_full(sink, out) {
             return End::OutputFault;
         }
     }
@@ -25,11 +25,8 @@ fn put_lines<S: Source>(rt: &impl Print, alloc: Global, source: &mut S, out: &mu
 }
 
 /// Puts the lines of the answers of the source. Where an answer is cut, or octets are none, the lines before it are put.
-pub fn put_answers<S: Source>(rt: &impl Print, alloc: Global, source: &mut S) -> End {
+pub fn put_answers<S: Source, O: Site>(alloc: Global, source: &mut S, sink: &mut O) -> End {
     let mut out = Vec::new(alloc);
-    let end = put_lines(rt, alloc, source, &mut out);
-    match put(rt, &mut out) {
-        Ok(()) => end,
-        Err(_) => End::OutputFault,
-    }
+    let end = list(alloc, source, sink, &mut out);
+    put_rest(sink, out, end)
 }

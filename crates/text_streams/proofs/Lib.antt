@@ -1,0 +1,3 @@
+pub mod FirstLines
+pub mod Items
+pub mod Progress

@@ -1,0 +1,58 @@
+//! What is put on a sink, in pieces.
+ghost use Rattle.std.specs.Prelude.{◌≡◌, ◌≤◌, ◌++◌, [], length, IsTrue, OnErr, OnOk};
+ghost use Rattle.sdls_outside.specs.Moments.{Between};
+ghost use Rattle.text_streams.specs.TextLine.{PutsRest};
+
+use crate::ends::End;
+use sdls_outside::{Failed, Site};
+
+/// So many octets are put together, or a few more.
+const PIECE: usize = 4096;
+
+/// Puts octets. After `Failed` a front of them was put.
+pub fn put_octets<O: Site>(sink: &mut O, octets: &[u8]) -> Result<(), Failed>
+    ensures put { IsTrue O.told → OnOk result ((O.trace sink.new).now.sunk ≡ (O.trace sink.old).now.sunk ++ octets.now) }
+    ensures front { IsTrue O.told → OnErr result (Between (O.trace sink.old).now.sunk
+        ((O.trace sink.old).now.sunk ++ octets.now) (O.trace sink.new).now.sunk) }
+{
+    sink.put(octets)
+}
+
+/// Puts what stands in the buffer, which is empty then. After `Failed` a front of it was put.
+fn put<O: Site>(sink: &mut O, out: &mut Vec<u8>) -> Result<(), Failed>
+    ensures put { IsTrue O.told → OnOk result ((O.trace sink.new).now.sunk ≡ (O.trace sink.old).now.sunk ++ out.old.items) }
+    ensures empty { OnOk result (out.new.items ≡ []) }
+    ensures front { IsTrue O.told → OnErr result (Between (O.trace sink.old).now.sunk
+        ((O.trace sink.old).now.sunk ++ out.old.items) (O.trace sink.new).now.sunk) }
+{
+    put_octets(sink, out.as_slice())?;
+    out.clear();
+    Ok(())
+}
+
+/// Puts what stands in the buffer where that is a piece.
+pub fn put_full<O: Site>(sink: &mut O, out: &mut Vec<u8>) -> Result<(), Failed>
+    ensures put { IsTrue O.told → OnOk result
+        ((O.trace sink.new).now.sunk ++ out.new.items ≡ (O.trace sink.old).now.sunk ++ out.old.items) }
+    ensures least { IsTrue O.told → OnOk result (length (O.trace sink.old).now.sunk ≤ length (O.trace sink.new).now.sunk) }
+    ensures front { IsTrue O.told → OnErr result (Between (O.trace sink.old).now.sunk
+        ((O.trace sink.old).now.sunk ++ out.old.items) (O.trace sink.new).now.sunk) }
+{
+    if out.len() < PIECE {
+        return Ok(());
+    }
+    put(sink, out)
+}
+
+/// Puts what is left in the buffer, unless the output has failed, and answers how the run ends.
+pub fn put_rest<O: Site>(sink: &mut O, mut out: Vec<u8>, end: End) -> End
+    ensures { IsTrue O.told → PutsRest end result (O.trace sink.old).now.sunk out.items (O.trace sink.new).now.sunk }
+{
+    match end {
+        End::OutputFault => End::OutputFault,
+        end => match put(sink, &mut out) {
+            Ok(()) => end,
+            Err(Failed) => End::OutputFault,
+        },
+    }
+}
