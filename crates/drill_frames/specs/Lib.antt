@@ -1,0 +1,3 @@
+pub mod Frames
+pub mod Counting
+pub mod Line
