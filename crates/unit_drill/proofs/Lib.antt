@@ -1,0 +1,4 @@
+pub mod DrillWords
+pub mod Opened
+pub mod Lanes
+pub mod Served

@@ -1,0 +1,62 @@
+-- A unit that was opened on a site in memory: for `DrillUnit::open`.
+use Rattle.std.proofs.Common.{◌≡◌, ℕ, true, List, length, refl, sym, ◌∙◌, ap, subst, Ok}
+use Rattle.sdls_outside.specs.Moments.{Trace}
+use Rattle.sdls_outside.specs.Crash.{fresh}
+use Rattle.disk_journal.specs.Image.{held, records, slot_count}
+use Rattle.disk_journal.specs.Initial.{initial_image}
+use Rattle.unit_plan.specs.Plan.{plan_of}
+use Rattle.unit_plan.specs.PlanLines.{PlanLines}
+use Rattle.unit_image.specs.Shows.{Shows}
+use Rattle.counter_table.specs.declared.counters.Counters.{Counters}
+use Rattle.counter_table.specs.declared.counters.Worker.{Worker}
+use Rattle.counter_table.specs.declared.view.Opening.{Opening}
+use Rattle.counter_table.specs.Worker.{view}
+use Rattle.unit_book.specs.Book.{BookView}
+use Rattle.shared_unit.specs.Sharing.{Begins}
+use Rattle.shared_unit.specs.Sharing as sharing
+use Rattle.unit_work.specs.Begin.{Begin}
+use Rattle.unit_drill.specs.declared.image.TheConstants.{SLOTS}
+use Rattle.unit_drill.specs.Drilled.{IsOpened, MayServe}
+
+module _ {O B : Type 0} (trace : O → Trace) (faults puts : O → ℕ) (site : O) (book : BookView O) (counters : Counters B) (planned : PlanLines)
+    (worker : Worker B) (opened : sharing.IsOpened true trace faults puts site book)
+    (begins : Begins trace faults puts book counters planned worker) (plan : List ℕ) (holds : trace site ≡ fresh (initial_image plan SLOTS)) where
+  image_is : (trace site).now.image ≡ initial_image plan SLOTS
+  image_is = ap (λ (t : Trace). t.now.image) holds
+
+  abbrev begin : Begin
+  begin = record {
+    rows = 512;
+    told = true;
+    plan = book.plan;
+    start = book.start;
+    slots = slot_count (view worker).turn.known.opening.image;
+    used = length (records (view worker).turn.known.opening.image);
+  }
+
+  pub opened_begins : MayServe counters planned worker × ((begin : Begin) × IsOpened plan begin (view worker))
+  opened_begins = (
+    record { ready = begins.ready; shares = begins.shares },
+    (
+      begin,
+      record {
+        began = record {
+          rows = refl;
+          tells = refl;
+          plan = ap (λ (o : Opening). o.plan) begins.opening;
+          start = ap (λ (o : Opening). o.start) begins.opening;
+          slots = λ told. refl;
+          used = λ told. refl;
+        };
+        image = ap (λ (o : Opening). o.image) begins.opening ∙ (ap (λ (b : BookView O). b.image) opened.begun_is ∙ image_is);
+        says = subst (λ (i : List ℕ). plan_of (held i).plan ≡ Ok book.plan) image_is (opened.plan refl);
+        shows = subst (λ (i : List ℕ). Shows i book.start) image_is (opened.shows refl).0;
+        whole = begins.whole;
+        log = begins.log;
+        made = begins.made;
+        drawn = begins.drawn;
+        spent = begins.spent;
+        words = begins.words;
+      },
+    ),
+  )

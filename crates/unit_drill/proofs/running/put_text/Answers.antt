@@ -1,0 +1,19 @@
+use Rattle.std.proofs.Common.{inl, inr, refl, Ok, Err}
+use Rattle.sdls_outside.specs.declared.source.Failed.{Failed}
+use Rattle.sdls_plain.proofs.Delivering.{delivers_put}
+use Rattle.unit_drill.proofs.running.put_text.Goals as goal
+
+pub returns-in-Ok : goal.returns-in-Ok
+returns-in-Ok g c = inl (
+  refl,
+  λ told. delivers_put {T = Unit {0}} {E = Failed} c.args.text.now (Ok c.in-Ok.field-0)
+      (g.O.Site.trace c.args.site.now) (g.O.Site.trace c.put.new.self) (c.in-Ok.ensures.put told),
+)
+
+pub returns-in-Err : goal.returns-in-Err
+returns-in-Err g c = inr (
+  refl,
+  c.in-Err.ensures.cause.failed,
+  λ told. delivers_put {T = Unit {0}} {E = Failed} c.args.text.now
+      (Err c.in-Err.field-0) (g.O.Site.trace c.args.site.now) (g.O.Site.trace c.put.new.self) (c.in-Err.ensures.put told),
+)

@@ -1,0 +1,12 @@
+use Rattle.std.proofs.Common.{◌≡◌, codes, string_bytes, rules}
+use Rattle.sdls_plain.proofs.CheckWords.{two_words}
+use Rattle.unit_drill.proofs.DrillWords.{drill_from_number}
+use Rattle.unit_drill.proofs.words.drill_number.Goals as goal
+
+pub returns-in-len2 : goal.returns-in-len2
+returns-in-len2 c =
+    let command : string_bytes c.command-item.result ≡ codes "drill" = search rules in
+    drill_from_number c.args.words.now c.as_str-in-len2.result.now
+    (two_words c.args.words.now c.command-item.result c.digits-item.result (codes "drill") c.as_str-in-len2.result.now
+    c.in-len2.len_at_least c.in-len2.len_below c.command-item.is c.digits-item.is command c.as_str-in-len2.ensures.value)
+    c.frames_of.result c.frames_of.ensures

@@ -1,0 +1,124 @@
+//! The images of the two units.
+ghost use Rattle.std.specs.Prelude.{◌≡◌, ◌≤◌, ◌++◌, IfOk, OnOk, length, None, []};
+ghost use Rattle.byteorder.specs.Endian.{big_bytes};
+ghost use Rattle.disk_journal.specs.Initial.{initial_image, zeros};
+ghost use Rattle.sdls_outside.specs.Crash.{fresh};
+ghost use Rattle.sdls_outside.specs.MemSite.{site_trace};
+ghost use Rattle.unit_drill.specs.Image.{receiver_plan, sender_plan};
+
+use byteorder::{BigEndian, ByteOrder};
+use disk_journal::{FIELD_LENGTH, HEADER_LENGTH, MAGIC, OPEN, PLAN_ROOM, ZEROS_AT, slot_offset};
+use sdls_base::NoMemory;
+use sdls_outside::MemSite;
+use std::alloc::Global;
+
+/// The slots of both images.
+const SLOTS: u32 = 8_192;
+
+const SENDER: &[u8] = b"sdls 1
+device 00000d01
+slots 8192
+block 64
+accept 64
+link 0 tc noseg fecf -
+channel 0 0 1 0 -
+channel 1 0 1 1 -
+channel 2 0 1 2 -
+channel 3 0 1 3 -
+key 32769 active 01010101010101010101010101010101
+key 257 active 02020202020202020202020202020202
+key 32771 active 03030303030303030303030303030303
+key 259 active 04040404040404040404040404040404
+sa 1 send cmac 32769 1 4294967296 0
+sa 2 send gcm 257 1 4294967296 1
+sa 3 send cmac 32771 1 4294967296 2
+sa 4 send gcm 259 1 4294967296 3
+";
+
+const RECEIVER: &[u8] = b"sdls 1
+device 00000d02
+slots 8192
+block 64
+accept 64
+link 0 tc noseg fecf -
+channel 0 0 1 0 -
+channel 1 0 1 1 -
+channel 2 0 1 2 -
+channel 3 0 1 3 -
+key 32769 active 01010101010101010101010101010101
+key 257 active 02020202020202020202020202020202
+key 32771 active 03030303030303030303030303030303
+key 259 active 04040404040404040404040404040404
+sa 1 receive cmac 32769 1 4294967296 0
+sa 2 receive gcm 257 1 4294967296 1
+sa 3 receive cmac 32771 1 4294967296 2
+sa 4 receive gcm 259 1 4294967296 3
+";
+
+/// The plan of the unit that sends.
+#[tactic(auto, unfolding(crate::specs::Image::sender_plan))]
+pub(crate) fn sender_plan() -> &'static [u8]
+    ensures lines { result.now ≡ sender_plan }
+    ensures short { length result.now ≤ PLAN_ROOM }
+{
+    SENDER
+}
+
+/// The plan of the unit that receives.
+#[tactic(auto, unfolding(crate::specs::Image::receiver_plan))]
+pub(crate) fn receiver_plan() -> &'static [u8]
+    ensures lines { result.now ≡ receiver_plan }
+    ensures short { length result.now ≤ PLAN_ROOM }
+{
+    RECEIVER
+}
+
+fn add_octets(image: &mut Vec<u8>, octets: &[u8]) -> Result<(), NoMemory>
+    ensures { OnOk result (image.new.items ≡ image.old.items ++ octets.now) }
+{
+    image.extend_from_slice(octets)?;
+    Ok(())
+}
+
+fn add_number(image: &mut Vec<u8>, number: u32) -> Result<(), NoMemory>
+    ensures { OnOk result (image.new.items ≡ image.old.items ++ big_bytes FIELD_LENGTH number) }
+{
+    let mut field = [0; FIELD_LENGTH];
+    BigEndian::write_u32(&mut field, number);
+    add_octets(image, &field)
+}
+
+#[tactic(auto, unfolding(disk_journal::specs::Initial::zeros))]
+fn add_zeros(alloc: Global, image: &mut Vec<u8>, count: usize) -> Result<(), NoMemory>
+    ensures { OnOk result (image.new.items ≡ image.old.items ++ zeros count) }
+{
+    let octets = vec![in alloc; 0; count]?;
+    add_octets(image, &octets)
+}
+
+/// The image of a plan, without records.
+#[tactic(auto, unfolding(disk_journal::specs::Initial::empty_image))]
+fn image_of(alloc: Global, plan: &[u8]) -> Result<Vec<u8>, NoMemory>
+    requires { length plan.now ≤ PLAN_ROOM }
+    ensures { IfOk result (λ image. image.items ≡ initial_image plan.now SLOTS) }
+{
+    let mut image = Vec::new(alloc);
+    add_octets(&mut image, &[OPEN])?;
+    add_octets(&mut image, &MAGIC)?;
+    add_number(&mut image, plan.len() as u32)?;
+    add_number(&mut image, SLOTS)?;
+    add_zeros(alloc, &mut image, (HEADER_LENGTH - ZEROS_AT) as usize)?;
+    add_octets(&mut image, plan)?;
+    let rest = slot_offset(SLOTS) as usize - (HEADER_LENGTH as usize + plan.len());
+    add_zeros(alloc, &mut image, rest)?;
+    Ok(image)
+}
+
+/// A site in memory that holds the image of a plan.
+pub(crate) fn site_of(alloc: Global, plan: &[u8]) -> Result<MemSite, NoMemory>
+    requires { length plan.now ≤ PLAN_ROOM }
+    ensures { IfOk result (λ site. site_trace site ≡ fresh (initial_image plan.now SLOTS)) }
+{
+    let image = image_of(alloc, plan)?;
+    Ok(MemSite::new(alloc, image, Vec::new(alloc), None))
+}

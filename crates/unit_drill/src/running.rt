@@ -1,0 +1,103 @@
+//! The drill.
+ghost use Rattle.std.specs.Prelude.{◌≡◌, ◌+◌, ◌*◌, ◌≤◌, min, [], ◌++◌, IfOk};
+ghost use Rattle.sdls_outside.specs.Faults.{Rose};
+ghost use Rattle.sdls_plain.specs.Answer.{Ends};
+ghost use Rattle.drill_frames.specs.declared.counts.Counts.{Counts};
+ghost use Rattle.drill_frames.specs.Line.{drill_text};
+ghost use Rattle.unit_drill.specs.Drilled.{EndsDrill, IsDrilled};
+
+use crate::chunk::Pair;
+use crate::image::{receiver_plan, sender_plan};
+use crate::unit::DrillUnit;
+use crate::words::MOST_FRAMES;
+use drill_frames::{CHUNK, Counts, drill_line};
+use frame_workers::Gate;
+use record_io::status::{DONE, NO_MEMORY, SITE_FAULT};
+use sdls_base::NoMemory;
+use sdls_outside::{Failed, Site};
+use sdls_plain::Outcome;
+use std::alloc::Global;
+use std::sync::Wait;
+use std::thread::Threads;
+
+/// The number behind the last frame of a chunk.
+fn end_of(number: u64, chunk: u64) -> u64
+    requires { chunk ≤ 1024 }
+    ensures { result ≡ min number (CHUNK * (chunk + 1)) }
+{
+    number.min(CHUNK * (chunk + 1))
+}
+
+/// The counts of a drill of this many frames.
+fn counts_of<R: Threads + Wait + Sync, G: Gate + Sync>(
+    rt: &R,
+    alloc: Global,
+    number: u64,
+    gate: &G,
+) -> Result<Counts, NoMemory>
+    requires { number ≤ MOST_FRAMES }
+    ensures { IfOk result (λ counts. IsDrilled number counts) }
+{
+    let mut pair = Pair {
+        sender: DrillUnit::open(rt, alloc, sender_plan())?,
+        receiver: DrillUnit::open(rt, alloc, receiver_plan())?,
+    };
+    let mut counts = Counts::none();
+    for chunk in 0..(number + (CHUNK - 1)) / CHUNK {
+        let end = end_of(number, chunk);
+        let more = pair.serve_chunk(rt, alloc, chunk, end, gate)?;
+        counts = counts.plus(more);
+    }
+    Ok(counts)
+}
+
+/// The line of a drill of this many frames.
+fn line_of<R: Threads + Wait + Sync, G: Gate + Sync>(
+    rt: &R,
+    alloc: Global,
+    number: u64,
+    gate: &G,
+) -> Result<Vec<u8>, NoMemory>
+    requires { number ≤ MOST_FRAMES }
+    ensures { IfOk result (λ line. (counts : Counts) × IsDrilled number counts × (line.items ≡ drill_text number counts)) }
+{
+    let counts = counts_of(rt, alloc, number, gate)?;
+    drill_line(alloc, number, counts)
+}
+
+/// Puts a text, and answers the status: this one, or that of a put that failed.
+fn put_text<O: Site>(site: &mut O, text: &[u8], status: u8) -> u8
+    ensures { Ends O.told (O.trace site.old) (O.trace site.new) (Rose (O.faults site.old) (O.faults site.new)) text.now status result }
+{
+    match site.put(text) {
+        Ok(()) => status,
+        Err(Failed) => SITE_FAULT,
+    }
+}
+
+/// Runs a drill of this many frames, on four lanes, and puts its line: how many the one unit protected, how many the other
+/// accepted with their data fields, and how many it rejected for their number. Where memory is wanting, or the site of one of
+/// these units fails, it puts that in place of the line. The gate is called before and after each record.
+///
+/// The units and all that they hold are gone afterwards. To the site that is handed in nothing is done but to put.
+pub fn drill<R: Threads + Wait + Sync, O: Site, G: Gate + Sync>(
+    rt: &R,
+    alloc: Global,
+    number: u64,
+    mut site: O,
+    gate: &G,
+) -> Outcome<O>
+    requires { number ≤ MOST_FRAMES }
+    ensures ends { EndsDrill number O.told (O.trace site) (O.trace result.site) (Rose (O.faults site) (O.faults result.site)) result.status }
+    ensures no_history { result.entries.items ≡ [] }
+{
+    let status = match line_of(rt, alloc, number, gate) {
+        Ok(line) => put_text(&mut site, &line, DONE),
+        Err(NoMemory) => put_text(&mut site, b"no memory\n", NO_MEMORY),
+    };
+    Outcome {
+        status,
+        site,
+        entries: Vec::new(alloc),
+    }
+}

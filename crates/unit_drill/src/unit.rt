@@ -1,0 +1,84 @@
+//! A unit in memory, with the one worker that serves its segments.
+ghost use Rattle.std.specs.Prelude.{◌≡◌, ◌-◌, ◌%◌, ◌≤◌, ℕ, true, IfOk, length, vec_len};
+ghost use Rattle.std.specs.List.{All, list_any};
+ghost use Rattle.counter_table.specs.Worker.{view};
+ghost use Rattle.record_io.specs.declared.records.Record.{Record};
+ghost use Rattle.unit_work.specs.Begin.{Begin};
+ghost use Rattle.unit_work.specs.Deeds.{Ascend};
+ghost use Rattle.unit_calls.specs.Visiting.{BeganWith};
+ghost use Rattle.unit_drill.specs.Drilled.{IsOpened, MayServe, Serves, tells_fault};
+
+use crate::image::site_of;
+use disk_journal::PLAN_ROOM;
+use frame_workers::{Gate, run_segment};
+use record_io::code::{SITE_FAULT, STOPPED};
+use record_io::{Answer, Record};
+use sdls_base::NoMemory;
+use sdls_outside::MemSite;
+use shared_unit::{Unit, Worker};
+use std::alloc::Global;
+use std::sync::Wait;
+use std::thread::Threads;
+
+pub(crate) struct DrillUnit {
+    pub(crate) unit: Unit<MemSite>,
+    pub(crate) worker: Worker<MemSite>,
+}
+
+impl Drop for DrillUnit {
+    fn drop(self) {
+        let DrillUnit { unit: _, worker: _ } = self;
+    }
+}
+
+/// Whether the answer says that the unit's site has failed.
+fn tells_fault(answer: &Answer) -> bool
+    ensures { result ≡ tells_fault answer.now }
+{
+    answer.code == SITE_FAULT || answer.code == STOPPED
+}
+
+fn has_fault(answers: &[Answer]) -> bool
+    ensures { result ≡ list_any tells_fault answers.now }
+{
+    answers.iter().any(|answer| tells_fault(answer))
+}
+
+impl DrillUnit {
+    /// A unit of the image that has this plan. Whatever refuses it is want of memory: the image is that of a plan.
+    pub(crate) fn open<R: Wait>(rt: &R, alloc: Global, plan: &[u8]) -> Result<DrillUnit, NoMemory>
+        requires { length plan.now ≤ PLAN_ROOM }
+        ensures { IfOk result (λ made. MayServe made.unit.counters made.unit.plan made.worker
+            × ((begin : Begin) × IsOpened plan.now begin (view made.worker))) }
+    {
+        let site = site_of(alloc, plan)?;
+        match Unit::open(rt, alloc, site) {
+            Ok((unit, worker)) => Ok(DrillUnit { unit, worker }),
+            Err((_, _)) => Err(NoMemory),
+        }
+    }
+
+    /// Handles the records of a segment. A fault of the unit's own site is want of memory.
+    pub(crate) fn serve<R: Threads + Wait + Sync, G: Gate + Sync>(
+        &mut self,
+        rt: &R,
+        alloc: Global,
+        records: &[Record],
+        gate: &G,
+    ) -> Result<Vec<Answer>, NoMemory>
+        requires may { MayServe self.old.unit.counters self.old.unit.plan self.old.worker }
+        requires lanes { (ahead : ℕ) × All (λ (task : Record). task.lane ≡ (task.index - ahead) % 4) records.now }
+        requires ascend { Ascend records.now }
+        ensures may { MayServe self.new.unit.counters self.new.unit.plan self.new.worker }
+        ensures serves { IfOk result (λ answers. (begin : Begin) → BeganWith true begin (view self.old.worker).turn.known.opening
+            → Serves begin (view self.old.worker) (view self.new.worker) records.now answers.items
+            × BeganWith true begin (view self.new.worker).turn.known.opening) }
+        ensures few { IfOk result (λ answers. vec_len answers ≤ length records.now) }
+    {
+        let segment = run_segment(rt, alloc, &self.unit, &mut self.worker, records, gate)?;
+        if has_fault(&segment.answers) {
+            return Err(NoMemory);
+        }
+        Ok(segment.answers)
+    }
+}
