@@ -1,5 +1,5 @@
 -- The line of an item says it, for `put_record` and `put_fence`; and the lines of items are read as these items.
-use Rattle.std.proofs.Common.{◌≡◌, ℕ, List, [], ◌∷◌, ◌++◌, inl, inr, refl, sym, ap, ◌∙◌}
+use Rattle.std.proofs.Common.{◌≡◌, ℕ, List, [], ◌∷◌, ◌++◌, inr, refl, sym, ap}
 use Rattle.unit_plan.specs.Lines.{lines_of}
 use Rattle.record_io.specs.Input.{Item}
 use Rattle.input_text.specs.declared.line.Line.{Line}
