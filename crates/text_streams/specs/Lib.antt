@@ -1,1 +1,2 @@
 pub mod TextLine
+pub mod Status

@@ -1,5 +1,9 @@
 //! Why a run ends.
+ghost use Rattle.std.specs.Prelude.{◌≡◌};
+ghost use Rattle.text_streams.specs.Status.{end_status};
+
 use input_text::LineFault;
+use record_io::status::{DONE, NO_MEMORY, REFUSED, SITE_FAULT, SOURCE_FAULT};
 
 /// Why the input was read no further.
 #[derive(Drop)]
@@ -23,17 +27,19 @@ pub enum End {
 
 impl End {
     /// The exit status.
-    pub fn status(&self) -> u8 {
+    pub fn status(&self) -> u8
+        ensures { result ≡ end_status self.now }
+    {
         match self {
-            End::Done => 0,
+            End::Done => DONE,
             End::LineFault(_, _)
             | End::LongLine(_)
             | End::CutAnswer(_)
             | End::NoAnswer(_)
-            | End::NoItem(_) => 1,
-            End::SourceFault => 4,
-            End::OutputFault => 5,
-            End::NoMemory => 6,
+            | End::NoItem(_) => REFUSED,
+            End::SourceFault => SOURCE_FAULT,
+            End::OutputFault => SITE_FAULT,
+            End::NoMemory => NO_MEMORY,
         }
     }
 }
