@@ -11,6 +11,8 @@ ghost use Rattle.sdls_plain.specs.Init.{EndsInit};
 ghost use Rattle.sdls_plain.specs.Stat.{EndsStat};
 ghost use Rattle.sdls_plain.specs.Taking.{TakesFew};
 ghost use Rattle.sdls_plain.specs.Words.{IsCheck, IsInit, IsNoCommand, IsRun, IsStat};
+ghost use Rattle.unit_drill.specs.Drilled.{EndsDrill};
+ghost use Rattle.unit_drill.specs.Words.{IsDrill};
 
 use crate::laws::stat_keeps_lives;
 use frame_workers::Gate;
@@ -21,6 +23,7 @@ use sdls_plain::{is_run, run_plain};
 use std::alloc::Global;
 use std::sync::Wait;
 use std::thread::Threads;
+use unit_drill::{drill, drill_number};
 use unit_session::run_recorded;
 
 /// Serves the words after the program's name, and answers the status, the site and the run's entries.
@@ -29,6 +32,9 @@ use unit_session::run_recorded;
 /// by the unit of the site's image, the lanes of a segment at once, and puts one answer for each, in their order, and an End
 /// answer behind them. What an answer rests on is stored in the image before it is put. The gate is called before and after
 /// each record.
+///
+/// `drill N` makes two units in memory and N frames from their numbers, has the one protect them and the other open them, on four
+/// lanes, and puts one line. It reads nothing from the source, and leaves the image as it was.
 ///
 /// It hands all other words to [`run_plain`], whose clauses are its own.
 pub fn run<R: Threads + Wait + Sync, S: Source, O: Site + Send, G: Gate + Sync>(
@@ -64,7 +70,11 @@ pub fn run<R: Threads + Wait + Sync, S: Source, O: Site + Send, G: Gate + Sync>(
         let call : CallSeen = call_seen O.told O.trace O.faults O.put_faults site result.site before after result.status result.entries.items in
         ShowsAtEntry call plan state → KeepsLivesReading call }
 
-    ensures usage { IsNoCommand words.now → ¬ IsRun words.now
+    // A drill puts the counts of the answers of its own two units. To the site nothing is done but to put, and the image stays.
+    ensures drill { (number : ℕ) → IsDrill words.now number → EndsDrill number
+        O.told (O.trace site) (O.trace result.site) (Rose (O.faults site) (O.faults result.site)) result.status }
+
+    ensures usage { IsNoCommand words.now → ¬ IsRun words.now → ((number : ℕ) → ¬ IsDrill words.now number)
         → Ends O.told (O.trace site) (O.trace result.site) (Rose (O.faults site) (O.faults result.site))
         usage_text USAGE result.status }
     ensures untouched { IsNoCommand words.now → ¬ IsRun words.now → source.new ≡ source.old }
@@ -73,6 +83,11 @@ pub fn run<R: Threads + Wait + Sync, S: Source, O: Site + Send, G: Gate + Sync>(
     if is_run(words) {
         return run_recorded(rt, alloc, source, site, gate);
     }
-    stat_keeps_lives();
-    run_plain(alloc, words, source, site)
+    match drill_number(words) {
+        Some(number) => drill(rt, alloc, number, site, gate),
+        None => {
+            stat_keeps_lives();
+            run_plain(alloc, words, source, site)
+        }
+    }
 }
