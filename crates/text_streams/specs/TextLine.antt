@@ -26,7 +26,7 @@ IsLast part next.End = part ≡ []
 IsLast part next.Long = ⊥
 IsLast part next.SourceFault = ⊥
 
--- the first line was taken, or there was none, or it is too long; a fault of the source needs no cause here
+-- the first line was taken, or there was none, or it is too long
 abbrev pub TakesLine : List ℕ → List ℕ → NextLine → Type 0
 TakesLine left left_new (next.Line text) = lines_of left ≡ text.items ∷ lines_of left_new
 TakesLine left left_new next.End = left ≡ []
@@ -156,3 +156,22 @@ pub record PutsRecords (left old new : List ℕ) (end : End) : Type 0 where
   pub reads : Reads left left_new count items
   pub ends : EndsBehind count left_new end
   pub put_is : WasPut end (beginning ++ items_octets items) old new
+
+-- where the source failed this holds
+abbrev pub IfSourceFault : NextLine → Type 0 → Type 0
+IfSourceFault (next.Line text) P = ⊤
+IfSourceFault next.End P = ⊤
+IfSourceFault next.Long P = ⊤
+IfSourceFault next.SourceFault P = P
+
+-- a fault of the source, or of the output, is told only where its count rose
+abbrev pub IsFaultCause : Type 0 → Type 0 → End → Type 0
+IsFaultCause source_rose sink_rose Done = ⊤
+IsFaultCause source_rose sink_rose (LineFault at fault) = ⊤
+IsFaultCause source_rose sink_rose (LongLine at) = ⊤
+IsFaultCause source_rose sink_rose (CutAnswer offset) = ⊤
+IsFaultCause source_rose sink_rose (NoAnswer offset) = ⊤
+IsFaultCause source_rose sink_rose (NoItem offset) = ⊤
+IsFaultCause source_rose sink_rose SourceFault = source_rose
+IsFaultCause source_rose sink_rose OutputFault = sink_rose
+IsFaultCause source_rose sink_rose NoMemory = ⊤

@@ -1,6 +1,7 @@
 //! The lines of a source.
-ghost use Rattle.std.specs.Prelude.{◌≡◌, ◌∷◌, [], IfOk, IsTrue, MatchOption};
-ghost use Rattle.text_streams.specs.TextLine.{IsLast, TakesLine};
+ghost use Rattle.std.specs.Prelude.{◌≡◌, ◌≤◌, ◌∷◌, [], IfOk, IsTrue, MatchOption};
+ghost use Rattle.sdls_outside.specs.Faults.{HasCause, Rose};
+ghost use Rattle.text_streams.specs.TextLine.{IfSourceFault, IsLast, TakesLine};
 
 use sdls_outside::{Failed, Source};
 use std::alloc::{AllocError, Global};
@@ -22,9 +23,10 @@ pub enum NextLine {
 
 /// Takes an octet, or none where the source has ended.
 fn next_octet<S: Source>(source: &mut S) -> Result<Option<u8>, Failed>
-    ensures { IsTrue S.told → IfOk result (λ next. MatchOption next
+    ensures next { IsTrue S.told → IfOk result (λ next. MatchOption next
         ((S.left source.old ≡ []) × (S.left source.new ≡ []))
         (λ octet. S.left source.old ≡ octet ∷ S.left source.new)) }
+    ensures cause { HasCause (S.faults source.old) (S.faults source.new) result }
 {
     let mut octet = [0];
     match source.take(&mut octet)? {
@@ -46,7 +48,9 @@ fn last_line(line: Vec<u8>) -> NextLine
 
 /// Takes the octets up to the next line feed, which the last line may lack.
 pub fn next_line<S: Source>(alloc: Global, source: &mut S) -> Result<NextLine, AllocError>
-    ensures { IsTrue S.told → IfOk result (TakesLine (S.left source.old) (S.left source.new)) }
+    ensures takes { IsTrue S.told → IfOk result (TakesLine (S.left source.old) (S.left source.new)) }
+    ensures cause { IfOk result (λ next. IfSourceFault next (Rose (S.faults source.old) (S.faults source.new))) }
+    ensures later { S.faults source.old ≤ S.faults source.new }
 {
     let mut line = Vec::new(alloc);
     'octets: while line.len() <= MOST_LINE {

@@ -1,5 +1,6 @@
 //! What is put on a sink, in pieces.
-ghost use Rattle.std.specs.Prelude.{◌≡◌, ◌≤◌, ◌++◌, [], length, IsTrue, OnErr, OnOk};
+ghost use Rattle.std.specs.Prelude.{◌≡◌, ◌≤◌, ◌⊎◌, ◌++◌, [], length, IsTrue, OnErr, OnOk};
+ghost use Rattle.sdls_outside.specs.Faults.{HasCause, Rose};
 ghost use Rattle.sdls_outside.specs.Moments.{Between};
 ghost use Rattle.text_streams.specs.TextLine.{PutsRest};
 
@@ -14,6 +15,7 @@ pub fn put_octets<O: Site>(sink: &mut O, octets: &[u8]) -> Result<(), Failed>
     ensures put { IsTrue O.told → OnOk result ((O.trace sink.new).now.sunk ≡ (O.trace sink.old).now.sunk ++ octets.now) }
     ensures front { IsTrue O.told → OnErr result (Between (O.trace sink.old).now.sunk
         ((O.trace sink.old).now.sunk ++ octets.now) (O.trace sink.new).now.sunk) }
+    ensures cause { HasCause (O.faults sink.old) (O.faults sink.new) result }
 {
     sink.put(octets)
 }
@@ -24,6 +26,7 @@ fn put<O: Site>(sink: &mut O, out: &mut Vec<u8>) -> Result<(), Failed>
     ensures empty { OnOk result (out.new.items ≡ []) }
     ensures front { IsTrue O.told → OnErr result (Between (O.trace sink.old).now.sunk
         ((O.trace sink.old).now.sunk ++ out.old.items) (O.trace sink.new).now.sunk) }
+    ensures cause { HasCause (O.faults sink.old) (O.faults sink.new) result }
 {
     put_octets(sink, out.as_slice())?;
     out.clear();
@@ -37,6 +40,7 @@ pub fn put_full<O: Site>(sink: &mut O, out: &mut Vec<u8>) -> Result<(), Failed>
     ensures least { IsTrue O.told → OnOk result (length (O.trace sink.old).now.sunk ≤ length (O.trace sink.new).now.sunk) }
     ensures front { IsTrue O.told → OnErr result (Between (O.trace sink.old).now.sunk
         ((O.trace sink.old).now.sunk ++ out.old.items) (O.trace sink.new).now.sunk) }
+    ensures cause { HasCause (O.faults sink.old) (O.faults sink.new) result }
 {
     if out.len() < PIECE {
         return Ok(());
@@ -46,7 +50,9 @@ pub fn put_full<O: Site>(sink: &mut O, out: &mut Vec<u8>) -> Result<(), Failed>
 
 /// Puts what is left in the buffer, unless the output has failed, and answers how the run ends.
 pub fn put_rest<O: Site>(sink: &mut O, mut out: Vec<u8>, end: End) -> End
-    ensures { IsTrue O.told → PutsRest end result (O.trace sink.old).now.sunk out.items (O.trace sink.new).now.sunk }
+    ensures put { IsTrue O.told → PutsRest end result (O.trace sink.old).now.sunk out.items (O.trace sink.new).now.sunk }
+    ensures cause { (result ≡ end) ⊎ ((result ≡ End.OutputFault) × Rose (O.faults sink.old) (O.faults sink.new)) }
+    ensures later { O.faults sink.old ≤ O.faults sink.new }
 {
     match end {
         End::OutputFault => End::OutputFault,

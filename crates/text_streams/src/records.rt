@@ -1,8 +1,9 @@
 //! Text in, recorded input out.
-ghost use Rattle.std.specs.Prelude.{◌≡◌, ◌++◌, IsTrue, OnOk, OnErr, IfNone, IfSome};
+ghost use Rattle.std.specs.Prelude.{◌≡◌, ◌≤◌, ◌++◌, IsTrue, OnOk, OnErr, IfNone, IfSome};
+ghost use Rattle.sdls_outside.specs.Faults.{Rose};
 ghost use Rattle.record_io.specs.Input.{item_octets};
 ghost use Rattle.input_text.specs.Line.{IsLine, line_item};
-ghost use Rattle.text_streams.specs.TextLine.{Adds, AddsNext, EndsAt, EndsNext, ReadsLines, PutsRecords};
+ghost use Rattle.text_streams.specs.TextLine.{Adds, AddsNext, EndsAt, EndsNext, IsFaultCause, ReadsLines, PutsRecords};
 
 use crate::ends::End;
 use crate::lines::{NextLine, next_line};
@@ -53,6 +54,8 @@ fn take_next<S: Source>(
         → IfNone result (AddsNext (S.left source.old) (S.left source.new) out.old.items out.new.items) }
     ensures kept { IfSome result (λ _. out.new.items ≡ out.old.items) }
     ensures cause { IsTrue S.told → IfSome result (EndsNext number (S.left source.old)) }
+    ensures fault { IfSome result (IsFaultCause (Rose (S.faults source.old) (S.faults source.new)) ⊥) }
+    ensures later { S.faults source.old ≤ S.faults source.new }
 {
     match next_line(alloc, source) {
         Ok(NextLine::Line(text)) => take_line(alloc, out, number, text.as_slice()),
@@ -70,8 +73,10 @@ fn read_lines<S: Source, O: Site>(
     sink: &mut O,
     out: &mut Vec<u8>,
 ) -> End
-    ensures { IsTrue S.told → IsTrue O.told → ReadsLines (S.left source.old)
+    ensures reads { IsTrue S.told → IsTrue O.told → ReadsLines (S.left source.old)
         (O.trace sink.old).now.sunk out.old.items (O.trace sink.new).now.sunk out.new.items result }
+    ensures fault { IsFaultCause (Rose (S.faults source.old) (S.faults source.new)) (Rose (O.faults sink.old) (O.faults sink.new)) result }
+    ensures later { O.faults sink.old ≤ O.faults sink.new }
 {
     'lines: for number in 1..u64::MAX {
         if let Some(end) = take_next(alloc, source, out, number) {
@@ -87,8 +92,9 @@ fn read_lines<S: Source, O: Site>(
 /// Puts the recorded input that the lines of the source say. Where a line is at fault the items of the lines before it
 /// are put, and nothing of it or of a later one.
 pub fn put_records<S: Source, O: Site>(alloc: Global, source: &mut S, sink: &mut O) -> End
-    ensures { IsTrue S.told → IsTrue O.told
+    ensures put { IsTrue S.told → IsTrue O.told
         → PutsRecords (S.left source.old) (O.trace sink.old).now.sunk (O.trace sink.new).now.sunk result }
+    ensures fault { IsFaultCause (Rose (S.faults source.old) (S.faults source.new)) (Rose (O.faults sink.old) (O.faults sink.new)) result }
 {
     if let Err(Failed) = put_octets(sink, b"SDLSREC1") {
         return End::OutputFault;

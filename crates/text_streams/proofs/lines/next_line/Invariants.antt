@@ -1,4 +1,4 @@
-use Rattle.std.proofs.Common.{◌≡◌, ◌-◌, ◌++◌, true, length, IsTrue}
+use Rattle.std.proofs.Common.{◌≡◌, ◌-◌, ◌≤◌, ◌++◌, true, length, IsTrue}
 use Rattle.item_text.proofs.PlainWords.{lacks}
 use Rattle.text_streams.proofs.lines.next_line.Given as goal
 
@@ -6,6 +6,7 @@ use Rattle.text_streams.proofs.lines.next_line.Given as goal
 abbrev pub invariant-octets : goal.invariant-octets
 invariant-octets g l = (lacks 10 l.line.items ≡ true)
     × (IsTrue g.S.Source.told → g.S.Source.left l.initial.source ≡ l.line.items ++ g.S.Source.left l.source)
+    × (g.S.Source.faults l.initial.source ≤ g.S.Source.faults l.source)
 
 abbrev pub decreases-octets : goal.decreases-octets
 decreases-octets g l = 8193 - length l.line.items
