@@ -34,7 +34,7 @@ hash_subkey key = from_be_bytes w128 (encrypted key (replicate 16 0))
 
 -- ---- counter mode
 
--- the block J0 (i = 0) and those after it: the vector, then inc32 applied i times to 31 zero bits and a 1 (6.2)
+-- the block J0 (i = 0; 7.1, step 2) and those after it: the vector, then inc32 applied i times to 31 zero bits and a 1 (6.2)
 abbrev pub counter_block : List ℕ → ℕ → List ℕ
 counter_block iv i = iv ++ to_be_bytes w32 ((1 + i) % 2 ^ 32)
 
