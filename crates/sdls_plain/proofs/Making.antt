@@ -90,8 +90,16 @@ ends_of_input left_old left_new buffer count source_told site_told unread source
 ends_of_input left_old left_new buffer count source_told site_told unread source_rose site_rose old new SiteFault sized collects ends = elim ends.1 [
   | inl never ↦ absurd never
   | inr made ↦
-      let read : plan_of (take count buffer) ≡ Ok made.1 = subst (λ (text : List ℕ). plan_of text ≡ Ok made.1) made.3 made.4.read in
-      (ends.0, inr (made.0, made.1, made.2,
-        λ told. made.3 ∙ said_whole left_old left_new buffer count made.1 sized (collects told) read, made.4, made.5))
+      let read : plan_of (take count buffer) ≡ Ok made.1 = subst (λ (text : List ℕ). plan_of text ≡ Ok made.1) made.3 made.4.read in (
+        ends.0,
+        inr (
+          made.0,
+          made.1,
+          made.2,
+          λ told. made.3 ∙ said_whole left_old left_new buffer count made.1 sized (collects told) read,
+          made.4,
+          made.5,
+        ),
+      )
 ]
 ends_of_input left_old left_new buffer count source_told site_told unread source_rose site_rose old new NoMemory sized collects ends = ends

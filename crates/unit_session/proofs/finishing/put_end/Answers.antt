@@ -25,12 +25,15 @@ returns-clause-ends g c =
     let octets : c.answer_header.result ≡ answer_octets (end_answer c.args.told (length (entries_of c.args.book.now.log))) =
     sym (append-nil c.answer_header.result) ∙ whole ∙ ap (λ (n : ℕ). answer_octets (end_answer c.args.told n)) c.count.ensures in
     let put_before : c.args.came ≢ ends.PutFailed = search rules in
-    inr (put_before, record {
-      put = Err c.in-Err.field-0;
-      made = c.in-Err.ensures.made;
-      sinks = λ is_told. subst (λ (os : List ℕ). sites.Puts {T = Unit {0}} os (Err c.in-Err.field-0) (g.O.Site.trace c.args.book.now.site) (g.O.Site.trace c.put.new.self.site)) octets
-          (c.in-Err.ensures.put is_told);
-      counted = c.in-Err.ensures.puts;
-      later = c.in-Err.ensures.later;
-      status_is = (refl, rose_of _ _ c.in-Err.field-0 c.in-Err.ensures.fault);
-    })
+    inr (
+      put_before,
+      record {
+        put = Err c.in-Err.field-0;
+        made = c.in-Err.ensures.made;
+        sinks = λ is_told. subst (λ (os : List ℕ). sites.Puts {T = Unit {0}} os (Err c.in-Err.field-0) (g.O.Site.trace c.args.book.now.site) (g.O.Site.trace c.put.new.self.site)) octets
+            (c.in-Err.ensures.put is_told);
+        counted = c.in-Err.ensures.puts;
+        later = c.in-Err.ensures.later;
+        status_is = (refl, rose_of _ _ c.in-Err.field-0 c.in-Err.ensures.fault);
+      },
+    )
