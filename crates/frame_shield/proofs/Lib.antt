@@ -3,4 +3,5 @@ pub mod FoundFacts
 pub mod Lengths
 pub mod OpenFacts
 pub mod ProtectFacts
+pub mod ProtectedOnce
 pub mod Stretches

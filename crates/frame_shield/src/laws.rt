@@ -19,3 +19,9 @@ pub fn opens_once()
 {
     opens_what_was_sealed();
 }
+
+/// Law: a clear frame under a number of a binding has one protected frame.
+pub fn protected_once()
+    ensures { (b : Binding) (n : ℕ) (clear out other : List ℕ)
+        → Protects b n clear out → Protects b n clear other → out ≡ other }
+{}

@@ -14,7 +14,7 @@ mod protecting;
 mod sealing;
 
 pub use binding::Binding;
-pub use laws::{opens_once, protected_opens};
+pub use laws::{opens_once, protected_once, protected_opens};
 pub use opening::{Opened, unshield};
 pub use protecting::{ShieldFault, fits, shield};
 pub use sdls_base::{AnyLayout, Link, Mask};
