@@ -26,7 +26,7 @@ pub use growing::{
     fits_stays, legal_log_is_legal, legal_place_stays, near_stays, new_place_is_legal,
 };
 pub use keys::{loaded_once, loaded_stays, loaded_stays_since_epoch, octets_are_loaded, rows_stay};
-pub use one::{messages_have_one_step, openings_tell_one};
+pub use one::{messages_have_one_step, messages_need_one, openings_tell_one};
 pub use releases::{releases_are_legal, run_with_releases};
 pub use runs::{
     accepted_above_the_start, accepted_once, accepted_stays_covered, epochs_are_places,

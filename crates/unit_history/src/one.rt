@@ -1,4 +1,4 @@
-//! Laws of what a state decides: one answer to a frame, one step of a message.
+//! Laws of what a state decides: one answer to a frame, one need and one step of a message.
 
 ghost use Rattle.std.specs.Prelude.{◌≡◌, ℕ, List};
 ghost use Rattle.sdls_base.specs.declared.change.Change.{Change};
@@ -8,8 +8,9 @@ ghost use Rattle.unit_state.specs.declared.state.State.{State};
 ghost use Rattle.unit_state.specs.State.{KeepsRules};
 ghost use Rattle.frame_checks.specs.declared.open_reply.OpenReply.{OpenReply};
 ghost use Rattle.frame_checks.specs.Opening.{IsOpenReply};
+ghost use Rattle.ep_core.specs.declared.need.Need.{Need};
 ghost use Rattle.ep_core.specs.declared.reply.Reply.{Reply};
-ghost use Rattle.unit_history.specs.Entries.{frame_change, IsStepOf};
+ghost use Rattle.unit_history.specs.Entries.{frame_change, IsNeedOf, IsStepOf};
 ghost use Rattle.unit_history.specs.Answers.{opened_told};
 
 use frame_shield::opens_once;
@@ -22,6 +23,12 @@ pub fn openings_tell_one()
 {
     opens_once();
 }
+
+/// Law: the need of a message is one by the state and the message.
+pub fn messages_need_one()
+    ensures { (state : State) (octets : List ℕ) (need other : Need) → IsNeedOf state octets need → IsNeedOf state octets other
+        → need ≡ other }
+{}
 
 /// Law: the step of a message, its change and its reply, is one by the state, the message and what was seen.
 pub fn messages_have_one_step()
