@@ -8,6 +8,7 @@ pub mod Tops
 pub mod Using
 pub mod Trust
 pub mod Passing
+pub mod Covering
 pub mod Renewing
 pub mod Naming
 pub mod Commands

@@ -19,7 +19,7 @@ use Rattle.shared_unit.specs.declared.permit.Done.{Done}
 use Rattle.shared_unit.specs.declared.permit.Protected.{Protected}
 use Rattle.shared_unit.specs.declared.permit.Protected.TheVariants as answers
 use Rattle.shared_unit.specs.Told.{state_at, entry_count}
-use Rattle.shared_unit.specs.Turn.{Visits, Loads}
+use Rattle.shared_unit.specs.Turn.{FindsCovered, Visits, Loads}
 use Rattle.shared_unit.specs.Numbers.{Draws, ComesBack, RunsOut, UsesNumber}
 use Rattle.shared_unit.specs.Permit.{IsTrueFor, IsOfPermit, IsProtected, IsUnfit}
 use Rattle.shared_unit.specs.Funding.{Reserves}
@@ -93,6 +93,12 @@ module _ {O : Type 0} (told : Bool) (trace : O → Trace) (faults puts : O → �
   -- the turn was taken once at most, with this done to the book
   abbrev pub MayTakeTurn : (BookView O → BookView O → Type 0) → Turn → Turn → Type 0
   MayTakeTurn done v w = Looks v w ⊎ TakesTurn done v w
+
+  -- The epoch was loaded, at most; or it was, and then the turn was taken once, and the book found is above each number that
+  -- the worker had spent before.
+  abbrev pub CoversIfTaken : View → View → Type 0
+  CoversIfTaken v w = Looks v.turn w.turn
+      ⊎ ((epoch : ℕ) × (epoch_seen v.turn ≤ epoch_seen (seeing epoch v.turn)) × FindsCovered told trace faults puts (record v { turn = seeing epoch v.turn }) w)
 
   -- the turn was taken once, and the book found had counted so many changes
   abbrev pub FindsEpoch : Turn → Turn → ℕ → Type 0

@@ -4,11 +4,12 @@ use Rattle.sdls_outside.specs.Moments.{Trace}
 use Rattle.unit_plan.specs.PlanLines.{PlanLines}
 use Rattle.counter_table.specs.declared.view.Known.{Known}
 use Rattle.counter_table.specs.declared.view.Turn.{Turn}
+use Rattle.counter_table.specs.declared.view.View.{View}
 use Rattle.counter_table.specs.declared.counters.Counters.{Counters}
 use Rattle.counter_table.specs.declared.counters.Worker.{Worker}
 use Rattle.counter_table.specs.Known.{Earlier, IsSparing}
 use Rattle.counter_table.specs.Turn.{epoch_seen, places, seeing}
-use Rattle.counter_table.specs.Play.{Follows}
+use Rattle.counter_table.specs.Play.{Follows, IsCovered}
 use Rattle.counter_table.specs.Worker.{view, IsOf}
 use Rattle.unit_book.specs.Book.{BookView, IsKept}
 use Rattle.shared_unit.specs.Told.{told_by}
@@ -42,6 +43,13 @@ pub record Visits {O : Type 0} (told : Bool) (trace : O → Trace) (faults puts 
   pub found_kept : IsKept told trace faults found
   pub given_kept : IsKept told trace faults given
   pub takes : TakesOnce (told_by trace faults puts found) (told_by trace faults puts given) v w
+
+-- The book that a call found under the turn is above each number that the worker had spent: it is below its row's mark.
+pub record FindsCovered {O : Type 0} (told : Bool) (trace : O → Trace) (faults puts : O → ℕ) (v w : View) : Type 0 where
+  pub found : BookView O
+  pub given : BookView O
+  pub visits : Visits told trace faults puts found given v.turn w.turn
+  pub covered : IsCovered 512 v.numbers (told_by trace faults puts found)
 
 -- what a worker knows of the book only grows
 pub record Grows (v w : Turn) : Type 0 where

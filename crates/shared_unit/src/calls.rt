@@ -7,7 +7,7 @@ ghost use Rattle.unit_book.specs.Book.{BookView};
 ghost use Rattle.unit_book.specs.Records.{Opens, RefusesFrame};
 ghost use Rattle.shared_unit.specs.Calls.{IsPut, WithPosition};
 ghost use Rattle.shared_unit.specs.Told.{told_by, entry_count};
-ghost use Rattle.shared_unit.specs.Turn.{IsReady, Visits};
+ghost use Rattle.shared_unit.specs.Turn.{FindsCovered, IsReady, Visits};
 
 use crate::unit::{Unit, Worker};
 use frame_checks::OpenReply;
@@ -72,6 +72,9 @@ impl<O: Site> Unit<O> {
             × WithPosition result (told_by O.trace O.faults O.put_faults given) (λ answer. MatchResult answer
             (λ told. Opens O.faults index link frame.old (field_in told.0 frame.new) found given told.0 told.1 × Leaves told.0 frame.old frame.new)
             (RefusesFrame O.faults index link frame.old found given)) }
+
+        // No number was spent by the worker that is not below its row's mark in the book that the call found.
+        ensures covered { FindsCovered O.told O.trace O.faults O.put_faults (view worker.old) (view worker.new) }
     {
         let mut held = self.counters.take(rt, worker);
         let result = held.book.accept(index, link, frame);

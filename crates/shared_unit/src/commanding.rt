@@ -11,7 +11,7 @@ ghost use Rattle.shared_unit.specs.Commanding.{IsCommanded, IsSeen, knowing};
 ghost use Rattle.shared_unit.specs.Going.{GoesUp};
 ghost use Rattle.shared_unit.specs.Sharing.{KnowsHeld};
 ghost use Rattle.shared_unit.specs.Told.{told_by};
-ghost use Rattle.shared_unit.specs.Turn.{IsReady, Visits};
+ghost use Rattle.shared_unit.specs.Turn.{FindsCovered, IsReady, Visits};
 
 use crate::shelf::Shelf;
 use crate::unit::{Unit, Worker};
@@ -159,6 +159,9 @@ impl<O: Site> Unit<O> {
         ensures commanded { (found given : BookView O) × Visits O.told O.trace O.faults O.put_faults found given (view worker.old).turn (view worker.new).turn
             × WithPosition result (told_by O.trace O.faults O.put_faults given)
             (λ answer. IsCommanded O.faults index pdu.now answer found given (view worker.old).numbers (view worker.new).numbers) }
+
+        // No number was spent by the worker that is not below its row's mark in the book that the call found.
+        ensures covered { FindsCovered O.told O.trace O.faults O.put_faults (view worker.old) (view worker.new) }
     {
         let mut held = self.counters.take(rt, worker);
         let result = self.commanded(worker, &mut held, index, pdu);

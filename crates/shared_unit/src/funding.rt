@@ -10,7 +10,7 @@ ghost use Rattle.shared_unit.specs.Funding.{IsFunded, IsFundStep};
 ghost use Rattle.shared_unit.specs.Going.{GoesUp};
 ghost use Rattle.shared_unit.specs.Permit.{IsOfPermit, IsTrueFor};
 ghost use Rattle.shared_unit.specs.Told.{told_by};
-ghost use Rattle.shared_unit.specs.Turn.{IsReady};
+ghost use Rattle.shared_unit.specs.Turn.{FindsCovered, IsReady};
 
 use crate::permit::{Done, Permit};
 use crate::shelf::Shelf;
@@ -75,6 +75,9 @@ impl<O: Site> Unit<O> {
         ensures ready { IsReady self.now.counters self.now.plan worker.new }
         ensures same { IsSame worker.old worker.new }
         ensures step { IsFundStep O.told O.trace O.faults O.put_faults permit.now ticket.1 clear.now out.new result (view worker.old) (view worker.new) }
+
+        // No number was spent by the worker that is not below its row's mark in the book that the call found.
+        ensures covered { FindsCovered O.told O.trace O.faults O.put_faults (view worker.old) (view worker.new) }
     {
         let mut held = self.counters.take(rt, worker);
         held.book.look();

@@ -6,8 +6,8 @@ ghost use Rattle.counter_table.specs.Worker.{view, IsSame};
 ghost use Rattle.shared_unit.specs.declared.permit.Permit.{Permit};
 ghost use Rattle.shared_unit.specs.declared.permit.Done.{Done};
 ghost use Rattle.shared_unit.specs.Permit.{IsOfPermit, IsTrueFor};
-ghost use Rattle.shared_unit.specs.Protecting.{FindsEpoch, IfEpoch, IsByKept, IsEpochOf, IsKeptStep, IsProtectStep, IsTrueIfKept, TakesAtMostOnce, TakesByTicket};
-ghost use Rattle.shared_unit.specs.Turn.{IsReady};
+ghost use Rattle.shared_unit.specs.Protecting.{CoversIfTaken, FindsEpoch, IfEpoch, IsByKept, IsEpochOf, IsKeptStep, IsProtectStep, IsTrueIfKept, TakesAtMostOnce, TakesByTicket};
+ghost use Rattle.shared_unit.specs.Turn.{FindsCovered, IsReady};
 
 use crate::permit::{Permit, PermitReply, Protected, Ready};
 use crate::permitting::permit_in;
@@ -33,6 +33,7 @@ impl<O: Site> Unit<O> {
         ensures ready { IsReady self.now.counters self.now.plan worker.new }
         ensures same { IsSame worker.old worker.new }
         ensures turn { TakesAtMostOnce O.told O.trace O.faults O.put_faults (view worker.old).turn (view worker.new).turn }
+        ensures covered { CoversIfTaken O.told O.trace O.faults O.put_faults (view worker.old) (view worker.new) }
         ensures epoch { IfSome result (λ answer. IfEpoch answer (λ epoch. (view worker.new).turn.epoch ≡ epoch)) }
         ensures step { IsKeptStep O.told O.trace O.faults O.put_faults permit.now clear.now out.new result (view worker.old) (view worker.new) }
     {
@@ -75,6 +76,7 @@ impl<O: Site> Unit<O> {
         ensures ready { IsReady self.now.counters self.now.plan worker.new }
         ensures same { IsSame worker.old worker.new }
         ensures turn { TakesAtMostOnce O.told O.trace O.faults O.put_faults (view worker.old).turn (view worker.new).turn }
+        ensures covered { CoversIfTaken O.told O.trace O.faults O.put_faults (view worker.old) (view worker.new) }
         ensures epoch { IfSome result (λ answer. IfEpoch answer (λ epoch. (view worker.new).turn.epoch ≡ epoch)) }
         ensures step { IsByKept O.told O.trace O.faults O.put_faults self.now.plan kept.now link clear.now out.new result (view worker.old) (view worker.new) }
     {
@@ -107,6 +109,7 @@ impl<O: Site> Unit<O> {
         ensures ready { IsReady self.now.counters self.now.plan worker.new }
         ensures same { IsSame worker.old worker.new }
         ensures turn { TakesAtMostOnce O.told O.trace O.faults O.put_faults (view worker.old).turn (view worker.new).turn }
+        ensures covered { FindsCovered O.told O.trace O.faults O.put_faults (view worker.old) (view worker.new) }
         ensures kept { IsTrueIfKept kept.new (view worker.new).turn }
         ensures step { IsProtectStep O.told O.trace O.faults O.put_faults self.now.plan link clear.now out.new kept.new result (view worker.old) (view worker.new) }
         ensures epochs { IfEpoch result (FindsEpoch O.told O.trace O.faults O.put_faults (view worker.old).turn (view worker.new).turn) }
@@ -150,6 +153,9 @@ impl<O: Site> Unit<O> {
         ensures turn { TakesAtMostOnce O.told O.trace O.faults O.put_faults (view worker.old).turn (view worker.new).turn }
         ensures kept { IsTrueIfKept kept.new (view worker.new).turn }
         ensures step { IsProtectStep O.told O.trace O.faults O.put_faults self.now.plan link clear.now out.new kept.new result (view worker.old) (view worker.new) }
+
+        // No number was spent by the worker that is not below its row's mark in the book that the call found, if it took the turn.
+        ensures covered { CoversIfTaken O.told O.trace O.faults O.put_faults (view worker.old) (view worker.new) }
 
         // The epoch beside an answer is the one loaded last, or that of the book held; where the plan is enough there is none.
         ensures epochs { (channel : ℕ) → channel_check self.now.plan link clear.now ≡ Ok (Some channel)

@@ -8,6 +8,7 @@ use Rattle.counter_table.specs.Worker.{view}
 use Rattle.shared_unit.specs.Permit.{IsTrueFor, IsOfPermit}
 use Rattle.shared_unit.proofs.Trust.{permit_stays}
 use Rattle.shared_unit.proofs.Passing.{passes_none, passes_grows}
+use Rattle.shared_unit.proofs.Covering.{covers_none}
 use Rattle.shared_unit.proofs.Renewing.{by_kept_step}
 use Rattle.shared_unit.proofs.unit.Unit.by_kept.Goals as goal
 
@@ -42,3 +43,6 @@ returns-clause-step g c =
           (same_number p.channel c.args.channel (sym c.if-ne.false ∙ c.ne.ensures)) c.requires.channel;
       trusted = is;
     }
+
+pub returns-in_default-clause-covered : goal.returns-in_default-clause-covered
+returns-in_default-clause-covered g c = covers_none g.O.Site.told g.O.Site.trace g.O.Site.faults g.O.Site.put_faults _ _ refl

@@ -79,3 +79,29 @@ returns-in-Err-clause-shares g c =
     ∙ commanded_shares g.O.Site.faults c.args.index c.args.pdu.now (Err c.in-Err.fault) c.take-held.result.book c.commanded-result.new.held.book
     (view c.take-held.new.worker).numbers (view c.commanded-result.new.worker).numbers c.in-Err.ensures.step
     ∙ ap (λ (k : Numbers). k.shares) c.take-held.ensures.same.1
+
+pub returns-in-Ok-clause-covered : goal.returns-in-Ok-clause-covered
+returns-in-Ok-clause-covered g c =
+    let found : BookView g.row.O.Denot = c.take-held.result.book in
+    let given : BookView g.row.O.Denot = c.commanded-result.new.held.book in
+    record {
+      found = found;
+      given = given;
+      visits = holds_visits g.O.Site.trace g.O.Site.faults g.O.Site.put_faults g.O.Site.told found given (view c.args.worker.now).turn (view c.take-held.new.worker).turn (view c.commanded-result.new.worker).turn (view c.give.new.worker).turn
+          c.commanded-result.ensures.was_kept c.commanded-result.ensures.kept c.take-held.ensures.follows c.commanded-result.ensures.goes_on c.take-held.ensures.turn
+          c.commanded-result.ensures.holds c.give.ensures.turn;
+      covered = rw c.args.self.now.rows at c.take-held.ensures.covered;
+    }
+
+pub returns-in-Err-clause-covered : goal.returns-in-Err-clause-covered
+returns-in-Err-clause-covered g c =
+    let found : BookView g.row.O.Denot = c.take-held.result.book in
+    let given : BookView g.row.O.Denot = c.commanded-result.new.held.book in
+    record {
+      found = found;
+      given = given;
+      visits = holds_visits g.O.Site.trace g.O.Site.faults g.O.Site.put_faults g.O.Site.told found given (view c.args.worker.now).turn (view c.take-held.new.worker).turn (view c.commanded-result.new.worker).turn (view c.give.new.worker).turn
+          c.commanded-result.ensures.was_kept c.commanded-result.ensures.kept c.take-held.ensures.follows c.commanded-result.ensures.goes_on c.take-held.ensures.turn
+          c.commanded-result.ensures.holds c.give.ensures.turn;
+      covered = rw c.args.self.now.rows at c.take-held.ensures.covered;
+    }

@@ -94,3 +94,30 @@ returns-clause-ready g c =
     (visits_learned g.O.Site.trace g.O.Site.faults g.O.Site.put_faults g.O.Site.told found given (view c.args.worker.now).turn (view c.reserved.new.worker).turn (view c.give-2.new.worker).turn
     c.reserved.ensures.was_kept c.reserved.ensures.kept c.take-held.ensures.follows c.reserved.ensures.goes_on
     (f.3 ∙ ap (learning (marks_of given.state)) c.take-held.ensures.turn) c.give-2.ensures.turn)
+
+pub returns-in-Err-clause-covered : goal.returns-in-Err-clause-covered
+returns-in-Err-clause-covered g c =
+    let found : BookView g.row.O.Denot = c.take-held.result.book in
+    let given : BookView g.row.O.Denot = c.reserved.new.held.book in
+    let f = c.in-Err.ensures.funded in
+    record {
+      found = found;
+      given = given;
+      visits = visits g.O.Site.trace g.O.Site.faults g.O.Site.put_faults g.O.Site.told found given (view c.args.worker.now).turn (view c.reserved.new.worker).turn (view c.give.new.worker).turn
+          c.reserved.ensures.was_kept c.reserved.ensures.kept c.take-held.ensures.follows c.reserved.ensures.goes_on (f.2 ∙ c.take-held.ensures.turn) c.give.ensures.turn;
+      covered = rw c.args.self.now.rows at c.take-held.ensures.covered;
+    }
+
+pub returns-clause-covered : goal.returns-clause-covered
+returns-clause-covered g c =
+    let found : BookView g.row.O.Denot = c.take-held.result.book in
+    let given : BookView g.row.O.Denot = c.reserved.new.held.book in
+    let f = c.in-Ok.ensures.funded in
+    record {
+      found = found;
+      given = given;
+      visits = visits_learned g.O.Site.trace g.O.Site.faults g.O.Site.put_faults g.O.Site.told found given (view c.args.worker.now).turn (view c.reserved.new.worker).turn (view c.give-2.new.worker).turn
+          c.reserved.ensures.was_kept c.reserved.ensures.kept c.take-held.ensures.follows c.reserved.ensures.goes_on
+          (f.3 ∙ ap (learning (marks_of given.state)) c.take-held.ensures.turn) c.give-2.ensures.turn;
+      covered = rw c.args.self.now.rows at c.take-held.ensures.covered;
+    }

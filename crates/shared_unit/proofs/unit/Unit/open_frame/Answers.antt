@@ -51,3 +51,27 @@ returns-in-Err-clause-ready g c =
     (same_twice c.args.worker.now c.take-held.new.worker c.give.new.worker c.take-held.ensures.same.0 c.give.ensures.same.0)
     (visits g.O.Site.trace g.O.Site.faults g.O.Site.put_faults g.O.Site.told found given (view c.args.worker.now).turn (view c.take-held.new.worker).turn (view c.give.new.worker).turn
     c.accept-result.ensures.was_kept c.accept-result.ensures.kept c.take-held.ensures.follows c.accept-result.ensures.goes_on c.take-held.ensures.turn c.give.ensures.turn)
+
+pub returns-in-Ok-clause-covered : goal.returns-in-Ok-clause-covered
+returns-in-Ok-clause-covered g c =
+    let found : BookView g.row.O.Denot = c.take-held.result.book in
+    let given : BookView g.row.O.Denot = c.accept-result.new.self in
+    record {
+      found = found;
+      given = given;
+      visits = visits g.O.Site.trace g.O.Site.faults g.O.Site.put_faults g.O.Site.told found given (view c.args.worker.now).turn (view c.take-held.new.worker).turn (view c.give.new.worker).turn
+          c.accept-result.ensures.was_kept c.accept-result.ensures.kept c.take-held.ensures.follows c.accept-result.ensures.goes_on c.take-held.ensures.turn c.give.ensures.turn;
+      covered = rw c.args.self.now.rows at c.take-held.ensures.covered;
+    }
+
+pub returns-in-Err-clause-covered : goal.returns-in-Err-clause-covered
+returns-in-Err-clause-covered g c =
+    let found : BookView g.row.O.Denot = c.take-held.result.book in
+    let given : BookView g.row.O.Denot = c.accept-result.new.self in
+    record {
+      found = found;
+      given = given;
+      visits = visits g.O.Site.trace g.O.Site.faults g.O.Site.put_faults g.O.Site.told found given (view c.args.worker.now).turn (view c.take-held.new.worker).turn (view c.give.new.worker).turn
+          c.accept-result.ensures.was_kept c.accept-result.ensures.kept c.take-held.ensures.follows c.accept-result.ensures.goes_on c.take-held.ensures.turn c.give.ensures.turn;
+      covered = rw c.args.self.now.rows at c.take-held.ensures.covered;
+    }

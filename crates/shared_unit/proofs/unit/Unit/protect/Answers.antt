@@ -4,6 +4,7 @@ use Rattle.counter_table.specs.declared.view.Numbers.{Numbers}
 use Rattle.counter_table.specs.Worker.{view}
 use Rattle.shared_unit.proofs.Shares.{kept_shares, step_shares}
 use Rattle.shared_unit.proofs.Passing.{passes_none, passes_on}
+use Rattle.shared_unit.proofs.Covering.{covers_none, covers_on}
 use Rattle.shared_unit.proofs.Renewing.{kept_step, step_from}
 use Rattle.shared_unit.proofs.Naming.{found_epoch, loaded_epoch}
 use Rattle.shared_unit.proofs.unit.Unit.protect.Goals as goal
@@ -51,3 +52,14 @@ pub returns-clause-epochs : goal.returns-clause-epochs
 returns-clause-epochs g c =
     λ channel passes. found_epoch g.O.Site.told g.O.Site.trace g.O.Site.faults g.O.Site.put_faults c.renewed.result
     (view c.args.worker.now).turn (view c.by_kept.new.worker).turn (view c.renewed.new.worker).turn (c.in_default.ensures.step).1 c.renewed.ensures.epochs
+
+pub returns-in-Ok-None-clause-covered : goal.returns-in-Ok-None-clause-covered
+returns-in-Ok-None-clause-covered g c = covers_none g.O.Site.told g.O.Site.trace g.O.Site.faults g.O.Site.put_faults _ _ refl
+
+pub returns-in-Err-clause-covered : goal.returns-in-Err-clause-covered
+returns-in-Err-clause-covered g c = covers_none g.O.Site.told g.O.Site.trace g.O.Site.faults g.O.Site.put_faults _ _ refl
+
+pub returns-clause-covered : goal.returns-clause-covered
+returns-clause-covered g c =
+    covers_on g.O.Site.told g.O.Site.trace g.O.Site.faults g.O.Site.put_faults (view c.args.worker.now) (view c.by_kept.new.worker) (view c.renewed.new.worker)
+    (c.in_default.ensures.step).0 (c.in_default.ensures.step).1 c.renewed.ensures.covered

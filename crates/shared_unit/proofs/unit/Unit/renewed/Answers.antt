@@ -156,3 +156,28 @@ returns-in-Permit-clause-epochs g c =
     (view c.args.worker.now).turn (view c.give-in-Permit.new.worker).turn (view c.take-held.new.worker) (view c.finished-answer.new.worker)
     c.finished-answer.ensures.step c.finished-answer.ensures.goes_on c.in-Permit.ensures.kept c.finished-answer.ensures.kept c.take-held.ensures.follows
     c.take-held.ensures.turn c.give-in-Permit.ensures.turn)
+
+pub returns-in-Refused-clause-covered : goal.returns-in-Refused-clause-covered
+returns-in-Refused-clause-covered g c =
+    let found : BookView g.row.O.Denot = c.take-held.result.book in
+    record {
+      found = found;
+      given = found;
+      visits = visits g.O.Site.trace g.O.Site.faults g.O.Site.put_faults g.O.Site.told found found (view c.args.worker.now).turn (view c.take-held.new.worker).turn (view c.give.new.worker).turn
+          c.in-Refused.ensures.kept c.in-Refused.ensures.kept c.take-held.ensures.follows (goes_itself g.O.Site.faults g.O.Site.put_faults found) c.take-held.ensures.turn c.give.ensures.turn;
+      covered = rw c.args.self.now.rows at c.take-held.ensures.covered;
+    }
+
+pub returns-in-Permit-clause-covered : goal.returns-in-Permit-clause-covered
+returns-in-Permit-clause-covered g c =
+    let found : BookView g.row.O.Denot = c.take-held.result.book in
+    let given : BookView g.row.O.Denot = c.finished-answer.new.held.book in
+    record {
+      found = found;
+      given = given;
+      visits = finished_visits g.O.Site.told g.O.Site.trace g.O.Site.faults g.O.Site.put_faults c.in-Permit.permit c.args.clear.now c.finished-answer.new.out found given c.finished-answer.result
+          (view c.args.worker.now).turn (view c.give-in-Permit.new.worker).turn (view c.take-held.new.worker) (view c.finished-answer.new.worker)
+          c.finished-answer.ensures.step c.finished-answer.ensures.goes_on c.in-Permit.ensures.kept c.finished-answer.ensures.kept c.take-held.ensures.follows
+          c.take-held.ensures.turn c.give-in-Permit.ensures.turn;
+      covered = rw c.args.self.now.rows at c.take-held.ensures.covered;
+    }

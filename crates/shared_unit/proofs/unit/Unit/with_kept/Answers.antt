@@ -1,6 +1,7 @@
 use Rattle.std.proofs.Common.{◌≡◌, ◌<◌, ◌≤◌, ℕ, arith, Ok, Err}
 use Rattle.shared_unit.proofs.Passing.{passes_loads, passes_funded}
 use Rattle.shared_unit.proofs.Renewing.{done_ready, done_funded, exhausted_ready, refused_funded}
+use Rattle.shared_unit.proofs.Covering.{back_spent, covers_after, covers_loads}
 use Rattle.shared_unit.proofs.unit.Unit.with_kept.Goals as goal
 
 pub returns-in-Done-clause-step : goal.returns-in-Done-clause-step
@@ -47,3 +48,22 @@ returns-in-Exhausted-clause-turn g c = passes_loads g.O.Site.told g.O.Site.trace
 pub returns-in-Exhausted-clause-step : goal.returns-in-Exhausted-clause-step
 returns-in-Exhausted-clause-step g c =
     exhausted_ready g.O.Site.told g.O.Site.trace g.O.Site.faults g.O.Site.put_faults c.args.permit.now c.args.clear.now c.protect_ready.new.out c.in-Exhausted.number _ _ c.in-Exhausted.ensures.step
+
+pub returns-in-Done-clause-covered : goal.returns-in-Done-clause-covered
+returns-in-Done-clause-covered g c = covers_loads g.O.Site.told g.O.Site.trace g.O.Site.faults g.O.Site.put_faults _ _ _ (c.in-Done.ensures.step).1
+
+pub returns-in-Ok-clause-covered : goal.returns-in-Ok-clause-covered
+returns-in-Ok-clause-covered g c =
+    let need = c.in-NeedBlock.ensures.step in
+    covers_after g.O.Site.told g.O.Site.trace g.O.Site.faults g.O.Site.put_faults _ _ _ _ need.1 (back_spent _ _ _ _ _ need.4) c.fund.ensures.covered
+
+pub returns-in-Err-clause-covered : goal.returns-in-Err-clause-covered
+returns-in-Err-clause-covered g c =
+    let need = c.in-NeedBlock.ensures.step in
+    covers_after g.O.Site.told g.O.Site.trace g.O.Site.faults g.O.Site.put_faults _ _ _ _ need.1 (back_spent _ _ _ _ _ need.4) c.fund.ensures.covered
+
+pub returns-in-Stale-clause-covered : goal.returns-in-Stale-clause-covered
+returns-in-Stale-clause-covered g c = covers_loads g.O.Site.told g.O.Site.trace g.O.Site.faults g.O.Site.put_faults _ _ _ (c.in-Stale.ensures.step).3
+
+pub returns-in-Exhausted-clause-covered : goal.returns-in-Exhausted-clause-covered
+returns-in-Exhausted-clause-covered g c = covers_loads g.O.Site.told g.O.Site.trace g.O.Site.faults g.O.Site.put_faults _ _ _ (c.in-Exhausted.ensures.step).1

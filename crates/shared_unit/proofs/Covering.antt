@@ -1,0 +1,59 @@
+-- The numbers spent before a take are below the marks of the book found, as it is seen from before what led to the take.
+use Rattle.std.proofs.Common.{◌≡◌, ◌⊎◌, inl, inr, ℕ, ◌≤◌, Bool, List, ap, subst, ◌∙◌, arith}
+use Rattle.sdls_base.specs.Numbers.{times, once_below}
+use Rattle.sdls_outside.specs.Moments.{Trace}
+use Rattle.counter_table.specs.declared.view.Known.{Known}
+use Rattle.counter_table.specs.declared.view.Numbers.{Numbers}
+use Rattle.counter_table.specs.declared.view.Turn.{Turn}
+use Rattle.counter_table.specs.declared.view.View.{View}
+use Rattle.counter_table.specs.Known.{mark_of}
+use Rattle.counter_table.specs.Play.{IsCovered}
+use Rattle.shared_unit.specs.Told.{told_by}
+use Rattle.shared_unit.specs.Turn.{FindsCovered, Loads, Visits}
+use Rattle.shared_unit.specs.Numbers.{ComesBack}
+use Rattle.shared_unit.specs.Protecting.{CoversIfTaken}
+use Rattle.shared_unit.proofs.Passing.{loads_looks, none_looks}
+
+-- a ticket that comes back spends no number
+pub back_spent : (row end n : ℕ) (v w : Numbers) → ComesBack row end n v w → w.spent ≡ v.spent
+back_spent row end n v w back = ap (λ (k : Numbers). k.spent) back.is ∙ ap (λ (k : Numbers). k.spent) back.draws.is
+
+-- what covers the numbers covers them where none was spent since
+covers_before : (v u : Numbers) (book : Known) → u.spent ≡ v.spent → IsCovered 512 u book → IsCovered 512 v book
+covers_before v u book same covered = λ row x there.
+    subst (λ (spent : List (ℕ × ℕ)). times row x spent ≤ once_below x (mark_of book row)) same (covered row x there)
+
+module _ {O : Type 0} (told : Bool) (trace : O → Trace) (faults puts : O → ℕ) where
+  pub covers_none : (v w : View) → w.turn ≡ v.turn → CoversIfTaken told trace faults puts v w
+  covers_none v w is = inl (none_looks v.turn w.turn is)
+
+  pub covers_loads : (e : ℕ) (v w : View) → Loads e v.turn w.turn → CoversIfTaken told trace faults puts v w
+  covers_loads e v w loads = inl (loads_looks e v.turn w.turn loads)
+
+  pub covers_after : (e : ℕ) (v u w : View) → Loads e v.turn u.turn → u.numbers.spent ≡ v.numbers.spent → FindsCovered told trace faults puts u w
+      → CoversIfTaken told trace faults puts v w
+  covers_after e v u w loads same finds = inr (
+    e,
+    (let later = loads.later in omega arith),
+    record {
+      found = finds.found;
+      given = finds.given;
+      visits = subst (λ (t : Turn). Visits told trace faults puts finds.found finds.given t w.turn) loads.is finds.visits;
+      covered = covers_before v.numbers u.numbers (told_by trace faults puts finds.found) same finds.covered;
+    },
+  )
+
+  pub covers_on : (v u w : View) → u.numbers ≡ v.numbers → ((u.turn ≡ v.turn) ⊎ ((epoch : ℕ) × Loads epoch v.turn u.turn))
+      → FindsCovered told trace faults puts u w → CoversIfTaken told trace faults puts v w
+  covers_on v u w numbers (inl same) finds = inr (
+    v.turn.epoch,
+    omega arith,
+    record {
+      found = finds.found;
+      given = finds.given;
+      visits = subst (λ (t : Turn). Visits told trace faults puts finds.found finds.given t w.turn) same finds.visits;
+      covered = covers_before v.numbers u.numbers (told_by trace faults puts finds.found) (ap (λ (k : Numbers). k.spent) numbers) finds.covered;
+    },
+  )
+  covers_on v u w numbers (inr (epoch, loads)) finds =
+      covers_after epoch v u w loads (ap (λ (k : Numbers). k.spent) numbers) finds
