@@ -9,6 +9,7 @@ pub mod Loaded
 pub mod Codes
 pub mod GoingOn
 pub mod Releasing
+pub mod StoredReleases
 pub mod Used
 pub mod Answered
 pub mod Ended

@@ -87,7 +87,7 @@ releases_by : (state : State) (place word : ℕ) (entry : Entry) (o : Option Key
 releases_by state place word entry None at is = absurd (none-some entry is)
 releases_by state place word entry (Some held) at is = record { held = held; at = at; releases = is }
 
-releases_at : (state : State) (place word : ℕ) (entry : Entry) → release_at state place word ≡ Some entry → ReleasesAt state place word entry
+pub releases_at : (state : State) (place word : ℕ) (entry : Entry) → release_at state place word ≡ Some entry → ReleasesAt state place word entry
 releases_at state place word entry is = releases_by state place word entry (slice_get state.keys place) refl is
 
 abbrev is_release : (near : ℕ → ℕ → Type 0) (state : State) (place word : ℕ) (words : List ℕ) (entry : Entry) → KeepsRules state
