@@ -64,6 +64,9 @@ pub record IsReleased (call : CallSeen) (account : Account) (state : State) (end
       → Rose call.site.faults call.site_after.faults ⊎ (IsJournalFull call state ⊎ (length call.entries ≡ MOST_ENTRIES))
   -- where all records were answered, a full history is told of a release that is due
   pub full : account.came ≡ Ended → account.told ≡ SessionFull → count < length (due_releases call state ends words)
+  -- no more slots are used than there are, where the site did not fail
+  pub room : ¬ Rose call.site.faults call.site_after.faults
+      → length (records (image_at_entry call)) + stored_count state call.entries ≤ slot_count (image_at_entry call)
 
 -- why the book over a refused image was not opened: that the image shows no state, a fault of the site, or want of memory
 abbrev pub IsRefusal : ℕ → RunEnd → Type 0

@@ -51,6 +51,8 @@ use Rattle.unit_image.specs.Shows.{Shows, ShowsNone}
 use Rattle.unit_plan.specs.declared.plan_error.PlanFault.{PlanFault}
 use Rattle.unit_history.specs.Stored.{stored_count}
 use Rattle.unit_plan.specs.PlanLines.{PlanLines}
+use Rattle.disk_journal.specs.Image.{records, slot_count}
+use Rattle.disk_journal.proofs.Images.{records_of as image_records}
 use Rattle.unit_history.specs.Fits.{MayAppend}
 use Rattle.record_io.specs.declared.kinds.RecordKind.TheVariants.{Protect}
 use Rattle.unit_runs.proofs.Assembled.{sound_run, covered_run, rules_at_end}
@@ -608,6 +610,19 @@ module _ {O : Type 0} (told : Bool) (trace : O → Trace) (faults puts : O → �
   rose_to_end : Rose (faults book.opened) (faults book.site) → Rose (faults site) (faults after)
   rose_to_end rose = let a = ran.same_faults in let b = end.goes_on.later in let c = last_later in let d = after_faults in omega arith
 
+  -- no more slots are used than there are: the last book's journal is that of its image
+  room_so : CountsSlots told faults (trace site).now.image end.last → IsTrue told → ¬ Rose (faults site) (faults after)
+      → length (records (trace site).now.image) + stored_count book.start entries ≤ slot_count (trace site).now.image
+  room_so slots is_told stood =
+      let calm : ¬ Rose (faults end.last.opened) (faults end.last.site) =
+      λ rose. stood (let a = ap faults last_opened in let b = ran.same_faults in let c = after_faults in let r = rose in omega arith) in
+      let counted = slots is_told calm in
+      let journal = (end.kept.current is_told calm).settled.opened.of_image in
+      let few : length (records (trace end.last.site).now.image) ≤ slot_count (trace end.last.site).now.image = (image_records (trace end.last.site).now.image).within in
+      let same : stored_count end.last.start (entries_of end.last.log) ≡ stored_count book.start entries =
+      ap (λ (st : State). stored_count st (entries_of end.last.log)) (started is_told) ∙ ap (stored_count book.start) (sym end.entries_are) in
+      let a = counted.0 in let b = counted.1 in let c = journal.slots in let d = journal.used in omega arith
+
   released_so : CountsSlots told faults (trace site).now.image end.last → IsTrue told
       → (r : IsReleased call account book.start (length (entries_in now))) × (r.words ≡ words)
   released_so slots is_told = elim rose_or [
@@ -620,6 +635,7 @@ module _ {O : Type 0} (told : Bool) (trace : O → Trace) (faults puts : O → �
         stopped = λ r. ap length entries_split ∙ ap (λ (l : List Entry). length (entries_in now ++ l)) (none_released rose) ∙ ap length (append-nil (entries_in now));
         refused = λ few. inl (rose_to_end rose);
         full = λ is_ended full. absurd ((full_answer is_ended full).1 (let a = ran.same_faults in let r = rose in omega arith));
+        room = room_so slots is_told;
       },
       refl,
     )
@@ -640,6 +656,7 @@ module _ {O : Type 0} (told : Bool) (trace : O → Trace) (faults puts : O → �
                 let c = length-append (entries_of book.log) (take entries_added.count (releases book.state 0 words)) in
                 let d = length-take entries_added.count (releases book.state 0 words) in
                 omega arith;
+            room = room_so slots is_told;
           },
           refl,
         )

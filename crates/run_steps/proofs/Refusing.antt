@@ -21,6 +21,7 @@ use Rattle.key_book.specs.KeyBook.{AreKeyRows, place_of, row_of}
 use Rattle.disk_journal.specs.Changes.{OnlySyncs}
 use Rattle.disk_journal.specs.Forms.{Settles}
 use Rattle.disk_journal.specs.Image.{held}
+use Rattle.disk_journal.proofs.Images.{records_of}
 use Rattle.disk_journal.proofs.Moments.{only_syncs_moments}
 use Rattle.record_io.specs.declared.status.TheConstants.{DONE, SITE_FAULT}
 use Rattle.record_io.specs.Answers.{answer_octets}
@@ -323,6 +324,7 @@ module _ {O : Type 0} (told : Bool) (trace : O → Trace) (faults puts : O → �
               stopped = λ rose. refl;
               refused = λ few. let due = ap length (none_due state rules left 0 MOST_KEYS) in absurd (omega arith);
               full = λ is_ended full. absurd (not_ended fault is_ended);
+              room = λ stood. let few = (records_of (trace site).now.image).within in omega arith;
             },
             refl,
           )
