@@ -1,7 +1,11 @@
-use Rattle.std.proofs.Common.{arith, rules, sym, subst}
+use Rattle.std.proofs.Common.{arith, refl, rules, sym, subst}
 use Rattle.sdls_base.specs.ErrorControl.{frame_error_control, dividend, IsRemainder}
 use Rattle.sdls_base.proofs.Remainders.{frame_error_control-remainder, one_remainder}
 use Rattle.sdls_base.proofs.error_control.fecf.Goals as goal
+
+pub fours-init : goal.fours-init
+unfolding frame_error_control
+fours-init c = refl
 
 pub returns-clause-register : goal.returns-clause-register
 unfolding frame_error_control
