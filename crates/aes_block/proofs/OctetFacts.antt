@@ -1,5 +1,5 @@
 -- Functions of one octet are equal where they agree on all 256, by computation.
-use Rattle.std.proofs.Common.{◌≡◌, ℕ, ◌+◌, ◌<◌, List, [], map, get_or, slice_index, refl, sym, ap, ◌∙◌, arith}
+use Rattle.std.proofs.Common.{◌≡◌, ℕ, ◌+◌, ◌*◌, ◌/◌, ◌%◌, ◌<◌, List, [], map, get_or, slice_index, refl, sym, ap, ◌∙◌, arith}
 use Rattle.std.specs.List.{range_with_len}
 use Rattle.std.specs.Int.{w32, to_be_bytes}
 use Rattle.std.proofs.lemmas.List.FromFn.{get_or-map-range_with_len}
@@ -11,6 +11,15 @@ pub value_at : (f : ℕ → ℕ) (n x : ℕ) (values : List ℕ) → values ≡ 
     → slice_index values x ≡ f x
 value_at f n x values same lt =
     ap (λ (v : List ℕ). slice_index v x) same ∙ get_or-map-range_with_len f 0 n x x 0 lt (omega arith)
+
+-- a list of the words that octets add, all of them for each place in the column, has that of x as octet k in its place
+pub summand_at : (k x : ℕ) (values : List ℕ) → values ≡ map (λ i. summand_word (i / 256) (i % 256)) (range_with_len 0 1024)
+    → k < 4 → x < 256 → slice_index values (256 * k + x) ≡ summand_word k x
+summand_at k x values same few lt =
+    let place : (256 * k + x) / 256 ≡ k = omega arith in
+    let octet : (256 * k + x) % 256 ≡ x = omega arith in
+    value_at (λ i. summand_word (i / 256) (i % 256)) 1024 (256 * k + x) values same (omega arith)
+    ∙ ap (λ p. summand_word p ((256 * k + x) % 256)) place ∙ ap (summand_word k) octet
 
 -- two functions with one list of values below n agree there
 pub same_at : (f g : ℕ → ℕ) (n x : ℕ) → map f (range_with_len 0 n) ≡ map g (range_with_len 0 n) → x < n → f x ≡ g x

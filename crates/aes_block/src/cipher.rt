@@ -1,10 +1,12 @@
 // One block enciphered with the words of a schedule (FIPS 197, 5.1).
 
-ghost use Rattle.std.specs.Prelude.{◌≡◌, ◌+◌, ◌*◌, ◌<◌, ◌≤◌, length};
+ghost use Rattle.std.specs.Prelude.{◌≡◌, ◌%◌, ◌<◌, ◌∷◌, []};
 ghost use Rattle.aes_block.specs.Aes.{add_round_key, cipher, round_key, shift_rows, sub_bytes};
+ghost use Rattle.aes_block.specs.Columns.{columns};
 
 use crate::octet::sub_byte;
 use crate::round::{first_columns, next_columns, octets_of};
+use std::simd::{u8x16, u32x4};
 
 // `SubBytes`, then `ShiftRows`.
 fn sub_shift(state: [u8; 16]) -> [u8; 16]
@@ -30,52 +32,46 @@ fn sub_shift(state: [u8; 16]) -> [u8; 16]
     ]
 }
 
-fn round_key(words: &[u32], round: usize) -> [u8; 16]
-    requires { 4 * (round + 1) ≤ length words.now }
+// The octets of four words, which stand in a vector with the last of each word first.
+fn octets_of_words(a: u32, b: u32, c: u32, d: u32) -> [u8; 16]
+    ensures { result ≡ columns (a ∷ b ∷ c ∷ d ∷ []) }
+{
+    u32x4::from_array([a, b, c, d])
+        .to_le_bytes()
+        .swizzle([3, 2, 1, 0, 7, 6, 5, 4, 11, 10, 9, 8, 15, 14, 13, 12])
+        .to_array()
+}
+
+fn round_key(words: &[u32; 60], round: usize) -> [u8; 16]
+    requires { round < 15 }
     ensures { result ≡ round_key words.now round }
 {
-    let [a0, a1, a2, a3] = words[4 * round].to_be_bytes();
-    let [b0, b1, b2, b3] = words[4 * round + 1].to_be_bytes();
-    let [c0, c1, c2, c3] = words[4 * round + 2].to_be_bytes();
-    let [d0, d1, d2, d3] = words[4 * round + 3].to_be_bytes();
-    [
-        a0, a1, a2, a3, b0, b1, b2, b3, c0, c1, c2, c3, d0, d1, d2, d3,
-    ]
+    octets_of_words(
+        words[4 * round],
+        words[4 * round + 1],
+        words[4 * round + 2],
+        words[4 * round + 3],
+    )
 }
 
-fn add_round_key(state: [u8; 16], key: [u8; 16]) -> [u8; 16]
-    ensures { result ≡ add_round_key state key }
+fn add_round_key(state: &[u8; 16], key: &[u8; 16]) -> [u8; 16]
+    ensures { result ≡ add_round_key state.now key.now }
 {
-    [
-        state[0] ^ key[0],
-        state[1] ^ key[1],
-        state[2] ^ key[2],
-        state[3] ^ key[3],
-        state[4] ^ key[4],
-        state[5] ^ key[5],
-        state[6] ^ key[6],
-        state[7] ^ key[7],
-        state[8] ^ key[8],
-        state[9] ^ key[9],
-        state[10] ^ key[10],
-        state[11] ^ key[11],
-        state[12] ^ key[12],
-        state[13] ^ key[13],
-        state[14] ^ key[14],
-        state[15] ^ key[15],
-    ]
+    (u8x16::from_array(*state) ^ u8x16::from_array(*key)).to_array()
 }
 
-// Enciphers `block` with the words of a schedule of `rounds` rounds.
-pub fn encrypt_words(words: &[u32], rounds: usize, block: [u8; 16]) -> [u8; 16]
+// Enciphers `block` with the words of a schedule of `rounds` rounds, two in each turn of the loop.
+pub fn encrypt_words(words: &[u32; 60], rounds: usize, block: [u8; 16]) -> [u8; 16]
     requires some { 0 < rounds }
-    requires words { 4 * (rounds + 1) ≤ length words.now }
+    requires even { rounds % 2 ≡ 0 }
+    requires most { rounds < 15 }
     ensures { result ≡ cipher words.now rounds block }
 {
-    let mut state = first_columns(block, words);
-    'rounds: for round in 1..rounds {
-        let next = next_columns(words, round, state);
-        state = next;
+    let mut state = next_columns(words, 1, first_columns(block, words));
+    'pairs: for pair in 1..rounds / 2 {
+        let next = next_columns(words, 2 * pair, state);
+        let after = next_columns(words, 2 * pair + 1, next);
+        state = after;
     }
-    add_round_key(sub_shift(octets_of(state)), round_key(words, rounds))
+    add_round_key(&sub_shift(octets_of(state)), &round_key(words, rounds))
 }

@@ -1,11 +1,11 @@
 // A round on four words, one for each column (FIPS 197, 5.1).
 
-ghost use Rattle.std.specs.Prelude.{◌≡◌, ◌+◌, ◌*◌, ◌^◌, ◌/◌, ◌%◌, ◌≤◌, ◌<◌, ◌∷◌, [], length};
+ghost use Rattle.std.specs.Prelude.{◌≡◌, ◌+◌, ◌*◌, ◌^◌, ◌/◌, ◌%◌, ◌<◌, ◌∷◌, []};
 ghost use Rattle.std.specs.Int.{w32, to_be_bytes};
 ghost use Rattle.aes_block.specs.Aes.{add_round_key, mix_columns, round_key, shift_rows, sub_bytes};
 ghost use Rattle.aes_block.specs.Columns.{columns, first_column, round_column};
 
-use crate::tables::{summand0, summand1, summand2, summand3};
+use crate::tables::summand;
 
 fn packed(a: u32, b: u32) -> u64
     ensures { result ≡ a * 2 ^ 32 + b }
@@ -37,7 +37,7 @@ fn four(a: u32, b: u32, c: u32, d: u32) -> [u32; 4]
 fn column(a: u8, b: u8, c: u8, d: u8, key: u32) -> u32
     ensures { to_be_bytes w32 result ≡ round_column a b c d key }
 {
-    summand0(a) ^ summand1(b) ^ summand2(c) ^ summand3(d) ^ key
+    summand(0, a) ^ summand(1, b) ^ summand(2, c) ^ summand(3, d) ^ key
 }
 
 // A column of the block under the word of the first round key.
@@ -48,8 +48,7 @@ fn first_column(a: u8, b: u8, c: u8, d: u8, key: u32) -> u32
 }
 
 // The block under the first round key.
-pub fn first_columns(block: [u8; 16], words: &[u32]) -> [u32; 4]
-    requires { 4 ≤ length words.now }
+pub fn first_columns(block: [u8; 16], words: &[u32; 60]) -> [u32; 4]
     ensures { columns result ≡ add_round_key block (round_key words.now 0) }
 {
     let [
@@ -79,8 +78,8 @@ pub fn first_columns(block: [u8; 16], words: &[u32]) -> [u32; 4]
 }
 
 // A whole round: `SubBytes`, `ShiftRows`, `MixColumns`, `AddRoundKey`.
-pub fn next_columns(words: &[u32], round: usize, state: [u32; 4]) -> [u32; 4]
-    requires { 4 * (round + 1) ≤ length words.now }
+pub fn next_columns(words: &[u32; 60], round: usize, state: [u32; 4]) -> [u32; 4]
+    requires { round < 15 }
     ensures { columns result ≡ add_round_key (mix_columns (shift_rows (sub_bytes (columns state)))) (round_key words.now round) }
 {
     let [a0, a1, a2, a3] = state[0].to_be_bytes();

@@ -6,9 +6,9 @@ use Rattle.aes_block.proofs.round.column.Goals as goal
 
 pub returns : goal.returns
 returns c =
-    round_column_is c.summand0.result c.summand1.result c.summand2.result c.summand3.result c.args.a c.args.b c.args.c
+    round_column_is c.summand.result c.summand-2.result c.summand-3.result c.summand-4.result c.args.a c.args.b c.args.c
     c.args.d c.args.key
-    (ap (to_be_bytes w32) c.summand0.ensures ∙ octets_0 c.args.a c.ranges.a.fits)
-    (ap (to_be_bytes w32) c.summand1.ensures ∙ octets_1 c.args.b c.ranges.b.fits)
-    (ap (to_be_bytes w32) c.summand2.ensures ∙ octets_2 c.args.c c.ranges.c.fits)
-    (ap (to_be_bytes w32) c.summand3.ensures ∙ octets_3 c.args.d c.ranges.d.fits)
+    (ap (to_be_bytes w32) c.summand.ensures ∙ octets_0 c.args.a c.ranges.a.fits)
+    (ap (to_be_bytes w32) c.summand-2.ensures ∙ octets_1 c.args.b c.ranges.b.fits)
+    (ap (to_be_bytes w32) c.summand-3.ensures ∙ octets_2 c.args.c c.ranges.c.fits)
+    (ap (to_be_bytes w32) c.summand-4.ensures ∙ octets_3 c.args.d c.ranges.d.fits)
