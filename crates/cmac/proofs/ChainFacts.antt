@@ -1,9 +1,8 @@
 -- More octets in a text: what they leave of the chain and of the octets held back.
-use Rattle.std.proofs.Common.{◌≡◌, ℕ, zero, suc, ◌+◌, ◌-◌, ◌*◌, ◌/◌, ◌%◌, ◌^◌, ◌<◌, ◌≤◌, List, [], ◌++◌, length, take, drop, bit_xor, refl, sym, ap, ◌∙◌, arith}
+use Rattle.std.proofs.Common.{◌≡◌, ℕ, zero, suc, ◌+◌, ◌-◌, ◌*◌, ◌/◌, ◌<◌, ◌≤◌, List, [], ◌++◌, length, take, drop, refl, sym, ap, ◌∙◌, arith}
 use Rattle.std.proofs.lemmas.List.{length-append, length-drop, take-append-le, take_all, drop-append-le, drop-drop, drop_at}
 use Rattle.aes_block.specs.Aes.{encrypted}
-use Rattle.std.specs.Int.{w128, to_be_bytes, from_be_bytes}
-use Rattle.cmac.specs.Cmac.{xored, zero_block, doubled, before_last, last_block, chain, mac}
+use Rattle.cmac.specs.Cmac.{xored, zero_block, before_last, last_block, chain, mac}
 use Rattle.cmac.specs.Running.{Kept, Holds}
 
 -- blocks that lie in m are those of m
@@ -109,15 +108,6 @@ unfolding mac
 closed_is kept m holds =
     ap (λ (c : List ℕ). encrypted kept.key (xored c (last_block kept.key kept.rest))) holds.chained
     ∙ ap (λ (r : List ℕ). encrypted kept.key (xored (chain kept.key m (before_last (length m))) (last_block kept.key r))) holds.rest
-
--- doubling as the code writes it
-pub doubled_is : (block : List ℕ) (n : ℕ) → n ≡ from_be_bytes w128 block
-    → to_be_bytes w128 (bit_xor (n * 2 % 2 ^ 128) (n / 2 ^ 127 * 0x87)) ≡ doubled block
-unfolding doubled
-doubled_is block n is =
-    let turned : n * 2 ≡ 2 * n = omega arith in
-    ap (λ (k : ℕ). to_be_bytes w128 (bit_xor (k % 2 ^ 128) (n / 2 ^ 127 * 0x87))) turned
-    ∙ ap (λ (k : ℕ). to_be_bytes w128 (bit_xor (2 * k % 2 ^ 128) (k / 2 ^ 127 * 0x87))) is
 
 -- octets written to the front of a buffer
 pub put_front : (x y z m : List ℕ) (k : ℕ) → y ≡ x → x ≡ drop k m → take (length x) (y ++ z) ≡ drop k m

@@ -1,9 +1,10 @@
 ghost use Rattle.std.specs.Prelude.{◌≡◌, ℕ, ◌+◌, ◌-◌, ◌*◌, ◌<◌, ◌≤◌, ◌∷◌, ◌++◌, List, length, take, drop, replicate};
+ghost use Rattle.std.specs.Int.{w128, to_be_bytes};
 ghost use Rattle.aes_block.specs.Aes.{encrypted};
 ghost use Rattle.cmac.specs.Cmac.{chain, doubled, last_block, mac, subkey1, subkey2, xored};
 
 use aes_block::Schedule;
-use std::simd::u8x16;
+use std::simd::{u8x16, u64x2};
 
 fn xor(a: [u8; 16], b: [u8; 16]) -> [u8; 16]
     ensures { result ≡ xored a b }
@@ -19,23 +20,40 @@ fn xor_block(chained: [u8; 16], text: &[u8], at: usize) -> [u8; 16]
     (u8x16::from_array(chained) ^ u8x16::from_slice(&text[at..])).to_array()
 }
 
-fn doubled(block: [u8; 16]) -> [u8; 16]
-    ensures { result ≡ doubled block }
+// The octets of a number, which stand in a vector with the lowest first.
+fn octets_of(n: u128) -> [u8; 16]
+    ensures { result ≡ to_be_bytes w128 n }
 {
-    let n = u128::from_be_bytes(block);
-    ((n << 1) ^ ((n >> 127) * 0x87)).to_be_bytes()
+    let (low, high) = ((n % (1 << 64)) as u64, (n >> 64) as u64);
+    u64x2::from_array([low, high])
+        .to_le_bytes()
+        .reverse()
+        .to_array()
+}
+
+fn doubled(n: u128) -> u128
+    ensures { to_be_bytes w128 result ≡ doubled (to_be_bytes w128 n) }
+{
+    (n << 1) ^ ((n >> 127) * 0x87)
+}
+
+// The first subkey, as a number.
+fn first_subkey(key: &Schedule) -> u128
+    ensures { to_be_bytes w128 result ≡ subkey1 key.now }
+{
+    doubled(u128::from_be_bytes(key.enciphered_zeros()))
 }
 
 fn subkey1(key: &Schedule) -> [u8; 16]
     ensures { result ≡ subkey1 key.now }
 {
-    doubled(key.enciphered_zeros())
+    octets_of(first_subkey(key))
 }
 
 fn subkey2(key: &Schedule) -> [u8; 16]
     ensures { result ≡ subkey2 key.now }
 {
-    doubled(subkey1(key))
+    octets_of(doubled(first_subkey(key)))
 }
 
 // A short block, filled up by a bit 1 and zeros.
