@@ -1,74 +1,131 @@
-// A binding, and frames protected and opened under it.
-ghost use Rattle.std.specs.Prelude.{◌≡◌, ◌≤◌, true, take, IfSome};
+// Bindings on links, and frames protected and opened under them.
+ghost use Rattle.std.specs.Prelude.{◌≡◌, ◌≤◌, ◌+◌, true, take, IfSome};
 ghost use Rattle.std.specs.Int.{w16, to_be_bytes};
 ghost use Rattle.sdls_base.specs.Link.{IsLink};
 ghost use Rattle.frame_shield.specs.Binding.{IsBinding};
 ghost use Rattle.frame_shield.specs.Opens.{CarriesIndex};
 
+use crate::words;
 use aes_block::Schedule;
 use frame_shield::{AnyLayout, Binding, Link, Mask, Opened, fits, shield, unshield};
-use sdls_base::{KeyId, Spi, Suite, TcLayout, TmLayout};
+use sdls_base::{AosLayout, KeyId, Spi, Suite, TcLayout, TmLayout};
 use sdls_header::read_spi;
 use std::alloc::Global;
+use std::str::SplitWhitespace;
 
-/// A TC link with segment headers, frame error control and the usual mask.
-pub fn telecommand() -> Link
+/// The key of the examples of SP 800-38B.
+const CMAC_KEY: [u8; 16] = *b"\x2b\x7e\x15\x16\x28\xae\xd2\xa6\xab\xf7\x15\x88\x09\xcf\x4f\x3c";
+
+const GCM_KEY: [u8; 16] = *b"\x00\x01\x02\x03\x04\x05\x06\x07\x08\x09\x0a\x0b\x0c\x0d\x0e\x0f";
+
+/// What stands in octets that are not written.
+const UNTOUCHED: u8 = 0x55;
+
+fn tc_link(words: &mut SplitWhitespace<'_>) -> Link
     ensures { IsLink result }
 {
+    let segment = words::flag(words);
     Link {
         layout: AnyLayout::Tc(TcLayout {
-            segment: true,
-            fecf: true,
+            segment,
+            fecf: words::flag(words),
             most: 1024,
         }),
-        mask: Mask::usual_tc(true),
+        mask: Mask::usual_tc(segment),
     }
 }
 
-/// A TM link with frame error control and the usual mask.
-pub fn telemetry(length: u16) -> Link
-    requires { (48 ≤ length) × (length ≤ 2048) }
-    ensures { IsLink result }
+fn tm_link(words: &mut SplitWhitespace<'_>) -> Option<Link>
+    ensures { IfSome result IsLink }
 {
-    Link {
-        layout: AnyLayout::Tm(TmLayout { length, fecf: true }),
+    let length = words::short(words);
+    let fecf = words::flag(words);
+    if length < 48 || length > 2048 {
+        return None;
+    }
+    Some(Link {
+        layout: AnyLayout::Tm(TmLayout { length, fecf }),
         mask: Mask::usual_tm(),
+    })
+}
+
+/// The usual mask of AOS frames, or `whole`, which has each bit.
+fn aos_mask(word: Option<&str>) -> Mask
+    ensures { result.length ≤ 6 }
+{
+    match word {
+        Some("whole") => Mask {
+            octets: [0xFF; 6],
+            length: 6,
+        },
+        _ => Mask::usual_aos(),
     }
 }
 
-/// Association 7 with a key of the suite, on a link.
-pub fn binding(suite: Suite, link: Link) -> Option<Binding>
-    requires { IsLink link }
+fn aos_link(words: &mut SplitWhitespace<'_>) -> Option<Link>
+    ensures { IfSome result IsLink }
+{
+    let layout = AosLayout {
+        length: words::short(words),
+        insert: words::octet(words),
+        ocf: words::flag(words),
+        fecf: words::flag(words),
+    };
+    let mask = aos_mask(words.next());
+    if layout.insert > 64 || layout.length > 2048 || layout.length < 48 + u16::from(layout.insert) {
+        return None;
+    }
+    Some(Link {
+        layout: AnyLayout::Aos(layout),
+        mask,
+    })
+}
+
+/// The link that the words say, none where it lies outside the bounds.
+fn link(words: &mut SplitWhitespace<'_>) -> Option<Link>
+    ensures { IfSome result IsLink }
+{
+    match words.next() {
+        Some("tc") => Some(tc_link(words)),
+        Some("tm") => tm_link(words),
+        Some("aos") => aos_link(words),
+        _ => None,
+    }
+}
+
+/// The binding that the words say: suite, index and link.
+pub fn binding(words: &mut SplitWhitespace<'_>, device: [u8; 4]) -> Option<Binding>
     ensures { IfSome result IsBinding }
 {
-    let key = match suite {
-        Suite::Cmac => 32_769,
-        Suite::Gcm => 256,
+    let suite = words::suite(words);
+    let spi = Spi::new(words::short(words))?;
+    let link = link(words)?;
+    let (key, octets) = match suite {
+        Suite::Cmac => (32_769, CMAC_KEY),
+        Suite::Gcm => (256, GCM_KEY),
     };
     let key = KeyId::new(key)?;
     if key.class() != suite.class() {
         return None;
     }
     Some(Binding {
-        spi: Spi::new(7)?,
+        spi,
         suite,
         key,
-        schedule: Schedule::new(
-            b"\x2b\x7e\x15\x16\x28\xae\xd2\xa6\xab\xf7\x15\x88\x09\xcf\x4f\x3c",
-        ).ok()?,
-        device: [0xD0, 0, 0, 1],
+        schedule: Schedule::new(&octets).ok()?,
+        device,
         link,
     })
 }
 
-/// The clear frame protected under number 1, none where it does not fit.
-pub fn protected(alloc: Global, binding: &Binding, clear: &[u8]) -> Option<Vec<u8>>
+/// The clear frame protected under the number, none where it does not fit, or the number is none of the key.
+pub fn protected(alloc: Global, binding: &Binding, number: u64, clear: &[u8]) -> Option<Vec<u8>>
     requires { IsBinding binding.now }
 {
-    let mut out = vec![in alloc; 0; 2048].ok()?;
+    let mut out = vec![in alloc; UNTOUCHED; 2048].ok()?;
     match fits(binding, clear) {
-        Ok(()) if 1 < binding.key.end() => {
-            let count = shield(binding, 1, clear, out.as_mut_slice());
+        Ok(()) if number > 0 && number < binding.key.end() => {
+            let count = shield(binding, number, clear, out.as_mut_slice());
             out.truncate(count);
             Some(out)
         }
@@ -109,6 +166,18 @@ fn is_tm(binding: &Binding, layout: &TmLayout, frame: &[u8]) -> bool
     }
 }
 
+/// The same of an AOS frame.
+fn is_aos(binding: &Binding, layout: &AosLayout, frame: &[u8]) -> bool
+    requires layout { binding.now.link.layout ≡ AnyLayout.Aos layout.now }
+    requires bounds { 12 + layout.now.insert ≤ layout.now.length }
+    ensures { result ≡ true → CarriesIndex binding.now frame.now }
+{
+    match aos_frame::read(frame, layout) {
+        Ok(parts) => has_index(parts.room, binding.spi),
+        Err(_) => false,
+    }
+}
+
 /// Whether the octets are a frame of the binding's link, with its index.
 fn carries_index(binding: &Binding, frame: &[u8]) -> bool
     requires { IsBinding binding.now }
@@ -117,7 +186,7 @@ fn carries_index(binding: &Binding, frame: &[u8]) -> bool
     match &binding.link.layout {
         AnyLayout::Tc(layout) => is_tc(binding, layout, frame),
         AnyLayout::Tm(layout) => is_tm(binding, layout, frame),
-        AnyLayout::Aos(_) => false,
+        AnyLayout::Aos(layout) => is_aos(binding, layout, frame),
     }
 }
 

@@ -1,4 +1,5 @@
 // The words of a case.
+use sdls_base::Suite;
 use std::alloc::Global;
 use std::str::SplitWhitespace;
 
@@ -13,6 +14,26 @@ pub fn short(words: &mut SplitWhitespace<'_>) -> u16 {
 
 pub fn octet(words: &mut SplitWhitespace<'_>) -> u8 {
     words.next().and_then(|word| word.parse().ok()).unwrap_or(0)
+}
+
+pub fn number(words: &mut SplitWhitespace<'_>) -> u64 {
+    words.next().and_then(|word| word.parse().ok()).unwrap_or(0)
+}
+
+/// `gcm` or another word.
+pub fn suite(words: &mut SplitWhitespace<'_>) -> Suite {
+    match words.next() {
+        Some("gcm") => Suite::Gcm,
+        _ => Suite::Cmac,
+    }
+}
+
+/// The octets of the next word, none of `-`.
+pub fn piece(alloc: Global, words: &mut SplitWhitespace<'_>) -> anyhow::Result<Vec<u8>> {
+    match words.next() {
+        Some("-") | None => Ok(Vec::new(alloc)),
+        Some(word) => Ok(hex::decode(alloc, word)?),
+    }
 }
 
 /// The octets of the words that are left.

@@ -18,6 +18,3 @@ pub use laws::{opens_once, protected_once, protected_opens};
 pub use opening::{Opened, unshield};
 pub use protecting::{ShieldFault, fits, shield};
 pub use sdls_base::{AnyLayout, Link, Mask};
-
-#[cfg(test)]
-mod tests;

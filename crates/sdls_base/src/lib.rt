@@ -50,6 +50,3 @@ pub const MOST_CHANNELS: usize = 8;
 
 /// The widest anti-replay window (profile). The narrowest is 1.
 pub const MOST_WINDOW: u64 = 1 << 32;
-
-#[cfg(test)]
-mod tests;

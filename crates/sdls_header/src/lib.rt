@@ -11,6 +11,3 @@ mod splitting;
 pub use mask::{mask_in_place, masked};
 pub use pieces::{SecurityHeader, Split, Vector};
 pub use splitting::{read_spi, split, wide_octets, write_header};
-
-#[cfg(test)]
-mod tests;

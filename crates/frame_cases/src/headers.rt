@@ -1,0 +1,68 @@
+// Security headers, rooms and masks.
+use crate::words;
+use sdls_base::Spi;
+use sdls_header::{SecurityHeader, Vector, masked, read_spi, split, write_header};
+use std::alloc::{AllocError, Global};
+use std::str::SplitWhitespace;
+
+/// The index at the front of a room.
+pub fn index(alloc: Global, words: &mut SplitWhitespace<'_>) -> anyhow::Result<String> {
+    let room = words::octets(alloc, words)?;
+    match read_spi(room.as_slice()) {
+        Some(spi) => Ok(format!(in alloc; "{spi}")?),
+        None => Ok(format!(in alloc; "none")?),
+    }
+}
+
+fn vector_text(alloc: Global, vector: &Vector) -> Result<String, AllocError> {
+    match vector {
+        Vector::Sequence(number) => format!(in alloc; "{number}"),
+        Vector::Wide { device, number } => {
+            let device = hex::encode(alloc, device)?;
+            format!(in alloc; "{device}:{number}")
+        }
+    }
+}
+
+/// A room taken apart.
+pub fn room(alloc: Global, words: &mut SplitWhitespace<'_>) -> anyhow::Result<String> {
+    let suite = words::suite(words);
+    let room = words::octets(alloc, words)?;
+    let Some(pieces) = split(room.as_slice(), suite) else {
+        return Ok(format!(in alloc; "none")?);
+    };
+    let header = hex::encode(alloc, pieces.header)?;
+    let vector = vector_text(alloc, &pieces.vector)?;
+    let field = hex::encode(alloc, pieces.field)?;
+    let mac = hex::encode(alloc, pieces.mac)?;
+    Ok(format!(in alloc; "header {header} vector {vector} field {field} mac {mac}")?)
+}
+
+/// A header of each suite as it is written into 15 octets of 55.
+pub fn header(alloc: Global, words: &mut SplitWhitespace<'_>) -> anyhow::Result<String> {
+    let kind = words.next();
+    let Some(spi) = Spi::new(words::short(words)) else {
+        return Ok(format!(in alloc; "no index")?);
+    };
+    let number = words::number(words);
+    let vector = match kind {
+        Some("gcm") => Vector::Wide {
+            device: [0xD0, 0, 0, 1],
+            number,
+        },
+        _ => Vector::Sequence(u32::try_from(number).unwrap_or(0)),
+    };
+    let mut out = [0x55; 15];
+    let count = write_header(&SecurityHeader { spi, vector }, &mut out);
+    let octets = hex::encode(alloc, &out)?;
+    Ok(format!(in alloc; "{count} of {octets}")?)
+}
+
+/// A prefix under a mask.
+pub fn under_mask(alloc: Global, words: &mut SplitWhitespace<'_>) -> anyhow::Result<String> {
+    let mask = words::piece(alloc, words)?;
+    let prefix = words::octets(alloc, words)?;
+    let mut out = vec![in alloc; 0x55; prefix.len()]?;
+    masked(prefix.as_slice(), mask.as_slice(), out.as_mut_slice());
+    Ok(hex::encode(alloc, out.as_slice())?)
+}

@@ -1,0 +1,84 @@
+// Names, numbers and texts of the plain types.
+use crate::words;
+use sdls_base::{
+    Change, ChannelId, Direction, FrameFault, KeyId, KeyItem, KeyItems, KeyRows, KeyState,
+    NoMemory, Octets, SaState, Spi, Suite, fecf, same_octets,
+};
+use std::alloc::Global;
+use std::str::SplitWhitespace;
+
+pub fn spi(alloc: Global, words: &mut SplitWhitespace<'_>) -> anyhow::Result<String> {
+    match Spi::new(words::short(words)) {
+        Some(spi) => Ok(format!(in alloc; "{}", spi.get())?),
+        None => Ok(format!(in alloc; "none")?),
+    }
+}
+
+pub fn channel(alloc: Global, words: &mut SplitWhitespace<'_>) -> anyhow::Result<String> {
+    match ChannelId::new(words::octet(words)) {
+        Some(channel) => Ok(format!(in alloc; "{}", channel.get())?),
+        None => Ok(format!(in alloc; "none")?),
+    }
+}
+
+/// What a key serves for, and the first number that it does not.
+pub fn key(alloc: Global, words: &mut SplitWhitespace<'_>) -> anyhow::Result<String> {
+    match KeyId::new(words::short(words)) {
+        Some(key) => Ok(format!(in alloc; "{:?} below {}", key.class(), key.end())?),
+        None => Ok(format!(in alloc; "none")?),
+    }
+}
+
+/// The frame error control field of octets.
+pub fn control(alloc: Global, words: &mut SplitWhitespace<'_>) -> anyhow::Result<String> {
+    let octets = words::octets(alloc, words)?;
+    Ok(format!(in alloc; "{:04x}", fecf(octets.as_slice()))?)
+}
+
+/// Whether two texts of octets are the same.
+pub fn same(alloc: Global, words: &mut SplitWhitespace<'_>) -> anyhow::Result<String> {
+    let left = words::piece(alloc, words)?;
+    let right = words::piece(alloc, words)?;
+    let same = same_octets(left.as_slice(), right.as_slice());
+    Ok(format!(in alloc; "{same}")?)
+}
+
+/// A key that is to be loaded, as it is printed.
+pub fn printed(alloc: Global, words: &mut SplitWhitespace<'_>) -> anyhow::Result<String> {
+    let Some(id) = KeyId::new(words::short(words)) else {
+        return Ok(format!(in alloc; "none")?);
+    };
+    let bytes = Octets::new(words::octets(alloc, words)?);
+    let mut list = Vec::new(alloc);
+    list.push(KeyItem { id, bytes })?;
+    let items = KeyItems::new(list);
+    let change = Change::Load(items.clone()?);
+    let text = format!(in alloc; "{items:?} {change:?}")?;
+    let same = change == Change::Load(items);
+    Ok(format!(in alloc; "{text} same {same}")?)
+}
+
+/// A list of one row, its copy, and its items given back.
+pub fn rows(alloc: Global, words: &mut SplitWhitespace<'_>) -> anyhow::Result<String> {
+    let Some(id) = KeyId::new(words::short(words)) else {
+        return Ok(format!(in alloc; "none")?);
+    };
+    let mut list = Vec::new(alloc);
+    list.push((id, KeyState::Active))?;
+    let rows = KeyRows::new(list);
+    let count = rows.as_slice().len();
+    let same = rows.clone()? == rows;
+    let back = rows.into_vec().len();
+    Ok(format!(in alloc; "{count} same {same} back {back}")?)
+}
+
+/// The numbers of the last states, direction, suite and frame fault, and two faults as texts.
+pub fn numbers(alloc: Global) -> anyhow::Result<String> {
+    let (key, sa) = (KeyState::Destroyed as u8, SaState::Operational as u8);
+    let (direction, suite) = (Direction::Receive as u8, Suite::Gcm as u8);
+    let fault = FrameFault::Fecf as u8;
+    Ok(format!(in alloc;
+        "{key} {sa} {direction} {suite} {fault}; {}; {NoMemory}",
+        FrameFault::Spare
+    )?)
+}

@@ -1,0 +1,37 @@
+// Frames protected, and opened.
+use crate::{shielding, words};
+use frame_shield::{Opened, fits};
+use std::alloc::Global;
+use std::str::SplitWhitespace;
+
+/// The protected frame of a clear one, or why it does not fit.
+pub fn protect(alloc: Global, words: &mut SplitWhitespace<'_>) -> anyhow::Result<String> {
+    let Some(binding) = shielding::binding(words, [0xD0, 0, 0, 1]) else {
+        return Ok(format!(in alloc; "no binding")?);
+    };
+    let number = words::number(words);
+    let clear = words::octets(alloc, words)?;
+    if let Err(fault) = fits(&binding, clear.as_slice()) {
+        return Ok(format!(in alloc; "{fault:?}")?);
+    }
+    match shielding::protected(alloc, &binding, number, clear.as_slice()) {
+        Some(frame) => Ok(hex::encode(alloc, frame.as_slice())?),
+        None => Ok(format!(in alloc; "no number")?),
+    }
+}
+
+/// Number, place and octets of the data field of a protected frame, on a unit of another device.
+pub fn open(alloc: Global, words: &mut SplitWhitespace<'_>) -> anyhow::Result<String> {
+    let Some(binding) = shielding::binding(words, [0; 4]) else {
+        return Ok(format!(in alloc; "no binding")?);
+    };
+    let mut frame = words::octets(alloc, words)?;
+    match shielding::opened(&binding, frame.as_mut_slice()) {
+        Some(Opened::Field { number, from, to }) => {
+            let field = hex::encode(alloc, frame.as_slice().get(from..to).unwrap_or(&[]))?;
+            Ok(format!(in alloc; "number {number} from {from} to {to} field {field}")?)
+        }
+        Some(Opened::BadMac) => Ok(format!(in alloc; "bad MAC")?),
+        None => Ok(format!(in alloc; "no frame with the index")?),
+    }
+}
