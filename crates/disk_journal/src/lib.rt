@@ -26,6 +26,3 @@ pub use layout::{
     OPEN, PLAN_AT, PLAN_LENGTH_AT, PLAN_ROOM, SLOT_COUNT_AT, SLOT_LENGTH, SLOTS_AT, ZEROS_AT,
     slot_offset,
 };
-
-#[cfg(test)]
-mod tests;
