@@ -36,6 +36,3 @@ pub use site::Site;
 pub use source::{Failed, Source};
 pub use std_source::StdSource;
 pub use sure_source::SureSource;
-
-#[cfg(test)]
-mod tests;

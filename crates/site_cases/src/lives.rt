@@ -1,0 +1,50 @@
+// Five calls on a site of which some fail.
+use crate::words;
+use sdls_outside::{Crash, MemSite, Site};
+use std::alloc::{AllocError, Global};
+use std::str::SplitWhitespace;
+
+/// Whether each of the five calls is Ok.
+fn lived(site: &mut MemSite) -> [bool; 5] {
+    let mut into = [0; 2];
+    let begun = site.begin().is_ok();
+    let written = site.write_at(0, b"aXY").is_ok();
+    let synced = site.sync().is_ok();
+    let put = site.put(b"sunk").is_ok();
+    let read = site.image().len() >= 2 && site.read_at(0, &mut into).is_ok();
+    [begun, written, synced, put, read]
+}
+
+fn pattern(alloc: Global, done: &[bool; 5]) -> Result<String, AllocError> {
+    let mut text = String::new(alloc);
+    for is_done in done {
+        text.push_str(if *is_done { "o" } else { "x" })?;
+    }
+    Ok(text)
+}
+
+fn held(alloc: Global, site: &MemSite) -> Result<String, AllocError> {
+    let image = words::text(alloc, site.image())?;
+    let sunk = words::text(alloc, site.sunk())?;
+    let faults = site.faults();
+    format!(in alloc; "image {image} sunk {sunk} faults {faults}")
+}
+
+/// A site of which one call fails, and what it then holds.
+pub fn failing(alloc: Global, words: &mut SplitWhitespace<'_>) -> anyhow::Result<String> {
+    let mut calls = Vec::new(alloc);
+    calls.push(words::number(words))?;
+    let mut site = MemSite::new(alloc, b"ab".to_vec(alloc)?, calls, None);
+    let done = pattern(alloc, &lived(&mut site))?;
+    let held = held(alloc, &site)?;
+    Ok(format!(in alloc; "{done} {held}")?)
+}
+
+/// A site that is dead from a call on, and what it holds after a crash.
+pub fn dead(alloc: Global, words: &mut SplitWhitespace<'_>) -> anyhow::Result<String> {
+    let from = words::number(words);
+    let mut site = MemSite::new(alloc, b"ab".to_vec(alloc)?, Vec::new(alloc), Some(from));
+    let done = pattern(alloc, &lived(&mut site))?;
+    let held = held(alloc, &site.crashed(Crash::Lost))?;
+    Ok(format!(in alloc; "{done} {held}")?)
+}
