@@ -2,7 +2,7 @@
 
 use crate::answers::answers;
 use crate::words::{number_at, numbers, words};
-use sdls_outside::{Crash, MemSite, MemSource};
+use sdls_outside::{Crash, MemSite, MemSource, Site};
 use sdls_run::{Gate, Outcome, run};
 use std::alloc::{AllocError, Global};
 use std::mem;
@@ -37,8 +37,8 @@ fn text_put(alloc: Global, sunk: &[u8]) -> anyhow::Result<String> {
     Ok(format!(in alloc; "\n{text}")?)
 }
 
-/// What was gathered: a plan and an input, the calls that are to fail and the pieces of the source; the image as it lies, and the
-/// last site.
+/// What was gathered: a plan and an input, the calls that are to fail and the pieces of the source; the image as it lies, the one
+/// that was kept, and the last site.
 #[derive(Drop)]
 pub struct Table {
     plan: Vec<u8>,
@@ -46,7 +46,9 @@ pub struct Table {
     pieces: usize,
     source: Vec<u64>,
     failing: Vec<u64>,
+    dead: Option<u64>,
     image: Vec<u8>,
+    kept: Vec<u8>,
     last: Option<MemSite>,
 }
 
@@ -59,7 +61,9 @@ impl Table {
             pieces: usize::MAX,
             source: Vec::new(alloc),
             failing: Vec::new(alloc),
+            dead: None,
             image: Vec::new(alloc),
+            kept: Vec::new(alloc),
             last: None,
         }
     }
@@ -117,7 +121,7 @@ impl Table {
         let broken = mem::replace(&mut self.source, Vec::new(alloc));
         let image = mem::replace(&mut self.image, Vec::new(alloc));
         let mut source = MemSource::new(input, self.pieces.max(1), broken);
-        let site = MemSite::new(alloc, image, failing, None);
+        let site = MemSite::new(alloc, image, failing, self.dead.take());
         let Outcome {
             status,
             site,
@@ -167,6 +171,32 @@ impl Table {
         Ok(String::new(alloc))
     }
 
+    /// Octets of the image.
+    fn show(&self, alloc: Global, rest: &str) -> anyhow::Result<String> {
+        let from = usize::try_from(number_at(rest, 0)).unwrap_or(0);
+        let to = from.saturating_add(usize::try_from(number_at(rest, 1)).unwrap_or(0));
+        Ok(hex::encode(alloc, self.image.as_slice().get(from..to).unwrap_or(&[]))?)
+    }
+
+    /// The image's length, whether it is the kept one, or what the last site has sunk.
+    fn told(&self, alloc: Global, word: &str) -> anyhow::Result<String> {
+        match (word, &self.last) {
+            ("sunk", Some(site)) => {
+                let sunk = hex::encode(alloc, site.sunk())?;
+                let faults = site.faults();
+                Ok(format!(in alloc; "sunk {sunk} faults {faults}")?)
+            }
+            ("same", _) if self.image.as_slice() == self.kept.as_slice() => {
+                Ok(format!(in alloc; "same")?)
+            }
+            ("image", _) => {
+                let length = self.image.len();
+                Ok(format!(in alloc; "image of {length}")?)
+            }
+            _ => Ok(format!(in alloc; "no")?),
+        }
+    }
+
     fn setting(&mut self, alloc: Global, word: &str, rest: &str) -> anyhow::Result<String> {
         match word {
             "plan" => self.gather(rest)?,
@@ -175,6 +205,10 @@ impl Table {
             "pieces" => self.pieces = usize::try_from(number_at(rest, 0)).unwrap_or(usize::MAX),
             "source" => self.source = numbers(alloc, rest)?,
             "failing" => self.failing = numbers(alloc, rest)?,
+            "dead" => self.dead = Some(number_at(rest, 0)),
+            "lay" => self.image = hex::decode(alloc, rest)?,
+            "keep" => self.kept = Vec::from_slice(alloc, self.image.as_slice())?,
+            "back" => self.image = Vec::from_slice(alloc, self.kept.as_slice())?,
             _ => self.image.clear(),
         }
         Ok(String::new(alloc))
@@ -189,18 +223,24 @@ impl Table {
         let (word, rest) = line.split_once(' ').unwrap_or((line, ""));
         match word {
             "#" => Ok(format!(in alloc; "{line}")?),
-            "plan" | "records" | "fence" | "pieces" | "source" | "failing" | "lose" => self.setting(
-                alloc, word, rest,
-            ),
+            "plan"
+            | "records"
+            | "fence"
+            | "pieces"
+            | "source"
+            | "failing"
+            | "dead"
+            | "lay"
+            | "keep"
+            | "back"
+            | "lose" => { self.setting(alloc, word, rest) }
             "protect" | "open" | "command" => self.record(alloc, word, rest),
             "octets" => self.octets(alloc, rest),
             "init" => self.init(rt, alloc),
             "crash" => self.crash(alloc, rest),
             "set" => self.set(alloc, rest),
-            "image" => {
-                let length = self.image.len();
-                Ok(format!(in alloc; "image of {length}")?)
-            }
+            "show" => self.show(alloc, rest),
+            "image" | "same" | "sunk" => self.told(alloc, word),
             _ => self.other(rt, alloc, line),
         }
     }
