@@ -1,51 +1,12 @@
-// A source that fails at each call, and a site that does.
+// A site that fails at each call.
 use crate::support::{
-    BEGINNING, CALLS_OF_FIVE, NUMBERS, PLAN, RECORD, failing_site, image_of, joined, life,
-    life_of_frames, push_bare, push_head, whole,
+    CALLS_OF_FIVE, NUMBERS, PLAN, failing_site, image_of, life_of_frames, push_bare, push_head,
+    whole,
 };
-use sdls_outside::{Crash, MemSite, MemSource};
-use sdls_run::status::{DONE, SITE_FAULT, SOURCE_FAULT};
+use sdls_outside::Crash;
+use sdls_run::status::{DONE, SITE_FAULT};
 use std::alloc::{AllocError, Global};
 use std::test::Fail;
-
-/// How many frames of two are whole in the first octets of an input.
-fn frames_within(octets: u64) -> usize {
-    match octets {
-        0..20 => 0,
-        20..32 => 1,
-        _ => 2,
-    }
-}
-
-#[test]
-fn answers_the_frames_before_a_fault_of_the_source(rt: HostRuntime) -> Result<(), Fail> {
-    let alloc = rt.alloc();
-    let image = image_of(alloc, PLAN, 168)?;
-    // The last call finds the end of the input, and no later one is made.
-    for call in 0..34 {
-        let input = joined(alloc, &[BEGINNING, RECORD, RECORD])?;
-        let mut source = MemSource::new(input, 1, vec![in alloc; call]?);
-        let site = MemSite::new(
-            alloc,
-            image.as_slice().to_vec(alloc)?,
-            Vec::new(alloc),
-            None,
-        );
-        let (status, _, site) = life(&rt, alloc, &mut source, site)?;
-        let frames = frames_within(call);
-        let numbers = NUMBERS.get(..frames).ok_or("more frames than numbers")?;
-        let position = if frames == 0 { 0 } else { 2 };
-        let (ended, count) = if call == 33 {
-            (DONE, 0)
-        } else {
-            (SOURCE_FAULT, 1)
-        };
-        let answers = whole(alloc, numbers, ended, position, count)?;
-        assert_eq!(rt; site.sunk(), answers.as_slice(), "at call {call}");
-        assert_eq!(rt; status, ended, "at call {call}");
-    }
-    Ok(())
-}
 
 /// The number of the first answer.
 fn first_number(sunk: &[u8]) -> Result<u32, Fail> {

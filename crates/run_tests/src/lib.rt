@@ -4,13 +4,9 @@
 #![tactic(auto)]
 
 #[cfg(test)]
-mod answers;
-#[cfg(test)]
 mod check;
 #[cfg(test)]
 mod faults;
-#[cfg(test)]
-mod init;
 #[cfg(test)]
 mod inputs;
 #[cfg(test)]

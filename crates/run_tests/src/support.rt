@@ -1,10 +1,8 @@
 // What the tests share: words, images, runs, and the answers that are due. The octets are written by hand from the formats;
 // the MACs come from an AES-CMAC of another hand, tried on the vectors of RFC 4493.
 use sdls_outside::{MemSite, Source, SureSource};
-use sdls_run::status::DONE;
 use sdls_run::{Gate, Outcome, run};
 use std::alloc::{AllocError, Global};
-use std::process::Abort;
 use std::sync::Wait;
 use std::test::Fail;
 use std::thread::Threads;
@@ -51,47 +49,17 @@ pub(crate) const FENCE: &[u8] = &[0; 6];
 /// A recorded frame of link 0 with an empty data field: the header of the record, then six octets.
 pub(crate) const RECORD: &[u8] = b"\x01\x00\x00\x00\x00\x06\x00\x2a\x14\x05\x09\xc3";
 
-/// What stands behind the first six octets of longer frames.
-pub(crate) const REST_OF_1002: &[u8] = &[0; 996];
-
-pub(crate) const REST_OF_1003: &[u8] = &[0; 997];
-
-pub(crate) const WHOLE_OF_2049: &[u8] = &[0; 2049];
-
 /// The numbers from 1 on, and the MAC of that frame under each.
-pub(crate) const NUMBERS: [(u32, &str); 16] = [
+pub(crate) const NUMBERS: [(u32, &str); 5] = [
     (1, "7cf76aa4d9748ee706403df61c55efee"),
     (2, "3c0b3f9971ea8e4ba7f762d45545dc52"),
     (3, "7ed17e0c2b983c3db9e70cf5df9af108"),
     (4, "02c96e68e31317c00ad77df9d16a0e76"),
     (5, "bab7e412062d1f67a829af4fdeb348ea"),
-    (6, "b723c6f998e537376e3da0696f0299b9"),
-    (7, "c0a5a7b1979f837aa432cf03a35ce83b"),
-    (8, "ebfe947a4368f456c6b2f904fb07e8f5"),
-    (9, "09f21c09768b1601f7b4dbfea22dd527"),
-    (10, "59f30a44938887edeb2766b0a706a7d7"),
-    (11, "dfa4e0bb4b8be7a19c2722ffeac1a928"),
-    (12, "4176227685e0c86fd58e89c41490a11f"),
-    (13, "a119a4880c8fab72cb0b02f69a00b598"),
-    (14, "61c28e9a7c41383ec62d02ad44ffada9"),
-    (15, "ba325d17ba7d660ab96121cd973506d6"),
-    (16, "80e01ae9226dd4097aee8fe0c51e259a"),
 ];
-
-/// The greatest number of a key, and the MAC of that frame under it.
-pub(crate) const LAST_NUMBER: [(u32, &str); 1] = [(
-    4_294_967_295,
-    "a4989f09105d786f0f20e4902447078c",
-)];
 
 /// The first call of the site, from 0 on, behind the opening of the image.
 pub(crate) const CALL_AFTER_OPENING: u64 = 22;
-
-/// The call that is the last sync of the first append: its gate is written, and not yet synced.
-pub(crate) const SYNC_OF_THE_GATE: u64 = 25;
-
-/// The call that follows the fourth answer.
-pub(crate) const CALL_AFTER_FOUR: u64 = 30;
 
 /// The calls of a run with five frames, each with a segment of its own: the opening, two appends, a put for each segment and for the
 /// one behind the last fence, the append of the release, and the put of End.
@@ -228,17 +196,4 @@ pub(crate) fn whole(
     let mut octets = protected(alloc, numbers)?;
     push_bare(&mut octets, [0xff, status], position, number)?;
     Ok(octets)
-}
-
-/// Runs over one frame: it gets the number of the table. One entry is made for it, and one by the release of what was not used.
-pub(crate) fn goes_on_with<R: Threads + Wait + Sync + Abort>(
-    rt: &R,
-    alloc: Global,
-    site: MemSite,
-    numbers: &[(u32, &str)],
-) -> Result<(), Fail> {
-    let (status, entries, site) = life_of(rt, alloc, &[BEGINNING, RECORD], site)?;
-    assert_eq!(rt; site.sunk(), whole(alloc, numbers, DONE, 2, 0)?.as_slice());
-    assert_eq!(rt; (status, entries), (DONE, 2));
-    Ok(())
 }
