@@ -11,8 +11,6 @@ mod octet;
 mod round;
 mod schedule;
 mod tables;
-#[cfg(test)]
-mod tests;
 
 pub use octet::inverse_is_inverse;
 pub use schedule::{KeyLength, Schedule};

@@ -4,6 +4,7 @@
 
 mod plain;
 mod published;
+mod vectors;
 
 use aes_block::Schedule;
 use cmac::{Running, mac};
@@ -13,8 +14,9 @@ use published::published;
 use sdls_base::fecf;
 use std::io;
 use std::num::NonZeroUsize;
+use vectors::{published_blocks, published_macs, published_macs_by_pieces, refused_lengths};
 
-fn mac_by_pieces(key: &Schedule, text: &[u8], piece: NonZeroUsize) -> [u8; 16] {
+pub fn mac_by_pieces(key: &Schedule, text: &[u8], piece: NonZeroUsize) -> [u8; 16] {
     let mut running = Running::new(key);
     for part in text.chunks(piece.get()) {
         running.update(part);
@@ -117,40 +119,6 @@ fn fields() -> u32 {
     agreed
 }
 
-/// SP 800-38B, D.3: the MAC of the first octets of the text of SP 800-38A under AES-256.
-const MACS_256: [(usize, u128); 4] = [
-    (0, 0x028962f61b7bf89efc6b551f4667d983),
-    (16, 0x28a7023f452e8f82bd4bf28d8c37c35c),
-    (40, 0xaaf3d8f1de5640c232f5b169b9c911e6),
-    (64, 0xe1992190549f6ed5696a2c056c315410),
-];
-
-/// The key and the text of SP 800-38A.
-const KEY_256: [u8; 32] = [
-    0x60, 0x3d, 0xeb, 0x10, 0x15, 0xca, 0x71, 0xbe, 0x2b, 0x73, 0xae, 0xf0, 0x85, 0x7d, 0x77, 0x81,
-    0x1f, 0x35, 0x2c, 0x07, 0x3b, 0x61, 0x08, 0xd7, 0x2d, 0x98, 0x10, 0xa3, 0x09, 0x14, 0xdf, 0xf4,
-];
-
-const TEXT: [u8; 64] = [
-    0x6b, 0xc1, 0xbe, 0xe2, 0x2e, 0x40, 0x9f, 0x96, 0xe9, 0x3d, 0x7e, 0x11, 0x73, 0x93, 0x17, 0x2a,
-    0xae, 0x2d, 0x8a, 0x57, 0x1e, 0x03, 0xac, 0x9c, 0x9e, 0xb7, 0x6f, 0xac, 0x45, 0xaf, 0x8e, 0x51,
-    0x30, 0xc8, 0x1c, 0x46, 0xa3, 0x5c, 0xe4, 0x11, 0xe5, 0xfb, 0xc1, 0x19, 0x1a, 0x0a, 0x52, 0xef,
-    0xf6, 0x9f, 0x24, 0x45, 0xdf, 0x4f, 0x9b, 0x17, 0xad, 0x2b, 0x41, 0x7b, 0xe6, 0x6c, 0x37, 0x10,
-];
-
-fn published_macs() -> u32 {
-    let Ok(key) = Schedule::new(&KEY_256) else {
-        return 0;
-    };
-    let mut agreed = 0u32;
-    for (length, wanted) in MACS_256 {
-        if length <= 64 && mac(&key, &TEXT[..length]) == wanted.to_be_bytes() {
-            agreed = agreed.wrapping_add(1);
-        }
-    }
-    agreed
-}
-
 fn main(rt: HostRuntime) -> io::Result<()> {
     let Ok(key) = Schedule::new(&[5; 16]) else {
         return Err(io::ErrorKind::InvalidInput.into());
@@ -164,5 +132,11 @@ fn main(rt: HostRuntime) -> io::Result<()> {
         return Err(io::ErrorKind::OutOfMemory.into());
     };
     println!(rt; "GCM at each length: {agreed} agree")?;
-    println!(rt; "published MACs under 256 bits: {} agree", published_macs())
+    println!(rt; "published blocks: {} agree", published_blocks())?;
+    println!(rt; "refused key lengths: {} agree", refused_lengths())?;
+    println!(rt; "published MACs: {} agree", published_macs())?;
+    println!(rt;
+        "published MACs by pieces: {} agree",
+        published_macs_by_pieces()
+    )
 }

@@ -6,8 +6,6 @@
 
 mod block;
 mod running;
-#[cfg(test)]
-mod tests;
 
 pub use block::mac;
 pub use running::Running;
