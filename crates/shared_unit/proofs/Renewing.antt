@@ -139,6 +139,7 @@ module _ {O : Type 0} (told : Bool) (trace : O → Trace) (faults puts : O → �
       let same = ap (λ (k : Numbers). k.tickets) funded.0 in (
         (
           need.0,
+          need.1.later,
           funded.1.4 ∙ ap entry_count (sym known),
           (
             t.1,
@@ -251,6 +252,7 @@ module _ {O : Type 0} (told : Bool) (trace : O → Trace) (faults puts : O → �
           by_answer (answers.Exhausted key n epoch) k = ((k.0, k.1, k.2, k.3, (let low = seen in let same = k.2 in omega arith)), inr (taken Rests k.5))
           by_answer (answers.Fault fault position) k = (
             k.0,
+            seen,
             k.1 ∙ ap entry_count (sym known),
             (k.3.0, k.3.1, inl k.3.2, taken (Reserves faults p.binding.key k.3.0 (Err fault)) k.3.3),
           )
@@ -305,12 +307,13 @@ module _ {O : Type 0} (told : Bool) (trace : O → Trace) (faults puts : O → �
   )
   under_from (answers.Fault fault position) v u w same turn h = (
     h.0,
-    h.1,
+    (let on = seen_on v.turn u.turn turn in let low = h.1 in omega arith),
+    h.2,
     (
-      h.2.0,
-      h.2.1,
-      subst (λ (k : Numbers). Draws p.row (end_of p.binding.key) h.2.0 k w.numbers ⊎ ComesBack p.row (end_of p.binding.key) h.2.0 k w.numbers) same h.2.2,
-      takes_on told trace faults puts (Reserves faults p.binding.key h.2.0 (Err fault)) v.turn u.turn w.turn turn h.2.3,
+      h.3.0,
+      h.3.1,
+      subst (λ (k : Numbers). Draws p.row (end_of p.binding.key) h.3.0 k w.numbers ⊎ ComesBack p.row (end_of p.binding.key) h.3.0 k w.numbers) same h.3.2,
+      takes_on told trace faults puts (Reserves faults p.binding.key h.3.0 (Err fault)) v.turn u.turn w.turn turn h.3.3,
     ),
   )
 

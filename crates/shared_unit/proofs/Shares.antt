@@ -42,7 +42,7 @@ module _ {O : Type 0} (told : Bool) (trace : O → Trace) (faults puts : O → �
   kept_shares p clear out answers.Clear v w h = absurd h
   kept_shares p clear out (answers.Refused fault epoch) v w h = ap (λ (k : Numbers). k.shares) h.2
   kept_shares p clear out (answers.Exhausted key n epoch) v w h = out_shares _ _ _ v.numbers w.numbers h.0.3
-  kept_shares p clear out (answers.Fault fault position) v w h = either_shares _ _ _ v.numbers w.numbers h.2.2
+  kept_shares p clear out (answers.Fault fault position) v w h = either_shares _ _ _ v.numbers w.numbers h.3.2
 
   pub step_shares : (plan : PlanLines) (link : ℕ) (clear out : List ℕ) (kept : Option Permit) (a : Protected) (v w : View)
       → IsProtectStep told trace faults puts plan link clear out kept a v w → w.numbers.shares ≡ v.numbers.shares
@@ -50,7 +50,7 @@ module _ {O : Type 0} (told : Bool) (trace : O → Trace) (faults puts : O → �
   step_shares plan link clear out kept answers.Clear v w h = ap (λ (k : Numbers). k.shares) h.1
   step_shares plan link clear out kept (answers.Refused fault epoch) v w h = ap (λ (k : Numbers). k.shares) h.1
   step_shares plan link clear out kept (answers.Exhausted key n epoch) v w h = out_shares _ _ _ v.numbers w.numbers h.2.0.3
-  step_shares plan link clear out kept (answers.Fault fault position) v w h = either_shares _ _ _ v.numbers w.numbers h.2.2.2
+  step_shares plan link clear out kept (answers.Fault fault position) v w h = either_shares _ _ _ v.numbers w.numbers h.2.3.2
 
 module _ {O : Type 0} (faults : O → ℕ) where
   satisfied_shares : (need : Need) (seen : Seen) (found middle : BookView O) (v w : Numbers) → Satisfies faults need seen found middle v w

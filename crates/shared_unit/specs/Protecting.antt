@@ -116,9 +116,10 @@ module _ {O : Type 0} (told : Bool) (trace : O → Trace) (faults puts : O → �
   abbrev pub TakesAtMostOnce : Turn → Turn → Type 0
   TakesAtMostOnce v w = MayTakeTurn (λ found given. (key : ℕ) × AddsReserve key found given) v w
 
-  -- the reserve of a number that was drawn was refused
+  -- the reserve of a number that was drawn was refused, in an epoch that is no less than the one seen before
   abbrev pub IsRefusedUnder : Permit → List ℕ → BookFault → ℕ → View → View → Type 0
-  IsRefusedUnder p clear fault position v w = (clear_fault p.binding clear ≡ None) × (position ≡ entry_count w.turn.known)
+  IsRefusedUnder p clear fault position v w = (clear_fault p.binding clear ≡ None) × (epoch_seen v.turn ≤ p.epoch)
+      × (position ≡ entry_count w.turn.known)
       × ((n : ℕ) × (n < end_of p.binding.key)
       × (Draws p.row (end_of p.binding.key) n v.numbers w.numbers ⊎ ComesBack p.row (end_of p.binding.key) n v.numbers w.numbers)
       × TakesTurn (Reserves faults p.binding.key n (Err fault)) v.turn w.turn)

@@ -166,7 +166,7 @@ module _ {O : Type 0} (told : Bool) (trace : O → Trace) (faults puts : O → �
     reached = used.trusted.reached
 
     -- the binding, in the state of the permit's epoch
-    bound : clear_fault p.binding task.octets ≡ None
+    pub bound : clear_fault p.binding task.octets ≡ None
         → protect_reply begin.plan (at_epoch begin.start (entries_in w) p.epoch) task.link task.octets ≡ Ok (Some p.binding)
     bound fits =
         let t = used.trusted in
@@ -182,7 +182,7 @@ module _ {O : Type 0} (told : Bool) (trace : O → Trace) (faults puts : O → �
         (bound_reply v.turn.known.opening.plan state task.link task.octets p.binding
         (bound_check v.turn.known.opening.plan state task.link task.octets p.channel p.binding channel line sender) fits))
 
-    place_then : place_of (at_epoch begin.start (entries_in w) p.epoch).keys p.binding.key ≡ Some p.row
+    pub place_then : place_of (at_epoch begin.start (entries_in w) p.epoch).keys p.binding.key ≡ Some p.row
     place_then = subst (λ (s : State). place_of (at_epoch s (entries_in w) p.epoch).keys p.binding.key ≡ Some p.row) start_is used.trusted.row
 
     pub row_is : IsRow begin w p.binding.key p.row
@@ -440,5 +440,5 @@ module _ {O : Type 0} (told : Bool) (trace : O → Trace) (faults puts : O → �
       refuses_at plan planned_is fault epoch refused_it numbers
   protecting_answers plan kept out (protecteds.Exhausted key n epoch) planned_is (p, used, (is, turn)) =
       exhausted p (subst (λ (q : PlanLines). IsUsed q task.link task.octets p w.turn) (sym planned_is) used) key n epoch is turn
-  protecting_answers plan kept out (protecteds.Fault fault position) planned_is (p, used, (fits, at, (n, below, drawn, t))) =
+  protecting_answers plan kept out (protecteds.Fault fault position) planned_is (p, used, (fits, later, at, (n, below, drawn, t))) =
       failed p (subst (λ (q : PlanLines). IsUsed q task.link task.octets p w.turn) (sym planned_is) used) fault position n fits at below drawn t

@@ -267,5 +267,5 @@ module _ {O : Type 0} (told : Bool) (trace : O → Trace) (faults puts : O → �
         by_refusal (inr (f, low, turn)) = rests_finish Kept (moves_none begin v w numbers) turn
   protects_exactly plan kept out (protecteds.Exhausted key n epoch) planned_is (p, used, (is, turn)) =
       exhausted p (subst (λ (q : PlanLines). IsUsed q task.link task.octets p w.turn) (sym planned_is) used) key n epoch is turn
-  protects_exactly plan kept out (protecteds.Fault fault position) planned_is (p, used, (fits, at, (n, below, drawn, t))) =
+  protects_exactly plan kept out (protecteds.Fault fault position) planned_is (p, used, (fits, later, at, (n, below, drawn, t))) =
       failed p (subst (λ (q : PlanLines). IsUsed q task.link task.octets p w.turn) (sym planned_is) used) fault position n at drawn t
