@@ -8,9 +8,7 @@ ghost use Rattle.record_io.specs.declared.status.TheConstants.{DONE, SITE_FAULT,
 ghost use Rattle.unit_plan.specs.PlanLines.{PlanLines};
 ghost use Rattle.unit_state.specs.declared.state.State.{State};
 ghost use Rattle.unit_image.specs.Shows.{ShowsNone};
-ghost use Rattle.unit_machine.specs.Machine.{SameKinds};
 ghost use Rattle.unit_runs.specs.Sound.{IsSound};
-ghost use Rattle.run_ends.specs.Alone.{IsExact};
 ghost use Rattle.run_ends.specs.declared.end.RunEnd.TheVariants as ends;
 ghost use Rattle.run_ends.specs.Call.{CallSeen, image_at_entry, ShowsAtEntry};
 ghost use Rattle.run_ends.specs.Account.{Account, TellsFault, begin_of, course_of, due_octets, end_status};
@@ -20,7 +18,6 @@ ghost use Rattle.run_ends.specs.Says.{DidAll, GoesToItsEnd, IsFullHistory, IsLef
 
 use record_io::input_reads_once;
 use unit_image::refused_with_one;
-use unit_machine::machine_is_one;
 use unit_runs::used_once_in_a_life;
 
 /// Law: status 0 says that all was read, answered and put.
@@ -103,16 +100,4 @@ pub fn one_input_is_handled_alike()
         → (again.account.handled ≡ run.account.handled) × (length again.account.answers ≡ length run.account.answers) }
 {
     input_reads_once();
-}
-
-/// Law: of two runs from one state, each of one lane, whose moves are of the same kinds, the moves are the same: they found the
-/// same words and drew the same numbers, and the keys were released by the same words.
-pub fn one_lane_moves_alike()
-    ensures { (call other : CallSeen) (account again : Account) (state : State) (words more : List ℕ) (ends stops : ℕ)
-        (one : IsExact call account state words ends) (two : IsExact other again state more stops)
-        → SameKinds (one.moves ++ one.beyond) (two.moves ++ two.beyond)
-        → (one.moves ++ one.beyond ≡ two.moves ++ two.beyond)
-        × ((row : ℕ) → row < MOST_KEYS → slice_index words row ≡ slice_index more row) }
-{
-    machine_is_one();
 }

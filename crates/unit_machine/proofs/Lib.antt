@@ -1,2 +1,4 @@
 pub mod Machines
+pub mod Turns
 pub mod Alone
+pub mod Once

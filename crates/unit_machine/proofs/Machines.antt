@@ -23,12 +23,12 @@ use Rattle.unit_history.specs.Entries.{IsStepOf}
 use Rattle.unit_history.specs.Legal.{KeyOf}
 use Rattle.unit_history.specs.Numbers.{mark_of}
 use Rattle.unit_work.specs.Begin.{Begin}
-use Rattle.unit_work.specs.Views.{Grows, log_of, entries_in, starting, meeting}
+use Rattle.unit_work.specs.Views.{Grows, log_of, entries_in}
 use Rattle.unit_work.specs.Deeds.{Deed}
 use Rattle.unit_work.proofs.Histories.{get_front, row_kept}
 use Rattle.unit_work.proofs.Logs.{stands_both}
 use Rattle.unit_work.proofs.Working.{grown_entries}
-use Rattle.unit_machine.specs.Machine.{Move, Kept, Found, Drew, Raised, Overdrew, adds, adds_all, IsAt, moved, Runs, SameKind, SameKinds}
+use Rattle.unit_machine.specs.Machine.{Move, Kept, Found, Drew, Raised, Overdrew, adds, adds_all, IsAt, moved, Runs}
 use Rattle.unit_machine.specs.Exact.{words_in, Shown, TellsSeen, TellsProtect, TellsCommand, TellsKind, Tells, TellAll, IsDrawn, Exact}
 
 after_both : (state : State) (es more : List Entry) → after state (es ++ more) ≡ after (after state es) more
@@ -216,6 +216,16 @@ exact_then begin u v w m n ds es last a below grows b =
           (runs_same begin.rows (words_in v) (λ row. words_in u row + adds_all row a.moves) same (b.moves ++ last) right));
     }
 
+pub nothing_moves : (begin : Begin) (v : View) → (exact_nothing begin v).moves ≡ []
+unfolding exact_nothing
+nothing_moves begin v = refl
+
+pub then_moves : (begin : Begin) (u v w : View) (m n : List ℕ) (ds es : List Deed) (last : List Move) (a : Exact begin u v m ds [])
+    (below : (place : ℕ) → 0 < stands place m → place < length (log_of v)) (grows : Grows v w) (b : Exact begin v w n es last)
+    → (exact_then begin u v w m n ds es last a below grows b).moves ≡ a.moves ++ b.moves
+unfolding exact_then
+then_moves begin u v w m n ds es last a below grows b = refl
+
 -- one move
 pub exact_move : (begin : Begin) (old new : View) (made : List ℕ) (deed : Deed) (move : Move) → Tells begin.start (entries_in new) deed move
     → ((place : ℕ) → 0 < stands place made → IsDrawn (move ∷ []) (slice_get (log_of new) place))
@@ -232,25 +242,14 @@ exact_move begin old new made deed move told reserves added grown at = record {
   exact = λ still. (at (λ row low. let s = still row low in omega arith), tt);
 }
 
--- A worker that was split off and did nothing is joined again.
-pub exact_idle : (begin : Begin) (u v w : View) (m : List ℕ) (ds : List Deed) (last : List Move) → (a : Exact begin u v m ds last)
-    → ((place : ℕ) → 0 < stands place m → place < length (log_of v)) → Grows u v
-    → w ≡ starting u → Grows v (meeting v w) → Exact begin u (meeting v w) m ds last
-exact_idle begin u v w m ds last a below grows idle on =
-    let nexts : (row : ℕ) → words_in (meeting v w) row ≡ max (words_in v row) (words_in w row) = λ row. top-append row v.numbers.nexts w.numbers.nexts in
-    let same : (row : ℕ) → words_in w row ≡ words_in u row = λ row. ap (λ (z : View). words_in z row) idle in
-    let none : (row : ℕ) → amount row w.numbers.added ≡ 0 = λ row. ap (λ (z : View). amount row z.numbers.added) idle in
-    record {
-      moves = a.moves;
-      told = tell_on begin v (meeting v w) on ds a.moves a.told;
-      reserves = λ place in'.
-          let line : slice_get (log_of (meeting v w)) place ≡ slice_get (log_of v) place =
-          ap (λ (l : List Logged). slice_get l place) on.earlier.log.1 ∙ get_front (log_of v) on.earlier.log.0 place (below place in') in
-          subst (IsDrawn (a.moves ++ last)) (sym line) (a.reserves place in');
-      added = λ row. let p = amount-append row v.numbers.added w.numbers.added in let n = none row in let q = a.added row in omega arith;
-      grown = λ row. let p = nexts row in let q = a.grown row in omega arith;
-      exact = λ still. a.exact (λ row low. let p = nexts row in let s = still row low in let q = same row in let g = grows.nexts row in omega arith);
-    }
+pub move_moves : (begin : Begin) (old new : View) (made : List ℕ) (deed : Deed) (move : Move) (told : Tells begin.start (entries_in new) deed move)
+    (reserves : (place : ℕ) → 0 < stands place made → IsDrawn (move ∷ []) (slice_get (log_of new) place))
+    (added : (row : ℕ) → amount row new.numbers.added ≡ amount row old.numbers.added + adds row move)
+    (grown : (row : ℕ) → words_in old row + adds row move ≤ words_in new row)
+    (at : ((row : ℕ) → row < begin.rows → words_in new row ≡ words_in old row + adds row move) → IsAt begin.rows (words_in old) move)
+    → (exact_move begin old new made deed move told reserves added grown at).moves ≡ move ∷ []
+unfolding exact_move
+move_moves begin old new made deed move told reserves added grown at = refl
 
 -- At the end of a run that one worker did alone, what the words grew by is what the moves added: the moves are the machine's.
 pub alone : (begin : Begin) (first now : View) (made : List ℕ) (deeds : List Deed) (last : List Move) → (a : Exact begin first now made deeds last)
@@ -278,44 +277,3 @@ raised_alone rows old new row word number low least most still =
     let s = still row low in
     let one : adds row (Raised row word number) ≡ number - word = ap (λ (b : Bool). if b then number - word else 0) (eq-eqb row row refl) in
     (low, omega arith)
-
-one_move : (rows : ℕ) (words : ℕ → ℕ) (a b : Move) → SameKind a b → IsAt rows words a → IsAt rows words b → a ≡ b
-one_move rows words Kept Kept same x y = refl
-one_move rows words (Found row word) (Found other found) same x y =
-    ap (λ (r : ℕ). Found r word) same ∙ ap (λ (w : ℕ). Found other w) (x.1 ∙ (ap words same ∙ sym y.1))
-one_move rows words (Drew row number) (Drew other drawn) same x y =
-    ap (λ (r : ℕ). Drew r number) same ∙ ap (λ (w : ℕ). Drew other w) (x.1 ∙ (ap words same ∙ sym y.1))
-one_move rows words (Raised row word number) (Raised other found raised) same x y =
-    ap (λ (r : ℕ). Raised r word number) same.0 ∙ (ap (λ (w : ℕ). Raised other w number) (x.1 ∙ (ap words same.0 ∙ sym y.1))
-    ∙ ap (λ (n : ℕ). Raised other found n) same.1)
-one_move rows words (Overdrew row number) (Overdrew other drawn) same x y = absurd x
-one_move rows words Kept (Overdrew row number) same x y = absurd same
-one_move rows words (Found row word) (Overdrew other number) same x y = absurd same
-one_move rows words (Drew row number) (Overdrew other drawn) same x y = absurd same
-one_move rows words (Raised row word number) (Overdrew other drawn) same x y = absurd same
-one_move rows words (Overdrew row number) Kept same x y = absurd same
-one_move rows words (Overdrew row number) (Found other word) same x y = absurd same
-one_move rows words (Overdrew row number) (Drew other drawn) same x y = absurd same
-one_move rows words (Overdrew row number) (Raised other word raised) same x y = absurd same
-one_move rows words Kept (Found row word) same x y = absurd same
-one_move rows words Kept (Drew row number) same x y = absurd same
-one_move rows words Kept (Raised row word number) same x y = absurd same
-one_move rows words (Found row word) Kept same x y = absurd same
-one_move rows words (Found row word) (Drew other number) same x y = absurd same
-one_move rows words (Found row word) (Raised other found number) same x y = absurd same
-one_move rows words (Drew row number) Kept same x y = absurd same
-one_move rows words (Drew row number) (Found other word) same x y = absurd same
-one_move rows words (Drew row number) (Raised other word raised) same x y = absurd same
-one_move rows words (Raised row word number) Kept same x y = absurd same
-one_move rows words (Raised row word number) (Found other found) same x y = absurd same
-one_move rows words (Raised row word number) (Drew other drawn) same x y = absurd same
-
--- The machine is a function: from the same words, moves of the same kinds find the same words and draw the same numbers.
-pub runs_once : (rows : ℕ) (words : ℕ → ℕ) (ms ns : List Move) → SameKinds ms ns → Runs rows words ms → Runs rows words ns → ms ≡ ns
-runs_once rows words [] [] same x y = refl
-runs_once rows words [] (b ∷ ns) same x y = absurd same
-runs_once rows words (a ∷ ms) [] same x y = absurd same
-runs_once rows words (a ∷ ms) (b ∷ ns) same x y =
-    let one : a ≡ b = one_move rows words a b same.0 x.0 y.0 in
-    ap (λ (m : Move). m ∷ ms) one ∙ ap (λ (l : List Move). b ∷ l)
-    (runs_once rows (moved words b) ms ns same.1 (subst (λ (m : Move). Runs rows (moved words m) ms) one x.1) y.1)

@@ -7,6 +7,7 @@ use Rattle.unit_work.specs.Begin.{Begin}
 use Rattle.unit_work.specs.Deeds.{Deed}
 use Rattle.unit_machine.specs.Machine.{Move}
 use Rattle.unit_machine.specs.Exact.{Exact}
+use Rattle.unit_machine.specs.InTurn.{ServedBetween, ServedInTurn}
 
 -- all records are of one lane
 abbrev pub OneLane : List Record → Type 0
@@ -21,3 +22,15 @@ pub record MovedExactly (begin : Begin) (old new : View) (count : ℕ) (deeds : 
   pub few : length last ≤ 1
   pub each : length deeds ≡ count → last ≡ []
   pub exact : Exact begin old new made deeds last
+
+-- The same, and the records were served in turn, each from the history that those before it left.
+pub record MovedInTurn (begin : Begin) (old new : View) (count : ℕ) (deeds : List Deed) : Type 0 where
+  pub moved : MovedExactly begin old new count deeds
+  pub spent : List (ℕ × ℕ)
+  pub in_turn : ServedInTurn begin old new moved.made spent deeds moved.exact.moves moved.last
+
+-- The same of a worker that split one off for them, and was joined again.
+pub record ServedAlone (begin : Begin) (old new : View) (count : ℕ) (deeds : List Deed) : Type 0 where
+  pub moved : MovedExactly begin old new count deeds
+  pub spent : List (ℕ × ℕ)
+  pub between : ServedBetween begin old new moved.made spent deeds moved.exact.moves moved.last

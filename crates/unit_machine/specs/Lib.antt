@@ -1,3 +1,5 @@
 pub mod Machine
+pub mod Serving
+pub mod InTurn
 pub mod Exact
 pub mod Alone

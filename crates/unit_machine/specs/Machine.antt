@@ -38,17 +38,3 @@ moved words move row = words row + adds row move
 abbrev pub Runs : ℕ → (ℕ → ℕ) → List Move → Type 0
 Runs rows words [] = ⊤
 Runs rows words (move ∷ moves) = IsAt rows words move × Runs rows (moved words move) moves
-
--- two moves of one kind, on one row, and to one number where they raise: they may differ in the word that they found alone
-abbrev pub SameKind : Move → Move → Type 0
-SameKind Kept Kept = ⊤
-SameKind (Found row word) (Found other found) = row ≡ other
-SameKind (Drew row number) (Drew other drawn) = row ≡ other
-SameKind (Raised row word number) (Raised other found raised) = (row ≡ other) × (number ≡ raised)
-SameKind (Overdrew row number) (Overdrew other drawn) = row ≡ other
-SameKind one other = ⊥
-
-abbrev pub SameKinds : List Move → List Move → Type 0
-SameKinds [] [] = ⊤
-SameKinds (one ∷ ones) (other ∷ others) = SameKind one other × SameKinds ones others
-SameKinds ones others = ⊥

@@ -1,5 +1,5 @@
 //! Laws of what one lane did alone.
-ghost use Rattle.std.specs.Prelude.{◌≡◌, ℕ, ◌+◌, ◌<◌, ◌≤◌, List, [], ◌∷◌, ◌++◌, length, slice_get};
+ghost use Rattle.std.specs.Prelude.{◌≡◌, ℕ, ◌+◌, ◌<◌, ◌≤◌, IsTrue, List, [], ◌∷◌, ◌++◌, length, map, slice_get};
 ghost use Rattle.counter_table.specs.declared.view.View.{View};
 ghost use Rattle.counter_table.specs.Numbers.{amount};
 ghost use Rattle.counter_table.specs.Turn.{stands};
@@ -7,8 +7,15 @@ ghost use Rattle.counter_table.specs.Whole.{IsWhole};
 ghost use Rattle.unit_work.specs.Begin.{Begin};
 ghost use Rattle.unit_work.specs.Views.{Grows, entries_in, log_of, meeting, starting};
 ghost use Rattle.unit_work.specs.Deeds.{Deed};
-ghost use Rattle.unit_machine.specs.Machine.{adds, IsAt, Move, Runs, SameKinds};
+ghost use Rattle.sdls_base.specs.declared.entry.Entry.{Entry};
+ghost use Rattle.unit_state.specs.State.{KeepsRules};
+ghost use Rattle.unit_state.specs.History.{after};
+ghost use Rattle.unit_machine.specs.Machine.{adds, IsAt, Move, Runs};
+ghost use Rattle.unit_machine.specs.Serving.{AreServed, SameTasks, ServesAll};
 ghost use Rattle.unit_machine.specs.Exact.{Exact, IsDrawn, Tells, words_in};
+
+use frame_shield::protected_once;
+use unit_history::{messages_have_one_step, messages_need_one, openings_tell_one};
 
 /// Law: who did nothing did so exactly.
 pub fn exact_nothing()
@@ -35,14 +42,6 @@ pub fn exact_then()
         → Grows mid new → Exact begin mid new later more last → Exact begin old new (made ++ later) (deeds ++ more) last }
 {}
 
-/// Law: a worker that was split off and did nothing changes nothing of it when it is joined again.
-pub fn exact_idle()
-    ensures { (begin : Begin) (old one other : View) (made : List ℕ) (deeds : List Deed) (last : List Move)
-        → Exact begin old one made deeds last → ((place : ℕ) → 0 < stands place made → place < length (log_of one))
-        → Grows old one → other ≡ starting old → Grows one (meeting one other)
-        → Exact begin old (meeting one other) made deeds last }
-{}
-
 /// Law: at the end of a run that one worker did alone the words grew by its moves, so that they are the machine's, from the words
 /// of the first view.
 pub fn alone_is_exact()
@@ -52,8 +51,20 @@ pub fn alone_is_exact()
         → Runs begin.rows (words_in first) (exact.moves ++ last) }
 {}
 
-/// Law: the machine is one: from the same words, moves of the same kinds find the same words and draw the same numbers.
-pub fn machine_is_one()
-    ensures { (rows : ℕ) (words : ℕ → ℕ) (moves others : List Move) → SameKinds moves others
-        → Runs rows words moves → Runs rows words others → moves ≡ others }
-{}
+/// Law: one lane alone answers once. From one history and the same words the same records have the same answers, make the same
+/// entries and move the words alike, as far as the site tells what it holds, where for none of them the site failed or memory was
+/// wanting, and each state of the history keeps the rules.
+pub fn served_once()
+    ensures { (begin : Begin) (rows : ℕ) (words : ℕ → ℕ) (history : List Entry) (deeds others : List Deed) (moves more : List Move)
+        (own entries : List Entry) → IsTrue begin.told
+        → ((front rest : List Entry) → own ≡ front ++ rest → KeepsRules (after begin.start (history ++ front)))
+        → SameTasks deeds others → AreServed deeds → AreServed others
+        → ServesAll begin history deeds moves own → ServesAll begin history others more entries
+        → Runs rows words moves → Runs rows words more
+        → (map (λ (deed : Deed). deed.answer) deeds ≡ map (λ (deed : Deed). deed.answer) others) × (own ≡ entries) × (moves ≡ more) }
+{
+    messages_need_one();
+    messages_have_one_step();
+    openings_tell_one();
+    protected_once();
+}
