@@ -1,16 +1,29 @@
 -- Records that moved the words as their answers tell: one after the other, and by one worker that was split off and joined.
-use Rattle.std.proofs.Common.{◌≡◌, ℕ, suc, ◌+◌, List, [], ◌∷◌, ◌++◌, length, Some, None, refl, sym, ◌∙◌, ap, subst, arith, append-nil, length-append}
+use Rattle.std.proofs.Common.{◌≡◌, ℕ, suc, ◌+◌, ◌<◌, ◌≤◌, max, Bool, true, false, nat_lt, if◌then◌else◌, List, [], ◌∷◌, ◌++◌, length, Some, None, refl, sym, ◌∙◌, ap, subst, arith, append-nil, length-append}
 use Rattle.counter_table.specs.declared.view.View.{View}
+use Rattle.counter_table.specs.Known.{later, longer}
 use Rattle.counter_table.specs.Numbers.{amount}
+use Rattle.counter_table.specs.Turn.{epoch_seen, stands}
+use Rattle.counter_table.specs.declared.view.Known.{Known}
+use Rattle.counter_table.specs.declared.view.Opening.{Opening}
+use Rattle.sdls_base.specs.declared.entry.Entry.{Entry}
+use Rattle.sdls_base.specs.declared.entry.Logged.{Logged}
+use Rattle.unit_state.specs.History.{after, epoch_after}
+use Rattle.unit_history.specs.Log.{entries_of}
+use Rattle.unit_history.specs.Numbers.{mark_of}
 use Rattle.record_io.specs.declared.records.Record.{Record}
 use Rattle.record_io.specs.declared.answers.Answer.{Answer}
 use Rattle.unit_work.specs.Begin.{Begin}
-use Rattle.unit_work.specs.Views.{Grows, keeping, starting, meeting}
+use Rattle.unit_work.specs.Views.{Grows, entries_in, keeping, log_of, starting, meeting}
 use Rattle.unit_work.specs.Deeds.{Deed, Does, deed_of, deeds_of}
 use Rattle.unit_work.specs.Lanes.{giving}
 use Rattle.unit_work.proofs.Joining.{top_both}
-use Rattle.unit_machine.specs.Alone.{MovedExactly}
-use Rattle.unit_machine.proofs.Alone.{below_log, moved_then, moved_more, exact_seen}
+use Rattle.unit_machine.specs.Machine.{Move}
+use Rattle.unit_machine.specs.Exact.{words_in}
+use Rattle.unit_machine.specs.InTurn.{IsLevel, ServedBetween}
+use Rattle.unit_machine.specs.Alone.{MovedInTurn, ServedAlone}
+use Rattle.unit_machine.proofs.Turns.{clean_before, log_low, row_on}
+use Rattle.unit_machine.proofs.Alone.{below_log, exact_seen, seen_moves, turns_more, turns_then}
 use Rattle.unit_calls.specs.Answering.{AnsweredExactly}
 use Rattle.frame_workers.proofs.Steps.{deeds_step, deeds_short}
 
@@ -23,77 +36,160 @@ deeds_counted s [] xs h = refl
 deeds_counted s (t ∷ ts) [] h = absurd (omega arith)
 deeds_counted s (t ∷ ts) (x ∷ xs) h = let g = deeds_counted s ts xs (omega arith) in ap suc g
 
--- one record, by its answer
-one_answered : (begin : Begin) (s : ℕ) (v w : View) (r : Record) (a : Answer) → AnsweredExactly begin s v w r (Some a) → MovedExactly begin v w 1 (deed_of s r a ∷ [])
-one_answered begin s v w r a (made, made_is, exact) =
-    record { made = made; made_is = made_is; last = []; few = omega arith; each = λ same. refl; exact = exact }
-
-one_without : (begin : Begin) (s : ℕ) (v w : View) (r : Record) → AnsweredExactly begin s v w r None → MovedExactly begin v w 1 []
-one_without begin s v w r (made, last, few, made_is, exact) =
-    record { made = made; made_is = made_is; last = last; few = few; each = λ same. absurd (omega arith); exact = exact }
-
 module _ (begin : Begin) (s : ℕ) (u v w : View) (ts : List Record) (xs : List Answer) (size : length xs ≡ length ts)
-    (does : Does begin u v ts (deeds_of s ts xs)) (grows : Grows v w) (moved : MovedExactly begin u v (length ts) (deeds_of s ts xs)) where
+    (does : Does begin u v ts (deeds_of s ts xs)) (grows : Grows v w) (moved : MovedInTurn begin u v (length ts) (deeds_of s ts xs)) where
   -- one record more, with its answer
   pub next_exactly : (r : Record) (a : Answer) → AnsweredExactly begin s v w r (Some a)
-      → MovedExactly begin u w (length (ts ++ r ∷ [])) (deeds_of s (ts ++ r ∷ []) (xs ++ a ∷ []))
+      → MovedInTurn begin u w (length (ts ++ r ∷ [])) (deeds_of s (ts ++ r ∷ []) (xs ++ a ∷ []))
   next_exactly r a one =
-      subst (λ (n : ℕ). MovedExactly begin u w n (deeds_of s (ts ++ r ∷ []) (xs ++ a ∷ []))) (sym (length-append ts (r ∷ [])))
-      (subst (MovedExactly begin u w (length ts + 1)) (sym (deeds_step s ts xs r a size))
-      (moved_then begin u v w ts (length ts) 1 (deeds_of s ts xs) (deed_of s r a ∷ []) does grows (deeds_counted s ts xs size) moved
-      (one_answered begin s v w r a one)))
+      subst (λ (n : ℕ). MovedInTurn begin u w n (deeds_of s (ts ++ r ∷ []) (xs ++ a ∷ []))) (sym (length-append ts (r ∷ [])))
+      (subst (MovedInTurn begin u w (length ts + 1)) (sym (deeds_step s ts xs r a size))
+      (turns_then begin u v w ts (length ts) 1 (deeds_of s ts xs) (deed_of s r a ∷ []) does grows (deeds_counted s ts xs size) moved one))
 
   -- and one without: those behind it are not handled
   pub stop_exactly : (us : List Record) (r : Record) → AnsweredExactly begin s v w r None
-      → MovedExactly begin u w (length (ts ++ r ∷ us)) (deeds_of s (ts ++ r ∷ us) xs)
+      → MovedInTurn begin u w (length (ts ++ r ∷ us)) (deeds_of s (ts ++ r ∷ us) xs)
   stop_exactly us r none =
       let counted = deeds_counted s ts xs size in
       let long = length-append ts (r ∷ us) in
-      let both : MovedExactly begin u w (length ts + 1) (deeds_of s ts xs) = subst (MovedExactly begin u w (length ts + 1)) (append-nil (deeds_of s ts xs))
-      (moved_then begin u v w ts (length ts) 1 (deeds_of s ts xs) [] does grows counted moved (one_without begin s v w r none)) in
-      subst (MovedExactly begin u w (length (ts ++ r ∷ us))) (sym (deeds_short s ts (r ∷ us) xs size))
-      (moved_more begin u w (length ts + 1) (length (ts ++ r ∷ us)) (deeds_of s ts xs) (omega arith) (omega arith) both)
+      let both : MovedInTurn begin u w (length ts + 1) (deeds_of s ts xs) = subst (MovedInTurn begin u w (length ts + 1)) (append-nil (deeds_of s ts xs))
+      (turns_then begin u v w ts (length ts) 1 (deeds_of s ts xs) [] does grows counted moved none) in
+      subst (MovedInTurn begin u w (length (ts ++ r ∷ us))) (sym (deeds_short s ts (r ∷ us) xs size))
+      (turns_more begin u w (length ts + 1) (length (ts ++ r ∷ us)) (deeds_of s ts xs) (omega arith) (omega arith) both)
 
 -- a worker that splits one off and joins it at once
 abbrev pub looked : View → View
 looked v = meeting (keeping v) (starting v)
 
+-- a log and a count that were known twice
+one_of : {X : Type 0} (b : Bool) (x : X) → (if b then x else x) ≡ x
+one_of true x = refl
+one_of false x = refl
+
+log_twice : (b : Bool) (o : Opening) (k : Known) → (if b then k else later o k k).log ≡ k.log
+log_twice true o k = refl
+log_twice false o k = one_of (nat_lt (length k.log) (length k.log)) k.log
+
+changes_twice : (b : Bool) (o : Opening) (k : Known) → (if b then k else later o k k).changes ≡ k.changes
+changes_twice true o k = refl
+changes_twice false o k = omega arith
+
+looked_log : (v : View) → log_of (looked v) ≡ log_of v
+looked_log v = log_twice v.turn.holds (if v.turn.filled then v.turn.known.opening else v.turn.known.opening) v.turn.known
+
+looked_epoch : (v : View) → epoch_seen (looked v).turn ≡ epoch_seen v.turn
+looked_epoch v =
+    let c : (looked v).turn.known.changes ≡ v.turn.known.changes =
+    changes_twice v.turn.holds (if v.turn.filled then v.turn.known.opening else v.turn.known.opening) v.turn.known in omega arith
+
+-- what two knew together is no longer than what one of them knew
+longer_low : (a b : List Logged) → length (longer a b) ≤ max (length a) (length b)
+longer_low a b = by_test (nat_lt (length a) (length b))
+  where
+    by_test : (t : Bool) → length (if t then b else a) ≤ max (length a) (length b)
+    by_test true = omega arith
+    by_test false = omega arith
+
+later_low : (h : Bool) (o : Opening) (k l : Known) → length (if h then k else later o k l).log ≤ max (length k.log) (length l.log)
+later_low true o k l = omega arith
+later_low false o k l = longer_low k.log l.log
+
 module _ (begin : Begin) (n : ℕ) (base : View) where
   -- no lane was split off
-  pub none_exactly : MovedExactly begin base (looked (giving n base)) 0 []
+  pub none_exactly : ServedAlone begin base (looked (giving n base)) 0 []
   none_exactly = record {
-    made = [];
-    made_is = refl;
-    last = [];
-    few = omega arith;
-    each = λ same. refl;
-    exact = record {
-      moves = [];
-      told = tt;
-      reserves = λ place in'. absurd (omega arith);
-      added = λ row. let h = amount_both row base.numbers.added [] in omega arith;
-      grown = λ row. let t = top_both row base.numbers.nexts base.numbers.nexts in omega arith;
-      exact = λ still. tt;
+    moved = record {
+      made = [];
+      made_is = refl;
+      last = [];
+      few = omega arith;
+      each = λ same. refl;
+      exact = record {
+        moves = [];
+        told = tt;
+        reserves = λ place in'. absurd (omega arith);
+        added = λ row. let h = amount_both row base.numbers.added [] in omega arith;
+        grown = λ row. let t = top_both row base.numbers.nexts base.numbers.nexts in omega arith;
+        exact = λ still. tt;
+      };
+    };
+    spent = [];
+    between = record {
+      spent_is = refl;
+      level = λ clean level. let e = looked_epoch (giving n base) in let l = ap (λ (log : List Logged). epoch_after (entries_of log)) (looked_log (giving n base)) in omega arith;
+      served = λ none all clean level marks. (
+        [],
+        ap entries_of (looked_log (giving n base)) ∙ sym (append-nil (entries_in base)),
+        refl,
+      );
     };
   }
 
   -- one lane was, and its worker joined
   pub joined_exactly : (w : View) (ts : List Record) (ds : List Deed) (count : ℕ) → Does begin (starting base) w ts ds
-      → Grows w (looked (meeting (giving n base) w)) → MovedExactly begin (starting base) w count ds
-      → MovedExactly begin base (looked (meeting (giving n base) w)) count ds
+      → Grows w (looked (meeting (giving n base) w)) → MovedInTurn begin (starting base) w count ds
+      → ServedAlone begin base (looked (meeting (giving n base) w)) count ds
   joined_exactly w ts ds count does grows h = record {
-    made = h.made;
-    made_is = append-nil (base.turn.made ++ w.turn.made) ∙ ap (λ (l : List ℕ). base.turn.made ++ l) h.made_is;
-    last = h.last;
-    few = h.few;
-    each = h.each;
-    exact = exact_seen begin (starting base) w base (looked (meeting (giving n base) w)) h.made ds h.last h.exact
-        (below_log begin (starting base) w ts ds does h.made h.made_is) grows (λ row. refl)
-        (λ row.
-        let a = top_both row base.numbers.nexts w.numbers.nexts in
-        let b = top_both row (base.numbers.nexts ++ w.numbers.nexts) (base.numbers.nexts ++ w.numbers.nexts) in
-        let g = does.grows.nexts row in omega arith)
-        (λ row.
-        let a = amount_both row base.numbers.added w.numbers.added in
-        let b = amount_both row (base.numbers.added ++ w.numbers.added) [] in omega arith);
+    moved = record {
+      made = h.moved.made;
+      made_is = append-nil (base.turn.made ++ w.turn.made) ∙ ap (λ (l : List ℕ). base.turn.made ++ l) h.moved.made_is;
+      last = h.moved.last;
+      few = h.moved.few;
+      each = h.moved.each;
+      exact = exact_seen begin (starting base) w base (looked (meeting (giving n base) w)) h.moved.made ds h.moved.last h.moved.exact below grows from to more;
+    };
+    spent = h.spent;
+    between = subst (λ (moves : List Move). ServedBetween begin base (looked (meeting (giving n base) w)) h.moved.made h.spent ds moves h.moved.last)
+        (sym (seen_moves begin (starting base) w base (looked (meeting (giving n base) w)) h.moved.made ds h.moved.last h.moved.exact below grows from to more))
+        (record {
+          spent_is = append-nil (base.numbers.spent ++ w.numbers.spent) ∙ ap (λ (l : List (ℕ × ℕ)). base.numbers.spent ++ l) h.in_turn.between.spent_is;
+          level = λ clean level.
+              let w_level : IsLevel w = h.in_turn.between.level (clean_before w (looked (meeting (giving n base) w)) grows clean) level in
+              let e = grows.epochs in let l = ap epoch_after same_entries in omega arith;
+          served = λ none all clean level marks.
+              let (own, is, served) = h.in_turn.between.served none
+              (λ place low high. all place low (let s = ap length same_log in omega arith))
+              (clean_before w (looked (meeting (giving n base) w)) grows clean) level
+              (λ key row number few there in'.
+              subst (λ (l : List Entry). number < mark_of (after begin.start l) key) same_entries
+              (marks key row number few (row_on begin w (looked (meeting (giving n base) w)) grows key row there) in')) in
+              (own, same_entries ∙ is, served);
+        });
   }
+    where
+      below : (place : ℕ) → 0 < stands place h.moved.made → place < length (log_of w)
+      below = below_log begin (starting base) w ts ds does h.moved.made h.moved.made_is
+
+      from : (row : ℕ) → words_in base row ≡ words_in (starting base) row
+      from row = refl
+
+      to : (row : ℕ) → words_in (looked (meeting (giving n base) w)) row ≡ words_in w row
+      to row =
+          let a = top_both row base.numbers.nexts w.numbers.nexts in
+          let b = top_both row (base.numbers.nexts ++ w.numbers.nexts) (base.numbers.nexts ++ w.numbers.nexts) in
+          let g = does.grows.nexts row in omega arith
+
+      more : (row : ℕ) → amount row (looked (meeting (giving n base) w)).numbers.added + amount row (starting base).numbers.added
+          ≡ amount row base.numbers.added + amount row w.numbers.added
+      more row =
+          let a = amount_both row base.numbers.added w.numbers.added in
+          let b = amount_both row (base.numbers.added ++ w.numbers.added) [] in omega arith
+
+      -- the joined worker knows the log that the lane's worker knew
+      same_log : log_of (looked (meeting (giving n base) w)) ≡ log_of w
+      same_log =
+          let first = log_low (starting base) w does.grows in
+          let z = ap length (looked_log (meeting (giving n base) w)) in
+          let m : length (log_of (meeting (giving n base) w)) ≤ max (length (log_of base)) (length (log_of w)) =
+          later_low base.turn.holds (if base.turn.filled then base.turn.known.opening else w.turn.known.opening) base.turn.known w.turn.known in
+          let (rest, is) = grows.earlier.log in
+          let size : length (log_of (looked (meeting (giving n base) w))) ≡ length (log_of w) + length rest = ap length is ∙ length-append (log_of w) rest in
+          let none : rest ≡ [] = empty rest (omega arith) in
+          is ∙ ap (λ (l : List Logged). log_of w ++ l) none ∙ append-nil (log_of w)
+        where
+          empty : (l : List Logged) → length l ≡ 0 → l ≡ []
+          empty [] h = refl
+          empty (x ∷ l) h = absurd (omega arith)
+
+      same_entries : entries_in (looked (meeting (giving n base) w)) ≡ entries_in w
+      same_entries = ap entries_of same_log

@@ -19,7 +19,7 @@ use Rattle.unit_work.proofs.Joining.{grows_itself, grows_further}
 use Rattle.unit_work.proofs.Handling.{handled_nothing}
 use Rattle.unit_work.proofs.Lanes.{lanes_handled, lanes_grow}
 use Rattle.frame_workers.specs.declared.lane.Lane.{Lane}
-use Rattle.unit_machine.specs.Alone.{MovedExactly}
+use Rattle.unit_machine.specs.Alone.{MovedInTurn, ServedAlone}
 use Rattle.unit_calls.specs.Answering.{IsFullFor}
 use Rattle.unit_calls.specs.Visiting.{BeganWith}
 use Rattle.frame_workers.specs.Ends.{EndsSegment}
@@ -244,16 +244,16 @@ module _ {B : Type 0} (ready : Worker B → Type 0) (told : Bool) (rs : List Rec
       pub all_exactly : (lane : ℕ) → All (λ (t : Record). t.lane ≡ lane) rs → All (λ (t : Record). t.lane < 16) rs → (begin : Begin) (s : ℕ)
           → BeganWith told begin base.turn.known.opening → (answers rest : List Answer) → answers ++ rest ≡ answers_of lane (parts_of new)
           → (length answers ≡ length rs) ⊎ StopsAt rs (λ n. answers_of n (parts_of new)) (length answers)
-          → MovedExactly begin base last (length rs) (deeds_of s rs answers)
+          → ServedAlone begin base last (length rs) (deeds_of s rs answers)
       unfolding last_of
       all_exactly lane all low begin s b answers rest is how = go old new refl refl many (at_most_one old split apart lane all)
         where
           go : (os ns : List (Lane B)) → old ≡ os → new ≡ ns → length ns ≡ length os → length os ≤ 1
-              → MovedExactly begin base last (length rs) (deeds_of s rs answers)
+              → ServedAlone begin base last (length rs) (deeds_of s rs answers)
           go [] [] old_is new_is size one =
               let last_is : last ≡ looked (giving (length old) base) = ap last_of new_is ∙ ap looked given in
-              subst (λ (v : View). MovedExactly begin base v (length rs) (deeds_of s rs answers)) (sym last_is)
-              (subst (λ (ts : List Record). MovedExactly begin base (looked (giving (length old) base)) (length ts) (deeds_of s ts answers)) (sym (no_records old_is low rs refl))
+              subst (λ (v : View). ServedAlone begin base v (length rs) (deeds_of s rs answers)) (sym last_is)
+              (subst (λ (ts : List Record). ServedAlone begin base (looked (giving (length old) base)) (length ts) (deeds_of s ts answers)) (sym (no_records old_is low rs refl))
               (none_exactly begin (length old) base))
           go [] (m ∷ ns) old_is new_is size one = absurd (omega arith)
           go (l ∷ os) [] old_is new_is size one = absurd (omega arith)
@@ -272,9 +272,9 @@ module _ {B : Type 0} (ready : Worker B → Type 0) (told : Bool) (rs : List Rec
               let from : BeganWith told begin (view l.worker).turn.known.opening =
               subst (λ (v : View). BeganWith told begin v.turn.known.opening) (sym is_split.from) b in
               let mine : of_lane l.number rs ≡ rs = ap (λ (n : ℕ). of_lane n rs) number ∙ one_of lane rs all in
-              let exactly : MovedExactly begin (starting base) w (length rs) (deeds_of s rs xs) =
-              subst (λ (v : View). MovedExactly begin v w (length rs) (deeds_of s rs xs)) is_split.from
-              (subst (λ (ts : List Record). MovedExactly begin (view l.worker) w (length ts) (deeds_of s ts xs)) mine (run.exactly begin s from)) in
+              let exactly : MovedInTurn begin (starting base) w (length rs) (deeds_of s rs xs) =
+              subst (λ (v : View). MovedInTurn begin v w (length rs) (deeds_of s rs xs)) is_split.from
+              (subst (λ (ts : List Record). MovedInTurn begin (view l.worker) w (length ts) (deeds_of s ts xs)) mine (run.exactly begin s from)) in
               let apart_from : Layout = record { lane_of = λ i. 0; segment_of = λ i. 0 } in
               let handled : Handled apart_from begin (starting base) w rs (deeds_of s rs xs) =
               subst (λ (v : View). Handled apart_from begin v w rs (deeds_of s rs xs)) is_split.from
@@ -292,8 +292,8 @@ module _ {B : Type 0} (ready : Worker B → Type 0) (told : Bool) (rs : List Rec
               let at_w : view (slice_index_or new 0 l).worker ≡ w = ap (λ (n : Lane B). view n.worker) at_new in
               let grows : Grows w last = subst (λ (v : View). Grows v last) at_w (grows_further (view (slice_index_or new 0 l).worker) joined last
               (All-contains (λ (p : Part). Grows p.knows joined) (parts_of new) (part_of (slice_index_or new 0 l)) joined_grows (part_among new 0 l (omega arith))) last_grows) in
-              subst (λ (v : View). MovedExactly begin base v (length rs) (deeds_of s rs answers)) (sym last_is)
-              (subst (λ (ys : List Answer). MovedExactly begin base (looked (meeting (giving (length old) base) w)) (length rs) (deeds_of s rs ys)) (sym same)
+              subst (λ (v : View). ServedAlone begin base v (length rs) (deeds_of s rs answers)) (sym last_is)
+              (subst (λ (ys : List Answer). ServedAlone begin base (looked (meeting (giving (length old) base) w)) (length rs) (deeds_of s rs ys)) (sym same)
               (joined_exactly begin (length old) base w rs (deeds_of s rs xs) (length rs) handled.does (subst (Grows w) last_is grows) exactly))
             where
               ends_with : (xs : List Answer) → answers_of lane (parts_of new) ≡ xs → length xs ≤ length rs

@@ -12,7 +12,7 @@ use Rattle.unit_work.specs.Views.{starting}
 use Rattle.unit_work.specs.Deeds.{Deed, deeds_of}
 use Rattle.unit_work.specs.Order.{Layout, Handled}
 use Rattle.unit_work.specs.Lanes.{is_of_lane, of_lane, Part}
-use Rattle.unit_machine.specs.Alone.{MovedExactly}
+use Rattle.unit_machine.specs.Alone.{MovedInTurn}
 use Rattle.unit_calls.specs.Visiting.{BeganWith}
 use Rattle.frame_workers.specs.declared.lane.Lane.{Lane}
 use Rattle.frame_workers.specs.Ends.{EndsSegment}
@@ -37,7 +37,7 @@ module _ {B : Type 0} (ready : Worker B → Type 0) where
     pub ends : (begin : Begin) → BeganWith told begin (view old.worker).turn.known.opening
         → EndsSegment begin (view old.worker) (view new.worker) (of_lane old.number tasks) new.answers.items new.full
     pub exactly : (begin : Begin) (segment : ℕ) → BeganWith told begin (view old.worker).turn.known.opening
-        → MovedExactly begin (view old.worker) (view new.worker) (length (of_lane old.number tasks))
+        → MovedInTurn begin (view old.worker) (view new.worker) (length (of_lane old.number tasks))
         (deeds_of segment (of_lane old.number tasks) new.answers.items)
 
   -- a lane of one of the records, that was split from a worker with this view, and may run

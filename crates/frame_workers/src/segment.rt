@@ -7,7 +7,7 @@ ghost use Rattle.shared_unit.specs.Turn.{IsReady};
 ghost use Rattle.unit_work.specs.Begin.{Begin};
 ghost use Rattle.unit_work.specs.Deeds.{Ascend, deeds_of};
 ghost use Rattle.unit_work.specs.Order.{Handled, Layout, LiesIn};
-ghost use Rattle.unit_machine.specs.Alone.{MovedExactly, OneLane};
+ghost use Rattle.unit_machine.specs.Alone.{OneLane, ServedAlone};
 ghost use Rattle.unit_calls.specs.Visiting.{BeganWith};
 ghost use Rattle.unit_work.specs.Views.{keeping, meeting, Meets, starting};
 ghost use Rattle.frame_workers.specs.Ends.{EndsSegment};
@@ -89,10 +89,11 @@ pub fn run_segment<R: Threads + Wait + Sync, O: Site + Send, G: Gate + Sync>(
     ensures full { IfOk result (λ segment. (begin : Begin) → BeganWith O.told begin (view worker.old).turn.known.opening
         → EndsSegment begin (view worker.old) (view worker.new) records.now segment.answers.items segment.full) }
 
-    // Where all records are of one lane, each moved the words once, as its answer tells: as a machine does, if nobody else moved them.
+    // Where all records are of one lane, they were served in turn, each in the history that those before it left, if nobody else made
+    // a line or moved a word meanwhile.
     ensures alone { OneLane records.now → IfOk result (λ segment. (begin : Begin) (number : ℕ)
         → BeganWith O.told begin (view worker.old).turn.known.opening
-        → MovedExactly begin (view worker.old) (view worker.new) (length records.now) (deeds_of number records.now segment.answers.items)) }
+        → ServedAlone begin (view worker.old) (view worker.new) (length records.now) (deeds_of number records.now segment.answers.items)) }
 
     // Who has all shares did all.
     ensures whole { (view worker.old).numbers.shares ≡ 1024 → IfOk result (λ segment. IsWhole 512 (view worker.new)) }

@@ -104,5 +104,5 @@ pub record RunEnds (call : CallSeen) : Type 0 where
   pub bounded : length call.entries ≤ MOST_ENTRIES
   pub sound : IsTrue call.site.told → (plan : PlanLines) (state : State) → ShowsAtEntry call plan state
       → (s : IsSoundCall call account plan state) × (r : IsReleased call account state s.run.history.run.ends)
-      × (OneLane (records_of account.handled) → IsExact call account state r.words s.run.history.run.ends)
+      × (OneLane (records_of account.handled) → IsExact call account plan state r.words s.run.history.run.ends)
   pub refused : IsTrue call.site.told → (offset : ℕ) → ShowsNone (image_at_entry call) offset → IsRefused call account offset

@@ -756,19 +756,20 @@ module _ {O : Type 0} (told : Bool) (trace : O → Trace) (faults puts : O → �
     -- ---- all together
 
     -- where its records are of one lane
-    exact_so : IsTrue told → OneLane (records_of (places_of ran.come.of)) → IsExact call account book.start words (length (entries_in now))
+    exact_so : IsTrue told → OneLane (records_of (places_of ran.come.of)) → IsExact call account book.plan book.start words (length (entries_in now))
     exact_so is_told one =
-        exact_call call account (begin_by told (trace site).now.image book.plan book.start) first now words
+        exact_call call account book.plan (begin_by told (trace site).now.image book.plan book.start) first now words
         (take entries_added.count (releases book.state 0 words)) refl (ran.founded is_told).opened ran.whole ran.stand (ran.come.exactly one) entries_split
+        (ran.known_first ∙ ran.same_faults) ran.known
 
     sound_call : IsTrue told → (s : IsSoundCall call account book.plan book.start) × (r : IsReleased call account book.start s.run.history.run.ends)
-        × (OneLane (records_of account.handled) → IsExact call account book.start r.words s.run.history.run.ends)
+        × (OneLane (records_of account.handled) → IsExact call account book.plan book.start r.words s.run.history.run.ends)
     unfolding legal_run
     sound_call is_told =
         let (r, same) = released_so slots is_told in (
           record { run = sound_call_run is_told; moments = moments_so is_told },
           r,
-          λ one. subst (λ (ws : List ℕ). IsExact call account book.start ws (length (entries_in now))) (sym same) (exact_so is_told one),
+          λ one. subst (λ (ws : List ℕ). IsExact call account book.plan book.start ws (length (entries_in now))) (sym same) (exact_so is_told one),
         )
 
     pub run_ends_so : RunEnds call
@@ -786,9 +787,9 @@ module _ {O : Type 0} (told : Bool) (trace : O → Trace) (faults puts : O → �
       bounded = entries_most;
       sound = λ is_told plan state shows.
           subst (λ (pl : PlanLines). (s : IsSoundCall call account pl state) × (r : IsReleased call account state s.run.history.run.ends)
-          × (OneLane (records_of account.handled) → IsExact call account state r.words s.run.history.run.ends)) (sym (plan_same is_told plan state shows))
+          × (OneLane (records_of account.handled) → IsExact call account pl state r.words s.run.history.run.ends)) (sym (plan_same is_told plan state shows))
           (subst (λ (st : State). (s : IsSoundCall call account book.plan st) × (r : IsReleased call account st s.run.history.run.ends)
-          × (OneLane (records_of account.handled) → IsExact call account st r.words s.run.history.run.ends)) (sym (state_same is_told plan state shows))
+          × (OneLane (records_of account.handled) → IsExact call account book.plan st r.words s.run.history.run.ends)) (sym (state_same is_told plan state shows))
           (sound_call is_told));
       refused = λ is_told offset none. absurd (shows_some (trace site).now.image book.start offset (ran.shows is_told) none);
     }

@@ -24,8 +24,7 @@ use Rattle.unit_work.specs.Views.{IsBetween, entries_in, log_of}
 use Rattle.unit_work.specs.Deeds.{Ascend, course_in, deeds_of}
 use Rattle.unit_work.specs.Order.{Layout, LiesIn, Handled, Lined, TakeTurns}
 use Rattle.unit_work.proofs.Joining.{does_nothing}
-use Rattle.unit_machine.specs.Alone.{MovedExactly, OneLane}
-use Rattle.unit_machine.proofs.Alone.{moved_nothing}
+use Rattle.unit_machine.specs.Alone.{OneLane, ServedAlone}
 use Rattle.unit_history.specs.Log.{pieces_of}
 use Rattle.run_ends.specs.declared.end.RunEnd.{RunEnd}
 use Rattle.run_ends.specs.declared.end.RunEnd.TheVariants as ends
@@ -36,7 +35,7 @@ use Rattle.run_steps.specs.Doing.{AreSettledInside, HasDone, HasSettled, IsFound
 use Rattle.run_steps.specs.Coming.{HasBroken, HasCome, HasPut, IsFullHistory, IsUnderWay, PutsBy, ReadsTo}
 use Rattle.run_steps.specs.Segment.{HandlesAndPuts, IsFullSegment, PutsBadly, PutsWell}
 use Rattle.run_steps.proofs.Appending.{may_append}
-use Rattle.run_steps.proofs.Exacting.{moved_on}
+use Rattle.run_steps.proofs.Exacting.{alone_nothing, moved_on}
 use Rattle.run_steps.proofs.Stepping.{goes_on, own_does, quiet, settled_on}
 
 -- ---- the records of one segment
@@ -234,11 +233,11 @@ module _ (start before now : SourceSeen) (standing : Standing) (begin : Begin) (
     pub exactly_on : MovedAlone begin first w (places_of (way.items ++ r.more)) (way.answers ++ next)
     exactly_on = subst (λ (ps : List Place). MovedAlone begin first w ps (way.answers ++ next)) (sym all_places)
         (moved_on begin first v mid w (places_of way.items) (places_from (counted first_count way.items) r.more) way.answers next
-        (counted first_count way.items).segment way.done.does way.each r.of
+        (counted first_count way.items).segment stored_now h.settles.entries h.settles.lines way.done.does way.each r.of
         (own_does begin first v mid w (places_of way.items) (places_from (counted first_count way.items) r.more) way.answers next
         (counted first_count way.items).segment way.done way.each whole_v segment handled h.puts)
-        h.puts h.same_numbers way.exactly
-        (subst (λ (rs : List Record). OneLane rs → MovedExactly begin v mid (length rs) (deeds_of (counted first_count way.items).segment rs next)) r.records_are
+        h.puts h.same_numbers h.settles.at way.exactly
+        (subst (λ (rs : List Record). OneLane rs → ServedAlone begin v mid (length rs) (deeds_of (counted first_count way.items).segment rs next)) r.records_are
         (λ one. h.exactly one (counted first_count way.items).segment)))
 
     still : octets_put mid ≡ octets_put v
@@ -426,5 +425,5 @@ begins_way start begin first failed stored none none_made = record {
   each = refl;
   put = record { octets = λ is_told. ap pieces_of none; none_failed = refl };
   settled = λ is_told founded. tt;
-  exactly = λ one. moved_nothing begin first;
+  exactly = λ one. alone_nothing begin first;
 }

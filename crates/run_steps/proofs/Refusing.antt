@@ -329,8 +329,12 @@ module _ {O : Type 0} (told : Bool) (trace : O → Trace) (faults puts : O → �
             refl,
           )
 
+      take_none : (n : ℕ) → take {A = Entry} n [] ≡ []
+      take_none zero = refl
+      take_none (suc n) = refl
+
       -- nothing was drawn, and the words are the marks
-      exact_none : (words : List ℕ) (ends : ℕ) → words ≡ marks_from state 0 MOST_KEYS → IsExact call account state words ends
+      exact_none : (words : List ℕ) (ends : ℕ) → words ≡ marks_from state 0 MOST_KEYS → IsExact call account plan state words ends
       exact_none words ends is = record {
         moves = [];
         beyond = [];
@@ -344,6 +348,7 @@ module _ {O : Type 0} (told : Bool) (trace : O → Trace) (faults puts : O → �
             let b : slice_index (marks_from state 0 MOST_KEYS) row ≡ mark_at state (0 + row) = marks_found state 0 MOST_KEYS row low in
             let same : 0 + row ≡ row = omega arith in
             let c = ap (mark_at state) same in omega arith;
+        served = λ all quiet. take_none ends;
       }
 
     -- ---- an image that shows none

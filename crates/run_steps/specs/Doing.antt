@@ -1,7 +1,8 @@
 -- What the one worker of a run did since the opening, from segment to segment (profile).
-use Rattle.std.specs.Prelude.{◌≡◌, ℕ, ◌+◌, ◌<◌, ◌≤◌, IsTrue, List, [], length, take, Contains}
+use Rattle.std.specs.Prelude.{◌≡◌, ℕ, ◌+◌, ◌<◌, ◌≤◌, IsTrue, List, [], ◌++◌, length, take, Contains}
 use Rattle.std.specs.List.{All, AllPairs}
 use Rattle.sdls_base.specs.declared.TheConstants.{MOST_KEYS}
+use Rattle.sdls_base.specs.declared.entry.Entry.{Entry}
 use Rattle.counter_table.specs.declared.view.View.{View}
 use Rattle.record_io.specs.declared.answers.Answer.{Answer}
 use Rattle.record_io.specs.Places.{Place, records_of}
@@ -14,6 +15,8 @@ use Rattle.unit_work.specs.Begin.{Begin}
 use Rattle.unit_work.specs.Views.{entries_in, log_of}
 use Rattle.unit_work.specs.Deeds.{Deed, Does, course_in, tells_entry}
 use Rattle.unit_work.specs.Order.{Layout, TakeTurns, Lined}
+use Rattle.unit_machine.specs.Serving.{ServesAll}
+use Rattle.unit_machine.specs.InTurn.{AllMade, IsClean, IsLevel}
 use Rattle.unit_machine.specs.Alone.{MovedExactly, OneLane}
 use Rattle.unit_runs.specs.Opened.{IsOpened}
 use Rattle.unit_runs.specs.Settled.{AreSettled, SettlesAt}
@@ -44,9 +47,18 @@ pub record HasDone (begin : Begin) (first now : View) (places : List Place) (ans
   pub lined : (layout : Layout) → LieIn layout places → (pieces : ℕ)
       × Lined (TakeTurns layout) (log_of now) now.turn.made (length (records_of places) + drawers (records_of places)) pieces
 
--- where all records are of one lane, each moved the words as its answer tells
+-- One lane alone: each record moved the words as its answer tells, and where each has its answer, the site did not fail and no other
+-- worker made a line, they were served in turn from the history of the first view.
+pub record RunAlone (begin : Begin) (first now : View) (places : List Place) (answers : List Answer) : Type 0 where
+  pub moved : MovedExactly begin first now (length places) (deeds_from places answers)
+  pub level : IsClean now → IsLevel first → IsLevel now
+  pub served : moved.last ≡ [] → AllMade first now moved.made → IsClean now → IsLevel first
+      → (own : List Entry) × (entries_in now ≡ entries_in first ++ own)
+      × ServesAll begin (entries_in first) (deeds_from places answers) moved.exact.moves own
+
+-- so it is where all records are of one lane
 abbrev pub MovedAlone : Begin → View → View → List Place → List Answer → Type 0
-MovedAlone begin first now places answers = OneLane (records_of places) → MovedExactly begin first now (length places) (deeds_from places answers)
+MovedAlone begin first now places answers = OneLane (records_of places) → RunAlone begin first now places answers
 
 -- each answer was settled before an octet of it was put, so many entries being stored now
 abbrev pub HasSettled : Begin → View → ℕ → List Place → List Answer → Type 0

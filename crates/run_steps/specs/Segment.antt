@@ -14,7 +14,7 @@ use Rattle.unit_work.specs.Begin.{Begin}
 use Rattle.unit_work.specs.Views.{IsBetween, entries_in}
 use Rattle.unit_work.specs.Deeds.{course_in, deeds_of}
 use Rattle.unit_work.specs.Order.{Layout, LiesIn, Handled}
-use Rattle.unit_machine.specs.Alone.{MovedExactly, OneLane}
+use Rattle.unit_machine.specs.Alone.{OneLane, ServedAlone}
 use Rattle.run_steps.specs.Doing.{AreSettledInside, Puts, Settles, octets_put}
 
 -- From the first view to the second the worker handled the records; from there to the last it put the answers, or a front of
@@ -28,8 +28,8 @@ pub record HandlesAndPuts (begin : Begin) (v mid w : View) (records : List Recor
   pub known : ℕ
   pub settles : Settles begin mid w known stored
   pub entered : (number : ℕ) → AreSettledInside known (deeds_of number records answers)
-  -- where all records are of one lane, each moved the words as its answer tells; the puts moved none
-  pub exactly : OneLane records → (number : ℕ) → MovedExactly begin v mid (length records) (deeds_of number records answers)
+  -- where all records are of one lane, they were served in turn; the puts moved no word
+  pub exactly : OneLane records → (number : ℕ) → ServedAlone begin v mid (length records) (deeds_of number records answers)
   pub same_numbers : w.numbers ≡ mid.numbers
 
 -- so many puts had failed before, and have now: none since, and the octets were added to those put before

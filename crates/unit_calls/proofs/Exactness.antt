@@ -15,6 +15,7 @@ use Rattle.record_io.specs.declared.records.Record.{Record}
 use Rattle.counter_table.specs.declared.view.View.{View}
 use Rattle.counter_table.specs.Turn.{places, stands}
 use Rattle.unit_history.specs.Answers.{counting}
+use Rattle.unit_history.specs.Log.{entries_of}
 use Rattle.unit_book.specs.declared.fault.BookFault.{BookFault}
 use Rattle.unit_book.specs.declared.fault.BookFault.TheVariants as refusals
 use Rattle.unit_work.specs.Begin.{Begin}
@@ -23,9 +24,12 @@ use Rattle.unit_work.specs.Deeds.{deed_of}
 use Rattle.unit_work.proofs.Logs.{more_stands}
 use Rattle.unit_machine.specs.Machine.{Move, Kept}
 use Rattle.unit_machine.specs.Exact.{IsDrawn, Tells, TellsKind}
-use Rattle.unit_machine.proofs.Machines.{exact_move}
+use Rattle.unit_machine.specs.Serving.{Serves}
+use Rattle.unit_machine.specs.InTurn.{IsClean, IsLevel, AreMarked, ServedInTurn}
+use Rattle.unit_machine.proofs.Machines.{exact_move, move_moves}
 use Rattle.unit_calls.specs.Answering.{answer_of, unserved_answer, fault_answer, AnsweredExactly}
 use Rattle.unit_calls.proofs.Behind.{lines_of, here, next, longer}
+use Rattle.unit_calls.proofs.InTurn.{Passes, served_turn, unserved_turn}
 use Rattle.unit_calls.proofs.Moving.{Moves}
 use Rattle.unit_calls.proofs.OneRecord.{Turned}
 
@@ -56,34 +60,54 @@ of_record moves e index is entry same none =
     let both : Some index ≡ None = sym is ∙ ap (λ (z : Entry). z.index) e_is ∙ none in absurd (let b = both in cc)
 
 module _ (begin : Begin) (segment : ℕ) (task : Record) (v w : View) (move : Move) (moves : Moves begin v w move)
-    (log : List Logged) (es : List Entry) (turned : Turned log es v.turn w.turn) (drawn : AreDrawn (move ∷ []) es) where
+    (log : List Logged) (es : List Entry) (turned : Turned log es v.turn w.turn) (drawn : AreDrawn (move ∷ []) es)
+    (spent : List (ℕ × ℕ)) (passes : Passes begin v w log es turned spent) where
+  -- in the history that was found, where no other worker made a line, the record is served so
+  abbrev pub IsServed : Answer → Type 0
+  IsServed answer =
+      log ≡ log_of v → IsClean w → IsLevel v → AreMarked begin w spent → Serves begin (entries_of log) task answer es move
+
   reserves : (place : ℕ) → 0 < stands place (places (length log) (length es)) → IsDrawn (move ∷ []) (slice_get (log_of w) place)
   reserves place in' = subst (λ (l : List Logged). IsDrawn (move ∷ []) (slice_get l place)) (sym turned.log_is)
       (drawn_at (move ∷ []) log es drawn place in')
 
-  pub told_exactly : (answer : Answer) → Tells begin.start (entries_in w) (deed_of segment task answer) move
+  pub told_exactly : (answer : Answer) → Tells begin.start (entries_in w) (deed_of segment task answer) move → IsServed answer
       → AnsweredExactly begin segment v w task (Some answer)
-  told_exactly answer told = (
-    places (length log) (length es),
-    turned.made,
-    exact_move begin v w (places (length log) (length es)) (deed_of segment task answer) move told reserves moves.added moves.grown moves.at,
-  )
+  told_exactly answer told serves = record {
+    moved = record {
+      made = places (length log) (length es);
+      made_is = turned.made;
+      last = [];
+      few = omega arith;
+      each = λ same. refl;
+      exact = exact_move begin v w (places (length log) (length es)) (deed_of segment task answer) move told reserves moves.added moves.grown moves.at;
+    };
+    spent = spent;
+    in_turn = subst (λ (l : List Move). ServedInTurn begin v w (places (length log) (length es)) spent (deed_of segment task answer ∷ []) l [])
+        (sym (move_moves begin v w (places (length log) (length es)) (deed_of segment task answer) move told reserves moves.added moves.grown moves.at))
+        (served_turn begin v w log es turned segment task move spent passes answer serves);
+  }
 
   pub untold_exactly : AnsweredExactly begin segment v w task None
-  untold_exactly = (
-    places (length log) (length es),
-    move ∷ [],
-    omega arith,
-    turned.made,
-    record {
-      moves = [];
-      told = tt;
-      reserves = reserves;
-      added = λ row. (let a = moves.added row in omega arith);
-      grown = λ row. (let g = moves.grown row in omega arith);
-      exact = λ still. (moves.at (λ row low. let s = still row low in omega arith), tt);
-    },
-  )
+  untold_exactly = record {
+    moved = record {
+      made = places (length log) (length es);
+      made_is = turned.made;
+      last = move ∷ [];
+      few = omega arith;
+      each = λ same. absurd (omega arith);
+      exact = record {
+        moves = [];
+        told = tt;
+        reserves = reserves;
+        added = λ row. (let a = moves.added row in omega arith);
+        grown = λ row. (let g = moves.grown row in omega arith);
+        exact = λ still. (moves.at (λ row low. let s = still row low in omega arith), tt);
+      };
+    };
+    spent = spent;
+    in_turn = unserved_turn begin v w log es turned segment task move spent passes;
+  }
 
   -- codes from 31 on tell nothing of the move, but that a frame that is opened makes none
   late_tells : (kind : RecordKind) → (kind ≡ Open → move ≡ Kept) → (code n position : ℕ) → 0x30 < code
@@ -103,17 +127,24 @@ module _ (begin : Begin) (segment : ℕ) (task : Record) (v w : View) (move : Mo
     by_code (inl is) = omega arith
     by_code (inr is) = omega arith
 
+  late : (code n position : ℕ) → 0x30 < code → IsServed (answer_of (counting code 0 n) position)
+  late code n position low same clean level marks = inl low
+
   pub wanting_exactly : (task.kind ≡ Open → move ≡ Kept) → AnsweredExactly begin segment v w task (Some unserved_answer)
-  wanting_exactly kept = told_exactly unserved_answer (late_tells task.kind kept NO_MEMORY 0 0 (omega arith))
+  wanting_exactly kept = told_exactly unserved_answer (late_tells task.kind kept NO_MEMORY 0 0 (omega arith)) (late NO_MEMORY 0 0 (omega arith))
 
   pub refused_exactly : (task.kind ≡ Open → move ≡ Kept) → (fault : BookFault) (position : ℕ)
       → ((slots : ℕ) → fault ≡ refusals.JournalFull slots
-      → Tells begin.start (entries_in w) (deed_of segment task (answer_of (counting JOURNAL_FULL 0 slots) position)) move)
+      → Tells begin.start (entries_in w) (deed_of segment task (answer_of (counting JOURNAL_FULL 0 slots) position)) move
+      × IsServed (answer_of (counting JOURNAL_FULL 0 slots) position))
       → AnsweredExactly begin segment v w task (fault_answer fault position)
   refused_exactly kept (refusals.SiteFault count) position full =
       told_exactly (answer_of (counting SITE_FAULT 0 count) position) (late_tells task.kind kept SITE_FAULT count position (omega arith))
+      (late SITE_FAULT count position (omega arith))
   refused_exactly kept (refusals.Stopped count) position full =
       told_exactly (answer_of (counting STOPPED 0 count) position) (late_tells task.kind kept STOPPED count position (omega arith))
-  refused_exactly kept (refusals.JournalFull slots) position full = told_exactly (answer_of (counting JOURNAL_FULL 0 slots) position) (full slots refl)
+      (late STOPPED count position (omega arith))
+  refused_exactly kept (refusals.JournalFull slots) position full =
+      told_exactly (answer_of (counting JOURNAL_FULL 0 slots) position) (full slots refl).0 (full slots refl).1
   refused_exactly kept refusals.SessionFull position full = untold_exactly
   refused_exactly kept refusals.NoMemory position full = wanting_exactly kept

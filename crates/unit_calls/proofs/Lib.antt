@@ -6,6 +6,8 @@ pub mod Visit
 pub mod Stages
 pub mod Reserves
 pub mod Moving
+pub mod InTurn
+pub mod Puts
 pub mod Exactness
 pub mod Unserved
 pub mod Openings
@@ -15,4 +17,3 @@ pub mod Protectings
 pub mod OpensExactly
 pub mod CommandsExactly
 pub mod ProtectsExactly
-pub mod Puts

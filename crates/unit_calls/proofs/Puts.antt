@@ -1,10 +1,9 @@
 -- What was done by a worker that visited the book and left it, or put octets; and what the first put behind a segment settles.
-use Rattle.std.proofs.Common.{◌≡◌, ℕ, ◌+◌, ◌-◌, ◌<◌, Bool, false, nat_lt, List, [], ◌∷◌, ◌++◌, length, take, drop, Some, Result, refl, sym, ◌∙◌, ap, subst, arith, inl, inr, append-nil, length-append, if◌then◌else◌, eqb}
+use Rattle.std.proofs.Common.{◌≡◌, ℕ, ◌+◌, ◌-◌, ◌<◌, Bool, false, List, [], ◌∷◌, ◌++◌, length, take, drop, Some, Result, refl, sym, ◌∙◌, ap, subst, arith, inl, inr, append-nil, length-append, if◌then◌else◌, eqb}
 use Rattle.std.specs.List.{slice_get}
-use Rattle.std.proofs.lemmas.Bool.{cases_eq, cases_lt}
+use Rattle.std.proofs.lemmas.Bool.{cases_eq}
 use Rattle.std.proofs.lemmas.Bool.Decides.{nat_tests}
 use Rattle.std.proofs.lemmas.List.{take-append-drop, take-append-le, take_all}
-use Rattle.sdls_base.specs.Numbers.{one_if, once_below}
 use Rattle.sdls_base.specs.declared.entry.Logged.{Logged}
 use Rattle.sdls_base.specs.declared.entry.Logged.TheVariants as lines
 use Rattle.sdls_outside.specs.Moments.{Trace}
@@ -31,11 +30,13 @@ use Rattle.unit_work.specs.Begin.{Begin}
 use Rattle.unit_work.specs.Views.{Gains, log_of, entries_in, Grows, Gained}
 use Rattle.unit_work.specs.Work.{Worked}
 use Rattle.unit_runs.specs.Settled.{SettlesAt}
+use Rattle.unit_work.proofs.Histories.{entries_both}
 use Rattle.unit_runs.proofs.Rows.{mark_known}
 use Rattle.unit_calls.specs.Visiting.{Visited}
 use Rattle.unit_calls.proofs.Behind.{after_both}
 use Rattle.unit_calls.proofs.OneRecord.{none_all}
-use Rattle.unit_calls.proofs.Visit.{epoch_low, led_known, log_is, log_low, sparing_seen, standing_found}
+use Rattle.unit_calls.proofs.InTurn.{not_found}
+use Rattle.unit_calls.proofs.Visit.{below_mark, epoch_low, led_known, log_is, log_low, sparing_seen, standing_found}
 
 -- nothing but places of the log
 abbrev making : List ℕ → Gains
@@ -52,15 +53,6 @@ one_place a x h = elim (cases_eq a x) [
 last_get : (log : List Logged) (line : Logged) → slice_get (log ++ line ∷ []) (length log) ≡ Some line
 last_get [] line = refl
 last_get (x ∷ log) line = last_get log line
-
--- a number that is counted below a mark is below it
-below_mark : (number mark : ℕ) → 0 < once_below number mark → number < mark
-below_mark number mark h = elim (cases_lt number mark) [
-  | inl less ↦ less
-  | inr more ↦
-      let f : nat_lt number mark ≡ false = grind (arith, nat_tests) in
-      let k : 0 < one_if false = subst (λ (b : Bool). 0 < one_if b) f h in absurd (omega arith)
-]
 
 module _ {O : Type 0} (told : Bool) (trace : O → Trace) (faults puts : O → ℕ) (begin : Begin) (found given : BookView O) (v w : View)
     (h : Visited told trace faults puts begin found given v w) where
@@ -185,6 +177,10 @@ module _ {O : Type 0} (told : Bool) (trace : O → Trace) (faults puts : O → �
               mark_known found.state (drop found.standing (entries_in w)) key row kept.rules later in
               let known : mark_of found.state key ≡ mark_of (after_first begin.start (entries_in w) found.standing) key =
               ap (λ (s : State). mark_of s key) led in omega arith;
+          stood = λ clean.
+              let all : entries_in w ≡ entries_of found.log =
+              ap entries_of log_line ∙ entries_both found.log (lines.Piece piece ∷ []) ∙ append-nil (entries_of found.log) in
+              kept.whole (not_found told trace faults puts begin found given v.turn v w h.began h.free h.visits clean) ∙ sym (ap length all);
         }
 
   pub visiting_works : (tasks : List Record) → given ≡ found → Worked begin v w tasks

@@ -13,6 +13,7 @@ use Rattle.unit_calls.proofs.OneRecord.{Turned, handled_answered}
 use Rattle.unit_machine.specs.Machine.{Kept}
 use Rattle.unit_calls.proofs.Moving.{moves_none}
 use Rattle.unit_calls.proofs.Exactness.{wanting_exactly}
+use Rattle.unit_calls.proofs.InTurn.{looks_pass}
 use Rattle.unit_calls.proofs.Stages.{late_stands, unused_late}
 
 -- the worker's turn is as it was
@@ -46,4 +47,5 @@ unserved begin layout segment v task =
 
 pub unserved_exactly : (begin : Begin) (segment : ℕ) (v : View) (task : Record) → AnsweredExactly begin segment v v task (Some unserved_answer)
 unserved_exactly begin segment v task =
-    wanting_exactly begin segment task v v Kept (moves_none begin v v refl) v.turn.known.log [] (same_turn v) tt (λ _. refl)
+    wanting_exactly begin segment task v v Kept (moves_none begin v v refl) v.turn.known.log [] (same_turn v) tt []
+    (looks_pass begin v v [] (same_turn v) (sym (append-nil v.numbers.spent))) (λ _. refl)

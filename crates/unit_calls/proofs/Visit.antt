@@ -1,6 +1,9 @@
 -- What is known of the two books of a worker that took the turn once.
-use Rattle.std.proofs.Common.{◌≡◌, ℕ, ◌-◌, ◌<◌, ◌≤◌, Bool, false, List, ◌++◌, length, take, Some, sym, ◌∙◌, ap, subst, arith, inl, inr, length-append}
+use Rattle.std.proofs.Common.{◌≡◌, ℕ, ◌-◌, ◌<◌, ◌≤◌, Bool, false, nat_lt, List, ◌++◌, length, take, Some, sym, ◌∙◌, ap, subst, arith, inl, inr, length-append}
+use Rattle.std.proofs.lemmas.Bool.{cases_lt}
+use Rattle.std.proofs.lemmas.Bool.Decides.{nat_tests}
 use Rattle.std.proofs.lemmas.List.{take-append-le}
+use Rattle.sdls_base.specs.Numbers.{one_if, once_below}
 use Rattle.sdls_base.specs.declared.TheConstants.{MOST_KEYS}
 use Rattle.sdls_base.specs.declared.entry.Entry.{Entry}
 use Rattle.sdls_base.specs.declared.entry.Logged.{Logged}
@@ -31,6 +34,15 @@ risen_of before now h = grind arith
 pub rose_of : (before now : ℕ) → HasRisen before now → Rose before now
 rose_of before now (inl h) = omega arith
 rose_of before now (inr h) = omega arith
+
+-- a number that is counted below a mark is below it
+pub below_mark : (number mark : ℕ) → 0 < once_below number mark → number < mark
+below_mark number mark h = elim (cases_lt number mark) [
+  | inl less ↦ less
+  | inr more ↦
+      let f : nat_lt number mark ≡ false = grind (arith, nat_tests) in
+      let k : 0 < one_if false = subst (λ (b : Bool). 0 < one_if b) f h in absurd (omega arith)
+]
 
 module _ {O : Type 0} (told : Bool) (trace : O → Trace) (faults puts : O → ℕ) (begin : Begin) (found given : BookView O) (v w : Turn)
     (began : BeganWith told begin v.known.opening) (free : v.holds ≡ false) (visits : Visits told trace faults puts found given v w) where

@@ -1,5 +1,5 @@
 -- The answers to records, by what the calls on the unit answered (profile).
-use Rattle.std.specs.Prelude.{◌≡◌, ◌≢◌, ◌⊎◌, ℕ, ◌≤◌, Bool, List, [], ◌∷◌, ◌++◌, length, take, Option, Some, None, Result, Ok, Err, MatchResult}
+use Rattle.std.specs.Prelude.{◌≢◌, ◌⊎◌, ℕ, ◌≤◌, Bool, List, [], ◌∷◌, length, take, Option, Some, None, Result, Ok, Err, MatchResult}
 use Rattle.sdls_outside.specs.Moments.{Trace}
 use Rattle.frame_checks.specs.declared.open_reply.OpenReply.{OpenReply}
 use Rattle.frame_checks.specs.Accepting.{Leaves, field_in}
@@ -27,8 +27,7 @@ use Rattle.unit_work.specs.Begin.{Begin}
 use Rattle.unit_work.specs.Views.{IsBetween, entries_in}
 use Rattle.unit_work.specs.Deeds.{course_in, deed_of}
 use Rattle.unit_work.specs.Order.{Layout, Handled}
-use Rattle.unit_machine.specs.Machine.{Move}
-use Rattle.unit_machine.specs.Exact.{Exact}
+use Rattle.unit_machine.specs.Alone.{MovedInTurn}
 
 -- ---- answers
 
@@ -85,13 +84,10 @@ abbrev pub Answered : Layout → Begin → ℕ → View → View → Record → 
 Answered layout begin segment old new task (Some answer) = Handled layout begin old new (task ∷ []) (deed_of segment task answer ∷ [])
 Answered layout begin segment old new task None = Handled layout begin old new (task ∷ []) [] × IsFullFor begin old new task
 
--- The record moved a word as its answer tells; where it has none, it may have moved one. Of the lines that the worker made since
--- the old view these are the record's.
+-- The record was served in turn, and moved a word as its answer tells; where it has none, it may have moved one.
 abbrev pub AnsweredExactly : Begin → ℕ → View → View → Record → Option Answer → Type 0
-AnsweredExactly begin segment old new task (Some answer) =
-    (made : List ℕ) × (new.turn.made ≡ old.turn.made ++ made) × Exact begin old new made (deed_of segment task answer ∷ []) []
-AnsweredExactly begin segment old new task None =
-    (made : List ℕ) × (last : List Move) × (length last ≤ 1) × (new.turn.made ≡ old.turn.made ++ made) × Exact begin old new made [] last
+AnsweredExactly begin segment old new task (Some answer) = MovedInTurn begin old new 1 (deed_of segment task answer ∷ [])
+AnsweredExactly begin segment old new task None = MovedInTurn begin old new 1 []
 
 -- ---- what the calls say, for a record
 

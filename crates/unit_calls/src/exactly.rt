@@ -1,4 +1,4 @@
-//! Laws of one lane alone: how a record moves the words, as its answer tells.
+//! Laws of one lane alone: how a record is served in turn, and moves the words as its answer tells.
 ghost use Rattle.std.specs.Prelude.{◌≡◌, ℕ, List, Option, Result, Some, false};
 ghost use Rattle.frame_checks.specs.declared.open_reply.OpenReply.{OpenReply};
 ghost use Rattle.ep_core.specs.declared.reply.Reply.{Reply};
@@ -9,7 +9,8 @@ ghost use Rattle.counter_table.specs.declared.view.View.{View};
 ghost use Rattle.unit_book.specs.declared.fault.BookFault.{BookFault};
 ghost use Rattle.shared_unit.specs.declared.permit.Permit.{Permit};
 ghost use Rattle.shared_unit.specs.declared.permit.Protected.{Protected};
-ghost use Rattle.shared_unit.specs.Protecting.{IsProtectStep};
+ghost use Rattle.shared_unit.specs.Protecting.{CoversIfTaken, IsProtectStep};
+ghost use Rattle.shared_unit.specs.Turn.{FindsCovered};
 ghost use Rattle.unit_work.specs.Begin.{Begin};
 ghost use Rattle.unit_calls.specs.Visiting.{BeganWith};
 ghost use Rattle.unit_calls.specs.Answering.{AnsweredExactly, commanded_answer, CommandsRecord, opened_answer, OpensRecord, protected_answer, unserved_answer};
@@ -27,6 +28,7 @@ pub fn opening_is_exact<O: Site>()
     ensures { (begin : Begin) (segment : ℕ) (v w : View) (task : Record) (left : List ℕ)
         (result : Result (OpenReply × ℕ) (BookFault × ℕ)) → BeganWith O.told begin v.turn.known.opening → v.turn.holds ≡ false
         → task.kind ≡ Open → w.numbers ≡ v.numbers → OpensRecord O.told O.trace O.faults O.put_faults task left result v w
+        → FindsCovered O.told O.trace O.faults O.put_faults v w
         → AnsweredExactly begin segment v w task (opened_answer result left) }
 {}
 
@@ -35,6 +37,7 @@ pub fn commanding_is_exact<O: Site>()
     ensures { (begin : Begin) (segment : ℕ) (v w : View) (task : Record)
         (result : Result (Reply × ℕ) (BookFault × ℕ)) → BeganWith O.told begin v.turn.known.opening → v.turn.holds ≡ false
         → task.kind ≡ Command → CommandsRecord O.told O.trace O.faults O.put_faults task result v w
+        → FindsCovered O.told O.trace O.faults O.put_faults v w
         → AnsweredExactly begin segment v w task (commanded_answer result) }
 {}
 
@@ -44,5 +47,6 @@ pub fn protecting_is_exact<O: Site>()
         (out : List ℕ) (result : Protected) → BeganWith O.told begin v.turn.known.opening → v.turn.holds ≡ false
         → v.turn.known.opening.plan ≡ plan → task.kind ≡ Protect
         → IsProtectStep O.told O.trace O.faults O.put_faults plan task.link task.octets out kept result v w
+        → CoversIfTaken O.told O.trace O.faults O.put_faults v w
         → AnsweredExactly begin segment v w task (protected_answer result out) }
 {}

@@ -18,6 +18,7 @@ use Rattle.unit_work.proofs.Joining.{does_then, does_nothing}
 use Rattle.unit_work.proofs.Logs.{times_both}
 use Rattle.unit_calls.specs.Visiting.{BeganWith}
 use Rattle.run_steps.specs.Doing.{Puts, octets_put}
+use Rattle.unit_machine.proofs.Turns.{clean_before}
 use Rattle.unit_session.specs.Putting.{Begun, Leaves, OfRun, PutsOctets, SettlesAll, TakesOctets, TakesSoFar}
 use Rattle.unit_session.proofs.Octets.{adds_then, takes_behind, between_wider, put_last, put_more, put_some}
 use Rattle.record_io.specs.declared.answers.Answer.{Answer}
@@ -54,6 +55,7 @@ settles_on begin u v w s on =
         marks = λ key row number few is spent.
             subst (λ (es : List Entry). number < mark_of (after_first begin.start es s.entries) key) (sym on.entries)
             (s.at.marks key row number few (subst (λ (es : List Entry). place_of (after begin.start es).keys key ≡ Some row) on.entries is) spent);
+        stood = λ clean. s.at.stood (clean_before v w on.does.grows clean) ∙ sym (ap length on.entries);
       };
       standing = s.standing;
       before = let a = s.before in let b = ap (λ (l : List Logged). length (pieces_of l)) same in omega arith;
@@ -74,6 +76,7 @@ settles_first begin u v w before (inl same) on s = record {
         let t : times row number v.numbers.spent ≡ times row number u.numbers.spent + times row number before.does.gains.spent =
         ap (times row number) before.does.gained.spent ∙ times_both row number u.numbers.spent before.does.gains.spent in
         s.at.marks key row number few is (omega arith);
+    stood = s.at.stood;
   };
   standing = let a = before.does.grows.earlier.standing in let b = s.standing in omega arith;
   before = let a = s.before in let b = ap (λ (l : List Logged). length (pieces_of l)) same in omega arith;

@@ -13,7 +13,7 @@ use Rattle.unit_work.specs.Begin.{Begin}
 use Rattle.unit_work.specs.Deeds.{Ascend, Deed, deeds_of}
 use Rattle.unit_work.specs.Order.{Handled, Layout, LiesIn}
 use Rattle.unit_runs.proofs.Counting.{none_failed}
-use Rattle.unit_machine.specs.Alone.{MovedExactly, OneLane}
+use Rattle.unit_machine.specs.Alone.{OneLane, ServedAlone}
 use Rattle.unit_calls.specs.Visiting.{BeganWith}
 use Rattle.run_steps.specs.Segment.{HandlesAndPuts, PutsWell}
 use Rattle.frame_workers.specs.Ends.{EndsSegment}
@@ -52,7 +52,7 @@ module _ (told : Bool) (v mid w : View) (tasks : List Record) (up : Ascend tasks
     (handled : (begin : Begin) (layout : Layout) (number : ℕ) → BeganWith told begin v.turn.known.opening → LiesIn layout number tasks
     → Handled layout begin v mid tasks (deeds_of number tasks answers))
     (exactly : OneLane tasks → (begin : Begin) (number : ℕ) → BeganWith told begin v.turn.known.opening
-    → MovedExactly begin v mid (length tasks) (deeds_of number tasks answers))
+    → ServedAlone begin v mid (length tasks) (deeds_of number tasks answers))
     (put : PutsOctets told (answers_octets answers) result mid w) where
   own : (begin : Begin) (number : ℕ) → BeganWith told begin v.turn.known.opening
       → Handled (own_layout number tasks) begin v mid tasks (deeds_of number tasks answers)

@@ -32,7 +32,7 @@ returns-clause-exactly g c begin segment b =
     (λ answer. IsCommanded g.O.Site.faults task.index l answer found given v.numbers w.numbers)) c.as_slice.ensures told in
     subst (AnsweredExactly begin segment v w task) (sym c.commanded_answer.ensures)
     (commanding_exactly g.O.Site.told g.O.Site.trace g.O.Site.faults g.O.Site.put_faults begin apart segment task v w found given b c.requires.ready.free c.requires.kind
-    visits c.command-commanded.result handled)
+    visits c.command-commanded.ensures.covered c.command-commanded.result handled)
 
 pub returns-clause-keeps : goal.returns-clause-keeps
 returns-clause-keeps g c permit h =

@@ -58,7 +58,7 @@ returns-clause-exactly g c begin segment b =
     let all : take c.in-Ok.frame.len (left ++ drop (length left) c.in-Ok.frame.items) ≡ left = slice_whole c.in-Ok.frame.len left c.in-Ok.frame.items size c.in-Ok.frame.ok.0 in
     subst (AnsweredExactly begin segment v w task) (sym (c.opened_answer.ensures ∙ ap (opened_answer c.open_frame-opened.result) all))
     (opens_exactly g.O.Site.told g.O.Site.trace g.O.Site.faults g.O.Site.put_faults begin segment task v w found given b c.requires.ready.free c.requires.kind
-    c.open_frame-opened.ensures.numbers.1 visits left c.open_frame-opened.result opened)
+    c.open_frame-opened.ensures.numbers.1 visits c.open_frame-opened.ensures.covered left c.open_frame-opened.result opened)
 
 pub returns-clause-keeps : goal.returns-clause-keeps
 returns-clause-keeps g c permit h =

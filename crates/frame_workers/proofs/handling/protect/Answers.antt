@@ -8,7 +8,7 @@ use Rattle.unit_calls.specs.Answering.{Answered, AnsweredExactly}
 use Rattle.shared_unit.specs.Protecting.{IsProtectStep}
 use Rattle.unit_calls.specs.Answering.{protected_answer}
 use Rattle.unit_calls.proofs.Protectings.{protecting_answers}
-use Rattle.unit_calls.proofs.ProtectsExactly.{protects_exactly}
+use Rattle.unit_calls.proofs.ProtectsExactly.{covers_taken, protects_exactly}
 use Rattle.unit_calls.proofs.Unserved.{unserved, unserved_exactly}
 use Rattle.frame_workers.proofs.Segments.{slice_whole}
 use Rattle.frame_workers.proofs.handling.protect.Goals as goal
@@ -46,4 +46,5 @@ returns-clause-exactly g c begin segment b =
     let all : take c.in-Ok.out.len (out ++ drop (length out) c.in-Ok.out.items) ≡ out = slice_whole c.in-Ok.out.len out c.in-Ok.out.items size c.in-Ok.out.ok.0 in
     subst (AnsweredExactly begin segment v w task) (sym (c.protected_answer.ensures ∙ ap (protected_answer c.protect-protected.result) all))
     (protects_exactly g.O.Site.told g.O.Site.trace g.O.Site.faults g.O.Site.put_faults begin apart segment task v w b c.requires.ready.free c.requires.kind
+    (covers_taken g.O.Site.told g.O.Site.trace g.O.Site.faults g.O.Site.put_faults begin v w b c.requires.ready.free c.protect-protected.ensures.covered)
     c.args.unit.now.plan c.protect-protected.new.kept out c.protect-protected.result c.requires.ready.planned step)

@@ -11,8 +11,8 @@ use Rattle.unit_work.specs.Order.{Layout, Handled}
 use Rattle.unit_work.specs.Lanes.{is_of_lane, of_lane}
 use Rattle.unit_work.proofs.Joining.{grows_itself}
 use Rattle.unit_work.proofs.Handling.{handled_nothing}
-use Rattle.unit_machine.specs.Alone.{MovedExactly}
-use Rattle.unit_machine.proofs.Alone.{moved_nothing}
+use Rattle.unit_machine.specs.Alone.{MovedInTurn}
+use Rattle.unit_machine.proofs.Alone.{turns_nothing}
 use Rattle.unit_calls.specs.Answering.{Answered, AnsweredExactly}
 use Rattle.unit_calls.specs.Visiting.{BeganWith}
 use Rattle.frame_workers.specs.Ends.{EndsSegment}
@@ -34,7 +34,7 @@ loop-task-init g c =
       ascend = c.requires.ascend;
       count = ap length can.empty;
       handled = λ begin layout s b. handled_nothing layout begin (view c.args.lane.now.worker) [];
-      exactly = λ begin s b. moved_nothing begin (view c.args.lane.now.worker);
+      exactly = λ begin s b. turns_nothing begin (view c.args.lane.now.worker);
     }
 
 pub loop-task-preserved-then-task-lane : goal.loop-task-preserved-then-task-lane
@@ -57,7 +57,7 @@ loop-task-preserved-then-task-lane g c =
       count = inv.count ∙ ap length (sym taken);
       handled = λ begin layout s b. subst (λ (l : List Record). Handled layout begin (view c.args.lane.now.worker) (view c.loop-task.lane.worker) l (deeds_of s l xs))
           (sym taken) (inv.handled begin layout s b);
-      exactly = λ begin s b. subst (λ (l : List Record). MovedExactly begin (view c.args.lane.now.worker) (view c.loop-task.lane.worker) (length l) (deeds_of s l xs))
+      exactly = λ begin s b. subst (λ (l : List Record). MovedInTurn begin (view c.args.lane.now.worker) (view c.loop-task.lane.worker) (length l) (deeds_of s l xs))
           (sym taken) (inv.exactly begin s b);
     }
 
@@ -107,7 +107,7 @@ returns-in-None g c =
             let b' : BeganWith g.O.Site.told begin v.turn.known.opening = subst (BeganWith g.O.Site.told begin) (sym x.does.grows.opening) b in
             let y : Answered layout begin s v w r None = subst (Answered layout begin s v w r) c.in-None.is (c.handle-answer.ensures.answered layout begin s b') in
             let z : AnsweredExactly begin s v w r None = subst (AnsweredExactly begin s v w r) c.in-None.is (c.handle-answer.ensures.exactly begin s b') in
-            subst (λ (l : List Record). MovedExactly begin u w (length l) (deeds_of s l xs)) (sym (lane_whole n rs k r c.task-item.is within own))
+            subst (λ (l : List Record). MovedInTurn begin u w (length l) (deeds_of s l xs)) (sym (lane_whole n rs k r c.task-item.is within own))
             (stop_exactly begin s u v w (of_lane n (take k rs)) xs inv.count x.does y.0.does.grows (inv.exactly begin s b) (of_lane n (drop (suc k) rs)) r z);
       };
     }
@@ -149,8 +149,8 @@ loop-task-preserved g c =
           subst (Answered layout begin s v w r) c.in-Some.is (c.handle-answer.ensures.answered layout begin s b') in
           let z : AnsweredExactly begin s v w r (Some c.in-Some.answer) =
           subst (AnsweredExactly begin s v w r) c.in-Some.is (c.handle-answer.ensures.exactly begin s b') in
-          subst (λ (l : List Answer). MovedExactly begin u w (length (of_lane n (take (k + 1) rs))) (deeds_of s (of_lane n (take (k + 1) rs)) l)) (sym pushed.items)
-          (subst (λ (l : List Record). MovedExactly begin u w (length l) (deeds_of s l (xs ++ c.in-Some.answer ∷ []))) (sym taken)
+          subst (λ (l : List Answer). MovedInTurn begin u w (length (of_lane n (take (k + 1) rs))) (deeds_of s (of_lane n (take (k + 1) rs)) l)) (sym pushed.items)
+          (subst (λ (l : List Record). MovedInTurn begin u w (length l) (deeds_of s l (xs ++ c.in-Some.answer ∷ []))) (sym taken)
           (next_exactly begin s u v w (of_lane n (take k rs)) xs inv.count x.does y.does.grows (inv.exactly begin s b) r c.in-Some.answer z));
     }
 
@@ -167,7 +167,7 @@ returns g c =
         is_ready = inv.is_ready;
         shares = inv.shares;
         handled = λ begin layout s b. subst (λ (l : List Record). Handled layout begin u v (of_lane n l) (deeds_of s (of_lane n l) xs)) whole (inv.handled begin layout s b);
-        exactly = λ begin s b. subst (λ (l : List Record). MovedExactly begin u v (length (of_lane n l)) (deeds_of s (of_lane n l) xs)) whole (inv.exactly begin s b);
+        exactly = λ begin s b. subst (λ (l : List Record). MovedInTurn begin u v (length (of_lane n l)) (deeds_of s (of_lane n l) xs)) whole (inv.exactly begin s b);
         ends = λ begin b. subst (EndsSegment begin u v (of_lane n rs) xs) (sym inv.going) (inv.count ∙ ap (λ (l : List Record). length (of_lane n l)) whole);
       };
     }

@@ -6,7 +6,7 @@ use Rattle.unit_work.specs.Begin.{Begin}
 use Rattle.unit_work.specs.Deeds.{Ascend, deeds_of}
 use Rattle.unit_work.specs.Order.{Layout, Handled}
 use Rattle.unit_work.specs.Lanes.{of_lane}
-use Rattle.unit_machine.specs.Alone.{MovedExactly}
+use Rattle.unit_machine.specs.Alone.{MovedInTurn}
 use Rattle.unit_calls.specs.Visiting.{BeganWith}
 use Rattle.frame_workers.proofs.lane.run_lane.Given as goal
 
@@ -24,6 +24,6 @@ invariant-loop-task g l = record {
       → Handled layout begin (view l.initial.lane.worker) (view l.lane.worker) (of_lane l.initial.lane.number (take l.task-index l.records))
       (deeds_of segment (of_lane l.initial.lane.number (take l.task-index l.records)) l.lane.answers.items);
   exactly : (begin : Begin) (segment : ℕ) → BeganWith g.O.Site.told begin (view l.initial.lane.worker).turn.known.opening
-      → MovedExactly begin (view l.initial.lane.worker) (view l.lane.worker) (length (of_lane l.initial.lane.number (take l.task-index l.records)))
+      → MovedInTurn begin (view l.initial.lane.worker) (view l.lane.worker) (length (of_lane l.initial.lane.number (take l.task-index l.records)))
       (deeds_of segment (of_lane l.initial.lane.number (take l.task-index l.records)) l.lane.answers.items);
 }

@@ -8,7 +8,7 @@ use Rattle.unit_work.specs.Views.{keeping, meeting, Meets, starting}
 use Rattle.unit_work.specs.Deeds.{deeds_of}
 use Rattle.unit_work.specs.Order.{Handled}
 use Rattle.unit_work.specs.Lanes.{MeetAll, meeting_all, parts_deeds}
-use Rattle.unit_machine.specs.Alone.{MovedExactly}
+use Rattle.unit_machine.specs.Alone.{ServedAlone}
 use Rattle.frame_workers.specs.Ends.{EndsSegment}
 use Rattle.frame_workers.specs.Lanes.{AreAmong, AreApart, HasRun, answers_of, left_at, parts_of}
 use Rattle.frame_workers.proofs.Joins.{each_among}
@@ -152,7 +152,7 @@ returns-clause-alone g c (lane, one) begin number b =
     let left : (n : ℕ) → left_at n c.as_mut_slice-3.result.now ≡ answers_of n (parts_of new) =
     λ n. ap (left_at n) (c.as_mut_slice-3.ensures.value ∙ rooms) ∙ (c.join_lanes.ensures.parts n ∙ ap (λ l. answers_of n (parts_of l)) whole) in
     let (rest, is) = c.place_answers-full.ensures.in_turn lane one in
-    subst (λ (v : View). MovedExactly begin base v (length rs) (deeds_of number rs c.place_answers-full.new.answers.items)) (sym last_is)
+    subst (λ (v : View). ServedAlone begin base v (length rs) (deeds_of number rs c.place_answers-full.new.answers.items)) (sym last_is)
     (all_exactly (IsReady c.args.unit.now.counters c.args.unit.now.plan) g.O.Site.told rs base old new c.split_lanes.ensures.split c.split_lanes.ensures.apart c.split_lanes.ensures.each many ran now c.split_lanes.ensures.given few c.requires.ready.free c.requires.ready.filled meet two back
     lane one c.requires.lanes begin number b c.place_answers-full.new.answers.items rest (is ∙ left lane)
     (by_end c.place_answers-full.result c.place_answers-full.ensures.all
