@@ -4,11 +4,14 @@ ghost use Rattle.sdls_base.specs.declared.TheConstants.{MOST_KEYS};
 ghost use Rattle.std.specs.List.{slice_index_or};
 ghost use Rattle.sdls_outside.specs.Faults.{Rose};
 ghost use Rattle.record_io.specs.declared.answers.Answer.{Answer};
+ghost use Rattle.record_io.specs.Places.{records_of};
 ghost use Rattle.record_io.specs.declared.status.TheConstants.{DONE, SITE_FAULT, NO_MEMORY, SESSION_FULL};
 ghost use Rattle.unit_plan.specs.PlanLines.{PlanLines};
 ghost use Rattle.unit_state.specs.declared.state.State.{State};
 ghost use Rattle.unit_image.specs.Shows.{ShowsNone};
+ghost use Rattle.unit_machine.specs.Alone.{OneLane};
 ghost use Rattle.unit_runs.specs.Sound.{IsSound};
+ghost use Rattle.run_ends.specs.Alone.{NoneWants, RunsAlike};
 ghost use Rattle.run_ends.specs.declared.end.RunEnd.TheVariants as ends;
 ghost use Rattle.run_ends.specs.Call.{CallSeen, image_at_entry, ShowsAtEntry};
 ghost use Rattle.run_ends.specs.Account.{Account, TellsFault, begin_of, course_of, due_octets, end_status};
@@ -17,7 +20,9 @@ ghost use Rattle.run_ends.specs.Lives.{KeepsLives, KeepsLivesReading, no_account
 ghost use Rattle.run_ends.specs.Says.{DidAll, GoesToItsEnd, IsFullHistory, IsLeftRefused, IsUnhindered};
 
 use record_io::input_reads_once;
+use unit_history::{releases_are_stored, rules_stay_along, stored_counts_add};
 use unit_image::refused_with_one;
+use unit_machine::served_once;
 use unit_runs::used_once_in_a_life;
 
 /// Law: status 0 says that all was read, answered and put.
@@ -100,4 +105,21 @@ pub fn one_input_is_handled_alike()
         → (again.account.handled ≡ run.account.handled) × (length again.account.answers ≡ length run.account.answers) }
 {
     input_reads_once();
+}
+
+/// Law: two calls over one image with one input, all of one lane, both with status 0 and none wanting memory for a record, have the
+/// same answers and the same entries, and put the same octets.
+pub fn one_lane_runs_alike()
+    ensures { (call other : CallSeen) (run : RunEnds call) (again : RunEnds other) (plan : PlanLines) (state : State)
+        → call.status ≡ DONE → other.status ≡ DONE → IsTrue call.source.told → IsTrue other.source.told → IsTrue call.site.told
+        → IsTrue other.site.told → other.source.left ≡ call.source.left → image_at_entry other ≡ image_at_entry call
+        → ShowsAtEntry call plan state → OneLane (records_of run.account.handled)
+        → NoneWants run.account.answers → NoneWants again.account.answers → RunsAlike call other run.account again.account }
+{
+    one_input_is_handled_alike();
+    zero_says_all();
+    served_once();
+    rules_stay_along();
+    releases_are_stored();
+    stored_counts_add();
 }

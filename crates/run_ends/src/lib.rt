@@ -12,6 +12,6 @@ mod laws;
 pub use end::RunEnd;
 pub use laws::{
     due_is_put, faults_are_told, full_is_told, goes_to_its_end, one_input_is_handled_alike,
-    refused_stays, sound_call_keeps_lives, sound_reading_keeps_lives,
+    one_lane_runs_alike, refused_stays, sound_call_keeps_lives, sound_reading_keeps_lives,
     status_five_has_a_fault, status_tells_what_came, unhindered_run_completes, zero_says_all,
 };
