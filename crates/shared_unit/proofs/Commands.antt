@@ -24,7 +24,8 @@ use Rattle.unit_book.specs.Marks.{KeepsMarks, marks_of}
 use Rattle.unit_book.specs.Book.{BookView, IsKept, IsUnstored}
 use Rattle.unit_book.specs.Epoch.{epoch_state}
 use Rattle.unit_book.specs.Records.{Handles, RefusesMessage}
-use Rattle.unit_book.proofs.KeptLaws.{kept_still, kept_changes, one_need}
+use Rattle.unit_history.proofs.OneStep.{need_one}
+use Rattle.unit_book.proofs.KeptLaws.{kept_still, kept_changes}
 use Rattle.unit_book.proofs.EpochStates.{alike_served}
 use Rattle.unit_book.proofs.GoingOn.{goes_then}
 use Rattle.shared_unit.specs.Told.{told_by}
@@ -115,7 +116,7 @@ module _ {O : Type 0} (trace : O → Trace) (faults puts : O → ℕ) where
     satisfies_fits pdu need other seen found middle v w h is before after up there =
         let served = alike_served found.plan middle.state found.state
         (needs_same found middle before after up (satisfies_changes faults puts need seen found middle v w h)) in
-        let one : need ≡ other = one_need found.state pdu need other is ((served.needs pdu other).0 there) in
+        let one : need ≡ other = need_one found.state pdu need other is ((served.needs pdu other).0 there) in
         subst (λ (n : Need). Fits middle.state n seen) one (fits_need faults puts need seen found middle v w h)
 
     pub holds_visits : (found given : BookView O) (t v w u : Turn) → IsKept told trace faults found → IsKept told trace faults given

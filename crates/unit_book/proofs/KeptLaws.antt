@@ -1,8 +1,7 @@
 -- What holds of a book that is kept.
-use Rattle.std.proofs.Common.{◌≡◌, ℕ, ◌<◌, ◌≤◌, Bool, List, [], ◌∷◌, ◌++◌, length, take, Some, refl, sym, ◌∙◌, ap, subst, inl, inr, arith, length-append}
+use Rattle.std.proofs.Common.{◌≡◌, ℕ, ◌<◌, ◌≤◌, Bool, List, [], ◌∷◌, ◌++◌, length, take, Some, refl, sym, ◌∙◌, ap, subst, arith, length-append}
 use Rattle.std.specs.List.{slice_get}
 use Rattle.std.proofs.lemmas.List.{take_all}
-use Rattle.std.proofs.lemmas.Option.{none-some}
 use Rattle.sdls_base.specs.declared.TheConstants.{MOST_KEYS}
 use Rattle.sdls_base.specs.declared.entry.Entry.{Entry}
 use Rattle.sdls_base.specs.declared.entry.Logged.{Logged}
@@ -16,11 +15,7 @@ use Rattle.unit_state.specs.Restart.{still}
 use Rattle.unit_state.specs.History.{after, epoch_after}
 use Rattle.unit_state.specs.Laws.{KeepsPlaces}
 use Rattle.unit_state.proofs.StateLaws.{places_kept}
-use Rattle.ep_codec.proofs.CommandReadings.{message_has_none, one_value}
-use Rattle.ep_core.specs.declared.need.Need.{Need}
-use Rattle.ep_core.specs.Need.{need_of}
 use Rattle.unit_history.specs.Log.{entries_of}
-use Rattle.unit_history.specs.Entries.{IsNeedOf}
 use Rattle.unit_book.specs.Book.{BookView, IsKept, Made}
 use Rattle.unit_book.specs.Epoch.{epoch_state, HasBounds, StandsLast}
 use Rattle.unit_book.proofs.Growing.{first_all}
@@ -87,13 +82,3 @@ made_stands {O} faults entry old new position made =
       entries = entries;
       position_is = made.1.position_is ∙ ap (λ (all : List Entry). length all) entries ∙ length-append (entries_of old.log) (entry ∷ []);
     }
-
--- a message has one need
-pub one_need : (state : State) (octets : List ℕ) (one other : Need) → IsNeedOf state octets one → IsNeedOf state octets other → one ≡ other
-one_need state octets one other (inl (command, spelled, is)) (inl (again, spells, same)) =
-    is ∙ ap (need_of state) (one_value command again octets spelled spells) ∙ sym same
-one_need state octets one other (inl (command, spelled, is)) (inr (offset, fault, same)) =
-    absurd (none-some offset (sym (message_has_none command octets spelled) ∙ fault))
-one_need state octets one other (inr (offset, fault, is)) (inl (command, spelled, same)) =
-    absurd (none-some offset (sym (message_has_none command octets spelled) ∙ fault))
-one_need state octets one other (inr (offset, fault, is)) (inr (at, again, same)) = is ∙ sym same

@@ -65,12 +65,6 @@ pub fn calls_go_on<O: Site>()
     ensures { (old mid new : BookView O) → GoesOn O.faults old mid → GoesOn O.faults mid new → GoesOn O.faults old new }
 {}
 
-/// Law: a message has one need.
-pub fn one_need()
-    ensures { (state : State) (octets : List ℕ) (one other : Need) → IsNeedOf state octets one → IsNeedOf state octets other
-        → one ≡ other }
-{}
-
 /// Law: the key that a need names is there, and the number that it names lies below the key's end.
 pub fn needs_name_keys()
     ensures { (state : State) (octets : List ℕ) (need : Need) → KeepsRules state → IsNeedOf state octets need → NamesKey state need }

@@ -26,7 +26,7 @@ mod showing;
 pub use book::Book;
 pub use fault::BookFault;
 pub use laws::{
-    calls_go_on, entries_lead, entries_stand, marks_stand, needs_name_keys, one_need,
-    serves_at_epoch, states_have_bounds, states_serve_alike,
+    calls_go_on, entries_lead, entries_stand, marks_stand, needs_name_keys, serves_at_epoch,
+    states_have_bounds, states_serve_alike,
 };
 pub use limits::MOST_ENTRIES;

@@ -36,7 +36,7 @@ use Rattle.unit_history.proofs.Used.{used_needed}
 use Rattle.unit_book.specs.declared.fault.BookFault.{BookFault}
 use Rattle.unit_book.specs.Book.{BookView, CanEnter}
 use Rattle.unit_book.specs.Records.{Handles, RefusesMessage}
-use Rattle.unit_book.proofs.KeptLaws.{one_need}
+use Rattle.unit_history.proofs.OneStep.{need_one}
 use Rattle.unit_book.proofs.EpochStates.{alike_served}
 use Rattle.shared_unit.specs.Calls.{WithPosition}
 use Rattle.shared_unit.specs.Commanding.{RaisesWord, FailsFor, Satisfies, IsCommanded}
@@ -199,7 +199,7 @@ module _ {O : Type 0} (told : Bool) (trace : O → Trace) (faults puts : O → �
     pub same_need : (other : Need) → IsNeedOf middle.state c.task.octets other → need ≡ other
     same_need other there =
         let served = alike_served c.found.plan middle.state c.found.state s.still_is in
-        one_need c.found.state c.task.octets need other needed ((served.needs c.task.octets other).0 there)
+        need_one c.found.state c.task.octets need other needed ((served.needs c.task.octets other).0 there)
 
     sees : SeesFor middle.state c.task.octets seen
     sees other there = subst (λ (n : Need). Fits middle.state n seen) (same_need other there) s.fits
