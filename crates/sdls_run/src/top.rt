@@ -70,7 +70,8 @@ pub fn run<R: Threads + Wait + Sync, S: Source, O: Site + Send, G: Gate + Sync>(
         let call : CallSeen = call_seen O.told O.trace O.faults O.put_faults site result.site before after result.status result.entries.items in
         ShowsAtEntry call plan state → KeepsLivesReading call }
 
-    // A drill puts the counts of the answers of its own two units. To the site nothing is done but to put, and the image stays.
+    // A drill puts the counts of the answers of its own two units, which are all frames where no answer tells want of memory. To the
+    // site nothing is done but to put, and the image stays.
     ensures drill { (number : ℕ) → IsDrill words.now number → EndsDrill number
         O.told (O.trace site) (O.trace result.site) (Rose (O.faults site) (O.faults result.site)) result.status }
 

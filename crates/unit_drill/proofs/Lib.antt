@@ -1,4 +1,3 @@
 pub mod DrillWords
 pub mod Opened
-pub mod Lanes
 pub mod Served

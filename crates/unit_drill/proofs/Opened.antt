@@ -1,5 +1,5 @@
 -- A unit that was opened on a site in memory: for `DrillUnit::open`.
-use Rattle.std.proofs.Common.{◌≡◌, ℕ, true, List, length, refl, sym, ◌∙◌, ap, subst, Ok}
+use Rattle.std.proofs.Common.{◌≡◌, ℕ, true, List, length, refl, ◌∙◌, ap, subst, Ok}
 use Rattle.sdls_outside.specs.Moments.{Trace}
 use Rattle.sdls_outside.specs.Crash.{fresh}
 use Rattle.disk_journal.specs.Image.{held, records, slot_count}
@@ -16,7 +16,8 @@ use Rattle.shared_unit.specs.Sharing.{Begins}
 use Rattle.shared_unit.specs.Sharing as sharing
 use Rattle.unit_work.specs.Begin.{Begin}
 use Rattle.unit_drill.specs.declared.image.TheConstants.{SLOTS}
-use Rattle.unit_drill.specs.Drilled.{IsOpened, MayServe}
+use Rattle.drill_laws.specs.Drilled.{IsOpened}
+use Rattle.unit_drill.specs.Drilled.{MayServe}
 
 module _ {O B : Type 0} (trace : O → Trace) (faults puts : O → ℕ) (site : O) (book : BookView O) (counters : Counters B) (planned : PlanLines)
     (worker : Worker B) (opened : sharing.IsOpened true trace faults puts site book)
@@ -52,11 +53,14 @@ module _ {O B : Type 0} (trace : O → Trace) (faults puts : O → ℕ) (site : 
         says = subst (λ (i : List ℕ). plan_of (held i).plan ≡ Ok book.plan) image_is (opened.plan refl);
         shows = subst (λ (i : List ℕ). Shows i book.start) image_is (opened.shows refl).0;
         whole = begins.whole;
-        log = begins.log;
-        made = begins.made;
-        drawn = begins.drawn;
-        spent = begins.spent;
-        words = begins.words;
+        opened = record {
+          none_drawn = begins.drawn;
+          none_made = begins.made;
+          no_log = begins.log;
+          nexts = begins.words;
+          raised = begins.raised;
+          added = begins.added;
+        };
       },
     ),
   )

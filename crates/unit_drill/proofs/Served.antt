@@ -1,9 +1,10 @@
 -- A segment that a unit of a drill handled: for `DrillUnit::serve`.
-use Rattle.std.proofs.Common.{◌≡◌, ℕ, ◌<◌, ◌≤◌, true, false, Bool, List, length, refl, sym, ◌∙◌, subst, arith}
+use Rattle.std.proofs.Common.{◌≡◌, ℕ, ◌≤◌, true, false, Bool, List, length, refl, sym, subst, arith}
 use Rattle.std.specs.List.{All, list_any}
 use Rattle.std.proofs.lemmas.Option.{slice_get_within}
 use Rattle.counter_table.specs.declared.view.Opening.{Opening}
 use Rattle.counter_table.specs.declared.view.View.{View}
+use Rattle.counter_table.specs.Whole.{IsWhole}
 use Rattle.record_io.specs.declared.answers.Answer.{Answer}
 use Rattle.record_io.specs.declared.records.Record.{Record}
 use Rattle.unit_work.specs.Begin.{Begin}
@@ -12,18 +13,18 @@ use Rattle.unit_work.specs.Order.{Handled, Layout, LiesIn}
 use Rattle.unit_calls.specs.Visiting.{BeganWith}
 use Rattle.disk_journal.specs.Image.{records, slot_count}
 use Rattle.frame_workers.specs.Ends.{EndsSegment}
-use Rattle.unit_drill.specs.Drilled.{Serves, tells_fault}
-use Rattle.unit_drill.proofs.Lanes.{OnLane, drill_layout, drill_lies}
+use Rattle.drill_laws.specs.Drilled.{Serves, tells_fault}
+use Rattle.drill_laws.proofs.Tasks.{OnLane, drill_layout, drill_lies}
 
 pub served : (v w : View) (tasks : List Record) (answers : List Answer) (full : Bool) (ahead : ℕ) → All (OnLane ahead) tasks
     → ((begin : Begin) (layout : Layout) (number : ℕ) → BeganWith true begin v.turn.known.opening → LiesIn layout number tasks
     → Handled layout begin v w tasks (deeds_of number tasks answers))
     → ((begin : Begin) → BeganWith true begin v.turn.known.opening → EndsSegment begin v w tasks answers full)
-    → list_any tells_fault answers ≡ false
+    → list_any tells_fault answers ≡ false → IsWhole 512 w
     → (begin : Begin) → BeganWith true begin v.turn.known.opening
     → Serves begin v w tasks answers × BeganWith true begin w.turn.known.opening
-served v w tasks answers full ahead lanes handled ends quiet begin began = (
-  record { handled = λ layout number lies. handled begin layout number began lies; full = full; ends = ends begin began; quiet = quiet },
+served v w tasks answers full ahead lanes handled ends quiet whole begin began = (
+  record { handled = λ layout number lies. handled begin layout number began lies; full = full; ends = ends begin began; quiet = quiet; whole = whole },
   subst (λ (o : Opening). BeganWith true begin o)
       (sym (handled begin (drill_layout ahead) 0 began (drill_lies ahead tasks lanes)).does.grows.opening) began,
 )

@@ -3,7 +3,8 @@ ghost use Rattle.std.specs.Prelude.{◌≡◌, ◌*◌, ◌+◌, ◌≤◌, true
 ghost use Rattle.counter_table.specs.Worker.{view};
 ghost use Rattle.unit_work.specs.Begin.{Begin};
 ghost use Rattle.unit_calls.specs.Visiting.{BeganWith};
-ghost use Rattle.unit_drill.specs.Drilled.{IsChunk, MayServe};
+ghost use Rattle.drill_laws.specs.Drilled.{IsChunk};
+ghost use Rattle.unit_drill.specs.Drilled.{MayServe};
 
 use crate::unit::DrillUnit;
 use drill_frames::{

@@ -1,16 +1,19 @@
 //! The drill.
-ghost use Rattle.std.specs.Prelude.{◌≡◌, ◌+◌, ◌*◌, ◌≤◌, min, [], ◌++◌, IfOk};
+ghost use Rattle.std.specs.Prelude.{◌≡◌, ◌+◌, ◌*◌, ◌≤◌, min, List, [], ◌++◌, IfOk};
 ghost use Rattle.sdls_outside.specs.Faults.{Rose};
 ghost use Rattle.sdls_plain.specs.Answer.{Ends};
 ghost use Rattle.drill_frames.specs.declared.counts.Counts.{Counts};
 ghost use Rattle.drill_frames.specs.Line.{drill_text};
-ghost use Rattle.unit_drill.specs.Drilled.{EndsDrill, IsDrilled};
+ghost use Rattle.record_io.specs.declared.answers.Answer.{Answer};
+ghost use Rattle.drill_laws.specs.Drilled.{IsDrilled};
+ghost use Rattle.unit_drill.specs.Drilled.{AreCounts, EndsDrill};
 
 use crate::chunk::Pair;
 use crate::image::{receiver_plan, sender_plan};
 use crate::unit::DrillUnit;
 use crate::words::MOST_FRAMES;
 use drill_frames::{CHUNK, Counts, drill_line};
+use drill_laws::drill_is_complete;
 use frame_workers::Gate;
 use record_io::status::{DONE, NO_MEMORY, SITE_FAULT};
 use sdls_base::NoMemory;
@@ -36,7 +39,7 @@ fn counts_of<R: Threads + Wait + Sync, G: Gate + Sync>(
     gate: &G,
 ) -> Result<Counts, NoMemory>
     requires { number ≤ MOST_FRAMES }
-    ensures { IfOk result (λ counts. IsDrilled number counts) }
+    ensures { IfOk result (λ counts. (answers : List Answer) × IsDrilled number answers counts) }
 {
     let mut pair = Pair {
         sender: DrillUnit::open(rt, alloc, sender_plan())?,
@@ -59,9 +62,11 @@ fn line_of<R: Threads + Wait + Sync, G: Gate + Sync>(
     gate: &G,
 ) -> Result<Vec<u8>, NoMemory>
     requires { number ≤ MOST_FRAMES }
-    ensures { IfOk result (λ line. (counts : Counts) × IsDrilled number counts × (line.items ≡ drill_text number counts)) }
+    ensures { IfOk result (λ line. (counts : Counts) × AreCounts number counts × (line.items ≡ drill_text number counts)) }
 {
     let counts = counts_of(rt, alloc, number, gate)?;
+    // For contracts alone: where no answer told want of memory, all frames are counted.
+    drill_is_complete();
     drill_line(alloc, number, counts)
 }
 

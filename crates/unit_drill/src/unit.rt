@@ -6,7 +6,8 @@ ghost use Rattle.record_io.specs.declared.records.Record.{Record};
 ghost use Rattle.unit_work.specs.Begin.{Begin};
 ghost use Rattle.unit_work.specs.Deeds.{Ascend};
 ghost use Rattle.unit_calls.specs.Visiting.{BeganWith};
-ghost use Rattle.unit_drill.specs.Drilled.{IsOpened, MayServe, Serves, tells_fault};
+ghost use Rattle.drill_laws.specs.Drilled.{IsOpened, Serves, tells_fault};
+ghost use Rattle.unit_drill.specs.Drilled.{MayServe};
 
 use crate::image::site_of;
 use disk_journal::PLAN_ROOM;

@@ -1,8 +1,10 @@
-use Rattle.std.proofs.Common.{◌≡◌, ◌*◌, ◌≤◌, true}
+use Rattle.std.proofs.Common.{◌*◌, ◌≤◌, true, List}
+use Rattle.record_io.specs.declared.answers.Answer.{Answer}
 use Rattle.counter_table.specs.Worker.{view}
 use Rattle.unit_work.specs.Begin.{Begin}
 use Rattle.unit_calls.specs.Visiting.{BeganWith}
-use Rattle.unit_drill.specs.Drilled.{AreChunks, MayServe}
+use Rattle.drill_laws.specs.Drilled.{AreChunks}
+use Rattle.unit_drill.specs.Drilled.{MayServe}
 use Rattle.unit_drill.proofs.running.counts_of.Given as goal
 
 abbrev pub invariant-loop-chunk : goal.invariant-loop-chunk
@@ -13,8 +15,8 @@ invariant-loop-chunk g l = record {
       → BeganWith true other (view l.initial.pair.receiver.worker).turn.known.opening
       → BeganWith true one (view l.pair.sender.worker).turn.known.opening
       × BeganWith true other (view l.pair.receiver.worker).turn.known.opening
-      × AreChunks one other l.number (view l.initial.pair.sender.worker) (view l.initial.pair.receiver.worker) l.chunk
-      (view l.pair.sender.worker) (view l.pair.receiver.worker) l.counts;
+      × ((answers : List Answer) × AreChunks one other l.number (view l.initial.pair.sender.worker) (view l.initial.pair.receiver.worker) l.chunk
+      (view l.pair.sender.worker) (view l.pair.receiver.worker) answers l.counts);
   protected : l.counts.protected ≤ 1024 * l.chunk;
   accepted : l.counts.accepted ≤ 1024 * l.chunk;
   rejected : l.counts.rejected ≤ 1024 * l.chunk;

@@ -1,7 +1,7 @@
-use Rattle.std.proofs.Common.{◌≡◌, ◌≤◌, false, length, ap, arith}
+use Rattle.std.proofs.Common.{◌≡◌, false, length, ap, arith}
 use Rattle.std.specs.List.{list_any}
 use Rattle.counter_table.specs.Worker.{view}
-use Rattle.unit_drill.specs.Drilled.{tells_fault}
+use Rattle.drill_laws.specs.Drilled.{tells_fault}
 use Rattle.unit_drill.proofs.Served.{few_answers, served}
 use Rattle.unit_drill.proofs.unit.DrillUnit.serve.Goals as goal
 
@@ -12,6 +12,7 @@ returns-clause-serves g c =
     let quiet : list_any tells_fault c.in_ok-segment.segment.answers.items ≡ false = cc in
     served (view c.args.self.now.worker) (view c.run_segment.new.worker) c.args.records.now c.in_ok-segment.segment.answers.items
     c.in_ok-segment.segment.full c.requires.lanes.0 c.requires.lanes.1 c.in_ok-segment.ensures.handled c.in_ok-segment.ensures.full quiet
+    (c.in_ok-segment.ensures.whole c.requires.may.shares)
 
 pub returns-clause-few : goal.returns-clause-few
 returns-clause-few g c =

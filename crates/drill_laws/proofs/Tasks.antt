@@ -1,5 +1,5 @@
--- The lanes of a drill's records, and that their indexes ascend: for what a segment wants.
-use Rattle.std.proofs.Common.{◌≡◌, ℕ, zero, suc, ◌+◌, ◌-◌, ◌%◌, ◌<◌, ◌≤◌, ◌==◌, Bool, true, false, cond, List, [], ◌∷◌, length, get_or, map, refl, sym, ◌∙◌, ap, subst, arith}
+-- The lanes of a drill's records, and that their indexes ascend: for what a segment wants, and for the law on a whole drill.
+use Rattle.std.proofs.Common.{◌≡◌, ℕ, zero, suc, ◌+◌, ◌-◌, ◌%◌, ◌<◌, ◌≤◌, ◌==◌, Bool, true, false, cond, List, [], ◌∷◌, get_or, refl, sym, ap, arith}
 use Rattle.std.specs.List.{All, range_with_len}
 use Rattle.std.proofs.lemmas.List.Elements.{All-nil, All-cons, All-map, All-weaker, All-contains}
 use Rattle.std.proofs.lemmas.List.FromFn.{get_or-map-range_with_len, length-map-range_with_len}
@@ -62,7 +62,7 @@ open_least least ahead first (answer ∷ answers) low =
     all_cond (λ (task : Record). least ≤ task.index) (answer.code == PROTECTED) (open_task (first + ahead) first answer.body)
     (open_tasks ahead (first + 1) answers) low (open_least least ahead (first + 1) answers (omega arith))
 
-ascend_cons : (task : Record) (tasks : List Record) → All (λ (other : Record). task.index < other.index) tasks → Ascend tasks → Ascend (task ∷ tasks)
+pub ascend_cons : (task : Record) (tasks : List Record) → All (λ (other : Record). task.index < other.index) tasks → Ascend tasks → Ascend (task ∷ tasks)
 ascend_cons task tasks above up zero zero d before low = absurd (omega arith)
 ascend_cons task tasks above up zero (suc j) d before low = above j d (omega arith)
 ascend_cons task tasks above up (suc i) zero d before low = absurd (omega arith)

@@ -1,0 +1,16 @@
+pub mod Read
+pub mod Starting
+pub mod Lanes
+pub mod Binding
+pub mod Opening
+pub mod Reserving
+pub mod Sending
+pub mod Judging
+pub mod Accepting
+pub mod Receiving
+pub mod Opened
+pub mod Tasks
+pub mod Lists
+pub mod SentChunks
+pub mod OpenedChunks
+pub mod Complete
