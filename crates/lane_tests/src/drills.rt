@@ -1,0 +1,52 @@
+// A drill, as its gate sees it.
+use sdls_outside::{MemSite, SureSource};
+use sdls_run::status::DONE;
+use sdls_run::{Gate, Outcome, run};
+use std::sync::atomic::{AtomicU64, Ordering};
+use std::test::Fail;
+
+/// How often each of its calls was made.
+#[derive(Drop)]
+struct Counting {
+    passed: AtomicU64,
+    done: AtomicU64,
+}
+
+impl Gate for Counting {
+    fn pass(&self, _lane: u8, _index: u64) {
+        self.passed.fetch_add(1, Ordering::SeqCst);
+    }
+
+    fn done(&self, _lane: u8, _index: u64) {
+        self.done.fetch_add(1, Ordering::SeqCst);
+    }
+}
+
+/// A thousand frames are protected and opened, and the first of each of four chunks is opened again: the gate is called before and
+/// after 2,004 records. So the line is not put from numbers that are known beforehand.
+#[test]
+fn a_drill_handles_its_records(rt: HostRuntime) -> Result<(), Fail> {
+    let alloc = rt.alloc();
+    let mut words = Vec::new(alloc);
+    words.push(String::from_str(alloc, "drill")?)?;
+    words.push(String::from_str(alloc, "1000")?)?;
+    let gate = Counting {
+        passed: AtomicU64::new(0),
+        done: AtomicU64::new(0),
+    };
+    let mut source = SureSource::new(Vec::new(alloc));
+    let site = MemSite::new(alloc, Vec::new(alloc), Vec::new(alloc), None);
+    let Outcome {
+        status,
+        site,
+        entries,
+    } = run(&rt, alloc, words.as_slice(), &mut source, site, &gate);
+    assert_eq!(rt; (status, entries.len()), (DONE, 0));
+    assert_eq!(rt;
+        site.sunk(),
+        b"drill 1000 protected 1000 accepted 1000 rejected 4\n".as_slice()
+    );
+    assert_eq!(rt; gate.passed.load(Ordering::SeqCst), 2004);
+    assert_eq!(rt; gate.done.load(Ordering::SeqCst), 2004);
+    Ok(())
+}
