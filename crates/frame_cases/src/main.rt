@@ -63,29 +63,70 @@ fn aos(alloc: Global, words: &mut SplitWhitespace<'_>) -> anyhow::Result<String>
     reading::aos(alloc, &layout, frame.as_slice())
 }
 
+/// What a case of frames answers, none where the word names another.
+fn of_frames(
+    alloc: Global,
+    kind: &str,
+    words: &mut SplitWhitespace<'_>,
+) -> Option<anyhow::Result<String>> {
+    match kind {
+        "tc" => Some(tc(alloc, words)),
+        "tm" => Some(tm(alloc, words)),
+        "aos" => Some(aos(alloc, words)),
+        "bits" => Some(bits::answer(alloc, words)),
+        "protect" => Some(sealed::protect(alloc, words)),
+        "open" => Some(sealed::open(alloc, words)),
+        _ => None,
+    }
+}
+
+/// The same of security headers.
+fn of_headers(
+    alloc: Global,
+    kind: &str,
+    words: &mut SplitWhitespace<'_>,
+) -> Option<anyhow::Result<String>> {
+    match kind {
+        "index" => Some(headers::index(alloc, words)),
+        "room" => Some(headers::room(alloc, words)),
+        "header" => Some(headers::header(alloc, words)),
+        "mask" => Some(headers::under_mask(alloc, words)),
+        _ => None,
+    }
+}
+
+/// The same of the plain types.
+fn of_names(
+    alloc: Global,
+    kind: &str,
+    words: &mut SplitWhitespace<'_>,
+) -> Option<anyhow::Result<String>> {
+    match kind {
+        "spi" => Some(names::spi(alloc, words)),
+        "channel" => Some(names::channel(alloc, words)),
+        "key" => Some(names::key(alloc, words)),
+        "fecf" => Some(names::control(alloc, words)),
+        "same" => Some(names::same(alloc, words)),
+        "printed" => Some(names::printed(alloc, words)),
+        "rows" => Some(names::rows(alloc, words)),
+        "numbers" => Some(names::numbers(alloc)),
+        _ => None,
+    }
+}
+
 /// What a case answers.
 fn answer(alloc: Global, case: &str) -> anyhow::Result<String> {
     let mut words = case.split_whitespace();
-    match words.next() {
-        Some("tc") => tc(alloc, &mut words),
-        Some("tm") => tm(alloc, &mut words),
-        Some("aos") => aos(alloc, &mut words),
-        Some("bits") => bits::answer(alloc, &mut words),
-        Some("protect") => sealed::protect(alloc, &mut words),
-        Some("open") => sealed::open(alloc, &mut words),
-        Some("index") => headers::index(alloc, &mut words),
-        Some("room") => headers::room(alloc, &mut words),
-        Some("header") => headers::header(alloc, &mut words),
-        Some("mask") => headers::under_mask(alloc, &mut words),
-        Some("spi") => names::spi(alloc, &mut words),
-        Some("channel") => names::channel(alloc, &mut words),
-        Some("key") => names::key(alloc, &mut words),
-        Some("fecf") => names::control(alloc, &mut words),
-        Some("same") => names::same(alloc, &mut words),
-        Some("printed") => names::printed(alloc, &mut words),
-        Some("rows") => names::rows(alloc, &mut words),
-        Some("numbers") => names::numbers(alloc),
-        _ => Ok(format!(in alloc; "no case")?),
+    let kind = words.next().unwrap_or("");
+    if let Some(answer) = of_frames(alloc, kind, &mut words) {
+        return answer;
+    }
+    if let Some(answer) = of_headers(alloc, kind, &mut words) {
+        return answer;
+    }
+    match of_names(alloc, kind, &mut words) {
+        Some(answer) => answer,
+        None => Ok(format!(in alloc; "no case")?),
     }
 }
 

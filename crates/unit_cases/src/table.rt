@@ -150,30 +150,73 @@ impl Table {
         }
     }
 
-    fn step(&mut self, alloc: Global, line: &str) -> anyhow::Result<String> {
-        let (word, rest) = line.split_once(' ').unwrap_or((line, ""));
+    /// What a step on the image answers, none where the word names another.
+    fn image_answer(
+        &mut self,
+        alloc: Global,
+        word: &str,
+        rest: &str,
+    ) -> Option<anyhow::Result<String>> {
         match word {
-            "create" => self.create(alloc, rest),
-            "set" => self.set(alloc, rest),
-            "cut" => self.cut(alloc, rest),
+            "create" => Some(self.create(alloc, rest)),
+            "set" => Some(self.set(alloc, rest)),
+            "cut" => Some(self.cut(alloc, rest)),
+            "keep" => Some(self.keep(alloc)),
+            "back" => Some(self.back(alloc)),
+            "octets" => Some(self.octets(alloc, rest)),
+            _ => None,
+        }
+    }
+
+    /// The same of a step on the site.
+    fn site_answer(
+        &mut self,
+        alloc: Global,
+        word: &str,
+        rest: &str,
+    ) -> Option<anyhow::Result<String>> {
+        match word {
+            "open" => Some(self.open(alloc)),
+            "close" => Some(self.close(alloc)),
+            "crash" => Some(self.crash(alloc, rest)),
+            _ => None,
+        }
+    }
+
+    /// The same of a step on the table itself, or on the unit.
+    fn other_answer(
+        &mut self,
+        alloc: Global,
+        word: &str,
+        rest: &str,
+    ) -> anyhow::Result<Option<String>> {
+        match word {
             "forget" => {
                 self.life.clear();
-                Ok(format!(in alloc; "forgotten")?)
+                Ok(Some(format!(in alloc; "forgotten")?))
             }
-            "keep" => self.keep(alloc),
-            "back" => self.back(alloc),
-            "octets" => self.octets(alloc, rest),
             "failing" => {
                 self.failing = numbers(alloc, rest)?;
-                Ok(format!(in alloc; "failing")?)
+                Ok(Some(format!(in alloc; "failing")?))
             }
-            "open" => self.open(alloc),
-            "close" => self.close(alloc),
-            "crash" => self.crash(alloc, rest),
-            "protect" | "accept" | "do" | "release" | "put" | "tell" => self.unit_answer(
-                alloc, word, rest,
-            ),
-            _ => Ok(format!(in alloc; "{line}")?),
+            "protect" | "accept" | "do" | "release" | "put" | "tell" => {
+                Ok(Some(self.unit_answer(alloc, word, rest)?))
+            }
+            _ => Ok(None),
+        }
+    }
+
+    fn step(&mut self, alloc: Global, line: &str) -> anyhow::Result<String> {
+        let (word, rest) = line.split_once(' ').unwrap_or((line, ""));
+        if let Some(answer) = self.image_answer(alloc, word, rest) {
+            return answer;
+        }
+        if let Some(answer) = self.site_answer(alloc, word, rest) {
+            return answer;
+        }
+        match self.other_answer(alloc, word, rest)? {
+            Some(answer) => Ok(answer),
+            None => Ok(format!(in alloc; "{line}")?),
         }
     }
 
