@@ -9,22 +9,22 @@ use Rattle.counter_table.specs.declared.view.Opening.{Opening}
 use Rattle.sdls_base.specs.declared.entry.Entry.{Entry}
 use Rattle.sdls_base.specs.declared.entry.Logged.{Logged}
 use Rattle.unit_state.specs.History.{after, epoch_after}
-use Rattle.unit_history.specs.Log.{entries_of}
-use Rattle.unit_history.specs.Numbers.{mark_of}
+use Rattle.law_history.specs.Log.{entries_of}
+use Rattle.law_history.specs.Numbers.{mark_of}
 use Rattle.record_io.specs.declared.records.Record.{Record}
 use Rattle.record_io.specs.declared.answers.Answer.{Answer}
-use Rattle.unit_work.specs.Begin.{Begin}
-use Rattle.unit_work.specs.Views.{Grows, entries_in, keeping, log_of, starting, meeting}
-use Rattle.unit_work.specs.Deeds.{Deed, Does, deed_of, deeds_of}
-use Rattle.unit_work.specs.Lanes.{giving}
-use Rattle.unit_work.proofs.Joining.{top_both}
-use Rattle.unit_machine.specs.Machine.{Move}
-use Rattle.unit_machine.specs.Exact.{words_in}
-use Rattle.unit_machine.specs.InTurn.{IsLevel, ServedBetween}
-use Rattle.unit_machine.specs.Alone.{MovedInTurn, ServedAlone}
-use Rattle.unit_machine.proofs.Turns.{clean_before, log_low, row_on}
-use Rattle.unit_machine.proofs.Alone.{below_log, exact_seen, seen_moves, turns_more, turns_then}
-use Rattle.unit_calls.specs.Answering.{AnsweredExactly}
+use Rattle.law_worker.specs.Begin.{Begin}
+use Rattle.law_worker.specs.Views.{Grows, entries_in, keeping, log_of, starting, meeting}
+use Rattle.law_worker.specs.Deeds.{Deed, Does, deed_of, deeds_of}
+use Rattle.law_worker.specs.Lanes.{giving}
+use Rattle.law_worker.proofs.Joining.{top_both}
+use Rattle.law_one_lane.specs.Machine.{Move}
+use Rattle.law_one_lane.specs.Exact.{words_in}
+use Rattle.law_one_lane.specs.InTurn.{IsLevel, ServedBetween}
+use Rattle.law_one_lane.specs.Alone.{MovedInTurn, ServedAlone}
+use Rattle.law_one_lane.proofs.Turns.{clean_before, log_low, row_on}
+use Rattle.law_one_lane.proofs.Alone.{below_log, exact_seen, seen_moves, turns_more, turns_then}
+use Rattle.law_calls.specs.Answering.{AnsweredExactly}
 use Rattle.frame_workers.proofs.Steps.{deeds_step, deeds_short}
 
 amount_both : (row : ℕ) (a b : List (ℕ × ℕ)) → amount row (a ++ b) ≡ amount row a + amount row b

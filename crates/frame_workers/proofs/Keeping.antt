@@ -6,8 +6,8 @@ use Rattle.counter_table.specs.declared.view.Turn.{Turn}
 use Rattle.shared_unit.specs.declared.permit.Permit.{Permit}
 use Rattle.shared_unit.specs.Protecting.{IsTrueIfKept}
 use Rattle.shared_unit.specs.Permit.{IsTrueFor}
-use Rattle.unit_work.specs.Begin.{Begin}
-use Rattle.unit_calls.specs.Visiting.{BeganWith}
+use Rattle.law_worker.specs.Begin.{Begin}
+use Rattle.law_calls.specs.Visiting.{BeganWith}
 
 -- a run that began with the opening
 pub begun_at : Bool → Opening → Begin

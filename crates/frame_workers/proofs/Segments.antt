@@ -10,18 +10,18 @@ use Rattle.counter_table.specs.declared.view.View.{View}
 use Rattle.counter_table.specs.Worker.{view}
 use Rattle.record_io.specs.declared.records.Record.{Record}
 use Rattle.record_io.specs.declared.answers.Answer.{Answer}
-use Rattle.unit_work.specs.Begin.{Begin}
-use Rattle.unit_work.specs.Views.{Grows, keeping, starting, meeting, Meets}
-use Rattle.unit_work.specs.Deeds.{deeds_of}
-use Rattle.unit_work.specs.Order.{Layout, LiesIn, Handled}
-use Rattle.unit_work.specs.Lanes.{is_of_lane, of_lane, giving, Part, DidPart, meeting_all, MeetAll, parts_deeds}
-use Rattle.unit_work.proofs.Joining.{grows_itself, grows_further}
-use Rattle.unit_work.proofs.Handling.{handled_nothing}
-use Rattle.unit_work.proofs.Lanes.{lanes_handled, lanes_grow}
+use Rattle.law_worker.specs.Begin.{Begin}
+use Rattle.law_worker.specs.Views.{Grows, keeping, starting, meeting, Meets}
+use Rattle.law_worker.specs.Deeds.{deeds_of}
+use Rattle.law_worker.specs.Order.{Layout, LiesIn, Handled}
+use Rattle.law_worker.specs.Lanes.{is_of_lane, of_lane, giving, Part, DidPart, meeting_all, MeetAll, parts_deeds}
+use Rattle.law_worker.proofs.Joining.{grows_itself, grows_further}
+use Rattle.law_worker.proofs.Handling.{handled_nothing}
+use Rattle.law_worker.proofs.Lanes.{lanes_handled, lanes_grow}
 use Rattle.frame_workers.specs.declared.lane.Lane.{Lane}
-use Rattle.unit_machine.specs.Alone.{MovedInTurn, ServedAlone}
-use Rattle.unit_calls.specs.Answering.{IsFullFor}
-use Rattle.unit_calls.specs.Visiting.{BeganWith}
+use Rattle.law_one_lane.specs.Alone.{MovedInTurn, ServedAlone}
+use Rattle.law_calls.specs.Answering.{IsFullFor}
+use Rattle.law_calls.specs.Visiting.{BeganWith}
 use Rattle.frame_workers.specs.Ends.{EndsSegment}
 use Rattle.frame_workers.specs.Lanes.{HasRun, IsSplit, part_of, parts_of, answers_of, AreApart, IsThere, StopsAt}
 use Rattle.frame_workers.proofs.Keeping.{begun_at, began_at}

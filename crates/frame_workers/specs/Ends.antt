@@ -3,8 +3,8 @@ use Rattle.std.specs.Prelude.{◌≡◌, Bool, true, false, List, length, slice_
 use Rattle.counter_table.specs.declared.view.View.{View}
 use Rattle.record_io.specs.declared.records.Record.{Record}
 use Rattle.record_io.specs.declared.answers.Answer.{Answer}
-use Rattle.unit_work.specs.Begin.{Begin}
-use Rattle.unit_calls.specs.Answering.{IsFullFor}
+use Rattle.law_worker.specs.Begin.{Begin}
+use Rattle.law_calls.specs.Answering.{IsFullFor}
 
 -- all records are answered, or those before one for which the history is full
 abbrev pub EndsSegment : Begin → View → View → List Record → List Answer → Bool → Type 0

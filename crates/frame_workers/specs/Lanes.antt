@@ -7,13 +7,13 @@ use Rattle.counter_table.specs.Worker.{view}
 use Rattle.record_io.specs.declared.records.Record.{Record}
 use Rattle.record_io.specs.declared.answers.Answer.{Answer}
 use Rattle.shared_unit.specs.Protecting.{IsTrueIfKept}
-use Rattle.unit_work.specs.Begin.{Begin}
-use Rattle.unit_work.specs.Views.{starting}
-use Rattle.unit_work.specs.Deeds.{Deed, deeds_of}
-use Rattle.unit_work.specs.Order.{Layout, Handled}
-use Rattle.unit_work.specs.Lanes.{is_of_lane, of_lane, Part}
-use Rattle.unit_machine.specs.Alone.{MovedInTurn}
-use Rattle.unit_calls.specs.Visiting.{BeganWith}
+use Rattle.law_worker.specs.Begin.{Begin}
+use Rattle.law_worker.specs.Views.{starting}
+use Rattle.law_worker.specs.Deeds.{Deed, deeds_of}
+use Rattle.law_worker.specs.Order.{Layout, Handled}
+use Rattle.law_worker.specs.Lanes.{is_of_lane, of_lane, Part}
+use Rattle.law_one_lane.specs.Alone.{MovedInTurn}
+use Rattle.law_calls.specs.Visiting.{BeganWith}
 use Rattle.frame_workers.specs.declared.lane.Lane.{Lane}
 use Rattle.frame_workers.specs.Ends.{EndsSegment}
 

@@ -6,10 +6,10 @@ ghost use Rattle.shared_unit.specs.declared.permit.Permit.{Permit};
 ghost use Rattle.shared_unit.specs.Permit.{IsTrueFor};
 ghost use Rattle.shared_unit.specs.Protecting.{IsTrueIfKept};
 ghost use Rattle.shared_unit.specs.Turn.{IsReady};
-ghost use Rattle.unit_work.specs.Begin.{Begin};
-ghost use Rattle.unit_work.specs.Order.{Layout};
-ghost use Rattle.unit_calls.specs.Answering.{Answered, AnsweredExactly};
-ghost use Rattle.unit_calls.specs.Visiting.{BeganWith};
+ghost use Rattle.law_worker.specs.Begin.{Begin};
+ghost use Rattle.law_worker.specs.Order.{Layout};
+ghost use Rattle.law_calls.specs.Answering.{Answered, AnsweredExactly};
+ghost use Rattle.law_calls.specs.Visiting.{BeganWith};
 
 use crate::answering::{commanded_answer, opened_answer, protected_answer, unserved};
 use record_io::{Answer, Record, RecordKind};

@@ -3,7 +3,7 @@ ghost use Rattle.std.specs.Prelude.{◌≡◌, ◌≢◌, ◌<◌, ◌≤◌, �
 ghost use Rattle.std.specs.List.{AllPairs, list_any};
 ghost use Rattle.counter_table.specs.Worker.{view};
 ghost use Rattle.shared_unit.specs.Turn.{IsReady};
-ghost use Rattle.unit_work.specs.Lanes.{giving, is_of_lane, MeetAll, meeting_all, Part};
+ghost use Rattle.law_worker.specs.Lanes.{giving, is_of_lane, MeetAll, meeting_all, Part};
 ghost use Rattle.frame_workers.specs.Lanes.{answers_of, AreApart, IsRoom, IsSplit, IsThere, left_at, parts_of};
 
 use crate::lane::Lane;

@@ -4,12 +4,12 @@ ghost use Rattle.counter_table.specs.Whole.{IsWhole};
 ghost use Rattle.counter_table.specs.Worker.{view};
 ghost use Rattle.record_io.specs.declared.records.Record.{Record};
 ghost use Rattle.shared_unit.specs.Turn.{IsReady};
-ghost use Rattle.unit_work.specs.Begin.{Begin};
-ghost use Rattle.unit_work.specs.Deeds.{Ascend, deeds_of};
-ghost use Rattle.unit_work.specs.Order.{Handled, Layout, LiesIn};
-ghost use Rattle.unit_machine.specs.Alone.{OneLane, ServedAlone};
-ghost use Rattle.unit_calls.specs.Visiting.{BeganWith};
-ghost use Rattle.unit_work.specs.Views.{keeping, meeting, Meets, starting};
+ghost use Rattle.law_worker.specs.Begin.{Begin};
+ghost use Rattle.law_worker.specs.Deeds.{Ascend, deeds_of};
+ghost use Rattle.law_worker.specs.Order.{Handled, Layout, LiesIn};
+ghost use Rattle.law_one_lane.specs.Alone.{OneLane, ServedAlone};
+ghost use Rattle.law_calls.specs.Visiting.{BeganWith};
+ghost use Rattle.law_worker.specs.Views.{keeping, meeting, Meets, starting};
 ghost use Rattle.frame_workers.specs.Ends.{EndsSegment};
 ghost use Rattle.frame_workers.specs.Lanes.{left_at};
 

@@ -22,7 +22,7 @@ use Rattle.counter_table.specs.Turn.{stands, places, no_turn, filling, learning,
 use Rattle.counter_table.specs.Play.{IsAsKnown}
 use Rattle.counter_table.specs.Whole.{IsWhole}
 use Rattle.counter_table.specs.Worker.{view}
-use Rattle.unit_history.specs.Log.{entries_of}
+use Rattle.law_history.specs.Log.{entries_of}
 use Rattle.unit_book.specs.Book.{BookView, IsKept}
 use Rattle.unit_book.specs.Marks.{mark_at}
 use Rattle.unit_book.proofs.KeptLaws.{bounds_of}

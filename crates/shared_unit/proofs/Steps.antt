@@ -14,7 +14,7 @@ use Rattle.counter_table.specs.declared.view.Turn.{Turn}
 use Rattle.counter_table.specs.Known.{Earlier, IsSparing, KeepsMarks, MayGive, HasRisen, pieces}
 use Rattle.counter_table.specs.Turn.{taking, giving, learning}
 use Rattle.counter_table.specs.Play.{Follows}
-use Rattle.unit_history.specs.Log.{entries_of}
+use Rattle.law_history.specs.Log.{entries_of}
 use Rattle.unit_book.specs.Book.{BookView, IsKept}
 use Rattle.shared_unit.specs.Told.{told_by}
 use Rattle.unit_book.specs.Marks.{marks_of, KeepsMarks as StateMarks}

@@ -5,7 +5,7 @@ use Rattle.counter_table.specs.declared.view.View.{View}
 use Rattle.counter_table.specs.Turn.{learning}
 use Rattle.unit_book.specs.declared.fault.BookFault.{BookFault}
 use Rattle.unit_book.specs.Book.{BookView, Made, Refuses}
-use Rattle.unit_history.specs.Numbers.{mark_of, reserve_of}
+use Rattle.law_history.specs.Numbers.{mark_of, reserve_of}
 use Rattle.shared_unit.specs.declared.permit.Permit.{Permit}
 use Rattle.shared_unit.specs.declared.permit.Done.{Done}
 use Rattle.shared_unit.specs.Told.{told_by, entry_count}

@@ -7,12 +7,12 @@ use Rattle.unit_state.specs.History.{epoch_after}
 use Rattle.frame_shield.specs.declared.protecting.ShieldFault.{ShieldFault}
 use Rattle.frame_shield.specs.Binding.{clear_fault}
 use Rattle.frame_checks.specs.Protecting.{channel_check}
-use Rattle.unit_history.specs.Protecting.{protect_reply}
+use Rattle.law_history.specs.Protecting.{protect_reply}
 use Rattle.counter_table.specs.declared.view.Turn.{Turn}
 use Rattle.counter_table.specs.declared.view.View.{View}
 use Rattle.counter_table.specs.Turn.{epoch_seen, seeing}
 use Rattle.unit_book.specs.declared.fault.BookFault.{BookFault}
-use Rattle.unit_history.specs.Log.{entries_of}
+use Rattle.law_history.specs.Log.{entries_of}
 use Rattle.unit_book.specs.Book.{BookView}
 use Rattle.shared_unit.specs.declared.permit.Permit.{Permit}
 use Rattle.shared_unit.specs.declared.permit.Done.{Done}

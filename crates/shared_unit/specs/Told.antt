@@ -6,7 +6,7 @@ use Rattle.unit_state.specs.History.{at_epoch}
 use Rattle.counter_table.specs.declared.view.Known.{Known}
 use Rattle.unit_book.specs.Book.{BookView}
 use Rattle.unit_book.specs.Marks.{marks_of}
-use Rattle.unit_history.specs.Log.{entries_of}
+use Rattle.law_history.specs.Log.{entries_of}
 
 abbrev pub told_by : {O : Type 0} → (O → Trace) → (O → ℕ) → (O → ℕ) → BookView O → Known
 told_by trace faults puts book = record {

@@ -23,9 +23,9 @@ use Rattle.unit_state.proofs.RulesKept.{rules_kept}
 use Rattle.unit_image.specs.Shows.{Says, Shows}
 use Rattle.unit_image.proofs.Leading.{says_grown}
 use Rattle.unit_book.specs.declared.limits.TheConstants.{MOST_ENTRIES}
-use Rattle.unit_history.specs.Log.{entries_of}
+use Rattle.law_history.specs.Log.{entries_of}
 use Rattle.unit_book.specs.Log.{sunk_between}
-use Rattle.unit_history.specs.Stored.{IsStored, stored_count}
+use Rattle.law_history.specs.Stored.{IsStored, stored_count}
 use Rattle.unit_book.specs.Marks.{is_release, HasNoRelease, KeepsMarks}
 use Rattle.unit_book.specs.Book.{BookView, IsCurrent, IsCounted, IsKept, CanEnter, Enters, entered, left_out, with_put}
 use Rattle.unit_book.proofs.MarksKept.{no_release_last, marks_then}

@@ -32,7 +32,7 @@ use Rattle.ep_core.specs.Refusals.{refusal_of, from_associations, unless_known, 
 use Rattle.ep_core.proofs.Checks.{rekey_told}
 use Rattle.ep_core.proofs.Free.{associations_free, tells_free, tells_rekey, tells_set_number}
 use Rattle.ep_core.proofs.SealedFacts.{passed_both}
-use Rattle.unit_history.specs.Entries.{IsNeedOf}
+use Rattle.law_history.specs.Entries.{IsNeedOf}
 use Rattle.unit_book.specs.Needs.{NamesKey}
 
 -- nothing, or the need

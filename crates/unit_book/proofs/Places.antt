@@ -21,7 +21,7 @@ use Rattle.unit_state.specs.State.{KeepsRules, key_row}
 use Rattle.unit_state.specs.Laws.{KeepsPlaces}
 use Rattle.unit_state.proofs.KeyRules.{number_test}
 use Rattle.unit_book.specs.Marks.{marks_of, mark_at, KeepsMarks, highest_mark}
-use Rattle.unit_history.specs.Numbers.{mark_of}
+use Rattle.law_history.specs.Numbers.{mark_of}
 
 some_row : KeyRow
 some_row = record { id = 0; state = PreActive; bytes = []; digest = []; mark = 0; floor = 0 }

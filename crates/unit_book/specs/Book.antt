@@ -22,8 +22,8 @@ use Rattle.unit_book.specs.declared.fault.BookFault.TheVariants.{SiteFault, Stop
 use Rattle.unit_book.specs.declared.limits.TheConstants.{MOST_ENTRIES}
 use Rattle.unit_book.specs.declared.next.Next.{Next}
 use Rattle.unit_book.specs.declared.next.Next.TheVariants.{Here, Then}
-use Rattle.unit_history.specs.Log.{entries_of, pieces_of}
-use Rattle.unit_history.specs.Stored.{IsStored, stored_count}
+use Rattle.law_history.specs.Log.{entries_of, pieces_of}
+use Rattle.law_history.specs.Stored.{IsStored, stored_count}
 use Rattle.unit_book.specs.Marks.{HasNoRelease, KeepsMarks}
 
 -- The site, and what it was when `open` returned; the image as it was read, its plan, and the state that it showed; the

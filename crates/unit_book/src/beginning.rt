@@ -5,7 +5,7 @@ ghost use Rattle.unit_state.specs.State.{KeepsRules};
 ghost use Rattle.unit_state.specs.Restart.{restarted};
 ghost use Rattle.unit_image.specs.Opening.{SameJournal};
 ghost use Rattle.unit_image.specs.Shows.{Shows};
-ghost use Rattle.unit_history.specs.Log.{entries_of};
+ghost use Rattle.law_history.specs.Log.{entries_of};
 ghost use Rattle.unit_book.specs.Book.{IsKept, begun};
 
 use crate::book::Book;

@@ -7,7 +7,7 @@ ghost use Rattle.book_record.specs.Record.{IsRecord};
 ghost use Rattle.unit_state.specs.Applied.{applied};
 ghost use Rattle.unit_state.specs.Allows.{Allows};
 ghost use Rattle.unit_state.specs.Restart.{stored_as};
-ghost use Rattle.unit_history.specs.Log.{entries_of};
+ghost use Rattle.law_history.specs.Log.{entries_of};
 ghost use Rattle.unit_book.specs.Log.{sunk_between};
 ghost use Rattle.unit_book.specs.Marks.{is_release, KeepsMarks};
 ghost use Rattle.unit_book.specs.Book.{IsKept, CanEnter, IsBarred, IsUnstored, Enters, Makes, entered, left_out, with_put, PutFails};
@@ -46,7 +46,7 @@ pub struct Book<O: Site> {
 
 impl<O: Site> Model for Book<O> {
     ghost use Rattle.std.specs.Prelude.{◌≡◌, ◌≤◌, length, vec_capacity};
-    ghost use Rattle.unit_history.specs.Log.{entries_of};
+    ghost use Rattle.law_history.specs.Log.{entries_of};
     ghost use Rattle.unit_book.specs.Log.{lines};
     ghost use Rattle.unit_book.specs.declared.limits.TheConstants.{MOST_ENTRIES};
     ghost use Rattle.unit_book.specs.Book.{BookView};

@@ -14,9 +14,9 @@ use Rattle.counter_table.specs.Worker.{view}
 use Rattle.unit_book.specs.Book.{BookView}
 use Rattle.shared_unit.specs.Sharing.{Begins}
 use Rattle.shared_unit.specs.Sharing as sharing
-use Rattle.unit_work.specs.Begin.{Begin}
+use Rattle.law_worker.specs.Begin.{Begin}
 use Rattle.unit_drill.specs.declared.image.TheConstants.{SLOTS}
-use Rattle.drill_laws.specs.Drilled.{IsOpened}
+use Rattle.law_drill.specs.Drilled.{IsOpened}
 use Rattle.unit_drill.specs.Drilled.{MayServe}
 
 module _ {O B : Type 0} (trace : O → Trace) (faults puts : O → ℕ) (site : O) (book : BookView O) (counters : Counters B) (planned : PlanLines)

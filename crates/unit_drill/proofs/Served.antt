@@ -7,14 +7,14 @@ use Rattle.counter_table.specs.declared.view.View.{View}
 use Rattle.counter_table.specs.Whole.{IsWhole}
 use Rattle.record_io.specs.declared.answers.Answer.{Answer}
 use Rattle.record_io.specs.declared.records.Record.{Record}
-use Rattle.unit_work.specs.Begin.{Begin}
-use Rattle.unit_work.specs.Deeds.{deeds_of}
-use Rattle.unit_work.specs.Order.{Handled, Layout, LiesIn}
-use Rattle.unit_calls.specs.Visiting.{BeganWith}
+use Rattle.law_worker.specs.Begin.{Begin}
+use Rattle.law_worker.specs.Deeds.{deeds_of}
+use Rattle.law_worker.specs.Order.{Handled, Layout, LiesIn}
+use Rattle.law_calls.specs.Visiting.{BeganWith}
 use Rattle.disk_journal.specs.Image.{records, slot_count}
 use Rattle.frame_workers.specs.Ends.{EndsSegment}
-use Rattle.drill_laws.specs.Drilled.{Serves, tells_fault}
-use Rattle.drill_laws.proofs.Tasks.{OnLane, drill_layout, drill_lies}
+use Rattle.law_drill.specs.Drilled.{Serves, tells_fault}
+use Rattle.law_drill.proofs.Tasks.{OnLane, drill_layout, drill_lies}
 
 pub served : (v w : View) (tasks : List Record) (answers : List Answer) (full : Bool) (ahead : ℕ) → All (OnLane ahead) tasks
     → ((begin : Begin) (layout : Layout) (number : ℕ) → BeganWith true begin v.turn.known.opening → LiesIn layout number tasks

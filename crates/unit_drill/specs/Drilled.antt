@@ -11,7 +11,7 @@ use Rattle.shared_unit.specs.Turn.{IsReady}
 use Rattle.sdls_plain.specs.Answer.{Ends, line}
 use Rattle.drill_frames.specs.declared.counts.Counts.{Counts}
 use Rattle.drill_frames.specs.Line.{drill_text}
-use Rattle.drill_laws.specs.Drilled.{IsComplete, IsDrilled}
+use Rattle.law_drill.specs.Drilled.{IsComplete, IsDrilled}
 
 -- the one worker of a unit, with all shares, may make calls on it
 pub record MayServe {B : Type 0} (counters : Counters B) (plan : PlanLines) (worker : Worker B) : Type 0 where

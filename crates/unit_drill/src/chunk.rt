@@ -1,9 +1,9 @@
 //! One chunk of frames.
 ghost use Rattle.std.specs.Prelude.{◌≡◌, ◌*◌, ◌+◌, ◌≤◌, true, IfOk};
 ghost use Rattle.counter_table.specs.Worker.{view};
-ghost use Rattle.unit_work.specs.Begin.{Begin};
-ghost use Rattle.unit_calls.specs.Visiting.{BeganWith};
-ghost use Rattle.drill_laws.specs.Drilled.{IsChunk};
+ghost use Rattle.law_worker.specs.Begin.{Begin};
+ghost use Rattle.law_calls.specs.Visiting.{BeganWith};
+ghost use Rattle.law_drill.specs.Drilled.{IsChunk};
 ghost use Rattle.unit_drill.specs.Drilled.{MayServe};
 
 use crate::unit::DrillUnit;

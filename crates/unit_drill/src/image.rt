@@ -4,7 +4,7 @@ ghost use Rattle.byteorder.specs.Endian.{big_bytes};
 ghost use Rattle.disk_journal.specs.Initial.{initial_image, zeros};
 ghost use Rattle.sdls_outside.specs.Crash.{fresh};
 ghost use Rattle.sdls_outside.specs.MemSite.{site_trace};
-ghost use Rattle.drill_laws.specs.Plans.{receiver_plan, sender_plan};
+ghost use Rattle.law_drill.specs.Plans.{receiver_plan, sender_plan};
 
 use byteorder::{BigEndian, ByteOrder};
 use disk_journal::{FIELD_LENGTH, HEADER_LENGTH, MAGIC, OPEN, PLAN_ROOM, ZEROS_AT, slot_offset};
@@ -56,7 +56,7 @@ sa 4 receive gcm 259 1 4294967296 3
 ";
 
 /// The plan of the unit that sends.
-#[tactic(auto, unfolding(drill_laws::specs::Plans::sender_plan))]
+#[tactic(auto, unfolding(law_drill::specs::Plans::sender_plan))]
 pub(crate) fn sender_plan() -> &'static [u8]
     ensures lines { result.now ≡ sender_plan }
     ensures short { length result.now ≤ PLAN_ROOM }
@@ -65,7 +65,7 @@ pub(crate) fn sender_plan() -> &'static [u8]
 }
 
 /// The plan of the unit that receives.
-#[tactic(auto, unfolding(drill_laws::specs::Plans::receiver_plan))]
+#[tactic(auto, unfolding(law_drill::specs::Plans::receiver_plan))]
 pub(crate) fn receiver_plan() -> &'static [u8]
     ensures lines { result.now ≡ receiver_plan }
     ensures short { length result.now ≤ PLAN_ROOM }

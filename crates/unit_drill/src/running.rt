@@ -5,7 +5,7 @@ ghost use Rattle.sdls_plain.specs.Answer.{Ends};
 ghost use Rattle.drill_frames.specs.declared.counts.Counts.{Counts};
 ghost use Rattle.drill_frames.specs.Line.{drill_text};
 ghost use Rattle.record_io.specs.declared.answers.Answer.{Answer};
-ghost use Rattle.drill_laws.specs.Drilled.{IsDrilled};
+ghost use Rattle.law_drill.specs.Drilled.{IsDrilled};
 ghost use Rattle.unit_drill.specs.Drilled.{AreCounts, EndsDrill};
 
 use crate::chunk::Pair;
@@ -13,8 +13,8 @@ use crate::image::{receiver_plan, sender_plan};
 use crate::unit::DrillUnit;
 use crate::words::MOST_FRAMES;
 use drill_frames::{CHUNK, Counts, drill_line};
-use drill_laws::drill_is_complete;
 use frame_workers::Gate;
+use law_drill::drill_is_complete;
 use record_io::status::{DONE, NO_MEMORY, SITE_FAULT};
 use sdls_base::NoMemory;
 use sdls_outside::{Failed, Site};

@@ -3,10 +3,10 @@ ghost use Rattle.std.specs.Prelude.{◌≡◌, ◌-◌, ◌%◌, ◌≤◌, ℕ,
 ghost use Rattle.std.specs.List.{All, list_any};
 ghost use Rattle.counter_table.specs.Worker.{view};
 ghost use Rattle.record_io.specs.declared.records.Record.{Record};
-ghost use Rattle.unit_work.specs.Begin.{Begin};
-ghost use Rattle.unit_work.specs.Deeds.{Ascend};
-ghost use Rattle.unit_calls.specs.Visiting.{BeganWith};
-ghost use Rattle.drill_laws.specs.Drilled.{IsOpened, Serves, tells_fault};
+ghost use Rattle.law_worker.specs.Begin.{Begin};
+ghost use Rattle.law_worker.specs.Deeds.{Ascend};
+ghost use Rattle.law_calls.specs.Visiting.{BeganWith};
+ghost use Rattle.law_drill.specs.Drilled.{IsOpened, Serves, tells_fault};
 ghost use Rattle.unit_drill.specs.Drilled.{MayServe};
 
 use crate::image::site_of;

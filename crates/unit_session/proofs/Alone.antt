@@ -21,20 +21,20 @@ use Rattle.unit_book.specs.declared.fault.BookFault.{BookFault}
 use Rattle.unit_book.specs.declared.fault.BookFault.TheVariants.{SiteFault, Stopped, SessionFull, JournalFull, NoMemory}
 use Rattle.unit_book.specs.Book.{BookView, PutFails}
 use Rattle.unit_book.specs.Log.{sunk_between}
-use Rattle.unit_history.specs.Log.{entries_of, pieces_of}
+use Rattle.law_history.specs.Log.{entries_of, pieces_of}
 use Rattle.shared_unit.specs.Calls.{IsPut}
 use Rattle.shared_unit.specs.Told.{told_by}
 use Rattle.shared_unit.specs.Turn.{Visits}
-use Rattle.unit_work.specs.Begin.{Begin}
-use Rattle.unit_work.specs.Views.{log_of, entries_in}
-use Rattle.unit_work.specs.Work.{Worked}
-use Rattle.unit_work.proofs.Histories.{entries_both}
-use Rattle.unit_work.proofs.Joining.{does_unanswered}
-use Rattle.unit_work.proofs.Logs.{stands_both}
-use Rattle.unit_runs.specs.Settled.{SettlesAt}
-use Rattle.unit_runs.proofs.Counting.{pieces_both}
-use Rattle.unit_calls.specs.Visiting.{BeganWith, Visited}
-use Rattle.run_steps.specs.Doing.{Puts, octets_put}
+use Rattle.law_worker.specs.Begin.{Begin}
+use Rattle.law_worker.specs.Views.{log_of, entries_in}
+use Rattle.law_worker.specs.Work.{Worked}
+use Rattle.law_worker.proofs.Histories.{entries_both}
+use Rattle.law_worker.proofs.Joining.{does_unanswered}
+use Rattle.law_worker.proofs.Logs.{stands_both}
+use Rattle.law_lives.specs.Settled.{SettlesAt}
+use Rattle.law_lives.proofs.Counting.{pieces_both}
+use Rattle.law_calls.specs.Visiting.{BeganWith, Visited}
+use Rattle.law_run_segments.specs.Doing.{Puts, octets_put}
 use Rattle.unit_session.specs.Putting.{Adds, PutsOctets, SettlesAll}
 use Rattle.unit_session.proofs.Octets.{puts_adds}
 

@@ -18,17 +18,17 @@ use Rattle.unit_state.specs.declared.state.State.{State}
 use Rattle.unit_state.specs.Restart.{restarted}
 use Rattle.unit_image.specs.Opening.{Opening}
 use Rattle.unit_image.specs.Shows.{Shows}
-use Rattle.unit_history.specs.Log.{entries_of}
-use Rattle.unit_history.specs.Stored.{stored_count}
+use Rattle.law_history.specs.Log.{entries_of}
+use Rattle.law_history.specs.Stored.{stored_count}
 use Rattle.unit_book.specs.Book.{BookView}
 use Rattle.unit_book.specs.Marks.{mark_at}
 use Rattle.shared_unit.specs.Sharing.{Begins, IsOpened}
 use Rattle.shared_unit.specs.Told.{told_by}
-use Rattle.unit_calls.specs.Visiting.{BeganWith}
-use Rattle.run_steps.specs.Coming.{HasCome}
-use Rattle.run_steps.specs.Finishing.{PutsEnd}
-use Rattle.run_steps.specs.Ran.{CountsSlots, Ran, begin_by}
-use Rattle.run_ends.specs.declared.end.RunEnd.{RunEnd}
+use Rattle.law_calls.specs.Visiting.{BeganWith}
+use Rattle.law_run_segments.specs.Coming.{HasCome}
+use Rattle.law_run_segments.specs.Finishing.{PutsEnd}
+use Rattle.law_run_segments.specs.Ran.{CountsSlots, Ran, begin_by}
+use Rattle.law_run_ends.specs.declared.end.RunEnd.{RunEnd}
 use Rattle.unit_session.specs.Running.{RunsUnit}
 
 -- the octets sunk stand where they stood while the image is opened

@@ -10,15 +10,15 @@ use Rattle.counter_table.specs.declared.view.Opening.{Opening}
 use Rattle.counter_table.specs.declared.view.View.{View}
 use Rattle.key_book.specs.KeyBook.{place_of}
 use Rattle.unit_state.specs.History.{after, after_first, epoch_after}
-use Rattle.unit_history.specs.Log.{entries_of, pieces_of}
-use Rattle.unit_history.specs.Numbers.{mark_of}
-use Rattle.unit_work.specs.Begin.{Begin}
-use Rattle.unit_work.specs.Views.{log_of}
-use Rattle.unit_work.proofs.Joining.{does_then, does_nothing}
-use Rattle.unit_work.proofs.Logs.{times_both}
-use Rattle.unit_calls.specs.Visiting.{BeganWith}
-use Rattle.run_steps.specs.Doing.{Puts, octets_put}
-use Rattle.unit_machine.proofs.Turns.{clean_before}
+use Rattle.law_history.specs.Log.{entries_of, pieces_of}
+use Rattle.law_history.specs.Numbers.{mark_of}
+use Rattle.law_worker.specs.Begin.{Begin}
+use Rattle.law_worker.specs.Views.{log_of}
+use Rattle.law_worker.proofs.Joining.{does_then, does_nothing}
+use Rattle.law_worker.proofs.Logs.{times_both}
+use Rattle.law_calls.specs.Visiting.{BeganWith}
+use Rattle.law_run_segments.specs.Doing.{Puts, octets_put}
+use Rattle.law_one_lane.proofs.Turns.{clean_before}
 use Rattle.unit_session.specs.Putting.{Begun, Leaves, OfRun, PutsOctets, SettlesAll, TakesOctets, TakesSoFar}
 use Rattle.unit_session.proofs.Octets.{adds_then, takes_behind, between_wider, put_last, put_more, put_some}
 use Rattle.record_io.specs.declared.answers.Answer.{Answer}

@@ -9,13 +9,13 @@ use Rattle.record_io.specs.declared.answers.Answer.{Answer}
 use Rattle.record_io.specs.declared.records.Record.{Record}
 use Rattle.record_io.specs.Answers.{answers_octets}
 use Rattle.unit_book.specs.declared.fault.BookFault.{BookFault}
-use Rattle.unit_work.specs.Begin.{Begin}
-use Rattle.unit_work.specs.Deeds.{Ascend, Deed, deeds_of}
-use Rattle.unit_work.specs.Order.{Handled, Layout, LiesIn}
-use Rattle.unit_runs.proofs.Counting.{none_failed}
-use Rattle.unit_machine.specs.Alone.{OneLane, ServedAlone}
-use Rattle.unit_calls.specs.Visiting.{BeganWith}
-use Rattle.run_steps.specs.Segment.{HandlesAndPuts, PutsWell}
+use Rattle.law_worker.specs.Begin.{Begin}
+use Rattle.law_worker.specs.Deeds.{Ascend, Deed, deeds_of}
+use Rattle.law_worker.specs.Order.{Handled, Layout, LiesIn}
+use Rattle.law_lives.proofs.Counting.{none_failed}
+use Rattle.law_one_lane.specs.Alone.{OneLane, ServedAlone}
+use Rattle.law_calls.specs.Visiting.{BeganWith}
+use Rattle.law_run_segments.specs.Segment.{HandlesAndPuts, PutsWell}
 use Rattle.frame_workers.specs.Ends.{EndsSegment}
 use Rattle.unit_session.specs.Putting.{PutsOctets}
 use Rattle.unit_session.specs.Serving.{ServesSegment, served_as}

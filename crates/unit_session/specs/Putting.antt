@@ -10,10 +10,10 @@ use Rattle.counter_table.specs.declared.counters.Worker.{Worker}
 use Rattle.counter_table.specs.Whole.{IsWhole}
 use Rattle.counter_table.specs.Worker.{view}
 use Rattle.shared_unit.specs.Turn.{IsReady}
-use Rattle.unit_work.specs.Begin.{Begin}
-use Rattle.unit_work.specs.Views.{log_of}
-use Rattle.unit_calls.specs.Visiting.{BeganWith}
-use Rattle.run_steps.specs.Doing.{Puts, Settles, octets_put}
+use Rattle.law_worker.specs.Begin.{Begin}
+use Rattle.law_worker.specs.Views.{log_of}
+use Rattle.law_calls.specs.Visiting.{BeganWith}
+use Rattle.law_run_segments.specs.Doing.{Puts, Settles, octets_put}
 
 -- One worker of the unit, with all shares, which did all that was done.
 pub record IsAlone {B : Type 0} (counters : Counters B) (plan : PlanLines) (worker : Worker B) : Type 0 where

@@ -3,11 +3,11 @@ ghost use Rattle.std.specs.Prelude.{◌≡◌};
 ghost use Rattle.counter_table.specs.Worker.{view};
 ghost use Rattle.unit_session.specs.Putting.{IsAlone, PutsOctets};
 
+use law_calls::{putting_settles, putting_works};
 use sdls_outside::Site;
 use shared_unit::{Unit, Worker};
 use std::sync::Wait;
 use unit_book::BookFault;
-use unit_calls::{putting_settles, putting_works};
 
 /// Puts octets. Nobody else does anything meanwhile, since the worker has all shares.
 pub(crate) fn put_alone<R: Wait, O: Site>(

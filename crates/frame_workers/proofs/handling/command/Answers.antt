@@ -4,11 +4,11 @@ use Rattle.counter_table.specs.Worker.{view}
 use Rattle.record_io.specs.declared.records.Record.{Record}
 use Rattle.shared_unit.specs.Calls.{WithPosition}
 use Rattle.shared_unit.specs.Told.{told_by}
-use Rattle.unit_calls.specs.Answering.{Answered, AnsweredExactly}
+use Rattle.law_calls.specs.Answering.{Answered, AnsweredExactly}
 use Rattle.shared_unit.specs.Commanding.{IsCommanded}
-use Rattle.unit_work.specs.Order.{Layout}
-use Rattle.unit_calls.proofs.Commandings.{commanding_answers}
-use Rattle.unit_calls.proofs.CommandsExactly.{commanding_exactly}
+use Rattle.law_worker.specs.Order.{Layout}
+use Rattle.law_calls.proofs.Commandings.{commanding_answers}
+use Rattle.law_calls.proofs.CommandsExactly.{commanding_exactly}
 use Rattle.shared_unit.proofs.Steps.{takes_grows}
 use Rattle.shared_unit.proofs.Trust.{permit_stays}
 use Rattle.frame_workers.proofs.handling.command.Goals as goal

@@ -6,13 +6,13 @@ use Rattle.record_io.specs.declared.answers.Answer.{Answer}
 use Rattle.record_io.specs.declared.records.Record.{Record}
 use Rattle.shared_unit.specs.Calls.{WithPosition}
 use Rattle.shared_unit.specs.Told.{told_by}
-use Rattle.unit_calls.specs.Answering.{Answered, AnsweredExactly}
+use Rattle.law_calls.specs.Answering.{Answered, AnsweredExactly}
 use Rattle.frame_checks.specs.Accepting.{Leaves, field_in}
 use Rattle.unit_book.specs.Records.{Opens, RefusesFrame}
-use Rattle.unit_calls.specs.Answering.{opened_answer}
-use Rattle.unit_calls.proofs.Openings.{opening_answers}
-use Rattle.unit_calls.proofs.OpensExactly.{opens_exactly}
-use Rattle.unit_calls.proofs.Unserved.{unserved, unserved_exactly}
+use Rattle.law_calls.specs.Answering.{opened_answer}
+use Rattle.law_calls.proofs.Openings.{opening_answers}
+use Rattle.law_calls.proofs.OpensExactly.{opens_exactly}
+use Rattle.law_calls.proofs.Unserved.{unserved, unserved_exactly}
 use Rattle.shared_unit.proofs.Steps.{takes_grows}
 use Rattle.shared_unit.proofs.Trust.{permit_stays}
 use Rattle.frame_workers.proofs.Segments.{slice_whole}

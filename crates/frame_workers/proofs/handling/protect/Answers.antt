@@ -3,13 +3,13 @@ use Rattle.counter_table.specs.declared.view.View.{View}
 use Rattle.counter_table.specs.Worker.{view}
 use Rattle.record_io.specs.declared.answers.Answer.{Answer}
 use Rattle.record_io.specs.declared.records.Record.{Record}
-use Rattle.unit_work.specs.Order.{Layout}
-use Rattle.unit_calls.specs.Answering.{Answered, AnsweredExactly}
+use Rattle.law_worker.specs.Order.{Layout}
+use Rattle.law_calls.specs.Answering.{Answered, AnsweredExactly}
 use Rattle.shared_unit.specs.Protecting.{IsProtectStep}
-use Rattle.unit_calls.specs.Answering.{protected_answer}
-use Rattle.unit_calls.proofs.Protectings.{protecting_answers}
-use Rattle.unit_calls.proofs.ProtectsExactly.{covers_taken, protects_exactly}
-use Rattle.unit_calls.proofs.Unserved.{unserved, unserved_exactly}
+use Rattle.law_calls.specs.Answering.{protected_answer}
+use Rattle.law_calls.proofs.Protectings.{protecting_answers}
+use Rattle.law_calls.proofs.ProtectsExactly.{covers_taken, protects_exactly}
+use Rattle.law_calls.proofs.Unserved.{unserved, unserved_exactly}
 use Rattle.frame_workers.proofs.Segments.{slice_whole}
 use Rattle.frame_workers.proofs.handling.protect.Goals as goal
 

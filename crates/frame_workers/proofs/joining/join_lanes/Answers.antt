@@ -4,7 +4,7 @@ use Rattle.std.proofs.lemmas.List.{length-set, reverse-reverse}
 use Rattle.std.proofs.lemmas.List.Elements.{All-pop}
 use Rattle.counter_table.specs.Worker.{view}
 use Rattle.shared_unit.specs.Turn.{IsReady}
-use Rattle.unit_work.specs.Lanes.{Part}
+use Rattle.law_worker.specs.Lanes.{Part}
 use Rattle.frame_workers.specs.Lanes.{AreApart, left_at, part_of, parts_of}
 use Rattle.frame_workers.proofs.Joins.{parts_push, parts_all, joined_next, meet_next, answers_or, none_kept, keeps_next, pairs_pop}
 use Rattle.frame_workers.proofs.Places.{left_set, left_other}

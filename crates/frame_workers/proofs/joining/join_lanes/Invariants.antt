@@ -2,7 +2,7 @@ use Rattle.std.proofs.Common.{◌≡◌, ℕ, ◌<◌, length}
 use Rattle.std.specs.List.{All, AllPairs}
 use Rattle.counter_table.specs.Worker.{view}
 use Rattle.shared_unit.specs.Turn.{IsReady}
-use Rattle.unit_work.specs.Lanes.{MeetAll, meeting_all}
+use Rattle.law_worker.specs.Lanes.{MeetAll, meeting_all}
 use Rattle.frame_workers.specs.Lanes.{AreApart, answers_of, left_at, parts_of}
 use Rattle.frame_workers.proofs.Joins.{answers_or}
 use Rattle.frame_workers.proofs.joining.join_lanes.Given as goal

@@ -2,7 +2,7 @@ use Rattle.std.proofs.Common.{◌≡◌, ℕ, ◌<◌, ◌≤◌, ◌+◌, lengt
 use Rattle.std.specs.List.{All, AllPairs, list_any, slice_index_or}
 use Rattle.counter_table.specs.Worker.{view}
 use Rattle.shared_unit.specs.Turn.{IsReady}
-use Rattle.unit_work.specs.Lanes.{giving, is_of_lane}
+use Rattle.law_worker.specs.Lanes.{giving, is_of_lane}
 use Rattle.frame_workers.specs.Lanes.{AreApart, IsRoom, IsSplit, IsThere}
 use Rattle.frame_workers.proofs.joining.split_lanes.Given as goal
 

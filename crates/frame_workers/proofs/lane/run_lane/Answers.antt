@@ -6,15 +6,15 @@ use Rattle.counter_table.specs.declared.view.View.{View}
 use Rattle.counter_table.specs.Worker.{view}
 use Rattle.record_io.specs.declared.records.Record.{Record}
 use Rattle.record_io.specs.declared.answers.Answer.{Answer}
-use Rattle.unit_work.specs.Deeds.{deeds_of}
-use Rattle.unit_work.specs.Order.{Layout, Handled}
-use Rattle.unit_work.specs.Lanes.{is_of_lane, of_lane}
-use Rattle.unit_work.proofs.Joining.{grows_itself}
-use Rattle.unit_work.proofs.Handling.{handled_nothing}
-use Rattle.unit_machine.specs.Alone.{MovedInTurn}
-use Rattle.unit_machine.proofs.Alone.{turns_nothing}
-use Rattle.unit_calls.specs.Answering.{Answered, AnsweredExactly}
-use Rattle.unit_calls.specs.Visiting.{BeganWith}
+use Rattle.law_worker.specs.Deeds.{deeds_of}
+use Rattle.law_worker.specs.Order.{Layout, Handled}
+use Rattle.law_worker.specs.Lanes.{is_of_lane, of_lane}
+use Rattle.law_worker.proofs.Joining.{grows_itself}
+use Rattle.law_worker.proofs.Handling.{handled_nothing}
+use Rattle.law_one_lane.specs.Alone.{MovedInTurn}
+use Rattle.law_one_lane.proofs.Alone.{turns_nothing}
+use Rattle.law_calls.specs.Answering.{Answered, AnsweredExactly}
+use Rattle.law_calls.specs.Visiting.{BeganWith}
 use Rattle.frame_workers.specs.Ends.{EndsSegment}
 use Rattle.frame_workers.proofs.Steps.{lane_own, lane_other, lane_short, lane_whole, lane_next, lane_step, lane_stop}
 use Rattle.frame_workers.proofs.Exactly.{next_exactly, stop_exactly}

@@ -2,12 +2,12 @@ use Rattle.std.proofs.Common.{◌≡◌, ℕ, ◌≤◌, length, take, false, ve
 use Rattle.counter_table.specs.Worker.{view}
 use Rattle.shared_unit.specs.Protecting.{IsTrueIfKept}
 use Rattle.shared_unit.specs.Turn.{IsReady}
-use Rattle.unit_work.specs.Begin.{Begin}
-use Rattle.unit_work.specs.Deeds.{Ascend, deeds_of}
-use Rattle.unit_work.specs.Order.{Layout, Handled}
-use Rattle.unit_work.specs.Lanes.{of_lane}
-use Rattle.unit_machine.specs.Alone.{MovedInTurn}
-use Rattle.unit_calls.specs.Visiting.{BeganWith}
+use Rattle.law_worker.specs.Begin.{Begin}
+use Rattle.law_worker.specs.Deeds.{Ascend, deeds_of}
+use Rattle.law_worker.specs.Order.{Layout, Handled}
+use Rattle.law_worker.specs.Lanes.{of_lane}
+use Rattle.law_one_lane.specs.Alone.{MovedInTurn}
+use Rattle.law_calls.specs.Visiting.{BeganWith}
 use Rattle.frame_workers.proofs.lane.run_lane.Given as goal
 
 abbrev pub invariant-loop-task : goal.invariant-loop-task

@@ -3,8 +3,8 @@ use Rattle.std.specs.List.{All, Contains, slice_get}
 use Rattle.std.proofs.lemmas.List.{take_all, take-append-drop, length-take, length-set, length-reverse}
 use Rattle.record_io.specs.declared.records.Record.{Record}
 use Rattle.record_io.specs.declared.answers.Answer.{Answer}
-use Rattle.unit_work.specs.Deeds.{deeds_of}
-use Rattle.unit_work.specs.Lanes.{of_lane}
+use Rattle.law_worker.specs.Deeds.{deeds_of}
+use Rattle.law_worker.specs.Lanes.{of_lane}
 use Rattle.frame_workers.specs.Lanes.{AreAmong, left_at}
 use Rattle.frame_workers.proofs.Steps.{deeds_short}
 use Rattle.frame_workers.proofs.Places.{left_here, left_other, pop_own, left_next, given_next, placed_next, got}

@@ -1,8 +1,8 @@
 use Rattle.std.proofs.Common.{◌≡◌, ℕ, ◌<◌, ◌≤◌, ◌+◌, ◌++◌, List, length, take, drop, vec_capacity}
 use Rattle.std.specs.List.{All, Contains}
 use Rattle.record_io.specs.declared.records.Record.{Record}
-use Rattle.unit_work.specs.Deeds.{Deed, deeds_of}
-use Rattle.unit_work.specs.Lanes.{of_lane}
+use Rattle.law_worker.specs.Deeds.{Deed, deeds_of}
+use Rattle.law_worker.specs.Lanes.{of_lane}
 use Rattle.frame_workers.specs.Lanes.{AreAmong, left_at}
 use Rattle.frame_workers.proofs.placing.place_answers.Given as goal
 

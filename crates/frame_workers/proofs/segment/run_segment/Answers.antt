@@ -4,11 +4,11 @@ use Rattle.counter_table.specs.declared.view.View.{View}
 use Rattle.counter_table.specs.Worker.{view}
 use Rattle.shared_unit.specs.Turn.{IsReady}
 use Rattle.record_io.specs.declared.records.Record.{Record}
-use Rattle.unit_work.specs.Views.{keeping, meeting, Meets, starting}
-use Rattle.unit_work.specs.Deeds.{deeds_of}
-use Rattle.unit_work.specs.Order.{Handled}
-use Rattle.unit_work.specs.Lanes.{MeetAll, meeting_all, parts_deeds}
-use Rattle.unit_machine.specs.Alone.{ServedAlone}
+use Rattle.law_worker.specs.Views.{keeping, meeting, Meets, starting}
+use Rattle.law_worker.specs.Deeds.{deeds_of}
+use Rattle.law_worker.specs.Order.{Handled}
+use Rattle.law_worker.specs.Lanes.{MeetAll, meeting_all, parts_deeds}
+use Rattle.law_one_lane.specs.Alone.{ServedAlone}
 use Rattle.frame_workers.specs.Ends.{EndsSegment}
 use Rattle.frame_workers.specs.Lanes.{AreAmong, AreApart, HasRun, answers_of, left_at, parts_of}
 use Rattle.frame_workers.proofs.Joins.{each_among}

@@ -1,5 +1,5 @@
-use Rattle.run_ends.specs.Call.{CallSeen}
-use Rattle.run_steps.specs.Ran.{call_seen}
+use Rattle.law_run_ends.specs.Call.{CallSeen}
+use Rattle.law_run_segments.specs.Ran.{call_seen}
 use Rattle.sdls_run.proofs.top.run.Goals as goal
 
 pub returns-in-None-clause-stat_lives : goal.returns-in-None-clause-stat_lives

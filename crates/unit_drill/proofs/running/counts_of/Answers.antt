@@ -2,7 +2,7 @@ use Rattle.std.proofs.Common.{◌≡◌, ℕ, suc, ◌+◌, ◌/◌, List, ◌++
 use Rattle.counter_table.specs.Worker.{view}
 use Rattle.drill_frames.specs.declared.counts.Counts.{Counts}
 use Rattle.record_io.specs.declared.answers.Answer.{Answer}
-use Rattle.drill_laws.specs.Drilled.{AreChunks, IsChunk, IsOpened}
+use Rattle.law_drill.specs.Drilled.{AreChunks, IsChunk, IsOpened}
 use Rattle.unit_drill.proofs.running.counts_of.Goals as goal
 
 pub loop-chunk-preserved : goal.loop-chunk-preserved

@@ -1,5 +1,5 @@
 use Rattle.std.proofs.Common.{ℕ, subst}
-use Rattle.run_steps.specs.Finishing.{IsToldEnd}
+use Rattle.law_run_segments.specs.Finishing.{IsToldEnd}
 use Rattle.unit_session.proofs.finishing.finish.Goals as goal
 
 pub returns : goal.returns

@@ -3,11 +3,11 @@ use Rattle.std.specs.List.{All}
 use Rattle.record_io.specs.declared.answers.Answer.{Answer}
 use Rattle.record_io.specs.declared.records.Record.{Record}
 use Rattle.counter_table.specs.Worker.{view}
-use Rattle.unit_work.specs.Deeds.{Ascend}
+use Rattle.law_worker.specs.Deeds.{Ascend}
 use Rattle.drill_frames.specs.Counting.{count_accepted, count_code, count_fields}
 use Rattle.drill_frames.specs.Frames.{open_tasks, replay_tasks}
-use Rattle.drill_laws.specs.Drilled.{Serves}
-use Rattle.drill_laws.proofs.Tasks.{OnLane, open_ascends, open_lanes, protect_ascends, protect_lanes, replay_lanes}
+use Rattle.law_drill.specs.Drilled.{Serves}
+use Rattle.law_drill.proofs.Tasks.{OnLane, open_ascends, open_lanes, protect_ascends, protect_lanes, replay_lanes}
 use Rattle.unit_drill.proofs.chunk.Pair.serve_chunk.Goals as goal
 
 pub serve-requires-clause-lanes : goal.serve-requires-clause-lanes

@@ -1,6 +1,0 @@
-use Rattle.std.proofs.Common.{◌≡◌, length, All}
-use Rattle.sdls_base.specs.declared.key_item.KeyItem.{KeyItem}
-use Rattle.book_cases.proofs.keys.items.Given as goal
-
-abbrev pub invariant-loop : goal.invariant-loop
-invariant-loop l = All (λ (item : KeyItem). length item.bytes ≡ 16) l.items.items

@@ -1,9 +1,0 @@
-use Rattle.std.proofs.Common.{◌≡◌, false}
-use Rattle.counter_table.specs.Worker.{view, IsOf}
-use Rattle.counter_tests.proofs.table.drawn.Given as goal
-
-abbrev pub invariant-loop : goal.invariant-loop
-invariant-loop g l = record {
-  own : IsOf l.counters l.worker;
-  free : (view l.worker).turn.holds ≡ false;
-}

@@ -1,5 +1,0 @@
-use Rattle.counter_table.specs.Worker.{IsOf}
-use Rattle.counter_tests.proofs.table.numbers_end_below_the_end.Given as goal
-
-abbrev pub invariant-loop-wanted : goal.invariant-loop-wanted
-invariant-loop-wanted g l = IsOf l.counters l.worker

@@ -1,5 +1,0 @@
-use Rattle.drill_laws.proofs.Complete.{drill_complete}
-use Rattle.drill_laws.proofs.laws.drill_is_complete.Goals as goal
-
-pub returns : goal.returns
-returns c = drill_complete c.opens_once.ensures

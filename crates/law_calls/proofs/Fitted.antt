@@ -1,0 +1,109 @@
+-- When an answer of a call fits its record, by what the run's history was then.
+use Rattle.std.proofs.Common.{◌≡◌, ◌≢◌, ◌⊎◌, ℕ, ◌+◌, ◌-◌, ◌≤◌, IsTrue, List, [], ◌∷◌, ◌++◌, length, Some, refl, sym, ◌∙◌, ap, subst, arith, inl, inr}
+use Rattle.std.specs.List.{slice_get}
+use Rattle.std.proofs.lemmas.List.{take-append-le, take_all}
+use Rattle.sdls_base.specs.declared.change.Change.{Change}
+use Rattle.sdls_base.specs.declared.entry.Entry.{Entry}
+use Rattle.sdls_base.specs.declared.entry.Seen.{Seen}
+use Rattle.sdls_outside.specs.Faults.{Rose}
+use Rattle.unit_state.specs.declared.state.State.{State}
+use Rattle.unit_state.specs.History.{after, after_first}
+use Rattle.frame_checks.specs.declared.open_reply.OpenReply.{OpenReply}
+use Rattle.frame_checks.specs.Opening.{IsOpenReply}
+use Rattle.ep_core.specs.declared.reply.Reply.{Reply}
+use Rattle.record_io.specs.declared.records.Record.{Record}
+use Rattle.record_io.specs.declared.answers.Answer.{Answer}
+use Rattle.record_io.specs.declared.kinds.RecordKind.{RecordKind}
+use Rattle.record_io.specs.declared.kinds.RecordKind.TheVariants.{Protect, Open, Command}
+use Rattle.record_io.specs.declared.code.TheConstants.{JOURNAL_FULL, SITE_FAULT, STOPPED}
+use Rattle.law_history.specs.Answers.{counting, opened_told, replied_told}
+use Rattle.law_history.specs.Entries.{frame_entry, record_entry, IsStepOf}
+use Rattle.law_history.specs.Stored.{stored_count}
+use Rattle.law_history.specs.Fits.{Course, Fits, FitsAny, FitsKind, MayAppend, MayAppendOnce, TellsFault, state_after}
+use Rattle.law_calls.specs.Answering.{answer_of, unserved_answer}
+
+pub after_front : (start : State) (es rest : List Entry) → after_first start (es ++ rest) (length es) ≡ after start es
+after_front start es rest =
+    ap (after start) (take-append-le (length es) es rest (omega arith) ∙ take_all (length es) es (omega arith))
+
+behind : (es : List Entry) (e : Entry) → slice_get (es ++ e ∷ []) (length es) ≡ Some e
+behind [] e = refl
+behind (x ∷ es) e = behind es e
+
+module _ (near : ℕ → ℕ → Type 0) (course : Course) (task : Record) where
+  by_any : (kind : RecordKind) (answer : Answer) → FitsAny near course task answer → FitsKind near course task answer kind
+  by_any Protect answer any = inr (inr (inr any))
+  by_any Open answer any = inr any
+  by_any Command answer any = inr any
+
+  pub fits_any : (answer : Answer) → FitsAny near course task answer → Fits near course task answer
+  fits_any answer any = by_any task.kind answer any
+
+  -- the entry that the answer tells is the last
+  module _ (front : List Entry) (state : State) (entry : Entry) (position : ℕ) (entries : course.entries ≡ front ++ entry ∷ [])
+      (state_is : state ≡ after course.start front) (position_is : position ≡ length front + 1) where
+    before : position - 1 ≡ length front
+    before = omega arith
+
+    pub before_is : state_after course (position - 1) ≡ state
+    before_is =
+        ap (λ (p : ℕ). after_first course.start course.entries p) before
+        ∙ ap (λ (es : List Entry). after_first course.start es (length front)) entries
+        ∙ after_front course.start front (entry ∷ []) ∙ sym state_is
+
+    pub there : slice_get course.entries (position - 1) ≡ Some entry
+    there = ap (slice_get course.entries) before ∙ ap (λ (es : List Entry). slice_get es (length front)) entries ∙ behind front entry
+
+    pub opened_fits : task.kind ≡ Open → (reply : OpenReply) (field : List ℕ) → IsOpenReply course.plan state task.link task.octets reply field
+        → entry ≡ frame_entry course.plan state task.index reply → Fits near course task (answer_of (opened_told reply field) position)
+    opened_fits kind reply field replies entry_is =
+        subst (λ (k : RecordKind). FitsKind near course task (answer_of (opened_told reply field) position) k) (sym kind) (inl (record {
+          reply = reply;
+          field = field;
+          replies = subst (λ (s : State). IsOpenReply course.plan s task.link task.octets reply field) (sym before_is) replies;
+          stands = record {
+            least = omega arith;
+            there = there ∙ ap (λ (e : Entry). Some e) (entry_is ∙ ap (λ (s : State). frame_entry course.plan s task.index reply) (sym before_is));
+          };
+          told = refl;
+        }))
+
+    pub commanded_fits : task.kind ≡ Command → (seen : Seen) (change : Change) (reply : Reply) → IsStepOf state task.octets seen (change, reply)
+        → entry ≡ record_entry task.index seen change → Fits near course task (answer_of (replied_told reply) position)
+    commanded_fits kind seen change reply step entry_is =
+        subst (λ (k : RecordKind). FitsKind near course task (answer_of (replied_told reply) position) k) (sym kind) (inl (record {
+          seen = seen;
+          change = change;
+          reply = reply;
+          step = subst (λ (s : State). IsStepOf s task.octets seen (change, reply)) (sym before_is) step;
+          stands = record { least = omega arith; there = there ∙ ap (λ (e : Entry). Some e) entry_is };
+          told = refl;
+        }))
+
+  pub wanting_fits : Fits near course task unserved_answer
+  wanting_fits = fits_any unserved_answer (inr (inr (inr (record { told = refl; position_is = refl }))))
+
+  pub full_fits : (slots position : ℕ) → position ≡ length course.entries → (IsTrue course.told → slots ≡ course.slots)
+      → (IsTrue course.told → course.used + stored_count course.start course.entries ≡ course.slots)
+      → MayAppend near course (length course.entries) task → Fits near course task (answer_of (counting JOURNAL_FULL 0 slots) position)
+  full_fits slots position is slots_are full may = fits_any (answer_of (counting JOURNAL_FULL 0 slots) position) (inl (record {
+    told = refl;
+    within = omega arith;
+    slots_are = slots_are;
+    full = λ told. ap (λ (es : List Entry). course.used + stored_count course.start es) (take_all position course.entries (omega arith)) ∙ full told;
+    may = subst (λ (p : ℕ). MayAppend near course p task) (sym is) may;
+  }))
+
+  tells : (code count position : ℕ) → position ≡ length course.entries → Rose course.faults_before count → count ≤ course.faults
+      → TellsFault course code (answer_of (counting code 0 count) position)
+  tells code count position is rose low = record { told = refl; rose = rose; counted = low; position_is = is }
+
+  pub faulted_fits : (count position : ℕ) → position ≡ length course.entries → Rose course.faults_before count → count ≤ course.faults
+      → MayAppendOnce near course task → Fits near course task (answer_of (counting SITE_FAULT 0 count) position)
+  faulted_fits count position is rose low may = fits_any (answer_of (counting SITE_FAULT 0 count) position)
+      (inr (inl (record { tells = tells SITE_FAULT count position is rose low; may = may })))
+
+  pub stopped_fits : (count position : ℕ) → position ≡ length course.entries → Rose course.faults_before count → count ≤ course.faults
+      → (task.kind ≢ Protect) ⊎ MayAppendOnce near course task → Fits near course task (answer_of (counting STOPPED 0 count) position)
+  stopped_fits count position is rose low may = fits_any (answer_of (counting STOPPED 0 count) position)
+      (inr (inr (inl (record { tells = tells STOPPED count position is rose low; may = may }))))

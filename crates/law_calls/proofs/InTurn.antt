@@ -1,0 +1,297 @@
+-- What a call that handles a record is in turn: what was known before it, where no other worker made a line meanwhile.
+use Rattle.std.proofs.Common.{◌≡◌, ℕ, zero, suc, ◌+◌, ◌-◌, ◌<◌, ◌≤◌, Bool, false, List, [], ◌∷◌, ◌++◌, length, take, Some, IsTrue, refl, sym, ◌∙◌, ap, subst, arith, append-nil, length-append, if◌then◌else◌}
+use Rattle.std.proofs.lemmas.List.{append_cancel_left, take-append-le, take_all}
+use Rattle.sdls_base.specs.Numbers.{one_if, times}
+use Rattle.sdls_base.specs.declared.entry.Entry.{Entry}
+use Rattle.sdls_base.specs.declared.entry.Logged.{Logged}
+use Rattle.sdls_outside.specs.Faults.{Rose}
+use Rattle.sdls_outside.specs.Moments.{Trace}
+use Rattle.disk_journal.specs.Image.{records, slot_count}
+use Rattle.key_book.specs.KeyBook.{place_of}
+use Rattle.record_io.specs.declared.answers.Answer.{Answer}
+use Rattle.record_io.specs.declared.code.TheConstants.{JOURNAL_FULL}
+use Rattle.record_io.specs.declared.records.Record.{Record}
+use Rattle.unit_state.specs.declared.state.State.{State}
+use Rattle.unit_state.specs.Applied.{applied}
+use Rattle.unit_state.specs.History.{after, epoch_after}
+use Rattle.counter_table.specs.declared.view.Known.{Known}
+use Rattle.counter_table.specs.declared.view.Numbers.{Numbers}
+use Rattle.counter_table.specs.declared.view.Opening.{Opening}
+use Rattle.counter_table.specs.declared.view.Turn.{Turn}
+use Rattle.counter_table.specs.declared.view.View.{View}
+use Rattle.counter_table.specs.Known.{Earlier}
+use Rattle.counter_table.specs.Play.{IsCovered}
+use Rattle.counter_table.specs.Turn.{places, stands}
+use Rattle.law_history.specs.Answers.{counting}
+use Rattle.law_history.specs.Log.{entries_of}
+use Rattle.law_history.specs.Numbers.{mark_of}
+use Rattle.law_history.specs.Stored.{IsStored, stored_count}
+use Rattle.unit_book.specs.Book.{BookView, Enters}
+use Rattle.unit_book.specs.Marks.{mark_at}
+use Rattle.shared_unit.specs.Told.{told_by}
+use Rattle.shared_unit.specs.Turn.{FindsCovered, taking_once, Visits}
+use Rattle.law_worker.specs.Begin.{Begin}
+use Rattle.law_worker.specs.Views.{IsRow, log_of, entries_in}
+use Rattle.law_worker.specs.Deeds.{deed_of}
+use Rattle.law_lives.proofs.Rows.{mark_known}
+use Rattle.law_one_lane.specs.Machine.{Move}
+use Rattle.law_one_lane.specs.Serving.{HasSlot, SaysFull, Serves}
+use Rattle.law_one_lane.specs.InTurn.{AllMade, IsClean, IsLevel, IsMarked, AreMarked, ServedInTurn}
+use Rattle.law_calls.specs.Answering.{answer_of}
+use Rattle.law_calls.specs.Visiting.{BeganWith}
+use Rattle.law_calls.proofs.Behind.{lines_of, lines_entries, places_within}
+use Rattle.law_calls.proofs.OneRecord.{Turned}
+use Rattle.law_calls.proofs.Visit.{below_mark, risen_of, began_faults, faults_are, changes_are, log_is, log_low, start_is, whole}
+
+-- fronts of one length are one
+front_one : (a b c d : List Logged) → a ++ c ≡ b ++ d → length a ≡ length b → a ≡ b
+front_one a b c d same size =
+    sym (take-append-le (length a) a c (omega arith) ∙ take_all (length a) a (omega arith))
+    ∙ ap (take (length a)) same
+    ∙ ap (λ (n : ℕ). take n (b ++ d)) size
+    ∙ take-append-le (length b) b d (omega arith) ∙ take_all (length b) b (omega arith)
+
+module _ (v w : View) (log : List Logged) (count : ℕ) (low : length (log_of v) ≤ length log) (before after : List Logged)
+    (is : log_of w ≡ log_of v ++ after) (has : log_of w ≡ log ++ before) where
+  -- the log that was found is the one that was known, where no other line was made
+  pub found_known : AllMade v w (places (length log) count) → log ≡ log_of v
+  found_known all = front_one log (log_of v) before after (sym has ∙ is) same
+    where
+      within : length (log_of w) ≡ length log + length before
+      within = ap length has ∙ length-append log before
+
+      same : length log ≡ length (log_of v)
+      same = by_case (length log - length (log_of v)) (omega arith)
+        where
+          by_case : (more : ℕ) → length (log_of v) + more ≡ length log → length log ≡ length (log_of v)
+          by_case zero h = omega arith
+          by_case (suc more) h =
+              let size = within in
+              let place = all (length (log_of v)) (omega arith) (omega arith) in
+              let (least, most) = places_within (length log) count (length (log_of v)) place in absurd (omega arith)
+
+module _ (begin : Begin) (v w : View) (log : List Logged) (es : List Entry) (turned : Turned log es v.turn w.turn) where
+  pub known_log : AllMade v w (places (length log) (length es)) → log ≡ log_of v
+  known_log = found_known v w log (length es) turned.low (lines_of es) turned.earlier.log.0 turned.earlier.log.1 turned.log_is
+
+  pub entries_are : entries_in w ≡ entries_of log ++ es
+  entries_are = ap entries_of turned.log_is ∙ lines_entries log es
+
+  -- What a call made of what was known: so many numbers were spent; the epoch seen keeps up with the log; and a number that was
+  -- spent before lies below its mark.
+  pub record Passes (spent : List (ℕ × ℕ)) : Type 0 where
+    pub spent_is : w.numbers.spent ≡ v.numbers.spent ++ spent
+    pub level : IsClean w → IsLevel v → IsLevel w
+    pub marked : AllMade v w (places (length log) (length es)) → IsClean w → (key row number : ℕ) → row < begin.rows → IsRow begin v key row
+        → 0 < times row number v.numbers.spent → IsMarked begin w key number → IsMarked begin v key number
+
+  module _ (segment : ℕ) (task : Record) (move : Move) (spent : List (ℕ × ℕ)) (passes : Passes spent) where
+    above : (place : ℕ) → 0 < stands place (places (length log) (length es)) → length (log_of v) ≤ place
+    above place in' = let (least, most) = places_within (length log) (length es) place in' in let low = turned.low in omega arith
+
+    -- the record has this answer, in the history that was found
+    pub served_turn : (answer : Answer)
+        → (log ≡ log_of v → IsClean w → IsLevel v → AreMarked begin w spent → Serves begin (entries_of log) task answer es move)
+        → ServedInTurn begin v w (places (length log) (length es)) spent (deed_of segment task answer ∷ []) (move ∷ []) []
+    served_turn answer serves = record {
+      above = above;
+      marked = passes.marked;
+      between = record {
+        spent_is = passes.spent_is;
+        level = passes.level;
+        served = λ none all clean level marks.
+            let same = known_log all in (
+              es,
+              entries_are ∙ ap (λ (l : List Logged). entries_of l ++ es) same,
+              (
+                es,
+                [],
+                sym (append-nil es),
+                subst (λ (l : List Logged). Serves begin (entries_of l) task answer es move) same (serves same clean level marks),
+                refl,
+              ),
+            );
+      };
+    }
+
+    -- it has none
+    pub unserved_turn : ServedInTurn begin v w (places (length log) (length es)) spent [] [] (move ∷ [])
+    unserved_turn = record {
+      above = above;
+      marked = passes.marked;
+      between = record {
+        spent_is = passes.spent_is;
+        level = passes.level;
+        served = λ none. absurd (let n : length (move ∷ []) ≡ 0 = ap length none in omega arith);
+      };
+    }
+
+-- the turn was not taken
+pub looks_pass : (begin : Begin) (v w : View) (spent : List (ℕ × ℕ)) (turned : Turned v.turn.known.log [] v.turn w.turn)
+    → w.numbers.spent ≡ v.numbers.spent ++ spent → Passes begin v w v.turn.known.log [] turned spent
+looks_pass begin v w spent turned is =
+    let same : entries_in w ≡ entries_in v = entries_are begin v w v.turn.known.log [] turned ∙ append-nil (entries_in v) in
+    record {
+      spent_is = is;
+      level = λ clean level. let e = turned.epochs in let s = ap epoch_after same in omega arith;
+      marked = λ all clean key row number low there in' mark. subst (λ (l : List Entry). number < mark_of (after begin.start l) key) same mark;
+    }
+
+-- The turn was taken, with the one book found and the other given back.
+module _ {O : Type 0} (told : Bool) (trace : O → Trace) (faults puts : O → ℕ) (begin : Begin) (found given : BookView O) (u : Turn) (v w : View)
+    (began : BeganWith told begin u.known.opening) (free : u.holds ≡ false) (visits : Visits told trace faults puts found given u w.turn) where
+  not_given : IsClean w → ¬ Rose (faults given.opened) (faults given.site)
+  not_given clean rose =
+      let first : w.turn.known.opening.faults ≡ faults found.opened = began_faults told trace faults puts begin found given u w.turn began free visits in
+      let now : w.turn.known.faults ≡ faults given.site = faults_are told trace faults puts begin found given u w.turn began free visits in
+      let same : faults given.opened ≡ faults found.opened = ap (λ (o : Opening). o.faults) visits.takes.opening in
+      clean (risen_of w.turn.known.opening.faults w.turn.known.faults
+      (subst (λ (n : ℕ). Rose n w.turn.known.faults) (same ∙ sym first) (subst (λ (n : ℕ). Rose (faults given.opened) n) (sym now) rose)))
+
+  pub not_found : IsClean w → ¬ Rose (faults found.opened) (faults found.site)
+  not_found clean rose =
+      let low = visits.takes.earlier.faults in
+      let same : faults given.opened ≡ faults found.opened = ap (λ (o : Opening). o.faults) visits.takes.opening in
+      not_given clean (subst (λ (n : ℕ). Rose n (faults given.site)) (sym same) (later (faults found.opened) (faults found.site) (faults given.site) low rose))
+    where
+      later : (a b c : ℕ) → b ≤ c → Rose a b → Rose a c
+      later a b c low rose = omega arith
+
+  -- the epoch that is seen afterwards is that of the log
+  pub taken_level : IsClean w → IsLevel w
+  taken_level clean =
+      let kept = visits.given_kept in
+      let all = kept.whole (not_given clean) in
+      let log : w.turn.known.log ≡ given.log = log_is told trace faults puts begin found given u w.turn began free visits in
+      let changes : w.turn.known.changes ≡ given.changes = changes_are told trace faults puts begin found given u w.turn began free visits in
+      let counted : given.changes ≡ epoch_after (entries_in w) =
+      kept.epoch ∙ ap epoch_after (take_all given.standing (entries_of given.log) (omega arith) ∙ ap entries_of (sym log)) in omega arith
+
+  -- the state that was found, and the slots
+  pub state_found : IsClean w → found.state ≡ after begin.start (entries_of found.log)
+  state_found clean = (whole told trace faults puts begin found given u w.turn began free visits (not_found clean)).0
+
+  pub slots_found : IsClean w → IsTrue begin.told
+      → (begin.slots ≡ found.journal.slots) × (begin.used + stored_count begin.start (entries_of found.log) ≡ found.journal.used)
+  slots_found clean tells =
+      let t : IsTrue told = subst (λ (b : Bool). IsTrue b) began.tells tells in
+      let counts = visits.found_kept.counted t (not_found clean) in
+      let image : found.image ≡ u.known.opening.image = ap (λ (o : Opening). o.image) visits.takes.follows.opening in
+      let start : found.start ≡ begin.start = start_is told trace faults puts begin found given u w.turn began free visits in
+      let slots = began.slots t in
+      let used = began.used t in
+      let stored : stored_count begin.start (entries_of found.log) ≡ stored_count found.start (entries_of found.log) =
+      ap (λ (s : State). stored_count s (entries_of found.log)) (sym start) in
+      let lies : slot_count found.image ≡ slot_count u.known.opening.image = ap slot_count image in
+      let count : length (records found.image) ≡ length (records u.known.opening.image) = ap (λ (i : List ℕ). length (records i)) image in
+      let a = counts.slots in let b = counts.used in (omega arith, omega arith)
+
+  -- a number that was spent before lies below its mark in the book that was found
+  pub taken_marked : IsCovered 512 v.numbers (told_by trace faults puts found) → found.log ≡ log_of v → IsClean w → (key row number : ℕ) → row < begin.rows
+      → IsRow begin v key row → 0 < times row number v.numbers.spent → IsMarked begin v key number
+  taken_marked covered same clean key row number low there in' =
+      let rows = began.rows in
+      let once = covered row number (omega arith) in
+      let below : number < mark_at found.state row = below_mark number (mark_at found.state row) (omega arith) in
+      let state : found.state ≡ after begin.start (entries_in v) = state_found clean ∙ ap (λ (l : List Logged). after begin.start (entries_of l)) same in
+      let place : place_of (after found.state []).keys key ≡ Some row = ap (λ (s : State). place_of s.keys key) state ∙ there in
+      let mark : mark_at found.state row ≡ mark_of found.state key = mark_known found.state [] key row visits.found_kept.rules place in
+      let known : mark_of found.state key ≡ mark_of (after begin.start (entries_in v)) key = ap (λ (s : State). mark_of s key) state in omega arith
+
+  -- by a book that is above what was spent
+  pub takes_pass : (es : List Entry) (turned : Turned found.log es v.turn w.turn) (spent : List (ℕ × ℕ)) → w.numbers.spent ≡ v.numbers.spent ++ spent
+      → (AllMade v w (places (length found.log) (length es)) → IsClean w → (key row number : ℕ) → row < begin.rows → IsRow begin v key row
+      → 0 < times row number v.numbers.spent → IsMarked begin v key number)
+      → Passes begin v w found.log es turned spent
+  takes_pass es turned spent is covers = record {
+    spent_is = is;
+    level = λ clean level. taken_level clean;
+    marked = λ all clean key row number low there in' mark. covers all clean key row number low there in';
+  }
+
+-- where these places are all that were made behind a view, each number spent before lies below its mark there
+abbrev pub CoversSpent : Begin → View → View → Type 0
+CoversSpent begin v w = (made : List ℕ) → w.turn.made ≡ v.turn.made ++ made → AllMade v w made → IsClean w → (key row number : ℕ) → row < begin.rows
+    → IsRow begin v key row → 0 < times row number v.numbers.spent → IsMarked begin v key number
+
+-- A book that was found above all that was spent, by a worker with this view before, whose turn and numbers are those of another.
+pub covers : {O : Type 0} (told : Bool) (trace : O → Trace) (faults puts : O → ℕ) (begin : Begin) (v x w : View) → BeganWith told begin v.turn.known.opening
+    → x.turn.holds ≡ false → x.turn.known ≡ v.turn.known → x.turn.made ≡ v.turn.made → x.numbers ≡ v.numbers → Earlier v.turn.known w.turn.known
+    → FindsCovered told trace faults puts x w → CoversSpent begin v w
+covers {O} told trace faults puts begin v x w began free known same numbers earlier h made made_is all clean =
+    let began_x : BeganWith told begin x.turn.known.opening = subst (λ (k : Known). BeganWith told begin k.opening) (sym known) began in
+    let turn : w.turn ≡ taking_once (told_by trace faults puts h.found) (told_by trace faults puts h.given) x.turn = h.visits.takes.turn in
+    let count : ℕ = length h.given.log - length h.found.log in
+    let made_here : made ≡ places (length h.found.log) count =
+    append_cancel_left v.turn.made made (places (length h.found.log) count)
+    (sym made_is ∙ ap (λ (t : Turn). t.made) turn ∙ ap (λ (l : List ℕ). l ++ places (length h.found.log) count) same) in
+    let low : length (log_of v) ≤ length h.found.log =
+    (let l = log_low told trace faults puts begin h.found h.given x.turn w.turn began_x free h.visits in
+    let k : length x.turn.known.log ≡ length (log_of v) = ap (λ (z : Known). length z.log) known in omega arith) in
+    let log : h.found.log ≡ log_of v = found_known v w h.found.log count low h.visits.takes.earlier.log.0 earlier.log.0 earlier.log.1
+    (log_is told trace faults puts begin h.found h.given x.turn w.turn began_x free h.visits ∙ h.visits.takes.earlier.log.1)
+    (subst (AllMade v w) made_here all) in
+    taken_marked told trace faults puts begin h.found h.given x.turn v w began_x free h.visits
+    (subst (λ (k : Numbers). IsCovered 512 k (told_by trace faults puts h.found)) numbers h.covered) log clean
+
+-- What is known of a book at a stage of a call, where the site did not fail: its state is that after its entries, and its slots are
+-- those of the image.
+pub record Stands {O : Type 0} (begin : Begin) (book : BookView O) : Type 0 where
+  pub state : book.state ≡ after begin.start (entries_of book.log)
+  pub slots : IsTrue begin.told → begin.slots ≡ book.journal.slots
+  pub used : IsTrue begin.told → begin.used + stored_count begin.start (entries_of book.log) ≡ book.journal.used
+
+stored_one : (start : State) (es : List Entry) (e : Entry)
+    → stored_count start (es ++ e ∷ []) ≡ stored_count start es + (if IsStored (after start es) e then 1 else 0)
+stored_one start [] e = omega arith
+stored_one start (x ∷ es) e = let h = stored_one (applied start x.change) es e in omega arith
+
+after_one : (start : State) (es : List Entry) (e : Entry) → after start (es ++ e ∷ []) ≡ applied (after start es) e.change
+after_one start [] e = refl
+after_one start (x ∷ es) e = after_one (applied start x.change) es e
+
+module _ {O : Type 0} (begin : Begin) (old : BookView O) (stands : Stands begin old) where
+  -- behind an entry that was made
+  pub stands_entered : (new : BookView O) (entry : Entry) (position : ℕ) → Enters entry old new position → Stands begin new
+  stands_entered new entry position enters =
+      let log : entries_of new.log ≡ entries_of old.log ++ entry ∷ [] =
+      ap (λ (b : BookView O). entries_of b.log) enters.is ∙ lines_entries old.log (entry ∷ []) in
+      let state : new.state ≡ applied old.state entry.change = ap (λ (b : BookView O). b.state) enters.is in
+      record {
+        state = state ∙ ap (λ (s : State). applied s entry.change) stands.state ∙ sym (after_one begin.start (entries_of old.log) entry)
+            ∙ ap (after begin.start) (sym log);
+        slots = λ tells. stands.slots tells ∙ sym (ap (λ (b : BookView O). b.journal.slots) enters.is);
+        used = λ tells.
+            let u = stands.used tells in
+            let now : new.journal.used ≡ old.journal.used + (if IsStored old.state entry then 1 else 0) = ap (λ (b : BookView O). b.journal.used) enters.is in
+            let one = stored_one begin.start (entries_of old.log) entry in
+            let all : stored_count begin.start (entries_of new.log) ≡ stored_count begin.start (entries_of old.log ++ entry ∷ []) = ap (stored_count begin.start) log in
+            let test : IsStored (after begin.start (entries_of old.log)) entry ≡ IsStored old.state entry = ap (λ (s : State). IsStored s entry) (sym stands.state) in
+            let value : one_if (IsStored (after begin.start (entries_of old.log)) entry) ≡ one_if (IsStored old.state entry) = ap one_if test in omega arith;
+      }
+
+  -- there is a slot for an entry that was made, and none for one that could not be
+  pub slot_free : (entry : Entry) → (IsTrue (IsStored old.state entry) → old.journal.used < old.journal.slots)
+      → HasSlot begin (entries_of old.log) entry
+  slot_free entry free tells stored =
+      let f = free (subst (λ (s : State). IsTrue (IsStored s entry)) (sym stands.state) stored) in
+      let s = stands.slots tells in let u = stands.used tells in omega arith
+
+  pub slot_full : (entry : Entry) (slots position : ℕ) → IsTrue (IsStored old.state entry) → old.journal.used ≡ old.journal.slots → slots ≡ old.journal.slots
+      → position ≡ length (entries_of old.log) → SaysFull begin (entries_of old.log) entry (answer_of (counting JOURNAL_FULL 0 slots) position)
+  slot_full entry slots position stored full is at = record {
+    told = refl;
+    position_is = at;
+    slots_are = λ tells. is ∙ sym (stands.slots tells);
+    stored = subst (λ (s : State). IsTrue (IsStored s entry)) stands.state stored;
+    none_left = λ tells. let s = stands.slots tells in let u = stands.used tells in omega arith;
+  }
+
+-- the book that was found
+pub stands_found : {O : Type 0} (told : Bool) (trace : O → Trace) (faults puts : O → ℕ) (begin : Begin) (found given : BookView O) (u : Turn) (v w : View)
+    → BeganWith told begin u.known.opening → u.holds ≡ false → Visits told trace faults puts found given u w.turn → IsClean w → Stands begin found
+stands_found told trace faults puts begin found given u v w began free visits clean = record {
+  state = state_found told trace faults puts begin found given u v w began free visits clean;
+  slots = λ tells. (slots_found told trace faults puts begin found given u v w began free visits clean tells).0;
+  used = λ tells. (slots_found told trace faults puts begin found given u v w began free visits clean tells).1;
+}

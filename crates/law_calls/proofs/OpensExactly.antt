@@ -1,0 +1,149 @@
+-- A frame that is opened moves no word.
+use Rattle.std.proofs.Common.{◌≡◌, ◌⊎◌, ℕ, Bool, false, List, [], ◌∷◌, ◌++◌, length, length-append, refl, sym, ◌∙◌, ap, subst, inl, inr, append-nil, Result, Ok, Err, MatchResult}
+use Rattle.sdls_base.specs.declared.entry.Entry.{Entry}
+use Rattle.sdls_outside.specs.Moments.{Trace}
+use Rattle.frame_checks.specs.declared.open_reply.OpenReply.{OpenReply}
+use Rattle.frame_checks.specs.Accepting.{field_in, Leaves}
+use Rattle.frame_checks.specs.Opening.{IsOpenReply}
+use Rattle.unit_plan.specs.PlanLines.{PlanLines}
+use Rattle.unit_state.specs.declared.state.State.{State}
+use Rattle.record_io.specs.declared.answers.Answer.{Answer}
+use Rattle.record_io.specs.declared.kinds.RecordKind.{RecordKind}
+use Rattle.record_io.specs.declared.kinds.RecordKind.TheVariants.{Open}
+use Rattle.record_io.specs.declared.records.Record.{Record}
+use Rattle.counter_table.specs.declared.view.Numbers.{Numbers}
+use Rattle.counter_table.specs.declared.view.View.{View}
+use Rattle.counter_table.specs.Turn.{places}
+use Rattle.record_io.specs.declared.code.TheConstants.{JOURNAL_FULL}
+use Rattle.law_history.specs.Answers.{counting, opened_told}
+use Rattle.law_history.specs.Entries.{frame_entry}
+use Rattle.law_history.specs.Log.{entries_of}
+use Rattle.unit_book.specs.declared.fault.BookFault.{BookFault}
+use Rattle.unit_book.specs.declared.fault.BookFault.TheVariants as refusals
+use Rattle.unit_book.specs.Book.{BookView, IsBarred, IsUnstored}
+use Rattle.unit_book.specs.Records.{Opens, RefusesFrame}
+use Rattle.shared_unit.specs.Calls.{WithPosition}
+use Rattle.shared_unit.specs.Told.{told_by, entry_count}
+use Rattle.shared_unit.specs.Turn.{FindsCovered, Visits}
+use Rattle.law_worker.specs.Begin.{Begin}
+use Rattle.law_worker.specs.Views.{entries_in}
+use Rattle.law_worker.specs.Deeds.{deed_of}
+use Rattle.law_one_lane.specs.Machine.{Kept}
+use Rattle.law_one_lane.specs.Serving.{now, HasSlot, SaysFull, IsOpened, IsUnopened, ServesKind, Serves}
+use Rattle.law_one_lane.specs.InTurn.{IsClean}
+use Rattle.law_one_lane.specs.Exact.{Tells, TellsKind}
+use Rattle.law_calls.specs.Visiting.{BeganWith}
+use Rattle.law_calls.specs.Answering.{answer_of, fault_answer, opened_answer, AnsweredExactly}
+use Rattle.law_calls.proofs.Behind.{lines_of, lines_entries}
+use Rattle.law_calls.proofs.OneRecord.{Turned}
+use Rattle.law_calls.proofs.Moving.{moves_none}
+use Rattle.law_calls.proofs.Exactness.{AreDrawn, of_record, refused_exactly, told_exactly}
+use Rattle.law_calls.proofs.InTurn.{Passes, Stands, covers, slot_free, slot_full, stands_found, takes_pass}
+use Rattle.law_calls.proofs.Visit.{plan_is, turned}
+
+module _ {O : Type 0} (told : Bool) (trace : O → Trace) (faults puts : O → ℕ) (begin : Begin) (segment : ℕ) (task : Record)
+    (v w : View) (found given : BookView O) (began : BeganWith told begin v.turn.known.opening) (free : v.turn.holds ≡ false)
+    (opens_it : task.kind ≡ Open) (numbers : w.numbers ≡ v.numbers) (visits : Visits told trace faults puts found given v.turn w.turn)
+    (covered : FindsCovered told trace faults puts v w) where
+  tells : (answer : Answer) → Tells begin.start (entries_in w) (deed_of segment task answer) Kept
+  tells answer = subst (λ (k : RecordKind). TellsKind begin.start (entries_in w) k (deed_of segment task answer) Kept) (sym opens_it) refl
+
+  by_lines : (es : List Entry) → given.log ≡ found.log ++ lines_of es → Turned found.log es v.turn w.turn
+  by_lines es is = turned told trace faults puts begin found given v.turn w.turn began free visits es is
+
+  none_left : given ≡ found → given.log ≡ found.log ++ lines_of []
+  none_left same = ap (λ (b : BookView O). b.log) same ∙ sym (append-nil found.log)
+
+  of_frame : (reply : OpenReply) → AreDrawn (Kept ∷ []) (frame_entry found.plan found.state task.index reply ∷ [])
+  of_frame reply = (of_record (Kept ∷ []) (frame_entry found.plan found.state task.index reply) task.index refl, tt)
+
+  -- no number was spent, and those that were before lie below their marks
+  passes : (es : List Entry) (is : given.log ≡ found.log ++ lines_of es) → Passes begin v w found.log es (by_lines es is) []
+  passes es is = takes_pass told trace faults puts begin found given v.turn v w began free visits es (by_lines es is) []
+      (ap (λ (k : Numbers). k.spent) numbers ∙ sym (append-nil v.numbers.spent))
+      (covers told trace faults puts begin v v w began free refl refl refl (by_lines es is).earlier covered (places (length found.log) (length es)) (by_lines es is).made)
+
+  stands : IsClean w → Stands begin found
+  stands clean = stands_found told trace faults puts begin found given v.turn v w began free visits clean
+
+  plan : found.plan ≡ begin.plan
+  plan = plan_is told trace faults puts begin found given v.turn w.turn began free visits
+
+  -- the entry of a reply, as the machine says it
+  entry_is : (reply : OpenReply) → IsClean w
+      → frame_entry found.plan found.state task.index reply ≡ frame_entry begin.plan (now begin (entries_of found.log)) task.index reply
+  entry_is reply clean = ap (λ (p : PlanLines). frame_entry p found.state task.index reply) plan
+      ∙ ap (λ (s : State). frame_entry begin.plan s task.index reply) (stands clean).state
+
+  replies_there : (reply : OpenReply) (field : List ℕ) → IsClean w → IsOpenReply found.plan found.state task.link task.octets reply field
+      → IsOpenReply begin.plan (now begin (entries_of found.log)) task.link task.octets reply field
+  replies_there reply field clean h =
+      subst (λ (s : State). IsOpenReply begin.plan s task.link task.octets reply field) (stands clean).state
+      (subst (λ (p : PlanLines). IsOpenReply p found.state task.link task.octets reply field) plan h)
+
+  by_kind : (answer : Answer) (es : List Entry)
+      → (IsOpened begin (entries_of found.log) task answer es Kept ⊎ IsUnopened begin (entries_of found.log) task answer es Kept)
+      → Serves begin (entries_of found.log) task answer es Kept
+  by_kind answer es h = inr (subst (λ (k : RecordKind). ServesKind begin (entries_of found.log) k task answer es Kept) (sym opens_it) h)
+
+  refused : (es : List Entry) → given.log ≡ found.log ++ lines_of es → AreDrawn (Kept ∷ []) es → (fault : BookFault) (position : ℕ)
+      → ((slots : ℕ) → fault ≡ refusals.JournalFull slots → IsClean w
+      → Serves begin (entries_of found.log) task (answer_of (counting JOURNAL_FULL 0 slots) position) es Kept)
+      → AnsweredExactly begin segment v w task (fault_answer fault position)
+  refused es is drawn fault position full =
+      refused_exactly begin segment task v w Kept (moves_none begin v w numbers) found.log es (by_lines es is) drawn [] (passes es is) (λ _. refl) fault position
+      (λ slots same. (tells (answer_of (counting JOURNAL_FULL 0 slots) position), λ here clean level marks. full slots same clean))
+
+  unstored : (reply : OpenReply) (field : List ℕ) → IsOpenReply found.plan found.state task.link task.octets reply field → (fault : BookFault) (position : ℕ)
+      → position ≡ entry_count (told_by trace faults puts given)
+      → IsUnstored faults (frame_entry found.plan found.state task.index reply) found given fault
+      → AnsweredExactly begin segment v w task (fault_answer fault position)
+  unstored reply field replies (refusals.SiteFault count) position at h =
+      refused (frame_entry found.plan found.state task.index reply ∷ []) (ap (λ (b : BookView O). b.log) h.4) (of_frame reply) (refusals.SiteFault count) position
+      (λ slots same. absurd (let no = same in cc))
+  unstored reply field replies (refusals.JournalFull slots) position at h = refused [] (none_left h.3) tt (refusals.JournalFull slots) position
+      (λ others same clean. by_kind (answer_of (counting JOURNAL_FULL 0 others) position) [] (inr (record {
+        reply = reply;
+        field = field;
+        replies = replies_there reply field clean replies;
+        full = subst (λ (e : Entry). SaysFull begin (entries_of found.log) e (answer_of (counting JOURNAL_FULL 0 others) position)) (entry_is reply clean)
+            (slot_full begin found (stands clean) (frame_entry found.plan found.state task.index reply) others position h.0 h.1 (same_slots slots others same ∙ h.2)
+            (at ∙ ap (λ (b : BookView O). length (entries_of b.log)) h.3));
+        own_is = refl;
+        move_is = refl;
+      })))
+    where
+      same_slots : (one other : ℕ) → refusals.JournalFull one ≡ refusals.JournalFull other → other ≡ one
+      same_slots one other is = cc
+  unstored reply field replies (refusals.Stopped count) position at h = absurd h
+  unstored reply field replies refusals.SessionFull position at h = absurd h
+  unstored reply field replies refusals.NoMemory position at h = absurd h
+
+  pub opens_exactly : (left : List ℕ) (result : Result (OpenReply × ℕ) (BookFault × ℕ))
+      → WithPosition result (told_by trace faults puts given) (λ answer. MatchResult answer
+      (λ told. Opens faults task.index task.link task.octets (field_in told.0 left) found given told.0 told.1 × Leaves told.0 task.octets left)
+      (RefusesFrame faults task.index task.link task.octets found given))
+      → AnsweredExactly begin segment v w task (opened_answer result left)
+  opens_exactly left (Ok (reply, position)) (opened, leaves) =
+      let entry : Entry = frame_entry found.plan found.state task.index reply in
+      let added : given.log ≡ found.log ++ lines_of (entry ∷ []) = ap (λ (b : BookView O). b.log) opened.made.1.is in
+      told_exactly begin segment task v w Kept (moves_none begin v w numbers) found.log (frame_entry found.plan found.state task.index reply ∷ [])
+      (by_lines (frame_entry found.plan found.state task.index reply ∷ []) added) (of_frame reply) []
+      (passes (frame_entry found.plan found.state task.index reply ∷ []) added)
+      (answer_of (opened_told reply (field_in reply left)) position) (tells (answer_of (opened_told reply (field_in reply left)) position))
+      (λ here clean level marks. by_kind (answer_of (opened_told reply (field_in reply left)) position) (frame_entry found.plan found.state task.index reply ∷ []) (inl (record {
+        reply = reply;
+        field = field_in reply left;
+        replies = replies_there reply (field_in reply left) clean opened.reply_is;
+        told = refl;
+        position_is =
+            let log : entries_of given.log ≡ entries_of found.log ++ entry ∷ [] = ap entries_of added ∙ lines_entries found.log (entry ∷ []) in
+            opened.made.1.position_is ∙ ap length log ∙ length-append (entries_of found.log) (entry ∷ []);
+        slot = subst (HasSlot begin (entries_of found.log)) (entry_is reply clean)
+            (slot_free begin found (stands clean) (frame_entry found.plan found.state task.index reply) opened.made.1.free);
+        own_is = ap (λ (e : Entry). e ∷ []) (entry_is reply clean);
+        move_is = refl;
+      })))
+  opens_exactly left (Err (fault, position)) (inl (is_barred, same), at) = refused [] (none_left same) tt fault position
+      (λ slots is. absurd (subst (IsBarred faults found) is is_barred))
+  opens_exactly left (Err (fault, position)) (inr (can, (reply, field, replies, fails)), at) = unstored reply field replies fault position at fails

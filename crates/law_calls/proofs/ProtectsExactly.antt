@@ -1,0 +1,509 @@
+-- A frame that is protected draws the number that its answer tells.
+use Rattle.std.proofs.Common.{◌≡◌, ◌⊎◌, ℕ, ◌<◌, ◌≤◌, Bool, false, List, [], ◌∷◌, ◌++◌, take, Option, Some, Err, refl, sym, ◌∙◌, ap, subst, arith, inl, inr, append-nil, length, Ok, Result, IsTrue, true, eqb, eq-eqb, ◌+◌, None}
+use Rattle.std.proofs.lemmas.List.{take_all}
+use Rattle.sdls_base.specs.Numbers.{times}
+use Rattle.sdls_base.specs.KeyId.{end_of}
+use Rattle.sdls_base.specs.declared.entry.Entry.{Entry}
+use Rattle.sdls_base.specs.declared.entry.Logged.{Logged}
+use Rattle.sdls_outside.specs.Faults.{Rose}
+use Rattle.sdls_outside.specs.Moments.{Trace}
+use Rattle.key_book.specs.KeyBook.{place_of}
+use Rattle.record_io.specs.declared.answers.Answer.{Answer}
+use Rattle.record_io.specs.declared.code.TheConstants.{PROTECTED, CLEAR, EXHAUSTED, LAYOUT, STATE, JOURNAL_FULL}
+use Rattle.record_io.specs.declared.kinds.RecordKind.{RecordKind}
+use Rattle.record_io.specs.declared.kinds.RecordKind.TheVariants.{Protect, Open}
+use Rattle.record_io.specs.declared.records.Record.{Record}
+use Rattle.unit_plan.specs.PlanLines.{PlanLines}
+use Rattle.unit_state.specs.declared.state.State.{State}
+use Rattle.unit_state.specs.History.{after, after_first, at_epoch, epoch_after}
+use Rattle.unit_state.proofs.Histories.{at_epoch_more, epochs_more}
+use Rattle.frame_shield.specs.declared.protecting.ShieldFault.{ShieldFault}
+use Rattle.frame_shield.specs.declared.protecting.ShieldFault.TheVariants as shield_faults
+use Rattle.counter_table.specs.declared.view.Numbers.{Numbers}
+use Rattle.counter_table.specs.declared.view.Opening.{Opening}
+use Rattle.counter_table.specs.declared.view.Turn.{Turn}
+use Rattle.counter_table.specs.declared.view.View.{View}
+use Rattle.counter_table.specs.Known.{Earlier}
+use Rattle.counter_table.specs.Numbers.{top, arming}
+use Rattle.counter_table.specs.Turn.{epoch_seen, places, seeing}
+use Rattle.frame_shield.specs.Binding.{clear_fault}
+use Rattle.frame_checks.specs.Protecting.{channel_check}
+use Rattle.law_history.specs.Answers.{Told, counting, plain, numbered, fault_told, unbound_told}
+use Rattle.law_history.specs.Log.{entries_of}
+use Rattle.law_history.specs.Numbers.{mark_of, reserve_of}
+use Rattle.law_history.specs.Protecting.{protect_reply}
+use Rattle.law_history.specs.Stored.{IsStored}
+use Rattle.unit_book.specs.declared.fault.BookFault.{BookFault}
+use Rattle.unit_book.specs.declared.fault.BookFault.TheVariants as refusals
+use Rattle.unit_book.specs.Book.{BookView, IsBarred, IsUnstored, Made}
+use Rattle.shared_unit.specs.declared.permit.Permit.{Permit}
+use Rattle.shared_unit.specs.declared.permit.Done.{Done}
+use Rattle.shared_unit.specs.declared.permit.Protected.{Protected}
+use Rattle.shared_unit.specs.declared.permit.Protected.TheVariants as protecteds
+use Rattle.shared_unit.specs.Funding.{Reserves}
+use Rattle.shared_unit.specs.Numbers.{Draws, ComesBack}
+use Rattle.shared_unit.specs.Protecting.{CoversIfTaken, Funds, IsDone, IsProtectStep, IsRefusedAt, IsUsed, Looks, MayTakeTurn, Rests, RunsOutUnder, TakesTurn}
+use Rattle.shared_unit.specs.Told.{entry_count, told_by}
+use Rattle.shared_unit.proofs.Steps.{earlier_again}
+use Rattle.law_worker.specs.Begin.{Begin}
+use Rattle.law_worker.specs.Views.{entries_in, log_of}
+use Rattle.law_worker.specs.Deeds.{deed_of}
+use Rattle.law_worker.specs.Order.{Layout}
+use Rattle.law_one_lane.specs.Machine.{Move, Kept, Found, Drew, Overdrew}
+use Rattle.law_one_lane.specs.Serving as machine
+use Rattle.law_one_lane.specs.InTurn.{IsClean, IsLevel, AreMarked}
+use Rattle.law_one_lane.specs.Exact.{TellsProtect, TellsKind, Tells}
+use Rattle.law_calls.specs.Visiting.{BeganWith}
+use Rattle.law_calls.specs.Answering.{answer_of, fault_answer, protected_answer, AnsweredExactly}
+use Rattle.law_calls.proofs.Behind.{lines_of}
+use Rattle.law_calls.proofs.Counting.{Shows, found_shows, draws_shows, back_shows, uses_shows}
+use Rattle.law_calls.proofs.Exactness.{AreDrawn, refused_exactly, told_exactly}
+use Rattle.law_calls.proofs.InTurn.{CoversSpent, Passes, Stands, covers, entries_are, looks_pass, slot_free, slot_full, stands_found, takes_pass}
+use Rattle.law_calls.proofs.Moving.{Moves, moves_none, moves_found, moves_drew, moves_over}
+use Rattle.law_calls.proofs.OneRecord.{Turned}
+use Rattle.law_calls.proofs.Permitted.{clear_reply, planned_reply, row_last}
+use Rattle.law_calls.proofs.Visit.{log_is, plan_is, turned, whole}
+use Rattle.law_calls.proofs.CommandsExactly.{reserve_drawn}
+use Rattle.law_calls.proofs.Protectings.{one_drawer, bound, call_of, looked, opening_same, opening_taken, place_then, row_is, row_below}
+
+module _ {O : Type 0} (told : Bool) (trace : O → Trace) (faults puts : O → ℕ) (begin : Begin) (layout : Layout) (segment : ℕ) (task : Record)
+    (v w : View) (began : BeganWith told begin v.turn.known.opening) (free : v.turn.holds ≡ false) (protects : task.kind ≡ Protect)
+    (covers_spent : (done : BookView O → BookView O → Type 0) → TakesTurn told trace faults puts done v.turn w.turn → CoversSpent begin v w) where
+  -- where no other worker made a line and the site did not fail, the record is served so in the history that was known
+  abbrev IsServedHere : Answer → List Entry → List (ℕ × ℕ) → Move → Type 0
+  IsServedHere answer es spent move = IsClean w → IsLevel v → AreMarked begin w spent → entries_in w ≡ entries_in v ++ es
+      → machine.Serves begin (entries_in v) task answer es move
+
+  -- the record made this move and no entry, whatever the answer that tells it
+  abbrev Finishes : List (ℕ × ℕ) → Move → Type 0
+  Finishes spent move = (answer : Answer) → Tells begin.start (entries_in w) (deed_of segment task answer) move → IsServedHere answer [] spent move
+      → AnsweredExactly begin segment v w task (Some answer)
+
+  by_protect : (answer : Answer) (move : Move) → TellsProtect begin.start (entries_in w) (deed_of segment task answer) move
+      → Tells begin.start (entries_in w) (deed_of segment task answer) move
+  by_protect answer move t = subst (λ (k : RecordKind). TellsKind begin.start (entries_in w) k (deed_of segment task answer) move) (sym protects) t
+
+  not_open : (move : Move) → task.kind ≡ Open → move ≡ Kept
+  not_open move is = absurd (let both : Protect ≡ Open = sym protects ∙ is in let b = both in cc)
+
+  looks_finish : (move : Move) → Moves begin v w move → (spent : List (ℕ × ℕ)) → w.numbers.spent ≡ v.numbers.spent ++ spent → Looks v.turn w.turn
+      → Finishes spent move
+  looks_finish move moves spent spent_is l answer tells serves =
+      let turn : Turned v.turn.known.log [] v.turn w.turn = looked told trace faults puts begin layout segment task v w began free protects l in
+      told_exactly begin segment task v w move moves v.turn.known.log [] turn tt spent (looks_pass begin v w spent turn spent_is) answer tells
+      (λ same clean level marks. serves clean level marks (entries_are begin v w v.turn.known.log [] turn))
+
+  by_lines : (done : BookView O → BookView O → Type 0) (t : TakesTurn told trace faults puts done v.turn w.turn) (es : List Entry)
+      → t.given.log ≡ t.found.log ++ lines_of es → Turned t.found.log es v.turn w.turn
+  by_lines done t es is =
+      (call_of told trace faults puts begin layout segment task v w began free protects done t).pass t.found.log es
+      (turned told trace faults puts begin t.found t.given (seeing t.epoch v.turn) w.turn began free t.visits es is)
+
+  none_left : (found given : BookView O) → given ≡ found → given.log ≡ found.log ++ lines_of []
+  none_left found given same = ap (λ (b : BookView O). b.log) same ∙ sym (append-nil found.log)
+
+  passes : (done : BookView O → BookView O → Type 0) (t : TakesTurn told trace faults puts done v.turn w.turn) (es : List Entry)
+      (is : t.given.log ≡ t.found.log ++ lines_of es) (spent : List (ℕ × ℕ)) → w.numbers.spent ≡ v.numbers.spent ++ spent
+      → Passes begin v w t.found.log es (by_lines done t es is) spent
+  passes done t es is spent spent_is = takes_pass told trace faults puts begin t.found t.given (seeing t.epoch v.turn) v w began free t.visits es
+      (by_lines done t es is) spent spent_is (covers_spent done t (places (length t.found.log) (length es)) (by_lines done t es is).made)
+
+  -- the turn was taken, and these entries were made
+  taken_finish : (done : BookView O → BookView O → Type 0) (t : TakesTurn told trace faults puts done v.turn w.turn) (es : List Entry)
+      → t.given.log ≡ t.found.log ++ lines_of es → (move : Move) → Moves begin v w move → AreDrawn (move ∷ []) es
+      → (spent : List (ℕ × ℕ)) → w.numbers.spent ≡ v.numbers.spent ++ spent
+      → (answer : Answer) → Tells begin.start (entries_in w) (deed_of segment task answer) move
+      → (t.found.log ≡ log_of v → IsServedHere answer es spent move)
+      → AnsweredExactly begin segment v w task (Some answer)
+  taken_finish done t es is move moves drawn spent spent_is answer tells serves =
+      told_exactly begin segment task v w move moves t.found.log es (by_lines done t es is) drawn spent (passes done t es is spent spent_is) answer tells
+      (λ same clean level marks. subst (λ (l : List Logged). machine.Serves begin (entries_of l) task answer es move) (sym same)
+      (serves same clean level marks (entries_are begin v w t.found.log es (by_lines done t es is) ∙ ap (λ (l : List Logged). entries_of l ++ es) same)))
+
+  rests_finish : (move : Move) → Moves begin v w move → (spent : List (ℕ × ℕ)) → w.numbers.spent ≡ v.numbers.spent ++ spent
+      → MayTakeTurn told trace faults puts Rests v.turn w.turn → Finishes spent move
+  rests_finish move moves spent spent_is (inl l) = looks_finish move moves spent spent_is l
+  rests_finish move moves spent spent_is (inr t) = λ answer tells serves.
+      taken_finish Rests t [] (none_left t.found t.given t.does) move moves tt spent spent_is answer tells (λ same. serves)
+
+  by_kind : (answer : Answer) (es : List Entry) (move : Move)
+      → (machine.IsUnbound begin (entries_in v) task answer es move ⊎ (machine.IsProtected begin (entries_in v) task answer es move
+      ⊎ (machine.IsExhausted begin (entries_in v) task answer es move ⊎ machine.IsUnfunded begin (entries_in v) task answer es move)))
+      → machine.Serves begin (entries_in v) task answer es move
+  by_kind answer es move h = inr (subst (λ (k : RecordKind). machine.ServesKind begin (entries_in v) k task answer es move) (sym protects) h)
+
+  -- a code of a frame that is not bound
+  kept_tells : (fields : Told) (position : ℕ) → (fields.code ≡ CLEAR) ⊎ ((LAYOUT ≤ fields.code) × (fields.code ≤ STATE))
+      → Tells begin.start (entries_in w) (deed_of segment task (answer_of fields position)) Kept
+  kept_tells fields position which = by_protect (answer_of fields position) Kept (record {
+    protected = λ is. absurd (apart which 0 is (inl refl));
+    exhausted = λ is. absurd (apart which 0x20 is (inr (omega arith)));
+    unbound = λ _. refl;
+    full = λ is. absurd (apart which 0x30 is (inr (omega arith)));
+  }) where
+    apart : (fields.code ≡ 2) ⊎ ((0x10 ≤ fields.code) × (fields.code ≤ 0x14)) → (code : ℕ) → fields.code ≡ code → (code ≡ 0) ⊎ (0x1f < code) → ⊥
+    apart (inl a) code is (inl z) = omega arith
+    apart (inl a) code is (inr z) = omega arith
+    apart (inr a) code is (inl z) = omega arith
+    apart (inr a) code is (inr z) = omega arith
+
+  fault_code : (fault : ShieldFault) → ((fault_told fault).code ≡ CLEAR) ⊎ ((LAYOUT ≤ (fault_told fault).code) × ((fault_told fault).code ≤ STATE))
+  fault_code (shield_faults.Layout number) = inr (omega arith, omega arith)
+  fault_code shield_faults.Channel = inr (omega arith, omega arith)
+  fault_code shield_faults.State = inr (omega arith, omega arith)
+
+  module _ (p : Permit) (used : IsUsed v.turn.known.opening.plan task.link task.octets p w.turn) where
+    -- the permit's epoch is that of the history that was known, whose checks bind the frame as the permit does
+    module _ (opening : w.turn.known.opening ≡ v.turn.known.opening) (es : List Entry) (quiet : epoch_after es ≡ 0) (level : IsLevel v)
+        (later : epoch_seen v.turn ≤ p.epoch) (all : entries_in w ≡ entries_in v ++ es) where
+      epoch_now : p.epoch ≡ epoch_after (entries_in v)
+      epoch_now =
+          let reached = used.trusted.reached in
+          let more : epoch_after (entries_in w) ≡ epoch_after (entries_in v) + epoch_after es = ap epoch_after all ∙ epochs_more (entries_in v) es in omega arith
+
+      reached_now : p.epoch ≤ epoch_after (entries_in v)
+      reached_now = let e = epoch_now in omega arith
+
+      state_now : at_epoch begin.start (entries_in w) p.epoch ≡ at_epoch begin.start (entries_in v) p.epoch
+      state_now = ap (λ (l : List Entry). at_epoch begin.start l p.epoch) all ∙ at_epoch_more begin.start (entries_in v) es p.epoch reached_now
+
+      abbrev bound_now : clear_fault p.binding task.octets ≡ None → machine.IsBound begin (entries_in v) task
+      bound_now fits = record {
+        binding = p.binding;
+        bound = subst (λ (e : ℕ). protect_reply begin.plan (at_epoch begin.start (entries_in v) e) task.link task.octets ≡ Ok (Some p.binding)) epoch_now
+            (subst (λ (st : State). protect_reply begin.plan st task.link task.octets ≡ Ok (Some p.binding)) state_now
+            (bound told trace faults puts begin layout segment task v w began free protects p used opening fits));
+        row = p.row;
+        row_is = row_last begin.start (entries_in v) p.epoch p.binding.key p.row reached_now
+            (subst (λ (st : State). place_of st.keys p.binding.key ≡ Some p.row) state_now
+            (place_then told trace faults puts begin layout segment task v w began free protects p used opening));
+      }
+
+    stands : (done : BookView O → BookView O → Type 0) (t : TakesTurn told trace faults puts done v.turn w.turn) → IsClean w → Stands begin t.found
+    stands done t clean = stands_found told trace faults puts begin t.found t.given (seeing t.epoch v.turn) v w began free t.visits clean
+
+    -- the state that was found, and the reserve in it, where the log that was found is the one that was known
+    state_here : (done : BookView O → BookView O → Type 0) (t : TakesTurn told trace faults puts done v.turn w.turn) → IsClean w → t.found.log ≡ log_of v
+        → t.found.state ≡ machine.now begin (entries_in v)
+    state_here done t clean same = (stands done t clean).state ∙ ap (λ (l : List Logged). after begin.start (entries_of l)) same
+
+    reserve_here : (done : BookView O → BookView O → Type 0) (t : TakesTurn told trace faults puts done v.turn w.turn) (n : ℕ) → IsClean w → t.found.log ≡ log_of v
+        → reserve_of t.found.plan t.found.state p.binding.key n ≡ reserve_of begin.plan (machine.now begin (entries_in v)) p.binding.key n
+    reserve_here done t n clean same =
+        ap (λ (q : PlanLines). reserve_of q t.found.state p.binding.key n) (plan_is told trace faults puts begin t.found t.given (seeing t.epoch v.turn) w.turn began free t.visits)
+        ∙ ap (λ (st : State). reserve_of begin.plan st p.binding.key n) (state_here done t clean same)
+
+    done : (out : List ℕ) (d : Done) → IsDone p task.octets out d v w → MayTakeTurn told trace faults puts (Funds faults p.binding.key d.number) v.turn w.turn
+        → AnsweredExactly begin segment v w task (Some (answer_of (numbered PROTECTED d.key d.number (take d.length out)) d.epoch))
+    done out d is turn =
+        let opening = opening_same told trace faults puts begin layout segment task v w began free protects (Funds faults p.binding.key d.number) turn in
+        by_turn turn (by_protect (answer_of (numbered PROTECTED d.key d.number (take d.length out)) d.epoch) (Drew p.row d.number) (record {
+          protected = λ _. (
+            p.row,
+            subst (λ (k : ℕ). place_of (after begin.start (entries_in w)).keys k ≡ Some p.row) (sym is.protected.key)
+                (row_is told trace faults puts begin layout segment task v w began free protects p used opening),
+            refl,
+          );
+          exhausted = λ code. absurd (omega arith);
+          unbound = λ code. absurd (not_kept code);
+          full = λ code. absurd (omega arith);
+        })) where
+          not_kept : (PROTECTED ≡ 2) ⊎ ((0x10 ≤ PROTECTED) × (PROTECTED ≤ 0x14)) → ⊥
+          not_kept (inl a) = omega arith
+          not_kept (inr a) = omega arith
+
+          moves : w.turn.known.opening ≡ v.turn.known.opening → Moves begin v w (Drew p.row d.number)
+          moves opening = moves_drew begin v w task p.row (row_below told trace faults puts begin layout segment task v w began free protects p used opening)
+              d.number ((p.row, d.number) ∷ []) (uses_shows begin task v w (one_drawer task protects) p.row d.number is.back is.uses)
+
+          -- what the machine says of it, once the number is funded
+          by_funds : (es : List Entry) → epoch_after es ≡ 0 → w.turn.known.opening ≡ v.turn.known.opening
+              → (IsClean w → AreMarked begin w ((p.row, d.number) ∷ []) → entries_in w ≡ entries_in v ++ es
+              → machine.Funds begin (entries_in v) p.binding.key d.number es)
+              → IsServedHere (answer_of (numbered PROTECTED d.key d.number (take d.length out)) d.epoch) es ((p.row, d.number) ∷ []) (Drew p.row d.number)
+          by_funds es quiet opening funds clean level marks all =
+              let later : epoch_seen v.turn ≤ p.epoch = (let l = is.later in let e = is.protected.epoch in omega arith) in
+              by_kind (answer_of (numbered PROTECTED d.key d.number (take d.length out)) d.epoch) es (Drew p.row d.number) (inr (inl (record {
+                is = bound_now opening es quiet level later all is.fits;
+                told = ap (λ (k : ℕ). numbered PROTECTED k d.number (take d.length out)) is.protected.key;
+                position_is = is.protected.epoch ∙ epoch_now opening es quiet level later all;
+                below = is.protected.below;
+                protects = is.protected.frame;
+                funded = funds clean marks all;
+                move_is = refl;
+              })))
+
+          -- without an entry of its own the number lies below the mark
+          by_mark : w.turn.known.opening ≡ v.turn.known.opening → IsServedHere (answer_of (numbered PROTECTED d.key d.number (take d.length out)) d.epoch) [] ((p.row, d.number) ∷ []) (Drew p.row d.number)
+          by_mark opening = by_funds [] refl opening (λ clean marks all. inl (
+            refl,
+            subst (λ (l : List Entry). d.number < mark_of (after begin.start l) p.binding.key) (all ∙ append-nil (entries_in v))
+                (marks p.binding.key p.row d.number (row_below told trace faults puts begin layout segment task v w began free protects p used opening)
+                (row_is told trace faults puts begin layout segment task v w began free protects p used opening) (once p.row d.number)),
+          )) where
+            once : (row x : ℕ) → 0 < times row x ((row, x) ∷ [])
+            once row x = let t : eqb row row ≡ true = eq-eqb row row refl in let u : eqb x x ≡ true = eq-eqb x x refl in rw (t, u) (omega arith)
+
+          by_turn : MayTakeTurn told trace faults puts (Funds faults p.binding.key d.number) v.turn w.turn
+              → Tells begin.start (entries_in w) (deed_of segment task (answer_of (numbered PROTECTED d.key d.number (take d.length out)) d.epoch)) (Drew p.row d.number)
+              → AnsweredExactly begin segment v w task (Some (answer_of (numbered PROTECTED d.key d.number (take d.length out)) d.epoch))
+          by_turn (inl l) tells =
+              let opening = opening_same told trace faults puts begin layout segment task v w began free protects (Funds faults p.binding.key d.number) (inl l) in
+              looks_finish (Drew p.row d.number) (moves opening) ((p.row, d.number) ∷ []) is.uses.spent l (answer_of (numbered PROTECTED d.key d.number (take d.length out)) d.epoch) tells (by_mark opening)
+          by_turn (inr t) tells = by_reserve t.does.1.2 where
+            opening : w.turn.known.opening ≡ v.turn.known.opening
+            opening = opening_taken told trace faults puts begin layout segment task v w began free protects (Funds faults p.binding.key d.number) t
+
+            by_reserve : ((d.number < mark_of t.found.state p.binding.key) × (t.given ≡ t.found))
+                ⊎ ((mark_of t.found.state p.binding.key ≤ d.number) × ((position : ℕ)
+                × Made faults (reserve_of t.found.plan t.found.state p.binding.key d.number) t.found t.given position))
+                → AnsweredExactly begin segment v w task (Some (answer_of (numbered PROTECTED d.key d.number (take d.length out)) d.epoch))
+            by_reserve (inl same) =
+                taken_finish (Funds faults p.binding.key d.number) t [] (none_left t.found t.given same.1) (Drew p.row d.number) (moves opening) tt
+                ((p.row, d.number) ∷ []) is.uses.spent (answer_of (numbered PROTECTED d.key d.number (take d.length out)) d.epoch) tells (λ here. by_mark opening)
+            by_reserve (inr made) =
+                taken_finish (Funds faults p.binding.key d.number) t (reserve_of t.found.plan t.found.state p.binding.key d.number ∷ [])
+                (ap (λ (b : BookView O). b.log) made.1.1.1.is) (Drew p.row d.number) (moves opening)
+                (reserve_drawn p.row d.number (reserve_of t.found.plan t.found.state p.binding.key d.number) refl, tt)
+                ((p.row, d.number) ∷ []) is.uses.spent (answer_of (numbered PROTECTED d.key d.number (take d.length out)) d.epoch) tells
+                (λ here. by_funds (reserve_of t.found.plan t.found.state p.binding.key d.number ∷ []) refl opening (λ clean marks all. inr (
+                  ap (λ (e : Entry). e ∷ []) (reserve_here (Funds faults p.binding.key d.number) t d.number clean here),
+                  subst (λ (st : State). mark_of st p.binding.key ≤ d.number) (state_here (Funds faults p.binding.key d.number) t clean here) made.0,
+                  subst (λ (l : List Logged). machine.HasSlot begin (entries_of l) (reserve_of begin.plan (machine.now begin (entries_in v)) p.binding.key d.number)) here
+                      (subst (machine.HasSlot begin (entries_of t.found.log)) (reserve_here (Funds faults p.binding.key d.number) t d.number clean here)
+                      (slot_free begin t.found (stands (Funds faults p.binding.key d.number) t clean)
+                      (reserve_of t.found.plan t.found.state p.binding.key d.number) made.1.1.1.free)),
+                )))
+
+    exhausted : (key n epoch : ℕ) → RunsOutUnder p task.octets key n epoch v w → MayTakeTurn told trace faults puts Rests v.turn w.turn
+        → AnsweredExactly begin segment v w task (Some (answer_of (numbered EXHAUSTED key n []) epoch))
+    exhausted key n epoch (fits, key_is, epoch_is, out, later) turn = by_end out.1 where
+      opening : w.turn.known.opening ≡ v.turn.known.opening
+      opening = opening_same told trace faults puts begin layout segment task v w began free protects Rests turn
+
+      low : p.row < begin.rows
+      low = row_below told trace faults puts begin layout segment task v w began free protects p used opening
+
+      has_row : place_of (after begin.start (entries_in w)).keys key ≡ Some p.row
+      has_row = subst (λ (k : ℕ). place_of (after begin.start (entries_in w)).keys k ≡ Some p.row) (sym key_is)
+          (row_is told trace faults puts begin layout segment task v w began free protects p used opening)
+
+      tells : (move : Move) → (move ≡ Found p.row n) ⊎ (move ≡ Overdrew p.row n)
+          → Tells begin.start (entries_in w) (deed_of segment task (answer_of (numbered EXHAUSTED key n []) epoch)) move
+      tells move which = by_protect (answer_of (numbered EXHAUSTED key n []) epoch) move (record {
+        protected = λ code. absurd (omega arith);
+        exhausted = λ _. (p.row, has_row, which);
+        unbound = λ code. absurd (not_kept code);
+        full = λ code. absurd (omega arith);
+      }) where
+        not_kept : (EXHAUSTED ≡ 2) ⊎ ((0x10 ≤ EXHAUSTED) × (EXHAUSTED ≤ 0x14)) → ⊥
+        not_kept (inl a) = omega arith
+        not_kept (inr a) = omega arith
+
+      serves : (move : Move) → (move ≡ Found p.row n) ⊎ (move ≡ Overdrew p.row n)
+          → IsServedHere (answer_of (numbered EXHAUSTED key n []) epoch) [] [] move
+      serves move which clean level marks all =
+          let low : epoch_seen v.turn ≤ p.epoch = omega (arith, later, epoch_is) in
+          by_kind (answer_of (numbered EXHAUSTED key n []) epoch) [] move (inr (inr (inl (record {
+            is = bound_now opening [] refl level low all fits;
+            told = ap (λ (k : ℕ). numbered EXHAUSTED k n []) key_is;
+            position_is = epoch_is ∙ epoch_now opening [] refl level low all;
+            at_end = subst (λ (k : ℕ). end_of k ≤ n) key_is out.0;
+            own_is = refl;
+            move_is = which;
+          }))))
+
+      by_end : ((top p.row v.numbers.nexts ≤ n) × (w.numbers ≡ arming p.row (end_of key) n v.numbers)) ⊎ Draws p.row (end_of key) n v.numbers w.numbers
+          → AnsweredExactly begin segment v w task (Some (answer_of (numbered EXHAUSTED key n []) epoch))
+      by_end (inl (least, is)) =
+          rests_finish (Found p.row n) (moves_found begin v w task p.row low n (found_shows begin task v w p.row (end_of key) n least is))
+          [] (found_shows begin task v w p.row (end_of key) n least is).counted.spent_is turn
+          (answer_of (numbered EXHAUSTED key n []) epoch) (tells (Found p.row n) (inl refl)) (serves (Found p.row n) (inl refl))
+      by_end (inr d) =
+          rests_finish (Overdrew p.row n) (moves_over begin v w task p.row low (end_of key) n out.0 d
+          (draws_shows begin task v w (one_drawer task protects) p.row (end_of key) n d))
+          [] (draws_shows begin task v w (one_drawer task protects) p.row (end_of key) n d).counted.spent_is turn
+          (answer_of (numbered EXHAUSTED key n []) epoch) (tells (Overdrew p.row n) (inr refl)) (serves (Overdrew p.row n) (inr refl))
+
+    shows : (n : ℕ) → (Draws p.row (end_of p.binding.key) n v.numbers w.numbers ⊎ ComesBack p.row (end_of p.binding.key) n v.numbers w.numbers)
+        → Shows begin task v w p.row n ((p.row, n) ∷ []) [] [] ((p.row, 1) ∷ [])
+    shows n (inl d) = draws_shows begin task v w (one_drawer task protects) p.row (end_of p.binding.key) n d
+    shows n (inr b) = back_shows begin task v w (one_drawer task protects) p.row (end_of p.binding.key) n b
+
+    module _ (fits : clear_fault p.binding task.octets ≡ None) (later : epoch_seen v.turn ≤ p.epoch) (position n : ℕ) (below : n < end_of p.binding.key)
+        (at : position ≡ entry_count w.turn.known)
+        (drawn : Draws p.row (end_of p.binding.key) n v.numbers w.numbers ⊎ ComesBack p.row (end_of p.binding.key) n v.numbers w.numbers)
+        (other : BookFault) (k : TakesTurn told trace faults puts (Reserves faults p.binding.key n (Err other)) v.turn w.turn) where
+      opening : w.turn.known.opening ≡ v.turn.known.opening
+      opening = opening_taken told trace faults puts begin layout segment task v w began free protects (Reserves faults p.binding.key n (Err other)) k
+
+      ends : (es : List Entry) → k.given.log ≡ k.found.log ++ lines_of es → AreDrawn (Drew p.row n ∷ []) es
+          → ((slots : ℕ) → other ≡ refusals.JournalFull slots
+          → Tells begin.start (entries_in w) (deed_of segment task (answer_of (counting JOURNAL_FULL 0 slots) position)) (Drew p.row n)
+          × (k.found.log ≡ log_of v → IsServedHere (answer_of (counting JOURNAL_FULL 0 slots) position) es [] (Drew p.row n)))
+          → AnsweredExactly begin segment v w task (fault_answer other position)
+      ends es is are full = refused_exactly begin segment task v w (Drew p.row n)
+          (moves_drew begin v w task p.row (row_below told trace faults puts begin layout segment task v w began free protects p used opening) n [] (shows n drawn))
+          k.found.log es (by_lines (Reserves faults p.binding.key n (Err other)) k es is) are
+          [] (passes (Reserves faults p.binding.key n (Err other)) k es is [] (shows n drawn).counted.spent_is)
+          (not_open (Drew p.row n)) other position (λ slots here. (
+            (full slots here).0,
+            λ same clean level marks.
+                subst (λ (l : List Logged). machine.Serves begin (entries_of l) task (answer_of (counting JOURNAL_FULL 0 slots) position) es (Drew p.row n)) (sym same)
+                ((full slots here).1 same clean level marks (entries_are begin v w k.found.log es (by_lines (Reserves faults p.binding.key n (Err other)) k es is)
+                ∙ ap (λ (l : List Logged). entries_of l ++ es) same)),
+          ))
+
+      full_serves : (slots others : ℕ) → others ≡ slots → k.given ≡ k.found → mark_of k.found.state p.binding.key ≤ n
+          → IsTrue (IsStored k.found.state (reserve_of k.found.plan k.found.state p.binding.key n)) → k.found.journal.used ≡ k.found.journal.slots
+          → slots ≡ k.found.journal.slots → k.found.log ≡ log_of v
+          → IsServedHere (answer_of (counting JOURNAL_FULL 0 others) position) [] [] (Drew p.row n)
+      full_serves slots others same_slots same unmarked stored full is here clean level marks all =
+          let entry_here = reserve_here (Reserves faults p.binding.key n (Err other)) k n clean here in
+          let log : w.turn.known.log ≡ k.found.log =
+          log_is told trace faults puts begin k.found k.given (seeing k.epoch v.turn) w.turn began free k.visits ∙ ap (λ (b : BookView O). b.log) same in
+          by_kind (answer_of (counting JOURNAL_FULL 0 others) position) [] (Drew p.row n) (inr (inr (inr (record {
+            is = bound_now opening [] refl level later all fits;
+            number = n;
+            below = below;
+            unmarked = subst (λ (st : State). mark_of st p.binding.key ≤ n) (state_here (Reserves faults p.binding.key n (Err other)) k clean here) unmarked;
+            full = subst (λ (l : List Logged). machine.SaysFull begin (entries_of l) (reserve_of begin.plan (machine.now begin (entries_in v)) p.binding.key n)
+                (answer_of (counting JOURNAL_FULL 0 others) position)) here
+                (subst (λ (e : Entry). machine.SaysFull begin (entries_of k.found.log) e (answer_of (counting JOURNAL_FULL 0 others) position)) entry_here
+                (slot_full begin k.found (stands (Reserves faults p.binding.key n (Err other)) k clean) (reserve_of k.found.plan k.found.state p.binding.key n) others position
+                stored full (same_slots ∙ is) (at ∙ ap (λ (l : List Logged). length (entries_of l)) log)));
+            own_is = refl;
+            move_is = refl;
+          }))))
+
+      full_tells : (slots : ℕ) → k.given ≡ k.found → ¬ Rose (faults k.found.opened) (faults k.found.site) → mark_of k.found.state p.binding.key ≤ n
+          → Tells begin.start (entries_in w) (deed_of segment task (answer_of (counting JOURNAL_FULL 0 slots) position)) (Drew p.row n)
+      full_tells slots same not unmarked =
+          let log : w.turn.known.log ≡ k.found.log =
+          log_is told trace faults puts begin k.found k.given (seeing k.epoch v.turn) w.turn began free k.visits ∙ ap (λ (b : BookView O). b.log) same in
+          let state : after_first begin.start (entries_in w) position ≡ k.found.state =
+          ap (after begin.start) (take_all position (entries_in w) (omega arith)) ∙ ap (λ (l : List Logged). after begin.start (entries_of l)) log
+          ∙ sym (whole told trace faults puts begin k.found k.given (seeing k.epoch v.turn) w.turn began free k.visits not).0 in
+          by_protect (answer_of (counting JOURNAL_FULL 0 slots) position) (Drew p.row n) (record {
+            protected = λ code. absurd (omega arith);
+            exhausted = λ code. absurd (omega arith);
+            unbound = λ code. absurd (not_kept code);
+            full = λ _. (
+              omega arith,
+              (
+                p.binding.key,
+                p.row,
+                n,
+                row_is told trace faults puts begin layout segment task v w began free protects p used opening,
+                subst (λ (st : State). mark_of st p.binding.key ≤ n) (sym state) unmarked,
+                refl,
+              ),
+            );
+          }) where
+            not_kept : (JOURNAL_FULL ≡ 2) ⊎ ((0x10 ≤ JOURNAL_FULL) × (JOURNAL_FULL ≤ 0x14)) → ⊥
+            not_kept (inl a) = omega arith
+            not_kept (inr a) = omega arith
+
+      same_count : (one another : ℕ) → refusals.JournalFull one ≡ refusals.JournalFull another → another ≡ one
+      same_count one another is = cc
+
+      by_case : Reserves faults p.binding.key n (Err other) k.found k.given → AnsweredExactly begin segment v w task (fault_answer other position)
+      by_case (unmarked, inl (is_barred, same)) =
+          ends [] (none_left k.found k.given same) tt (λ slots is. absurd (subst (IsBarred faults k.found) is is_barred))
+      by_case (unmarked, inr (can, h)) = by_fault other refl h where
+        by_fault : (f : BookFault) → other ≡ f → IsUnstored faults (reserve_of k.found.plan k.found.state p.binding.key n) k.found k.given f
+            → AnsweredExactly begin segment v w task (fault_answer other position)
+        by_fault (refusals.SiteFault count) is u =
+            ends (reserve_of k.found.plan k.found.state p.binding.key n ∷ []) (ap (λ (b : BookView O). b.log) u.4)
+            (reserve_drawn p.row n (reserve_of k.found.plan k.found.state p.binding.key n) refl, tt)
+            (λ slots same. absurd (let no = sym is ∙ same in cc))
+        by_fault (refusals.JournalFull slots) is u = ends [] (none_left k.found k.given u.3) tt
+            (λ others same. (full_tells others u.3 can.0 unmarked, full_serves slots others (same_count slots others (sym is ∙ same)) u.3 unmarked u.0 u.1 u.2))
+        by_fault (refusals.Stopped count) is u = absurd u
+        by_fault refusals.SessionFull is u = absurd u
+        by_fault refusals.NoMemory is u = absurd u
+
+    failed : (fault : BookFault) (position n : ℕ) → clear_fault p.binding task.octets ≡ None → epoch_seen v.turn ≤ p.epoch → n < end_of p.binding.key
+        → position ≡ entry_count w.turn.known
+        → (Draws p.row (end_of p.binding.key) n v.numbers w.numbers ⊎ ComesBack p.row (end_of p.binding.key) n v.numbers w.numbers)
+        → TakesTurn told trace faults puts (Reserves faults p.binding.key n (Err fault)) v.turn w.turn
+        → AnsweredExactly begin segment v w task (fault_answer fault position)
+    failed fault position n fits later below at drawn t = by_case fits later position n below at drawn fault t t.does
+
+  no_spent : w.numbers ≡ v.numbers → w.numbers.spent ≡ v.numbers.spent ++ []
+  no_spent numbers = ap (λ (k : Numbers). k.spent) numbers ∙ sym (append-nil v.numbers.spent)
+
+  pub protects_exactly : (plan : PlanLines) (kept : Option Permit) (out : List ℕ) (result : Protected) → v.turn.known.opening.plan ≡ plan
+      → IsProtectStep told trace faults puts plan task.link task.octets out kept result v w
+      → AnsweredExactly begin segment v w task (protected_answer result out)
+  protects_exactly plan kept out (protecteds.Done d) planned_is (p, kept_is, used, (is, turn)) =
+      done p (subst (λ (q : PlanLines). IsUsed q task.link task.octets p w.turn) (sym planned_is) used) out d is turn
+  protects_exactly plan kept out protecteds.Clear planned_is (sent_clear, numbers, same) =
+      looks_finish Kept (moves_none begin v w numbers) [] (no_spent numbers) (record { epoch = v.turn.epoch; later = omega arith; is = same }) (answer_of (plain CLEAR 0) 0)
+      (kept_tells (plain CLEAR 0) 0 (inl refl))
+      (λ clean level marks all.
+      let check : channel_check begin.plan task.link task.octets ≡ Ok None =
+      subst (λ (q : PlanLines). channel_check q task.link task.octets ≡ Ok None) (sym planned_is ∙ began.plan) sent_clear in
+      by_kind (answer_of (plain CLEAR 0) 0) [] Kept (inl (record {
+        told = ap unbound_told (clear_reply begin.plan (machine.at_last_epoch begin (entries_in v)) task.link task.octets check);
+        position_is = sym (ap (λ (r : Result (Option ℕ) ShieldFault). machine.epoch_beside r (epoch_after (entries_in v))) check);
+        own_is = refl;
+        move_is = refl;
+      })))
+  protects_exactly plan kept out (protecteds.Refused fault epoch) planned_is (refused_it, numbers) = by_refusal refused_it where
+    by_refusal : IsRefusedAt told trace faults puts plan task.link task.octets fault epoch v.turn w.turn
+        → AnsweredExactly begin segment v w task (Some (answer_of (fault_told fault) epoch))
+    by_refusal (inl (refuses, zero_is, same)) =
+        looks_finish Kept (moves_none begin v w numbers) [] (no_spent numbers) (record { epoch = v.turn.epoch; later = omega arith; is = same })
+        (answer_of (fault_told fault) epoch) (kept_tells (fault_told fault) epoch (fault_code fault)) (λ clean level marks all.
+        let check : channel_check begin.plan task.link task.octets ≡ Err fault =
+        subst (λ (q : PlanLines). channel_check q task.link task.octets ≡ Err fault) (sym planned_is ∙ began.plan) refuses in
+        by_kind (answer_of (fault_told fault) epoch) [] Kept (inl (record {
+          told = ap unbound_told (planned_reply begin.plan (machine.at_last_epoch begin (entries_in v)) task.link task.octets fault check);
+          position_is = zero_is ∙ sym (ap (λ (r : Result (Option ℕ) ShieldFault). machine.epoch_beside r (epoch_after (entries_in v))) check);
+          own_is = refl;
+          move_is = refl;
+        })))
+    by_refusal (inr (f, low, turn)) =
+        rests_finish Kept (moves_none begin v w numbers) [] (no_spent numbers) turn
+        (answer_of (fault_told fault) epoch) (kept_tells (fault_told fault) epoch (fault_code fault)) (λ clean level marks all.
+        let opening = opening_same told trace faults puts begin layout segment task v w began free protects Rests turn in
+        let plans : w.turn.known.opening.plan ≡ begin.plan = ap (λ (o : Opening). o.plan) opening ∙ began.plan in
+        let starts : w.turn.known.opening.start ≡ begin.start = ap (λ (o : Opening). o.start) opening ∙ began.start in
+        let reached = f.reached in
+        let same : entries_in w ≡ entries_in v = all ∙ append-nil (entries_in v) in
+        let counted = ap epoch_after same in
+        let epoch_is : epoch ≡ epoch_after (entries_in v) = omega arith in
+        let reply : protect_reply begin.plan (at_epoch begin.start (entries_in w) epoch) task.link task.octets ≡ Err fault =
+        subst (λ (st : State). protect_reply begin.plan (at_epoch st (entries_in w) epoch) task.link task.octets ≡ Err fault) starts
+        (subst (λ (q : PlanLines). protect_reply q (at_epoch w.turn.known.opening.start (entries_in w) epoch) task.link task.octets ≡ Err fault) plans f.is) in
+        let here : protect_reply begin.plan (machine.at_last_epoch begin (entries_in v)) task.link task.octets ≡ Err fault =
+        subst (λ (e : ℕ). protect_reply begin.plan (at_epoch begin.start (entries_in v) e) task.link task.octets ≡ Err fault) epoch_is
+        (subst (λ (l : List Entry). protect_reply begin.plan (at_epoch begin.start l epoch) task.link task.octets ≡ Err fault) same reply) in
+        let check : channel_check begin.plan task.link task.octets ≡ Ok (Some f.passes.0) =
+        subst (λ (q : PlanLines). channel_check q task.link task.octets ≡ Ok (Some f.passes.0)) plans f.passes.1 in
+        by_kind (answer_of (fault_told fault) epoch) [] Kept (inl (record {
+          told = ap unbound_told here;
+          position_is = epoch_is ∙ sym (ap (λ (r : Result (Option ℕ) ShieldFault). machine.epoch_beside r (epoch_after (entries_in v))) check);
+          own_is = refl;
+          move_is = refl;
+        })))
+  protects_exactly plan kept out (protecteds.Exhausted key n epoch) planned_is (p, used, (is, turn)) =
+      exhausted p (subst (λ (q : PlanLines). IsUsed q task.link task.octets p w.turn) (sym planned_is) used) key n epoch is turn
+  protects_exactly plan kept out (protecteds.Fault fault position) planned_is (p, used, (fits, later, at, (n, below, drawn, t))) =
+      failed p (subst (λ (q : PlanLines). IsUsed q task.link task.octets p w.turn) (sym planned_is) used) fault position n fits later below at drawn t
+
+-- what the call tells of numbers that were spent before, where it took the turn
+pub covers_taken : {O : Type 0} (told : Bool) (trace : O → Trace) (faults puts : O → ℕ) (begin : Begin) (v w : View)
+    → BeganWith told begin v.turn.known.opening → v.turn.holds ≡ false → CoversIfTaken told trace faults puts v w
+    → (done : BookView O → BookView O → Type 0) → TakesTurn told trace faults puts done v.turn w.turn → CoversSpent begin v w
+covers_taken {O} told trace faults puts begin v w began free (inl l) done t =
+    let one : w.turn.turns ≡ v.turn.turns = ap (λ (k : Turn). k.turns) l.is in
+    let two : w.turn.turns ≡ v.turn.turns + 1 = ap (λ (k : Turn). k.turns) t.visits.takes.turn in absurd (omega arith)
+covers_taken {O} told trace faults puts begin v w began free (inr (epoch, low, h)) done t =
+    covers told trace faults puts begin v (record v { turn = seeing epoch v.turn }) w began free refl refl refl earlier h
+  where
+    earlier : Earlier v.turn.known w.turn.known
+    earlier = subst (λ (k : Turn). Earlier v.turn.known k.known) (sym h.visits.takes.turn)
+        (earlier_again v.turn.known (told_by trace faults puts h.found) (told_by trace faults puts h.given) h.visits.takes.follows.earlier h.visits.takes.earlier
+        h.visits.takes.opening)

@@ -1,0 +1,437 @@
+-- The book at a stage of a call that handles a record, and the answer where the call is refused there.
+use Rattle.std.proofs.Common.{◌≡◌, ◌≢◌, ◌⊎◌, ℕ, ◌+◌, ◌-◌, ◌<◌, ◌≤◌, min, ◌&&◌, ◌||◌, not, Bool, IsTrue, true, false, List, [], ◌∷◌, ◌++◌, length, take, Some, refl, sym, ◌∙◌, ap, subst, arith, inl, inr, ⊎_elim, nat_lt, ◌^◌, append-nil, length-append, if◌then◌else◌}
+use Rattle.std.proofs.lemmas.Bool.{cases_lt}
+use Rattle.std.proofs.lemmas.List.{take_all}
+use Rattle.sdls_base.specs.Numbers.{times}
+use Rattle.sdls_base.specs.declared.entry.Entry.{Entry}
+use Rattle.sdls_base.specs.declared.entry.Logged.{Logged}
+use Rattle.sdls_base.specs.declared.entry.Logged.TheVariants as lines
+use Rattle.sdls_outside.specs.Faults.{Rose}
+use Rattle.sdls_outside.specs.Moments.{Trace}
+use Rattle.disk_journal.specs.Image.{records, slot_count}
+use Rattle.record_io.specs.declared.answers.Answer.{Answer}
+use Rattle.record_io.specs.declared.code.TheConstants.{JOURNAL_FULL, SITE_FAULT, STOPPED, NO_MEMORY}
+use Rattle.record_io.specs.declared.kinds.RecordKind.{RecordKind}
+use Rattle.record_io.specs.declared.kinds.RecordKind.TheVariants.{Protect, Open, Command}
+use Rattle.record_io.specs.declared.records.Record.{Record}
+use Rattle.unit_state.specs.declared.state.State.{State}
+use Rattle.unit_state.specs.History.{after, after_first, epoch_after}
+use Rattle.counter_table.specs.declared.view.Known.{Known}
+use Rattle.counter_table.specs.declared.view.Opening.{Opening}
+use Rattle.counter_table.specs.declared.view.Turn.{Turn}
+use Rattle.counter_table.specs.declared.view.View.{View}
+use Rattle.counter_table.specs.Known.{HasRisen}
+use Rattle.counter_table.specs.Turn.{epoch_seen, places}
+use Rattle.law_history.specs.Answers.{Told, counting, plain, Uses}
+use Rattle.law_history.specs.Counts.{is_of_record, is_of_none, drawers}
+use Rattle.law_history.specs.Fits.{Course, Fits, MayAppend, state_after}
+use Rattle.law_history.specs.Legal.{IsLegal}
+use Rattle.law_history.specs.Log.{entries_of}
+use Rattle.law_history.specs.Stored.{IsStored, stored_count}
+use Rattle.unit_book.specs.declared.fault.BookFault.{BookFault}
+use Rattle.unit_book.specs.declared.fault.BookFault.TheVariants as refusals
+use Rattle.unit_book.specs.declared.limits.TheConstants.{MOST_ENTRIES}
+use Rattle.unit_book.specs.Book.{BookView, CanEnter, Enters, IsBarred, IsUnstored, IsKept}
+use Rattle.shared_unit.specs.Told.{told_by, entry_count}
+use Rattle.shared_unit.specs.Turn.{Visits}
+use Rattle.law_worker.specs.Begin.{Begin}
+use Rattle.law_worker.specs.Views.{Gains, IsBetween, IsRow, entries_in}
+use Rattle.law_worker.specs.Work.{indexed}
+use Rattle.law_worker.specs.Deeds.{deed_of, course_in, has_channel, is_protected, epoch_told, StandsWithin, IsLastAt, IsSpent, MadeLast}
+use Rattle.law_worker.specs.Order.{Layout, Handled}
+use Rattle.law_calls.specs.Visiting.{BeganWith}
+use Rattle.law_calls.specs.Answering.{answer_of, unserved_answer, fault_answer, Answered}
+use Rattle.law_calls.proofs.Behind.{lines_of, tested, lines_length, lines_entries, lines_more, tested_more, tested_few, LegalInTurn, legal_then, after_both, places_stand, last_behind}
+use Rattle.law_calls.proofs.OneRecord.{Turned, Counted, handled_answered, handled_unanswered}
+use Rattle.law_calls.proofs.Fitted.{after_front, wanting_fits, full_fits, faulted_fits, stopped_fits}
+use Rattle.law_calls.proofs.Visit.{risen_of, entries_low, epoch_low, epoch_high, log_is, faults_are, began_faults, risen_found, known_entries, turned, whole}
+
+-- what a code from 30 on tells is neither an entry nor an epoch
+late : (kind : RecordKind) (channel above : Bool)
+    → IsTrue ((not (is_protected kind) && (above && false)) || (is_protected kind && (channel && false))) → ⊥
+late Protect true above told = let t : false ≡ true = told in cc
+late Protect false above told = let t : false ≡ true = told in cc
+late Open channel true told = let t : false ≡ true = told in cc
+late Open channel false told = let t : false ≡ true = told in cc
+late Command channel true told = let t : false ≡ true = told in cc
+late Command channel false told = let t : false ≡ true = told in cc
+
+late_entry : (kind : RecordKind) (above : Bool) → IsTrue (not (is_protected kind) && (above && false)) → ⊥
+late_entry Protect above told = let t : false ≡ true = told in cc
+late_entry Open true told = let t : false ≡ true = told in cc
+late_entry Open false told = let t : false ≡ true = told in cc
+late_entry Command true told = let t : false ≡ true = told in cc
+late_entry Command false told = let t : false ≡ true = told in cc
+
+pub late_stands : (begin : Begin) (segment : ℕ) (task : Record) (v w : View) (code n position : ℕ) → nat_lt code 0x18 ≡ false → nat_lt code 0x21 ≡ false
+    → code ≢ 0 → StandsWithin begin v w (deed_of segment task (answer_of (counting code 0 n) position))
+late_stands begin segment task v w code n position p q some =
+    let channel : Bool = has_channel begin.plan task.link task.octets in
+    record {
+      entry = λ t. absurd (late_entry task.kind (nat_lt 0 code)
+          (subst (λ (b : Bool). IsTrue (not (is_protected task.kind) && (nat_lt 0 code && b))) p t));
+      stored = λ t. absurd (late_entry task.kind (nat_lt 0 code)
+          (subst (λ (b : Bool). IsTrue (not (is_protected task.kind) && (nat_lt 0 code && b))) p t));
+      epoch = λ t. absurd (late task.kind channel (nat_lt 0 code)
+          (subst (λ (b : Bool). IsTrue ((not (is_protected task.kind) && (nat_lt 0 code && b)) || (is_protected task.kind && (channel && false)))) p
+          (subst (λ (b : Bool). IsTrue ((not (is_protected task.kind) && (nat_lt 0 code && nat_lt code 0x18)) || (is_protected task.kind && (channel && b)))) q t)));
+      number = λ is protected. absurd (some is);
+    }
+
+pub unused_late : (code n position key number : ℕ) → code ≢ 0 → code ≢ 3 → Uses (answer_of (counting code 0 n) position) key number → ⊥
+unused_late code n position key number a b (inl is, of_key, of_number) = a is
+unused_late code n position key number a b (inr (is, other), of_key, of_number) = b is
+
+-- a count rose, where that it did not is impossible
+rose_else : (before now : ℕ) → (¬ Rose before now → ⊥) → Rose before now
+rose_else before now h = elim (cases_lt now (min (before + 1) (2 ^ 64 - 1))) [
+  | inl less ↦ absurd (h (λ rose. omega arith))
+  | inr rose ↦ rose
+]
+
+unprotected : (kind : RecordKind) → kind ≢ Protect → is_protected kind ≡ false
+unprotected Protect other = absurd (other refl)
+unprotected Open other = refl
+unprotected Command other = refl
+
+-- A call that handles a record: the worker's views before and after it, and the books that it found and gave back when it took
+-- the turn. The turn that it took may be seen as of a later epoch than the view before.
+pub record Call {O : Type 0} (told : Bool) (trace : O → Trace) (faults puts : O → ℕ) : Type 0 where
+  pub begin : Begin
+  pub layout : Layout
+  pub segment : ℕ
+  pub task : Record
+  pub old_view : View
+  pub new_view : View
+  pub taken : Turn
+  pub found : BookView O
+  pub given : BookView O
+  pub began : BeganWith told begin taken.known.opening
+  pub free : taken.holds ≡ false
+  pub visits : Visits told trace faults puts found given taken new_view.turn
+  pub known : taken.known ≡ old_view.turn.known
+  pub seen : epoch_seen old_view.turn ≤ epoch_seen taken
+  pub pass : (log : List Logged) (es : List Entry) → Turned log es taken new_view.turn → Turned log es old_view.turn new_view.turn
+
+module _ {O : Type 0} (told : Bool) (trace : O → Trace) (faults puts : O → ℕ) (c : Call told trace faults puts) where
+  abbrev begin : Begin
+  begin = c.begin
+
+  abbrev layout : Layout
+  layout = c.layout
+
+  abbrev segment : ℕ
+  segment = c.segment
+
+  abbrev task : Record
+  task = c.task
+
+  abbrev v : View
+  v = c.old_view
+
+  abbrev w : View
+  w = c.new_view
+
+  abbrev u : Turn
+  u = c.taken
+
+  abbrev found : BookView O
+  found = c.found
+
+  abbrev given : BookView O
+  given = c.given
+
+  abbrev near : ℕ → ℕ → Type 0
+  near = IsBetween begin v w
+
+  abbrev course : Course
+  course = course_in begin w
+
+  -- A stage of the call: behind the log that was found stand these entries, of no record.
+  pub record Stage (old : BookView O) (es : List Entry) : Type 0 where
+    pub log : old.log ≡ found.log ++ lines_of es
+    pub state : ¬ Rose (faults old.opened) (faults old.site) → old.state ≡ after begin.start (entries_of old.log)
+    pub opened : old.opened ≡ found.opened
+    pub clean : ¬ Rose (faults old.opened) (faults old.site) → ¬ Rose (faults found.opened) (faults found.site)
+    pub standing : old.standing ≤ length (entries_of old.log)
+    pub all_stand : ¬ Rose (faults old.opened) (faults old.site) → old.standing ≡ length (entries_of old.log)
+    pub legal : LegalInTurn near begin.plan begin.start (task ∷ []) (after begin.start (entries_of found.log)) es
+    pub none : (index : ℕ) → tested (is_of_record index) es ≡ 0
+    pub few : length es ≤ drawers (task ∷ [])
+
+  -- what was added to the numbers
+  pub record Added : Type 0 where
+    pub drawn : List (ℕ × ℕ)
+    pub spent : List (ℕ × ℕ)
+    pub raised : List (ℕ × ℕ)
+    pub added : List (ℕ × ℕ)
+    pub counted : Counted begin task v w drawn spent raised added
+
+  position_known : (position : ℕ) → position ≡ entry_count (told_by trace faults puts given) → position ≡ length (entries_in w)
+  position_known position is =
+      is ∙ sym (ap (λ (l : List Logged). length (entries_of l)) (log_is told trace faults puts begin found given u w.turn c.began c.free c.visits))
+
+  -- the call ended behind a stage with these entries more: none, or one
+  module _ (old : BookView O) (es : List Entry) (stage : Stage old es) (own : List Entry) (added : given.log ≡ old.log ++ lines_of own) (numbers : Added)
+      (legal : LegalInTurn near begin.plan begin.start (task ∷ []) (after begin.start (entries_of found.log)) (es ++ own))
+      (one : (index : ℕ) → tested (is_of_record index) own ≤ indexed index (task ∷ []))
+      (reserves : tested is_of_none own + length es ≤ drawers (task ∷ [])) (few : length own ≤ 1) where
+    whole_log : given.log ≡ found.log ++ lines_of (es ++ own)
+    whole_log = added ∙ ap (λ (l : List Logged). l ++ lines_of own) stage.log ∙ sym (lines_more found.log es own)
+
+    passed : Turned found.log (es ++ own) v.turn w.turn
+    passed = c.pass found.log (es ++ own) (turned told trace faults puts begin found given u w.turn c.began c.free c.visits (es ++ own) whole_log)
+
+    pub all_entries : entries_in w ≡ entries_of found.log ++ (es ++ own)
+    all_entries = known_entries told trace faults puts begin found given u w.turn c.began c.free c.visits (es ++ own) whole_log
+
+    one_among : (index : ℕ) → tested (is_of_record index) (es ++ own) ≤ indexed index (task ∷ [])
+    one_among index = let m = tested_more (is_of_record index) es own in let n = stage.none index in let o = one index in omega arith
+
+    reserve_among : tested is_of_none (es ++ own) ≤ drawers (task ∷ [])
+    reserve_among = let m = tested_more is_of_none es own in let f = tested_few is_of_none es in omega arith
+
+    few_among : length (es ++ own) ≤ length (task ∷ []) + drawers (task ∷ [])
+    few_among = let m = length-append es own in let f = stage.few in omega arith
+
+    abbrev pub gains_are : Gains
+    gains_are = record {
+      drawn = numbers.drawn;
+      spent = numbers.spent;
+      raised = numbers.raised;
+      added = numbers.added;
+      made = places (length found.log) (length (es ++ own));
+    }
+
+    pub unanswered : Handled layout begin v w (task ∷ []) []
+    unanswered = handled_unanswered begin task v w layout segment found.log (es ++ own) numbers.drawn numbers.spent numbers.raised numbers.added
+        passed numbers.counted legal one_among reserve_among few_among
+
+    pub answered : (answer : Answer) → Fits near course task answer → StandsWithin begin v w (deed_of segment task answer)
+        → IsSpent begin w gains_are (deed_of segment task answer) → (answer.code ≡ 0x31 → MadeLast w gains_are)
+        → Handled layout begin v w (task ∷ []) (deed_of segment task answer ∷ [])
+    answered answer fits within used failed =
+        handled_answered begin task v w layout segment found.log (es ++ own) numbers.drawn numbers.spent numbers.raised numbers.added
+        passed numbers.counted legal one_among reserve_among few_among answer fits within used failed
+
+    -- a code from 30 on, but for that of a failed entry
+    pub answered_late : (code n position : ℕ) → Fits near course task (answer_of (counting code 0 n) position) → nat_lt code 0x18 ≡ false
+        → nat_lt code 0x21 ≡ false → code ≢ 0 → code ≢ 3 → (code ≡ 0x31 → MadeLast w gains_are)
+        → Handled layout begin v w (task ∷ []) (deed_of segment task (answer_of (counting code 0 n) position) ∷ [])
+    answered_late code n position fits p q some other failed =
+        answered (answer_of (counting code 0 n) position) fits (late_stands begin segment task v w code n position p q some)
+        (λ key number uses. absurd (unused_late code n position key number some other uses)) failed
+
+  -- the call ended at the stage
+  module _ (old : BookView O) (es : List Entry) (stage : Stage old es) (numbers : Added) (same : given ≡ old) where
+    left : given.log ≡ old.log ++ lines_of []
+    left = ap (λ (b : BookView O). b.log) same ∙ sym (append-nil old.log)
+
+    legal_left : LegalInTurn near begin.plan begin.start (task ∷ []) (after begin.start (entries_of found.log)) (es ++ [])
+    legal_left = subst (LegalInTurn near begin.plan begin.start (task ∷ []) (after begin.start (entries_of found.log))) (sym (append-nil es)) stage.legal
+
+    reserves_left : 0 + length es ≤ drawers (task ∷ [])
+    reserves_left = let f = stage.few in omega arith
+
+    pub left_unanswered : Handled layout begin v w (task ∷ []) []
+    left_unanswered = unanswered old es stage [] left numbers legal_left (λ index. omega arith) reserves_left (omega arith)
+
+    left_late : (code n position : ℕ) → Fits near course task (answer_of (counting code 0 n) position) → nat_lt code 0x18 ≡ false
+        → nat_lt code 0x21 ≡ false → code ≢ 0 → code ≢ 3 → code ≢ 0x31
+        → Handled layout begin v w (task ∷ []) (deed_of segment task (answer_of (counting code 0 n) position) ∷ [])
+    left_late code n position fits p q some other plain =
+        answered_late old es stage [] left numbers legal_left (λ index. omega arith) reserves_left (omega arith)
+        code n position fits p q some other (λ is. absurd (plain is))
+
+    pub wanting : Answered layout begin segment v w task (Some unserved_answer)
+    wanting = left_late NO_MEMORY 0 0 (wanting_fits near course task) refl refl (λ is. absurd (omega arith)) (λ is. absurd (omega arith)) (λ is. absurd (omega arith))
+
+    known_of_old : w.turn.known.log ≡ old.log
+    known_of_old = log_is told trace faults puts begin found given u w.turn c.began c.free c.visits ∙ ap (λ (b : BookView O). b.log) same
+
+    faults_of_old : course.faults ≡ faults old.site
+    faults_of_old = faults_are told trace faults puts begin found given u w.turn c.began c.free c.visits ∙ ap (λ (b : BookView O). faults b.site) same
+
+    before_old : course.faults_before ≡ faults old.opened
+    before_old = began_faults told trace faults puts begin found given u w.turn c.began c.free c.visits ∙ ap faults (sym stage.opened)
+
+    -- the site had failed, or the run has as many entries as it may
+    pub barred : (fault : BookFault) (position : ℕ) → position ≡ entry_count (told_by trace faults puts given) → IsBarred faults old fault
+        → (task.kind ≢ Protect) ⊎ MayAppend near course old.standing task → Answered layout begin segment v w task (fault_answer fault position)
+    barred (refusals.Stopped count) position is (rose, count_is) due =
+        let at = position_known position is in
+        let known_is : entries_in w ≡ entries_of old.log = ap entries_of known_of_old in
+        let size : length (entries_in w) ≡ length (entries_of old.log) = ap length known_is in
+        let low = stage.standing in
+        left_late STOPPED count position
+        (stopped_fits near course task count position at
+        (subst (λ (n : ℕ). Rose n count) (sym before_old) (subst (λ (n : ℕ). Rose (faults old.opened) n) (sym count_is) rose))
+        (let f = faults_of_old in omega arith)
+        (⊎_elim inl (λ may. inr (record { p = old.standing; within = omega arith; may = may })) due))
+        refl refl (λ is. absurd (omega arith)) (λ is. absurd (omega arith)) (λ is. absurd (omega arith))
+    barred refusals.SessionFull position is (not, full) due =
+        let size : length (entries_in w) ≡ length (entries_of old.log) = ap (λ (l : List Logged). length (entries_of l)) known_of_old in (
+          left_unanswered,
+          record {
+            full = omega arith;
+            not_failed = λ risen. stage.clean not (risen_found told trace faults puts begin found given u w.turn c.began c.free c.visits
+                (subst (λ (k : Known). HasRisen k.opening.faults k.faults) (sym c.known) risen));
+            due = ⊎_elim inl (λ may. inr (subst (λ (p : ℕ). MayAppend near course p task) (full_stand not full) may)) due;
+          },
+        ) where
+          full_stand : ¬ Rose (faults old.opened) (faults old.site) → length (entries_of old.log) ≡ MOST_ENTRIES → old.standing ≡ MOST_ENTRIES
+          full_stand not full = stage.all_stand not ∙ full
+    barred (refusals.SiteFault count) position is h due = absurd h
+    barred (refusals.JournalFull slots) position is h due = absurd h
+    barred refusals.NoMemory position is h due = absurd h
+
+    -- all slots are used
+    pub journal_full : (slots position : ℕ) → position ≡ entry_count (told_by trace faults puts given) → ¬ Rose (faults old.opened) (faults old.site)
+        → old.journal.used ≡ old.journal.slots → slots ≡ old.journal.slots → MayAppend near course (length (entries_of old.log)) task
+        → Handled layout begin v w (task ∷ []) (deed_of segment task (answer_of (counting JOURNAL_FULL 0 slots) position) ∷ [])
+    journal_full slots position is not used slots_is may =
+        let known_is : entries_in w ≡ entries_of old.log = ap entries_of known_of_old in
+        let kept : IsKept told trace faults old = subst (λ (b : BookView O). IsKept told trace faults b) same c.visits.given_kept in
+        let images : old.image ≡ u.known.opening.image = ap (λ (b : BookView O). b.image) (sym same) ∙ ap (λ (o : Opening). o.image) opened_as in
+        let starts : old.start ≡ begin.start = ap (λ (b : BookView O). b.start) (sym same) ∙ ap (λ (o : Opening). o.start) opened_as ∙ c.began.start in
+        let tells : IsTrue begin.told → IsTrue told = λ t. subst (λ (b : Bool). IsTrue b) c.began.tells t in
+        left_late JOURNAL_FULL slots position
+        (full_fits near course task slots position (position_known position is)
+        (λ t. slots_is ∙ (kept.counted (tells t) not).slots ∙ ap slot_count images ∙ sym (c.began.slots (tells t)))
+        (λ t.
+        let counts = kept.counted (tells t) not in
+        let used_is : begin.used ≡ length (records old.image) = c.began.used (tells t) ∙ ap (λ (i : List ℕ). length (records i)) (sym images) in
+        let stored : stored_count begin.start (entries_in w) ≡ stored_count old.start (entries_of old.log) =
+        ap (stored_count begin.start) known_is ∙ ap (λ (s : State). stored_count s (entries_of old.log)) (sym starts) in
+        let slots_are : begin.slots ≡ old.journal.slots = c.began.slots (tells t) ∙ ap slot_count (sym images) ∙ sym counts.slots in
+        let all = counts.used in omega arith)
+        (subst (λ (n : ℕ). MayAppend near course n task) (sym (ap length known_is)) may))
+        refl refl (λ is. absurd (omega arith)) (λ is. absurd (omega arith)) (λ is. absurd (omega arith)) where
+          opened_as : (told_by trace faults puts given).opening ≡ u.known.opening
+          opened_as = c.visits.takes.opening ∙ c.visits.takes.follows.opening
+
+  -- an entry more was refused
+  module _ (old : BookView O) (es : List Entry) (stage : Stage old es) (entry : Entry) (numbers : Added) (can : CanEnter faults old)
+      (legal : IsLegal near begin.plan (after begin.start (entries_of old.log)) (task ∷ []) entry)
+      (one : (index : ℕ) → tested (is_of_record index) (entry ∷ []) ≤ indexed index (task ∷ []))
+      (reserves : tested is_of_none (entry ∷ []) + length es ≤ drawers (task ∷ [])) where
+    entries_old : entries_of old.log ≡ entries_of found.log ++ es
+    entries_old = ap entries_of stage.log ∙ lines_entries found.log es
+
+    after_old : after begin.start (entries_of old.log) ≡ after (after begin.start (entries_of found.log)) es
+    after_old = ap (after begin.start) entries_old ∙ after_both begin.start (entries_of found.log) es
+
+    pub legal_more : LegalInTurn near begin.plan begin.start (task ∷ []) (after begin.start (entries_of found.log)) (es ++ entry ∷ [])
+    legal_more = legal_then near begin.plan begin.start (after begin.start (entries_of found.log)) (task ∷ []) es entry stage.legal
+        (subst (λ (s : State). IsLegal near begin.plan s (task ∷ []) entry) after_old legal)
+
+    -- the state before it, as it is known afterwards
+    pub state_then : (rest : List Entry) → entries_in w ≡ entries_of old.log ++ rest → state_after course (length (entries_of old.log)) ≡ old.state
+    state_then rest is = ap (λ (l : List Entry). after_first begin.start l (length (entries_of old.log))) is
+        ∙ after_front begin.start (entries_of old.log) rest ∙ sym (stage.state can.0)
+
+    -- the site failed while it was stored: then the entry does not stand
+    faulted : (count position : ℕ) → position ≡ entry_count (told_by trace faults puts given) → given.log ≡ old.log ++ lines.Entry entry ∷ []
+        → given.standing ≡ old.standing → count ≡ faults given.site
+        → (state_after course (length (entries_of old.log)) ≡ old.state → MayAppend near course (length (entries_of old.log)) task)
+        → Handled layout begin v w (task ∷ []) (deed_of segment task (answer_of (counting SITE_FAULT 0 count) position) ∷ [])
+    faulted count position is added stand count_is may =
+        let log_known : w.turn.known.log ≡ old.log ++ lines.Entry entry ∷ [] = log_is told trace faults puts begin found given u w.turn c.began c.free c.visits ∙ added in
+        let entries_known : entries_in w ≡ entries_of old.log ++ entry ∷ [] = ap entries_of log_known ∙ lines_entries old.log (entry ∷ []) in
+        let given_is : entries_of given.log ≡ entries_of old.log ++ entry ∷ [] = ap entries_of added ∙ lines_entries old.log (entry ∷ []) in
+        let given_size : length (entries_of given.log) ≡ length (entries_of old.log) + 1 = ap length given_is ∙ length-append (entries_of old.log) (entry ∷ []) in
+        let size : length (entries_in w) ≡ length (entries_of old.log) + 1 = ap length entries_known ∙ length-append (entries_of old.log) (entry ∷ []) in
+        let before : course.faults_before ≡ faults found.opened = began_faults told trace faults puts begin found given u w.turn c.began c.free c.visits in
+        let now : course.faults ≡ faults given.site = faults_are told trace faults puts begin found given u w.turn c.began c.free c.visits in
+        let opened : faults given.opened ≡ faults found.opened = ap (λ (o : Opening). o.faults) c.visits.takes.opening in
+        let all = stage.all_stand can.0 in
+        let rose : Rose (faults given.opened) (faults given.site) =
+        rose_else (faults given.opened) (faults given.site) (λ not. let whole_then = c.visits.given_kept.whole not in absurd (omega arith)) in
+        let risen : Rose course.faults_before count =
+        subst (λ (n : ℕ). Rose n count) (sym (before ∙ sym opened)) (subst (λ (n : ℕ). Rose (faults given.opened) n) (sym count_is) rose) in
+        answered_late old es stage (entry ∷ []) added numbers legal_more one reserves (omega arith) SITE_FAULT count position
+        (faulted_fits near course task count position (position_known position is) risen (omega arith)
+        (record { p = length (entries_of old.log); within = omega arith; may = may (state_then (entry ∷ []) entries_known) }))
+        refl refl (λ is. absurd (omega arith)) (λ is. absurd (omega arith)) (λ _. record {
+          place = length old.log;
+          is_made =
+              let o : length old.log ≡ length found.log + length (lines_of es) = ap length stage.log ∙ length-append found.log (lines_of es) in
+              let l = lines_length es in
+              let m = length-append es (entry ∷ []) in
+              places_stand (length found.log) (length (es ++ entry ∷ [])) (length old.log) (omega arith) (omega arith);
+          last = subst (λ (l : List Logged). IsLastAt l (length old.log)) (sym log_known) (last_behind old.log entry);
+          risen = risen_of w.turn.known.opening.faults w.turn.known.faults (subst (λ (n : ℕ). Rose course.faults_before n) (count_is ∙ sym now) risen);
+        })
+
+    pub unstored : (fault : BookFault) (position : ℕ) → position ≡ entry_count (told_by trace faults puts given) → IsUnstored faults entry old given fault
+        → (state_after course (length (entries_of old.log)) ≡ old.state → IsTrue (IsStored old.state entry)
+        → MayAppend near course (length (entries_of old.log)) task)
+        → Answered layout begin segment v w task (fault_answer fault position)
+    unstored (refusals.SiteFault count) position is h may =
+        faulted count position is (ap (λ (b : BookView O). b.log) h.4) (ap (λ (b : BookView O). b.standing) h.4) h.3 (λ same. may same h.0)
+    unstored (refusals.JournalFull slots) position is h may =
+        let known_is : entries_in w ≡ entries_of old.log ++ [] =
+        ap (λ (l : List Logged). entries_of l) (known_of_old old es stage numbers h.3) ∙ sym (append-nil (entries_of old.log)) in
+        journal_full old es stage numbers h.3 slots position is can.0 h.1 h.2 (may (state_then [] known_is) h.0)
+    unstored (refusals.Stopped count) position is h may = absurd h
+    unstored refusals.SessionFull position is h may = absurd h
+    unstored refusals.NoMemory position is h may = absurd h
+
+    -- it was made
+    pub made : (fields : Told) (position : ℕ) → Enters entry old given position → task.kind ≢ Protect
+        → (entries_in w ≡ entries_of old.log ++ entry ∷ [] → position ≡ length (entries_of old.log) + 1
+        → Fits near course task (answer_of fields position))
+        → ((key number : ℕ) → Uses (answer_of fields position) key number
+        → (row : ℕ) × (row < begin.rows) × IsRow begin w key row × (0 < times row number numbers.spent))
+        → fields.code ≢ 0x31 → Handled layout begin v w (task ∷ []) (deed_of segment task (answer_of fields position) ∷ [])
+    made fields position enters kind fits used plain =
+        let added : given.log ≡ old.log ++ lines.Entry entry ∷ [] = ap (λ (b : BookView O). b.log) enters.is in
+        let log_known : w.turn.known.log ≡ old.log ++ lines.Entry entry ∷ [] = log_is told trace faults puts begin found given u w.turn c.began c.free c.visits ∙ added in
+        let entries_known : entries_in w ≡ entries_of old.log ++ entry ∷ [] = ap entries_of log_known ∙ lines_entries old.log (entry ∷ []) in
+        let given_is : entries_of given.log ≡ entries_of old.log ++ entry ∷ [] = ap entries_of added ∙ lines_entries old.log (entry ∷ []) in
+        let size : length (entries_of given.log) ≡ length (entries_of old.log) + 1 = ap length given_is ∙ length-append (entries_of old.log) (entry ∷ []) in
+        let count : length (entries_in w) ≡ length (entries_of old.log) + 1 = ap length entries_known ∙ length-append (entries_of old.log) (entry ∷ []) in
+        let at = enters.position_is in
+        let none : is_protected task.kind ≡ false = unprotected task.kind kind in
+        answered old es stage (entry ∷ []) added numbers legal_more one reserves (omega arith) (answer_of fields position)
+        (fits entries_known (omega arith)) (record {
+          entry = λ _. (
+            let low = entries_low told trace faults puts begin found given u w.turn c.began c.free c.visits in
+                let seen_first : length (entries_in v) ≡ length (entries_of u.known.log) = ap (λ (k : Known). length (entries_of k.log)) (sym c.known) in
+                let front : length (entries_of found.log) ≤ length (entries_of old.log) = (let e = ap length entries_old in
+                let l = length-append (entries_of found.log) es in omega arith) in
+                omega arith,
+            omega arith,
+          );
+          stored = λ _.
+              let stand : given.standing ≡ old.standing + 1 = ap (λ (b : BookView O). b.standing) enters.is in
+              let known_standing : w.turn.known.standing ≡ given.standing = ap (λ (t : Turn). t.known.standing) c.visits.takes.turn in
+              let all = stage.all_stand can.0 in omega arith;
+          epoch = λ _.
+              let told_is : epoch_told (entries_in w) (deed_of segment task (answer_of fields position)) ≡ epoch_after (entries_in w) =
+              ap (λ (b : Bool). if b then position else epoch_after (take position (entries_in w))) none
+              ∙ ap epoch_after (take_all position (entries_in w) (omega arith)) in
+              let stand : given.standing ≡ old.standing + 1 = ap (λ (b : BookView O). b.standing) enters.is in
+              let all = stage.all_stand can.0 in
+              let changes : given.changes ≡ epoch_after (entries_in w) = c.visits.given_kept.epoch
+              ∙ ap epoch_after (take_all given.standing (entries_of given.log) (omega arith) ∙ given_is ∙ sym entries_known) in
+              let low = epoch_low told trace faults puts begin found given u w.turn c.began c.free c.visits in
+              let high = epoch_high told trace faults puts begin found given u w.turn c.began c.free c.visits in
+              let grown = c.visits.takes.earlier.changes in
+              (omega arith, omega arith);
+          number = λ _ protected. let both : true ≡ false = sym protected ∙ none in absurd (let b = both in cc);
+        }) used (λ is. absurd (plain is))
+
+  -- the book as it was found
+  pub stage_found : Stage found []
+  stage_found = record {
+    log = sym (append-nil found.log);
+    state = λ not. (whole told trace faults puts begin found given u w.turn c.began c.free c.visits not).0;
+    opened = refl;
+    clean = λ not. not;
+    standing = c.visits.found_kept.stands;
+    all_stand = λ not. c.visits.found_kept.whole not;
+    legal = tt;
+    none = λ index. refl;
+    few = omega arith;
+  }

@@ -1,0 +1,51 @@
+-- A record for whose answer memory was wanting before its call.
+use Rattle.std.proofs.Common.{ℕ, [], Some, refl, sym, append-nil, arith}
+use Rattle.record_io.specs.declared.records.Record.{Record}
+use Rattle.counter_table.specs.declared.view.View.{View}
+use Rattle.law_worker.specs.Begin.{Begin}
+use Rattle.law_worker.specs.Views.{IsBetween}
+use Rattle.law_worker.specs.Deeds.{course_in}
+use Rattle.law_worker.specs.Order.{Layout}
+use Rattle.law_calls.specs.Answering.{Answered, AnsweredExactly, unserved_answer}
+use Rattle.law_calls.proofs.Counting.{counted_none}
+use Rattle.law_calls.proofs.Fitted.{wanting_fits}
+use Rattle.law_calls.proofs.OneRecord.{Turned, handled_answered}
+use Rattle.law_one_lane.specs.Machine.{Kept}
+use Rattle.law_calls.proofs.Moving.{moves_none}
+use Rattle.law_calls.proofs.Exactness.{wanting_exactly}
+use Rattle.law_calls.proofs.InTurn.{looks_pass}
+use Rattle.law_calls.proofs.Stages.{late_stands, unused_late}
+
+-- the worker's turn is as it was
+same_turn : (v : View) → Turned v.turn.known.log [] v.turn v.turn
+same_turn v = record {
+  earlier = record {
+    log = ([], sym (append-nil v.turn.known.log));
+    changes = omega arith;
+    faults = omega arith;
+    standing = omega arith;
+    put_faults = omega arith;
+    stopped = λ _. refl;
+  };
+  sparing = omega arith;
+  opening = refl;
+  epochs = omega arith;
+  low = omega arith;
+  log_is = sym (append-nil v.turn.known.log);
+  made = sym (append-nil v.turn.made);
+  holds = refl;
+  filled = refl;
+}
+
+pub unserved : (begin : Begin) (layout : Layout) (segment : ℕ) (v : View) (task : Record) → Answered layout begin segment v v task (Some unserved_answer)
+unserved begin layout segment v task =
+    handled_answered begin task v v layout segment v.turn.known.log [] [] [] [] [] (same_turn v) (counted_none begin task v v refl) tt (λ index. omega arith) (omega arith) (omega arith) unserved_answer
+    (wanting_fits (IsBetween begin v v) (course_in begin v) task)
+    (late_stands begin segment task v v 0x33 0 0 refl refl (λ is. absurd (omega arith)))
+    (λ key number uses. absurd (unused_late 0x33 0 0 key number (λ is. absurd (omega arith)) (λ is. absurd (omega arith)) uses))
+    (λ is. absurd (omega arith))
+
+pub unserved_exactly : (begin : Begin) (segment : ℕ) (v : View) (task : Record) → AnsweredExactly begin segment v v task (Some unserved_answer)
+unserved_exactly begin segment v task =
+    wanting_exactly begin segment task v v Kept (moves_none begin v v refl) v.turn.known.log [] (same_turn v) tt []
+    (looks_pass begin v v [] (same_turn v) (sym (append-nil v.numbers.spent))) (λ _. refl)

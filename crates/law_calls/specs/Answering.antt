@@ -1,0 +1,109 @@
+-- The answers to records, by what the calls on the unit answered (profile).
+use Rattle.std.specs.Prelude.{◌≢◌, ◌⊎◌, ℕ, ◌≤◌, Bool, List, [], ◌∷◌, length, take, Option, Some, None, Result, Ok, Err, MatchResult}
+use Rattle.sdls_outside.specs.Moments.{Trace}
+use Rattle.frame_checks.specs.declared.open_reply.OpenReply.{OpenReply}
+use Rattle.frame_checks.specs.Accepting.{Leaves, field_in}
+use Rattle.ep_core.specs.declared.reply.Reply.{Reply}
+use Rattle.record_io.specs.declared.answers.Answer.{Answer}
+use Rattle.record_io.specs.declared.code.TheConstants.{PROTECTED, CLEAR, EXHAUSTED, JOURNAL_FULL, SITE_FAULT, STOPPED, NO_MEMORY}
+use Rattle.record_io.specs.declared.kinds.RecordKind.TheVariants.{Protect}
+use Rattle.record_io.specs.declared.records.Record.{Record}
+use Rattle.counter_table.specs.declared.view.View.{View}
+use Rattle.counter_table.specs.Known.{HasRisen}
+use Rattle.law_history.specs.Answers.{Told, counting, plain, numbered, opened_told, replied_told, fault_told}
+use Rattle.law_history.specs.Fits.{MayAppend}
+use Rattle.unit_book.specs.declared.fault.BookFault.{BookFault}
+use Rattle.unit_book.specs.declared.fault.BookFault.TheVariants as faults
+use Rattle.unit_book.specs.declared.limits.TheConstants.{MOST_ENTRIES}
+use Rattle.unit_book.specs.Book.{BookView}
+use Rattle.unit_book.specs.Records.{Opens, RefusesFrame}
+use Rattle.shared_unit.specs.declared.permit.Protected.{Protected}
+use Rattle.shared_unit.specs.declared.permit.Protected.TheVariants as protecteds
+use Rattle.shared_unit.specs.Calls.{WithPosition}
+use Rattle.shared_unit.specs.Commanding.{IsCommanded}
+use Rattle.shared_unit.specs.Told.{told_by}
+use Rattle.shared_unit.specs.Turn.{Visits}
+use Rattle.law_worker.specs.Begin.{Begin}
+use Rattle.law_worker.specs.Views.{IsBetween, entries_in}
+use Rattle.law_worker.specs.Deeds.{course_in, deed_of}
+use Rattle.law_worker.specs.Order.{Layout, Handled}
+use Rattle.law_one_lane.specs.Alone.{MovedInTurn}
+
+-- ---- answers
+
+abbrev pub answer_of : Told → ℕ → Answer
+answer_of told position = record {
+  code = told.code;
+  detail = told.detail;
+  key = told.key;
+  position = position;
+  number = told.number;
+  body = told.body;
+}
+
+-- memory was wanting, in the call or for the answer
+abbrev pub unserved_answer : Answer
+unserved_answer = answer_of (plain NO_MEMORY 0) 0
+
+-- where an entry was refused, by the fault and the count of entries beside it; none where the run has as many as it may
+abbrev pub fault_answer : BookFault → ℕ → Option Answer
+fault_answer (faults.SiteFault count) position = Some (answer_of (counting SITE_FAULT 0 count) position)
+fault_answer (faults.Stopped count) position = Some (answer_of (counting STOPPED 0 count) position)
+fault_answer (faults.JournalFull slots) position = Some (answer_of (counting JOURNAL_FULL 0 slots) position)
+fault_answer faults.SessionFull position = None
+fault_answer faults.NoMemory position = Some unserved_answer
+
+-- of a frame that was opened, with its octets as the call left them
+abbrev pub opened_answer : Result (OpenReply × ℕ) (BookFault × ℕ) → List ℕ → Option Answer
+opened_answer (Ok told) left = Some (answer_of (opened_told told.0 (field_in told.0 left)) told.1)
+opened_answer (Err refused) left = fault_answer refused.0 refused.1
+
+abbrev pub commanded_answer : Result (Reply × ℕ) (BookFault × ℕ) → Option Answer
+commanded_answer (Ok told) = Some (answer_of (replied_told told.0) told.1)
+commanded_answer (Err refused) = fault_answer refused.0 refused.1
+
+-- of a frame that was protected, with the octets of the room that the call wrote to
+abbrev pub protected_answer : Protected → List ℕ → Option Answer
+protected_answer (protecteds.Done d) out = Some (answer_of (numbered PROTECTED d.key d.number (take d.length out)) d.epoch)
+protected_answer protecteds.Clear out = Some (answer_of (plain CLEAR 0) 0)
+protected_answer (protecteds.Refused fault epoch) out = Some (answer_of (fault_told fault) epoch)
+protected_answer (protecteds.Exhausted key number epoch) out = Some (answer_of (numbered EXHAUSTED key number []) epoch)
+protected_answer (protecteds.Fault fault position) out = fault_answer fault position
+
+-- ---- what became of a record
+
+-- why a record has no answer: the run has as many entries as it may, the site had not failed, and the record is of a kind that
+-- always makes one, or may need one
+pub record IsFullFor (begin : Begin) (old new : View) (task : Record) : Type 0 where
+  pub full : MOST_ENTRIES ≤ length (entries_in new)
+  pub not_failed : ¬ HasRisen old.turn.known.opening.faults old.turn.known.faults
+  pub due : (task.kind ≢ Protect) ⊎ MayAppend (IsBetween begin old new) (course_in begin new) MOST_ENTRIES task
+
+-- the record was handled and has this answer; or it has none, since the history is full
+abbrev pub Answered : Layout → Begin → ℕ → View → View → Record → Option Answer → Type 0
+Answered layout begin segment old new task (Some answer) = Handled layout begin old new (task ∷ []) (deed_of segment task answer ∷ [])
+Answered layout begin segment old new task None = Handled layout begin old new (task ∷ []) [] × IsFullFor begin old new task
+
+-- The record was served in turn, and moved a word as its answer tells; where it has none, it may have moved one.
+abbrev pub AnsweredExactly : Begin → ℕ → View → View → Record → Option Answer → Type 0
+AnsweredExactly begin segment old new task (Some answer) = MovedInTurn begin old new 1 (deed_of segment task answer ∷ [])
+AnsweredExactly begin segment old new task None = MovedInTurn begin old new 1 []
+
+-- ---- what the calls say, for a record
+
+-- `open_frame`, which left the frame's octets so
+abbrev pub OpensRecord : {O : Type 0} → Bool → (O → Trace) → (O → ℕ) → (O → ℕ) → Record → List ℕ → Result (OpenReply × ℕ) (BookFault × ℕ)
+    → View → View → Type 0
+OpensRecord {O} told trace faults_of puts task left result v w = (found : BookView O) × (given : BookView O)
+    × Visits told trace faults_of puts found given v.turn w.turn
+    × WithPosition result (told_by trace faults_of puts given) (λ answer. MatchResult answer
+    (λ told. Opens faults_of task.index task.link task.octets (field_in told.0 left) found given told.0 told.1 × Leaves told.0 task.octets left)
+    (RefusesFrame faults_of task.index task.link task.octets found given))
+
+-- `command`
+abbrev pub CommandsRecord : {O : Type 0} → Bool → (O → Trace) → (O → ℕ) → (O → ℕ) → Record → Result (Reply × ℕ) (BookFault × ℕ)
+    → View → View → Type 0
+CommandsRecord {O} told trace faults_of puts task result v w = (found : BookView O) × (given : BookView O)
+    × Visits told trace faults_of puts found given v.turn w.turn
+    × WithPosition result (told_by trace faults_of puts given)
+    (λ answer. IsCommanded faults_of task.index task.octets answer found given v.numbers w.numbers)

@@ -1,0 +1,37 @@
+//! Laws of calls that take the turn once, draw no number and make no entry.
+ghost use Rattle.std.specs.Prelude.{◌≡◌, ℕ, List, Result, length};
+ghost use Rattle.record_io.specs.declared.records.Record.{Record};
+ghost use Rattle.counter_table.specs.declared.view.View.{View};
+ghost use Rattle.counter_table.specs.Play.{IsCovered};
+ghost use Rattle.unit_book.specs.declared.fault.BookFault.{BookFault};
+ghost use Rattle.unit_book.specs.Book.{BookView};
+ghost use Rattle.shared_unit.specs.Calls.{IsPut};
+ghost use Rattle.shared_unit.specs.Told.{told_by};
+ghost use Rattle.law_worker.specs.Begin.{Begin};
+ghost use Rattle.law_worker.specs.Work.{Worked};
+ghost use Rattle.law_lives.specs.Settled.{SettlesAt};
+ghost use Rattle.law_calls.specs.Visiting.{Visited};
+
+use sdls_outside::Site;
+
+/// Law: who took the turn and gave back the book as it was did so with any records. So are `count` and `permit`.
+pub fn visiting_works<O: Site>()
+    ensures { (begin : Begin) (v w : View) (found : BookView O) (tasks : List Record)
+        → Visited O.told O.trace O.faults O.put_faults begin found found v w → Worked begin v w tasks }
+{}
+
+/// Law: who put octets did so with any records.
+pub fn putting_works<O: Site>()
+    ensures { (begin : Begin) (v w : View) (found given : BookView O) (tasks : List Record) (octets : List ℕ)
+        (result : Result (Unit {0}) BookFault) → Visited O.told O.trace O.faults O.put_faults begin found given v w
+        → IsPut O.told O.trace O.faults O.put_faults octets result found given → Worked begin v w tasks }
+{}
+
+/// Law: the first put behind a segment settles its answers, where it says that no number spent is at or above its row's mark.
+pub fn putting_settles<O: Site>()
+    ensures { (begin : Begin) (v w : View) (found given : BookView O) (octets : List ℕ)
+        (result : Result (Unit {0}) BookFault) → Visited O.told O.trace O.faults O.put_faults begin found given v w
+        → IsPut O.told O.trace O.faults O.put_faults octets result found given
+        → IsCovered 512 v.numbers (told_by O.trace O.faults O.put_faults found)
+        → SettlesAt begin v w given.standing found.standing (length found.log) }
+{}

@@ -1,0 +1,24 @@
+//! The laws.
+ghost use Rattle.std.specs.Prelude.{◌≡◌, ◌≤◌, ℕ, List, Ok};
+ghost use Rattle.record_io.specs.declared.answers.Answer.{Answer};
+ghost use Rattle.unit_plan.specs.Plan.{plan_of};
+ghost use Rattle.drill_frames.specs.declared.counts.Counts.{Counts};
+ghost use Rattle.law_drill.specs.Drilled.{IsComplete, IsDrilled};
+ghost use Rattle.law_drill.specs.Plans.{receiver_lines, receiver_plan, sender_lines, sender_plan};
+
+use frame_shield::opens_once;
+
+/// Law: the texts of both units are plans, and this is what their lines say.
+pub fn plans_are_read()
+    ensures sender { plan_of sender_plan ≡ Ok sender_lines }
+    ensures receiver { plan_of receiver_plan ≡ Ok receiver_lines }
+{}
+
+/// Law: where no answer of a drill tells want of memory, each of its frames was protected and accepted, and the first of each chunk
+/// rejected the second time.
+pub fn drill_is_complete()
+    ensures { (number : ℕ) (answers : List Answer) (counts : Counts) → number ≤ 100000 → IsDrilled number answers counts
+        → IsComplete number answers counts }
+{
+    opens_once();
+}

@@ -1,0 +1,6 @@
+use Rattle.law_history.specs.Legal.{anywhere}
+use Rattle.law_history.proofs.Legal.{legal_allowed}
+use Rattle.law_history.proofs.entries.legal_is_allowed.Goals as goal
+
+pub returns : goal.returns
+returns c = legal_allowed anywhere

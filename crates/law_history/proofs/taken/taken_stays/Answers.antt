@@ -1,0 +1,6 @@
+use Rattle.law_history.specs.Legal.{anywhere}
+use Rattle.law_history.proofs.Accepting.{entry_takes}
+use Rattle.law_history.proofs.taken.taken_stays.Goals as goal
+
+pub returns : goal.returns
+returns c = entry_takes anywhere

@@ -1,0 +1,22 @@
+-- What a state keeps of what was done in it: floors, numbers accepted, keys loaded (profile).
+use Rattle.std.specs.Prelude.{◌≡◌, ℕ, ◌≤◌, IsTrue, List, All, IsSomeAnd}
+use Rattle.std.specs.Option.{option_map_or}
+use Rattle.sha2.specs.Sha256.{sha256}
+use Rattle.sa_book.specs.SaRefusal.{receives_with}
+use Rattle.unit_state.specs.declared.state.State.{State}
+use Rattle.unit_state.specs.State.{key_row}
+use Rattle.law_history.specs.Numbers.{floor_of, released_floor}
+
+-- the floor that a release of the key leaves; 0 where the state lacks the key
+abbrev pub kept_floor : State → ℕ → ℕ
+kept_floor state key = option_map_or (released_floor state) (key_row state key) 0
+
+-- No opening accepts the number under the key any more: it is no higher than the key's floor, nor than the highest number of
+-- an association that receives with the key.
+pub record IsTaken (state : State) (key number : ℕ) : Type 0 where
+  pub floor : number ≤ floor_of state key
+  pub highs : All (λ row. IsTrue (receives_with key row) → number ≤ row.window.high) state.associations
+
+-- the key was loaded with these octets; that stays so when they are dropped
+abbrev pub IsLoadedWith : State → ℕ → List ℕ → Type 0
+IsLoadedWith state key octets = IsSomeAnd (key_row state key) (λ held. held.digest ≡ sha256 octets)

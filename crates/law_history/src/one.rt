@@ -1,0 +1,37 @@
+//! Laws of what a state decides: one answer to a frame, one need and one step of a message.
+
+ghost use Rattle.std.specs.Prelude.{◌≡◌, ℕ, List};
+ghost use Rattle.sdls_base.specs.declared.change.Change.{Change};
+ghost use Rattle.sdls_base.specs.declared.entry.Seen.{Seen};
+ghost use Rattle.unit_plan.specs.PlanLines.{PlanLines};
+ghost use Rattle.unit_state.specs.declared.state.State.{State};
+ghost use Rattle.unit_state.specs.State.{KeepsRules};
+ghost use Rattle.frame_checks.specs.declared.open_reply.OpenReply.{OpenReply};
+ghost use Rattle.frame_checks.specs.Opening.{IsOpenReply};
+ghost use Rattle.ep_core.specs.declared.need.Need.{Need};
+ghost use Rattle.ep_core.specs.declared.reply.Reply.{Reply};
+ghost use Rattle.law_history.specs.Entries.{frame_change, IsNeedOf, IsStepOf};
+ghost use Rattle.law_history.specs.Answers.{opened_told};
+
+use frame_shield::opens_once;
+
+/// Law: the checks of a frame that is opened tell one answer and one change.
+pub fn openings_tell_one()
+    ensures { (plan : PlanLines) (state : State) (link : ℕ) (frame : List ℕ) (reply other : OpenReply) (field again : List ℕ)
+        → IsOpenReply plan state link frame reply field → IsOpenReply plan state link frame other again
+        → (opened_told reply field ≡ opened_told other again) × (frame_change plan state reply ≡ frame_change plan state other) }
+{
+    opens_once();
+}
+
+/// Law: the need of a message is one by the state and the message.
+pub fn messages_need_one()
+    ensures { (state : State) (octets : List ℕ) (need other : Need) → IsNeedOf state octets need → IsNeedOf state octets other
+        → need ≡ other }
+{}
+
+/// Law: the step of a message, its change and its reply, is one by the state, the message and what was seen.
+pub fn messages_have_one_step()
+    ensures { (state : State) (octets : List ℕ) (seen : Seen) (step other : Change × Reply) → KeepsRules state
+        → IsStepOf state octets seen step → IsStepOf state octets seen other → step ≡ other }
+{}

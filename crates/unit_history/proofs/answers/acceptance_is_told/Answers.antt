@@ -1,8 +1,0 @@
-use Rattle.unit_history.specs.Legal.{anywhere}
-use Rattle.unit_history.proofs.Codes.{accepting_opening, accepts_at}
-use Rattle.unit_history.proofs.answers.acceptance_is_told.Goals as goal
-
-pub returns : goal.returns
-returns c = λ course task answer key number fits accepts.
-    let is = accepting_opening anywhere course task answer key number fits accepts in
-    (is, accepts_at course task answer key number is accepts)

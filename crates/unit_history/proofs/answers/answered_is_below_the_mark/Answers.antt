@@ -1,6 +1,0 @@
-use Rattle.unit_history.specs.Legal.{anywhere}
-use Rattle.unit_history.proofs.Answered.{answered_below}
-use Rattle.unit_history.proofs.answers.answered_is_below_the_mark.Goals as goal
-
-pub returns : goal.returns
-returns c = answered_below anywhere

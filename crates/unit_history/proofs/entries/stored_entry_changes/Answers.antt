@@ -1,5 +1,0 @@
-use Rattle.unit_history.proofs.StoredEntries.{stored_changes}
-use Rattle.unit_history.proofs.entries.stored_entry_changes.Goals as goal
-
-pub returns : goal.returns
-returns c = stored_changes

@@ -1,5 +1,0 @@
-use Rattle.unit_history.proofs.Loaded.{loaded_along}
-use Rattle.unit_history.proofs.keys.loaded_stays.Goals as goal
-
-pub returns : goal.returns
-returns c = loaded_along

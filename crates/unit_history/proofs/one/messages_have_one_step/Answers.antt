@@ -1,5 +1,0 @@
-use Rattle.unit_history.proofs.OneStep.{step_one}
-use Rattle.unit_history.proofs.one.messages_have_one_step.Goals as goal
-
-pub returns : goal.returns
-returns c = step_one

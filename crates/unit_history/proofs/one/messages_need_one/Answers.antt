@@ -1,5 +1,0 @@
-use Rattle.unit_history.proofs.OneStep.{need_one}
-use Rattle.unit_history.proofs.one.messages_need_one.Goals as goal
-
-pub returns : goal.returns
-returns c = need_one

@@ -1,6 +1,0 @@
-use Rattle.unit_history.specs.Run.{NearWord}
-use Rattle.unit_history.proofs.Releasing.{made_release}
-use Rattle.unit_history.proofs.releases.releases_are_legal.Goals as goal
-
-pub returns : goal.returns
-returns c = λ start entries records. made_release (NearWord start entries records)

@@ -1,5 +1,0 @@
-use Rattle.unit_history.proofs.StoredReleases.{stored_both}
-use Rattle.unit_history.proofs.releases.stored_counts_add.Goals as goal
-
-pub returns : goal.returns
-returns c = stored_both

@@ -1,8 +1,0 @@
-use Rattle.record_io.specs.Places.{records_of}
-use Rattle.unit_history.specs.Run.{TurnIn}
-use Rattle.unit_history.proofs.Along.{of_places, below_along}
-use Rattle.unit_history.proofs.runs.used_stays_below.Goals as goal
-
-pub returns : goal.returns
-returns c = λ plan start places entries history.
-    below_along plan start (records_of places) (TurnIn places) entries (of_places plan start places entries history)

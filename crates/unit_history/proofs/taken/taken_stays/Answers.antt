@@ -1,6 +1,0 @@
-use Rattle.unit_history.specs.Legal.{anywhere}
-use Rattle.unit_history.proofs.Accepting.{entry_takes}
-use Rattle.unit_history.proofs.taken.taken_stays.Goals as goal
-
-pub returns : goal.returns
-returns c = entry_takes anywhere

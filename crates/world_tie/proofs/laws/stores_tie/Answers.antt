@@ -1,5 +1,0 @@
-use Rattle.world_tie.proofs.Moves.{stores_tie}
-use Rattle.world_tie.proofs.laws.stores_tie.Goals as goal
-
-pub returns : goal.returns
-returns g c = stores_tie g.B.Counted.told

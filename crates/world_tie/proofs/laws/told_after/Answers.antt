@@ -1,5 +1,0 @@
-use Rattle.world_tie.proofs.Moves.{told_after}
-use Rattle.world_tie.proofs.laws.told_after.Goals as goal
-
-pub returns : goal.returns
-returns g c = told_after g.B.Counted.told
