@@ -4,7 +4,7 @@ ghost use Rattle.std.specs.Prelude.{◌≡◌, ◌↔◌, true, IfOk, OnOk};
 ghost use Rattle.unit_state.specs.Restart.{IsLight};
 ghost use Rattle.unit_state.specs.Allows.{Allows};
 ghost use Rattle.unit_state.specs.Applied.{applied};
-ghost use Rattle.ep_core.specs.Seen.{Fits, IsDrawn, IsWord};
+ghost use Rattle.ep_core.specs.Seen.{MeetsNeed, IsNumberSeen, IsWord};
 
 use ep_codec::{Command, PduError, read_pdu};
 use ep_core::{Need, Reply, judge, plan_change};
@@ -26,7 +26,7 @@ pub enum Answer {
 
 /// A number that was drawn is below the mark of its key, or past the end of it.
 fn is_drawn(state: &State, key: KeyId, seen: Seen) -> bool
-    ensures { (result ≡ true) ↔ IsDrawn state.now key seen }
+    ensures { (result ≡ true) ↔ IsNumberSeen state.now key seen }
 {
     match seen {
         Seen::Number(number) => match state.keys.find(key) {
@@ -50,7 +50,7 @@ fn is_word(seen: Seen) -> bool
 
 /// Whether what was seen is what was needed.
 fn fits(state: &State, need: &Need, seen: Seen) -> bool
-    ensures { (result ≡ true) ↔ Fits state.now need.now seen }
+    ensures { (result ≡ true) ↔ MeetsNeed state.now need.now seen }
 {
     match need {
         Need::Nothing => matches!(seen, Seen::Nothing),

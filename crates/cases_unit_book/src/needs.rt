@@ -1,7 +1,7 @@
 //! What a message needs, and what was seen.
 
 ghost use Rattle.std.specs.Prelude.{◌≡◌, ◌↔◌, true};
-ghost use Rattle.ep_core.specs.Seen.{Fits, IsDrawn, IsWord};
+ghost use Rattle.ep_core.specs.Seen.{MeetsNeed, IsNumberSeen, IsWord};
 
 use ep_core::Need;
 use sdls_base::{KeyId, Seen};
@@ -9,7 +9,7 @@ use unit_state::State;
 
 /// A number that was drawn is below the mark of its key, or past the end of it.
 fn is_drawn(state: &State, key: KeyId, seen: Seen) -> bool
-    ensures { (result ≡ true) ↔ IsDrawn state.now key seen }
+    ensures { (result ≡ true) ↔ IsNumberSeen state.now key seen }
 {
     match seen {
         Seen::Number(number) => match state.keys.find(key) {
@@ -33,7 +33,7 @@ fn is_word(seen: Seen) -> bool
 
 /// Whether what was seen is what was needed.
 pub fn fits(state: &State, need: &Need, seen: Seen) -> bool
-    ensures { (result ≡ true) ↔ Fits state.now need.now seen }
+    ensures { (result ≡ true) ↔ MeetsNeed state.now need.now seen }
 {
     match need {
         Need::Nothing => matches!(seen, Seen::Nothing),

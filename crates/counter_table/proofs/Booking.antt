@@ -9,7 +9,7 @@ use lib.ListN.{get_elem?}
 use Rattle.atomic_table.proofs.Lists.{at_set, set_here, set_else}
 use Rattle.counter_table.specs.declared.view.Known.{Known}
 use Rattle.counter_table.specs.declared.view.Turn.{Turn}
-use Rattle.counter_table.specs.Known.{mark_of, Earlier, IsSparing, pieces, KeepsMarks, MayGive, MayFill, unknown, later}
+use Rattle.counter_table.specs.Known.{known_mark, Earlier, IsSparing, pieces, LowersNoMark, MayGive, MayFill, unknown, later}
 use Rattle.counter_table.specs.Turn.{places, stands, no_turn, beginner, merged, taking, giving, filling, learning, seeing, turning}
 use Rattle.sdls_base.specs.Numbers.{one_if, total, once_below}
 use Rattle.counter_table.specs.Rule.{greatest, limit_at, IsReached, KnowsBook, IsAtHome, IsUnfilled, IsOut, TurnFits}
@@ -243,16 +243,16 @@ module _ {B : Type 0} (told : B → Known) (count : ℕ) (words : List ℕ) (hom
 
     -- the marks of the held book become known, and a limit is lifted to one of them
     pub lift_fits : (words' : List ℕ) (held : Known) (lifted : ℕ) → get_or words' 0 0 ≡ word → get_or words' 1 0 ≡ get_or words 1 0
-        → (get_or words' (limit_at lifted) 0 ≡ max (get_or words (limit_at lifted) 0) (mark_of held lifted))
+        → (get_or words' (limit_at lifted) 0 ≡ max (get_or words (limit_at lifted) 0) (known_mark held lifted))
         → ((row : ℕ) → row < count → row ≢ lifted → get_or words' (limit_at row) 0 ≡ get_or words (limit_at row) 0)
-        → v.holds ≡ true → v.filled ≡ true → KeepsMarks v.known held
+        → v.holds ≡ true → v.filled ≡ true → LowersNoMark v.known held
         → TurnFits told count words' homes (set turns id (learning held.marks v)) record book { marks = held.marks } filled
     lift_fits words' held lifted same_turn same_epoch at_row same_limits holds full marks =
         let w = learning held.marks v in
         let new_book = record book { marks = held.marks } in
         let new_turns = set turns id w in
         let knows : v.known ≡ book = holder_knows holds in
-        let marks' : KeepsMarks book held = subst (λ z. KeepsMarks z held) knows marks in
+        let marks' : LowersNoMark book held = subst (λ z. LowersNoMark z held) knows marks in
         let out = out_with id v at holds in
         let t = total_set (λ u. one_if u.holds) turns id v w at in
         let k = fits.each id v at in
@@ -268,7 +268,7 @@ module _ {B : Type 0} (told : B → Known) (count : ℕ) (words : List ℕ) (hom
               }));
           epoch = same_epoch ∙ fits.epoch;
           limits = λ row b. dite (ℕ_discrete row lifted)
-              (λ e. subst (λ r. get_or words' (limit_at r) 0 ≤ mark_of held r) (sym e)
+              (λ e. subst (λ r. get_or words' (limit_at r) 0 ≤ known_mark held r) (sym e)
               (let below : lifted < count = subst (λ r. r < count) e b in let l = fits.limits lifted below in let m = marks' lifted in omega arith))
               (λ apart. let l = fits.limits row b in let e = same_limits row b apart in let m = marks' row in omega arith);
           made = λ p. let m = total_set (λ u. stands p u.made) turns id v w at in let o = fits.made p in omega arith;
@@ -418,7 +418,7 @@ module _ {B : Type 0} (told : B → Known) (count : ℕ) (words : List ℕ) (hom
             epoch = same_epoch ∙ (fits.epoch ∙ (no_changes ∙ sym may.changes));
             limits = λ row c.
                 let l = fits.limits row c in let e = same_limits row c in let m = may.marks row in
-                let low : mark_of book row ≡ 1 = ap (λ z. mark_of z row) none in omega arith;
+                let low : known_mark book row ≡ 1 = ap (λ z. known_mark z row) none in omega arith;
             made = λ p.
                 let m = total_set (λ u. stands p u.made) turns id v w at in let o = fits.made p in
                 let a = stands-append p v.made (places 0 (length (told b).log)) in

@@ -15,7 +15,7 @@ use Rattle.counter_table.specs.Turn.{no_turn}
 use Rattle.sdls_base.specs.Numbers.{once_below}
 use Rattle.counter_table.specs.Rule.{greatest, next_at, limit_at, SeatFits, RowFits, IsSane, NumbersFit, TurnFits, IsKept, IsAtHome}
 use Rattle.counter_table.specs.Play.{first_view}
-use Rattle.counter_table.specs.Close.{Closes}
+use Rattle.counter_table.specs.Close.{ClosesCounters}
 use Rattle.counter_table.proofs.Sums.{each_snoc}
 use Rattle.counter_table.proofs.Knowing.{ended_knows}
 use Rattle.counter_table.proofs.Booking.{false≢true}
@@ -107,8 +107,8 @@ module _ (count : ℕ) where
 
 module _ {B : Type 0} (told : B → Known) (count : ℕ) (s : State (Option B) View) (id : ℕ) (v : View) (at : get_elem? s.views id ≡ some v) (kept : IsKept told count s) (all : v.numbers.shares ≡ 1024) (full : v.turn.filled ≡ true) where
   closes_with : (b : B) → told b ≡ kept.book → (nexts : List ℕ) → length nexts ≡ count → ((row : ℕ) → row < count → get_or nexts row 0 ≡ get_or s.words (next_at row) 0)
-      → Closes count v (told b) nexts
-  closes_with b is nexts rows same = subst (λ k. Closes count v k nexts) (sym is)
+      → ClosesCounters count v (told b) nexts
+  closes_with b is nexts rows same = subst (λ k. ClosesCounters count v k nexts) (sym is)
       record {
         rows = rows;
         each = λ row c. rw (same row c) (row_stands told count s id v at kept all row c);
@@ -123,7 +123,7 @@ module _ {B : Type 0} (told : B → Known) (count : ℕ) (s : State (Option B) V
 pub closes : {B : Type 0} (told : B → Known) (count id : ℕ) (v : View) (words : List ℕ) (slots : List (Option B)) → Final (Seen (IsKept told count) id v) words slots
     → v.numbers.shares ≡ 1024 → v.turn.holds ≡ false → v.turn.filled ≡ true
     → (b : B) × (get_elem? slots 0 ≡ some (Some b))
-    × ((nexts : List ℕ) → length nexts ≡ count → ((row : ℕ) → row < count → get_or nexts row 0 ≡ get_or words (next_at row) 0) → Closes count v (told b) nexts)
+    × ((nexts : List ℕ) → length nexts ≡ count → ((row : ℕ) → row < count → get_or nexts row 0 ≡ get_or words (next_at row) 0) → ClosesCounters count v (told b) nexts)
 closes told count id v words slots final all free full =
     let s = final.0 in let kept = final.1.0 in let at = final.1.1 in
     let h = home told count s id v at kept all free full in

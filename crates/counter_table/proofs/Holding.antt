@@ -13,7 +13,7 @@ use Rattle.counter_table.specs.declared.view.Known.{Known}
 use Rattle.counter_table.specs.declared.view.Numbers.{Numbers}
 use Rattle.counter_table.specs.declared.view.Turn.{Turn}
 use Rattle.counter_table.specs.declared.view.View.{View}
-use Rattle.counter_table.specs.Known.{mark_of, Earlier, IsSparing, MayGive, MayFill, unknown}
+use Rattle.counter_table.specs.Known.{known_mark, Earlier, IsSparing, MayGive, MayFill, unknown}
 use Rattle.counter_table.specs.Numbers.{keeper, newcomer, joined, no_numbers, lifting}
 use Rattle.counter_table.specs.Turn.{beginner, merged, no_turn, taking, giving, filling, learning, seeing, turning}
 use Rattle.counter_table.specs.Rule.{next_at, limit_at, NumbersFit, TurnFits, IsKept}
@@ -197,7 +197,7 @@ module _ {B : Type 0} (told : B → Known) (count : ℕ) where
         subst (λ (z : Me (Option B) View). Allows (IsKept told count) slots id z 0 (λ _. 0) (fills told z)) (sym e) (fill_allows v b all holds blank may)
 
     pub lift_allows : (m : Me (Option B) View) (row mark : ℕ) (marks : List ℕ) → row < count → 0 < m.0.numbers.shares → m.0.turn.holds ≡ true → m.0.turn.filled ≡ true
-        → ((r : ℕ) → mark_of m.0.turn.known r ≤ get_or marks r 1) → mark ≡ get_or marks row 1 → Allows (IsKept told count) slots id m (limit_at row) (λ n. max n mark) (lifts row mark marks m)
+        → ((r : ℕ) → known_mark m.0.turn.known r ≤ get_or marks r 1) → mark ≡ get_or marks row 1 → Allows (IsKept told count) slots id m (limit_at row) (λ n. max n mark) (lifts row mark marks m)
     lift_allows m row mark marks below alive holds full rising is s kept size at bound =
         let held : Known = record unknown { marks = marks } in
         let l = get_or s.words (limit_at row) 0 in

@@ -10,7 +10,7 @@ use Rattle.counter_table.specs.declared.view.Known.{Known}
 use Rattle.counter_table.specs.declared.view.Numbers.{Numbers}
 use Rattle.counter_table.specs.declared.view.Turn.{Turn}
 use Rattle.counter_table.specs.declared.view.View.{View}
-use Rattle.counter_table.specs.Known.{mark_of}
+use Rattle.counter_table.specs.Known.{known_mark}
 use Rattle.counter_table.specs.Numbers.{arming, drawing, spending, returning, peeking, raising}
 use Rattle.counter_table.specs.Rule.{most, next_at, limit_at, NumbersFit, TurnFits, IsKept, IsAtHome, IsUnfilled, IsOut}
 use Rattle.counter_table.specs.Play.{arms, draws, peeks, raises}
@@ -29,7 +29,7 @@ module _ {B : Type 0} (told : B → Known) (count : ℕ) where
   -- a step that leaves the turn, the epoch and the limits leaves the rest of the book's part too
   pub words_fit : (words words' : List ℕ) (homes : List (slot.Option (Option B))) (turns : List Turn) (book : Known) (filled : Bool)
       → get_or words' 0 0 ≡ get_or words 0 0 → get_or words' 1 0 ≡ get_or words 1 0
-      → ((row : ℕ) → row < count → get_or words' (limit_at row) 0 ≤ mark_of book row)
+      → ((row : ℕ) → row < count → get_or words' (limit_at row) 0 ≤ known_mark book row)
       → TurnFits told count words homes turns book filled → TurnFits told count words' homes turns book filled
   words_fit words words' homes turns book filled turn epoch limits fits =
       record {

@@ -7,7 +7,7 @@ use Rattle.sdls_base.specs.Numbers.{once_below}
 use Rattle.counter_table.specs.Play.{Follows, IsAsKnown, IsCovered}
 use Rattle.counter_table.specs.Whole.{RowStands}
 
-pub record Closes (count : ℕ) (v : View) (book : Known) (nexts : List ℕ) : Type 0 where
+pub record ClosesCounters (count : ℕ) (v : View) (book : Known) (nexts : List ℕ) : Type 0 where
   pub rows : length nexts ≡ count
   pub each : (row : ℕ) → row < count → RowStands row (slice_index nexts row) v.numbers
   pub covered : IsCovered count v.numbers book

@@ -9,8 +9,8 @@ use Rattle.counter_table.specs.Trail.{no_trace}
 use Rattle.counter_table.specs.declared.view.Known.{Known}
 
 -- a row that the book lacks has mark 1
-abbrev pub mark_of : Known → ℕ → ℕ
-mark_of book row = slice_index_or book.marks row 1
+abbrev pub known_mark : Known → ℕ → ℕ
+known_mark book row = slice_index_or book.marks row 1
 
 abbrev pub is_entry : Logged → Bool
 is_entry (Entry e) = true
@@ -44,12 +44,12 @@ abbrev pub IsSparing : Known → Known → Type 0
 IsSparing one other = other.put_faults + pieces one.log ≤ one.put_faults + pieces other.log
 
 -- no mark fell
-abbrev pub KeepsMarks : Known → Known → Type 0
-KeepsMarks one other = (row : ℕ) → mark_of one row ≤ mark_of other row
+abbrev pub LowersNoMark : Known → Known → Type 0
+LowersNoMark one other = (row : ℕ) → known_mark one row ≤ known_mark other row
 
 -- a held book may be given back by a worker that knew this of it last
 pub record MayGive (known held : Known) : Type 0 where
-  pub marks : KeepsMarks known held
+  pub marks : LowersNoMark known held
   pub earlier : Earlier known held
   pub sparing : IsSparing known held
   pub opening : held.opening ≡ known.opening
@@ -57,7 +57,7 @@ pub record MayGive (known held : Known) : Type 0 where
 
 -- a first book may be filled in
 pub record MayFill (book : Known) : Type 0 where
-  pub marks : (row : ℕ) → 1 ≤ mark_of book row
+  pub marks : (row : ℕ) → 1 ≤ known_mark book row
   pub changes : book.changes ≡ 0
 
 -- before a book was filled

@@ -5,7 +5,7 @@ use Rattle.counter_table.specs.declared.view.Known.{Known}
 use Rattle.counter_table.specs.declared.view.Numbers.{Numbers}
 use Rattle.counter_table.specs.declared.view.Turn.{Turn}
 use Rattle.counter_table.specs.declared.view.View.{View}
-use Rattle.counter_table.specs.Known.{Earlier, IsSparing, mark_of}
+use Rattle.counter_table.specs.Known.{Earlier, IsSparing, known_mark}
 use Rattle.sdls_base.specs.Numbers.{times, once_below}
 use Rattle.counter_table.specs.Numbers.{top, arming, drawing, peeking, raising, lifting, first_numbers, no_numbers}
 use Rattle.counter_table.specs.Whole.{IsWhole, Look}
@@ -71,7 +71,7 @@ pub record IsAsKnown (v : Turn) (book : Known) : Type 0 where
 
 -- the numbers spent are below the book's marks
 abbrev pub IsCovered : ℕ → Numbers → Known → Type 0
-IsCovered count v book = (row x : ℕ) → row < count → times row x v.spent ≤ once_below x (mark_of book row)
+IsCovered count v book = (row x : ℕ) → row < count → times row x v.spent ≤ once_below x (known_mark book row)
 
 module _ {B : Type 0} (told : B → Known) where
   abbrev pub Took : ℕ → Me (Option B) View → Me (Option B) View → Type 0

@@ -8,7 +8,7 @@ use Rattle.counter_table.specs.declared.view.Known.{Known}
 use Rattle.counter_table.specs.declared.view.Numbers.{Numbers}
 use Rattle.counter_table.specs.declared.view.Turn.{Turn}
 use Rattle.counter_table.specs.declared.view.View.{View}
-use Rattle.counter_table.specs.Known.{mark_of, Earlier, IsSparing, unknown}
+use Rattle.counter_table.specs.Known.{known_mark, Earlier, IsSparing, unknown}
 use Rattle.sdls_base.specs.Numbers.{one_if, times, total, once_below}
 use Rattle.counter_table.specs.Numbers.{count_of, amount, top, is_armed, is_last, no_numbers}
 use Rattle.counter_table.specs.Turn.{stands, no_turn}
@@ -106,7 +106,7 @@ module _ {B : Type 0} (told : B → Known) where
     pub place : IsAtHome (slice_index words 0) homes views book filled
         ⊎ (IsUnfilled (slice_index words 0) homes views book filled ⊎ IsOut (slice_index words 0) homes views book filled)
     pub epoch : slice_index words 1 ≡ book.changes
-    pub limits : (row : ℕ) → row < count → slice_index words (limit_at row) ≤ mark_of book row
+    pub limits : (row : ℕ) → row < count → slice_index words (limit_at row) ≤ known_mark book row
     -- all places of the log, each made once
     pub made : (place : ℕ) → total (λ v. stands place v.made) views ≡ once_below place (length book.log)
     pub known : filled ≡ true → 0 < total (λ v. one_if v.filled) views

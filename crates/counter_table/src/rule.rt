@@ -2,7 +2,7 @@
 ghost use Rattle.std.specs.Prelude.{◌≡◌};
 ghost use Rattle.std.specs.Prelude.{ℕ, List, []};
 ghost use Rattle.counter_table.specs.declared.view.Known.{Known};
-ghost use Rattle.counter_table.specs.Known.{mark_of};
+ghost use Rattle.counter_table.specs.Known.{known_mark};
 ghost use Rattle.counter_table.specs.Numbers.{newcomer, keeper, joined};
 ghost use Rattle.counter_table.specs.Turn.{beginner, merged};
 ghost use Rattle.counter_table.specs.Rule.{IsKept};
@@ -19,7 +19,7 @@ pub trait Counted {
 
     /// The mark of a row, and 1 where the book has no such row.
     fn mark(&self, row: u16) -> u64
-        ensures { result ≡ mark_of (told self.now) row };
+        ensures { result ≡ known_mark (told self.now) row };
 
     /// How often the state was changed.
     fn changes(&self) -> u64

@@ -8,7 +8,7 @@ ghost use Rattle.counter_table.specs.Numbers.{joined, keeper, newcomer};
 ghost use Rattle.counter_table.specs.Turn.{beginner, merged};
 ghost use Rattle.counter_table.specs.Rule.{next_at};
 ghost use Rattle.counter_table.specs.Play.{first_view};
-ghost use Rattle.counter_table.specs.Close.{Closes};
+ghost use Rattle.counter_table.specs.Close.{ClosesCounters};
 ghost use Rattle.counter_table.specs.Whole.{IsWhole, Look, Meet};
 ghost use Rattle.counter_table.specs.Worker.{view, rows_of, IsOf, IsSame};
 
@@ -90,7 +90,7 @@ impl<B: Counted> Counters<B> {
         requires all { (view worker).numbers.shares ≡ 1024 }
         requires free { (view worker).turn.holds ≡ false }
         requires filled { (view worker).turn.filled ≡ true }
-        ensures { Closes (rows_of self) (view worker) (B.told result.0) result.1.items }
+        ensures { ClosesCounters (rows_of self) (view worker) (B.told result.0) result.1.items }
     {
         let (table, rows, room) = self.into_parts();
         let mut closed = table.close_with(worker.into_seat());

@@ -1,6 +1,6 @@
 //! The turn, the book and the epoch. Of these calls `take` alone waits.
 ghost use Rattle.std.specs.Prelude.{◌≡◌, ◌+◌, ◌<◌, ◌≤◌, ◌^◌, ℕ, true, false, [], ◌∷◌, Some, None, max, slice_index_or};
-ghost use Rattle.counter_table.specs.Known.{mark_of, KeepsMarks, MayFill, MayGive};
+ghost use Rattle.counter_table.specs.Known.{known_mark, LowersNoMark, MayFill, MayGive};
 ghost use Rattle.counter_table.specs.Numbers.{lifting, raising, top};
 ghost use Rattle.counter_table.specs.Turn.{epoch_seen, filling, giving, learning, seeing, taking, turning};
 ghost use Rattle.counter_table.specs.Play.{Follows, IsAsKnown, IsCovered, Took};
@@ -82,9 +82,9 @@ impl<B: Counted> Counters<B> {
         requires row { row < rows_of self.now }
         requires turn { (view worker.old).turn.holds ≡ true }
         requires filled { (view worker.old).turn.filled ≡ true }
-        requires marks { KeepsMarks (view worker.old).turn.known (B.told held.now.book) }
+        requires marks { LowersNoMark (view worker.old).turn.known (B.told held.now.book) }
         ensures same { IsSame worker.old worker.new }
-        ensures numbers { (view worker.new).numbers ≡ lifting row (mark_of (B.told held.now.book) row) (view worker.old).numbers }
+        ensures numbers { (view worker.new).numbers ≡ lifting row (known_mark (B.told held.now.book) row) (view worker.old).numbers }
         ensures turn { (view worker.new).turn ≡ learning (B.told held.now.book).marks (view worker.old).turn }
     {
         let mark = held.book.mark(row);
@@ -151,8 +151,8 @@ impl<B: Counted> Counters<B> {
         requires row { row < rows_of self.now }
         requires turn { (view worker.old).turn.holds ≡ true }
         requires filled { (view worker.old).turn.filled ≡ true }
-        requires marks { KeepsMarks (view worker.old).turn.known (B.told held.now.book) }
-        requires mark { mark ≡ mark_of (B.told held.now.book) row }
+        requires marks { LowersNoMark (view worker.old).turn.known (B.told held.now.book) }
+        requires mark { mark ≡ known_mark (B.told held.now.book) row }
         requires told { (row ≡ T.of_row) × (mark ≡ T.number) × ((B.told held.now.book).marks ≡ T.marks) }
         ensures same { IsSame worker.old worker.new }
         ensures numbers { (view worker.new).numbers ≡ lifting row mark (view worker.old).numbers }

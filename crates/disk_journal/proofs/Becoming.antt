@@ -6,7 +6,7 @@ use Rattle.disk_journal.specs.declared.layout.TheConstants.{OPEN}
 use Rattle.disk_journal.specs.Slots.{slot_at, gate_at}
 use Rattle.disk_journal.specs.Image.{slot_count, plan_of, records, first_closed, IsHalfOpen, IsAtRest, regated, opened_form, held, grown}
 use Rattle.disk_journal.specs.Fault.{image_fault}
-use Rattle.disk_journal.specs.Changes.{EachImage, Grows, Closes}
+use Rattle.disk_journal.specs.Changes.{EachImage, GrowsByRecord, ClosesGate}
 use Rattle.disk_journal.specs.Forms.{Holds, HasOneClosed, Becomes, RestsHolding, Regates, StaysWithin}
 use Rattle.disk_journal.specs.Journal.{JournalView, IsJournalOf}
 use Rattle.disk_journal.proofs.Moments.{image_weaker}
@@ -36,7 +36,7 @@ holds_by old new bodies opens keeps are = record {
 }
 
 -- a record on its way
-pub grows_becomes : (old body new : List ℕ) → image_fault old ≡ None → Grows old body new → Becomes (held old) (grown body (held old)) new
+pub grows_becomes : (old body new : List ℕ) → image_fault old ≡ None → GrowsByRecord old body new → Becomes (held old) (grown body (held old)) new
 grows_becomes old body new opens grows =
     let keeps : KeepsPlan old new = keeps_plan (first_closed old) old new opens grows.others in
     record {
@@ -52,7 +52,7 @@ grows_becomes old body new opens grows =
       settled = has_one new grows.opens;
     }
 
-grows_rests : (old body new : List ℕ) → Grows old body new → RestsHolding (grown body (held old)) new
+grows_rests : (old body new : List ℕ) → GrowsByRecord old body new → RestsHolding (grown body (held old)) new
 grows_rests old body new grows holds at closed =
     let half : IsHalfOpen new = half_of new at closed in
     let longer : length (records (opened_form new)) ≡ length (records new) + 1 = (form_opens new grows.opens half.there).longer in
@@ -61,16 +61,16 @@ grows_rests old body new grows holds at closed =
     omega arith
 
 -- each moment of an append
-pub append_becomes : (old new : Trace) (body : List ℕ) → image_fault old.now.image ≡ None → EachImage old new (Grows old.now.image body)
+pub append_becomes : (old new : Trace) (body : List ℕ) → image_fault old.now.image ≡ None → EachImage old new (GrowsByRecord old.now.image body)
     → EachImage old new (Becomes (held old.now.image) (grown body (held old.now.image)))
 append_becomes old new body opens each =
-    image_weaker old new (Grows old.now.image body) (Becomes (held old.now.image) (grown body (held old.now.image)))
+    image_weaker old new (GrowsByRecord old.now.image body) (Becomes (held old.now.image) (grown body (held old.now.image)))
     (λ image grows. grows_becomes old.now.image body image opens grows) each
 
-pub append_rests : (old new : Trace) (body : List ℕ) → EachImage old new (Grows old.now.image body)
+pub append_rests : (old new : Trace) (body : List ℕ) → EachImage old new (GrowsByRecord old.now.image body)
     → EachImage old new (RestsHolding (grown body (held old.now.image)))
 append_rests old new body each =
-    image_weaker old new (Grows old.now.image body) (RestsHolding (grown body (held old.now.image)))
+    image_weaker old new (GrowsByRecord old.now.image body) (RestsHolding (grown body (held old.now.image)))
     (λ image grows. grows_rests old.now.image body image grows) each
 
 -- what is brought to rest holds what it held
@@ -80,7 +80,7 @@ regates_keeps old new opens changes = elim (regates_cases old new changes) [
   | inr torn ↦ subst (KeepsPlan old) (sym torn.1.1) (regated_keeps_plan old torn.1.0 opens)
 ]
 
-pub rests_held : (old new : List ℕ) (journal : JournalView) → IsJournalOf old journal → Closes old journal.used journal.slots new
+pub rests_held : (old new : List ℕ) (journal : JournalView) → IsJournalOf old journal → ClosesGate old journal.used journal.slots new
     → records new ≡ records old → held new ≡ held old
 rests_held old new journal of_old closes same =
     let keeps : KeepsPlan old new = regates_keeps old new of_old.opens (closes_regates old new journal of_old closes) in

@@ -9,7 +9,7 @@ use Rattle.sdls_outside.specs.Site.{overwritten}
 use Rattle.disk_journal.specs.declared.layout.TheConstants.{HEADER_LENGTH, PLAN_ROOM, SLOT_LENGTH, BODY_LENGTH, OPEN}
 use Rattle.disk_journal.specs.Slots.{slot_at, body_at}
 use Rattle.disk_journal.specs.Image.{header_of, plan_length_in, slot_count_in, slot_count, plan_of, records, first_closed, IsHalfOpen, held, grown}
-use Rattle.disk_journal.specs.Changes.{EachImage, Grows}
+use Rattle.disk_journal.specs.Changes.{EachImage, GrowsByRecord}
 use Rattle.disk_journal.specs.Journal.{JournalView, IsJournalOf, IsOpen, IsSettled}
 use Rattle.disk_journal.proofs.Ranges.{all_but_same}
 use Rattle.disk_journal.proofs.Moments.{image_same, synced_holds}
@@ -24,7 +24,7 @@ slots_end old journal opened =
     subst (λ (n : ℕ). slot_at n ≤ length old.now.image) (sym opened.of_image.slots) within
 
 -- an append that finds no free slot
-stands : (image body : List ℕ) (journal : JournalView) → IsJournalOf image journal → (IsHalfOpen image → ⊥) → Grows image body image
+stands : (image body : List ℕ) (journal : JournalView) → IsJournalOf image journal → (IsHalfOpen image → ⊥) → GrowsByRecord image body image
 stands image body journal of_image rests = record {
   opens = of_image.opens;
   lists = inl refl;
@@ -32,9 +32,9 @@ stands image body journal of_image rests = record {
   others = all_but_same (slot_at (first_closed image)) SLOT_LENGTH image;
 }
 
-pub full_moments : (old : Trace) (body : List ℕ) (journal : JournalView) → IsSettled old journal → EachImage old old (Grows old.now.image body)
-full_moments old body journal settled = image_same old old (Grows old.now.image body) refl
-    (synced_holds old.now (Grows old.now.image body) settled.opened.synced
+pub full_moments : (old : Trace) (body : List ℕ) (journal : JournalView) → IsSettled old journal → EachImage old old (GrowsByRecord old.now.image body)
+full_moments old body journal settled = image_same old old (GrowsByRecord old.now.image body) refl
+    (synced_holds old.now (GrowsByRecord old.now.image body) settled.opened.synced
     (stands old.now.image body journal settled.opened.of_image (rest_whole old.now.image settled.rests)))
 
 -- an append that is Ok

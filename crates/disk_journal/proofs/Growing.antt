@@ -8,7 +8,7 @@ use Rattle.disk_journal.specs.declared.layout.TheConstants.{SLOT_LENGTH, BODY_LE
 use Rattle.disk_journal.specs.Slots.{slot_at, gate_at, body_at}
 use Rattle.disk_journal.specs.Image.{header_of, slot_count, plan_of, records, first_closed, IsHalfOpen, IsAtRest, regated, opened_form, held, grown as more}
 use Rattle.disk_journal.specs.Fault.{image_fault}
-use Rattle.disk_journal.specs.Changes.{AllBut, EachImage, Grows, Closes}
+use Rattle.disk_journal.specs.Changes.{AllBut, EachImage, GrowsByRecord, ClosesGate}
 use Rattle.disk_journal.specs.Forms.{Regates, Settles}
 use Rattle.disk_journal.specs.Journal.{JournalView, IsJournalOf, IsOpen, IsSettled}
 use Rattle.disk_journal.proofs.Ranges.{all_but_wider, all_but_then, same_stretch, overwritten_length, overwritten_but, overwritten_stretch, overwritten_one, set_but}
@@ -78,9 +78,9 @@ way_second old body new at slot sized change =
 
 -- each moment of an append
 pub append_moments : (old new : Trace) (body : List ℕ) (at : ℕ) → AtSlot old.now.image at → length body ≡ BODY_LENGTH
-    → EachImage old new (Storing at body old.now.image) → EachImage old new (Grows old.now.image body)
+    → EachImage old new (Storing at body old.now.image) → EachImage old new (GrowsByRecord old.now.image body)
 append_moments old new body at slot sized each =
-    image_weaker old new (Storing at body old.now.image) (Grows old.now.image body)
+    image_weaker old new (Storing at body old.now.image) (GrowsByRecord old.now.image body)
     (λ image storing. grows old.now.image body image slot.passes slot.room
     (elim storing [
       | inl first ↦ way_first old.now.image body image at slot first
@@ -200,7 +200,7 @@ closed_by old new journal of_old change closed =
     }
 
 pub comes_to_rest : (old new : Trace) (journal : JournalView) → IsOpen old journal → IsSynced new.now
-    → Closes old.now.image journal.used journal.slots new.now.image
+    → ClosesGate old.now.image journal.used journal.slots new.now.image
     → (journal.used < journal.slots → gate_at new.now.image journal.used ≡ CLOSED) → Rests old new journal
 comes_to_rest old new journal opened synced (inl same) closed = rests_same old new journal opened synced same closed
 comes_to_rest old new journal opened synced (inr (below, torn, (octet, is))) closed =
@@ -220,7 +220,7 @@ comes_to_rest old new journal opened synced (inr (below, torn, (octet, is))) clo
       same = shut.same;
     }
 
-pub closes_regates : (old new : List ℕ) (journal : JournalView) → IsJournalOf old journal → Closes old journal.used journal.slots new → Regates old new
+pub closes_regates : (old new : List ℕ) (journal : JournalView) → IsJournalOf old journal → ClosesGate old journal.used journal.slots new → Regates old new
 closes_regates old new journal of_old (inl same) = regates_same old new same
 closes_regates old new journal of_old (inr (below, torn, (octet, is))) =
     let used : journal.used ≡ first_closed old = of_old.used in
@@ -229,9 +229,9 @@ closes_regates old new journal of_old (inr (below, torn, (octet, is))) =
     regates_gate old new octet half (is ∙ ap (λ (k : ℕ). set old (slot_at k) octet) used)
 
 pub settle_moments : (old new : Trace) (journal : JournalView) → IsOpen old journal
-    → EachImage old new (Closes old.now.image journal.used journal.slots) → EachImage old new (Settles old.now.image)
+    → EachImage old new (ClosesGate old.now.image journal.used journal.slots) → EachImage old new (Settles old.now.image)
 settle_moments old new journal opened each =
-    image_weaker old new (Closes old.now.image journal.used journal.slots) (Settles old.now.image)
+    image_weaker old new (ClosesGate old.now.image journal.used journal.slots) (Settles old.now.image)
     (λ image closes. closes_regates old.now.image image journal opened.of_image closes) each
 
 -- a record by its place

@@ -10,7 +10,7 @@ use Rattle.disk_journal.specs.Slots.{slot_at, gate_at, body_at}
 use Rattle.disk_journal.specs.Image.{header_of, plan_length_in, slot_count_in, slot_count, plan_of, records, first_closed}
 use Rattle.sdls_base.specs.FirstFailing.{Check, first_failing}
 use Rattle.disk_journal.specs.Fault.{header_checks, gate_checks, image_fault}
-use Rattle.disk_journal.specs.Changes.{AllBut, Grows}
+use Rattle.disk_journal.specs.Changes.{AllBut, GrowsByRecord}
 use Rattle.disk_journal.proofs.Gating.{AreRecords, records_are, records_is, SameBefore, records_stay, records_grow}
 use Rattle.disk_journal.proofs.Failing.{all_passed, passed_first, passed_append, front_passed, closed_pass, pass_closed}
 use Rattle.disk_journal.proofs.Ranges.{all_but_wider, all_but_then, same_stretch, same_front, set_but}
@@ -249,7 +249,7 @@ opens_to old body new passes room way there =
     (set_gate u new inside) (set_body u new OPEN ∙ there)
 
 grows_closed : (old body new : List ℕ) → Passes old → first_closed old < slot_count old → OnTheWay old body new
-    → gate_at new (first_closed old) ≢ OPEN → Grows old body new
+    → gate_at new (first_closed old) ≢ OPEN → GrowsByRecord old body new
 grows_closed old body new passes room way closed =
     let same : records new ≡ records old = stays_closed old new way.change closed in
     let count : first_closed new ≡ first_closed old = ap (λ (bodies : List (List ℕ)). length bodies) same in
@@ -264,7 +264,7 @@ grows_closed old body new passes room way closed =
     }
 
 grows_open : (old body new : List ℕ) → Passes old → first_closed old < slot_count old → OnTheWay old body new
-    → gate_at new (first_closed old) ≡ OPEN → Grows old body new
+    → gate_at new (first_closed old) ≡ OPEN → GrowsByRecord old body new
 grows_open old body new passes room way here =
     let u = first_closed old in
     let more : records new ≡ records old ++ body ∷ [] =
@@ -283,7 +283,7 @@ grows_open old body new passes room way here =
       others = way.change;
     }
 
-pub grows : (old body new : List ℕ) → Passes old → first_closed old < slot_count old → OnTheWay old body new → Grows old body new
+pub grows : (old body new : List ℕ) → Passes old → first_closed old < slot_count old → OnTheWay old body new → GrowsByRecord old body new
 grows old body new passes room way = elim (cases_eq (gate_at new (first_closed old)) OPEN) [
   | inl here ↦ grows_open old body new passes room way here
   | inr other ↦ grows_closed old body new passes room way other

@@ -6,7 +6,7 @@ use Rattle.sdls_outside.specs.Moments.{Trace}
 use Rattle.sdls_outside.specs.Site.{overwritten}
 use Rattle.disk_journal.specs.declared.layout.TheConstants.{BODY_LENGTH, CLOSED}
 use Rattle.disk_journal.specs.Slots.{slot_at, gate_at}
-use Rattle.disk_journal.specs.Changes.{AllBut, Closes, EachImage}
+use Rattle.disk_journal.specs.Changes.{AllBut, ClosesGate, EachImage}
 use Rattle.disk_journal.proofs.Ranges.{overwritten_but, set_back}
 use Rattle.disk_journal.proofs.Moments.{image_same, image_then, image_weaker, synced_holds}
 
@@ -33,12 +33,12 @@ gate_second at body old mid new sized first written second =
     (λ image change. inr (subst (λ (octets : List ℕ). AllBut at 1 octets image) written change)) second)
 
 -- a gate that is 0 already, or none
-pub closes_same : (old new : Trace) (index slots : ℕ) → IsSynced old.now → new ≡ old → EachImage old new (Closes old.now.image index slots)
-closes_same old new index slots synced same = image_same old new (Closes old.now.image index slots) same
-    (synced_holds old.now (Closes old.now.image index slots) synced (inl refl))
+pub closes_same : (old new : Trace) (index slots : ℕ) → IsSynced old.now → new ≡ old → EachImage old new (ClosesGate old.now.image index slots)
+closes_same old new index slots synced same = image_same old new (ClosesGate old.now.image index slots) same
+    (synced_holds old.now (ClosesGate old.now.image index slots) synced (inl refl))
 
 closes : (at index slots : ℕ) (old new : List ℕ) → at ≡ slot_at index → index < slots → slot_at slots ≤ length old
-    → gate_at old index ≢ CLOSED → AllBut at 1 old new → Closes old index slots new
+    → gate_at old index ≢ CLOSED → AllBut at 1 old new → ClosesGate old index slots new
 closes at index slots old new place below within torn change =
     let here : AllBut (slot_at index) 1 old new = subst (λ (k : ℕ). AllBut k 1 old new) place change in
     inr (below, torn, (get_or new (slot_at index) 0, set_back (slot_at index) old new here (omega arith)))
@@ -46,20 +46,20 @@ closes at index slots old new place below within torn change =
 -- a gate that is torn
 pub closes_torn : (at index slots : ℕ) (old mid new : Trace) → at ≡ slot_at index → index < slots → slot_at slots ≤ length old.now.image
     → gate_at old.now.image index ≢ CLOSED → mid ≡ old → EachImage mid new (AllBut at 1 mid.now.image)
-    → EachImage old new (Closes old.now.image index slots)
+    → EachImage old new (ClosesGate old.now.image index slots)
 closes_torn at index slots old mid new place below within torn same each =
     let here : EachImage old new (AllBut at 1 old.now.image) =
     subst (λ (trace : Trace). EachImage trace new (AllBut at 1 trace.now.image)) same each in
-    image_weaker old new (AllBut at 1 old.now.image) (Closes old.now.image index slots)
+    image_weaker old new (AllBut at 1 old.now.image) (ClosesGate old.now.image index slots)
     (λ image change. closes at index slots old.now.image image place below within torn change) here
 
 pub closes_end : {T E : Type 0} → (result : Result T E) (at index slots : ℕ) (old mid new : Trace) → at ≡ slot_at index → index < slots
     → slot_at slots ≤ length old.now.image → gate_at old.now.image index ≢ CLOSED → mid ≡ old
     → OnOk result (IsSynced new.now × (new.now.image ≡ overwritten mid.now.image at (CLOSED ∷ [])))
-    → OnOk result (Closes old.now.image index slots new.now.image)
+    → OnOk result (ClosesGate old.now.image index slots new.now.image)
 closes_end result at index slots old mid new place below within torn same stored =
     ok_weaker result (IsSynced new.now × (new.now.image ≡ overwritten mid.now.image at (CLOSED ∷ [])))
-    (Closes old.now.image index slots new.now.image)
+    (ClosesGate old.now.image index slots new.now.image)
     (λ stored.
     let here : new.now.image ≡ overwritten old.now.image at (CLOSED ∷ []) =
     stored.1 ∙ ap (λ (trace : Trace). overwritten trace.now.image at (CLOSED ∷ [])) same in

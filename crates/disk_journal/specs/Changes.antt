@@ -23,13 +23,13 @@ OnlySyncs old new = (new ≡ old) ⊎ Synced old new
 
 -- The image opens, and shows the records of old, or those and this body. Where its first closed slot is half open, the
 -- image with that slot opened shows those and this body. No octet outside of the first closed slot of old has changed.
-pub record Grows (old body new : List ℕ) : Type 0 where
+pub record GrowsByRecord (old body new : List ℕ) : Type 0 where
   pub opens : image_fault new ≡ None
   pub lists : (records new ≡ records old) ⊎ (records new ≡ records old ++ body ∷ [])
   pub half_open : IsHalfOpen new → records (opened_form new) ≡ records old ++ body ∷ []
   pub others : AllBut (slot_at (first_closed old)) SLOT_LENGTH old new
 
 -- new is old, or old with another octet as the gate of this slot, which is one of the slots and whose gate is not 0
-abbrev pub Closes : List ℕ → ℕ → ℕ → List ℕ → Type 0
-Closes old index slots new = (new ≡ old)
+abbrev pub ClosesGate : List ℕ → ℕ → ℕ → List ℕ → Type 0
+ClosesGate old index slots new = (new ≡ old)
     ⊎ ((index < slots) × (gate_at old index ≢ CLOSED) × ((octet : ℕ) × (new ≡ slice_set old (slot_at index) octet)))

@@ -4,12 +4,12 @@ ghost use Rattle.sdls_outside.specs.Disk.{Leaves};
 ghost use Rattle.disk_journal.specs.Image.{records, plan_of, record_at, held, grown};
 ghost use Rattle.disk_journal.specs.Fault.{image_fault};
 ghost use Rattle.disk_journal.specs.Journal.{JournalView, IsJournalOf, IsOpen, IsSettled, HasFault, HasSiteFault};
-ghost use Rattle.disk_journal.specs.Changes.{EachImage, OnlySyncs, Grows};
+ghost use Rattle.disk_journal.specs.Changes.{EachImage, OnlySyncs, GrowsByRecord};
 ghost use Rattle.disk_journal.specs.Forms.{Becomes, RestsHolding, Settles};
 
 use crate::fault::JournalFault;
 use crate::layout::{BODY_LENGTH, HEADER_LENGTH, MOST_SLOTS, PLAN_ROOM, slot_offset};
-use crate::opening::inspect_synced;
+use crate::opening_image::inspect_synced;
 use crate::storing::{close_gate, store_record};
 use sdls_outside::{Failed, Site};
 use std::marker::Model;
@@ -137,7 +137,7 @@ impl Journal {
 
         // The octets of that image are those from before, but for one slot.
         ensures any_moment { IsTrue O.told → EachImage (O.trace site.old) (O.trace site.new)
-            (Grows (O.trace site.old).now.image body.now) }
+            (GrowsByRecord (O.trace site.old).now.image body.now) }
 
         // After `Ok` one slot more is used, and else none.
         ensures counted { OnOk result (self.new ≡ record self.old { used = self.old.used + 1 }) }

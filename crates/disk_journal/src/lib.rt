@@ -14,7 +14,7 @@ mod header;
 mod journal;
 mod laws;
 mod layout;
-mod opening;
+mod opening_image;
 mod storing;
 
 pub use creating::create;

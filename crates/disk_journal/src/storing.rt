@@ -4,7 +4,7 @@ ghost use Rattle.sdls_outside.specs.Disk.{IsSynced};
 ghost use Rattle.sdls_outside.specs.Faults.{HasCause};
 ghost use Rattle.sdls_outside.specs.Site.{overwritten};
 ghost use Rattle.disk_journal.specs.Slots.{slot_at, gate_at};
-ghost use Rattle.disk_journal.specs.Changes.{AllBut, Closes, EachImage};
+ghost use Rattle.disk_journal.specs.Changes.{AllBut, ClosesGate, EachImage};
 
 use crate::gates::gate;
 use crate::layout::{BODY_LENGTH, CLOSED, OPEN, SLOT_LENGTH, slot_offset};
@@ -56,8 +56,8 @@ pub(crate) fn close_gate<O: Site>(site: &mut O, index: u32, slots: u32) -> Resul
     ensures closed { IsTrue O.told → OnOk result (IsSynced (O.trace site.new).now
         × (index < slots → gate_at (O.trace site.new).now.image index ≡ CLOSED)) }
     ensures any_moment { IsTrue O.told → EachImage (O.trace site.old) (O.trace site.new)
-        (Closes (O.trace site.old).now.image index slots) }
-    ensures ends { IsTrue O.told → OnOk result (Closes (O.trace site.old).now.image index slots (O.trace site.new).now.image) }
+        (ClosesGate (O.trace site.old).now.image index slots) }
+    ensures ends { IsTrue O.told → OnOk result (ClosesGate (O.trace site.old).now.image index slots (O.trace site.new).now.image) }
     ensures cause { HasCause (O.faults site.old) (O.faults site.new) result }
     ensures puts { O.put_faults site.new ≡ O.put_faults site.old }
 {

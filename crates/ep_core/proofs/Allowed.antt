@@ -48,7 +48,7 @@ use Rattle.ep_core.specs.declared.reply.Reply.{Reply}
 use Rattle.ep_core.specs.Need.{sends, is_sending, sending_key, sending_key_of, need_of}
 use Rattle.ep_core.specs.Refusals.{from_keys, from_associations, refusal_of, opened, items_of, master_checks, text_checks, unless_free, unless_known, unless_takes, least_at, least_of, least_with, takes_key}
 use Rattle.ep_core.specs.Sealed.{front, item_fault, item_at, items_fault, items_in}
-use Rattle.ep_core.specs.Seen.{Fits, IsWord, word_of}
+use Rattle.ep_core.specs.Seen.{MeetsNeed, IsWord, word_of}
 use Rattle.ep_core.specs.Step.{IsStep, IsDone, refused, done}
 use Rattle.ep_core.proofs.Checks.{rekey_told}
 use Rattle.ep_core.proofs.ComposeFacts.{none_append}
@@ -186,7 +186,7 @@ is_word (seen.Number number) is = absurd is
 is_word (seen.Exhausted number) is = absurd is
 
 word_seen : (state : State) (command : Command) (s : Seen) (key number : ℕ) (o : Option Refusal) → refusal_of state command seen.Nothing ≡ o
-    → Fits state (if is_some o then needs.Nothing else needs.Raise key number) s → refusal_of state command s ≡ None → 1 ≤ word_of s
+    → MeetsNeed state (if is_some o then needs.Nothing else needs.Raise key number) s → refusal_of state command s ≡ None → 1 ≤ word_of s
 word_seen state command s key number None e fits none = is_word s fits
 word_seen state command s key number (Some refusal) e fits none =
     absurd (let wrong : Some refusal ≡ None = sym e ∙ sym (ap (refusal_of state command) fits) ∙ none in cc)
@@ -209,7 +209,7 @@ unkeyed Operational none = absurd cc
 
 -- the word behind a sending association that takes a key
 rekey_word : (state : State) (spi key number : ℕ) (s : Seen) (b : Bool) → b ≡ true
-    → Fits state (if is_some (refusal_of state (Rekey spi key number) seen.Nothing) then needs.Nothing else (if b then needs.Raise key number else needs.Nothing)) s
+    → MeetsNeed state (if is_some (refusal_of state (Rekey spi key number) seen.Nothing) then needs.Nothing else (if b then needs.Raise key number else needs.Nothing)) s
     → refusal_of state (Rekey spi key number) s ≡ None → 1 ≤ word_of s
 rekey_word state spi key number s true sends fits none = word_seen state (Rekey spi key number) s key number _ refl fits none
 rekey_word state spi key number s false sends fits none = absurd cc
@@ -218,7 +218,7 @@ sends_with : (state : State) (spi : ℕ) (row : SaRow) → association_row state
 sends_with state spi row e send =
     ap (λ (o : Option SaRow). option_map_or (λ (row : SaRow). is_sending row.direction) o false) e ∙ ap is_sending send
 
-rekey_allowed : (state : State) (spi key number : ℕ) (s : Seen) → Fits state (need_of state (Rekey spi key number)) s
+rekey_allowed : (state : State) (spi key number : ℕ) (s : Seen) → MeetsNeed state (need_of state (Rekey spi key number)) s
     → refusal_of state (Rekey spi key number) s ≡ None → AllowsRekey state spi key number
 rekey_allowed state spi key number s fits none =
     let free_check = from_associations spi None (unless_free state spi) in
@@ -241,7 +241,7 @@ rekey_allowed state spi key number s fits none =
 -- ---- a number for an association
 
 number_word : (state : State) (spi number : ℕ) (s : Seen) (o : Option ℕ) → IsSome o
-    → Fits state (if is_some (refusal_of state (SetNumber spi number) seen.Nothing) then needs.Nothing else option_map_or (λ key. needs.Raise key number) o needs.Nothing) s
+    → MeetsNeed state (if is_some (refusal_of state (SetNumber spi number) seen.Nothing) then needs.Nothing else option_map_or (λ key. needs.Raise key number) o needs.Nothing) s
     → refusal_of state (SetNumber spi number) s ≡ None → 1 ≤ word_of s
 number_word state spi number s None some fits none = absurd cc
 number_word state spi number s (Some key) some fits none = word_seen state (SetNumber spi number) s key number _ refl fits none
@@ -265,7 +265,7 @@ least_is state spi key word row held e holds is =
     ∙ ap (λ (o : Option ℕ). option_map_or (least_with word row.direction) (option_and_then (key_row state) o) word) holds
     ∙ ap (λ (o : Option KeyRow). option_map_or (least_with word row.direction) o word) is
 
-number_allowed : (state : State) (spi number : ℕ) (s : Seen) → KeepsRules state → Fits state (need_of state (SetNumber spi number)) s
+number_allowed : (state : State) (spi number : ℕ) (s : Seen) → KeepsRules state → MeetsNeed state (need_of state (SetNumber spi number)) s
     → refusal_of state (SetNumber spi number) s ≡ None → AllowsNumber state spi number
 number_allowed state spi number s rules fits none =
     let least : ℕ = least_at state spi (word_of s) in
@@ -310,7 +310,7 @@ no_change None step made nothing is = absurd is
 no_change (Some x) step made nothing is = ap (λ (step : Change × Reply). step.0) is ∙ nothing x
 
 done_allowed : (state : State) (command : Command) (s : Seen) (step : Change × Reply) → KeepsRules state → IsInBounds command
-    → Fits state (need_of state command) s → refusal_of state command s ≡ None → IsDone state command s step → step.0 ≢ changes.Nothing
+    → MeetsNeed state (need_of state command) s → refusal_of state command s ≡ None → IsDone state command s step → step.0 ≢ changes.Nothing
     → Allows state step.0
 unfolding IsInBounds
 done_allowed state (Rekeying master vector sealed tag) s step rules bounds fits none is some =
@@ -363,7 +363,7 @@ done_allowed state (Status spi) s step rules bounds fits none is some =
     absurd (some (no_change (association_row state spi) step _ (λ _. refl) is))
 
 some_allowed : (state : State) (command : Command) (s : Seen) (step : Change × Reply) → KeepsRules state → IsInBounds command
-    → Fits state (need_of state command) s → IsStep state command s step → step.0 ≢ changes.Nothing → Allows state step.0
+    → MeetsNeed state (need_of state command) s → IsStep state command s step → step.0 ≢ changes.Nothing → Allows state step.0
 some_allowed state command s step rules bounds fits is some =
     let free = step_free state command s step (refusal_of state command s) refl is some in
     done_allowed state command s step rules bounds fits free.told free.is some
@@ -382,6 +382,6 @@ allowed_always state (changes.Accepted spi key number floor) some = some (λ e. 
 allowed_always state changes.Nothing some = tt
 
 pub change_allowed : (state : State) (command : Command) (s : Seen) (step : Change × Reply) → KeepsRules state → IsInBounds command
-    → Fits state (need_of state command) s → IsStep state command s step → Allows state step.0
+    → MeetsNeed state (need_of state command) s → IsStep state command s step → Allows state step.0
 change_allowed state command s step rules bounds fits is =
     allowed_always state step.0 (some_allowed state command s step rules bounds fits is)

@@ -17,7 +17,7 @@ use Rattle.unit_state.specs.declared.state.State.{State}
 use Rattle.unit_state.specs.State.{KeepsRules, key_row}
 use Rattle.unit_state.proofs.Found.{held_rules, found_passes}
 use Rattle.ep_core.specs.Refusals.{by_state, unless_usable, verify_checks, unless_known, if_exhausted}
-use Rattle.ep_core.specs.Seen.{IsDrawn, number_of}
+use Rattle.ep_core.specs.Seen.{IsNumberSeen, number_of}
 
 -- ---- the vector
 
@@ -76,7 +76,7 @@ held_id state key held e = eqb-true held.id key (found_passes (λ (row : KeyRow)
 below_mark : (row : Option KeyRow) (held : KeyRow) (n : ℕ) → row ≡ Some held → IsSomeAnd row (λ held. n < held.mark) → n < held.mark
 below_mark row held n e is = subst (λ (row : Option KeyRow). IsSomeAnd row (λ held. n < held.mark)) e is
 
-pub drawn_low : (state : State) (key : ℕ) (held : KeyRow) (seen : Seen) → KeepsRules state → key_row state key ≡ Some held → IsDrawn state key seen
+pub drawn_low : (state : State) (key : ℕ) (held : KeyRow) (seen : Seen) → KeepsRules state → key_row state key ≡ Some held → IsNumberSeen state key seen
     → (c : KeyClass) → class_of key ≡ c → number_of seen < end_of_class c
 drawn_low state key held Nothing rules e is c f = absurd is
 drawn_low state key held (Word word) rules e is c f = absurd is

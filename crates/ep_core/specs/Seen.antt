@@ -16,18 +16,18 @@ IsWord (Number number) = ⊥
 IsWord (Exhausted number) = ⊥
 
 -- a number that was drawn: below the mark of its key, or past the end of it
-abbrev pub IsDrawn : State → ℕ → Seen → Type 0
-IsDrawn state key Nothing = ⊥
-IsDrawn state key (Word word) = ⊥
-IsDrawn state key (Number number) = IsSomeAnd (key_row state key) (λ held. number < held.mark)
-IsDrawn state key (Exhausted number) = end_of key ≤ number
+abbrev pub IsNumberSeen : State → ℕ → Seen → Type 0
+IsNumberSeen state key Nothing = ⊥
+IsNumberSeen state key (Word word) = ⊥
+IsNumberSeen state key (Number number) = IsSomeAnd (key_row state key) (λ held. number < held.mark)
+IsNumberSeen state key (Exhausted number) = end_of key ≤ number
 
 -- what was seen is what was needed
-abbrev pub Fits : State → Need → Seen → Type 0
-Fits state needs.Nothing seen = seen ≡ Nothing
-Fits state (needs.Look key) seen = IsWord seen
-Fits state (needs.Raise key number) seen = IsWord seen
-Fits state (needs.Number key) seen = IsDrawn state key seen
+abbrev pub MeetsNeed : State → Need → Seen → Type 0
+MeetsNeed state needs.Nothing seen = seen ≡ Nothing
+MeetsNeed state (needs.Look key) seen = IsWord seen
+MeetsNeed state (needs.Raise key number) seen = IsWord seen
+MeetsNeed state (needs.Number key) seen = IsNumberSeen state key seen
 
 -- the word that was seen; 0, below every number, where none was
 abbrev pub word_of : Seen → ℕ

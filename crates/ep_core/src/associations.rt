@@ -14,53 +14,53 @@ use sdls_base::{Direction, KeyId, NewSa, SaState, Spi};
 use unit_state::State;
 
 /// What the book refuses of an association, and of a key where the command names one, as a reply tells it.
-fn told(spi: Spi, key: Option<KeyId>, refusal: Option<SaRefusal>) -> Option<Refusal>
+fn as_refusal(spi: Spi, key: Option<KeyId>, refusal: Option<SaRefusal>) -> Option<Refusal>
     ensures { result ≡ from_associations spi key refusal }
 {
     Refusal::of_association(spi, key, refusal?)
 }
 
-pub(crate) fn create(state: &State, new: &NewSa) -> Option<Refusal>
+pub(crate) fn refuse_create(state: &State, new: &NewSa) -> Option<Refusal>
     requires { All (λ channel. channel ≤ 63) new.now.channels }
     ensures { result ≡ from_associations new.now.spi None
         (create_refusal state.now.associations new.now state.now.channels) }
 {
     let known = state.channels.as_slice();
-    told(new.spi, None, state.associations.create_refusal(new, known))
+    as_refusal(new.spi, None, state.associations.create_refusal(new, known))
 }
 
-pub(crate) fn delete(state: &State, spi: Spi) -> Option<Refusal>
+pub(crate) fn refuse_delete(state: &State, spi: Spi) -> Option<Refusal>
     ensures { result ≡ from_associations spi None (delete_refusal state.now.associations spi) }
 {
-    told(spi, None, state.associations.delete_refusal(spi))
+    as_refusal(spi, None, state.associations.delete_refusal(spi))
 }
 
-pub(crate) fn set_window(state: &State, spi: Spi) -> Option<Refusal>
+pub(crate) fn refuse_unknown(state: &State, spi: Spi) -> Option<Refusal>
     ensures { result ≡ from_associations spi None (set_window_refusal state.now.associations spi) }
 {
-    told(spi, None, state.associations.set_window_refusal(spi))
+    as_refusal(spi, None, state.associations.set_window_refusal(spi))
 }
 
-pub(crate) fn expire(state: &State, spi: Spi) -> Option<Refusal>
+pub(crate) fn refuse_expire(state: &State, spi: Spi) -> Option<Refusal>
     ensures { result ≡ from_associations spi None (expire_refusal state.now.associations spi) }
 {
-    told(spi, None, state.associations.expire_refusal(spi))
+    as_refusal(spi, None, state.associations.expire_refusal(spi))
 }
 
-pub(crate) fn start(state: &State, spi: Spi) -> Option<Refusal>
+pub(crate) fn refuse_start(state: &State, spi: Spi) -> Option<Refusal>
     ensures { result ≡ from_associations spi None (start_refusal state.now.associations spi) }
 {
-    told(spi, None, state.associations.start_refusal(spi))
+    as_refusal(spi, None, state.associations.start_refusal(spi))
 }
 
-pub(crate) fn stop(state: &State, spi: Spi) -> Option<Refusal>
+pub(crate) fn refuse_stop(state: &State, spi: Spi) -> Option<Refusal>
     ensures { result ≡ from_associations spi None (stop_refusal state.now.associations spi) }
 {
-    told(spi, None, state.associations.stop_refusal(spi))
+    as_refusal(spi, None, state.associations.stop_refusal(spi))
 }
 
 /// An association whose number is read has a key.
-pub(crate) fn read_number(state: &State, spi: Spi) -> Option<Refusal>
+pub(crate) fn refuse_read_number(state: &State, spi: Spi) -> Option<Refusal>
     ensures { result ≡ from_associations spi None (read_number_refusal state.now.associations spi) }
 {
     match state.associations.status(spi) {
@@ -106,20 +106,26 @@ fn least_at(state: &State, spi: Spi, word: u64) -> u64
     }
 }
 
-pub(crate) fn set_number(state: &State, spi: Spi, number: u64, word: u64) -> Option<Refusal>
+pub(crate) fn refuse_set_number(state: &State, spi: Spi, number: u64, word: u64) -> Option<Refusal>
     requires { KeepsRules state.now }
     ensures { result ≡ from_associations spi None
         (set_number_refusal state.now.associations spi number (least_at state.now spi word)) }
 {
     let least = least_at(state, spi, word);
-    told(
+    as_refusal(
         spi,
         None,
         state.associations.set_number_refusal(spi, number, least),
     )
 }
 
-pub(crate) fn rekey(state: &State, spi: Spi, key: KeyId, number: u64, word: u64) -> Option<Refusal>
+pub(crate) fn refuse_rekey(
+    state: &State,
+    spi: Spi,
+    key: KeyId,
+    number: u64,
+    word: u64,
+) -> Option<Refusal>
     requires { KeepsRules state.now }
     ensures { result ≡ first_told (rekey_checks state.now spi key number word) }
 {
@@ -136,5 +142,5 @@ pub(crate) fn rekey(state: &State, spi: Spi, key: KeyId, number: u64, word: u64)
     let refusal = state
         .associations
         .rekey_refusal(spi, key, held.state, number, least);
-    told(spi, Some(key), refusal)
+    as_refusal(spi, Some(key), refusal)
 }

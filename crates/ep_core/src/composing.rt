@@ -59,7 +59,7 @@ fn clear_text(alloc: Global, state: &State, keys: &KeyList) -> Result<Vec<u8>, N
 }
 
 /// A Rekeying message for keys, sealed under a master key with the unit's vector for the number.
-fn composed(
+fn seal_reply(
     alloc: Global,
     state: &State,
     master: KeyId,
@@ -88,7 +88,7 @@ fn composed(
 }
 
 /// The reply with keys that are there, under a master key that is active.
-fn sealed_keys(
+fn seal_keys(
     alloc: Global,
     state: &State,
     master: KeyId,
@@ -102,7 +102,7 @@ fn sealed_keys(
 {
     let (_, held) = state.keys.find(master).unwrap();
     let number = number_of(seen);
-    let pdu = composed(alloc, state, master, held, number, keys)?;
+    let pdu = seal_reply(alloc, state, master, held, number, keys)?;
     using_number(alloc, master, number, &pdu)
 }
 
@@ -120,6 +120,6 @@ pub(crate) fn compose(
 {
     match compose_refusal(state, master, keys, seen) {
         Some(refusal) => Ok(refused(refusal)),
-        None => sealed_keys(alloc, state, master, keys, seen),
+        None => seal_keys(alloc, state, master, keys, seen),
     }
 }

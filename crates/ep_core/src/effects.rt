@@ -196,25 +196,25 @@ fn refusal(state: &State, command: &Command, seen: &Seen) -> Result<Option<Refus
     ensures { IfOk result (λ refusal. refusal ≡ refusal_of state.now command.now seen.now) }
 {
     match command {
-        Command::Activate(keys) => keys::moves(state, keys, KeyState::Active),
-        Command::Deactivate(keys) => keys::moves(state, keys, KeyState::Deactivated),
-        Command::Destroy(keys) => keys::moves(state, keys, KeyState::Destroyed),
+        Command::Activate(keys) => keys::refuse_moves(state, keys, KeyState::Active),
+        Command::Deactivate(keys) => keys::refuse_moves(state, keys, KeyState::Deactivated),
+        Command::Destroy(keys) => keys::refuse_moves(state, keys, KeyState::Destroyed),
         Command::Inventory { .. } => Ok(None),
-        Command::ReadNumber(spi) => Ok(associations::read_number(state, *spi)),
-        Command::Create(new) => Ok(associations::create(state, new)),
-        Command::Delete(spi) => Ok(associations::delete(state, *spi)),
+        Command::ReadNumber(spi) => Ok(associations::refuse_read_number(state, *spi)),
+        Command::Create(new) => Ok(associations::refuse_create(state, new)),
+        Command::Delete(spi) => Ok(associations::refuse_delete(state, *spi)),
         Command::SetWindow { spi, .. } | Command::Status(spi) => {
-            Ok(associations::set_window(state, *spi))
+            Ok(associations::refuse_unknown(state, *spi))
         }
         Command::Rekey { spi, key, number } => {
-            Ok(associations::rekey(state, *spi, *key, *number, word_of(seen)))
+            Ok(associations::refuse_rekey(state, *spi, *key, *number, word_of(seen)))
         }
-        Command::Expire(spi) => Ok(associations::expire(state, *spi)),
+        Command::Expire(spi) => Ok(associations::refuse_expire(state, *spi)),
         Command::SetNumber { spi, number } => {
-            Ok(associations::set_number(state, *spi, *number, word_of(seen)))
+            Ok(associations::refuse_set_number(state, *spi, *number, word_of(seen)))
         }
-        Command::Start(spi) => Ok(associations::start(state, *spi)),
-        Command::Stop(spi) => Ok(associations::stop(state, *spi)),
+        Command::Start(spi) => Ok(associations::refuse_start(state, *spi)),
+        Command::Stop(spi) => Ok(associations::refuse_stop(state, *spi)),
         Command::Rekeying { .. } | Command::Verify { .. } | Command::Compose { .. } => {
             unreachable!()
         }

@@ -101,15 +101,15 @@ pub fn judge(state: &State, command: &Command) -> Need
             Need::Number(*master),
         ),
         Command::ReadNumber(spi) => unless_refused(
-            associations::read_number(state, *spi),
+            associations::refuse_read_number(state, *spi),
             sending_key(state, *spi).map_or(Need::Nothing, Need::Look),
         ),
         Command::Rekey { spi, key, number } => unless_refused(
-            associations::rekey(state, *spi, *key, *number, 0),
+            associations::refuse_rekey(state, *spi, *key, *number, 0),
             rekey_need(state, *spi, *key, *number),
         ),
         Command::SetNumber { spi, number } => unless_refused(
-            associations::set_number(state, *spi, *number, 0),
+            associations::refuse_set_number(state, *spi, *number, 0),
             number_need(state, *spi, *number),
         ),
         Command::Rekeying { .. }

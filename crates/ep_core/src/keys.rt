@@ -12,14 +12,14 @@ use sdls_base::{KeyItems, KeyList, KeyState, NoMemory};
 use unit_state::State;
 
 /// What the book refuses of keys, as a reply tells it.
-fn told(refusal: Option<KeyRefusal>) -> Option<Refusal>
+fn as_refusal(refusal: Option<KeyRefusal>) -> Option<Refusal>
     ensures { result ≡ from_keys refusal }
 {
     Refusal::of_keys(refusal?)
 }
 
 /// Why keys do not take a state.
-pub(crate) fn moves(
+pub(crate) fn refuse_moves(
     state: &State,
     keys: &KeyList,
     to: KeyState,
@@ -28,12 +28,12 @@ pub(crate) fn moves(
         ≡ from_keys (moves_refusal state.now.keys keys.now to (in_use state.now.associations))) }
 {
     let in_use = state.associations.in_use()?;
-    Ok(told(state.keys.moves_refusal(keys, to, in_use.as_slice())))
+    Ok(as_refusal(state.keys.moves_refusal(keys, to, in_use.as_slice())))
 }
 
 /// Why keys are not loaded.
-pub(crate) fn load(state: &State, items: &KeyItems) -> Option<Refusal>
+pub(crate) fn refuse_load(state: &State, items: &KeyItems) -> Option<Refusal>
     ensures { result ≡ from_keys (load_refusal state.now.keys items.now) }
 {
-    told(state.keys.load_refusal(items.as_slice()))
+    as_refusal(state.keys.load_refusal(items.as_slice()))
 }

@@ -12,7 +12,7 @@ ghost use Rattle.ep_codec.specs.Command.{IsInBounds, command_octets};
 ghost use Rattle.ep_core.specs.declared.reply.Reply.{Reply};
 ghost use Rattle.ep_core.specs.Need.{need_of};
 ghost use Rattle.ep_core.specs.Sealed.{front, no_frame};
-ghost use Rattle.ep_core.specs.Seen.{Fits};
+ghost use Rattle.ep_core.specs.Seen.{MeetsNeed};
 ghost use Rattle.ep_core.specs.Step.{IsStep};
 
 /// Law: what a MAC covers of a frame does not begin with four octets ff, whatever the mask, where the frame's first
@@ -25,7 +25,7 @@ pub fn no_frame_begins_so()
 /// Law: a state allows the change of each step.
 pub fn changes_are_allowed()
     ensures { (state : State) (command : Command) (seen : Seen) (step : Change × Reply)
-        → KeepsRules state → IsInBounds command → Fits state (need_of state command) seen
+        → KeepsRules state → IsInBounds command → MeetsNeed state (need_of state command) seen
         → IsStep state command seen step → Allows state step.0 }
 {}
 

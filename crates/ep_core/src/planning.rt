@@ -2,7 +2,7 @@ ghost use Rattle.std.specs.Prelude.{IfOk};
 ghost use Rattle.ep_codec.specs.Command.{IsInBounds};
 ghost use Rattle.unit_state.specs.State.{KeepsRules};
 ghost use Rattle.ep_core.specs.Need.{need_of};
-ghost use Rattle.ep_core.specs.Seen.{Fits};
+ghost use Rattle.ep_core.specs.Seen.{MeetsNeed};
 ghost use Rattle.ep_core.specs.Step.{IsStep};
 
 use crate::composing::compose;
@@ -26,7 +26,7 @@ pub fn plan_change(
 ) -> Result<(Change, Reply), NoMemory>
     requires rules { KeepsRules state.now }
     requires bounds { IsInBounds command.now }
-    requires seen { Fits state.now (need_of state.now command.now) seen.now }
+    requires seen { MeetsNeed state.now (need_of state.now command.now) seen.now }
     ensures { IfOk result (IsStep state.now command.now seen.now) }
 {
     match command {

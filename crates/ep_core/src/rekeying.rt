@@ -26,7 +26,7 @@ use std::alloc::Global;
 use unit_state::State;
 
 /// What was sealed under a master key; none where the tag is wrong.
-fn opened(
+fn open_text(
     alloc: Global,
     master: KeyId,
     held: &KeyRow,
@@ -60,7 +60,7 @@ fn loading(alloc: Global, state: &State, text: Option<Octets>) -> Result<(Change
         return Ok(refused(Refusal::BadItems(offset)));
     }
     let items = items(alloc, text.as_slice())?;
-    match keys::load(state, &items) {
+    match keys::refuse_load(state, &items) {
         Some(refusal) => Ok(refused(refusal)),
         None => done(alloc, Change::Load(items), &ReplyPdu::Rekeying),
     }
@@ -84,6 +84,6 @@ pub(crate) fn rekeying(
         return Ok(refused(refusal));
     }
     let (_, held) = state.keys.find(master).unwrap();
-    let text = opened(alloc, master, held, vector, sealed, tag)?;
+    let text = open_text(alloc, master, held, vector, sealed, tag)?;
     loading(alloc, state, text)
 }

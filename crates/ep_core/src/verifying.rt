@@ -13,7 +13,7 @@ ghost use Rattle.unit_state.specs.State.{KeepsRules};
 ghost use Rattle.ep_core.specs.Refusals.{refusal_of};
 ghost use Rattle.ep_core.specs.Sealed.{challenge_text};
 ghost use Rattle.ep_core.specs.Need.{need_of};
-ghost use Rattle.ep_core.specs.Seen.{Fits, IsDrawn, number_of};
+ghost use Rattle.ep_core.specs.Seen.{MeetsNeed, IsNumberSeen, number_of};
 ghost use Rattle.ep_core.specs.Step.{IsDone, IsStep, sealed_challenge, verified};
 
 use crate::reply::Reply;
@@ -40,7 +40,7 @@ fn challenge_text(alloc: Global, number: u32, challenge: &[u8; 16]) -> Result<Ve
 
 /// A challenge, sealed with the unit's vector for the number.
 #[tactic(auto, unfolding(ep_codec::specs::ReplyPdu::IsInBounds))]
-fn sealed_challenge(
+fn seal_challenge(
     device: &[u8; 4],
     key: KeyId,
     held: &KeyRow,
@@ -87,7 +87,7 @@ fn mac_of_challenge(
 }
 
 /// A challenge under a key that is there, sealed or with a MAC by the key's class.
-fn answered(
+fn answer_challenge(
     alloc: Global,
     state: &State,
     key: KeyId,
@@ -102,8 +102,8 @@ fn answered(
     ensures bounds { IfOk result IsInBounds }
 {
     match key.class() {
-        KeyClass::Master => Ok(sealed_challenge(&state.device, key, held, number, challenge)),
-        KeyClass::Gcm => Ok(sealed_challenge(&state.device, key, held, number, challenge)),
+        KeyClass::Master => Ok(seal_challenge(&state.device, key, held, number, challenge)),
+        KeyClass::Gcm => Ok(seal_challenge(&state.device, key, held, number, challenge)),
         KeyClass::Cmac => mac_of_challenge(alloc, key, held, number as u32, challenge),
     }
 }
@@ -117,13 +117,13 @@ fn answer(
     seen: &Seen,
 ) -> Result<(Change, Reply), NoMemory>
     requires rules { KeepsRules state.now }
-    requires drawn { IsDrawn state.now key seen.now }
+    requires drawn { IsNumberSeen state.now key seen.now }
     requires free { refusal_of state.now (Verify key challenge.now) seen.now ≡ None }
     ensures { IfOk result (IsDone state.now (Verify key challenge.now) seen.now) }
 {
     let (_, held) = state.keys.find(key).unwrap();
     let number = number_of(seen);
-    let pdu = answered(alloc, state, key, held, number, challenge)?;
+    let pdu = answer_challenge(alloc, state, key, held, number, challenge)?;
     using_number(alloc, key, number, &pdu)
 }
 
@@ -136,7 +136,7 @@ pub(crate) fn verify(
     seen: &Seen,
 ) -> Result<(Change, Reply), NoMemory>
     requires rules { KeepsRules state.now }
-    requires seen { Fits state.now (need_of state.now (Verify key challenge.now)) seen.now }
+    requires seen { MeetsNeed state.now (need_of state.now (Verify key challenge.now)) seen.now }
     ensures { IfOk result (IsStep state.now (Verify key challenge.now) seen.now) }
 {
     match verify_refusal(state, key, seen) {

@@ -15,10 +15,10 @@ use Rattle.unit_state.specs.State.{key_row}
 use Rattle.unit_state.specs.Restart.{still_key, still_association}
 use Rattle.unit_state.specs.Laws.{ServeAlike}
 use Rattle.frame_shield.specs.declared.binding.Binding.{Binding}
-use Rattle.frame_shield.specs.declared.protecting.ShieldFault.TheVariants.{Layout, Channel, State as NoSender}
+use Rattle.frame_shield.specs.declared.protecting_frames.ShieldFault.TheVariants.{Layout, Channel, State as NoSender}
 use Rattle.frame_checks.specs.Binding.{binding_of}
 use Rattle.frame_checks.specs.Header.{lacks_header, is_clear, channel_of}
-use Rattle.frame_checks.specs.Protecting.{Answer, sender_of, answer_on, protect_check}
+use Rattle.frame_checks.specs.ProtectingFrames.{Answer, sender_of, answer_on, protect_check}
 
 abbrev made : PlanLines → Link → ℕ → Suite → ℕ → KeyRow → Binding
 made plan line spi suite key held = record { spi = spi; suite = suite; key = key; schedule = held.bytes; device = plan.device; link = line }

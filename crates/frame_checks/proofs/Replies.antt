@@ -24,7 +24,7 @@ use Rattle.frame_checks.specs.declared.open_reply.OpenReply.TheVariants.{Accepte
 use Rattle.frame_checks.specs.Accepting.{MayBeAccepted, OnAccepted}
 use Rattle.frame_checks.specs.Addressed.{IsAddressed}
 use Rattle.frame_checks.specs.Binding.{binding_of}
-use Rattle.frame_checks.specs.Opening.{IsOpenReply, IsAccepted, IsJudged, IsToldOr, IsOpened, IsReplyUnder, IsReplyOn, association_checks, frame_checks}
+use Rattle.frame_checks.specs.OpeningFrames.{IsOpenReply, IsAccepted, IsJudged, IsToldOr, IsOpenedUnder, IsReplyUnder, IsReplyOn, association_checks, frame_checks}
 use Rattle.frame_checks.proofs.Rows.{IsBoundTo, bound_to, named_row}
 
 -- a reply is told by a check, or by what comes after the checks
@@ -118,7 +118,7 @@ pub reply_may : (plan : PlanLines) (state : State) (link : ℕ) (line : Link) (f
 reply_may plan state link line frame reply field is =
     told_cases (first_failing (frame_checks plan state link line frame is.room)) reply (IsReplyUnder plan state link line frame is.room reply field) (OnAccepted reply (MayBeAccepted state)) is.told
     (λ e. early (λ r. OnAccepted r (MayBeAccepted state)) plan state link line frame is.room reply (λ n. tt) tt tt tt e)
-    (λ none under. told_cases (first_failing (association_checks under.row under.channel)) reply (IsOpened plan state line under.row frame reply field) (OnAccepted reply (MayBeAccepted state)) under.told
+    (λ none under. told_cases (first_failing (association_checks under.row under.channel)) reply (IsOpenedUnder plan state line under.row frame reply field) (OnAccepted reply (MayBeAccepted state)) under.told
     (λ e. middle_by (λ r. OnAccepted r (MayBeAccepted state)) _ _ _ under.row.state reply tt tt tt e)
     (λ passed opened. judged_may state line under.row opened.binding frame reply field (named_row state is.room under.row under.named)
     (passed_receives under.row under.channel passed) (passed_operational under.row under.channel passed) (bound_to plan state line under.row opened.binding opened.bound) opened.judged))

@@ -24,7 +24,7 @@ use Rattle.unit_state.proofs.Found.{found, found_passes, held_rules}
 use Rattle.unit_state.proofs.KeyRules.{equal_number}
 use Rattle.frame_shield.specs.declared.binding.Binding.{Binding}
 use Rattle.frame_checks.specs.Binding.{binding_of}
-use Rattle.frame_checks.specs.Opening.{association_in, index_in}
+use Rattle.frame_checks.specs.OpeningFrames.{association_in, index_in}
 
 -- what a row keeps
 pub record KeepsRow (state : State) (row : SaRow) : Type 0 where

@@ -14,17 +14,17 @@ pub record IsInPlace (from to : ℕ) (old new : List ℕ) : Type 0 where
   pub after : drop to new ≡ drop to old
 
 -- the octets after a reply; where the number is not fresh, the data field may be in clear
-abbrev pub Leaves : OpenReply → List ℕ → List ℕ → Type 0
-Leaves (Accepted spi key number from to) old new = IsInPlace from to old new
-Leaves Clear old new = new ≡ old
-Leaves (Layout number) old new = new ≡ old
-Leaves Channel old new = new ≡ old
-Leaves Spi old new = new ≡ old
-Leaves Direction old new = new ≡ old
-Leaves (NotOperational state) old new = new ≡ old
-Leaves Coverage old new = new ≡ old
-Leaves Mac old new = new ≡ old
-Leaves (Number key number high width) old new = ⊤
+abbrev pub LeavesOctets : OpenReply → List ℕ → List ℕ → Type 0
+LeavesOctets (Accepted spi key number from to) old new = IsInPlace from to old new
+LeavesOctets Clear old new = new ≡ old
+LeavesOctets (Layout number) old new = new ≡ old
+LeavesOctets Channel old new = new ≡ old
+LeavesOctets Spi old new = new ≡ old
+LeavesOctets Direction old new = new ≡ old
+LeavesOctets (NotOperational state) old new = new ≡ old
+LeavesOctets Coverage old new = new ≡ old
+LeavesOctets Mac old new = new ≡ old
+LeavesOctets (Number key number high width) old new = ⊤
 
 -- the data field, in octets that were opened in place
 abbrev pub field_in : OpenReply → List ℕ → List ℕ

@@ -9,10 +9,10 @@ use Rattle.unit_state.specs.declared.state.State.{State}
 use Rattle.frame_shield.specs.AnyFrame.{first_fault}
 use Rattle.frame_checks.specs.declared.open_reply.OpenReply.{OpenReply}
 use Rattle.frame_checks.specs.Header.{HasRoom, channel_of}
-use Rattle.frame_checks.specs.Opening.{association_in, frame_checks}
+use Rattle.frame_checks.specs.OpeningFrames.{association_in, frame_checks}
 
 -- a check of the frame, before those of its association, tells the reply
-pub record IsRefused (plan : PlanLines) (state : State) (link : ℕ) (line : Link) (frame : List ℕ) (reply : OpenReply) : Type 0 where
+pub record IsRefusedBefore (plan : PlanLines) (state : State) (link : ℕ) (line : Link) (frame : List ℕ) (reply : OpenReply) : Type 0 where
   pub room : List ℕ
   pub has_room : first_fault line.layout frame ≡ None → HasRoom line.layout frame room
   pub told : first_failing (frame_checks plan state link line frame room) ≡ Some reply

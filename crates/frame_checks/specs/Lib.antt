@@ -2,5 +2,5 @@ pub mod Accepting
 pub mod Addressed
 pub mod Binding
 pub mod Header
-pub mod Opening
-pub mod Protecting
+pub mod OpeningFrames
+pub mod ProtectingFrames

@@ -6,8 +6,8 @@ ghost use Rattle.unit_state.specs.declared.state.State.{State};
 ghost use Rattle.unit_state.specs.Restart.{still};
 ghost use Rattle.frame_checks.specs.declared.open_reply.OpenReply.{OpenReply};
 ghost use Rattle.frame_checks.specs.Accepting.{MayBeAccepted, OnAccepted};
-ghost use Rattle.frame_checks.specs.Opening.{IsOpenReply};
-ghost use Rattle.frame_checks.specs.Protecting.{protect_check};
+ghost use Rattle.frame_checks.specs.OpeningFrames.{IsOpenReply};
+ghost use Rattle.frame_checks.specs.ProtectingFrames.{protect_check};
 
 use unit_state::serve_alike;
 

@@ -10,10 +10,10 @@
 mod header;
 mod laws;
 mod open_reply;
-mod opening;
-mod protecting;
+mod opening_frames;
+mod protecting_frames;
 
 pub use laws::{accepted_may_be, binding_stays};
 pub use open_reply::OpenReply;
-pub use opening::open_frame;
-pub use protecting::{binding, channel};
+pub use opening_frames::open_frame;
+pub use protecting_frames::{binding, channel};

@@ -6,7 +6,7 @@ use Rattle.sdls_base.proofs.Endings.{take_front, drop_front}
 use Rattle.sdls_header.specs.SecurityHeader.{Pieces, SplitsInto}
 use Rattle.sdls_header.proofs.Splits.{one_split}
 use Rattle.frame_shield.specs.declared.binding.Binding.{Binding}
-use Rattle.frame_shield.specs.declared.opening.Found.{Found}
+use Rattle.frame_shield.specs.declared.opening_frames.Found.{Found}
 use Rattle.frame_shield.specs.AnyFrame.{AnyParts, IsFrame, prefix_of, room_of}
 use Rattle.frame_shield.specs.Body.{ocf_of}
 use Rattle.frame_shield.specs.Found.{IsFound}

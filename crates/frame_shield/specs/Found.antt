@@ -2,7 +2,7 @@
 use Rattle.std.specs.Prelude.{◌≡◌, ℕ, ◌+◌, ◌≤◌, List, length, slice_range}
 use Rattle.sdls_header.specs.SecurityHeader.{Pieces, SplitsInto, header_octets}
 use Rattle.frame_shield.specs.declared.binding.Binding.{Binding}
-use Rattle.frame_shield.specs.declared.opening.Found.{Found}
+use Rattle.frame_shield.specs.declared.opening_frames.Found.{Found}
 use Rattle.frame_shield.specs.AnyFrame.{AnyParts, IsFrame, prefix_of, room_of}
 use Rattle.frame_shield.specs.Secured.{covered, header_of}
 

@@ -4,8 +4,8 @@ use Rattle.std.specs.Int.{w16, to_be_bytes}
 use Rattle.sdls_base.specs.Suite.{overhead_of}
 use Rattle.sdls_header.specs.SecurityHeader.{Pieces}
 use Rattle.frame_shield.specs.declared.binding.Binding.{Binding}
-use Rattle.frame_shield.specs.declared.opening.Opened.{Opened}
-use Rattle.frame_shield.specs.declared.opening.Opened.TheVariants.{Field, BadMac}
+use Rattle.frame_shield.specs.declared.opening_frames.Opened.{Opened}
+use Rattle.frame_shield.specs.declared.opening_frames.Opened.TheVariants.{Field, BadMac}
 use Rattle.frame_shield.specs.AnyFrame.{AnyParts, IsFrame, prefix_of, room_of}
 use Rattle.frame_shield.specs.Secured.{IsSecured, number_of}
 

@@ -9,12 +9,12 @@ mod binding;
 mod body;
 mod covered;
 mod laws;
-mod opening;
-mod protecting;
+mod opening_frames;
+mod protecting_frames;
 mod sealing;
 
 pub use binding::Binding;
 pub use laws::{opens_once, protected_once, protected_opens};
-pub use opening::{Opened, unshield};
-pub use protecting::{ShieldFault, fits, shield};
+pub use opening_frames::{Opened, unshield};
+pub use protecting_frames::{ShieldFault, fits, shield};
 pub use sdls_base::{AnyLayout, Link, Mask};

@@ -14,9 +14,9 @@ use Rattle.law_history.specs.Numbers.{mark_of}
 use Rattle.record_io.specs.declared.records.Record.{Record}
 use Rattle.record_io.specs.declared.answers.Answer.{Answer}
 use Rattle.law_worker.specs.Begin.{Begin}
-use Rattle.law_worker.specs.Views.{Grows, entries_in, keeping, log_of, starting, meeting}
+use Rattle.law_worker.specs.Views.{KnowsMore, entries_in, keeping, log_of, starting, meeting}
 use Rattle.law_worker.specs.Deeds.{Deed, Does, deed_of, deeds_of}
-use Rattle.law_worker.specs.Lanes.{giving}
+use Rattle.law_worker.specs.Lanes.{giving_shares}
 use Rattle.law_worker.proofs.Joining.{top_both}
 use Rattle.law_one_lane.specs.Machine.{Move}
 use Rattle.law_one_lane.specs.Exact.{words_in}
@@ -37,7 +37,7 @@ deeds_counted s (t ∷ ts) [] h = absurd (omega arith)
 deeds_counted s (t ∷ ts) (x ∷ xs) h = let g = deeds_counted s ts xs (omega arith) in ap suc g
 
 module _ (begin : Begin) (s : ℕ) (u v w : View) (ts : List Record) (xs : List Answer) (size : length xs ≡ length ts)
-    (does : Does begin u v ts (deeds_of s ts xs)) (grows : Grows v w) (moved : MovedInTurn begin u v (length ts) (deeds_of s ts xs)) where
+    (does : Does begin u v ts (deeds_of s ts xs)) (grows : KnowsMore v w) (moved : MovedInTurn begin u v (length ts) (deeds_of s ts xs)) where
   -- one record more, with its answer
   pub next_exactly : (r : Record) (a : Answer) → AnsweredExactly begin s v w r (Some a)
       → MovedInTurn begin u w (length (ts ++ r ∷ [])) (deeds_of s (ts ++ r ∷ []) (xs ++ a ∷ []))
@@ -96,7 +96,7 @@ later_low false o k l = longer_low k.log l.log
 
 module _ (begin : Begin) (n : ℕ) (base : View) where
   -- no lane was split off
-  pub none_exactly : ServedAlone begin base (looked (giving n base)) 0 []
+  pub none_exactly : ServedAlone begin base (looked (giving_shares n base)) 0 []
   none_exactly = record {
     moved = record {
       made = [];
@@ -116,10 +116,10 @@ module _ (begin : Begin) (n : ℕ) (base : View) where
     spent = [];
     between = record {
       spent_is = refl;
-      level = λ clean level. let e = looked_epoch (giving n base) in let l = ap (λ (log : List Logged). epoch_after (entries_of log)) (looked_log (giving n base)) in omega arith;
+      level = λ clean level. let e = looked_epoch (giving_shares n base) in let l = ap (λ (log : List Logged). epoch_after (entries_of log)) (looked_log (giving_shares n base)) in omega arith;
       served = λ none all clean level marks. (
         [],
-        ap entries_of (looked_log (giving n base)) ∙ sym (append-nil (entries_in base)),
+        ap entries_of (looked_log (giving_shares n base)) ∙ sym (append-nil (entries_in base)),
         refl,
       );
     };
@@ -127,8 +127,8 @@ module _ (begin : Begin) (n : ℕ) (base : View) where
 
   -- one lane was, and its worker joined
   pub joined_exactly : (w : View) (ts : List Record) (ds : List Deed) (count : ℕ) → Does begin (starting base) w ts ds
-      → Grows w (looked (meeting (giving n base) w)) → MovedInTurn begin (starting base) w count ds
-      → ServedAlone begin base (looked (meeting (giving n base) w)) count ds
+      → KnowsMore w (looked (meeting (giving_shares n base) w)) → MovedInTurn begin (starting base) w count ds
+      → ServedAlone begin base (looked (meeting (giving_shares n base) w)) count ds
   joined_exactly w ts ds count does grows h = record {
     moved = record {
       made = h.moved.made;
@@ -136,23 +136,23 @@ module _ (begin : Begin) (n : ℕ) (base : View) where
       last = h.moved.last;
       few = h.moved.few;
       each = h.moved.each;
-      exact = exact_seen begin (starting base) w base (looked (meeting (giving n base) w)) h.moved.made ds h.moved.last h.moved.exact below grows from to more;
+      exact = exact_seen begin (starting base) w base (looked (meeting (giving_shares n base) w)) h.moved.made ds h.moved.last h.moved.exact below grows from to more;
     };
     spent = h.spent;
-    between = subst (λ (moves : List Move). ServedBetween begin base (looked (meeting (giving n base) w)) h.moved.made h.spent ds moves h.moved.last)
-        (sym (seen_moves begin (starting base) w base (looked (meeting (giving n base) w)) h.moved.made ds h.moved.last h.moved.exact below grows from to more))
+    between = subst (λ (moves : List Move). ServedBetween begin base (looked (meeting (giving_shares n base) w)) h.moved.made h.spent ds moves h.moved.last)
+        (sym (seen_moves begin (starting base) w base (looked (meeting (giving_shares n base) w)) h.moved.made ds h.moved.last h.moved.exact below grows from to more))
         (record {
           spent_is = append-nil (base.numbers.spent ++ w.numbers.spent) ∙ ap (λ (l : List (ℕ × ℕ)). base.numbers.spent ++ l) h.in_turn.between.spent_is;
           level = λ clean level.
-              let w_level : IsLevel w = h.in_turn.between.level (clean_before w (looked (meeting (giving n base) w)) grows clean) level in
+              let w_level : IsLevel w = h.in_turn.between.level (clean_before w (looked (meeting (giving_shares n base) w)) grows clean) level in
               let e = grows.epochs in let l = ap epoch_after same_entries in omega arith;
           served = λ none all clean level marks.
               let (own, is, served) = h.in_turn.between.served none
               (λ place low high. all place low (let s = ap length same_log in omega arith))
-              (clean_before w (looked (meeting (giving n base) w)) grows clean) level
+              (clean_before w (looked (meeting (giving_shares n base) w)) grows clean) level
               (λ key row number few there in'.
               subst (λ (l : List Entry). number < mark_of (after begin.start l) key) same_entries
-              (marks key row number few (row_on begin w (looked (meeting (giving n base) w)) grows key row there) in')) in
+              (marks key row number few (row_on begin w (looked (meeting (giving_shares n base) w)) grows key row there) in')) in
               (own, same_entries ∙ is, served);
         });
   }
@@ -163,27 +163,27 @@ module _ (begin : Begin) (n : ℕ) (base : View) where
       from : (row : ℕ) → words_in base row ≡ words_in (starting base) row
       from row = refl
 
-      to : (row : ℕ) → words_in (looked (meeting (giving n base) w)) row ≡ words_in w row
+      to : (row : ℕ) → words_in (looked (meeting (giving_shares n base) w)) row ≡ words_in w row
       to row =
           let a = top_both row base.numbers.nexts w.numbers.nexts in
           let b = top_both row (base.numbers.nexts ++ w.numbers.nexts) (base.numbers.nexts ++ w.numbers.nexts) in
           let g = does.grows.nexts row in omega arith
 
-      more : (row : ℕ) → amount row (looked (meeting (giving n base) w)).numbers.added + amount row (starting base).numbers.added
+      more : (row : ℕ) → amount row (looked (meeting (giving_shares n base) w)).numbers.added + amount row (starting base).numbers.added
           ≡ amount row base.numbers.added + amount row w.numbers.added
       more row =
           let a = amount_both row base.numbers.added w.numbers.added in
           let b = amount_both row (base.numbers.added ++ w.numbers.added) [] in omega arith
 
       -- the joined worker knows the log that the lane's worker knew
-      same_log : log_of (looked (meeting (giving n base) w)) ≡ log_of w
+      same_log : log_of (looked (meeting (giving_shares n base) w)) ≡ log_of w
       same_log =
           let first = log_low (starting base) w does.grows in
-          let z = ap length (looked_log (meeting (giving n base) w)) in
-          let m : length (log_of (meeting (giving n base) w)) ≤ max (length (log_of base)) (length (log_of w)) =
+          let z = ap length (looked_log (meeting (giving_shares n base) w)) in
+          let m : length (log_of (meeting (giving_shares n base) w)) ≤ max (length (log_of base)) (length (log_of w)) =
           later_low base.turn.holds (if base.turn.filled then base.turn.known.opening else w.turn.known.opening) base.turn.known w.turn.known in
           let (rest, is) = grows.earlier.log in
-          let size : length (log_of (looked (meeting (giving n base) w))) ≡ length (log_of w) + length rest = ap length is ∙ length-append (log_of w) rest in
+          let size : length (log_of (looked (meeting (giving_shares n base) w))) ≡ length (log_of w) + length rest = ap length is ∙ length-append (log_of w) rest in
           let none : rest ≡ [] = empty rest (omega arith) in
           is ∙ ap (λ (l : List Logged). log_of w ++ l) none ∙ append-nil (log_of w)
         where
@@ -191,5 +191,5 @@ module _ (begin : Begin) (n : ℕ) (base : View) where
           empty [] h = refl
           empty (x ∷ l) h = absurd (omega arith)
 
-      same_entries : entries_in (looked (meeting (giving n base) w)) ≡ entries_in w
+      same_entries : entries_in (looked (meeting (giving_shares n base) w)) ≡ entries_in w
       same_entries = ap entries_of same_log

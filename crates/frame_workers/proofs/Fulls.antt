@@ -6,14 +6,14 @@ use Rattle.counter_table.specs.Known.{HasRisen}
 use Rattle.record_io.specs.declared.records.Record.{Record}
 use Rattle.unit_book.specs.declared.limits.TheConstants.{MOST_ENTRIES}
 use Rattle.law_worker.specs.Begin.{Begin}
-use Rattle.law_worker.specs.Views.{Grows, keeping, starting, meeting, Meets, entries_in}
+use Rattle.law_worker.specs.Views.{KnowsMore, keeping, starting, meeting, Meets, entries_in}
 use Rattle.law_worker.specs.Deeds.{Deed}
 use Rattle.law_worker.specs.Order.{Layout, Handled}
 use Rattle.law_worker.proofs.Working.{grown_entries, may_later}
 use Rattle.law_worker.proofs.Handling.{handled_nothing, handled_then, handled_beside}
 use Rattle.law_calls.specs.Answering.{IsFullFor}
 
-pub full_stays : (begin : Begin) (u v w z : View) (task : Record) → Grows u v → Grows w z → IsFullFor begin v w task → IsFullFor begin u z task
+pub full_stays : (begin : Begin) (u v w z : View) (task : Record) → KnowsMore u v → KnowsMore w z → IsFullFor begin v w task → IsFullFor begin u z task
 full_stays begin u v w z task low high is = record {
   full = (let (rest, more) = grown_entries w z high in let size : length (entries_in z) ≡ length (entries_in w) + length rest = ap length more ∙ length-append (entries_in w) rest in
       let few = is.full in omega arith);

@@ -13,7 +13,7 @@ use Rattle.law_worker.specs.Views.{meeting, Meets}
 use Rattle.law_worker.specs.Deeds.{deeds_of}
 use Rattle.law_worker.specs.Lanes.{of_lane, Part, meeting_all, MeetAll, parts_deeds}
 use Rattle.frame_workers.specs.declared.lane.Lane.{Lane}
-use Rattle.frame_workers.specs.Lanes.{part_of, parts_of, answers_of, AreApart, AreAmong}
+use Rattle.frame_workers.specs.Lanes.{part_of, parts_of, answers_of, HaveOwnNumbers, AreAmong}
 
 pub parts_push : {B : Type 0} (xs : List (Lane B)) (x : Lane B) → parts_of (xs ++ x ∷ []) ≡ part_of x ∷ parts_of xs
 parts_push [] x = refl
@@ -29,7 +29,7 @@ parts_counted [] = refl
 parts_counted (lane ∷ lanes) = length-append (parts_of lanes) (part_of lane ∷ []) ∙ ap (λ (n : ℕ). n + 1) (parts_counted lanes) ∙ omega arith
 
 -- the parts of lanes that are apart are so
-pub parts_apart : {B : Type 0} (lanes : List (Lane B)) → AllPairs AreApart lanes → AllPairs (λ (p q : Part). p.number ≢ q.number) (parts_of lanes)
+pub parts_apart : {B : Type 0} (lanes : List (Lane B)) → AllPairs HaveOwnNumbers lanes → AllPairs (λ (p q : Part). p.number ≢ q.number) (parts_of lanes)
 parts_apart [] h = λ i j d lt l. absurd (omega arith)
 parts_apart {B} (lane ∷ lanes) h =
     let other : All (λ (p : Part). p.number ≢ lane.number) (parts_of lanes) =
@@ -107,7 +107,7 @@ part_among (x ∷ lanes) zero d l = Contains-push (parts_of lanes) (part_of x)
 part_among (x ∷ lanes) (suc k) d l = Contains-append_left (parts_of lanes) (part_of x ∷ []) _ (part_among lanes k d (omega arith))
 
 -- the answers of a lane that is there
-pub answers_found : {B : Type 0} (lanes : List (Lane B)) (k : ℕ) (d : Lane B) → AllPairs AreApart lanes → k < length lanes
+pub answers_found : {B : Type 0} (lanes : List (Lane B)) (k : ℕ) (d : Lane B) → AllPairs HaveOwnNumbers lanes → k < length lanes
     → answers_of (slice_index_or lanes k d).number (parts_of lanes) ≡ (slice_index_or lanes k d).answers.items
 answers_found {B} lanes k d apart low = all_found (parts_of lanes) (parts_apart lanes apart) (slice_index_or lanes k d) (part_among lanes k d low)
   where

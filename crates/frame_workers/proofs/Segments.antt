@@ -11,10 +11,10 @@ use Rattle.counter_table.specs.Worker.{view}
 use Rattle.record_io.specs.declared.records.Record.{Record}
 use Rattle.record_io.specs.declared.answers.Answer.{Answer}
 use Rattle.law_worker.specs.Begin.{Begin}
-use Rattle.law_worker.specs.Views.{Grows, keeping, starting, meeting, Meets}
+use Rattle.law_worker.specs.Views.{KnowsMore, keeping, starting, meeting, Meets}
 use Rattle.law_worker.specs.Deeds.{deeds_of}
 use Rattle.law_worker.specs.Order.{Layout, LiesIn, Handled}
-use Rattle.law_worker.specs.Lanes.{is_of_lane, of_lane, giving, Part, DidPart, meeting_all, MeetAll, parts_deeds}
+use Rattle.law_worker.specs.Lanes.{is_of_lane, of_lane, giving_shares, Part, DidPart, meeting_all, MeetAll, parts_deeds}
 use Rattle.law_worker.proofs.Joining.{grows_itself, grows_further}
 use Rattle.law_worker.proofs.Handling.{handled_nothing}
 use Rattle.law_worker.proofs.Lanes.{lanes_handled, lanes_grow}
@@ -23,7 +23,7 @@ use Rattle.law_one_lane.specs.Alone.{MovedInTurn, ServedAlone}
 use Rattle.law_calls.specs.Answering.{IsFullFor}
 use Rattle.law_calls.specs.Visiting.{BeganWith}
 use Rattle.frame_workers.specs.Ends.{EndsSegment}
-use Rattle.frame_workers.specs.Lanes.{HasRun, IsSplit, part_of, parts_of, answers_of, AreApart, IsThere, StopsAt}
+use Rattle.frame_workers.specs.Lanes.{HasRun, IsSplit, part_of, parts_of, answers_of, HaveOwnNumbers, IsThere, StopsAt}
 use Rattle.frame_workers.proofs.Keeping.{begun_at, began_at}
 use Rattle.frame_workers.proofs.Steps.{lane_next, lane_whole}
 use Rattle.frame_workers.proofs.Fulls.{full_stays, looked_back}
@@ -122,10 +122,10 @@ none_of [] h = refl
 none_of (x ∷ xs) h = absurd (omega arith)
 
 module _ {B : Type 0} (ready : Worker B → Type 0) (told : Bool) (rs : List Record) (base : View) (old new : List (Lane B))
-    (split : All (IsSplit ready rs base) old) (apart : AllPairs AreApart old)
+    (split : All (IsSplit ready rs base) old) (apart : AllPairs HaveOwnNumbers old)
     (each : (n : ℕ) → n < 16 → list_any (is_of_lane n) rs ≡ true → IsThere n old) (many : length new ≡ length old)
     (ran : (k : ℕ) (d : Lane B) → k < length old → HasRun ready told rs (slice_index_or old k d) (slice_index_or new k d)) where
-  pub new_apart : AllPairs AreApart new
+  pub new_apart : AllPairs HaveOwnNumbers new
   new_apart i j d lt low e =
       let one = ran i d (omega arith) in let two = ran j d (omega arith) in
       apart i j d lt (omega arith) (sym one.number ∙ (e ∙ two.number))
@@ -165,7 +165,7 @@ module _ {B : Type 0} (ready : Worker B → Type 0) (told : Bool) (rs : List Rec
       subst (λ (n : ℕ). Handled layout begin (starting base) (view (slice_index_or new k d).worker) (of_lane n rs)
       (deeds_of s (of_lane n rs) (slice_index_or new k d).answers.items)) (sym run.number) g)
 
-  module _ (now : View) (given : now ≡ giving (length old) base) (few : length old < base.numbers.shares) (free : base.turn.holds ≡ false)
+  module _ (now : View) (given : now ≡ giving_shares (length old) base) (few : length old < base.numbers.shares) (free : base.turn.holds ≡ false)
       (filled : base.turn.filled ≡ true) (meet : MeetAll 512 now (parts_of new)) where
     abbrev joined : View
     joined = meeting_all now (parts_of new)
@@ -187,7 +187,7 @@ module _ {B : Type 0} (ready : Worker B → Type 0) (told : Bool) (rs : List Rec
         let a = shares_met now (parts_of new) one_share in let b = parts_counted new in
         let c : now.numbers.shares ≡ base.numbers.shares - length old = ap (λ (v : View). v.numbers.shares) given in omega arith
 
-    pub joined_grows : All (λ (p : Part). Grows p.knows joined) (parts_of new)
+    pub joined_grows : All (λ (p : Part). KnowsMore p.knows joined) (parts_of new)
     joined_grows =
         let same : now.turn.known.opening ≡ base.turn.known.opening = ap (λ (v : View). v.turn.known.opening) given in
         let begin : Begin = begun_at told base.turn.known.opening in
@@ -203,14 +203,14 @@ module _ {B : Type 0} (ready : Worker B → Type 0) (told : Bool) (rs : List Rec
           → All (Contains (parts_deeds s rs (parts_of new))) (deeds_of s rs answers) → Handled layout begin base last rs (deeds_of s rs answers)
       all_handled begin layout s b lies answers among =
           let size = parts_counted new in
-          let given' : now ≡ giving (length (parts_of new)) base = subst (λ (n : ℕ). now ≡ giving n base) (sym many ∙ sym size) given in
+          let given' : now ≡ giving_shares (length (parts_of new)) base = subst (λ (n : ℕ). now ≡ giving_shares n base) (sym many ∙ sym size) given in
           let done = lanes_handled layout begin base now s rs (parts_of new) (deeds_of s rs answers) lies (omega arith) free filled given'
           (did begin layout s b) (subst (λ (n : ℕ). MeetAll n now (parts_of new)) (sym b.rows) meet) (parts_apart new new_apart) among in
           let shares = joined_shares in
           looked_back layout begin base joined rs (deeds_of s rs answers) done (omega arith) joined_free joined_filled
           (subst (λ (n : ℕ). Meets n (keeping joined) (starting joined)) (sym b.rows) back)
 
-      last_grows : Grows joined last
+      last_grows : KnowsMore joined last
       last_grows =
           let begin : Begin = begun_at told base.turn.known.opening in
           let layout : Layout = record { lane_of = λ i. 0; segment_of = λ i. 0 } in
@@ -220,7 +220,7 @@ module _ {B : Type 0} (ready : Worker B → Type 0) (told : Bool) (rs : List Rec
           (subst (λ (n : ℕ). Meets n (keeping joined) (starting joined)) (sym rows) back)).does.grows
 
       -- Where all records are of one lane, there is one worker at most beside the one that it was split from.
-      at_most_one : (os : List (Lane B)) → All (IsSplit ready rs base) os → AllPairs AreApart os → (lane : ℕ) → All (λ (t : Record). t.lane ≡ lane) rs → length os ≤ 1
+      at_most_one : (os : List (Lane B)) → All (IsSplit ready rs base) os → AllPairs HaveOwnNumbers os → (lane : ℕ) → All (λ (t : Record). t.lane ≡ lane) rs → length os ≤ 1
       at_most_one [] of_them differ lane all = omega arith
       at_most_one (l ∷ []) of_them differ lane all = omega arith
       at_most_one (l ∷ m ∷ os) of_them differ lane all =
@@ -251,9 +251,9 @@ module _ {B : Type 0} (ready : Worker B → Type 0) (told : Bool) (rs : List Rec
           go : (os ns : List (Lane B)) → old ≡ os → new ≡ ns → length ns ≡ length os → length os ≤ 1
               → ServedAlone begin base last (length rs) (deeds_of s rs answers)
           go [] [] old_is new_is size one =
-              let last_is : last ≡ looked (giving (length old) base) = ap last_of new_is ∙ ap looked given in
+              let last_is : last ≡ looked (giving_shares (length old) base) = ap last_of new_is ∙ ap looked given in
               subst (λ (v : View). ServedAlone begin base v (length rs) (deeds_of s rs answers)) (sym last_is)
-              (subst (λ (ts : List Record). ServedAlone begin base (looked (giving (length old) base)) (length ts) (deeds_of s ts answers)) (sym (no_records old_is low rs refl))
+              (subst (λ (ts : List Record). ServedAlone begin base (looked (giving_shares (length old) base)) (length ts) (deeds_of s ts answers)) (sym (no_records old_is low rs refl))
               (none_exactly begin (length old) base))
           go [] (m ∷ ns) old_is new_is size one = absurd (omega arith)
           go (l ∷ os) [] old_is new_is size one = absurd (omega arith)
@@ -287,14 +287,14 @@ module _ {B : Type 0} (ready : Worker B → Type 0) (told : Bool) (rs : List Rec
               ∙ ap (λ (t : Bool). if t then xs else []) own_test in
               let no_more : rest ≡ [] = none_of rest (ends_with xs theirs most how) in
               let same : answers ≡ xs = sym (append-nil answers) ∙ (ap (λ (l : List Answer). answers ++ l) (sym no_more) ∙ (is ∙ theirs)) in
-              let last_is : last ≡ looked (meeting (giving (length old) base) w) =
+              let last_is : last ≡ looked (meeting (giving_shares (length old) base) w) =
               ap last_of new_is ∙ ap (λ (v : View). looked (meeting v w)) given in
               let at_w : view (slice_index_or new 0 l).worker ≡ w = ap (λ (n : Lane B). view n.worker) at_new in
-              let grows : Grows w last = subst (λ (v : View). Grows v last) at_w (grows_further (view (slice_index_or new 0 l).worker) joined last
-              (All-contains (λ (p : Part). Grows p.knows joined) (parts_of new) (part_of (slice_index_or new 0 l)) joined_grows (part_among new 0 l (omega arith))) last_grows) in
+              let grows : KnowsMore w last = subst (λ (v : View). KnowsMore v last) at_w (grows_further (view (slice_index_or new 0 l).worker) joined last
+              (All-contains (λ (p : Part). KnowsMore p.knows joined) (parts_of new) (part_of (slice_index_or new 0 l)) joined_grows (part_among new 0 l (omega arith))) last_grows) in
               subst (λ (v : View). ServedAlone begin base v (length rs) (deeds_of s rs answers)) (sym last_is)
-              (subst (λ (ys : List Answer). ServedAlone begin base (looked (meeting (giving (length old) base) w)) (length rs) (deeds_of s rs ys)) (sym same)
-              (joined_exactly begin (length old) base w rs (deeds_of s rs xs) (length rs) handled.does (subst (Grows w) last_is grows) exactly))
+              (subst (λ (ys : List Answer). ServedAlone begin base (looked (meeting (giving_shares (length old) base) w)) (length rs) (deeds_of s rs ys)) (sym same)
+              (joined_exactly begin (length old) base w rs (deeds_of s rs xs) (length rs) handled.does (subst (KnowsMore w) last_is grows) exactly))
             where
               ends_with : (xs : List Answer) → answers_of lane (parts_of new) ≡ xs → length xs ≤ length rs
                   → (length answers ≡ length rs) ⊎ StopsAt rs (λ n. answers_of n (parts_of new)) (length answers) → length rest ≡ 0
@@ -308,7 +308,7 @@ module _ {B : Type 0} (ready : Worker B → Type 0) (told : Bool) (rs : List Rec
                   let front = length-take (length answers) rs in
                   let sum = length-append answers rest in let z = ap length is in let y = ap length theirs in omega arith
 
-      starts : Grows base (starting base)
+      starts : KnowsMore base (starting base)
       starts = record { nexts = λ r. omega arith; earlier = (grows_itself base).earlier; opening = refl; epochs = omega arith }
 
       -- the first record without an answer is one for which the history is full
@@ -336,15 +336,15 @@ module _ {B : Type 0} (ready : Worker B → Type 0) (told : Bool) (rs : List Rec
               let ends : EndsSegment begin v w (of_lane r.lane rs) (slice_index_or new k lane).answers.items (slice_index_or new k lane).full =
               subst (λ (n : ℕ). EndsSegment begin v w (of_lane n rs) (slice_index_or new k lane).answers.items (slice_index_or new k lane).full) at_old
               (run.ends begin (began begin b k lane low)) in
-              let low_grows : Grows base v = subst (Grows base) (sym (split k lane low).from) starts in
-              let high_grows : Grows w last = grows_further w joined last
-              (All-contains (λ (p : Part). Grows p.knows joined) (parts_of new) (part_of (slice_index_or new k lane)) joined_grows (part_among new k lane (omega arith))) last_grows in
+              let low_grows : KnowsMore base v = subst (KnowsMore base) (sym (split k lane low).from) starts in
+              let high_grows : KnowsMore w last = grows_further w joined last
+              (All-contains (λ (p : Part). KnowsMore p.knows joined) (parts_of new) (part_of (slice_index_or new k lane)) joined_grows (part_among new k lane (omega arith))) last_grows in
               let next = lane_next r.lane rs (length answers) r place.1 place.0 own in
               let whole = ap length (lane_whole r.lane rs (length answers) r place.1 place.0 own) ∙ length-append (of_lane r.lane (take (length answers) rs)) _ in
               cases r stop.there v w low_grows high_grows (of_lane r.lane rs) (slice_index_or new k lane).answers.items (length (of_lane r.lane (take (length answers) rs)))
               size next (omega arith) (slice_index_or new k lane).full ends
             where
-              cases : (r : Record) → slice_get rs (length answers) ≡ Some r → (v w : View) → Grows base v → Grows w last → (own : List Record) (xs : List Answer) (m : ℕ)
+              cases : (r : Record) → slice_get rs (length answers) ≡ Some r → (v w : View) → KnowsMore base v → KnowsMore w last → (own : List Record) (xs : List Answer) (m : ℕ)
                   → length xs ≡ m → slice_get own m ≡ Some r → m < length own → (full : Bool) → EndsSegment begin v w own xs full → EndsSegment begin base last rs answers true
               cases r there v w low_grows high_grows own xs m size next more false e = absurd (let f : length xs ≡ length own = e in omega arith)
               cases r there v w low_grows high_grows own xs m size next more true (task, at, full) =

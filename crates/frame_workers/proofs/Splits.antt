@@ -6,17 +6,17 @@ use Rattle.counter_table.specs.declared.view.View.{View}
 use Rattle.record_io.specs.declared.records.Record.{Record}
 use Rattle.record_io.specs.declared.answers.Answer.{Answer}
 use Rattle.law_worker.specs.Views.{keeping, starting}
-use Rattle.law_worker.specs.Lanes.{giving}
+use Rattle.law_worker.specs.Lanes.{giving_shares}
 use Rattle.frame_workers.specs.declared.lane.Lane.{Lane}
 use Rattle.frame_workers.specs.Lanes.{IsRoom, IsThere}
 
 -- who gave so many shares away and gives one more
-pub gives_more : (base now new : View) (count : ℕ) → now ≡ giving count base → new ≡ keeping now → new ≡ giving (count + 1) base
+pub gives_more : (base now new : View) (count : ℕ) → now ≡ giving_shares count base → new ≡ keeping now → new ≡ giving_shares (count + 1) base
 gives_more base now new count is kept = kept ∙ (ap keeping is
     ∙ ap (λ (n : ℕ). record { numbers = record base.numbers { shares = n }; turn = base.turn }) (omega arith))
 
 -- the newcomer has seen what the base has
-pub starts_so : (base now new : View) (count : ℕ) → now ≡ giving count base → new ≡ starting now → new ≡ starting base
+pub starts_so : (base now new : View) (count : ℕ) → now ≡ giving_shares count base → new ≡ starting now → new ≡ starting base
 starts_so base now new count is start = start ∙ ap starting is
 
 pub there_push : {B : Type 0} (number : ℕ) (lanes : List (Lane B)) (lane : Lane B) → IsThere number lanes → IsThere number (lanes ++ lane ∷ [])

@@ -67,8 +67,8 @@ pub record IsRoom {A : Type 0} (tasks : List Record) (number : ℕ) (room : Vec 
   pub roomy : list_any (is_of_lane number) tasks ≡ true → length tasks ≤ vec_capacity room
 
 -- two lanes have not one number
-abbrev pub AreApart : {B : Type 0} → Lane B → Lane B → Type 0
-AreApart one other = one.number ≢ other.number
+abbrev pub HaveOwnNumbers : {B : Type 0} → Lane B → Lane B → Type 0
+HaveOwnNumbers one other = one.number ≢ other.number
 
 -- one of the lanes has this number
 abbrev pub IsThere : {B : Type 0} → ℕ → List (Lane B) → Type 0

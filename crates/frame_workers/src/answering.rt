@@ -17,7 +17,7 @@ use std::alloc::Global;
 use unit_book::BookFault;
 
 /// An answer with neither key nor body.
-fn counted(alloc: Global, code: u8, detail: u8, number: u64, position: u64) -> Answer
+fn answer_with(alloc: Global, code: u8, detail: u8, number: u64, position: u64) -> Answer
     ensures { result ≡ answering.answer_of (told.counting code detail number) position }
 {
     Answer {
@@ -31,20 +31,26 @@ fn counted(alloc: Global, code: u8, detail: u8, number: u64, position: u64) -> A
 }
 
 /// Memory was wanting.
-pub(crate) fn unserved(alloc: Global) -> Answer
+pub(crate) fn answer_no_memory(alloc: Global) -> Answer
     ensures { result ≡ answering.unserved_answer }
 {
-    counted(alloc, code::NO_MEMORY, 0, 0, 0)
+    answer_with(alloc, code::NO_MEMORY, 0, 0, 0)
 }
 
 /// An entry was refused; none where the run has as many as it may.
-fn refused(alloc: Global, fault: BookFault, position: u64) -> Option<Answer>
+fn answer_fault(alloc: Global, fault: BookFault, position: u64) -> Option<Answer>
     ensures { result ≡ answering.fault_answer fault position }
 {
     match fault {
-        BookFault::SiteFault(count) => Some(counted(alloc, code::SITE_FAULT, 0, count, position)),
-        BookFault::Stopped(count) => Some(counted(alloc, code::STOPPED, 0, count, position)),
-        BookFault::JournalFull(slots) => Some(counted(
+        BookFault::SiteFault(count) => Some(answer_with(
+            alloc,
+            code::SITE_FAULT,
+            0,
+            count,
+            position,
+        )),
+        BookFault::Stopped(count) => Some(answer_with(alloc, code::STOPPED, 0, count, position)),
+        BookFault::JournalFull(slots) => Some(answer_with(
             alloc,
             code::JOURNAL_FULL,
             0,
@@ -52,7 +58,7 @@ fn refused(alloc: Global, fault: BookFault, position: u64) -> Option<Answer>
             position,
         )),
         BookFault::SessionFull => None,
-        BookFault::NoMemory => Some(unserved(alloc)),
+        BookFault::NoMemory => Some(answer_no_memory(alloc)),
     }
 }
 
@@ -87,7 +93,7 @@ fn window_octets(mut room: Vec<u8>, high: u64, width: u64) -> Vec<u8>
 }
 
 /// A number of a key, and the octets that go with it.
-fn numbered(code: u8, key: KeyId, number: u64, position: u64, body: Vec<u8>) -> Answer
+fn answer_under_key(code: u8, key: KeyId, number: u64, position: u64, body: Vec<u8>) -> Answer
     ensures { result ≡ answering.answer_of (told.numbered code key number body.items) position }
 {
     Answer {
@@ -112,7 +118,7 @@ fn state_code(state: SaState) -> u8
 }
 
 /// By the checks of a frame that was opened; `octets` are the frame's as the call left them.
-fn opened(alloc: Global, reply: OpenReply, position: u64, octets: Vec<u8>) -> Answer
+fn answer_opening(alloc: Global, reply: OpenReply, position: u64, octets: Vec<u8>) -> Answer
     requires { 16 ≤ vec_capacity octets }
     ensures { result ≡ answering.answer_of (told.opened_told reply (field_in reply octets.items)) position }
 {
@@ -123,27 +129,27 @@ fn opened(alloc: Global, reply: OpenReply, position: u64, octets: Vec<u8>) -> An
             number,
             from,
             to,
-        } => numbered(
+        } => answer_under_key(
             code::ACCEPTED,
             key,
             number,
             position,
             field_of(octets, from, to),
         ),
-        OpenReply::Clear => counted(alloc, code::CLEAR, 0, 0, position),
-        OpenReply::Layout(fault) => counted(alloc, code::LAYOUT, fault, 0, position),
-        OpenReply::Channel => counted(alloc, code::CHANNEL, 0, 0, position),
-        OpenReply::Spi => counted(alloc, code::SPI, 0, 0, position),
-        OpenReply::Direction => counted(alloc, code::DIRECTION, 0, 0, position),
-        OpenReply::State(state) => counted(alloc, code::STATE, state_code(state), 0, position),
-        OpenReply::Coverage => counted(alloc, code::COVERAGE, 0, 0, position),
-        OpenReply::Mac => counted(alloc, code::MAC, 0, 0, position),
+        OpenReply::Clear => answer_with(alloc, code::CLEAR, 0, 0, position),
+        OpenReply::Layout(fault) => answer_with(alloc, code::LAYOUT, fault, 0, position),
+        OpenReply::Channel => answer_with(alloc, code::CHANNEL, 0, 0, position),
+        OpenReply::Spi => answer_with(alloc, code::SPI, 0, 0, position),
+        OpenReply::Direction => answer_with(alloc, code::DIRECTION, 0, 0, position),
+        OpenReply::State(state) => answer_with(alloc, code::STATE, state_code(state), 0, position),
+        OpenReply::Coverage => answer_with(alloc, code::COVERAGE, 0, 0, position),
+        OpenReply::Mac => answer_with(alloc, code::MAC, 0, 0, position),
         OpenReply::Number {
             key,
             number,
             high,
             width,
-        } => numbered(
+        } => answer_under_key(
             code::NUMBER,
             key,
             number,
@@ -163,13 +169,13 @@ pub(crate) fn opened_answer(
     ensures { result ≡ answering.opened_answer outcome octets.items }
 {
     match outcome {
-        Ok((reply, position)) => Some(opened(alloc, reply, position, octets)),
-        Err((fault, position)) => refused(alloc, fault, position),
+        Ok((reply, position)) => Some(answer_opening(alloc, reply, position, octets)),
+        Err((fault, position)) => answer_fault(alloc, fault, position),
     }
 }
 
 /// By the reply to a command.
-fn replied(alloc: Global, reply: Reply, position: u64) -> Answer
+fn answer_reply(alloc: Global, reply: Reply, position: u64) -> Answer
     ensures { result ≡ answering.answer_of (told.replied_told reply) position }
 {
     match reply {
@@ -184,7 +190,7 @@ fn replied(alloc: Global, reply: Reply, position: u64) -> Answer
             number,
             body: pdu,
         },
-        Reply::Refused { code, value } => counted(alloc, code::REFUSED, code, value, position),
+        Reply::Refused { code, value } => answer_with(alloc, code::REFUSED, code, value, position),
     }
 }
 
@@ -196,27 +202,27 @@ pub(crate) fn commanded_answer(
     ensures { result ≡ answering.commanded_answer outcome }
 {
     match outcome {
-        Ok((reply, position)) => Some(replied(alloc, reply, position)),
-        Err((fault, position)) => refused(alloc, fault, position),
+        Ok((reply, position)) => Some(answer_reply(alloc, reply, position)),
+        Err((fault, position)) => answer_fault(alloc, fault, position),
     }
 }
 
 /// A frame that was protected into the front of the room.
-fn protected(done: Done, mut room: Vec<u8>) -> Answer
+fn answer_done(done: Done, mut room: Vec<u8>) -> Answer
     ensures { result ≡ answering.answer_of (told.numbered PROTECTED done.key done.number (take done.length room.items)) done.epoch }
 {
     room.truncate(done.length);
-    numbered(code::PROTECTED, done.key, done.number, done.epoch, room)
+    answer_under_key(code::PROTECTED, done.key, done.number, done.epoch, room)
 }
 
 /// By the first check that fails of a frame that is to be protected.
-fn unprotected(alloc: Global, fault: ShieldFault, epoch: u64) -> Answer
+fn answer_refusal(alloc: Global, fault: ShieldFault, epoch: u64) -> Answer
     ensures { result ≡ answering.answer_of (told.fault_told fault) epoch }
 {
     match fault {
-        ShieldFault::Layout(number) => counted(alloc, code::LAYOUT, number, 0, epoch),
-        ShieldFault::Channel => counted(alloc, code::CHANNEL, 0, 0, epoch),
-        ShieldFault::State => counted(alloc, code::STATE, 0, 0, epoch),
+        ShieldFault::Layout(number) => answer_with(alloc, code::LAYOUT, number, 0, epoch),
+        ShieldFault::Channel => answer_with(alloc, code::CHANNEL, 0, 0, epoch),
+        ShieldFault::State => answer_with(alloc, code::STATE, 0, 0, epoch),
     }
 }
 
@@ -225,16 +231,16 @@ pub(crate) fn protected_answer(alloc: Global, outcome: Protected, room: Vec<u8>)
     ensures { result ≡ answering.protected_answer outcome room.items }
 {
     match outcome {
-        Protected::Done(done) => Some(protected(done, room)),
-        Protected::Clear => Some(counted(alloc, code::CLEAR, 0, 0, 0)),
-        Protected::Refused(fault, epoch) => Some(unprotected(alloc, fault, epoch)),
-        Protected::Exhausted(key, number, epoch) => Some(numbered(
+        Protected::Done(done) => Some(answer_done(done, room)),
+        Protected::Clear => Some(answer_with(alloc, code::CLEAR, 0, 0, 0)),
+        Protected::Refused(fault, epoch) => Some(answer_refusal(alloc, fault, epoch)),
+        Protected::Exhausted(key, number, epoch) => Some(answer_under_key(
             code::EXHAUSTED,
             key,
             number,
             epoch,
             Vec::new(alloc),
         )),
-        Protected::Fault(fault, position) => refused(alloc, fault, position),
+        Protected::Fault(fault, position) => answer_fault(alloc, fault, position),
     }
 }

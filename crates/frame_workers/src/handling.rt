@@ -11,7 +11,7 @@ ghost use Rattle.law_worker.specs.Order.{Layout};
 ghost use Rattle.law_calls.specs.Answering.{Answered, AnsweredExactly};
 ghost use Rattle.law_calls.specs.Visiting.{BeganWith};
 
-use crate::answering::{commanded_answer, opened_answer, protected_answer, unserved};
+use crate::answering::{answer_no_memory, commanded_answer, opened_answer, protected_answer};
 use record_io::{Answer, Record, RecordKind};
 use sdls_outside::Site;
 use shared_unit::{Permit, Unit, Worker};
@@ -22,7 +22,7 @@ use std::sync::Wait;
 const ROOM: usize = 2_048;
 
 /// A room for a protected frame.
-fn room(alloc: Global) -> Result<Vec<u8>, AllocError>
+fn take_room(alloc: Global) -> Result<Vec<u8>, AllocError>
     ensures { IfOk result (λ room. length room.items ≡ 2048) }
 {
     vec![in alloc; 0; ROOM]
@@ -48,8 +48,8 @@ fn protect<R: Wait, O: Site>(
     ensures exactly { (begin : Begin) (segment : ℕ) → BeganWith O.told begin (view worker.old).turn.known.opening
         → AnsweredExactly begin segment (view worker.old) (view worker.new) task.now result }
 {
-    let Ok(mut out) = room(alloc) else {
-        return Some(unserved(alloc));
+    let Ok(mut out) = take_room(alloc) else {
+        return Some(answer_no_memory(alloc));
     };
     let clear = task.octets.as_slice();
     let protected = unit.protect(rt, worker, kept, task.link, clear, out.as_mut_slice());
@@ -57,7 +57,7 @@ fn protect<R: Wait, O: Site>(
 }
 
 /// A copy of the octets, with room for 16 at least.
-fn copied(alloc: Global, octets: &[u8]) -> Result<Vec<u8>, AllocError>
+fn copy_octets(alloc: Global, octets: &[u8]) -> Result<Vec<u8>, AllocError>
     ensures items { IfOk result (λ copy. copy.items ≡ octets.now) }
     ensures room { IfOk result (λ copy. 16 ≤ vec_capacity copy) }
 {
@@ -84,8 +84,8 @@ fn open<R: Wait, O: Site>(
     ensures exactly { (begin : Begin) (segment : ℕ) → BeganWith O.told begin (view worker.old).turn.known.opening
         → AnsweredExactly begin segment (view worker.old) (view worker.new) task.now result }
 {
-    let Ok(mut frame) = copied(alloc, task.octets.as_slice()) else {
-        return Some(unserved(alloc));
+    let Ok(mut frame) = copy_octets(alloc, task.octets.as_slice()) else {
+        return Some(answer_no_memory(alloc));
     };
     let opened = unit.open_frame(rt, worker, task.index, task.link, frame.as_mut_slice());
     opened_answer(alloc, opened, frame)

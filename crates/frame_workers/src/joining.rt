@@ -3,8 +3,8 @@ ghost use Rattle.std.specs.Prelude.{◌≡◌, ◌≢◌, ◌<◌, ◌≤◌, �
 ghost use Rattle.std.specs.List.{AllPairs, list_any};
 ghost use Rattle.counter_table.specs.Worker.{view};
 ghost use Rattle.shared_unit.specs.Turn.{IsReady};
-ghost use Rattle.law_worker.specs.Lanes.{giving, is_of_lane, MeetAll, meeting_all, Part};
-ghost use Rattle.frame_workers.specs.Lanes.{answers_of, AreApart, IsRoom, IsSplit, IsThere, left_at, parts_of};
+ghost use Rattle.law_worker.specs.Lanes.{giving_shares, is_of_lane, MeetAll, meeting_all, Part};
+ghost use Rattle.frame_workers.specs.Lanes.{answers_of, HaveOwnNumbers, IsRoom, IsSplit, IsThere, left_at, parts_of};
 
 use crate::lane::Lane;
 use crate::segment::LANES;
@@ -60,9 +60,9 @@ pub(crate) fn split_lanes<O: Site>(
     requires room { (lanes.old.items ≡ []) × (16 ≤ vec_capacity lanes.old) }
     ensures ready { IsReady unit.now.counters unit.now.plan worker.new }
     ensures many { length lanes.new.items ≤ 16 }
-    ensures given { view worker.new ≡ giving (length lanes.new.items) (view worker.old) }
+    ensures given { view worker.new ≡ giving_shares (length lanes.new.items) (view worker.old) }
     ensures split { All (IsSplit (IsReady unit.now.counters unit.now.plan) records.now (view worker.old)) lanes.new.items }
-    ensures apart { AllPairs AreApart lanes.new.items }
+    ensures apart { AllPairs HaveOwnNumbers lanes.new.items }
     ensures each { (number : ℕ) → number < 16 → list_any (is_of_lane number) records.now ≡ true → IsThere number lanes.new.items }
 {
     'rooms: while let Some(answers) = rooms.pop() {
@@ -90,7 +90,7 @@ pub(crate) fn join_lanes<O: Site>(
 )
     requires ready { IsReady unit.now.counters unit.now.plan worker.old }
     requires lanes { All (λ lane. IsReady unit.now.counters unit.now.plan lane.worker × (lane.number < 16)) lanes.items }
-    requires apart { AllPairs AreApart lanes.items }
+    requires apart { AllPairs HaveOwnNumbers lanes.items }
     requires many { length parts.old ≡ 16 }
     requires empty { (number : ℕ) → left_at number parts.old ≡ [] }
     ensures ready { IsReady unit.now.counters unit.now.plan worker.new }

@@ -10,7 +10,7 @@ use Rattle.std.proofs.lemmas.List.FromFn.{fill_by_all, length-map-range_with_len
 use Rattle.std.proofs.lemmas.Bool.{cases_lt, cases_eq}
 use Rattle.aes_block.specs.Aes.{encrypted}
 use Rattle.gcm.specs.Gcm.{counter_block, gctr_octet, gctr}
-use Rattle.gcm.specs.Counter.{XorsPad, IsCounted, eight_counters}
+use Rattle.gcm.specs.Counter.{XorsPad, IsEncipheredBelow, eight_counters}
 
 -- a list by its elements
 listed : (v : List ℕ) (n : ℕ) → length v ≡ n → v ≡ map (λ i. get_or v i 0) (range_with_len 0 n)
@@ -118,7 +118,7 @@ pad_at key iv first (suc (suc (suc (suc (suc (suc (suc (suc k)))))))) lt = absur
 
 -- ---- all pads
 
-pub counted_none : (key iv text : List ℕ) → IsCounted key iv text text 0
+pub counted_none : (key iv text : List ℕ) → IsEncipheredBelow key iv text text 0
 counted_none key iv text = record {
   same_length = refl;
   below = λ k lt here. absurd (omega arith);
@@ -126,8 +126,8 @@ counted_none key iv text = record {
 }
 
 pub counted_more : (key iv pad old now new : List ℕ) (i : ℕ) → pad ≡ encrypted key (counter_block iv (i + 1))
-    → IsCounted key iv old now (16 * i) → XorsPad (16 * i) (16 * i + 16) pad now new
-    → IsCounted key iv old new (16 * (i + 1))
+    → IsEncipheredBelow key iv old now (16 * i) → XorsPad (16 * i) (16 * i + 16) pad now new
+    → IsEncipheredBelow key iv old new (16 * (i + 1))
 counted_more key iv pad old now new i is counts xors = record {
   same_length = xors.same_length ∙ counts.same_length;
   below = λ k lt here. elim (cases_lt k (16 * i)) [
@@ -145,10 +145,10 @@ counted_more key iv pad old now new i is counts xors = record {
 }
 
 -- the same with the count of blocks written otherwise
-pub counted_to : (key iv old new : List ℕ) (m n : ℕ) → m ≡ n → IsCounted key iv old new m → IsCounted key iv old new n
-counted_to key iv old new m n same = subst (IsCounted key iv old new) same
+pub counted_to : (key iv old new : List ℕ) (m n : ℕ) → m ≡ n → IsEncipheredBelow key iv old new m → IsEncipheredBelow key iv old new n
+counted_to key iv old new m n same = subst (IsEncipheredBelow key iv old new) same
 
-pub counted_all : (key iv old new : List ℕ) (stop : ℕ) → length old ≤ stop → IsCounted key iv old new stop
+pub counted_all : (key iv old new : List ℕ) (stop : ℕ) → length old ≤ stop → IsEncipheredBelow key iv old new stop
     → new ≡ gctr key iv old
 unfolding gctr
 counted_all key iv old new stop le counts =

@@ -11,7 +11,7 @@ pub record XorsPad (start stop : ℕ) (pad old new : List ℕ) : Type 0 where
   pub above : (k : ℕ) → stop ≤ k → slice_index new k ≡ slice_index old k
 
 -- the octets below stop are enciphered, and the others are still to come
-pub record IsCounted (key iv old new : List ℕ) (stop : ℕ) : Type 0 where
+pub record IsEncipheredBelow (key iv old new : List ℕ) (stop : ℕ) : Type 0 where
   pub same_length : length new ≡ length old
   pub below : (k : ℕ) → k < stop → k < length old → slice_index new k ≡ gctr_octet key iv old k
   pub above : (k : ℕ) → stop ≤ k → slice_index new k ≡ slice_index old k

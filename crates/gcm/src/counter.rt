@@ -2,7 +2,7 @@
 
 ghost use Rattle.std.specs.Prelude.{◌≡◌, ℕ, ◌+◌, ◌-◌, ◌*◌, ◌^◌, ◌<◌, ◌≤◌, List, length};
 ghost use Rattle.gcm.specs.Gcm.{gctr, counter_block};
-ghost use Rattle.gcm.specs.Counter.{IsCounted, XorsPad, eight_counters};
+ghost use Rattle.gcm.specs.Counter.{IsEncipheredBelow, XorsPad, eight_counters};
 
 use aes_block::Schedule;
 use std::simd::u8x16;
@@ -56,8 +56,8 @@ fn eight_counters(iv: &[u8; 12], count: u32) -> [[u8; 16]; 8]
 fn count_eight(key: &Schedule, iv: &[u8; 12], text: &mut [u8], first: usize)
     requires short { length text.old ≤ 65536 }
     requires whole { 16 * (first + 8) ≤ length text.old }
-    ensures { (clear : List ℕ) → IsCounted key.now iv.now clear text.old (16 * first)
-        → IsCounted key.now iv.now clear text.new (16 * (first + 8)) }
+    ensures { (clear : List ℕ) → IsEncipheredBelow key.now iv.now clear text.old (16 * first)
+        → IsEncipheredBelow key.now iv.now clear text.new (16 * (first + 8)) }
 {
     let pads = key.encrypt8(eight_counters(iv, first as u32 + 1));
     'pads: for i in 0..8usize {

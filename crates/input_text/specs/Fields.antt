@@ -13,9 +13,9 @@ IsFault NoMemory = ⊥
 IsFault (Fault fault) = ⊤
 
 -- this is answered, or memory was wanting
-abbrev pub Answers : {X : Type 0} → Result X LineError → X → Type 0
-Answers (Ok x) value = x ≡ value
-Answers (Err error) value = IsNoMemory error
+abbrev pub AnswersField : {X : Type 0} → Result X LineError → X → Type 0
+AnswersField (Ok x) value = x ≡ value
+AnswersField (Err error) value = IsNoMemory error
 
 -- a record has such octets
 pub record AreRecorded (octets : List ℕ) : Type 0 where

@@ -3,7 +3,7 @@
 
 ghost use Rattle.std.specs.Prelude.{◌≡◌, IfOk};
 ghost use Rattle.ep_codec.specs.declared.command.Command.{Command};
-ghost use Rattle.input_text.specs.Fields.{Answers};
+ghost use Rattle.input_text.specs.Fields.{AnswersField};
 ghost use Rattle.ep_codec.specs.CommandReading.{command_procedure};
 ghost use Rattle.input_text.specs.Command.{ByProcedure, value_words, IsCommand};
 
@@ -21,7 +21,7 @@ pub(crate) fn command_named(
     fields: &mut Fields<'_>,
 ) -> Result<Command, LineError>
     ensures read { IfOk result (λ command. (command_procedure command ≡ procedure) × (fields.old ≡ value_words command) × IsCommand command) }
-    ensures only { ByProcedure (λ command. IsCommand command → fields.old ≡ value_words command → Answers result command) procedure }
+    ensures only { ByProcedure (λ command. IsCommand command → fields.old ≡ value_words command → AnswersField result command) procedure }
 {
     match procedure {
         Procedure::Rekeying => rekeying(alloc, fields),

@@ -4,7 +4,7 @@ ghost use Rattle.hex.specs.Hex.{encode_lower, IsBytes};
 ghost use Rattle.ep_codec.specs.Field.{is_key, is_spi};
 ghost use Rattle.unit_plan.specs.Lines.{words_of};
 ghost use Rattle.text_words.specs.Words.{octets_word};
-ghost use Rattle.input_text.specs.Fields.{Answers, IsFault, IsNoMemory, AreRecorded};
+ghost use Rattle.input_text.specs.Fields.{AnswersField, IsFault, IsNoMemory, AreRecorded};
 
 use crate::fault::{Expected, LineError, LineFault};
 use hex::FromHexError;
@@ -119,7 +119,7 @@ impl<'a> Fields<'a> {
     /// Takes a number.
     pub fn number(&mut self, expected: Expected) -> Result<u64, LineError>
         ensures read { IfOk result (λ n. self.old ≡ decimal n ∷ self.new) }
-        ensures only { (n : ℕ) (rest : List (List ℕ)) → n < 2 ^ 64 → self.old ≡ decimal n ∷ rest → Answers result n }
+        ensures only { (n : ℕ) (rest : List (List ℕ)) → n < 2 ^ 64 → self.old ≡ decimal n ∷ rest → AnswersField result n }
     {
         let Some(word) = self.next() else {
             return Err(self.fault(expected));
@@ -133,7 +133,7 @@ impl<'a> Fields<'a> {
     /// Takes a number within these bounds.
     pub fn bounded(&mut self, expected: Expected, least: u64, most: u64) -> Result<u64, LineError>
         ensures read { IfOk result (λ n. (self.old ≡ decimal n ∷ self.new) × (least ≤ n) × (n ≤ most)) }
-        ensures only { (n : ℕ) (rest : List (List ℕ)) → least ≤ n → n ≤ most → self.old ≡ decimal n ∷ rest → Answers result n }
+        ensures only { (n : ℕ) (rest : List (List ℕ)) → least ≤ n → n ≤ most → self.old ≡ decimal n ∷ rest → AnswersField result n }
     {
         let n = self.number(expected)?;
         if n < least || most < n {
@@ -145,7 +145,7 @@ impl<'a> Fields<'a> {
     /// The key that a word names, which was taken last.
     pub fn key_of(&self, word: &[u8]) -> Result<KeyId, LineError>
         ensures read { IfOk result (λ n. (word.now ≡ decimal n) × IsTrue (is_key n)) }
-        ensures only { (n : ℕ) → IsTrue (is_key n) → word.now ≡ decimal n → Answers result n }
+        ensures only { (n : ℕ) → IsTrue (is_key n) → word.now ≡ decimal n → AnswersField result n }
     {
         match number_of(word) {
             Some(n) if n <= 65_535 => match KeyId::new(n as u16) {
@@ -159,7 +159,7 @@ impl<'a> Fields<'a> {
     /// The channel that a word names, which was taken last.
     pub fn channel_of(&self, word: &[u8]) -> Result<u8, LineError>
         ensures read { IfOk result (λ n. (word.now ≡ decimal n) × (n ≤ 63)) }
-        ensures only { (n : ℕ) → n ≤ 63 → word.now ≡ decimal n → Answers result n }
+        ensures only { (n : ℕ) → n ≤ 63 → word.now ≡ decimal n → AnswersField result n }
     {
         match number_of(word) {
             Some(n) if n <= 63 => Ok(n as u8),
@@ -170,7 +170,7 @@ impl<'a> Fields<'a> {
     /// Takes a channel's number.
     pub fn channel(&mut self) -> Result<u8, LineError>
         ensures read { IfOk result (λ n. (self.old ≡ decimal n ∷ self.new) × (n ≤ 63)) }
-        ensures only { (n : ℕ) (rest : List (List ℕ)) → n ≤ 63 → self.old ≡ decimal n ∷ rest → Answers result n }
+        ensures only { (n : ℕ) (rest : List (List ℕ)) → n ≤ 63 → self.old ≡ decimal n ∷ rest → AnswersField result n }
     {
         match self.next() {
             Some(word) => self.channel_of(word),
@@ -181,7 +181,7 @@ impl<'a> Fields<'a> {
     /// Takes a key's identifier.
     pub fn key(&mut self) -> Result<KeyId, LineError>
         ensures read { IfOk result (λ n. (self.old ≡ decimal n ∷ self.new) × IsTrue (is_key n)) }
-        ensures only { (n : ℕ) (rest : List (List ℕ)) → IsTrue (is_key n) → self.old ≡ decimal n ∷ rest → Answers result n }
+        ensures only { (n : ℕ) (rest : List (List ℕ)) → IsTrue (is_key n) → self.old ≡ decimal n ∷ rest → AnswersField result n }
     {
         match self.next() {
             Some(word) => self.key_of(word),
@@ -192,7 +192,7 @@ impl<'a> Fields<'a> {
     /// Takes the index of an association.
     pub fn spi(&mut self) -> Result<Spi, LineError>
         ensures read { IfOk result (λ n. (self.old ≡ decimal n ∷ self.new) × IsTrue (is_spi n)) }
-        ensures only { (n : ℕ) (rest : List (List ℕ)) → IsTrue (is_spi n) → self.old ≡ decimal n ∷ rest → Answers result n }
+        ensures only { (n : ℕ) (rest : List (List ℕ)) → IsTrue (is_spi n) → self.old ≡ decimal n ∷ rest → AnswersField result n }
     {
         let n = self.bounded(Expected::Spi, 1, 65_534)?;
         match Spi::new(n as u16) {
@@ -232,7 +232,7 @@ impl<'a> Fields<'a> {
     ) -> Result<[u8; N], LineError>
         ensures read { IfOk result (λ octets. self.old ≡ encode_lower octets ∷ self.new) }
         ensures only { (octets : List ℕ) (rest : List (List ℕ)) → IsBytes octets → length octets ≡ N
-            → self.old ≡ encode_lower octets ∷ rest → Answers result octets }
+            → self.old ≡ encode_lower octets ∷ rest → AnswersField result octets }
     {
         let octets = self.octets(alloc, expected, N, N)?;
         let mut array = [0; N];
@@ -244,7 +244,7 @@ impl<'a> Fields<'a> {
     pub fn record(&mut self, alloc: Global) -> Result<Octets, LineError>
         ensures read { IfOk result (λ octets. (self.old ≡ octets_word octets ∷ self.new) × AreRecorded octets) }
         ensures only { (octets : List ℕ) (rest : List (List ℕ)) → AreRecorded octets
-            → self.old ≡ octets_word octets ∷ rest → Answers result octets }
+            → self.old ≡ octets_word octets ∷ rest → AnswersField result octets }
     {
         let Some(word) = self.next() else {
             return Err(self.fault(Expected::Octets));
@@ -274,7 +274,7 @@ impl<'a> Fields<'a> {
         most: u64,
     ) -> Result<u64, LineError>
         ensures read { IfOk result (λ n. (self.old ≡ decimal n ∷ []) × (least ≤ n) × (n ≤ most)) }
-        ensures only { (n : ℕ) → least ≤ n → n ≤ most → self.old ≡ decimal n ∷ [] → Answers result n }
+        ensures only { (n : ℕ) → least ≤ n → n ≤ most → self.old ≡ decimal n ∷ [] → AnswersField result n }
     {
         let n = self.bounded(expected, least, most)?;
         self.end()?;
@@ -284,7 +284,7 @@ impl<'a> Fields<'a> {
     /// Takes the index of an association, the last word.
     pub fn last_spi(&mut self) -> Result<Spi, LineError>
         ensures read { IfOk result (λ n. (self.old ≡ decimal n ∷ []) × IsTrue (is_spi n)) }
-        ensures only { (n : ℕ) → IsTrue (is_spi n) → self.old ≡ decimal n ∷ [] → Answers result n }
+        ensures only { (n : ℕ) → IsTrue (is_spi n) → self.old ≡ decimal n ∷ [] → AnswersField result n }
     {
         let spi = self.spi()?;
         self.end()?;
@@ -295,7 +295,7 @@ impl<'a> Fields<'a> {
     pub fn last_block(&mut self, alloc: Global) -> Result<[u8; 16], LineError>
         ensures read { IfOk result (λ octets. self.old ≡ encode_lower octets ∷ []) }
         ensures only { (octets : List ℕ) → IsBytes octets → length octets ≡ 16
-            → self.old ≡ encode_lower octets ∷ [] → Answers result octets }
+            → self.old ≡ encode_lower octets ∷ [] → AnswersField result octets }
     {
         let block = self.array(alloc, Expected::Block)?;
         self.end()?;
@@ -306,7 +306,7 @@ impl<'a> Fields<'a> {
     pub fn last_record(&mut self, alloc: Global) -> Result<Octets, LineError>
         ensures read { IfOk result (λ octets. (self.old ≡ octets_word octets ∷ []) × AreRecorded octets) }
         ensures only { (octets : List ℕ) → AreRecorded octets
-            → self.old ≡ octets_word octets ∷ [] → Answers result octets }
+            → self.old ≡ octets_word octets ∷ [] → AnswersField result octets }
     {
         let octets = self.record(alloc)?;
         self.end()?;

@@ -5,7 +5,7 @@ ghost use Rattle.std.specs.Prelude.{◌≡◌, ◌≤◌, ◌<◌, ◌^◌, ℕ,
 ghost use Rattle.ep_codec.specs.declared.command.Command.{Command};
 ghost use Rattle.input_text.specs.declared.line.Line.TheVariants as lines;
 ghost use Rattle.text_words.specs.Words.{octets_word};
-ghost use Rattle.input_text.specs.Fields.{Answers, AreRecorded};
+ghost use Rattle.input_text.specs.Fields.{AnswersField, AreRecorded};
 ghost use Rattle.input_text.specs.Command.{command_words, IsCommand};
 ghost use Rattle.input_text.specs.Line.{IsLane, IsLine, Says, is_skipped, line_words};
 
@@ -34,7 +34,7 @@ pub enum Line {
 
 fn lane(fields: &mut Fields<'_>) -> Result<u8, LineError>
     ensures read { IfOk result (λ lane. (fields.old ≡ decimal lane ∷ fields.new) × IsLane lane) }
-    ensures only { (lane : ℕ) (rest : List (List ℕ)) → IsLane lane → fields.old ≡ decimal lane ∷ rest → Answers result lane }
+    ensures only { (lane : ℕ) (rest : List (List ℕ)) → IsLane lane → fields.old ≡ decimal lane ∷ rest → AnswersField result lane }
 {
     let lane = fields.bounded(Expected::Lane, 0, 15)?;
     Ok(lane as u8)
@@ -44,7 +44,7 @@ fn lane(fields: &mut Fields<'_>) -> Result<u8, LineError>
 fn link_and_octets(alloc: Global, fields: &mut Fields<'_>) -> Result<(u8, Octets), LineError>
     ensures read { IfOk result (λ read. (fields.old ≡ decimal read.0 ∷ octets_word read.1 ∷ []) × AreRecorded read.1) }
     ensures only { (link : ℕ) (octets : List ℕ) → link < 2 ^ 8 → AreRecorded octets
-        → fields.old ≡ decimal link ∷ octets_word octets ∷ [] → Answers result (link, octets) }
+        → fields.old ≡ decimal link ∷ octets_word octets ∷ [] → AnswersField result (link, octets) }
 {
     let link = fields.bounded(Expected::Link, 0, 255)?;
     let octets = fields.last_record(alloc)?;
@@ -56,7 +56,7 @@ fn frame(alloc: Global, fields: &mut Fields<'_>) -> Result<(u8, u8, Octets), Lin
     ensures read { IfOk result (λ read. (fields.old ≡ decimal read.0 ∷ decimal read.1 ∷ octets_word read.2 ∷ [])
         × IsLane read.0 × AreRecorded read.2) }
     ensures only { (lane link : ℕ) (octets : List ℕ) → IsLane lane → link < 2 ^ 8 → AreRecorded octets
-        → fields.old ≡ decimal lane ∷ decimal link ∷ octets_word octets ∷ [] → Answers result (lane, link, octets) }
+        → fields.old ≡ decimal lane ∷ decimal link ∷ octets_word octets ∷ [] → AnswersField result (lane, link, octets) }
 {
     let lane = lane(fields)?;
     let (link, octets) = link_and_octets(alloc, fields)?;
@@ -67,7 +67,7 @@ fn frame(alloc: Global, fields: &mut Fields<'_>) -> Result<(u8, u8, Octets), Lin
 fn named_command(alloc: Global, word: &[u8], fields: &mut Fields<'_>) -> Result<Command, LineError>
     ensures read { IfOk result (λ command. (word.now ∷ fields.old ≡ command_words command) × IsCommand command) }
     ensures only { (command : Command) → IsCommand command → word.now ∷ fields.old ≡ command_words command
-        → Answers result command }
+        → AnswersField result command }
 {
     match named(word) {
         Some(procedure) => command_named(alloc, procedure, fields),
@@ -80,9 +80,9 @@ fn message(alloc: Global, lane: u8, fields: &mut Fields<'_>) -> Result<Line, Lin
     requires { IsLane lane }
     ensures read { IfOk result (λ line. (codes "command" ∷ decimal lane ∷ fields.old ≡ line_words line) × IsLine line) }
     ensures command { (command : Command) → IsCommand command → fields.old ≡ command_words command
-        → Answers result (lines.Command lane command) }
+        → AnswersField result (lines.Command lane command) }
     ensures message { (octets : List ℕ) → AreRecorded octets → fields.old ≡ codes "octets" ∷ octets_word octets ∷ []
-        → Answers result (lines.Message lane octets) }
+        → AnswersField result (lines.Message lane octets) }
 {
     match fields.next() {
         Some(word) if word == b"octets".as_slice() => {
@@ -101,9 +101,9 @@ fn message(alloc: Global, lane: u8, fields: &mut Fields<'_>) -> Result<Line, Lin
 fn command(alloc: Global, fields: &mut Fields<'_>) -> Result<Line, LineError>
     ensures read { IfOk result (λ line. (codes "command" ∷ fields.old ≡ line_words line) × IsLine line) }
     ensures command { (lane : ℕ) (command : Command) → IsLane lane → IsCommand command
-        → fields.old ≡ decimal lane ∷ command_words command → Answers result (lines.Command lane command) }
+        → fields.old ≡ decimal lane ∷ command_words command → AnswersField result (lines.Command lane command) }
     ensures message { (lane : ℕ) (octets : List ℕ) → IsLane lane → AreRecorded octets
-        → fields.old ≡ decimal lane ∷ codes "octets" ∷ octets_word octets ∷ [] → Answers result (lines.Message lane octets) }
+        → fields.old ≡ decimal lane ∷ codes "octets" ∷ octets_word octets ∷ [] → AnswersField result (lines.Message lane octets) }
 {
     let lane = lane(fields)?;
     message(alloc, lane, fields)
@@ -112,15 +112,15 @@ fn command(alloc: Global, fields: &mut Fields<'_>) -> Result<Line, LineError>
 /// What the words of a line say.
 fn said(alloc: Global, fields: &mut Fields<'_>) -> Result<Line, LineError>
     ensures read { IfOk result (λ line. (fields.old ≡ line_words line) × IsLine line) }
-    ensures fence { fields.old ≡ line_words lines.Fence → Answers result lines.Fence }
+    ensures fence { fields.old ≡ line_words lines.Fence → AnswersField result lines.Fence }
     ensures protect { (lane link : ℕ) (octets : List ℕ) → IsLane lane → link < 2 ^ 8 → AreRecorded octets
-        → fields.old ≡ line_words (lines.Protect lane link octets) → Answers result (lines.Protect lane link octets) }
+        → fields.old ≡ line_words (lines.Protect lane link octets) → AnswersField result (lines.Protect lane link octets) }
     ensures open_frame { (lane link : ℕ) (octets : List ℕ) → IsLane lane → link < 2 ^ 8 → AreRecorded octets
-        → fields.old ≡ line_words (lines.Open lane link octets) → Answers result (lines.Open lane link octets) }
+        → fields.old ≡ line_words (lines.Open lane link octets) → AnswersField result (lines.Open lane link octets) }
     ensures command { (lane : ℕ) (command : Command) → IsLane lane → IsCommand command
-        → fields.old ≡ line_words (lines.Command lane command) → Answers result (lines.Command lane command) }
+        → fields.old ≡ line_words (lines.Command lane command) → AnswersField result (lines.Command lane command) }
     ensures message { (lane : ℕ) (octets : List ℕ) → IsLane lane → AreRecorded octets
-        → fields.old ≡ line_words (lines.Message lane octets) → Answers result (lines.Message lane octets) }
+        → fields.old ≡ line_words (lines.Message lane octets) → AnswersField result (lines.Message lane octets) }
 {
     match fields.next() {
         Some(word) if word == b"fence".as_slice() => {
@@ -150,7 +150,7 @@ fn is_skipped(text: &[u8]) -> bool
 }
 
 /// The same fault, at a line that ends with CR LF told as such.
-fn told(text: &[u8], fault: LineFault) -> LineFault {
+fn name_line_feed(text: &[u8], fault: LineFault) -> LineFault {
     match text.last() {
         Some(b'\r') => LineFault {
             word: fault.word,
@@ -167,7 +167,7 @@ pub fn read_line(alloc: Global, text: &[u8]) -> Result<Option<Line>, LineError>
     // What is read is what the line says, and nothing is read where it is skipped.
     ensures read { IfOk result (λ read. MatchOption read (IsTrue (is_skipped text.now)) (Says text.now)) }
     // What a line says is read, unless memory runs out: so it says one thing at most, and a fault comes where it says nothing.
-    ensures only { (line : Line) → Says text.now line → Answers result (Some line) }
+    ensures only { (line : Line) → Says text.now line → AnswersField result (Some line) }
     ensures skipped { IsTrue (is_skipped text.now) → result ≡ Ok None }
 {
     if is_skipped(text) {
@@ -175,7 +175,7 @@ pub fn read_line(alloc: Global, text: &[u8]) -> Result<Option<Line>, LineError>
     }
     match said(alloc, &mut Fields::of(text)) {
         Ok(line) => Ok(Some(line)),
-        Err(LineError::Fault(fault)) => Err(LineError::Fault(told(text, fault))),
+        Err(LineError::Fault(fault)) => Err(LineError::Fault(name_line_feed(text, fault))),
         Err(LineError::NoMemory) => Err(LineError::NoMemory),
     }
 }

@@ -4,7 +4,7 @@ ghost use Rattle.std.specs.List.{AllByRecursion};
 ghost use Rattle.std.specs.Int.{is_in_range};
 ghost use Rattle.sdls_base.specs.Bounds.{AreChannels};
 ghost use Rattle.ep_codec.specs.Command.{AreKeys, IsKeyCount};
-ghost use Rattle.input_text.specs.Fields.{Answers};
+ghost use Rattle.input_text.specs.Fields.{AnswersField};
 
 use crate::fault::{Expected, LineError};
 use crate::fields::Fields;
@@ -18,7 +18,7 @@ const MOST: usize = 8;
 /// Takes the keys that are left, 1 to 8.
 pub(crate) fn keys(alloc: Global, fields: &mut Fields<'_>) -> Result<KeyList, LineError>
     ensures read { IfOk result (λ keys. (fields.old ≡ map decimal keys) × AreKeys keys × IsKeyCount keys) }
-    ensures only { (keys : List ℕ) → AreKeys keys → IsKeyCount keys → fields.old ≡ map decimal keys → Answers result keys }
+    ensures only { (keys : List ℕ) → AreKeys keys → IsKeyCount keys → fields.old ≡ map decimal keys → AnswersField result keys }
 {
     let mut keys: Vec<KeyId> = Vec::new(alloc);
     let first = fields.key()?;
@@ -38,7 +38,7 @@ pub(crate) fn keys(alloc: Global, fields: &mut Fields<'_>) -> Result<KeyList, Li
 fn channel_numbers(alloc: Global, fields: &mut Fields<'_>) -> Result<Octets, LineError>
     ensures read { IfOk result (λ numbers. fields.old ≡ map decimal numbers) }
     ensures only { (numbers : List ℕ) → AllByRecursion (λ channel. channel ≤ 63) numbers
-        → IsTrue (is_in_range 1 8 (length numbers)) → fields.old ≡ map decimal numbers → Answers result numbers }
+        → IsTrue (is_in_range 1 8 (length numbers)) → fields.old ≡ map decimal numbers → AnswersField result numbers }
 {
     let mut numbers: Vec<u8> = Vec::new(alloc);
     let first = fields.channel()?;
@@ -59,7 +59,7 @@ pub(crate) fn channels(alloc: Global, fields: &mut Fields<'_>) -> Result<Octets,
     ensures read { IfOk result (λ channels. (fields.old ≡ map decimal channels) × AreChannels channels
         × AllByRecursion (λ channel. channel ≤ 63) channels) }
     ensures only { (channels : List ℕ) → AreChannels channels → AllByRecursion (λ channel. channel ≤ 63) channels
-        → fields.old ≡ map decimal channels → Answers result channels }
+        → fields.old ≡ map decimal channels → AnswersField result channels }
 {
     let numbers = channel_numbers(alloc, fields)?;
     if are_channels(numbers.as_slice()) {

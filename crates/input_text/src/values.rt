@@ -11,7 +11,7 @@ ghost use Rattle.ep_codec.specs.declared.command.Command.TheVariants as commands
 ghost use Rattle.ep_codec.specs.CommandReading.{command_procedure};
 ghost use Rattle.ep_codec.specs.declared.procedure.Procedure.TheVariants as procedures;
 ghost use Rattle.text_words.specs.Words.{direction_word, suite_word};
-ghost use Rattle.input_text.specs.Fields.{Answers};
+ghost use Rattle.input_text.specs.Fields.{AnswersField};
 ghost use Rattle.input_text.specs.Command.{value_words, IsCommand};
 
 use crate::fault::{Expected, LineError};
@@ -25,7 +25,7 @@ use std::alloc::Global;
 fn key_and_number(fields: &mut Fields<'_>) -> Result<(KeyId, u64), LineError>
     ensures read { IfOk result (λ read. (fields.old ≡ decimal read.0 ∷ decimal read.1 ∷ []) × IsTrue (is_key read.0)) }
     ensures only { (key number : ℕ) → IsTrue (is_key key) → number < 2 ^ 64
-        → fields.old ≡ decimal key ∷ decimal number ∷ [] → Answers result (key, number) }
+        → fields.old ≡ decimal key ∷ decimal number ∷ [] → AnswersField result (key, number) }
 {
     let key = fields.key()?;
     let number = fields.last_number(Expected::Number, 0, u64::MAX)?;
@@ -35,7 +35,7 @@ fn key_and_number(fields: &mut Fields<'_>) -> Result<(KeyId, u64), LineError>
 pub(crate) fn rekey(fields: &mut Fields<'_>) -> Result<Command, LineError>
     ensures read { IfOk result (λ command. (fields.old ≡ value_words command) × IsCommand command × (command_procedure command ≡ procedures.Rekey)) }
     ensures only { (spi key number : ℕ) → IsTrue (is_spi spi) → IsTrue (is_key key) → number < 2 ^ 64
-        → fields.old ≡ value_words (commands.Rekey spi key number) → Answers result (commands.Rekey spi key number) }
+        → fields.old ≡ value_words (commands.Rekey spi key number) → AnswersField result (commands.Rekey spi key number) }
 {
     let spi = fields.spi()?;
     let (key, number) = key_and_number(fields)?;
@@ -45,7 +45,7 @@ pub(crate) fn rekey(fields: &mut Fields<'_>) -> Result<Command, LineError>
 pub(crate) fn verify(alloc: Global, fields: &mut Fields<'_>) -> Result<Command, LineError>
     ensures read { IfOk result (λ command. (fields.old ≡ value_words command) × IsCommand command × (command_procedure command ≡ procedures.Verify)) }
     ensures only { (key : ℕ) (challenge : List ℕ) → IsTrue (is_key key) → IsBytes challenge → length challenge ≡ 16
-        → fields.old ≡ value_words (commands.Verify key challenge) → Answers result (commands.Verify key challenge) }
+        → fields.old ≡ value_words (commands.Verify key challenge) → AnswersField result (commands.Verify key challenge) }
 {
     let key = fields.key()?;
     let challenge = fields.last_block(alloc)?;
@@ -55,7 +55,7 @@ pub(crate) fn verify(alloc: Global, fields: &mut Fields<'_>) -> Result<Command, 
 pub(crate) fn inventory(fields: &mut Fields<'_>) -> Result<Command, LineError>
     ensures read { IfOk result (λ command. (fields.old ≡ value_words command) × IsCommand command × (command_procedure command ≡ procedures.Inventory)) }
     ensures only { (first last : ℕ) → first ≤ last → last < 2 ^ 16
-        → fields.old ≡ value_words (commands.Inventory first last) → Answers result (commands.Inventory first last) }
+        → fields.old ≡ value_words (commands.Inventory first last) → AnswersField result (commands.Inventory first last) }
 {
     let first = fields.bounded(Expected::First, 0, 65_535)?;
     let last = fields.last_number(Expected::Last, first, 65_535)?;
@@ -68,7 +68,7 @@ pub(crate) fn inventory(fields: &mut Fields<'_>) -> Result<Command, LineError>
 pub(crate) fn set_number(fields: &mut Fields<'_>) -> Result<Command, LineError>
     ensures read { IfOk result (λ command. (fields.old ≡ value_words command) × IsCommand command × (command_procedure command ≡ procedures.SetNumber)) }
     ensures only { (spi number : ℕ) → IsTrue (is_spi spi) → number < 2 ^ 64
-        → fields.old ≡ value_words (commands.SetNumber spi number) → Answers result (commands.SetNumber spi number) }
+        → fields.old ≡ value_words (commands.SetNumber spi number) → AnswersField result (commands.SetNumber spi number) }
 {
     let spi = fields.spi()?;
     let number = fields.last_number(Expected::Number, 0, u64::MAX)?;
@@ -79,7 +79,7 @@ pub(crate) fn set_number(fields: &mut Fields<'_>) -> Result<Command, LineError>
 fn sealed(alloc: Global, fields: &mut Fields<'_>) -> Result<Octets, LineError>
     ensures read { IfOk result (λ sealed. (fields.old ≡ encode_lower sealed ∷ fields.new) × IsBytes sealed × IsSealedLength sealed) }
     ensures only { (sealed : List ℕ) (rest : List (List ℕ)) → IsBytes sealed → IsSealedLength sealed
-        → fields.old ≡ encode_lower sealed ∷ rest → Answers result sealed }
+        → fields.old ≡ encode_lower sealed ∷ rest → AnswersField result sealed }
 {
     let octets = fields.octets(alloc, Expected::Sealed, 19, 280)?;
     Ok(Octets::new(octets))
@@ -89,7 +89,7 @@ fn sealed(alloc: Global, fields: &mut Fields<'_>) -> Result<Octets, LineError>
 fn sealed_and_tag(alloc: Global, fields: &mut Fields<'_>) -> Result<(Octets, [u8; 16]), LineError>
     ensures read { IfOk result (λ read. (fields.old ≡ encode_lower read.0 ∷ encode_lower read.1 ∷ []) × IsBytes read.0 × IsSealedLength read.0) }
     ensures only { (sealed tag : List ℕ) → IsBytes sealed → IsSealedLength sealed → IsBytes tag → length tag ≡ 16
-        → fields.old ≡ encode_lower sealed ∷ encode_lower tag ∷ [] → Answers result (sealed, tag) }
+        → fields.old ≡ encode_lower sealed ∷ encode_lower tag ∷ [] → AnswersField result (sealed, tag) }
 {
     let sealed = sealed(alloc, fields)?;
     let tag = fields.last_block(alloc)?;
@@ -105,7 +105,7 @@ fn behind_master(
         × IsBytes read.1 × IsSealedLength read.1) }
     ensures only { (vector sealed tag : List ℕ) → IsBytes vector → length vector ≡ 12 → IsBytes sealed
         → IsSealedLength sealed → IsBytes tag → length tag ≡ 16
-        → fields.old ≡ encode_lower vector ∷ encode_lower sealed ∷ encode_lower tag ∷ [] → Answers result (vector, sealed, tag) }
+        → fields.old ≡ encode_lower vector ∷ encode_lower sealed ∷ encode_lower tag ∷ [] → AnswersField result (vector, sealed, tag) }
 {
     let vector = fields.array(alloc, Expected::Vector)?;
     let (sealed, tag) = sealed_and_tag(alloc, fields)?;
@@ -117,7 +117,7 @@ pub(crate) fn rekeying(alloc: Global, fields: &mut Fields<'_>) -> Result<Command
     ensures only { (master : ℕ) (vector sealed tag : List ℕ) → IsTrue (is_key master) → IsBytes vector
         → length vector ≡ 12 → IsBytes sealed → IsSealedLength sealed → IsBytes tag → length tag ≡ 16
         → fields.old ≡ value_words (commands.Rekeying master vector sealed tag)
-        → Answers result (commands.Rekeying master vector sealed tag) }
+        → AnswersField result (commands.Rekeying master vector sealed tag) }
 {
     let master = fields.key()?;
     let (vector, sealed, tag) = behind_master(alloc, fields)?;
@@ -132,7 +132,7 @@ pub(crate) fn rekeying(alloc: Global, fields: &mut Fields<'_>) -> Result<Command
 pub(crate) fn set_window(fields: &mut Fields<'_>) -> Result<Command, LineError>
     ensures read { IfOk result (λ command. (fields.old ≡ value_words command) × IsCommand command × (command_procedure command ≡ procedures.SetWindow)) }
     ensures only { (spi window : ℕ) → IsTrue (is_spi spi) → IsWidth window
-        → fields.old ≡ value_words (commands.SetWindow spi window) → Answers result (commands.SetWindow spi window) }
+        → fields.old ≡ value_words (commands.SetWindow spi window) → AnswersField result (commands.SetWindow spi window) }
 {
     let spi = fields.spi()?;
     let window = fields.last_number(Expected::Window, 1, MOST_WINDOW)?;
@@ -142,7 +142,7 @@ pub(crate) fn set_window(fields: &mut Fields<'_>) -> Result<Command, LineError>
 pub(crate) fn compose(alloc: Global, fields: &mut Fields<'_>) -> Result<Command, LineError>
     ensures read { IfOk result (λ command. (fields.old ≡ value_words command) × IsCommand command × (command_procedure command ≡ procedures.Compose)) }
     ensures only { (master : ℕ) (listed : List ℕ) → IsTrue (is_key master) → AreKeys listed → IsKeyCount listed
-        → fields.old ≡ value_words (commands.Compose master listed) → Answers result (commands.Compose master listed) }
+        → fields.old ≡ value_words (commands.Compose master listed) → AnswersField result (commands.Compose master listed) }
 {
     let master = fields.key()?;
     let keys = keys(alloc, fields)?;
@@ -155,7 +155,7 @@ fn window_and_channels(alloc: Global, fields: &mut Fields<'_>) -> Result<(u64, O
         × AreChannels read.1 × AllByRecursion (λ channel. channel ≤ 63) read.1) }
     ensures only { (window : ℕ) (covered : List ℕ) → IsWidth window → AreChannels covered
         → AllByRecursion (λ channel. channel ≤ 63) covered
-        → fields.old ≡ decimal window ∷ map decimal covered → Answers result (window, covered) }
+        → fields.old ≡ decimal window ∷ map decimal covered → AnswersField result (window, covered) }
 {
     let window = fields.bounded(Expected::Window, 1, MOST_WINDOW)?;
     let channels = channels(alloc, fields)?;
@@ -165,7 +165,7 @@ fn window_and_channels(alloc: Global, fields: &mut Fields<'_>) -> Result<(u64, O
 fn direction(fields: &mut Fields<'_>) -> Result<Direction, LineError>
     ensures read { IfOk result (λ direction. fields.old ≡ direction_word direction ∷ fields.new) }
     ensures only { (direction : Direction) (rest : List (List ℕ)) → fields.old ≡ direction_word direction ∷ rest
-        → Answers result direction }
+        → AnswersField result direction }
 {
     match fields.next() {
         Some(word) if word == b"send".as_slice() => Ok(Direction::Send),
@@ -177,7 +177,7 @@ fn direction(fields: &mut Fields<'_>) -> Result<Direction, LineError>
 fn suite(fields: &mut Fields<'_>) -> Result<Suite, LineError>
     ensures read { IfOk result (λ suite. fields.old ≡ suite_word suite ∷ fields.new) }
     ensures only { (suite : Suite) (rest : List (List ℕ)) → fields.old ≡ suite_word suite ∷ rest
-        → Answers result suite }
+        → AnswersField result suite }
 {
     match fields.next() {
         Some(word) if word == b"cmac".as_slice() => Ok(Suite::Cmac),
@@ -192,7 +192,7 @@ fn from_suite(alloc: Global, fields: &mut Fields<'_>) -> Result<(Suite, u64, Oct
         × IsWidth read.1 × AreChannels read.2 × AllByRecursion (λ channel. channel ≤ 63) read.2) }
     ensures only { (suite : Suite) (window : ℕ) (covered : List ℕ) → IsWidth window → AreChannels covered
         → AllByRecursion (λ channel. channel ≤ 63) covered
-        → fields.old ≡ suite_word suite ∷ decimal window ∷ map decimal covered → Answers result (suite, window, covered) }
+        → fields.old ≡ suite_word suite ∷ decimal window ∷ map decimal covered → AnswersField result (suite, window, covered) }
 {
     let suite = suite(fields)?;
     let (window, channels) = window_and_channels(alloc, fields)?;
@@ -210,7 +210,7 @@ fn from_direction(
     ensures only { (direction : Direction) (suite : Suite) (window : ℕ) (covered : List ℕ) → IsWidth window
         → AreChannels covered → AllByRecursion (λ channel. channel ≤ 63) covered
         → fields.old ≡ direction_word direction ∷ suite_word suite ∷ decimal window ∷ map decimal covered
-        → Answers result (direction, suite, window, covered) }
+        → AnswersField result (direction, suite, window, covered) }
 {
     let direction = direction(fields)?;
     let (suite, window, channels) = from_suite(alloc, fields)?;
@@ -221,7 +221,7 @@ pub(crate) fn create(alloc: Global, fields: &mut Fields<'_>) -> Result<Command, 
     ensures read { IfOk result (λ command. (fields.old ≡ value_words command) × IsCommand command × (command_procedure command ≡ procedures.Create)) }
     ensures only { (sa : NewSa) → IsTrue (is_spi sa.spi) → IsWidth sa.window → AreChannels sa.channels
         → AllByRecursion (λ channel. channel ≤ 63) sa.channels
-        → fields.old ≡ value_words (commands.Create sa) → Answers result (commands.Create sa) }
+        → fields.old ≡ value_words (commands.Create sa) → AnswersField result (commands.Create sa) }
 {
     let spi = fields.spi()?;
     let (direction, suite, window, channels) = from_direction(alloc, fields)?;

@@ -14,8 +14,8 @@ use Rattle.key_book.specs.KeyRow.{new_row}
 use Rattle.key_book.specs.KeyBook.{row_of}
 
 -- a refusal is want of memory, or the first that applies
-abbrev pub IsRefusal : KeyRefusal → Option KeyRefusal → Type 0
-IsRefusal refusal first = (refusal ≡ NoMemory) ⊎ (first ≡ Some refusal)
+abbrev pub IsKeyRefusal : KeyRefusal → Option KeyRefusal → Type 0
+IsKeyRefusal refusal first = (refusal ≡ NoMemory) ⊎ (first ≡ Some refusal)
 
 -- the row with a digest
 abbrev pub row_with : List KeyRow → List ℕ → Option KeyRow

@@ -7,7 +7,7 @@ ghost use Rattle.sdls_base.specs.KeyId.{end_of};
 ghost use Rattle.key_book.specs.declared.key_row.KeyRow.{KeyRow};
 ghost use Rattle.key_book.specs.KeyRow.{new_row};
 ghost use Rattle.key_book.specs.KeyBook.{IsKeyBook, MayFollow, row_of, place_of, changed};
-ghost use Rattle.key_book.specs.KeyRefusal.{IsRefusal, load_refusal};
+ghost use Rattle.key_book.specs.KeyRefusal.{IsKeyRefusal, load_refusal};
 ghost use Rattle.key_book.specs.Moves.{moved, moves_refusal};
 ghost use Rattle.key_book.specs.Inventory.{IsInventory};
 
@@ -55,7 +55,7 @@ impl KeyBook {
 
         // The first refusal that applies, or want of memory; after Ok none applies.
         ensures accepted { OnOk result (load_refusal self.old items.now ≡ None) }
-        ensures refused { IfErr result (λ refusal. IsRefusal refusal (load_refusal self.old items.now)) }
+        ensures refused { IfErr result (λ refusal. IsKeyRefusal refusal (load_refusal self.old items.now)) }
         ensures kept { OnErr result (self.new ≡ self.old) }
     {
         let before = self.rows.len();

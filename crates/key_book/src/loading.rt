@@ -5,7 +5,7 @@ ghost use Rattle.std.specs.Result.{result_err};
 ghost use Rattle.sdls_base.specs.Bounds.{IsKeyLength};
 ghost use Rattle.key_book.specs.KeyRow.{new_row};
 ghost use Rattle.key_book.specs.KeyBook.{AreKeyRows};
-ghost use Rattle.key_book.specs.KeyRefusal.{IsRefusal, key_refusal, items_refusal};
+ghost use Rattle.key_book.specs.KeyRefusal.{IsKeyRefusal, key_refusal, items_refusal};
 
 use crate::key_refusal::KeyRefusal;
 use crate::key_row::{KeyRow, digest};
@@ -32,7 +32,7 @@ pub(crate) fn append(rows: &mut Vec<KeyRow>, items: &[KeyItem]) -> Result<(), Ke
     ensures appended { OnOk result (rows.new.items ≡ rows.old.items ++ map new_row items.now) }
     ensures rules { OnOk result (AreKeyRows rows.new.items) }
     ensures accepted { OnOk result (items_refusal rows.old.items items.now ≡ None) }
-    ensures refused { IfErr result (λ refusal. IsRefusal refusal (items_refusal rows.old.items items.now)) }
+    ensures refused { IfErr result (λ refusal. IsKeyRefusal refusal (items_refusal rows.old.items items.now)) }
     ensures front { take (vec_len rows.old) rows.new.items ≡ rows.old.items }
 {
     for item in items {

@@ -12,7 +12,7 @@ use Rattle.ep_core.specs.declared.need.Need.{Need}
 use Rattle.ep_core.specs.declared.need.Need.TheVariants as needs
 use Rattle.ep_core.specs.declared.reply.Reply.{Reply}
 use Rattle.ep_core.specs.declared.reply.Reply.TheVariants as replies
-use Rattle.ep_core.specs.Seen.{Fits}
+use Rattle.ep_core.specs.Seen.{MeetsNeed}
 use Rattle.key_book.specs.declared.key_row.KeyRow.{KeyRow}
 use Rattle.key_book.specs.KeyBook.{place_of}
 use Rattle.record_io.specs.declared.kinds.RecordKind.{RecordKind}
@@ -40,7 +40,7 @@ use Rattle.law_history.proofs.OneStep.{need_one}
 use Rattle.unit_book.proofs.EpochStates.{alike_served}
 use Rattle.shared_unit.specs.Calls.{WithPosition}
 use Rattle.shared_unit.specs.Commanding.{RaisesWord, FailsFor, Satisfies, IsCommanded}
-use Rattle.shared_unit.specs.Told.{told_by, entry_count}
+use Rattle.shared_unit.specs.Told.{known_of_book, entry_count}
 use Rattle.shared_unit.specs.Turn.{Visits}
 use Rattle.shared_unit.proofs.Places.{place_there}
 use Rattle.shared_unit.proofs.Reserved.{reserves_place}
@@ -100,13 +100,13 @@ module _ {O : Type 0} (told : Bool) (trace : O → Trace) (faults puts : O → �
     pub stage : Stage told trace faults puts c middle es
     pub numbers : Added told trace faults puts c
     pub still_is : still middle.state ≡ still c.found.state
-    pub fits : Fits middle.state need seen
+    pub fits : MeetsNeed middle.state need seen
     pub is_near : (key : ℕ) → needed_key need ≡ Some key → SeenNear (IsBetween c.begin c.old_view c.new_view) key seen
     pub spent : (key number : ℕ) → need ≡ needs.Number key → seen ≡ sights.Number number
         → (row : ℕ) × (row < c.begin.rows) × IsRow c.begin c.new_view key row × (0 < times row number numbers.spent)
 
   satisfied_found : (need : Need) (seen : Seen) (middle : BookView O) (numbers : Added told trace faults puts c) → middle ≡ c.found
-      → Fits middle.state need seen → ((key : ℕ) → needed_key need ≡ Some key → SeenNear (IsBetween c.begin c.old_view c.new_view) key seen)
+      → MeetsNeed middle.state need seen → ((key : ℕ) → needed_key need ≡ Some key → SeenNear (IsBetween c.begin c.old_view c.new_view) key seen)
       → ((key number : ℕ) → need ≡ needs.Number key → seen ≡ sights.Number number → ⊥) → Satisfied need seen middle
   satisfied_found need seen middle numbers same fits near_is none = record {
     es = [];
@@ -202,7 +202,7 @@ module _ {O : Type 0} (told : Bool) (trace : O → Trace) (faults puts : O → �
         need_one c.found.state c.task.octets need other needed ((served.needs c.task.octets other).0 there)
 
     sees : SeesFor middle.state c.task.octets seen
-    sees other there = subst (λ (n : Need). Fits middle.state n seen) (same_need other there) s.fits
+    sees other there = subst (λ (n : Need). MeetsNeed middle.state n seen) (same_need other there) s.fits
 
     pub near_seen : (key : ℕ) → KeyOf middle.state c.task.octets key → SeenNear (IsBetween c.begin c.old_view c.new_view) key seen
     near_seen key (other, there, is) = s.is_near key (ap needed_key (same_need other there) ∙ is)
@@ -267,7 +267,7 @@ module _ {O : Type 0} (told : Bool) (trace : O → Trace) (faults puts : O → �
         (record_entry c.task.index seen h.change) position known (s.stage.state h.made.0.0) at commands seen h.change reply h.step refl)
         (λ key number uses. used_here h.change reply position h.step key number uses) (plain reply)
 
-    refuses : (fault : BookFault) (position : ℕ) → position ≡ entry_count (told_by trace faults puts c.given)
+    refuses : (fault : BookFault) (position : ℕ) → position ≡ entry_count (known_of_book trace faults puts c.given)
         → RefusesMessage faults c.task.index c.task.octets seen middle c.given fault
         → Answered c.layout c.begin c.segment c.old_view c.new_view c.task (fault_answer fault position)
     refuses fault position at (inl (is_barred, same)) =
@@ -281,7 +281,7 @@ module _ {O : Type 0} (told : Bool) (trace : O → Trace) (faults puts : O → �
         (λ same stored. may_change change reply step (length (entries_of middle.log)) same stored)
 
   -- the reserve of a number that the message needs was refused
-  fails : (need : Need) (fault : BookFault) (position : ℕ) → position ≡ entry_count (told_by trace faults puts c.given)
+  fails : (need : Need) (fault : BookFault) (position : ℕ) → position ≡ entry_count (known_of_book trace faults puts c.given)
       → IsNeedOf c.found.state c.task.octets need → FailsFor faults need fault c.found c.given c.old_view.numbers c.new_view.numbers
       → Answered c.layout c.begin c.segment c.old_view c.new_view c.task (fault_answer fault position)
   fails need fault position at needed f =
@@ -299,7 +299,7 @@ module _ {O : Type 0} (told : Bool) (trace : O → Trace) (faults puts : O → �
       } in
       subst (λ (k : RecordKind). CanAppend (IsBetween c.begin c.old_view c.new_view) (course_in c.begin c.new_view) p c.task k) (sym commands) (inr can_draw))
 
-  pub commanded : (result : Result (Reply × ℕ) (BookFault × ℕ)) → WithPosition result (told_by trace faults puts c.given)
+  pub commanded : (result : Result (Reply × ℕ) (BookFault × ℕ)) → WithPosition result (known_of_book trace faults puts c.given)
       (λ answer. IsCommanded faults c.task.index c.task.octets answer c.found c.given c.old_view.numbers c.new_view.numbers)
       → Answered c.layout c.begin c.segment c.old_view c.new_view c.task (commanded_answer result)
   commanded (Ok (reply, position)) (need, seen, middle, needed, shows, handles) =
@@ -337,7 +337,7 @@ call_of {O} told trace faults puts begin layout segment task v w found given beg
 pub commanding_answers : {O : Type 0} (told : Bool) (trace : O → Trace) (faults puts : O → ℕ) (begin : Begin) (layout : Layout) (segment : ℕ)
     (task : Record) (v w : View) (found given : BookView O) → BeganWith told begin v.turn.known.opening → v.turn.holds ≡ false
     → task.kind ≡ Command → Visits told trace faults puts found given v.turn w.turn → (result : Result (Reply × ℕ) (BookFault × ℕ))
-    → WithPosition result (told_by trace faults puts given)
+    → WithPosition result (known_of_book trace faults puts given)
     (λ answer. IsCommanded faults task.index task.octets answer found given v.numbers w.numbers)
     → Answered layout begin segment v w task (commanded_answer result)
 commanding_answers {O} told trace faults puts begin layout segment task v w found given began free commands visits result handled =

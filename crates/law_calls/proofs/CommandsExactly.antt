@@ -43,7 +43,7 @@ use Rattle.shared_unit.specs.Calls.{WithPosition}
 use Rattle.shared_unit.specs.Commanding.{FailsFor, Satisfies, IsCommanded}
 use Rattle.shared_unit.specs.Funding.{Reserves}
 use Rattle.shared_unit.specs.Numbers.{Draws}
-use Rattle.shared_unit.specs.Told.{told_by, entry_count}
+use Rattle.shared_unit.specs.Told.{known_of_book, entry_count}
 use Rattle.shared_unit.specs.Turn.{FindsCovered, Visits}
 use Rattle.shared_unit.proofs.Steps.{earlier_again}
 use Rattle.law_worker.specs.Begin.{Begin}
@@ -53,7 +53,7 @@ use Rattle.law_worker.specs.Order.{Layout}
 use Rattle.law_one_lane.specs.Machine.{Move, Kept, Found, Drew, Raised, Overdrew}
 use Rattle.law_one_lane.specs.Serving as machine
 use Rattle.law_one_lane.specs.InTurn.{IsClean}
-use Rattle.law_one_lane.specs.Exact.{TellsSeen, TellsCommand, TellsKind, Tells, IsDrawn}
+use Rattle.law_one_lane.specs.Exact.{TellsSeen, TellsCommand, TellsKind, Tells, IsOfMoves}
 use Rattle.law_calls.specs.Visiting.{BeganWith}
 use Rattle.law_calls.specs.Answering.{answer_of, fault_answer, commanded_answer, AnsweredExactly}
 use Rattle.law_calls.proofs.Behind.{lines_of, lines_more, lines_entries}
@@ -83,7 +83,7 @@ one_line (x ∷ []) e is = let same : x ≡ e = cc in ap (λ (z : Entry). z ∷ 
 one_line (x ∷ y ∷ es) e is = absurd (let n : length (lines_of (x ∷ y ∷ es)) ≡ 1 = ap length is in omega arith)
 
 -- the reserve of a number that the move drew
-pub reserve_drawn : (row n : ℕ) (e : Entry) → e.seen ≡ sights.Number n → IsDrawn (Drew row n ∷ []) (Some (lines.Entry e))
+pub reserve_drawn : (row n : ℕ) (e : Entry) → e.seen ≡ sights.Number n → IsOfMoves (Drew row n ∷ []) (Some (lines.Entry e))
 reserve_drawn row n e seen entry same none =
     let e_is : e ≡ entry = (let s = same in cc) in
     (row, n, ap (λ (z : Entry). z.seen) (sym e_is) ∙ seen, (0, omega arith, refl))
@@ -100,7 +100,7 @@ module _ {O : Type 0} (told : Bool) (trace : O → Trace) (faults puts : O → �
     -- where the site did not fail, what is known of the book behind it, and what the machine says of it
     pub stands : IsClean c.new_view → Stands c.begin middle
     pub shown : IsClean c.new_view → (es : List Entry) → middle.log ≡ c.found.log ++ lines_of es
-        → machine.Shows c.begin (entries_of c.found.log) need seen es move
+        → machine.AloneShows c.begin (entries_of c.found.log) need seen es move
 
   stands_first : IsClean c.new_view → Stands c.begin c.found
   stands_first clean = stands_found told trace faults puts c.begin c.found c.given c.taken c.old_view c.new_view c.began c.free c.visits clean
@@ -229,13 +229,13 @@ module _ {O : Type 0} (told : Bool) (trace : O → Trace) (faults puts : O → �
       spent spent_is (covers_spent (places (length c.found.log) (length es)) (by_lines es is).made)
 
   by_kind : (answer : Answer) (es : List Entry) (move : Move)
-      → (machine.IsHandled c.begin (entries_of c.found.log) c.task answer es move ⊎ (machine.IsUnhandled c.begin (entries_of c.found.log) c.task answer es move
-      ⊎ machine.IsUnmet c.begin (entries_of c.found.log) c.task answer es move))
-      → machine.Serves c.begin (entries_of c.found.log) c.task answer es move
+      → (machine.AloneHandled c.begin (entries_of c.found.log) c.task answer es move ⊎ (machine.AloneUnhandled c.begin (entries_of c.found.log) c.task answer es move
+      ⊎ machine.AloneUnmet c.begin (entries_of c.found.log) c.task answer es move))
+      → machine.AloneServes c.begin (entries_of c.found.log) c.task answer es move
   by_kind answer es move h =
       inr (subst (λ (k : RecordKind). machine.ServesKind c.begin (entries_of c.found.log) k c.task answer es move) (sym commands) h)
 
-  known_length : (position : ℕ) → position ≡ entry_count (told_by trace faults puts c.given) → position ≡ length (entries_in c.new_view)
+  known_length : (position : ℕ) → position ≡ entry_count (known_of_book trace faults puts c.given) → position ≡ length (entries_in c.new_view)
   known_length position is =
       is ∙ sym (ap (λ (l : List Logged). length (entries_of l)) (log_is told trace faults puts c.begin c.found c.given c.taken c.new_view.turn c.began c.free c.visits))
 
@@ -301,7 +301,7 @@ module _ {O : Type 0} (told : Bool) (trace : O → Trace) (faults puts : O → �
 
     -- the machine's step, with this change and reply
     is_shown : IsClean c.new_view → (change : Change) (reply : Reply) → IsStepOf middle.state c.task.octets seen (change, reply)
-        → machine.IsShown c.begin (entries_of c.found.log) c.task s.es m.move
+        → machine.AloneShown c.begin (entries_of c.found.log) c.task s.es m.move
     is_shown clean change reply step = record {
       need = need;
       needed = need_now need needed clean;
@@ -373,7 +373,7 @@ module _ {O : Type 0} (told : Bool) (trace : O → Trace) (faults puts : O → �
         → ((slots : ℕ) → fault ≡ refusals.JournalFull slots
         → Tells c.begin.start (entries_in c.new_view) (deed_of c.segment c.task (answer_of (counting JOURNAL_FULL 0 slots) position)) m.move
         × (IsClean c.new_view
-        → machine.Serves c.begin (entries_of c.found.log) c.task (answer_of (counting JOURNAL_FULL 0 slots) position) es m.move))
+        → machine.AloneServes c.begin (entries_of c.found.log) c.task (answer_of (counting JOURNAL_FULL 0 slots) position) es m.move))
         → AnsweredExactly c.begin c.segment c.old_view c.new_view c.task (fault_answer fault position)
     refused es is are fault position full =
         refused_exactly c.begin c.segment c.task c.old_view c.new_view m.move m.moves c.found.log es (by_lines es is) are
@@ -384,7 +384,7 @@ module _ {O : Type 0} (told : Bool) (trace : O → Trace) (faults puts : O → �
     same_slots one other is = cc
 
     unstored : (change : Change) (reply : Reply) → IsStepOf middle.state c.task.octets seen (change, reply) → CanEnter faults middle
-        → (fault : BookFault) (position : ℕ) → position ≡ entry_count (told_by trace faults puts c.given)
+        → (fault : BookFault) (position : ℕ) → position ≡ entry_count (known_of_book trace faults puts c.given)
         → IsUnstored faults (record_entry c.task.index seen change) middle c.given fault
         → AnsweredExactly c.begin c.segment c.old_view c.new_view c.task (fault_answer fault position)
     unfolding is_shown
@@ -414,7 +414,7 @@ module _ {O : Type 0} (told : Bool) (trace : O → Trace) (faults puts : O → �
     unstored change reply step can refusals.SessionFull position at h = absurd h
     unstored change reply step can refusals.NoMemory position at h = absurd h
 
-    refuses : (fault : BookFault) (position : ℕ) → position ≡ entry_count (told_by trace faults puts c.given)
+    refuses : (fault : BookFault) (position : ℕ) → position ≡ entry_count (known_of_book trace faults puts c.given)
         → RefusesMessage faults c.task.index c.task.octets seen middle c.given fault
         → AnsweredExactly c.begin c.segment c.old_view c.new_view c.task (fault_answer fault position)
     refuses fault position at (inl (is_barred, same)) =
@@ -424,7 +424,7 @@ module _ {O : Type 0} (told : Bool) (trace : O → Trace) (faults puts : O → �
     refuses fault position at (inr (inr (can, ((change, reply), step, fails)))) = unstored change reply step can fault position at fails
 
   -- the reserve was refused
-  fails : (need : Need) (fault : BookFault) (position : ℕ) → position ≡ entry_count (told_by trace faults puts c.given)
+  fails : (need : Need) (fault : BookFault) (position : ℕ) → position ≡ entry_count (known_of_book trace faults puts c.given)
       → IsNeedOf c.found.state c.task.octets need → FailsFor faults need fault c.found c.given c.old_view.numbers c.new_view.numbers
       → AnsweredExactly c.begin c.segment c.old_view c.new_view c.task (fault_answer fault position)
   fails need fault position at needed f = by_refusal fault f.reserved where
@@ -438,7 +438,7 @@ module _ {O : Type 0} (told : Bool) (trace : O → Trace) (faults puts : O → �
         → ((slots : ℕ) → other ≡ refusals.JournalFull slots
         → Tells c.begin.start (entries_in c.new_view) (deed_of c.segment c.task (answer_of (counting JOURNAL_FULL 0 slots) position)) (Drew f.row f.n)
         × (IsClean c.new_view
-        → machine.Serves c.begin (entries_of c.found.log) c.task (answer_of (counting JOURNAL_FULL 0 slots) position) es (Drew f.row f.n)))
+        → machine.AloneServes c.begin (entries_of c.found.log) c.task (answer_of (counting JOURNAL_FULL 0 slots) position) es (Drew f.row f.n)))
         → AnsweredExactly c.begin c.segment c.old_view c.new_view c.task (fault_answer other position)
     ends es is are other full =
         refused_exactly c.begin c.segment c.task c.old_view c.new_view (Drew f.row f.n) moves c.found.log es (by_lines es is) are
@@ -492,7 +492,7 @@ module _ {O : Type 0} (told : Bool) (trace : O → Trace) (faults puts : O → �
     by_refusal refusals.SessionFull (unmarked, inr (can, h)) = absurd h
     by_refusal refusals.NoMemory (unmarked, inr (can, h)) = absurd h
 
-  pub commands_exactly : (result : Result (Reply × ℕ) (BookFault × ℕ)) → WithPosition result (told_by trace faults puts c.given)
+  pub commands_exactly : (result : Result (Reply × ℕ) (BookFault × ℕ)) → WithPosition result (known_of_book trace faults puts c.given)
       (λ answer. IsCommanded faults c.task.index c.task.octets answer c.found c.given c.old_view.numbers c.new_view.numbers)
       → AnsweredExactly c.begin c.segment c.old_view c.new_view c.task (commanded_answer result)
   commands_exactly (Ok (reply, position)) (need, seen, middle, needed, shows, handles) = handled need seen middle needed shows reply position handles
@@ -508,11 +508,11 @@ module _ {O : Type 0} (told : Bool) (trace : O → Trace) (faults puts : O → �
 pub commanding_exactly : {O : Type 0} (told : Bool) (trace : O → Trace) (faults puts : O → ℕ) (begin : Begin) (layout : Layout) (segment : ℕ)
     (task : Record) (v w : View) (found given : BookView O) → BeganWith told begin v.turn.known.opening → v.turn.holds ≡ false
     → task.kind ≡ Command → Visits told trace faults puts found given v.turn w.turn → FindsCovered told trace faults puts v w
-    → (result : Result (Reply × ℕ) (BookFault × ℕ)) → WithPosition result (told_by trace faults puts given)
+    → (result : Result (Reply × ℕ) (BookFault × ℕ)) → WithPosition result (known_of_book trace faults puts given)
     (λ answer. IsCommanded faults task.index task.octets answer found given v.numbers w.numbers)
     → AnsweredExactly begin segment v w task (commanded_answer result)
 commanding_exactly {O} told trace faults puts begin layout segment task v w found given began free commands visits covered result handled =
     let earlier : Earlier v.turn.known w.turn.known = subst (λ (t : Turn). Earlier v.turn.known t.known) (sym visits.takes.turn)
-    (earlier_again v.turn.known (told_by trace faults puts found) (told_by trace faults puts given) visits.takes.follows.earlier visits.takes.earlier visits.takes.opening) in
+    (earlier_again v.turn.known (known_of_book trace faults puts found) (known_of_book trace faults puts given) visits.takes.follows.earlier visits.takes.earlier visits.takes.opening) in
     commands_exactly told trace faults puts (call_of told trace faults puts begin layout segment task v w found given began free visits) commands
     (covers told trace faults puts begin v v w began free refl refl refl earlier covered) result handled

@@ -23,8 +23,8 @@ use Rattle.law_worker.specs.Views.{log_of, entries_in}
 use Rattle.law_worker.specs.Deeds.{deed_of}
 use Rattle.law_worker.proofs.Logs.{more_stands}
 use Rattle.law_one_lane.specs.Machine.{Move, Kept}
-use Rattle.law_one_lane.specs.Exact.{IsDrawn, Tells, TellsKind}
-use Rattle.law_one_lane.specs.Serving.{Serves}
+use Rattle.law_one_lane.specs.Exact.{IsOfMoves, Tells, TellsKind}
+use Rattle.law_one_lane.specs.Serving.{AloneServes}
 use Rattle.law_one_lane.specs.InTurn.{IsClean, IsLevel, AreMarked, ServedInTurn}
 use Rattle.law_one_lane.proofs.Machines.{exact_move, move_moves}
 use Rattle.law_calls.specs.Answering.{answer_of, unserved_answer, fault_answer, AnsweredExactly}
@@ -36,25 +36,25 @@ use Rattle.law_calls.proofs.OneRecord.{Turned}
 -- each of the entries, where it is a reserve, is of a number that one of the moves drew
 abbrev pub AreDrawn : List Move → List Entry → Type 0
 AreDrawn moves [] = ⊤
-AreDrawn moves (entry ∷ entries) = IsDrawn moves (Some (lines.Entry entry)) × AreDrawn moves entries
+AreDrawn moves (entry ∷ entries) = IsOfMoves moves (Some (lines.Entry entry)) × AreDrawn moves entries
 
 pub drawn_at : (moves : List Move) (log : List Logged) (es : List Entry) → AreDrawn moves es → (x : ℕ) → 0 < stands x (places (length log) (length es))
-    → IsDrawn moves (slice_get (log ++ lines_of es) x)
+    → IsOfMoves moves (slice_get (log ++ lines_of es) x)
 drawn_at moves log [] drawn x in' = absurd (omega arith)
 drawn_at moves log (e ∷ es) drawn x in' = elim (cases_eq (length log) x) [
-  | inl is ↦ subst (λ (n : ℕ). IsDrawn moves (slice_get (log ++ lines.Entry e ∷ lines_of es) n)) is
-      (subst (λ (o : Option Logged). IsDrawn moves o) (sym (here log (lines_of es) (lines.Entry e))) drawn.0)
+  | inl is ↦ subst (λ (n : ℕ). IsOfMoves moves (slice_get (log ++ lines.Entry e ∷ lines_of es) n)) is
+      (subst (λ (o : Option Logged). IsOfMoves moves o) (sym (here log (lines_of es) (lines.Entry e))) drawn.0)
   | inr off ↦
       let f : eqb (length log) x ≡ false = grind (arith, nat_tests) in
       let rest : 0 < stands x (places (suc (length log)) (length es)) = more_stands (length log) x (places (suc (length log)) (length es)) f in' in
       let there : 0 < stands x (places (length (log ++ lines.Entry e ∷ [])) (length es)) =
       subst (λ (n : ℕ). 0 < stands x (places n (length es))) (sym (longer log (lines.Entry e))) rest in
-      subst (λ (l : List Logged). IsDrawn moves (slice_get l x)) (sym (next log (lines_of es) (lines.Entry e)))
+      subst (λ (l : List Logged). IsOfMoves moves (slice_get l x)) (sym (next log (lines_of es) (lines.Entry e)))
       (drawn_at moves (log ++ lines.Entry e ∷ []) es drawn.1 x there)
 ]
 
 -- an entry of a record is no reserve
-pub of_record : (moves : List Move) (e : Entry) (index : ℕ) → e.index ≡ Some index → IsDrawn moves (Some (lines.Entry e))
+pub of_record : (moves : List Move) (e : Entry) (index : ℕ) → e.index ≡ Some index → IsOfMoves moves (Some (lines.Entry e))
 of_record moves e index is entry same none =
     let e_is : e ≡ entry = (let s = same in cc) in
     let both : Some index ≡ None = sym is ∙ ap (λ (z : Entry). z.index) e_is ∙ none in absurd (let b = both in cc)
@@ -65,10 +65,10 @@ module _ (begin : Begin) (segment : ℕ) (task : Record) (v w : View) (move : Mo
   -- in the history that was found, where no other worker made a line, the record is served so
   abbrev pub IsServed : Answer → Type 0
   IsServed answer =
-      log ≡ log_of v → IsClean w → IsLevel v → AreMarked begin w spent → Serves begin (entries_of log) task answer es move
+      log ≡ log_of v → IsClean w → IsLevel v → AreMarked begin w spent → AloneServes begin (entries_of log) task answer es move
 
-  reserves : (place : ℕ) → 0 < stands place (places (length log) (length es)) → IsDrawn (move ∷ []) (slice_get (log_of w) place)
-  reserves place in' = subst (λ (l : List Logged). IsDrawn (move ∷ []) (slice_get l place)) (sym turned.log_is)
+  reserves : (place : ℕ) → 0 < stands place (places (length log) (length es)) → IsOfMoves (move ∷ []) (slice_get (log_of w) place)
+  reserves place in' = subst (λ (l : List Logged). IsOfMoves (move ∷ []) (slice_get l place)) (sym turned.log_is)
       (drawn_at (move ∷ []) log es drawn place in')
 
   pub told_exactly : (answer : Answer) → Tells begin.start (entries_in w) (deed_of segment task answer) move → IsServed answer

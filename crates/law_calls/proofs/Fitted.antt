@@ -9,7 +9,7 @@ use Rattle.sdls_outside.specs.Faults.{Rose}
 use Rattle.unit_state.specs.declared.state.State.{State}
 use Rattle.unit_state.specs.History.{after, after_first}
 use Rattle.frame_checks.specs.declared.open_reply.OpenReply.{OpenReply}
-use Rattle.frame_checks.specs.Opening.{IsOpenReply}
+use Rattle.frame_checks.specs.OpeningFrames.{IsOpenReply}
 use Rattle.ep_core.specs.declared.reply.Reply.{Reply}
 use Rattle.record_io.specs.declared.records.Record.{Record}
 use Rattle.record_io.specs.declared.answers.Answer.{Answer}
@@ -19,7 +19,7 @@ use Rattle.record_io.specs.declared.code.TheConstants.{JOURNAL_FULL, SITE_FAULT,
 use Rattle.law_history.specs.Answers.{counting, opened_told, replied_told}
 use Rattle.law_history.specs.Entries.{frame_entry, record_entry, IsStepOf}
 use Rattle.law_history.specs.Stored.{stored_count}
-use Rattle.law_history.specs.Fits.{Course, Fits, FitsAny, FitsKind, MayAppend, MayAppendOnce, TellsFault, state_after}
+use Rattle.law_history.specs.Fits.{Course, Fits, FitsAny, FitsKind, MayAppend, MayAppendOnce, TellsRisenCount, state_after}
 use Rattle.law_calls.specs.Answering.{answer_of, unserved_answer}
 
 pub after_front : (start : State) (es rest : List Entry) → after_first start (es ++ rest) (length es) ≡ after start es
@@ -95,7 +95,7 @@ module _ (near : ℕ → ℕ → Type 0) (course : Course) (task : Record) where
   }))
 
   tells : (code count position : ℕ) → position ≡ length course.entries → Rose course.faults_before count → count ≤ course.faults
-      → TellsFault course code (answer_of (counting code 0 count) position)
+      → TellsRisenCount course code (answer_of (counting code 0 count) position)
   tells code count position is rose low = record { told = refl; rose = rose; counted = low; position_is = is }
 
   pub faulted_fits : (count position : ℕ) → position ≡ length course.entries → Rose course.faults_before count → count ≤ course.faults

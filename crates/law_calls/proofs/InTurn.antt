@@ -28,15 +28,15 @@ use Rattle.law_history.specs.Numbers.{mark_of}
 use Rattle.law_history.specs.Stored.{IsStored, stored_count}
 use Rattle.unit_book.specs.Book.{BookView, Enters}
 use Rattle.unit_book.specs.Marks.{mark_at}
-use Rattle.shared_unit.specs.Told.{told_by}
+use Rattle.shared_unit.specs.Told.{known_of_book}
 use Rattle.shared_unit.specs.Turn.{FindsCovered, taking_once, Visits}
 use Rattle.law_worker.specs.Begin.{Begin}
 use Rattle.law_worker.specs.Views.{IsRow, log_of, entries_in}
 use Rattle.law_worker.specs.Deeds.{deed_of}
 use Rattle.law_lives.proofs.Rows.{mark_known}
 use Rattle.law_one_lane.specs.Machine.{Move}
-use Rattle.law_one_lane.specs.Serving.{HasSlot, SaysFull, Serves}
-use Rattle.law_one_lane.specs.InTurn.{AllMade, IsClean, IsLevel, IsMarked, AreMarked, ServedInTurn}
+use Rattle.law_one_lane.specs.Serving.{HasSlot, SaysFull, AloneServes}
+use Rattle.law_one_lane.specs.InTurn.{MadeAllLines, IsClean, IsLevel, IsMarked, AreMarked, ServedInTurn}
 use Rattle.law_calls.specs.Answering.{answer_of}
 use Rattle.law_calls.specs.Visiting.{BeganWith}
 use Rattle.law_calls.proofs.Behind.{lines_of, lines_entries, places_within}
@@ -54,7 +54,7 @@ front_one a b c d same size =
 module _ (v w : View) (log : List Logged) (count : ℕ) (low : length (log_of v) ≤ length log) (before after : List Logged)
     (is : log_of w ≡ log_of v ++ after) (has : log_of w ≡ log ++ before) where
   -- the log that was found is the one that was known, where no other line was made
-  pub found_known : AllMade v w (places (length log) count) → log ≡ log_of v
+  pub found_known : MadeAllLines v w (places (length log) count) → log ≡ log_of v
   found_known all = front_one log (log_of v) before after (sym has ∙ is) same
     where
       within : length (log_of w) ≡ length log + length before
@@ -71,7 +71,7 @@ module _ (v w : View) (log : List Logged) (count : ℕ) (low : length (log_of v)
               let (least, most) = places_within (length log) count (length (log_of v)) place in absurd (omega arith)
 
 module _ (begin : Begin) (v w : View) (log : List Logged) (es : List Entry) (turned : Turned log es v.turn w.turn) where
-  pub known_log : AllMade v w (places (length log) (length es)) → log ≡ log_of v
+  pub known_log : MadeAllLines v w (places (length log) (length es)) → log ≡ log_of v
   known_log = found_known v w log (length es) turned.low (lines_of es) turned.earlier.log.0 turned.earlier.log.1 turned.log_is
 
   pub entries_are : entries_in w ≡ entries_of log ++ es
@@ -82,7 +82,7 @@ module _ (begin : Begin) (v w : View) (log : List Logged) (es : List Entry) (tur
   pub record Passes (spent : List (ℕ × ℕ)) : Type 0 where
     pub spent_is : w.numbers.spent ≡ v.numbers.spent ++ spent
     pub level : IsClean w → IsLevel v → IsLevel w
-    pub marked : AllMade v w (places (length log) (length es)) → IsClean w → (key row number : ℕ) → row < begin.rows → IsRow begin v key row
+    pub marked : MadeAllLines v w (places (length log) (length es)) → IsClean w → (key row number : ℕ) → row < begin.rows → IsRow begin v key row
         → 0 < times row number v.numbers.spent → IsMarked begin w key number → IsMarked begin v key number
 
   module _ (segment : ℕ) (task : Record) (move : Move) (spent : List (ℕ × ℕ)) (passes : Passes spent) where
@@ -91,7 +91,7 @@ module _ (begin : Begin) (v w : View) (log : List Logged) (es : List Entry) (tur
 
     -- the record has this answer, in the history that was found
     pub served_turn : (answer : Answer)
-        → (log ≡ log_of v → IsClean w → IsLevel v → AreMarked begin w spent → Serves begin (entries_of log) task answer es move)
+        → (log ≡ log_of v → IsClean w → IsLevel v → AreMarked begin w spent → AloneServes begin (entries_of log) task answer es move)
         → ServedInTurn begin v w (places (length log) (length es)) spent (deed_of segment task answer ∷ []) (move ∷ []) []
     served_turn answer serves = record {
       above = above;
@@ -107,7 +107,7 @@ module _ (begin : Begin) (v w : View) (log : List Logged) (es : List Entry) (tur
                 es,
                 [],
                 sym (append-nil es),
-                subst (λ (l : List Logged). Serves begin (entries_of l) task answer es move) same (serves same clean level marks),
+                subst (λ (l : List Logged). AloneServes begin (entries_of l) task answer es move) same (serves same clean level marks),
                 refl,
               ),
             );
@@ -187,7 +187,7 @@ module _ {O : Type 0} (told : Bool) (trace : O → Trace) (faults puts : O → �
       let a = counts.slots in let b = counts.used in (omega arith, omega arith)
 
   -- a number that was spent before lies below its mark in the book that was found
-  pub taken_marked : IsCovered 512 v.numbers (told_by trace faults puts found) → found.log ≡ log_of v → IsClean w → (key row number : ℕ) → row < begin.rows
+  pub taken_marked : IsCovered 512 v.numbers (known_of_book trace faults puts found) → found.log ≡ log_of v → IsClean w → (key row number : ℕ) → row < begin.rows
       → IsRow begin v key row → 0 < times row number v.numbers.spent → IsMarked begin v key number
   taken_marked covered same clean key row number low there in' =
       let rows = began.rows in
@@ -200,7 +200,7 @@ module _ {O : Type 0} (told : Bool) (trace : O → Trace) (faults puts : O → �
 
   -- by a book that is above what was spent
   pub takes_pass : (es : List Entry) (turned : Turned found.log es v.turn w.turn) (spent : List (ℕ × ℕ)) → w.numbers.spent ≡ v.numbers.spent ++ spent
-      → (AllMade v w (places (length found.log) (length es)) → IsClean w → (key row number : ℕ) → row < begin.rows → IsRow begin v key row
+      → (MadeAllLines v w (places (length found.log) (length es)) → IsClean w → (key row number : ℕ) → row < begin.rows → IsRow begin v key row
       → 0 < times row number v.numbers.spent → IsMarked begin v key number)
       → Passes begin v w found.log es turned spent
   takes_pass es turned spent is covers = record {
@@ -211,7 +211,7 @@ module _ {O : Type 0} (told : Bool) (trace : O → Trace) (faults puts : O → �
 
 -- where these places are all that were made behind a view, each number spent before lies below its mark there
 abbrev pub CoversSpent : Begin → View → View → Type 0
-CoversSpent begin v w = (made : List ℕ) → w.turn.made ≡ v.turn.made ++ made → AllMade v w made → IsClean w → (key row number : ℕ) → row < begin.rows
+CoversSpent begin v w = (made : List ℕ) → w.turn.made ≡ v.turn.made ++ made → MadeAllLines v w made → IsClean w → (key row number : ℕ) → row < begin.rows
     → IsRow begin v key row → 0 < times row number v.numbers.spent → IsMarked begin v key number
 
 -- A book that was found above all that was spent, by a worker with this view before, whose turn and numbers are those of another.
@@ -220,7 +220,7 @@ pub covers : {O : Type 0} (told : Bool) (trace : O → Trace) (faults puts : O �
     → FindsCovered told trace faults puts x w → CoversSpent begin v w
 covers {O} told trace faults puts begin v x w began free known same numbers earlier h made made_is all clean =
     let began_x : BeganWith told begin x.turn.known.opening = subst (λ (k : Known). BeganWith told begin k.opening) (sym known) began in
-    let turn : w.turn ≡ taking_once (told_by trace faults puts h.found) (told_by trace faults puts h.given) x.turn = h.visits.takes.turn in
+    let turn : w.turn ≡ taking_once (known_of_book trace faults puts h.found) (known_of_book trace faults puts h.given) x.turn = h.visits.takes.turn in
     let count : ℕ = length h.given.log - length h.found.log in
     let made_here : made ≡ places (length h.found.log) count =
     append_cancel_left v.turn.made made (places (length h.found.log) count)
@@ -230,9 +230,9 @@ covers {O} told trace faults puts begin v x w began free known same numbers earl
     let k : length x.turn.known.log ≡ length (log_of v) = ap (λ (z : Known). length z.log) known in omega arith) in
     let log : h.found.log ≡ log_of v = found_known v w h.found.log count low h.visits.takes.earlier.log.0 earlier.log.0 earlier.log.1
     (log_is told trace faults puts begin h.found h.given x.turn w.turn began_x free h.visits ∙ h.visits.takes.earlier.log.1)
-    (subst (AllMade v w) made_here all) in
+    (subst (MadeAllLines v w) made_here all) in
     taken_marked told trace faults puts begin h.found h.given x.turn v w began_x free h.visits
-    (subst (λ (k : Numbers). IsCovered 512 k (told_by trace faults puts h.found)) numbers h.covered) log clean
+    (subst (λ (k : Numbers). IsCovered 512 k (known_of_book trace faults puts h.found)) numbers h.covered) log clean
 
 -- What is known of a book at a stage of a call, where the site did not fail: its state is that after its entries, and its slots are
 -- those of the image.

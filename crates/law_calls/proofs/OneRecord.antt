@@ -19,7 +19,7 @@ use Rattle.law_history.specs.Legal.{IsLegalAt}
 use Rattle.law_history.specs.Counts.{is_of_record, is_of_none, count_at, drawers}
 use Rattle.law_history.specs.Fits.{Fits}
 use Rattle.law_worker.specs.Begin.{Begin}
-use Rattle.law_worker.specs.Views.{Gains, Gained, Grows, IsBetween, log_of, entries_in}
+use Rattle.law_worker.specs.Views.{Gains, Gained, KnowsMore, IsBetween, log_of, entries_in}
 use Rattle.law_worker.specs.Work.{indexed, IsAsked, Works}
 use Rattle.law_worker.specs.Deeds.{Deed, deed_of, course_in, StandsWithin, Agree, IsSpent, MadeLast}
 use Rattle.law_worker.specs.Order.{Layout, TakeTurns, is_line, is_piece, Lined, Handled}
@@ -88,7 +88,7 @@ module _ (begin : Begin) (task : Record) (v w : View) where
       filled = turned.filled;
     }
 
-    grows : Grows v w
+    grows : KnowsMore v w
     grows = record { nexts = counted.nexts; earlier = turned.earlier; opening = turned.opening; epochs = turned.epochs }
 
     count_is : (test : Option Logged → Bool) → count_at test (log_of w) (places (length log) (length es)) ≡ tested test es

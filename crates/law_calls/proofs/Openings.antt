@@ -4,8 +4,8 @@ use Rattle.sdls_base.specs.declared.entry.Entry.{Entry}
 use Rattle.sdls_outside.specs.Moments.{Trace}
 use Rattle.frame_checks.specs.declared.open_reply.OpenReply.{OpenReply}
 use Rattle.frame_checks.specs.declared.open_reply.OpenReply.TheVariants as opens
-use Rattle.frame_checks.specs.Accepting.{field_in, Leaves}
-use Rattle.frame_checks.specs.Opening.{IsOpenReply}
+use Rattle.frame_checks.specs.Accepting.{field_in, LeavesOctets}
+use Rattle.frame_checks.specs.OpeningFrames.{IsOpenReply}
 use Rattle.record_io.specs.declared.kinds.RecordKind.{RecordKind}
 use Rattle.record_io.specs.declared.kinds.RecordKind.TheVariants.{Protect, Open}
 use Rattle.record_io.specs.declared.records.Record.{Record}
@@ -24,9 +24,9 @@ use Rattle.law_history.specs.Stored.{IsStored}
 use Rattle.law_history.proofs.StoredEntries.{stored_raises}
 use Rattle.unit_book.specs.declared.fault.BookFault.{BookFault}
 use Rattle.unit_book.specs.Book.{BookView, CanEnter}
-use Rattle.unit_book.specs.Records.{Opens, RefusesFrame}
+use Rattle.unit_book.specs.Records.{OpensWithEntry, RefusesFrame}
 use Rattle.shared_unit.specs.Calls.{WithPosition}
-use Rattle.shared_unit.specs.Told.{told_by}
+use Rattle.shared_unit.specs.Told.{known_of_book}
 use Rattle.shared_unit.specs.Turn.{Visits}
 use Rattle.law_worker.specs.Begin.{Begin}
 use Rattle.law_worker.specs.Views.{IsBetween}
@@ -141,8 +141,8 @@ module _ {O : Type 0} (told : Bool) (trace : O → Trace) (faults puts : O → �
         subst (λ (k : RecordKind). CanAppend (IsBetween begin v w) (course_in begin w) (length (entries_of found.log)) task k) (sym opens_it) can_raise
 
   pub opening_answers : (left : List ℕ) (result : Result (OpenReply × ℕ) (BookFault × ℕ))
-      → WithPosition result (told_by trace faults puts given) (λ answer. MatchResult answer
-      (λ told. Opens faults task.index task.link task.octets (field_in told.0 left) found given told.0 told.1 × Leaves told.0 task.octets left)
+      → WithPosition result (known_of_book trace faults puts given) (λ answer. MatchResult answer
+      (λ told. OpensWithEntry faults task.index task.link task.octets (field_in told.0 left) found given told.0 told.1 × LeavesOctets told.0 task.octets left)
       (RefusesFrame faults task.index task.link task.octets found given))
       → Answered layout begin segment v w task (opened_answer result left)
   opening_answers left (Ok (reply, position)) (opened, leaves) =

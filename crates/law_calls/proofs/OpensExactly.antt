@@ -3,8 +3,8 @@ use Rattle.std.proofs.Common.{◌≡◌, ◌⊎◌, ℕ, Bool, false, List, [], 
 use Rattle.sdls_base.specs.declared.entry.Entry.{Entry}
 use Rattle.sdls_outside.specs.Moments.{Trace}
 use Rattle.frame_checks.specs.declared.open_reply.OpenReply.{OpenReply}
-use Rattle.frame_checks.specs.Accepting.{field_in, Leaves}
-use Rattle.frame_checks.specs.Opening.{IsOpenReply}
+use Rattle.frame_checks.specs.Accepting.{field_in, LeavesOctets}
+use Rattle.frame_checks.specs.OpeningFrames.{IsOpenReply}
 use Rattle.unit_plan.specs.PlanLines.{PlanLines}
 use Rattle.unit_state.specs.declared.state.State.{State}
 use Rattle.record_io.specs.declared.answers.Answer.{Answer}
@@ -21,15 +21,15 @@ use Rattle.law_history.specs.Log.{entries_of}
 use Rattle.unit_book.specs.declared.fault.BookFault.{BookFault}
 use Rattle.unit_book.specs.declared.fault.BookFault.TheVariants as refusals
 use Rattle.unit_book.specs.Book.{BookView, IsBarred, IsUnstored}
-use Rattle.unit_book.specs.Records.{Opens, RefusesFrame}
+use Rattle.unit_book.specs.Records.{OpensWithEntry, RefusesFrame}
 use Rattle.shared_unit.specs.Calls.{WithPosition}
-use Rattle.shared_unit.specs.Told.{told_by, entry_count}
+use Rattle.shared_unit.specs.Told.{known_of_book, entry_count}
 use Rattle.shared_unit.specs.Turn.{FindsCovered, Visits}
 use Rattle.law_worker.specs.Begin.{Begin}
 use Rattle.law_worker.specs.Views.{entries_in}
 use Rattle.law_worker.specs.Deeds.{deed_of}
 use Rattle.law_one_lane.specs.Machine.{Kept}
-use Rattle.law_one_lane.specs.Serving.{now, HasSlot, SaysFull, IsOpened, IsUnopened, ServesKind, Serves}
+use Rattle.law_one_lane.specs.Serving.{now, HasSlot, SaysFull, AloneOpened, AloneUnopened, ServesKind, AloneServes}
 use Rattle.law_one_lane.specs.InTurn.{IsClean}
 use Rattle.law_one_lane.specs.Exact.{Tells, TellsKind}
 use Rattle.law_calls.specs.Visiting.{BeganWith}
@@ -82,20 +82,20 @@ module _ {O : Type 0} (told : Bool) (trace : O → Trace) (faults puts : O → �
       (subst (λ (p : PlanLines). IsOpenReply p found.state task.link task.octets reply field) plan h)
 
   by_kind : (answer : Answer) (es : List Entry)
-      → (IsOpened begin (entries_of found.log) task answer es Kept ⊎ IsUnopened begin (entries_of found.log) task answer es Kept)
-      → Serves begin (entries_of found.log) task answer es Kept
+      → (AloneOpened begin (entries_of found.log) task answer es Kept ⊎ AloneUnopened begin (entries_of found.log) task answer es Kept)
+      → AloneServes begin (entries_of found.log) task answer es Kept
   by_kind answer es h = inr (subst (λ (k : RecordKind). ServesKind begin (entries_of found.log) k task answer es Kept) (sym opens_it) h)
 
   refused : (es : List Entry) → given.log ≡ found.log ++ lines_of es → AreDrawn (Kept ∷ []) es → (fault : BookFault) (position : ℕ)
       → ((slots : ℕ) → fault ≡ refusals.JournalFull slots → IsClean w
-      → Serves begin (entries_of found.log) task (answer_of (counting JOURNAL_FULL 0 slots) position) es Kept)
+      → AloneServes begin (entries_of found.log) task (answer_of (counting JOURNAL_FULL 0 slots) position) es Kept)
       → AnsweredExactly begin segment v w task (fault_answer fault position)
   refused es is drawn fault position full =
       refused_exactly begin segment task v w Kept (moves_none begin v w numbers) found.log es (by_lines es is) drawn [] (passes es is) (λ _. refl) fault position
       (λ slots same. (tells (answer_of (counting JOURNAL_FULL 0 slots) position), λ here clean level marks. full slots same clean))
 
   unstored : (reply : OpenReply) (field : List ℕ) → IsOpenReply found.plan found.state task.link task.octets reply field → (fault : BookFault) (position : ℕ)
-      → position ≡ entry_count (told_by trace faults puts given)
+      → position ≡ entry_count (known_of_book trace faults puts given)
       → IsUnstored faults (frame_entry found.plan found.state task.index reply) found given fault
       → AnsweredExactly begin segment v w task (fault_answer fault position)
   unstored reply field replies (refusals.SiteFault count) position at h =
@@ -120,8 +120,8 @@ module _ {O : Type 0} (told : Bool) (trace : O → Trace) (faults puts : O → �
   unstored reply field replies refusals.NoMemory position at h = absurd h
 
   pub opens_exactly : (left : List ℕ) (result : Result (OpenReply × ℕ) (BookFault × ℕ))
-      → WithPosition result (told_by trace faults puts given) (λ answer. MatchResult answer
-      (λ told. Opens faults task.index task.link task.octets (field_in told.0 left) found given told.0 told.1 × Leaves told.0 task.octets left)
+      → WithPosition result (known_of_book trace faults puts given) (λ answer. MatchResult answer
+      (λ told. OpensWithEntry faults task.index task.link task.octets (field_in told.0 left) found given told.0 told.1 × LeavesOctets told.0 task.octets left)
       (RefusesFrame faults task.index task.link task.octets found given))
       → AnsweredExactly begin segment v w task (opened_answer result left)
   opens_exactly left (Ok (reply, position)) (opened, leaves) =

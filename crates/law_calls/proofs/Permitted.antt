@@ -15,14 +15,14 @@ use Rattle.unit_state.specs.declared.state.State.{State}
 use Rattle.unit_state.specs.History.{after, after_first, at_epoch, epoch_after}
 use Rattle.unit_state.proofs.Histories.{at_epoch_more}
 use Rattle.frame_shield.specs.declared.binding.Binding.{Binding}
-use Rattle.frame_shield.specs.declared.protecting.ShieldFault.{ShieldFault}
-use Rattle.frame_shield.specs.declared.protecting.ShieldFault.TheVariants.{Layout, Channel, State as NoSender}
+use Rattle.frame_shield.specs.declared.protecting_frames.ShieldFault.{ShieldFault}
+use Rattle.frame_shield.specs.declared.protecting_frames.ShieldFault.TheVariants.{Layout, Channel, State as NoSender}
 use Rattle.frame_shield.specs.Binding.{clear_fault}
 use Rattle.frame_shield.specs.ShieldFault.{fault_number}
 use Rattle.frame_checks.specs.Header.{lacks_header, is_clear, channel_of}
 use Rattle.frame_checks.specs.Binding.{binding_of}
-use Rattle.frame_checks.specs.Protecting.{Answer, answer_on, channel_check, channel_on, protect_check}
-use Rattle.law_history.specs.Protecting.{layout_check, protect_reply}
+use Rattle.frame_checks.specs.ProtectingFrames.{Answer, answer_on, channel_check, channel_on, protect_check}
+use Rattle.law_history.specs.ProtectingFrames.{layout_check, protect_reply}
 use Rattle.law_history.proofs.Epochs.{begins}
 use Rattle.law_worker.specs.Deeds.{has_channel}
 use Rattle.law_worker.proofs.Histories.{row_kept_first}

@@ -13,10 +13,10 @@ use Rattle.record_io.specs.declared.code.TheConstants.{PROTECTED, CLEAR, EXHAUST
 use Rattle.unit_plan.specs.PlanLines.{PlanLines, link_of}
 use Rattle.unit_state.specs.declared.state.State.{State}
 use Rattle.unit_state.specs.History.{after, at_epoch, epoch_after}
-use Rattle.frame_shield.specs.declared.protecting.ShieldFault.{ShieldFault}
-use Rattle.frame_shield.specs.declared.protecting.ShieldFault.TheVariants as shield_faults
+use Rattle.frame_shield.specs.declared.protecting_frames.ShieldFault.{ShieldFault}
+use Rattle.frame_shield.specs.declared.protecting_frames.ShieldFault.TheVariants as shield_faults
 use Rattle.frame_shield.specs.Binding.{clear_fault}
-use Rattle.frame_checks.specs.Protecting.{channel_check}
+use Rattle.frame_checks.specs.ProtectingFrames.{channel_check}
 use Rattle.counter_table.specs.declared.view.Opening.{Opening}
 use Rattle.counter_table.specs.declared.view.Turn.{Turn}
 use Rattle.counter_table.specs.declared.view.View.{View}
@@ -26,7 +26,7 @@ use Rattle.law_history.specs.Answers.{Told, plain, numbered, fault_told, unbound
 use Rattle.law_history.specs.Counts.{drawers}
 use Rattle.law_history.specs.Fits.{Fits, FitsKind, IsBound, CanAppend, CanReserve, IsUnmarked, MayAppend, state_after}
 use Rattle.law_history.specs.Log.{entries_of}
-use Rattle.law_history.specs.Protecting.{protect_reply}
+use Rattle.law_history.specs.ProtectingFrames.{protect_reply}
 use Rattle.unit_book.specs.declared.fault.BookFault.{BookFault}
 use Rattle.unit_book.specs.Book.{BookView}
 use Rattle.unit_book.specs.Epoch.{binding_on}
@@ -36,7 +36,7 @@ use Rattle.shared_unit.specs.declared.permit.Protected.{Protected}
 use Rattle.shared_unit.specs.declared.permit.Protected.TheVariants as protecteds
 use Rattle.shared_unit.specs.Funding.{Reserves}
 use Rattle.shared_unit.specs.Numbers.{Draws, ComesBack, UsesNumber}
-use Rattle.shared_unit.specs.Protecting.{FailsAt, Funds, IsDone, IsProtectStep, IsRefusedAt, IsUsed, Looks, MayTakeTurn, Rests, RunsOutUnder, TakesTurn}
+use Rattle.shared_unit.specs.Protecting.{FailsAt, Funds, IsDrawnAndProtected, IsProtectStep, IsRefusedAt, IsUsed, Looks, MayTakeTurn, Rests, RunsOutUnder, TakesTurn}
 use Rattle.shared_unit.specs.Told.{entry_count}
 use Rattle.shared_unit.proofs.Checks.{bound_check}
 use Rattle.shared_unit.proofs.Passing.{reserves_changes}
@@ -341,7 +341,7 @@ module _ {O : Type 0} (told : Bool) (trace : O → Trace) (faults puts : O → �
         (near_row p used opening n ((p.row, n) ∷ []) ((p.row, n) ∷ []) [] ((p.row, 1) ∷ []) shows) t.does.0 t.given t.does.1 in
         taken_finish (Funds faults p.binding.key n) t behind.es behind.stage ((p.row, n) ∷ []) ((p.row, n) ∷ []) [] ((p.row, 1) ∷ []) shows.counted
 
-    done : (out : List ℕ) (d : Done) → IsDone p task.octets out d v w → MayTakeTurn told trace faults puts (Funds faults p.binding.key d.number) v.turn w.turn
+    done : (out : List ℕ) (d : Done) → IsDrawnAndProtected p task.octets out d v w → MayTakeTurn told trace faults puts (Funds faults p.binding.key d.number) v.turn w.turn
         → Handled layout begin v w (task ∷ []) (deed_of segment task (answer_of (numbered PROTECTED d.key d.number (take d.length out)) d.epoch) ∷ [])
     done out d is turn =
         let fields : Told = numbered PROTECTED d.key d.number (take d.length out) in

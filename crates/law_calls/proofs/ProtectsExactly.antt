@@ -17,8 +17,8 @@ use Rattle.unit_plan.specs.PlanLines.{PlanLines}
 use Rattle.unit_state.specs.declared.state.State.{State}
 use Rattle.unit_state.specs.History.{after, after_first, at_epoch, epoch_after}
 use Rattle.unit_state.proofs.Histories.{at_epoch_more, epochs_more}
-use Rattle.frame_shield.specs.declared.protecting.ShieldFault.{ShieldFault}
-use Rattle.frame_shield.specs.declared.protecting.ShieldFault.TheVariants as shield_faults
+use Rattle.frame_shield.specs.declared.protecting_frames.ShieldFault.{ShieldFault}
+use Rattle.frame_shield.specs.declared.protecting_frames.ShieldFault.TheVariants as shield_faults
 use Rattle.counter_table.specs.declared.view.Numbers.{Numbers}
 use Rattle.counter_table.specs.declared.view.Opening.{Opening}
 use Rattle.counter_table.specs.declared.view.Turn.{Turn}
@@ -27,11 +27,11 @@ use Rattle.counter_table.specs.Known.{Earlier}
 use Rattle.counter_table.specs.Numbers.{top, arming}
 use Rattle.counter_table.specs.Turn.{epoch_seen, places, seeing}
 use Rattle.frame_shield.specs.Binding.{clear_fault}
-use Rattle.frame_checks.specs.Protecting.{channel_check}
+use Rattle.frame_checks.specs.ProtectingFrames.{channel_check}
 use Rattle.law_history.specs.Answers.{Told, counting, plain, numbered, fault_told, unbound_told}
 use Rattle.law_history.specs.Log.{entries_of}
 use Rattle.law_history.specs.Numbers.{mark_of, reserve_of}
-use Rattle.law_history.specs.Protecting.{protect_reply}
+use Rattle.law_history.specs.ProtectingFrames.{protect_reply}
 use Rattle.law_history.specs.Stored.{IsStored}
 use Rattle.unit_book.specs.declared.fault.BookFault.{BookFault}
 use Rattle.unit_book.specs.declared.fault.BookFault.TheVariants as refusals
@@ -42,8 +42,8 @@ use Rattle.shared_unit.specs.declared.permit.Protected.{Protected}
 use Rattle.shared_unit.specs.declared.permit.Protected.TheVariants as protecteds
 use Rattle.shared_unit.specs.Funding.{Reserves}
 use Rattle.shared_unit.specs.Numbers.{Draws, ComesBack}
-use Rattle.shared_unit.specs.Protecting.{CoversIfTaken, Funds, IsDone, IsProtectStep, IsRefusedAt, IsUsed, Looks, MayTakeTurn, Rests, RunsOutUnder, TakesTurn}
-use Rattle.shared_unit.specs.Told.{entry_count, told_by}
+use Rattle.shared_unit.specs.Protecting.{CoversIfTaken, Funds, IsDrawnAndProtected, IsProtectStep, IsRefusedAt, IsUsed, Looks, MayTakeTurn, Rests, RunsOutUnder, TakesTurn}
+use Rattle.shared_unit.specs.Told.{entry_count, known_of_book}
 use Rattle.shared_unit.proofs.Steps.{earlier_again}
 use Rattle.law_worker.specs.Begin.{Begin}
 use Rattle.law_worker.specs.Views.{entries_in, log_of}
@@ -72,7 +72,7 @@ module _ {O : Type 0} (told : Bool) (trace : O → Trace) (faults puts : O → �
   -- where no other worker made a line and the site did not fail, the record is served so in the history that was known
   abbrev IsServedHere : Answer → List Entry → List (ℕ × ℕ) → Move → Type 0
   IsServedHere answer es spent move = IsClean w → IsLevel v → AreMarked begin w spent → entries_in w ≡ entries_in v ++ es
-      → machine.Serves begin (entries_in v) task answer es move
+      → machine.AloneServes begin (entries_in v) task answer es move
 
   -- the record made this move and no entry, whatever the answer that tells it
   abbrev Finishes : List (ℕ × ℕ) → Move → Type 0
@@ -117,7 +117,7 @@ module _ {O : Type 0} (told : Bool) (trace : O → Trace) (faults puts : O → �
       → AnsweredExactly begin segment v w task (Some answer)
   taken_finish done t es is move moves drawn spent spent_is answer tells serves =
       told_exactly begin segment task v w move moves t.found.log es (by_lines done t es is) drawn spent (passes done t es is spent spent_is) answer tells
-      (λ same clean level marks. subst (λ (l : List Logged). machine.Serves begin (entries_of l) task answer es move) (sym same)
+      (λ same clean level marks. subst (λ (l : List Logged). machine.AloneServes begin (entries_of l) task answer es move) (sym same)
       (serves same clean level marks (entries_are begin v w t.found.log es (by_lines done t es is) ∙ ap (λ (l : List Logged). entries_of l ++ es) same)))
 
   rests_finish : (move : Move) → Moves begin v w move → (spent : List (ℕ × ℕ)) → w.numbers.spent ≡ v.numbers.spent ++ spent
@@ -127,9 +127,9 @@ module _ {O : Type 0} (told : Bool) (trace : O → Trace) (faults puts : O → �
       taken_finish Rests t [] (none_left t.found t.given t.does) move moves tt spent spent_is answer tells (λ same. serves)
 
   by_kind : (answer : Answer) (es : List Entry) (move : Move)
-      → (machine.IsUnbound begin (entries_in v) task answer es move ⊎ (machine.IsProtected begin (entries_in v) task answer es move
-      ⊎ (machine.IsExhausted begin (entries_in v) task answer es move ⊎ machine.IsUnfunded begin (entries_in v) task answer es move)))
-      → machine.Serves begin (entries_in v) task answer es move
+      → (machine.AloneUnbound begin (entries_in v) task answer es move ⊎ (machine.AloneProtected begin (entries_in v) task answer es move
+      ⊎ (machine.AloneExhausted begin (entries_in v) task answer es move ⊎ machine.AloneUnfunded begin (entries_in v) task answer es move)))
+      → machine.AloneServes begin (entries_in v) task answer es move
   by_kind answer es move h = inr (subst (λ (k : RecordKind). machine.ServesKind begin (entries_in v) k task answer es move) (sym protects) h)
 
   -- a code of a frame that is not bound
@@ -167,7 +167,7 @@ module _ {O : Type 0} (told : Bool) (trace : O → Trace) (faults puts : O → �
       state_now : at_epoch begin.start (entries_in w) p.epoch ≡ at_epoch begin.start (entries_in v) p.epoch
       state_now = ap (λ (l : List Entry). at_epoch begin.start l p.epoch) all ∙ at_epoch_more begin.start (entries_in v) es p.epoch reached_now
 
-      abbrev bound_now : clear_fault p.binding task.octets ≡ None → machine.IsBound begin (entries_in v) task
+      abbrev bound_now : clear_fault p.binding task.octets ≡ None → machine.AloneBound begin (entries_in v) task
       bound_now fits = record {
         binding = p.binding;
         bound = subst (λ (e : ℕ). protect_reply begin.plan (at_epoch begin.start (entries_in v) e) task.link task.octets ≡ Ok (Some p.binding)) epoch_now
@@ -193,7 +193,7 @@ module _ {O : Type 0} (told : Bool) (trace : O → Trace) (faults puts : O → �
         ap (λ (q : PlanLines). reserve_of q t.found.state p.binding.key n) (plan_is told trace faults puts begin t.found t.given (seeing t.epoch v.turn) w.turn began free t.visits)
         ∙ ap (λ (st : State). reserve_of begin.plan st p.binding.key n) (state_here done t clean same)
 
-    done : (out : List ℕ) (d : Done) → IsDone p task.octets out d v w → MayTakeTurn told trace faults puts (Funds faults p.binding.key d.number) v.turn w.turn
+    done : (out : List ℕ) (d : Done) → IsDrawnAndProtected p task.octets out d v w → MayTakeTurn told trace faults puts (Funds faults p.binding.key d.number) v.turn w.turn
         → AnsweredExactly begin segment v w task (Some (answer_of (numbered PROTECTED d.key d.number (take d.length out)) d.epoch))
     done out d is turn =
         let opening = opening_same told trace faults puts begin layout segment task v w began free protects (Funds faults p.binding.key d.number) turn in
@@ -349,7 +349,7 @@ module _ {O : Type 0} (told : Bool) (trace : O → Trace) (faults puts : O → �
           (not_open (Drew p.row n)) other position (λ slots here. (
             (full slots here).0,
             λ same clean level marks.
-                subst (λ (l : List Logged). machine.Serves begin (entries_of l) task (answer_of (counting JOURNAL_FULL 0 slots) position) es (Drew p.row n)) (sym same)
+                subst (λ (l : List Logged). machine.AloneServes begin (entries_of l) task (answer_of (counting JOURNAL_FULL 0 slots) position) es (Drew p.row n)) (sym same)
                 ((full slots here).1 same clean level marks (entries_are begin v w k.found.log es (by_lines (Reserves faults p.binding.key n (Err other)) k es is)
                 ∙ ap (λ (l : List Logged). entries_of l ++ es) same)),
           ))
@@ -505,5 +505,5 @@ covers_taken {O} told trace faults puts begin v w began free (inr (epoch, low, h
   where
     earlier : Earlier v.turn.known w.turn.known
     earlier = subst (λ (k : Turn). Earlier v.turn.known k.known) (sym h.visits.takes.turn)
-        (earlier_again v.turn.known (told_by trace faults puts h.found) (told_by trace faults puts h.given) h.visits.takes.follows.earlier h.visits.takes.earlier
+        (earlier_again v.turn.known (known_of_book trace faults puts h.found) (known_of_book trace faults puts h.given) h.visits.takes.follows.earlier h.visits.takes.earlier
         h.visits.takes.opening)

@@ -23,11 +23,11 @@ use Rattle.unit_book.specs.declared.fault.BookFault.{BookFault}
 use Rattle.unit_book.specs.Marks.{mark_at}
 use Rattle.unit_book.specs.Book.{BookView}
 use Rattle.shared_unit.specs.Calls.{IsPut}
-use Rattle.shared_unit.specs.Told.{told_by}
+use Rattle.shared_unit.specs.Told.{known_of_book}
 use Rattle.shared_unit.specs.Turn.{taking_once}
 use Rattle.shared_unit.proofs.Steps.{earlier_again}
 use Rattle.law_worker.specs.Begin.{Begin}
-use Rattle.law_worker.specs.Views.{Gains, log_of, entries_in, Grows, Gained}
+use Rattle.law_worker.specs.Views.{Gains, log_of, entries_in, KnowsMore, Gained}
 use Rattle.law_worker.specs.Work.{Worked}
 use Rattle.law_lives.specs.Settled.{SettlesAt}
 use Rattle.law_worker.proofs.Histories.{entries_both}
@@ -56,17 +56,17 @@ last_get (x ∷ log) line = last_get log line
 
 module _ {O : Type 0} (told : Bool) (trace : O → Trace) (faults puts : O → ℕ) (begin : Begin) (found given : BookView O) (v w : View)
     (h : Visited told trace faults puts begin found given v w) where
-  turn_is : w.turn ≡ taking_once (told_by trace faults puts found) (told_by trace faults puts given) v.turn
+  turn_is : w.turn ≡ taking_once (known_of_book trace faults puts found) (known_of_book trace faults puts given) v.turn
   turn_is = h.visits.takes.turn
 
-  grows : Grows v w
+  grows : KnowsMore v w
   grows =
       let takes = h.visits.takes in
       let a = takes.follows.earlier.changes in
       let b = takes.earlier.changes in
       record {
         nexts = λ row. rw h.numbers (omega arith);
-        earlier = rw turn_is (earlier_again v.turn.known (told_by trace faults puts found) (told_by trace faults puts given) takes.follows.earlier takes.earlier takes.opening);
+        earlier = rw turn_is (earlier_again v.turn.known (known_of_book trace faults puts found) (known_of_book trace faults puts given) takes.follows.earlier takes.earlier takes.opening);
         opening = ap (λ (t : Turn). t.known.opening) turn_is ∙ (takes.opening ∙ takes.follows.opening);
         epochs = rw turn_is (omega arith);
       }
@@ -145,7 +145,7 @@ module _ {O : Type 0} (told : Bool) (trace : O → Trace) (faults puts : O → �
         }
 
     -- what the put settles
-    pub settles : given.standing ≡ found.standing → IsCovered 512 v.numbers (told_by trace faults puts found)
+    pub settles : given.standing ≡ found.standing → IsCovered 512 v.numbers (known_of_book trace faults puts found)
         → SettlesAt begin v w given.standing found.standing (length found.log)
     settles same covered =
         let kept = h.visits.found_kept in
@@ -191,6 +191,6 @@ module _ {O : Type 0} (told : Bool) (trace : O → Trace) (faults puts : O → �
   putting_works tasks octets result put = piece_works _ (ap (λ (b : BookView O). b.log) put.made) tasks
 
   pub putting_settles : (octets : List ℕ) (result : Result (Unit {0}) BookFault) → IsPut told trace faults puts octets result found given
-      → IsCovered 512 v.numbers (told_by trace faults puts found) → SettlesAt begin v w given.standing found.standing (length found.log)
+      → IsCovered 512 v.numbers (known_of_book trace faults puts found) → SettlesAt begin v w given.standing found.standing (length found.log)
   putting_settles octets result put covered =
       settles _ (ap (λ (b : BookView O). b.log) put.made) (ap (λ (b : BookView O). b.standing) put.made) covered

@@ -18,7 +18,7 @@ use Rattle.law_history.specs.Numbers.{mark_of, reserve_of}
 use Rattle.unit_book.specs.declared.fault.BookFault.{BookFault}
 use Rattle.unit_book.specs.Book.{BookView, CanEnter, Made}
 use Rattle.shared_unit.specs.Funding.{Reserves}
-use Rattle.shared_unit.specs.Told.{told_by, entry_count}
+use Rattle.shared_unit.specs.Told.{known_of_book, entry_count}
 use Rattle.shared_unit.proofs.Places.{place_there}
 use Rattle.law_worker.specs.Views.{IsBetween}
 use Rattle.law_worker.specs.Deeds.{course_in}
@@ -110,7 +110,7 @@ module _ {O : Type 0} (told : Bool) (trace : O → Trace) (faults puts : O → �
 
   -- A reserve that was refused. The record may need it, by what else is known of it.
   pub refused : (numbers : Added told trace faults puts c) (fault : BookFault) (position : ℕ)
-      → position ≡ entry_count (told_by trace faults puts c.given) → Reserves faults key n (Err fault) c.found c.given
+      → position ≡ entry_count (known_of_book trace faults puts c.given) → Reserves faults key n (Err fault) c.found c.given
       → ((p : ℕ) → c.found.standing ≤ p → state_after (course_in c.begin c.new_view) p ≡ c.found.state
       → IsUnmarked (IsBetween c.begin c.old_view c.new_view) (state_after (course_in c.begin c.new_view) p) key n
       → MayAppend (IsBetween c.begin c.old_view c.new_view) (course_in c.begin c.new_view) p c.task)

@@ -32,7 +32,7 @@ use Rattle.unit_book.specs.declared.fault.BookFault.{BookFault}
 use Rattle.unit_book.specs.declared.fault.BookFault.TheVariants as refusals
 use Rattle.unit_book.specs.declared.limits.TheConstants.{MOST_ENTRIES}
 use Rattle.unit_book.specs.Book.{BookView, CanEnter, Enters, IsBarred, IsUnstored, IsKept}
-use Rattle.shared_unit.specs.Told.{told_by, entry_count}
+use Rattle.shared_unit.specs.Told.{known_of_book, entry_count}
 use Rattle.shared_unit.specs.Turn.{Visits}
 use Rattle.law_worker.specs.Begin.{Begin}
 use Rattle.law_worker.specs.Views.{Gains, IsBetween, IsRow, entries_in}
@@ -167,7 +167,7 @@ module _ {O : Type 0} (told : Bool) (trace : O → Trace) (faults puts : O → �
     pub added : List (ℕ × ℕ)
     pub counted : Counted begin task v w drawn spent raised added
 
-  position_known : (position : ℕ) → position ≡ entry_count (told_by trace faults puts given) → position ≡ length (entries_in w)
+  position_known : (position : ℕ) → position ≡ entry_count (known_of_book trace faults puts given) → position ≡ length (entries_in w)
   position_known position is =
       is ∙ sym (ap (λ (l : List Logged). length (entries_of l)) (log_is told trace faults puts begin found given u w.turn c.began c.free c.visits))
 
@@ -256,7 +256,7 @@ module _ {O : Type 0} (told : Bool) (trace : O → Trace) (faults puts : O → �
     before_old = began_faults told trace faults puts begin found given u w.turn c.began c.free c.visits ∙ ap faults (sym stage.opened)
 
     -- the site had failed, or the run has as many entries as it may
-    pub barred : (fault : BookFault) (position : ℕ) → position ≡ entry_count (told_by trace faults puts given) → IsBarred faults old fault
+    pub barred : (fault : BookFault) (position : ℕ) → position ≡ entry_count (known_of_book trace faults puts given) → IsBarred faults old fault
         → (task.kind ≢ Protect) ⊎ MayAppend near course old.standing task → Answered layout begin segment v w task (fault_answer fault position)
     barred (refusals.Stopped count) position is (rose, count_is) due =
         let at = position_known position is in
@@ -286,7 +286,7 @@ module _ {O : Type 0} (told : Bool) (trace : O → Trace) (faults puts : O → �
     barred refusals.NoMemory position is h due = absurd h
 
     -- all slots are used
-    pub journal_full : (slots position : ℕ) → position ≡ entry_count (told_by trace faults puts given) → ¬ Rose (faults old.opened) (faults old.site)
+    pub journal_full : (slots position : ℕ) → position ≡ entry_count (known_of_book trace faults puts given) → ¬ Rose (faults old.opened) (faults old.site)
         → old.journal.used ≡ old.journal.slots → slots ≡ old.journal.slots → MayAppend near course (length (entries_of old.log)) task
         → Handled layout begin v w (task ∷ []) (deed_of segment task (answer_of (counting JOURNAL_FULL 0 slots) position) ∷ [])
     journal_full slots position is not used slots_is may =
@@ -307,7 +307,7 @@ module _ {O : Type 0} (told : Bool) (trace : O → Trace) (faults puts : O → �
         let all = counts.used in omega arith)
         (subst (λ (n : ℕ). MayAppend near course n task) (sym (ap length known_is)) may))
         refl refl (λ is. absurd (omega arith)) (λ is. absurd (omega arith)) (λ is. absurd (omega arith)) where
-          opened_as : (told_by trace faults puts given).opening ≡ u.known.opening
+          opened_as : (known_of_book trace faults puts given).opening ≡ u.known.opening
           opened_as = c.visits.takes.opening ∙ c.visits.takes.follows.opening
 
   -- an entry more was refused
@@ -331,7 +331,7 @@ module _ {O : Type 0} (told : Bool) (trace : O → Trace) (faults puts : O → �
         ∙ after_front begin.start (entries_of old.log) rest ∙ sym (stage.state can.0)
 
     -- the site failed while it was stored: then the entry does not stand
-    faulted : (count position : ℕ) → position ≡ entry_count (told_by trace faults puts given) → given.log ≡ old.log ++ lines.Entry entry ∷ []
+    faulted : (count position : ℕ) → position ≡ entry_count (known_of_book trace faults puts given) → given.log ≡ old.log ++ lines.Entry entry ∷ []
         → given.standing ≡ old.standing → count ≡ faults given.site
         → (state_after course (length (entries_of old.log)) ≡ old.state → MayAppend near course (length (entries_of old.log)) task)
         → Handled layout begin v w (task ∷ []) (deed_of segment task (answer_of (counting SITE_FAULT 0 count) position) ∷ [])
@@ -363,7 +363,7 @@ module _ {O : Type 0} (told : Bool) (trace : O → Trace) (faults puts : O → �
           risen = risen_of w.turn.known.opening.faults w.turn.known.faults (subst (λ (n : ℕ). Rose course.faults_before n) (count_is ∙ sym now) risen);
         })
 
-    pub unstored : (fault : BookFault) (position : ℕ) → position ≡ entry_count (told_by trace faults puts given) → IsUnstored faults entry old given fault
+    pub unstored : (fault : BookFault) (position : ℕ) → position ≡ entry_count (known_of_book trace faults puts given) → IsUnstored faults entry old given fault
         → (state_after course (length (entries_of old.log)) ≡ old.state → IsTrue (IsStored old.state entry)
         → MayAppend near course (length (entries_of old.log)) task)
         → Answered layout begin segment v w task (fault_answer fault position)

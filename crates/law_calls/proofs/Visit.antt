@@ -19,7 +19,7 @@ use Rattle.counter_table.specs.Turn.{epoch_seen, places}
 use Rattle.law_history.specs.Log.{entries_of}
 use Rattle.unit_book.specs.Book.{BookView}
 use Rattle.unit_book.proofs.KeptLaws.{kept_whole, bounds_of}
-use Rattle.shared_unit.specs.Told.{told_by}
+use Rattle.shared_unit.specs.Told.{known_of_book}
 use Rattle.shared_unit.specs.Turn.{taking_once, Visits}
 use Rattle.shared_unit.proofs.Steps.{earlier_again}
 use Rattle.law_worker.specs.Begin.{Begin}
@@ -46,13 +46,13 @@ below_mark number mark h = elim (cases_lt number mark) [
 
 module _ {O : Type 0} (told : Bool) (trace : O → Trace) (faults puts : O → ℕ) (begin : Begin) (found given : BookView O) (v w : Turn)
     (began : BeganWith told begin v.known.opening) (free : v.holds ≡ false) (visits : Visits told trace faults puts found given v w) where
-  turn_is : w ≡ taking_once (told_by trace faults puts found) (told_by trace faults puts given) v
+  turn_is : w ≡ taking_once (known_of_book trace faults puts found) (known_of_book trace faults puts given) v
   turn_is = visits.takes.turn
 
-  opening_is : (told_by trace faults puts given).opening ≡ v.known.opening
+  opening_is : (known_of_book trace faults puts given).opening ≡ v.known.opening
   opening_is = visits.takes.opening ∙ visits.takes.follows.opening
 
-  pub found_opening : (told_by trace faults puts found).opening ≡ v.known.opening
+  pub found_opening : (known_of_book trace faults puts found).opening ≡ v.known.opening
   found_opening = visits.takes.follows.opening
 
   pub plan_is : found.plan ≡ begin.plan
@@ -174,7 +174,7 @@ module _ {O : Type 0} (told : Bool) (trace : O → Trace) (faults puts : O → �
         let u = lines_length es in omega arith) in
         record {
           earlier = subst (λ (t : Turn). Earlier v.known t.known) (sym turn_is)
-              (earlier_again v.known (told_by trace faults puts found) (told_by trace faults puts given) visits.takes.follows.earlier visits.takes.earlier visits.takes.opening);
+              (earlier_again v.known (known_of_book trace faults puts found) (known_of_book trace faults puts given) visits.takes.follows.earlier visits.takes.earlier visits.takes.opening);
           sparing = sparing_seen;
           opening = ap (λ (t : Turn). t.known.opening) turn_is ∙ opening_is;
           epochs = (let a = epoch_low in let b = epoch_high in let c = visits.takes.earlier.changes in omega arith);

@@ -2,7 +2,7 @@
 use Rattle.std.specs.Prelude.{◌≢◌, ◌⊎◌, ℕ, ◌≤◌, Bool, List, [], ◌∷◌, length, take, Option, Some, None, Result, Ok, Err, MatchResult}
 use Rattle.sdls_outside.specs.Moments.{Trace}
 use Rattle.frame_checks.specs.declared.open_reply.OpenReply.{OpenReply}
-use Rattle.frame_checks.specs.Accepting.{Leaves, field_in}
+use Rattle.frame_checks.specs.Accepting.{LeavesOctets, field_in}
 use Rattle.ep_core.specs.declared.reply.Reply.{Reply}
 use Rattle.record_io.specs.declared.answers.Answer.{Answer}
 use Rattle.record_io.specs.declared.code.TheConstants.{PROTECTED, CLEAR, EXHAUSTED, JOURNAL_FULL, SITE_FAULT, STOPPED, NO_MEMORY}
@@ -16,12 +16,12 @@ use Rattle.unit_book.specs.declared.fault.BookFault.{BookFault}
 use Rattle.unit_book.specs.declared.fault.BookFault.TheVariants as faults
 use Rattle.unit_book.specs.declared.limits.TheConstants.{MOST_ENTRIES}
 use Rattle.unit_book.specs.Book.{BookView}
-use Rattle.unit_book.specs.Records.{Opens, RefusesFrame}
+use Rattle.unit_book.specs.Records.{OpensWithEntry, RefusesFrame}
 use Rattle.shared_unit.specs.declared.permit.Protected.{Protected}
 use Rattle.shared_unit.specs.declared.permit.Protected.TheVariants as protecteds
 use Rattle.shared_unit.specs.Calls.{WithPosition}
 use Rattle.shared_unit.specs.Commanding.{IsCommanded}
-use Rattle.shared_unit.specs.Told.{told_by}
+use Rattle.shared_unit.specs.Told.{known_of_book}
 use Rattle.shared_unit.specs.Turn.{Visits}
 use Rattle.law_worker.specs.Begin.{Begin}
 use Rattle.law_worker.specs.Views.{IsBetween, entries_in}
@@ -96,8 +96,8 @@ abbrev pub OpensRecord : {O : Type 0} → Bool → (O → Trace) → (O → ℕ)
     → View → View → Type 0
 OpensRecord {O} told trace faults_of puts task left result v w = (found : BookView O) × (given : BookView O)
     × Visits told trace faults_of puts found given v.turn w.turn
-    × WithPosition result (told_by trace faults_of puts given) (λ answer. MatchResult answer
-    (λ told. Opens faults_of task.index task.link task.octets (field_in told.0 left) found given told.0 told.1 × Leaves told.0 task.octets left)
+    × WithPosition result (known_of_book trace faults_of puts given) (λ answer. MatchResult answer
+    (λ told. OpensWithEntry faults_of task.index task.link task.octets (field_in told.0 left) found given told.0 told.1 × LeavesOctets told.0 task.octets left)
     (RefusesFrame faults_of task.index task.link task.octets found given))
 
 -- `command`
@@ -105,5 +105,5 @@ abbrev pub CommandsRecord : {O : Type 0} → Bool → (O → Trace) → (O → �
     → View → View → Type 0
 CommandsRecord {O} told trace faults_of puts task result v w = (found : BookView O) × (given : BookView O)
     × Visits told trace faults_of puts found given v.turn w.turn
-    × WithPosition result (told_by trace faults_of puts given)
+    × WithPosition result (known_of_book trace faults_of puts given)
     (λ answer. IsCommanded faults_of task.index task.octets answer found given v.numbers w.numbers)

@@ -6,7 +6,7 @@ ghost use Rattle.counter_table.specs.Play.{IsCovered};
 ghost use Rattle.unit_book.specs.declared.fault.BookFault.{BookFault};
 ghost use Rattle.unit_book.specs.Book.{BookView};
 ghost use Rattle.shared_unit.specs.Calls.{IsPut};
-ghost use Rattle.shared_unit.specs.Told.{told_by};
+ghost use Rattle.shared_unit.specs.Told.{known_of_book};
 ghost use Rattle.law_worker.specs.Begin.{Begin};
 ghost use Rattle.law_worker.specs.Work.{Worked};
 ghost use Rattle.law_lives.specs.Settled.{SettlesAt};
@@ -32,6 +32,6 @@ pub fn putting_settles<O: Site>()
     ensures { (begin : Begin) (v w : View) (found given : BookView O) (octets : List ℕ)
         (result : Result (Unit {0}) BookFault) → Visited O.told O.trace O.faults O.put_faults begin found given v w
         → IsPut O.told O.trace O.faults O.put_faults octets result found given
-        → IsCovered 512 v.numbers (told_by O.trace O.faults O.put_faults found)
+        → IsCovered 512 v.numbers (known_of_book O.trace O.faults O.put_faults found)
         → SettlesAt begin v w given.standing found.standing (length found.log) }
 {}

@@ -3,7 +3,7 @@ use Rattle.std.proofs.Common.{◌≡◌, ◌≢◌, ℕ, zero, suc, ◌+◌, ◌
 use Rattle.std.proofs.lemmas.Bool.Decides.{nat_tests}
 use Rattle.counter_table.specs.declared.view.Known.{Known}
 use Rattle.counter_table.specs.declared.view.View.{View}
-use Rattle.counter_table.specs.Known.{mark_of}
+use Rattle.counter_table.specs.Known.{known_mark}
 use Rattle.counter_table.specs.Rule.{next_at, limit_at}
 use Rattle.sdls_world.specs.declared.key.Key.{Key}
 use Rattle.sdls_world.specs.Core.{Doer, find_place, further}
@@ -12,7 +12,7 @@ use Rattle.law_counters.specs.Scene.{doer, doers, key_at, keys_from}
 
 -- the same words and the same mark make the same key
 pub key_same : (words words' : List ℕ) (book book' : Known) (row id : ℕ) → slice_index words' (next_at row) ≡ slice_index words (next_at row)
-    → slice_index words' (limit_at row) ≡ slice_index words (limit_at row) → mark_of book' row ≡ mark_of book row
+    → slice_index words' (limit_at row) ≡ slice_index words (limit_at row) → known_mark book' row ≡ known_mark book row
     → key_at words' book' row id ≡ key_at words book row id
 key_same words words' book book' row id next limit mark = λ j. record { id = id; next = next j; limit = limit j; mark = mark j; durable = mark j }
 

@@ -4,7 +4,7 @@ use Rattle.std.proofs.lemmas.Bool.Decides.{nat_tests}
 use Rattle.counter_table.specs.declared.view.Known.{Known}
 use Rattle.counter_table.specs.declared.view.Turn as known
 use Rattle.counter_table.specs.declared.view.View.{View}
-use Rattle.counter_table.specs.Known.{mark_of}
+use Rattle.counter_table.specs.Known.{known_mark}
 use Rattle.counter_table.specs.Numbers as numbers
 use Rattle.counter_table.specs.Turn as turning
 use Rattle.counter_table.specs.Rule.{next_at, limit_at}
@@ -263,8 +263,8 @@ module _ {B : Type 0} (told : B → Known) (count : ℕ) (s : Scene) (ruled : Is
 
     lift_ties : (row key : ℕ) → MayMove v (lifts row key) s → world_of (moved id v (lifts row key) s) ≡ after world (Lift id key)
     lift_ties row key ok =
-        let n = max (limit_of s row) (mark_of s.book row) in
-        let w : View = record { numbers = numbers.lifting row (mark_of s.book row) v.numbers; turn = turning.learning s.book.marks v.turn } in
+        let n = max (limit_of s row) (known_mark s.book row) in
+        let w : View = record { numbers = numbers.lifting row (known_mark s.book row) v.numbers; turn = turning.learning s.book.marks v.turn } in
         let k = limit_written row key ok.0 n in
         let a = actors_same w refl in
         let h = holder_stays w refl in
@@ -330,7 +330,7 @@ stores_tie told count s ruled id v at holds row key mark later known low one =
     let writes : after w (Write id key mark) ≡ written =
     ap (λ (t : Bool). if t then on_found w (key_of key w.keys) (core.write_step w mark) else w) (may told count s ruled id v at holds)
     ∙ ap (λ (o : Option (ℕ × Key)). on_found w o (core.write_step w mark)) (found told count s ruled row key known)
-    ∙ ap (λ (t : Bool). if t && nat_le mark (end_of key) then written else w) (le_true (mark_of s.book row) mark one.above)
+    ∙ ap (λ (t : Bool). if t && nat_le mark (end_of key) then written else w) (le_true (known_mark s.book row) mark one.above)
     ∙ ap (λ (t : Bool). if t then written else w) (le_true mark (end_of key) low) in
     let synced : Core = record w { keys = map core.synced written.keys } in
     let syncs : after written (Sync id) ≡ synced = ap (λ (t : Bool). if t then synced else written) (may told count s ruled id v at holds) in

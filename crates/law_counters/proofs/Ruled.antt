@@ -3,7 +3,7 @@ use Rattle.std.proofs.Common.{◌≡◌, ℕ, ◌+◌, ◌<◌, ◌≤◌, le_tr
 use Rattle.counter_table.specs.declared.view.Known.{Known}
 use Rattle.counter_table.specs.declared.view.Numbers.{Numbers}
 use Rattle.counter_table.specs.declared.view.View.{View}
-use Rattle.counter_table.specs.Known.{mark_of}
+use Rattle.counter_table.specs.Known.{known_mark}
 use Rattle.counter_table.specs.Numbers as numbers
 use Rattle.counter_table.specs.Rule.{RowFits, SeatFits, IsSane}
 use Rattle.sdls_base.specs.Numbers.{times, total, once_below}
@@ -44,7 +44,7 @@ module _ {B : Type 0} (told : B → Known) (count : ℕ) (s : Scene) (ruled : Is
     drawn_once x =
         let h = fits.once x in let e = total-map (λ (n : Numbers). times row x n.drawn) (λ (v : View). v.numbers) s.views in omega arith
 
-    below_mark : limit_of s row ≤ mark_of s.book row
+    below_mark : limit_of s row ≤ known_mark s.book row
     below_mark = le_trans (ruled.rule.turn.limits row below) (ruled.marks row)
 
     row_kept : (key : ℕ) → KeyKept row (key_at s.words s.book row key) (world_of s)
@@ -53,7 +53,7 @@ module _ {B : Type 0} (told : B → Known) (count : ℕ) (s : Scene) (ruled : Is
           let sum = unused_sum row x 0 s.views (λ id v at. spent_drawn row x id v at) in
           let once = drawn_once x in let used = ruled.used row x in omega arith;
       used = λ x.
-          let h = spent_below row x (next_of s row) (limit_of s row) (mark_of s.book row) s.views
+          let h = spent_below row x (next_of s row) (limit_of s row) (known_mark s.book row) s.views
           (λ id v at. (spent_drawn row x id v at, (seat id v at).spent x)) (drawn_once x) below_mark in
           let used = ruled.used row x in omega arith;
       funded = λ i a at x some.

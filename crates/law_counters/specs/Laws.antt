@@ -3,21 +3,21 @@ use Rattle.std.specs.Prelude.{◌≡◌, ◌≢◌, ℕ, ◌≤◌, [], ◌∷�
 use Rattle.atomic_table.specs.Table.{Me}
 use Rattle.counter_table.specs.declared.view.Known.{Known}
 use Rattle.counter_table.specs.declared.view.View.{View}
-use Rattle.counter_table.specs.Known.{mark_of}
+use Rattle.counter_table.specs.Known.{known_mark}
 use Rattle.counter_table.specs.Numbers.{keeper, newcomer, joined}
 use Rattle.counter_table.specs.Turn.{beginner, merged}
 use Rattle.counter_table.specs.Play.{no_view}
 use Rattle.sdls_base.specs.KeyId.{end_of}
 use Rattle.sdls_world.specs.declared.step.Step.TheVariants.{Write, Sync}
 use Rattle.sdls_world.specs.Core.{idle, after_all}
-use Rattle.sdls_world.specs.Kept.{IsKept}
+use Rattle.sdls_world.specs.Kept.{IsWorldKept}
 use Rattle.law_counters.specs.Scene.{Scene, AreSpent, IsRuled, doer, doers, world_of}
 use Rattle.law_counters.specs.Move.{Move, moved, view_after, MayMove, steps_of, Tells, MovesBook}
 
 module _ {B : Type 0} (told : B → Known) where
   -- where the rule of the counters holds, the world is kept
   abbrev pub RuledAreKept : Type 0
-  RuledAreKept = (count : ℕ) (s : Scene) → IsRuled told count s → IsKept (world_of s)
+  RuledAreKept = (count : ℕ) (s : Scene) → IsRuled told count s → IsWorldKept (world_of s)
 
   -- a step of the counters leads to the world that its steps in the core give
   abbrev pub MovesTie : Type 0
@@ -37,9 +37,9 @@ SpentStay = (s : Scene) → AreSpent s.views s.used → (id : ℕ) (v : View) �
 
 -- the later book has this mark at the row, and at others the same
 pub record MarksOne (row mark : ℕ) (book later : Known) : Type 0 where
-  pub here : mark_of later row ≡ mark
-  pub others : (other : ℕ) → other ≢ row → mark_of later other ≡ mark_of book other
-  pub above : mark_of book row ≤ mark
+  pub here : known_mark later row ≡ mark
+  pub others : (other : ℕ) → other ≢ row → known_mark later other ≡ known_mark book other
+  pub above : known_mark book row ≤ mark
 
 -- the holder's book stored a mark: the core writes it and syncs
 abbrev pub StoresTie : {B : Type 0} → (B → Known) → Type 0

@@ -3,7 +3,7 @@ use Rattle.std.specs.Prelude.{◌≡◌, ℕ, ◌+◌, ◌<◌, ◌≤◌, ◌^�
 use Rattle.atomic_table.specs.Table.{Me}
 use Rattle.counter_table.specs.declared.view.Known.{Known}
 use Rattle.counter_table.specs.declared.view.View.{View}
-use Rattle.counter_table.specs.Known.{mark_of}
+use Rattle.counter_table.specs.Known.{known_mark}
 use Rattle.counter_table.specs.Numbers.{arming, drawing, peeking, raising, lifting}
 use Rattle.counter_table.specs.Turn.{seeing, taking, giving, learning, turning}
 use Rattle.counter_table.specs.Rule.{next_at, limit_at}
@@ -34,7 +34,7 @@ view_after v sees s = record v { turn = seeing (epoch_of s) v.turn }
 view_after v takes s = record v { turn = if turn_of s == 0 then taking s.book v.turn else v.turn }
 view_after v gives s = record v { turn = giving s.book v.turn }
 view_after v (lifts row key) s =
-    record { numbers = lifting row (mark_of s.book row) v.numbers; turn = learning s.book.marks v.turn }
+    record { numbers = lifting row (known_mark s.book row) v.numbers; turn = learning s.book.marks v.turn }
 view_after v (raises row key number) s = record v { numbers = raising row number (next_of s row) v.numbers }
 view_after v turns s = record v { turn = turning v.turn }
 
@@ -46,7 +46,7 @@ words_after (peeks row key number) s = s.words
 words_after sees s = s.words
 words_after takes s = slice_set s.words 0 2
 words_after gives s = slice_set s.words 0 0
-words_after (lifts row key) s = slice_set s.words (limit_at row) (max (limit_of s row) (mark_of s.book row))
+words_after (lifts row key) s = slice_set s.words (limit_at row) (max (limit_of s row) (known_mark s.book row))
 words_after (raises row key number) s = slice_set s.words (next_at row) (max (next_of s row) number)
 words_after turns s = slice_set s.words 1 (epoch_of s + 1)
 
@@ -99,7 +99,7 @@ module _ {B : Type 0} (told : B → Known) where
   Tells count sees s m w = plays.sees m (epoch_of s) w
   Tells count takes s m w = plays.takes told count m (turn_of s) w
   Tells count gives s m w = plays.gives told m (turn_of s) w
-  Tells count (lifts row key) s m w = plays.lifts row (mark_of s.book row) s.book.marks m (limit_of s row) w
+  Tells count (lifts row key) s m w = plays.lifts row (known_mark s.book row) s.book.marks m (limit_of s row) w
   Tells count (raises row key number) s m w = plays.raises row number m (next_of s row) w
   Tells count turns s m w = plays.turns m (epoch_of s) w
 

@@ -4,7 +4,7 @@ use mathlib.Core.Option as slot
 use Rattle.counter_table.specs.declared.view.Known.{Known}
 use Rattle.counter_table.specs.declared.view.Numbers.{Numbers}
 use Rattle.counter_table.specs.declared.view.View.{View}
-use Rattle.counter_table.specs.Known.{mark_of, KeepsMarks}
+use Rattle.counter_table.specs.Known.{known_mark, LowersNoMark}
 use Rattle.counter_table.specs.Rule.{next_at, limit_at}
 use Rattle.counter_table.specs.Rule as rules
 use Rattle.sdls_base.specs.Numbers.{times, total}
@@ -47,8 +47,8 @@ key_at words book row id = record {
   id = id;
   next = slice_index words (next_at row);
   limit = slice_index words (limit_at row);
-  mark = mark_of book row;
-  durable = mark_of book row;
+  mark = known_mark book row;
+  durable = known_mark book row;
 }
 
 -- the keys from a row on
@@ -82,7 +82,7 @@ module _ {B : Type 0} (told : B → Known) where
     pub homes : List (slot.Option (Option B))
     pub rule : rules.IsKept told count (record { words = s.words; homes = homes; views = s.views })
     -- no mark of the book is below what the rule knows: the mark at home, or the holder's
-    pub marks : KeepsMarks rule.book s.book
+    pub marks : LowersNoMark rule.book s.book
     -- each key of the book has a row, and one alone
     pub rows : length s.ids ≤ count
     pub apart : (i j id : ℕ) → slice_get s.ids i ≡ Some id → slice_get s.ids j ≡ Some id → i ≡ j

@@ -12,7 +12,7 @@ use Rattle.law_worker.specs.Begin.{Begin}
 use Rattle.drill_frames.specs.declared.counts.Counts.{Counts}
 use Rattle.drill_frames.specs.Counting.{count_accepted, count_code, count_fields, no_counts, sum_of}
 use Rattle.drill_frames.specs.Frames.{open_tasks, protect_tasks, replay_tasks}
-use Rattle.law_drill.specs.Drilled.{AreChunks, IsDrilled, IsOpened, Serves, all_counts, tells_want}
+use Rattle.law_drill.specs.Drilled.{AreChunks, IsDrilled, UnitIsOpened, HandlesSegment, all_counts, tells_want}
 use Rattle.law_drill.specs.Plans.{receiver_lines, receiver_plan, sender_lines, sender_plan}
 use Rattle.law_drill.proofs.Judging.{receiving}
 use Rattle.law_drill.proofs.Lanes.{each}
@@ -44,9 +44,9 @@ module _ (once : OpensOnce) (one other : Begin) (s t0 t v w0 mid w : View) (chun
   abbrev sent : List Answer
   sent = so_far.sent
 
-  served_by : (later opened again : List Answer) → Serves one t0 t (protect_tasks (256 * chunk) n) later
-      → Serves other w0 mid (open_tasks chunk (256 * chunk) later) opened
-      → Serves other mid w (replay_tasks chunk (256 * chunk) later) again → list_any tells_want later ≡ false → list_any tells_want opened ≡ false
+  served_by : (later opened again : List Answer) → HandlesSegment one t0 t (protect_tasks (256 * chunk) n) later
+      → HandlesSegment other w0 mid (open_tasks chunk (256 * chunk) later) opened
+      → HandlesSegment other mid w (replay_tasks chunk (256 * chunk) later) again → list_any tells_want later ≡ false → list_any tells_want opened ≡ false
       → list_any tells_want again ≡ false → more.protected ≡ count_code codes_of.PROTECTED later
       → more.accepted ≡ count_accepted chunk (open_tasks chunk (256 * chunk) later) opened + count_fields (256 * chunk) again
       → more.rejected ≡ count_code codes_of.NUMBER opened + count_code codes_of.NUMBER again
@@ -92,8 +92,8 @@ module _ (once : OpensOnce) (one other : Begin) (s t0 t v w0 mid w : View) (chun
             ∙ ap (sum_of (record { protected = 256 * chunk; accepted = 256 * chunk; rejected = chunk })) more_is;
       }
 
-module _ (once : OpensOnce) (one other : Begin) (number : ℕ) (s v : View) (few : number ≤ 100000) (sends : IsOpened sender_plan one s)
-    (receives : IsOpened receiver_plan other v) where
+module _ (once : OpensOnce) (one other : Begin) (number : ℕ) (s v : View) (few : number ≤ 100000) (sends : UnitIsOpened sender_plan one s)
+    (receives : UnitIsOpened receiver_plan other v) where
   pub chunks_served : (chunks : ℕ) → 256 * chunks < number + 256 → (t w : View) (answers : List Answer) (counts : Counts)
       → AreChunks one other number s v chunks t w answers counts → list_any tells_want answers ≡ false
       → Served one other s t v w (min number (256 * chunks)) chunks counts

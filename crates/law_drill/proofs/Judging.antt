@@ -6,7 +6,7 @@ use Rattle.unit_state.specs.declared.state.State.{State}
 use Rattle.frame_shield.specs.Protects.{Protects}
 use Rattle.frame_checks.specs.declared.open_reply.OpenReply.{OpenReply}
 use Rattle.frame_checks.specs.Header.{channel_of}
-use Rattle.frame_checks.specs.Opening.{IsOpenReply}
+use Rattle.frame_checks.specs.OpeningFrames.{IsOpenReply}
 use Rattle.law_drill.specs.Plans.{link_line, receiver_lines}
 use Rattle.law_drill.proofs.Binding.{bound_to, clear_on, field_by}
 use Rattle.law_drill.proofs.Lanes.{each, four, key_on, row_on, state_at, suite_on}

@@ -17,7 +17,7 @@ use Rattle.unit_state.specs.Restart.{restarted}
 use Rattle.unit_state.specs.State.{KeepsRules}
 use Rattle.unit_image.specs.Shows.{LeadTo}
 use Rattle.law_worker.specs.Begin.{Begin}
-use Rattle.law_drill.specs.Drilled.{IsOpened}
+use Rattle.law_drill.specs.Drilled.{UnitIsOpened}
 use Rattle.law_drill.specs.Plans.{receiver_lines, receiver_plan, sender_lines, sender_plan, slots}
 use Rattle.law_drill.proofs.Judging.{receiving}
 use Rattle.law_drill.proofs.Lanes.{each, first_is}
@@ -42,7 +42,7 @@ no_records [] h = refl
 no_records (x ∷ xs) h = absurd (omega arith)
 
 module _ (text : List ℕ) (lines : PlanLines) (state : State) (short : length text ≤ 65496) (read : plan_of text ≡ Ok lines)
-    (starts : (first : State) → initial lines ≡ Ok first → restarted first ≡ state) (begin : Begin) (v : View) (opened : IsOpened text begin v) where
+    (starts : (first : State) → initial lines ≡ Ok first → restarted first ≡ state) (begin : Begin) (v : View) (opened : UnitIsOpened text begin v) where
   image : List ℕ
   image = initial_image text slots
 
@@ -81,11 +81,11 @@ receiver_short : length receiver_plan ≤ 65496
 unfolding receiver_plan
 receiver_short = omega arith
 
-pub sender_begins : (begin : Begin) (v : View) → IsOpened sender_plan begin v → Starts begin sender_lines (sending (each 1))
+pub sender_begins : (begin : Begin) (v : View) → UnitIsOpened sender_plan begin v → Starts begin sender_lines (sending (each 1))
 sender_begins begin v opened =
     begins_so sender_plan sender_lines (sending (each 1)) sender_short sender_read (λ first made. sender_starts first made ∙ first_is 1 Send) begin v opened
 
-pub receiver_begins : (begin : Begin) (v : View) → IsOpened receiver_plan begin v → Starts begin receiver_lines (receiving (each 0) (each 0))
+pub receiver_begins : (begin : Begin) (v : View) → UnitIsOpened receiver_plan begin v → Starts begin receiver_lines (receiving (each 0) (each 0))
 receiver_begins begin v opened =
     begins_so receiver_plan receiver_lines (receiving (each 0) (each 0)) receiver_short receiver_read (λ first made. receiver_starts first made
     ∙ first_is 2 Receive) begin v opened

@@ -15,10 +15,10 @@ use Rattle.law_worker.specs.Begin.{Begin}
 use Rattle.law_worker.specs.Deeds.{Ascend, Deed, course_in, deed_of, deeds_of}
 use Rattle.law_worker.specs.Order.{Layout, LiesIn}
 use Rattle.law_worker.proofs.Handling as handling
-use Rattle.law_lives.specs.Opened.{IsOpened}
+use Rattle.law_lives.specs.Opened.{IsJustOpened}
 use Rattle.drill_frames.specs.Counting.{count_accepted, count_code, count_fields, gives_field}
 use Rattle.drill_frames.specs.Frames.{data_field, open_task, open_tasks, replay_tasks}
-use Rattle.law_drill.specs.Drilled.{Serves, tells_want}
+use Rattle.law_drill.specs.Drilled.{HandlesSegment, tells_want}
 use Rattle.law_drill.specs.Plans.{receiver_lines}
 use Rattle.law_drill.proofs.Judging.{receiving}
 use Rattle.law_drill.proofs.Lanes.{each}
@@ -159,7 +159,7 @@ pub record TakenAll (begin : Begin) (first now : View) (total chunks : ℕ) (oct
   pub below_deeds : All (λ (deed : Deed). Below (257 * chunks) deed.task) deeds
   pub few : length tasks ≤ total + chunks
 
-pub none_taken : (begin : Begin) (first : View) (octets : ℕ → List ℕ) → IsOpened begin first → begin.rows ≡ 512 → IsWhole 512 first
+pub none_taken : (begin : Begin) (first : View) (octets : ℕ → List ℕ) → IsJustOpened begin first → begin.rows ≡ 512 → IsWhole 512 first
     → Starts begin receiver_lines (receiving (each 0) (each 0)) → TakenAll begin first first 0 0 octets
 none_taken begin first octets opened rows whole starts = record {
   tasks = [];
@@ -188,8 +188,8 @@ module _ (once : OpensOnce) (begin : Begin) (first now mid next : View) (chunk :
     (same : (i : ℕ) → i < 256 * chunk → octets i ≡ longer i)
     (own : (j : ℕ) → j < length (head ∷ rest) → longer (256 * chunk + j) ≡ (at (head ∷ rest) j).body)
     (sent : AreSent (256 * chunk + length (head ∷ rest)) numbers longer)
-    (opened again : List Answer) (opens : Serves begin now mid (open_tasks chunk (256 * chunk) (head ∷ rest)) opened)
-    (replays : Serves begin mid next (replay_tasks chunk (256 * chunk) (head ∷ rest)) again)
+    (opened again : List Answer) (opens : HandlesSegment begin now mid (open_tasks chunk (256 * chunk) (head ∷ rest)) opened)
+    (replays : HandlesSegment begin mid next (replay_tasks chunk (256 * chunk) (head ∷ rest)) again)
     (open_wants : list_any tells_want opened ≡ false) (again_wants : list_any tells_want again ≡ false) where
   abbrev total : ℕ
   total = 256 * chunk + length (head ∷ rest)
@@ -254,8 +254,8 @@ module _ (once : OpensOnce) (begin : Begin) (first now mid next : View) (chunk :
   one_handed : All (Handed total longer) (repeated ∷ [])
   one_handed = All-cons (Handed total longer) repeated [] repeated_hand (All-nil (Handed total longer))
 
-  replays_one : Serves begin mid next (repeated ∷ []) again
-  replays_one = subst (λ (ts : List Record). Serves begin mid next ts again) again_is replays
+  replays_one : HandlesSegment begin mid next (repeated ∷ []) again
+  replays_one = subst (λ (ts : List Record). HandlesSegment begin mid next ts again) again_is replays
 
   abbrev every : List Record
   every = (old ++ new) ++ repeated ∷ []

@@ -26,7 +26,7 @@ use Rattle.frame_checks.specs.declared.open_reply.OpenReply.{OpenReply}
 use Rattle.frame_checks.specs.declared.open_reply.OpenReply.TheVariants.{Accepted, Clear, Layout, Channel, Spi, Direction, State as NotOperational, Coverage, Mac, Number}
 use Rattle.frame_checks.specs.Binding.{binding_of}
 use Rattle.frame_checks.specs.Header.{channel_of, is_clear}
-use Rattle.frame_checks.specs.Opening.{IsJudged, IsOpened, IsOpenReply, IsReplyOn, IsReplyUnder, IsToldOr, association_checks, association_in}
+use Rattle.frame_checks.specs.OpeningFrames.{IsJudged, IsOpenedUnder, IsOpenReply, IsReplyOn, IsReplyUnder, IsToldOr, association_checks, association_in}
 use Rattle.law_drill.specs.Plans.{link_line, receiver_lines}
 use Rattle.law_drill.proofs.Binding.{bound_to, clear_on, field_by}
 
@@ -172,11 +172,11 @@ module _ (once : OpensOnce) (state : State) (channel spi : ℕ) (suite : Suite) 
       let same_channel : under.channel ≡ channel = some_same under.channel channel _ under.on on_channel in
       let same_row : under.row ≡ row = some_same under.row row _ under.named names in
       let told = subst (λ (c : ℕ). IsToldOr (first_failing (association_checks row c)) reply
-      (IsOpened receiver_lines state link_line row out reply field)) same_channel
+      (IsOpenedUnder receiver_lines state link_line row out reply field)) same_channel
       (subst (λ (x : SaRow). IsToldOr (first_failing (association_checks x under.channel)) reply
-      (IsOpened receiver_lines state link_line x out reply field)) same_row under.told) in
-      let opened : IsOpened receiver_lines state link_line row out reply field =
-      subst (λ (o : Option OpenReply). IsToldOr o reply (IsOpened receiver_lines state link_line row out reply field)) passes told in
+      (IsOpenedUnder receiver_lines state link_line x out reply field)) same_row under.told) in
+      let opened : IsOpenedUnder receiver_lines state link_line row out reply field =
+      subst (λ (o : Option OpenReply). IsToldOr o reply (IsOpenedUnder receiver_lines state link_line row out reply field)) passes told in
       let bound : opened.binding ≡ receives = some_same opened.binding receives _ opened.bound binds in
       judged n out own field opens reply (subst (λ (b : Binding). IsJudged row b out reply field) bound opened.judged)
 

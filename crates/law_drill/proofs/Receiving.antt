@@ -25,7 +25,7 @@ use Rattle.unit_state.specs.History.{after}
 use Rattle.frame_shield.specs.Protects.{Protects}
 use Rattle.frame_checks.specs.declared.open_reply.OpenReply.{OpenReply}
 use Rattle.frame_checks.specs.declared.open_reply.OpenReply.TheVariants.{Accepted}
-use Rattle.frame_checks.specs.Opening.{IsOpenReply}
+use Rattle.frame_checks.specs.OpeningFrames.{IsOpenReply}
 use Rattle.law_history.specs.Answers.{Told, told_by, opened_told}
 use Rattle.law_history.specs.Counts.{draws, drawers, is_none_index, reserves_of}
 use Rattle.law_history.specs.Entries.{frame_change, frame_entry, raised_floor}

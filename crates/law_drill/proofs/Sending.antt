@@ -24,13 +24,13 @@ use Rattle.unit_state.specs.Applied.{applied}
 use Rattle.unit_state.specs.History.{after, at_epoch, epoch_after}
 use Rattle.frame_shield.specs.declared.binding.Binding.{Binding}
 use Rattle.frame_shield.specs.Protects.{Protects}
-use Rattle.frame_checks.specs.Protecting as protecting
+use Rattle.frame_checks.specs.ProtectingFrames as protecting
 use Rattle.law_history.specs.Answers.{Told, told_by, unbound_told}
 use Rattle.law_history.specs.Counts.{drawers, draws}
 use Rattle.law_history.specs.Fits.{Course, Fits, IsBound, IsExhausted, IsFull, IsProtected, IsUnbound}
 use Rattle.law_history.specs.Legal.{IsLegal, IsReserve}
 use Rattle.law_history.specs.Numbers.{mark_of}
-use Rattle.law_history.specs.Protecting.{protect_reply}
+use Rattle.law_history.specs.ProtectingFrames.{protect_reply}
 use Rattle.law_history.specs.Run.{IsAskedFor, NearWord}
 use Rattle.law_history.specs.Stored.{IsStored, stored_count}
 use Rattle.law_worker.specs.Begin.{Begin}
@@ -38,7 +38,7 @@ use Rattle.law_worker.specs.Deeds.{Deed, Does, course_in}
 use Rattle.law_worker.specs.Order.{Handled, Layout}
 use Rattle.law_worker.specs.Views.{entries_in}
 use Rattle.law_worker.specs.Work.{indexed}
-use Rattle.law_lives.specs.Opened.{IsOpened}
+use Rattle.law_lives.specs.Opened.{IsJustOpened}
 use Rattle.law_lives.proofs.Assembled.{rules_at_end}
 use Rattle.law_lives.proofs.Ending.{IsHistory, answers_fit, legal}
 use Rattle.drill_frames.specs.Frames.{clear_frame, field_octet, field_octets, protect_task}
@@ -49,7 +49,7 @@ use Rattle.law_drill.proofs.Reserving.{Reserved, none_reserved, reserved_more, s
 
 -- the records that a unit handled since it was opened
 pub record Done (layout : Layout) (begin : Begin) (first now : View) (tasks : List Record) (deeds : List Deed) : Type 0 where
-  pub opened : IsOpened begin first
+  pub opened : IsJustOpened begin first
   pub rows : begin.rows ≡ 512
   pub handled : Handled layout begin first now tasks deeds
   pub whole : IsWhole begin.rows now

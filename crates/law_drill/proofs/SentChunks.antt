@@ -17,10 +17,10 @@ use Rattle.law_worker.specs.Order.{Handled, Layout}
 use Rattle.law_worker.specs.Views.{entries_in}
 use Rattle.law_worker.proofs.Handling.{handled_then}
 use Rattle.law_worker.proofs.Handling as handling
-use Rattle.law_lives.specs.Opened.{IsOpened}
+use Rattle.law_lives.specs.Opened.{IsJustOpened}
 use Rattle.frame_workers.specs.Ends.{EndsSegment}
 use Rattle.drill_frames.specs.Frames.{protect_task, protect_tasks}
-use Rattle.law_drill.specs.Drilled.{Serves, tells_fault, tells_want}
+use Rattle.law_drill.specs.Drilled.{HandlesSegment, tells_fault, tells_want}
 use Rattle.law_drill.specs.Plans.{sender_lines}
 use Rattle.law_drill.proofs.Lanes.{each, key_on}
 use Rattle.law_drill.proofs.Lists.{Below, From, ascend_once, ascend_then, come_before, deed_at, deeds_all, deeds_both, deeds_long, deeds_then, none_pass}
@@ -126,7 +126,7 @@ deed_is m sent i d many low =
     deed_at 0 (protect_tasks 0 m) sent i d (protect_task 0) blank (omega arith) (omega arith)
     ∙ ap (λ (t : Record). deed_of 0 t (at sent i)) (get_or-map-range_with_len protect_task 0 m i i (protect_task 0) low (omega arith))
 
-pub none_sent : (begin : Begin) (first : View) → IsOpened begin first → begin.rows ≡ 512 → IsWhole 512 first → Starts begin sender_lines (sending (each 1))
+pub none_sent : (begin : Begin) (first : View) → IsJustOpened begin first → begin.rows ≡ 512 → IsWhole 512 first → Starts begin sender_lines (sending (each 1))
     → SentAll begin first first 0 []
 none_sent begin first opened rows whole starts = record {
   many = refl;
@@ -143,7 +143,7 @@ none_sent begin first opened rows whole starts = record {
 }
 
 module _ (begin : Begin) (first now next : View) (m n : ℕ) (sent later : List Answer) (starts : Starts begin sender_lines (sending (each 1)))
-    (so_far : SentAll begin first now m sent) (serves : Serves begin now next (protect_tasks m n) later) (few : m + n ≤ 100000)
+    (so_far : SentAll begin first now m sent) (serves : HandlesSegment begin now next (protect_tasks m n) later) (few : m + n ≤ 100000)
     (wants : list_any tells_want later ≡ false) where
   abbrev both_tasks : List Record
   both_tasks = protect_tasks 0 m ++ protect_tasks m n

@@ -26,13 +26,13 @@ use Rattle.law_drill.specs.Plans.{receiver_plan, sender_plan, slots}
 
 -- A unit was opened on the image of this plan, without records; its one worker, with all shares, has this view and did nothing
 -- yet: each word `next` is its key's mark.
-pub record IsOpened (plan : List ℕ) (begin : Begin) (v : View) : Type 0 where
+pub record UnitIsOpened (plan : List ℕ) (begin : Begin) (v : View) : Type 0 where
   pub began : BeganWith true begin v.turn.known.opening
   pub image : v.turn.known.opening.image ≡ initial_image plan slots
   pub says : plan_of (held (initial_image plan slots)).plan ≡ Ok begin.plan
   pub shows : Shows (initial_image plan slots) begin.start
   pub whole : IsWhole 512 v
-  pub opened : runs.IsOpened begin v
+  pub opened : runs.IsJustOpened begin v
 
 -- the answer says that the site of its unit has failed, or that memory was wanting
 abbrev pub tells_fault : Answer → Bool
@@ -43,7 +43,7 @@ tells_want answer = answer.code == codes_of.NO_MEMORY
 
 -- From the one view to the other the unit handled these records as a segment, with these answers: all of them are answered, or
 -- those before one for which its history was full. No answer tells a fault of its site, and the worker still did all.
-pub record Serves (begin : Begin) (v w : View) (tasks : List Record) (answers : List Answer) : Type 0 where
+pub record HandlesSegment (begin : Begin) (v w : View) (tasks : List Record) (answers : List Answer) : Type 0 where
   pub handled : (layout : Layout) (number : ℕ) → LiesIn layout number tasks → Handled layout begin v w tasks (deeds_of number tasks answers)
   pub full : Bool
   pub ends : EndsSegment begin v w tasks answers full
@@ -59,9 +59,9 @@ pub record IsChunk (sender receiver : Begin) (chunk end : ℕ) (s t v w : View) 
   pub opened : List Answer
   pub again : List Answer
   pub mid : View
-  pub protects : Serves sender s t (protect_tasks (CHUNK * chunk) (end - CHUNK * chunk)) sent
-  pub opens : Serves receiver v mid (open_tasks chunk (CHUNK * chunk) sent) opened
-  pub replays : Serves receiver mid w (replay_tasks chunk (CHUNK * chunk) sent) again
+  pub protects : HandlesSegment sender s t (protect_tasks (CHUNK * chunk) (end - CHUNK * chunk)) sent
+  pub opens : HandlesSegment receiver v mid (open_tasks chunk (CHUNK * chunk) sent) opened
+  pub replays : HandlesSegment receiver mid w (replay_tasks chunk (CHUNK * chunk) sent) again
   pub protected : counts.protected ≡ count_code codes_of.PROTECTED sent
   pub accepted : counts.accepted ≡ count_accepted chunk (open_tasks chunk (CHUNK * chunk) sent) opened
       + count_fields (CHUNK * chunk) again
@@ -84,8 +84,8 @@ pub record IsDrilled (number : ℕ) (answers : List Answer) (counts : Counts) : 
   pub t : View
   pub v : View
   pub w : View
-  pub sends : IsOpened sender_plan sender s
-  pub receives : IsOpened receiver_plan receiver v
+  pub sends : UnitIsOpened sender_plan sender s
+  pub receives : UnitIsOpened receiver_plan receiver v
   pub chunks : AreChunks sender receiver number s v ((number + (CHUNK - 1)) / CHUNK) t w answers counts
 
 -- each frame is protected and accepted, and the first of each chunk rejected the second time

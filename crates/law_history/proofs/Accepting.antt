@@ -33,7 +33,7 @@ use Rattle.unit_state.proofs.Held.{row_of_changed}
 use Rattle.unit_state.proofs.KeyRules.{number_test, stands}
 use Rattle.unit_state.proofs.RulesKept.{there}
 use Rattle.frame_checks.specs.declared.open_reply.OpenReply.TheVariants as opens
-use Rattle.frame_checks.specs.Opening.{IsOpenReply}
+use Rattle.frame_checks.specs.OpeningFrames.{IsOpenReply}
 use Rattle.frame_checks.proofs.Replies.{any_reply_may}
 use Rattle.record_io.specs.declared.records.Record.{Record}
 use Rattle.law_history.specs.Numbers.{floor_of, released_floor}

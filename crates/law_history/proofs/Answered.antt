@@ -14,7 +14,7 @@ use Rattle.record_io.specs.Places.{Place, records_of}
 use Rattle.law_history.specs.Entries.{record_entry}
 use Rattle.law_history.specs.Numbers.{mark_of}
 use Rattle.law_history.specs.Legal.{SeesFor, IsEntry}
-use Rattle.law_history.specs.Run.{NearWord, IsLegalHistory, IsServed}
+use Rattle.law_history.specs.Run.{NearWord, IsLegalHistory, IsOneOf}
 use Rattle.law_history.specs.Answers.{Told, told_by, replied_told, IsCodeOf, Uses}
 use Rattle.law_history.specs.Fits.{Course, state_before, IsCommandAnswer, FitsKind, Fits}
 use Rattle.law_history.proofs.Along.{is_entry}
@@ -24,7 +24,7 @@ use Rattle.law_history.proofs.Used.{UsesNumber, used_below}
 
 -- ---- the entry of a record is the one of its kind
 
-seen_by : (near : ℕ → ℕ → Type 0) (course : Course) (places : List Place) (state : State) (task : Record) (entry : Entry) → IsServed places task
+seen_by : (near : ℕ → ℕ → Type 0) (course : Course) (places : List Place) (state : State) (task : Record) (entry : Entry) → IsOneOf places task
     → task.kind ≡ Command → entry.index ≡ Some task.index → IsEntry near course.plan state (records_of places) entry → SeesFor state task.octets entry.seen
 seen_by near course places state task entry served kind index (inl (inl opening)) =
     let own : Some opening.task.index ≡ Some task.index = sym (ap (λ (e : Entry). e.index) opening.entry_is) ∙ index in
@@ -81,7 +81,7 @@ done_code near course task answer key number kind fits uses =
     uses.0
 
 pub answered_below : (near : ℕ → ℕ → Type 0) (course : Course) (places : List Place) (task : Record) (answer : Answer) (key number : ℕ)
-    → IsLegalHistory course.plan course.start places course.entries → IsServed places task → task.kind ≡ Command → Fits near course task answer
+    → IsLegalHistory course.plan course.start places course.entries → IsOneOf places task → task.kind ≡ Command → Fits near course task answer
     → Uses answer key number → number < mark_of (state_before course answer) key
 answered_below near course places task answer key number history served kind fits uses =
     let done = done_code near course task answer key number kind fits uses in

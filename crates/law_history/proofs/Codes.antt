@@ -4,10 +4,10 @@ use Rattle.std.specs.List.{slice_get}
 use Rattle.std.proofs.lemmas.Bool.{cases_eq, cases_lt, false≢true}
 use Rattle.std.proofs.lemmas.Option.{none-some, same_Some}
 use Rattle.sdls_base.specs.declared.entry.Entry.{Entry}
-use Rattle.frame_shield.specs.declared.protecting.ShieldFault.TheVariants as faults
+use Rattle.frame_shield.specs.declared.protecting_frames.ShieldFault.TheVariants as faults
 use Rattle.frame_checks.specs.declared.open_reply.OpenReply.{OpenReply}
 use Rattle.frame_checks.specs.declared.open_reply.OpenReply.TheVariants as opens
-use Rattle.frame_checks.specs.Protecting as protecting
+use Rattle.frame_checks.specs.ProtectingFrames as protecting
 use Rattle.ep_core.specs.declared.reply.Reply.{Reply}
 use Rattle.ep_core.specs.declared.reply.Reply.TheVariants as replies
 use Rattle.record_io.specs.declared.answers.Answer.{Answer}
@@ -16,7 +16,7 @@ use Rattle.record_io.specs.declared.kinds.RecordKind.TheVariants.{Protect, Open,
 use Rattle.record_io.specs.declared.records.Record.{Record}
 use Rattle.record_io.specs.Places.{Place, records_of}
 use Rattle.law_history.specs.Entries.{frame_entry, raised_floor}
-use Rattle.law_history.specs.Protecting.{protect_reply}
+use Rattle.law_history.specs.ProtectingFrames.{protect_reply}
 use Rattle.law_history.specs.Answers.{Told, told_by, opened_told, replied_told, unbound_told, IsCodeOf, Accepts}
 use Rattle.law_history.specs.Fits.{Course, state_in, state_before, IsOpenAnswer, FitsAny, FitsKind, Fits}
 use Rattle.law_history.specs.Run.{TurnIn, IsLegalHistory}

@@ -13,7 +13,7 @@ use Rattle.unit_state.specs.declared.state.State.{State}
 use Rattle.unit_state.specs.History.{after, after_first, at_epoch, epoch_after}
 use Rattle.unit_state.proofs.Histories.{epochs_more, at_epoch_more}
 use Rattle.frame_checks.specs.declared.open_reply.OpenReply.TheVariants.{Accepted}
-use Rattle.frame_checks.specs.Opening.{IsOpenReply}
+use Rattle.frame_checks.specs.OpeningFrames.{IsOpenReply}
 use Rattle.ep_core.specs.declared.need.Need.TheVariants.{Number}
 use Rattle.record_io.specs.declared.answers.Answer.{Answer}
 use Rattle.record_io.specs.declared.code.TheConstants.{SITE_FAULT, STOPPED}
@@ -27,9 +27,9 @@ use Rattle.law_history.specs.Stored.{stored_count}
 use Rattle.law_history.specs.Legal.{KeyOf, SeesFor, AsksFor, IsLegal, IsLegalAt}
 use Rattle.law_history.specs.Counts.{drawers}
 use Rattle.law_history.specs.Run.{IsAskedFor, NearWord}
-use Rattle.law_history.specs.Protecting.{protect_reply}
+use Rattle.law_history.specs.ProtectingFrames.{protect_reply}
 use Rattle.law_history.specs.Answers.{told_by, unbound_told}
-use Rattle.law_history.specs.Fits.{Course, grown, IsUnmarked, CanReserve, CanRaiseFloor, CanChange, CanDraw, CanAppend, MayAppendOnce, IsBound, StandsAt, state_before, TellsFault, FitsAny, FitsKind, Fits}
+use Rattle.law_history.specs.Fits.{Course, grown, IsUnmarked, CanReserve, CanRaiseFloor, CanChange, CanDraw, CanAppend, MayAppendOnce, IsBound, StandsAt, state_before, TellsRisenCount, FitsAny, FitsKind, Fits}
 use Rattle.law_history.proofs.Legal.{seen_wider, legal_wider}
 
 -- ---- lists
@@ -248,7 +248,7 @@ module _ (near wider : ℕ → ℕ → Type 0) (nearer : (key number : ℕ) → 
   }
 
   -- no entry comes after a fault, so that the count of all entries stays
-  tells_more : (code : ℕ) (answer : Answer) → TellsFault course code answer → TellsFault new code answer
+  tells_more : (code : ℕ) (answer : Answer) → TellsRisenCount course code answer → TellsRisenCount new code answer
   tells_more code answer tells =
       let rose : Rose course.faults_before course.faults = (let high = tells.rose in let low = tells.counted in omega arith) in
       record {

@@ -17,7 +17,7 @@ use Rattle.frame_shield.specs.Opens.{Opens}
 use Rattle.frame_shield.proofs.OpenFacts.{one_frame}
 use Rattle.frame_checks.specs.declared.open_reply.OpenReply.{OpenReply}
 use Rattle.frame_checks.specs.declared.open_reply.OpenReply.TheVariants as opens
-use Rattle.frame_checks.specs.Opening.{IsOpenReply, IsReplyOn, IsReplyUnder, IsOpened, IsJudged, IsToldOr, frame_checks, association_checks, number_of_fault}
+use Rattle.frame_checks.specs.OpeningFrames.{IsOpenReply, IsReplyOn, IsReplyUnder, IsOpenedUnder, IsJudged, IsToldOr, frame_checks, association_checks, number_of_fault}
 use Rattle.law_history.specs.Entries.{frame_change}
 use Rattle.law_history.specs.Answers.{opened_told}
 
@@ -147,8 +147,8 @@ module _ (once : OpensOnce) (plan : PlanLines) (state : State) where
   -- the association's checks, and the last two
   under_one : (line : Link) (row : SaRow) (channel : ℕ) (frame : List ℕ) (reply : OpenReply) (field : List ℕ) (other : OpenReply) (again : List ℕ) (o : Option OpenReply)
       → first_failing (association_checks row channel) ≡ o
-      → IsToldOr (first_failing (association_checks row channel)) reply (IsOpened plan state line row frame reply field)
-      → IsToldOr (first_failing (association_checks row channel)) other (IsOpened plan state line row frame other again)
+      → IsToldOr (first_failing (association_checks row channel)) reply (IsOpenedUnder plan state line row frame reply field)
+      → IsToldOr (first_failing (association_checks row channel)) other (IsOpenedUnder plan state line row frame other again)
       → TellsOne plan state reply field other again
   under_one line row channel frame reply field other again (Some told) o is also =
       same_plain plan state reply other told field again (told_some _ reply told _ o is) (told_some _ other told _ o also)
@@ -167,8 +167,8 @@ module _ (once : OpensOnce) (plan : PlanLines) (state : State) where
       let channels : also.channel ≡ is.channel = same_Some _ _ (sym also.on ∙ is.on) in
       let rows : also.row ≡ is.row = same_Some _ _ (sym also.named ∙ is.named) in
       under_one line is.row is.channel frame reply field other again (first_failing (association_checks is.row is.channel)) refl is.told
-      (subst (λ (row : SaRow). IsToldOr (first_failing (association_checks row is.channel)) other (IsOpened plan state line row frame other again)) rows
-      (subst (λ (channel : ℕ). IsToldOr (first_failing (association_checks also.row channel)) other (IsOpened plan state line also.row frame other again)) channels also.told))
+      (subst (λ (row : SaRow). IsToldOr (first_failing (association_checks row is.channel)) other (IsOpenedUnder plan state line row frame other again)) rows
+      (subst (λ (channel : ℕ). IsToldOr (first_failing (association_checks also.row channel)) other (IsOpenedUnder plan state line also.row frame other again)) channels also.told))
 
   -- the frame's checks
   in_room_one : (link : ℕ) (line : Link) (frame room : List ℕ) (reply : OpenReply) (field : List ℕ) (other : OpenReply) (again : List ℕ) (o : Option OpenReply)

@@ -22,7 +22,7 @@ use Rattle.ep_core.specs.declared.reply.Reply.{Reply}
 use Rattle.ep_core.specs.declared.reply.Reply.TheVariants as replies
 use Rattle.ep_core.specs.Need.{need_of}
 use Rattle.ep_core.specs.Refusals.{refusal_of, unless_known, by_state, unless_usable, if_exhausted, master_checks, session_checks, verify_checks, compose_checks}
-use Rattle.ep_core.specs.Seen.{Fits, IsDrawn, number_of}
+use Rattle.ep_core.specs.Seen.{MeetsNeed, IsNumberSeen, number_of}
 use Rattle.ep_core.specs.Step.{IsDone, refused, using_number}
 use Rattle.ep_core.proofs.ComposeFacts.{none_append}
 use Rattle.ep_core.proofs.SealedFacts.{passed_both}
@@ -48,7 +48,7 @@ reply_of : (step made : Change × Reply) → step ≡ made → step.1 ≡ made.1
 reply_of step made is = ap (λ (s : Change × Reply). s.1) is
 
 -- a number that was drawn for a key is below its mark
-drawn_below : (state : State) (key number : ℕ) (o : Option KeyRow) → key_row state key ≡ o → IsDrawn state key (seens.Number number)
+drawn_below : (state : State) (key number : ℕ) (o : Option KeyRow) → key_row state key ≡ o → IsNumberSeen state key (seens.Number number)
     → number < mark_of state key
 drawn_below state key number None is drawn =
     absurd (subst (λ (o : Option KeyRow). IsSomeAnd o (λ held. number < held.mark)) is drawn)
@@ -57,7 +57,7 @@ drawn_below state key number (Some held) is drawn =
     (subst (λ (o : Option KeyRow). IsSomeAnd o (λ held. number < held.mark)) is drawn)
 
 -- what was seen is a number, where what needs one is not refused
-number_seen : (state : State) (key : ℕ) (seen : Seen) → IsDrawn state key seen → if_exhausted seen ≡ None → seen ≡ seens.Number (number_of seen)
+number_seen : (state : State) (key : ℕ) (seen : Seen) → IsNumberSeen state key seen → if_exhausted seen ≡ None → seen ≡ seens.Number (number_of seen)
 number_seen state key seens.Nothing drawn free = absurd drawn
 number_seen state key (seens.Word word) drawn free = absurd drawn
 number_seen state key (seens.Number number) drawn free = refl
@@ -65,7 +65,7 @@ number_seen state key (seens.Exhausted number) drawn free = absurd cc
 
 -- nothing was needed where a refusal applies whatever is seen, and else the number
 needed_by : (state : State) (key : ℕ) (seen : Seen) (b : Bool) (command : Command) → is_some (refusal_of state command seens.Nothing) ≡ b
-    → Fits state (cond b needs.Nothing (needs.Number key)) seen → refusal_of state command seen ≡ None → if_exhausted seen ≡ None
+    → MeetsNeed state (cond b needs.Nothing (needs.Number key)) seen → refusal_of state command seen ≡ None → if_exhausted seen ≡ None
     → (cond b needs.Nothing (needs.Number key) ≡ needs.Number key) × (seen ≡ seens.Number (number_of seen))
 needed_by state key seen true command is fits free last =
     let none : refusal_of state command seens.Nothing ≡ None = ap (refusal_of state command) (sym fits) ∙ free in
@@ -106,7 +106,7 @@ row_plainly {X} (Some x) f octets step key number tells is uses = not_used step.
 abbrev IsNeeded : State → Command → Seen → ℕ → ℕ → Type 0
 IsNeeded state command seen key number = (need_of state command ≡ needs.Number key) × (seen ≡ seens.Number number)
 
-done_needed : (state : State) (command : Command) (seen : Seen) (step : Change × Reply) (key number : ℕ) → Fits state (need_of state command) seen
+done_needed : (state : State) (command : Command) (seen : Seen) (step : Change × Reply) (key number : ℕ) → MeetsNeed state (need_of state command) seen
     → refusal_of state command seen ≡ None → IsDone state command seen step → UsesNumber step.1 key number → IsNeeded state command seen key number
 done_needed state (Rekeying master vector sealed tag) seen step key number fits free is uses = absurd (plainly step _ _ key number is uses)
 done_needed state (Activate keys) seen step key number fits free is uses = absurd (plainly step _ _ key number is uses)
@@ -135,7 +135,7 @@ done_needed state (Stop spi) seen step key number fits free is uses = absurd (pl
 done_needed state (Status spi) seen step key number fits free is uses = absurd (row_plainly _ _ _ step key number (λ row. refl) is uses)
 
 step_needed : (state : State) (command : Command) (seen : Seen) (step : Change × Reply) (key number : ℕ) (o : Option Refusal)
-    → Fits state (need_of state command) seen → refusal_of state command seen ≡ o
+    → MeetsNeed state (need_of state command) seen → refusal_of state command seen ≡ o
     → MatchOption o (IsDone state command seen step) (λ refusal. step ≡ refused refusal) → UsesNumber step.1 key number
     → IsNeeded state command seen key number
 step_needed state command seen step key number None fits free is uses = done_needed state command seen step key number fits free is uses
@@ -156,7 +156,7 @@ pub used_below : (state : State) (octets : List ℕ) (seen : Seen) (step : Chang
 used_below state octets seen step key number sees is uses =
     let needed = used_needed state octets seen step key number sees is uses in
     drawn_below state key number (key_row state key) refl
-    (subst (λ (s : Seen). IsDrawn state key s) needed.1 (sees (needs.Number key) needed.0))
+    (subst (λ (s : Seen). IsNumberSeen state key s) needed.1 (sees (needs.Number key) needed.0))
 
 -- ---- reserves
 

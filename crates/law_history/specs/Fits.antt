@@ -13,8 +13,8 @@ use Rattle.frame_shield.specs.declared.binding.Binding.{Binding}
 use Rattle.frame_shield.specs.Protects.{Protects}
 use Rattle.frame_checks.specs.declared.open_reply.OpenReply.{OpenReply}
 use Rattle.frame_checks.specs.declared.open_reply.OpenReply.TheVariants.{Accepted}
-use Rattle.frame_checks.specs.Opening.{IsOpenReply}
-use Rattle.frame_checks.specs.Protecting.{channel_check}
+use Rattle.frame_checks.specs.OpeningFrames.{IsOpenReply}
+use Rattle.frame_checks.specs.ProtectingFrames.{channel_check}
 use Rattle.ep_core.specs.declared.need.Need.TheVariants.{Number}
 use Rattle.ep_core.specs.declared.reply.Reply.{Reply}
 use Rattle.record_io.specs.declared.answers.Answer.{Answer}
@@ -26,7 +26,7 @@ use Rattle.law_history.specs.Numbers.{mark_of, floor_of}
 use Rattle.law_history.specs.Entries.{frame_entry, record_entry, IsNeedOf, IsStepOf}
 use Rattle.law_history.specs.Stored.{stored_count}
 use Rattle.law_history.specs.Legal.{KeyOf, SeesFor, SeenNear}
-use Rattle.law_history.specs.Protecting.{protect_reply}
+use Rattle.law_history.specs.ProtectingFrames.{protect_reply}
 use Rattle.law_history.specs.Answers.{told_by, plain, counting, numbered, opened_told, replied_told, unbound_told}
 
 -- What the answers of a run speak of: the plan and the state that the image shows at the start, the slots of the image and
@@ -185,7 +185,7 @@ pub record IsFull (near : ℕ → ℕ → Type 0) (course : Course) (task : Reco
   pub may : MayAppend near course answer.position task
 
 -- the answer tells a count of faults that rose since the opening, and the count of all entries
-pub record TellsFault (course : Course) (code : ℕ) (answer : Answer) : Type 0 where
+pub record TellsRisenCount (course : Course) (code : ℕ) (answer : Answer) : Type 0 where
   pub told : told_by answer ≡ counting code 0 answer.number
   pub rose : Rose course.faults_before answer.number
   pub counted : answer.number ≤ course.faults
@@ -193,12 +193,12 @@ pub record TellsFault (course : Course) (code : ℕ) (answer : Answer) : Type 0 
 
 -- the site failed while an entry was stored
 pub record IsFaulted (near : ℕ → ℕ → Type 0) (course : Course) (task : Record) (answer : Answer) : Type 0 where
-  pub tells : TellsFault course SITE_FAULT answer
+  pub tells : TellsRisenCount course SITE_FAULT answer
   pub may : MayAppendOnce near course task
 
 -- the site had failed before
 pub record IsStopped (near : ℕ → ℕ → Type 0) (course : Course) (task : Record) (answer : Answer) : Type 0 where
-  pub tells : TellsFault course STOPPED answer
+  pub tells : TellsRisenCount course STOPPED answer
   pub may : (task.kind ≢ Protect) ⊎ MayAppendOnce near course task
 
 -- memory was wanting

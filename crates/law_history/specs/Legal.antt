@@ -12,11 +12,11 @@ use Rattle.unit_state.specs.declared.state.State.{State}
 use Rattle.unit_state.specs.State.{key_row}
 use Rattle.unit_state.specs.History.{after}
 use Rattle.frame_checks.specs.declared.open_reply.OpenReply.{OpenReply}
-use Rattle.frame_checks.specs.Opening.{IsOpenReply}
+use Rattle.frame_checks.specs.OpeningFrames.{IsOpenReply}
 use Rattle.ep_core.specs.declared.need.Need.{Need}
 use Rattle.ep_core.specs.declared.need.Need.TheVariants as needs
 use Rattle.ep_core.specs.declared.reply.Reply.{Reply}
-use Rattle.ep_core.specs.Seen.{Fits}
+use Rattle.ep_core.specs.Seen.{MeetsNeed}
 use Rattle.record_io.specs.declared.kinds.RecordKind.TheVariants.{Open, Command}
 use Rattle.record_io.specs.declared.records.Record.{Record}
 use Rattle.law_history.specs.Numbers.{mark_of, reserve_of, release_of}
@@ -41,7 +41,7 @@ AsksFor state octets key number = IsNeedOf state octets (needs.Raise key number)
 
 -- what was seen is what the message needs
 abbrev pub SeesFor : State → List ℕ → Seen → Type 0
-SeesFor state octets seen = (need : Need) → IsNeedOf state octets need → Fits state need seen
+SeesFor state octets seen = (need : Need) → IsNeedOf state octets need → MeetsNeed state need seen
 
 -- a word or number that was seen of a key is near: it can have stood in the key's word `next`
 abbrev pub SeenNear : (ℕ → ℕ → Type 0) → ℕ → Seen → Type 0

@@ -5,7 +5,7 @@ pub mod Stored
 pub mod Legal
 pub mod Counts
 pub mod Run
-pub mod Protecting
+pub mod ProtectingFrames
 pub mod Answers
 pub mod Fits
 pub mod Taken

@@ -61,6 +61,6 @@ pub record IsLegalHistory (plan : PlanLines) (start : State) (places : List Plac
   pub run : LegalRun plan start (records_of places) (TurnIn places) entries
 
 -- the record is one of those of these places, and the only one with its number
-pub record IsServed (places : List Place) (task : Record) : Type 0 where
+pub record IsOneOf (places : List Place) (task : Record) : Type 0 where
   pub there : Contains (records_of places) task
   pub only : (other : Record) → Contains (records_of places) other → other.index ≡ task.index → other ≡ task

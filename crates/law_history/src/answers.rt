@@ -7,7 +7,7 @@ ghost use Rattle.record_io.specs.declared.records.Record.{Record};
 ghost use Rattle.record_io.specs.Places.{Place};
 ghost use Rattle.law_history.specs.Numbers.{mark_of};
 ghost use Rattle.law_history.specs.Legal.{anywhere};
-ghost use Rattle.law_history.specs.Run.{IsLegalHistory, IsServed};
+ghost use Rattle.law_history.specs.Run.{IsLegalHistory, IsOneOf};
 ghost use Rattle.law_history.specs.Answers.{Accepts, IsCodeOf, Uses};
 ghost use Rattle.law_history.specs.Fits.{Course, Fits, IsOpenAnswer, state_before};
 ghost use Rattle.law_history.specs.Laws.{AcceptsAt};
@@ -37,7 +37,7 @@ pub fn answers_accept_once()
 /// Law: the number that the answer to a command says was used is below the mark of its key, before the command's entry.
 pub fn answered_is_below_the_mark()
     ensures { (course : Course) (places : List Place) (task : Record) (answer : Answer) (key number : ℕ)
-        → IsLegalHistory course.plan course.start places course.entries → IsServed places task → task.kind ≡ Command
+        → IsLegalHistory course.plan course.start places course.entries → IsOneOf places task → task.kind ≡ Command
         → Fits anywhere course task answer → Uses answer key number
         → number < mark_of (state_before course answer) key }
 {}

@@ -7,7 +7,7 @@ ghost use Rattle.unit_plan.specs.PlanLines.{PlanLines};
 ghost use Rattle.unit_state.specs.declared.state.State.{State};
 ghost use Rattle.unit_state.specs.State.{KeepsRules};
 ghost use Rattle.frame_checks.specs.declared.open_reply.OpenReply.{OpenReply};
-ghost use Rattle.frame_checks.specs.Opening.{IsOpenReply};
+ghost use Rattle.frame_checks.specs.OpeningFrames.{IsOpenReply};
 ghost use Rattle.ep_core.specs.declared.need.Need.{Need};
 ghost use Rattle.ep_core.specs.declared.reply.Reply.{Reply};
 ghost use Rattle.law_history.specs.Entries.{frame_change, IsNeedOf, IsStepOf};

@@ -11,7 +11,7 @@ ghost use Rattle.unit_state.specs.Applied.{applied};
 ghost use Rattle.unit_state.specs.Allows.{Allows};
 ghost use Rattle.unit_state.specs.Restart.{restarted};
 ghost use Rattle.frame_checks.specs.declared.open_reply.OpenReply.TheVariants as opens;
-ghost use Rattle.frame_checks.specs.Opening.{IsOpenReply};
+ghost use Rattle.frame_checks.specs.OpeningFrames.{IsOpenReply};
 ghost use Rattle.record_io.specs.declared.records.Record.{Record};
 ghost use Rattle.law_history.specs.Numbers.{floor_of};
 ghost use Rattle.law_history.specs.Legal.{anywhere, IsEntry};

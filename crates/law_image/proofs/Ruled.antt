@@ -11,7 +11,7 @@ use Rattle.sdls_base.specs.declared.states.Direction.TheVariants.{Send, Receive}
 use Rattle.key_book.specs.declared.key_row.KeyRow.{KeyRow}
 use Rattle.key_book.specs.KeyBook.{row_of}
 use Rattle.sa_book.specs.declared.sa_row.SaRow.{SaRow}
-use Rattle.sa_book.specs.SaBook.{AreApart}
+use Rattle.sa_book.specs.SaBook.{RowsAreApart}
 use Rattle.sa_book.specs.SaRow.{HasHigh, IsSaRow}
 use Rattle.unit_state.specs.declared.state.State.{State}
 use Rattle.unit_state.specs.Applied.{applied}
@@ -58,7 +58,7 @@ module _ (state : State) (rules : KeepsRules state) where
       most = subst (λ (n : ℕ). n ≤ MOST_ASSOCIATIONS) (sym (length-map state.associations (restarted_row state.keys))) rules.associations.most;
       each = All-map IsSaRow (restarted_row state.keys) state.associations
           (λ k d low. row_left (get_or state.associations k d) (rules.associations.each k d low));
-      apart = pairs_map AreApart (restarted_row state.keys) state.associations
+      apart = pairs_map RowsAreApart (restarted_row state.keys) state.associations
           (λ a b apart. record { order = apart.order; channels = apart.channels; keys = apart.keys }) rules.associations.apart;
     };
     held = all_restarted state.keys state.associations rules.held;

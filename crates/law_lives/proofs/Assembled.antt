@@ -26,7 +26,7 @@ use Rattle.law_worker.specs.Deeds.{Deed, Does, StandsWithin, StandsBehind, cours
 use Rattle.law_worker.specs.Order.{Lined}
 use Rattle.law_worker.proofs.Histories.{place_of_entry}
 use Rattle.law_worker.proofs.Logs.{told_kept}
-use Rattle.law_lives.specs.Opened.{IsOpened}
+use Rattle.law_lives.specs.Opened.{IsJustOpened}
 use Rattle.law_lives.specs.Release.{AreReleases}
 use Rattle.law_lives.specs.Sound.{IsSound, StaysCovered}
 use Rattle.law_lives.proofs.Ending.{made_since, pairs, pairs_above, one_fault, order, answers_fit}
@@ -35,7 +35,7 @@ use Rattle.law_lives.proofs.Accepting.{accepts_differ, accepts_above}
 use Rattle.law_lives.proofs.Covering.{stays_covered}
 
 -- each entry of the log that one worker made is allowed in the state before it, so the last state keeps the rules
-pub rules_at_end : (begin : Begin) (first now : View) (places : List Place) (deeds : List Deed) → IsOpened begin first
+pub rules_at_end : (begin : Begin) (first now : View) (places : List Place) (deeds : List Deed) → IsJustOpened begin first
     → Does begin first now (records_of places) deeds → IsWhole begin.rows now → IsPlan begin.plan → KeepsRules begin.start
     → KeepsRules (after begin.start (entries_in now))
 rules_at_end begin first now places deeds opened d whole plan_is rules =
@@ -62,7 +62,7 @@ behind_ended begin old new es rest a b is s t h = record {
   numbers = h.numbers;
 }
 
-module _ (begin : Begin) (first now : View) (places : List Place) (deeds : List Deed) (is_opened : IsOpened begin first)
+module _ (begin : Begin) (first now : View) (places : List Place) (deeds : List Deed) (is_opened : IsJustOpened begin first)
     (d : Does begin first now (records_of places) deeds) (whole : IsWhole begin.rows now) (rows : begin.rows ≡ MOST_KEYS)
     (plan_is : IsPlan begin.plan) (started : KeepsRules begin.start) (left : restarted begin.start ≡ begin.start)
     (words : ℕ → ℕ) (stand : (row : ℕ) → row < begin.rows → RowStands row (words row) now.numbers)

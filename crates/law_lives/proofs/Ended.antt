@@ -34,7 +34,7 @@ use Rattle.law_worker.specs.Order.{Lined}
 use Rattle.law_worker.proofs.Histories.{get_front}
 use Rattle.law_worker.proofs.Logs.{legal_wider}
 use Rattle.law_worker.proofs.Fitting.{fits_more}
-use Rattle.law_lives.specs.Opened.{IsOpened}
+use Rattle.law_lives.specs.Opened.{IsJustOpened}
 use Rattle.law_lives.specs.Release.{AreReleases}
 use Rattle.law_lives.proofs.Ending.{IsHistory, row_opened, near, legal}
 use Rattle.law_lives.proofs.Counting.{few_reserves, few_entries, entries_in_order}
@@ -72,7 +72,7 @@ near_more start es rest records key n h = record {
 pub none_some : (i : ℕ) (o : Option ℕ) → o ≡ None → o ≡ Some i → ⊥
 none_some i o a b = let c : ◌≡◌ {A = Option ℕ} None (Some i) = sym a ∙ b in cc
 
-module _ (begin : Begin) (first now : View) (records : List Record) (deeds : List Deed) (opened : IsOpened begin first)
+module _ (begin : Begin) (first now : View) (records : List Record) (deeds : List Deed) (opened : IsJustOpened begin first)
     (d : Does begin first now records deeds) (whole : IsWhole begin.rows now) (rows : begin.rows ≡ MOST_KEYS)
     (started : KeepsRules begin.start) (kept : KeepsRules (after begin.start (entries_in now)))
     (words : ℕ → ℕ) (stand : (row : ℕ) → row < begin.rows → RowStands row (words row) now.numbers)

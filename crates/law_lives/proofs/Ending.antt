@@ -31,7 +31,7 @@ use Rattle.law_worker.proofs.Fitting.{fits_more}
 use Rattle.law_worker.proofs.Logs.{count_two, legal_wider}
 use Rattle.law_worker.proofs.Joining.{top_both}
 use Rattle.unit_book.specs.Marks.{mark_at}
-use Rattle.law_lives.specs.Opened.{IsOpened}
+use Rattle.law_lives.specs.Opened.{IsJustOpened}
 use Rattle.law_lives.specs.Sound.{Differ}
 use Rattle.law_lives.proofs.Rows.{row_named, row_one, mark_known}
 
@@ -57,7 +57,7 @@ top_found P row (p ∷ ps) all h = go (eqb p.0 row) refl (top_found P row ps (λ
     go false is later pos = subst P (ap (λ (n : ℕ). (row, n)) (omega arith)) (later (omega arith))
 
 -- each place of the log was made since the opening
-pub made_since : (begin : Begin) (v w : View) (tasks : List Record) (deeds : List Deed) → IsOpened begin v → (d : Does begin v w tasks deeds)
+pub made_since : (begin : Begin) (v w : View) (tasks : List Record) (deeds : List Deed) → IsJustOpened begin v → (d : Does begin v w tasks deeds)
     → IsWhole begin.rows w → (x : ℕ) → x < length (log_of w) → 0 < stands x d.gains.made
 made_since begin v w tasks deeds opened d whole x low =
     let all = whole.made x in
@@ -70,7 +70,7 @@ pub record RowOpened (begin : Begin) (v : View) (key row : ℕ) : Type 0 where
   pub nexts : top row v.numbers.nexts ≡ mark_of begin.start key
   pub raised : top row v.numbers.raised ≤ mark_of begin.start key
 
-pub row_opened : (begin : Begin) (v w : View) (opened : IsOpened begin v) → begin.rows ≡ MOST_KEYS → KeepsRules begin.start
+pub row_opened : (begin : Begin) (v w : View) (opened : IsJustOpened begin v) → begin.rows ≡ MOST_KEYS → KeepsRules begin.start
     → KeepsRules (after begin.start (entries_in w)) → (key row : ℕ) → IsRow begin w key row → RowOpened begin v key row
 row_opened begin v w opened rows started kept key row is =
     let low = (row_named (after begin.start (entries_in w)).keys key row (record { id = 0; state = PreActive; bytes = []; digest = []; mark = 0; floor = 0 }) is).0 in
@@ -84,7 +84,7 @@ row_opened begin v w opened rows started kept key row is =
       raised = omega arith;
     }
 
-module _ (begin : Begin) (v w : View) (tasks : List Record) (deeds : List Deed) (opened : IsOpened begin v) (d : Does begin v w tasks deeds)
+module _ (begin : Begin) (v w : View) (tasks : List Record) (deeds : List Deed) (opened : IsJustOpened begin v) (d : Does begin v w tasks deeds)
     (whole : IsWhole begin.rows w) (rows : begin.rows ≡ MOST_KEYS) (started : KeepsRules begin.start) (kept : KeepsRules (after begin.start (entries_in w))) where
   at_row : (key row : ℕ) → IsRow begin w key row → RowOpened begin v key row
   at_row = row_opened begin v w opened rows started kept

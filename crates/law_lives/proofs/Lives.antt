@@ -42,13 +42,13 @@ use Rattle.sdls_base.specs.declared.link.Link.{Link}
 use Rattle.sdls_base.specs.declared.change.Change.TheVariants as changes
 use Rattle.sdls_base.specs.declared.entry.Seen.TheVariants as seens
 use Rattle.frame_shield.specs.declared.binding.Binding.{Binding}
-use Rattle.frame_shield.specs.declared.protecting.ShieldFault.TheVariants as faults
+use Rattle.frame_shield.specs.declared.protecting_frames.ShieldFault.TheVariants as faults
 use Rattle.frame_checks.specs.Header.{lacks_header, is_clear, channel_of}
-use Rattle.frame_checks.specs.Protecting.{protect_check, answer_on, sender_of}
-use Rattle.frame_checks.specs.Protecting as protecting
+use Rattle.frame_checks.specs.ProtectingFrames.{protect_check, answer_on, sender_of}
+use Rattle.frame_checks.specs.ProtectingFrames as protecting
 use Rattle.record_io.specs.declared.code.TheConstants.{PROTECTED, DONE}
 use Rattle.unit_plan.specs.PlanLines.{PlanLines, link_of}
-use Rattle.law_history.specs.Protecting.{protect_reply, layout_check}
+use Rattle.law_history.specs.ProtectingFrames.{protect_reply, layout_check}
 use Rattle.law_history.specs.Answers.{Told, told_by, unbound_told, IsCodeOf}
 use Rattle.law_history.specs.Fits.{FitsKind, state_in}
 use Rattle.law_history.specs.Numbers.{released_floor}
@@ -56,7 +56,7 @@ use Rattle.law_worker.specs.Begin.{Begin}
 use Rattle.law_worker.specs.Deeds.{has_channel, is_protected}
 use Rattle.law_worker.specs.Deeds.{Deed, is_ordered}
 use Rattle.law_lives.specs.Sound.{Differ, EachBegun, IsCoveredBy}
-use Rattle.law_lives.specs.Life.{LifeRun, IsRun, FollowFrom, IsLife, left_by, IsShown, Given, begun, given_of, given_in, state_told, UsesOctets, AreApart, OnceInLife, Knows}
+use Rattle.law_lives.specs.Life.{LifeRun, IsRun, FollowFrom, IsLife, left_by, IsShown, Given, answers_begun, given_of, given_in, state_told, UsesOctets, AreApart, OnceInLife, Knows}
 
 all_cons : {X : Type 0} (P : X → Type 0) (x : X) (xs : List X) → P x → All P xs → All P (x ∷ xs)
 all_cons P x xs h t zero d low = h
@@ -77,31 +77,31 @@ pairs_append {X} R (x ∷ xs) ys first second cross =
     AllPairs-cons R x (xs ++ ys) (All-append (R x) xs ys (pairs_head R x xs first) (cross 0 x (omega arith)))
     (pairs_append R xs ys (pairs_tail R x xs first) second (all_tail (λ (x : X). All (R x) ys) x xs cross))
 
-begun_any : (P : Deed → Type 0) (count : ℕ) (ds : List Deed) → All P ds → All P (begun count ds)
+begun_any : (P : Deed → Type 0) (count : ℕ) (ds : List Deed) → All P ds → All P (answers_begun count ds)
 begun_any P count [] h = h
 begun_any P count (d ∷ ds) h = go (nat_lt 0 count) (begun_any P (count - length (answer_octets d.answer)) ds (all_tail P d ds h))
   where
-    go : (b : Bool) → All P (begun (count - length (answer_octets d.answer)) ds)
-        → All P (if b then d ∷ begun (count - length (answer_octets d.answer)) ds else [])
-    go true rest = all_cons P d (begun (count - length (answer_octets d.answer)) ds) (h 0 d (omega arith)) rest
+    go : (b : Bool) → All P (answers_begun (count - length (answer_octets d.answer)) ds)
+        → All P (if b then d ∷ answers_begun (count - length (answer_octets d.answer)) ds else [])
+    go true rest = all_cons P d (answers_begun (count - length (answer_octets d.answer)) ds) (h 0 d (omega arith)) rest
     go false rest = λ k e low. absurd (omega arith)
 
-begun_all : (P : Deed → Type 0) (count : ℕ) (ds : List Deed) → EachBegun P count ds → All P (begun count ds)
+begun_all : (P : Deed → Type 0) (count : ℕ) (ds : List Deed) → EachBegun P count ds → All P (answers_begun count ds)
 begun_all P count [] h = λ k e low. absurd (omega arith)
 begun_all P count (d ∷ ds) h = go (nat_lt 0 count) refl (begun_all P (count - length (answer_octets d.answer)) ds h.1)
   where
-    go : (b : Bool) → nat_lt 0 count ≡ b → All P (begun (count - length (answer_octets d.answer)) ds)
-        → All P (if b then d ∷ begun (count - length (answer_octets d.answer)) ds else [])
-    go true is rest = all_cons P d (begun (count - length (answer_octets d.answer)) ds) (h.0 (grind (arith, nat_tests))) rest
+    go : (b : Bool) → nat_lt 0 count ≡ b → All P (answers_begun (count - length (answer_octets d.answer)) ds)
+        → All P (if b then d ∷ answers_begun (count - length (answer_octets d.answer)) ds else [])
+    go true is rest = all_cons P d (answers_begun (count - length (answer_octets d.answer)) ds) (h.0 (grind (arith, nat_tests))) rest
     go false is rest = λ k e low. absurd (omega arith)
 
-begun_pairs : (R : Deed → Deed → Type 0) (count : ℕ) (ds : List Deed) → AllPairs R ds → AllPairs R (begun count ds)
+begun_pairs : (R : Deed → Deed → Type 0) (count : ℕ) (ds : List Deed) → AllPairs R ds → AllPairs R (answers_begun count ds)
 begun_pairs R count [] h = h
 begun_pairs R count (d ∷ ds) h = go (nat_lt 0 count) (begun_pairs R (count - length (answer_octets d.answer)) ds (pairs_tail R d ds h))
   where
-    go : (b : Bool) → AllPairs R (begun (count - length (answer_octets d.answer)) ds)
-        → AllPairs R (if b then d ∷ begun (count - length (answer_octets d.answer)) ds else [])
-    go true rest = AllPairs-cons R d (begun (count - length (answer_octets d.answer)) ds)
+    go : (b : Bool) → AllPairs R (answers_begun (count - length (answer_octets d.answer)) ds)
+        → AllPairs R (if b then d ∷ answers_begun (count - length (answer_octets d.answer)) ds else [])
+    go true rest = AllPairs-cons R d (answers_begun (count - length (answer_octets d.answer)) ds)
         (begun_any (R d) (count - length (answer_octets d.answer)) ds (pairs_head R d ds h)) rest
     go false rest = λ i j e lt low. absurd (omega arith)
 
@@ -266,7 +266,7 @@ module _ (once : ShowsOnce) (run : LifeRun) (is_run : IsRun run) where
   of = of_places run.course.plan run.course.start run.places run.course.entries is_run.sound.history
 
   abbrev new : List Given
-  new = given_of run.course (begun (length run.sunk) run.deeds)
+  new = given_of run.course (answers_begun (length run.sunk) run.deeds)
 
   rules_at : (p : ℕ) → p ≤ length entries → KeepsRules (after_first start entries p)
   rules_at p within = rules_along run.course.plan start (records_of run.places) (TurnIn run.places) entries of p within
@@ -374,7 +374,7 @@ module _ (once : ShowsOnce) (run : LifeRun) (is_run : IsRun run) where
   }
 
   -- the answers that were begun fit, as all do
-  begun_fit : All (λ (d : Deed). Fits (NearWord start entries (records_of run.places)) run.course d.task d.answer) (begun (length run.sunk) run.deeds)
+  begun_fit : All (λ (d : Deed). Fits (NearWord start entries (records_of run.places)) run.course d.task d.answer) (answers_begun (length run.sunk) run.deeds)
   begun_fit = begun_any (λ (d : Deed). Fits (NearWord start entries (records_of run.places)) run.course d.task d.answer) (length run.sunk) run.deeds is_run.sound.answers
 
   module _ (given : List Given) (left : IsLeft run.start given) where
@@ -382,12 +382,12 @@ module _ (once : ShowsOnce) (run : LifeRun) (is_run : IsRun run) where
         → All (IsKnown (after_first start entries p)) (given ++ new)
     served_known p within covers = All-append (IsKnown (after_first start entries p)) given new
         (λ k g low. known_on p within (slice_index_or given k g) (left.known start (inl is_run.shows) k g low))
-        (given_all run.course (IsKnown (after_first start entries p)) (begun (length run.sunk) run.deeds)
-        (λ k d low. covered_known p within (slice_index_or (begun (length run.sunk) run.deeds) k d) (begun_fit k d low)
+        (given_all run.course (IsKnown (after_first start entries p)) (answers_begun (length run.sunk) run.deeds)
+        (λ k d low. covered_known p within (slice_index_or (answers_begun (length run.sunk) run.deeds) k d) (begun_fit k d low)
         (begun_all (IsCoveredBy run.begin run.course p) (length run.sunk) run.deeds covers k d low)))
 
     none_new : EachBegun (λ (d : Deed). ⊥) (length run.sunk) run.deeds → (P : Given → Type 0) → All P new
-    none_new none P = given_all run.course P (begun (length run.sunk) run.deeds)
+    none_new none P = given_all run.course P (answers_begun (length run.sunk) run.deeds)
         (λ k d low. absurd (begun_all (λ (d : Deed). ⊥) (length run.sunk) run.deeds none k d low))
 
     to_shown : (p : ℕ) (state : State) → restarted (after_first start entries p) ≡ state
@@ -427,23 +427,23 @@ module _ (once : ShowsOnce) (run : LifeRun) (is_run : IsRun run) where
       | inr served ↦
           let s : State = after_first start entries served.p in
           let all : All (IsKnown (after_first start entries served.p)) new =
-          given_all run.course (IsKnown (after_first start entries served.p)) (begun (length run.sunk) run.deeds)
-          (λ k d low. covered_known served.p served.within (slice_index_or (begun (length run.sunk) run.deeds) k d) (begun_fit k d low)
+          given_all run.course (IsKnown (after_first start entries served.p)) (answers_begun (length run.sunk) run.deeds)
+          (λ k d low. covered_known served.p served.within (slice_index_or (answers_begun (length run.sunk) run.deeds) k d) (begun_fit k d low)
           (begun_all (IsCoveredBy run.begin run.course served.p) (length run.sunk) run.deeds served.covers k d low)) in
           pairs_append AreApart given new left.apart
-          (given_pairs run.course AreApart (begun (length run.sunk) run.deeds) (λ i j d lt low.
+          (given_pairs run.course AreApart (answers_begun (length run.sunk) run.deeds) (λ i j d lt low.
           apart_known (after_first start entries served.p) _ _ (rules_at served.p served.within)
-          (covered_known served.p served.within (slice_index_or (begun (length run.sunk) run.deeds) i d) (begun_fit i d (omega arith))
+          (covered_known served.p served.within (slice_index_or (answers_begun (length run.sunk) run.deeds) i d) (begun_fit i d (omega arith))
           (begun_all (IsCoveredBy run.begin run.course served.p) (length run.sunk) run.deeds served.covers i d (omega arith)))
-          (covered_known served.p served.within (slice_index_or (begun (length run.sunk) run.deeds) j d) (begun_fit j d low)
+          (covered_known served.p served.within (slice_index_or (answers_begun (length run.sunk) run.deeds) j d) (begun_fit j d low)
           (begun_all (IsCoveredBy run.begin run.course served.p) (length run.sunk) run.deeds served.covers j d low))
           (begun_pairs (Differ Uses) (length run.sunk) run.deeds is_run.sound.pairs i j d lt low)
           (begun_pairs (Differ Accepts) (length run.sunk) run.deeds is_run.sound.accepted i j d lt low)))
-          (λ k g low. given_all run.course (AreApart (slice_index_or given k g)) (begun (length run.sunk) run.deeds) (λ j d in'.
+          (λ k g low. given_all run.course (AreApart (slice_index_or given k g)) (answers_begun (length run.sunk) run.deeds) (λ j d in'.
           let old = left.known start (inl is_run.shows) k g low in
           apart_known (after_first start entries served.p) (slice_index_or given k g) _ (rules_at served.p served.within)
           (known_on served.p served.within (slice_index_or given k g) old)
-          (covered_known served.p served.within (slice_index_or (begun (length run.sunk) run.deeds) j d) (begun_fit j d in')
+          (covered_known served.p served.within (slice_index_or (answers_begun (length run.sunk) run.deeds) j d) (begun_fit j d in')
           (begun_all (IsCoveredBy run.begin run.course served.p) (length run.sunk) run.deeds served.covers j d in'))
           (λ key number u v.
           let a = old.below key number u in
@@ -464,8 +464,8 @@ pub lives : ShowsOnce → (image : List ℕ) (given : List Given) (runs : List L
 lives once image given [] left follow = subst (IsLeft image) (sym (append-nil given)) left
 lives once image given (run ∷ runs) left (start, is_run, follow) =
     let next = one_more once run is_run given (subst (λ (i : List ℕ). IsLeft i given) (sym start) left) in
-    subst (IsLeft (left_by run.image runs)) (append_assoc given (given_of run.course (begun (length run.sunk) run.deeds)) (given_in runs))
-    (lives once run.image (given ++ given_of run.course (begun (length run.sunk) run.deeds)) runs next follow)
+    subst (IsLeft (left_by run.image runs)) (append_assoc given (given_of run.course (answers_begun (length run.sunk) run.deeds)) (given_in runs))
+    (lives once run.image (given ++ given_of run.course (answers_begun (length run.sunk) run.deeds)) runs next follow)
 
 life_left : ShowsOnce → (image : List ℕ) (runs : List LifeRun) → IsLife image runs → IsLeft (left_by image runs) (given_in runs)
 life_left once image runs life =

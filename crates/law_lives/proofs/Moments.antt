@@ -12,7 +12,7 @@ use Rattle.law_worker.specs.Begin.{Begin}
 use Rattle.law_worker.specs.Deeds.{Deed}
 use Rattle.law_worker.proofs.Logs.{entries_low}
 use Rattle.law_lives.specs.Sound.{deeds_octets, EachBegun, IsCoveredBy, SoundMoment, StaysCovered}
-use Rattle.law_lives.specs.Settled.{IsSettled, AreSettled}
+use Rattle.law_lives.specs.Settled.{AnswerIsSettled, AreSettled}
 
 -- the pieces of a log, from a place on
 pieces_front : (log : List Logged) (place : ℕ) → (rest : List ℕ) × (pieces_of log ≡ pieces_of (take place log) ++ rest)
@@ -40,7 +40,7 @@ module _ (begin : Begin) (course : Course) (stored : ℕ) (log : List Logged) (i
     (most : total ≤ length (pieces_of (take (place + 1) log))) (least : min stored (length (entries_of (take place log))) ≤ p)
     (within : p ≤ length course.entries) where
   -- an answer that was begun at the place is covered by what the image shows there
-  one_covered : (at : ℕ) (deed : Deed) → IsSettled begin course stored log at deed → 0 < total - at
+  one_covered : (at : ℕ) (deed : Deed) → AnswerIsSettled begin course stored log at deed → 0 < total - at
       → ((s : ℕ) → s ≤ p → IsCoveredBy begin course s deed → IsCoveredBy begin course p deed) → IsCoveredBy begin course p deed
   one_covered at deed s begun stays = stays s.entries (low (cases_lt place s.lines)) s.covered
     where

@@ -14,27 +14,27 @@ use Rattle.law_history.specs.Answers.{Accepts}
 use Rattle.law_history.specs.Taken.{kept_floor}
 use Rattle.law_history.specs.Fits.{Course}
 use Rattle.law_worker.specs.Begin.{Begin}
-use Rattle.law_worker.specs.Views.{log_of, entries_in, Grows}
+use Rattle.law_worker.specs.Views.{log_of, entries_in, KnowsMore}
 use Rattle.law_worker.specs.Deeds.{Deed, Does, AllBoth, tells_entry, epoch_told, course_in}
 use Rattle.law_worker.proofs.Logs.{entries_low, told_kept, times_both}
 use Rattle.law_worker.proofs.Working.{grown_entries, row_later, told_later}
 use Rattle.law_worker.proofs.Joining.{does_then, grows_itself, grows_further}
 use Rattle.law_lives.specs.Sound.{deeds_octets, IsCoveredBy}
-use Rattle.law_lives.specs.Settled.{IsSettled, AreSettled, SettlesAt, UnderWay}
+use Rattle.law_lives.specs.Settled.{AnswerIsSettled, AreSettled, SettlesAt, UnderWay}
 
 pub octets_both : (a b : List Deed) → deeds_octets (a ++ b) ≡ deeds_octets a ++ deeds_octets b
 octets_both [] b = refl
 octets_both (d ∷ a) b = ap (λ (l : List ℕ). answer_octets d.answer ++ l) (octets_both a b) ∙ sym (append_assoc (answer_octets d.answer) (deeds_octets a) (deeds_octets b))
 
 -- what was settled stays so while the log grows
-module _ (begin : Begin) (v w : View) (grows : Grows v w) (stored more : ℕ) (fewer : stored ≤ more) where
+module _ (begin : Begin) (v w : View) (grows : KnowsMore v w) (stored more : ℕ) (fewer : stored ≤ more) where
   rest : List Logged
   rest = grows.earlier.log.0
 
   log_is : log_of w ≡ log_of v ++ grows.earlier.log.0
   log_is = grows.earlier.log.1
 
-  settled_one : (at : ℕ) (d : Deed) → IsSettled begin (course_in begin v) stored (log_of v) at d → IsSettled begin (course_in begin w) more (log_of w) at d
+  settled_one : (at : ℕ) (d : Deed) → AnswerIsSettled begin (course_in begin v) stored (log_of v) at d → AnswerIsSettled begin (course_in begin w) more (log_of w) at d
   settled_one at d h =
       let (r, es) = grown_entries v w grows in
       let inside = h.within in
@@ -97,7 +97,7 @@ goes_on begin first v w z stored more ts us ds es way segment turns puts put few
           (settled_later begin v z (grows_further v w z segment.grows puts.grows) stored more fewer 0 ds way.settled) settled;
     }
 
-module _ (begin : Begin) (u v z : View) (us : List Record) (es : List Deed) (d : Does begin u v us es) (grows : Grows v z)
+module _ (begin : Begin) (u v z : View) (us : List Record) (es : List Deed) (d : Does begin u v us es) (grows : KnowsMore v z)
     (stored s count : ℕ) (tells : SettlesAt begin v z stored s count)
     (entered : All (λ (x : Deed). IsTrue (tells_entry x) → x.answer.position ≤ s) es)
     (floored : All (λ (x : Deed). (key number : ℕ) → Accepts x.answer key number → number ≤ kept_floor (after_first begin.start (entries_in z) s) key) es) where

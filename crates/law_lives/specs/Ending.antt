@@ -18,7 +18,7 @@ use Rattle.law_worker.specs.Views.{log_of, entries_in}
 use Rattle.law_worker.specs.Work.{indexed}
 use Rattle.law_worker.specs.Deeds.{Deed, Does, course_in}
 use Rattle.law_worker.specs.Order.{Lined}
-use Rattle.law_lives.specs.Opened.{IsOpened}
+use Rattle.law_lives.specs.Opened.{IsJustOpened}
 use Rattle.law_lives.specs.Release.{AreReleases}
 
 -- From the opening to the end one worker did it all, with the records of these places and these answers. The words are those
@@ -28,7 +28,7 @@ pub record EndsRun (begin : Begin) (first now : View) (places : List Place) (dee
   pub plan_is : IsPlan begin.plan
   pub rules : KeepsRules begin.start
   pub left : restarted begin.start ≡ begin.start
-  pub opened : IsOpened begin first
+  pub opened : IsJustOpened begin first
   pub does : Does begin first now (records_of places) deeds
   pub whole : IsWhole begin.rows now
   pub pieces : ℕ

@@ -66,9 +66,9 @@ pub record Given : Type 0 where
   pub deed : Deed
 
 -- the answers of which an octet is among the first count octets
-abbrev pub begun : ℕ → List Deed → List Deed
-begun count [] = []
-begun count (deed ∷ deeds) = if nat_lt 0 count then deed ∷ begun (count - length (answer_octets deed.answer)) deeds else []
+abbrev pub answers_begun : ℕ → List Deed → List Deed
+answers_begun count [] = []
+answers_begun count (deed ∷ deeds) = if nat_lt 0 count then deed ∷ answers_begun (count - length (answer_octets deed.answer)) deeds else []
 
 abbrev pub given_of : Course → List Deed → List Given
 given_of course [] = []
@@ -77,7 +77,7 @@ given_of course (deed ∷ deeds) = record { course = course; deed = deed } ∷ g
 -- the answers of all runs that were begun at the moments at which these ended
 abbrev pub given_in : List LifeRun → List Given
 given_in [] = []
-given_in (run ∷ runs) = given_of run.course (begun (length run.sunk) run.deeds) ++ given_in runs
+given_in (run ∷ runs) = given_of run.course (answers_begun (length run.sunk) run.deeds) ++ given_in runs
 
 -- the state in which an answer that uses a number found its key: that of its epoch, or the one before its own entry
 abbrev pub state_told : RecordKind → Course → Answer → State

@@ -18,7 +18,7 @@ use Rattle.law_lives.specs.Sound.{deeds_octets, IsCoveredBy}
 
 -- The answer was settled before an octet of it was put: so many lines of the log stood then, and so many entries were stored,
 -- whose state covers it. The first octet of the answer is the one at this place among the octets put.
-pub record IsSettled (begin : Begin) (course : Course) (stored : ℕ) (log : List Logged) (at : ℕ) (deed : Deed) : Type 0 where
+pub record AnswerIsSettled (begin : Begin) (course : Course) (stored : ℕ) (log : List Logged) (at : ℕ) (deed : Deed) : Type 0 where
   pub lines : ℕ
   pub within : lines ≤ length log
   pub before : length (pieces_of (take lines log)) ≤ at
@@ -31,7 +31,7 @@ pub record IsSettled (begin : Begin) (course : Course) (stored : ℕ) (log : Lis
 abbrev pub AreSettled : Begin → Course → ℕ → List Logged → ℕ → List Deed → Type 0
 AreSettled begin course stored log at [] = ⊤
 AreSettled begin course stored log at (deed ∷ deeds) =
-    IsSettled begin course stored log at deed × AreSettled begin course stored log (at + length (answer_octets deed.answer)) deeds
+    AnswerIsSettled begin course stored log at deed × AreSettled begin course stored log (at + length (answer_octets deed.answer)) deeds
 
 -- What the first put behind a segment tells of the book that it found: so many lines and entries stood there, so many of the
 -- entries were stored, whose epoch is not below the one that the worker had seen, and whose marks are above each number that

@@ -14,7 +14,7 @@ ghost use Rattle.law_history.specs.Taken.{kept_floor};
 ghost use Rattle.law_history.specs.Fits.{Course};
 ghost use Rattle.unit_book.specs.Book.{Serves};
 ghost use Rattle.law_worker.specs.Begin.{Begin};
-ghost use Rattle.law_worker.specs.Views.{entries_in, Grows, log_of};
+ghost use Rattle.law_worker.specs.Views.{entries_in, KnowsMore, log_of};
 ghost use Rattle.law_worker.specs.Deeds.{AllBoth, course_in, Deed, Does, tells_entry};
 ghost use Rattle.law_lives.specs.Ending.{course_at_end, EndsRun};
 ghost use Rattle.law_lives.specs.Life.{given_in, IsLife, IsShown, Knows, left_by, LifeRun, OnceInLife};
@@ -47,7 +47,7 @@ pub fn moment_is_sound()
 /// accepted is at most the floors that releases would leave.
 pub fn answers_settle()
     ensures { (begin : Begin) (old mid new : View) (tasks : List Record) (deeds : List Deed) → Does begin old mid tasks deeds
-        → Grows mid new → (stored entries lines : ℕ) → SettlesAt begin mid new stored entries lines
+        → KnowsMore mid new → (stored entries lines : ℕ) → SettlesAt begin mid new stored entries lines
         → All (λ (deed : Deed). IsTrue (tells_entry deed) → deed.answer.position ≤ entries) deeds
         → All (λ (deed : Deed). (key number : ℕ) → Accepts deed.answer key number
         → number ≤ kept_floor (after_first begin.start (entries_in new) entries) key) deeds

@@ -8,11 +8,11 @@ use Rattle.counter_table.specs.Numbers.{amount}
 use Rattle.counter_table.specs.Turn.{stands}
 use Rattle.record_io.specs.declared.records.Record.{Record}
 use Rattle.law_worker.specs.Begin.{Begin}
-use Rattle.law_worker.specs.Views.{Grows, log_of}
+use Rattle.law_worker.specs.Views.{KnowsMore, log_of}
 use Rattle.law_worker.specs.Deeds.{Deed, Does}
 use Rattle.law_worker.proofs.Histories.{get_front}
 use Rattle.law_one_lane.specs.Machine.{Move}
-use Rattle.law_one_lane.specs.Exact.{words_in, IsDrawn, Exact}
+use Rattle.law_one_lane.specs.Exact.{words_in, IsOfMoves, Exact}
 use Rattle.law_one_lane.specs.InTurn.{ServedInTurn}
 use Rattle.law_one_lane.specs.Alone.{MovedExactly, MovedInTurn}
 use Rattle.law_one_lane.proofs.Machines.{exact_nothing, exact_then, nothing_moves, runs_same, tell_on, then_moves}
@@ -31,7 +31,7 @@ moved_more begin u v n m ds few short a =
     record { made = a.made; made_is = a.made_is; last = a.last; few = a.few; each = λ same. absurd (omega arith); exact = a.exact }
 
 -- more records, behind some of which each has its answer
-pub turns_then : (begin : Begin) (u v w : View) (ts : List Record) (n m : ℕ) (ds es : List Deed) → Does begin u v ts ds → Grows v w → length ds ≡ n
+pub turns_then : (begin : Begin) (u v w : View) (ts : List Record) (n m : ℕ) (ds es : List Deed) → Does begin u v ts ds → KnowsMore v w → length ds ≡ n
     → MovedInTurn begin u v n ds → MovedInTurn begin v w m es → MovedInTurn begin u w (n + m) (ds ++ es)
 turns_then begin u v w ts n m ds es does grows size a b =
     let below = below_log begin u v ts ds does a.moved.made a.moved.made_is in
@@ -68,7 +68,7 @@ turns_more begin u v n m ds few short a = record { moved = moved_more begin u v 
 
 -- The same between other views, with the same words, where as much was added.
 pub exact_seen : (begin : Begin) (u v p z : View) (made : List ℕ) (ds : List Deed) (last : List Move) → Exact begin u v made ds last
-    → ((place : ℕ) → 0 < stands place made → place < length (log_of v)) → Grows v z
+    → ((place : ℕ) → 0 < stands place made → place < length (log_of v)) → KnowsMore v z
     → ((row : ℕ) → words_in p row ≡ words_in u row) → ((row : ℕ) → words_in z row ≡ words_in v row)
     → ((row : ℕ) → amount row z.numbers.added + amount row u.numbers.added ≡ amount row p.numbers.added + amount row v.numbers.added)
     → Exact begin p z made ds last
@@ -78,7 +78,7 @@ exact_seen begin u v p z made ds last a below grows from to more = record {
   reserves = λ place in'.
       let line : slice_get (log_of z) place ≡ slice_get (log_of v) place =
       ap (λ (l : List Logged). slice_get l place) grows.earlier.log.1 ∙ get_front (log_of v) grows.earlier.log.0 place (below place in') in
-      subst (IsDrawn (a.moves ++ last)) (sym line) (a.reserves place in');
+      subst (IsOfMoves (a.moves ++ last)) (sym line) (a.reserves place in');
   added = λ row. let h = a.added row in let m = more row in omega arith;
   grown = λ row. let h = a.grown row in let f = from row in let t = to row in omega arith;
   exact = λ still. runs_same begin.rows (words_in u) (words_in p) (λ row low. sym (from row)) (a.moves ++ last)
@@ -86,7 +86,7 @@ exact_seen begin u v p z made ds last a below grows from to more = record {
 }
 
 pub seen_moves : (begin : Begin) (u v p z : View) (made : List ℕ) (ds : List Deed) (last : List Move) (a : Exact begin u v made ds last)
-    (below : (place : ℕ) → 0 < stands place made → place < length (log_of v)) (grows : Grows v z)
+    (below : (place : ℕ) → 0 < stands place made → place < length (log_of v)) (grows : KnowsMore v z)
     (from : (row : ℕ) → words_in p row ≡ words_in u row) (to : (row : ℕ) → words_in z row ≡ words_in v row)
     (more : (row : ℕ) → amount row z.numbers.added + amount row u.numbers.added ≡ amount row p.numbers.added + amount row v.numbers.added)
     → (exact_seen begin u v p z made ds last a below grows from to more).moves ≡ a.moves

@@ -23,13 +23,13 @@ use Rattle.law_history.specs.Entries.{IsStepOf}
 use Rattle.law_history.specs.Legal.{KeyOf}
 use Rattle.law_history.specs.Numbers.{mark_of}
 use Rattle.law_worker.specs.Begin.{Begin}
-use Rattle.law_worker.specs.Views.{Grows, log_of, entries_in}
+use Rattle.law_worker.specs.Views.{KnowsMore, log_of, entries_in}
 use Rattle.law_worker.specs.Deeds.{Deed}
 use Rattle.law_worker.proofs.Histories.{get_front, row_kept}
 use Rattle.law_worker.proofs.Logs.{stands_both}
 use Rattle.law_worker.proofs.Working.{grown_entries}
-use Rattle.law_one_lane.specs.Machine.{Move, Kept, Found, Drew, Raised, Overdrew, adds, adds_all, IsAt, moved, Runs}
-use Rattle.law_one_lane.specs.Exact.{words_in, Shown, TellsSeen, TellsProtect, TellsCommand, TellsKind, Tells, TellAll, IsDrawn, Exact}
+use Rattle.law_one_lane.specs.Machine.{Move, Kept, Found, Drew, Raised, Overdrew, adds, adds_all, IsAt, word_after, Runs}
+use Rattle.law_one_lane.specs.Exact.{words_in, Shown, TellsSeen, TellsProtect, TellsCommand, TellsKind, Tells, TellAll, IsOfMoves, Exact}
 
 after_both : (state : State) (es more : List Entry) → after state (es ++ more) ≡ after (after state es) more
 after_both state [] more = refl
@@ -57,14 +57,14 @@ at_same rows f g same (Overdrew row number) h = absurd h
 pub runs_same : (rows : ℕ) (f g : ℕ → ℕ) → ((row : ℕ) → row < rows → f row ≡ g row) → (moves : List Move) → Runs rows f moves → Runs rows g moves
 runs_same rows f g same [] h = tt
 runs_same rows f g same (m ∷ moves) h =
-    (at_same rows f g same m h.0, runs_same rows (moved f m) (moved g m) (λ row low. let s = same row low in omega arith) moves h.1)
+    (at_same rows f g same m h.0, runs_same rows (word_after f m) (word_after g m) (λ row low. let s = same row low in omega arith) moves h.1)
 
 runs-append : (rows : ℕ) (f : ℕ → ℕ) (a b : List Move) → Runs rows f a → Runs rows (λ row. f row + adds_all row a) b → Runs rows f (a ++ b)
 runs-append rows f [] b h k = runs_same rows (λ row. f row + 0) f (λ row low. omega arith) b k
 runs-append rows f (m ∷ a) b h k = (
   h.0,
-  runs-append rows (moved f m) a b h.1
-      (runs_same rows (λ row. f row + adds_all row (m ∷ a)) (λ row. moved f m row + adds_all row a) (λ row low. omega arith) b k),
+  runs-append rows (word_after f m) a b h.1
+      (runs_same rows (λ row. f row + adds_all row (m ∷ a)) (λ row. word_after f m row + adds_all row a) (λ row low. omega arith) b k),
 )
 
 tell-append : (start : State) (entries : List Entry) (ds es : List Deed) (a b : List Move) → TellAll start entries ds a → TellAll start entries es b
@@ -153,15 +153,15 @@ module _ (start : State) (es rest : List Entry) where
   tell_more (d ∷ ds) (m ∷ ms) h = (kind_on d.task.kind d m h.0, tell_more ds ms h.1)
 
 -- and while the view grows
-pub tell_on : (begin : Begin) (v w : View) → Grows v w → (ds : List Deed) (ms : List Move) → TellAll begin.start (entries_in v) ds ms → TellAll begin.start (entries_in w) ds ms
+pub tell_on : (begin : Begin) (v w : View) → KnowsMore v w → (ds : List Deed) (ms : List Move) → TellAll begin.start (entries_in v) ds ms → TellAll begin.start (entries_in w) ds ms
 tell_on begin v w grows ds ms h =
     let (rest, is) = grown_entries v w grows in
     subst (λ (l : List Entry). TellAll begin.start l ds ms) (sym is) (tell_more begin.start (entries_in v) rest ds ms h)
 
-drawn_left : (a b : List Move) (line : Option Logged) → IsDrawn a line → IsDrawn (a ++ b) line
+drawn_left : (a b : List Move) (line : Option Logged) → IsOfMoves a line → IsOfMoves (a ++ b) line
 drawn_left a b line h entry is none = let (row, number, seen, there) = h entry is none in (row, number, seen, Contains-append_left a b (Drew row number) there)
 
-drawn_right : (a b : List Move) (line : Option Logged) → IsDrawn b line → IsDrawn (a ++ b) line
+drawn_right : (a b : List Move) (line : Option Logged) → IsOfMoves b line → IsOfMoves (a ++ b) line
 drawn_right a b line h entry is none = let (row, number, seen, there) = h entry is none in (row, number, seen, Contains-append_right a b (Drew row number) there)
 
 either : (a b : ℕ) → 0 < a + b → (0 < a) ⊎ (0 < b)
@@ -181,7 +181,7 @@ exact_nothing begin v = record {
 
 -- What was done one after the other. Of the first part each record has an answer.
 pub exact_then : (begin : Begin) (u v w : View) (m n : List ℕ) (ds es : List Deed) (last : List Move)
-    → Exact begin u v m ds [] → ((place : ℕ) → 0 < stands place m → place < length (log_of v)) → Grows v w → Exact begin v w n es last
+    → Exact begin u v m ds [] → ((place : ℕ) → 0 < stands place m → place < length (log_of v)) → KnowsMore v w → Exact begin v w n es last
     → Exact begin u w (m ++ n) (ds ++ es) last
 exact_then begin u v w m n ds es last a below grows b =
     let sum : (row : ℕ) → adds_all row ((a.moves ++ b.moves) ++ last) ≡ adds_all row a.moves + adds_all row (b.moves ++ last) = λ row.
@@ -196,11 +196,11 @@ exact_then begin u v w m n ds es last a below grows b =
             | inl here ↦
                 let line : slice_get (log_of w) place ≡ slice_get (log_of v) place =
                 ap (λ (l : List Logged). slice_get l place) grows.earlier.log.1 ∙ get_front (log_of v) grows.earlier.log.0 place (below place here) in
-                let d : IsDrawn a.moves (slice_get (log_of v) place) = subst (λ (l : List Move). IsDrawn l (slice_get (log_of v) place)) (append-nil a.moves) (a.reserves place here) in
-                subst (λ (l : List Move). IsDrawn l (slice_get (log_of w) place)) (sym (append_assoc a.moves b.moves last))
-                (drawn_left a.moves (b.moves ++ last) (slice_get (log_of w) place) (subst (IsDrawn a.moves) (sym line) d))
+                let d : IsOfMoves a.moves (slice_get (log_of v) place) = subst (λ (l : List Move). IsOfMoves l (slice_get (log_of v) place)) (append-nil a.moves) (a.reserves place here) in
+                subst (λ (l : List Move). IsOfMoves l (slice_get (log_of w) place)) (sym (append_assoc a.moves b.moves last))
+                (drawn_left a.moves (b.moves ++ last) (slice_get (log_of w) place) (subst (IsOfMoves a.moves) (sym line) d))
             | inr there ↦
-                subst (λ (l : List Move). IsDrawn l (slice_get (log_of w) place)) (sym (append_assoc a.moves b.moves last))
+                subst (λ (l : List Move). IsOfMoves l (slice_get (log_of w) place)) (sym (append_assoc a.moves b.moves last))
                 (drawn_right a.moves (b.moves ++ last) (slice_get (log_of w) place) (b.reserves place there))
           ];
       added = λ row. let p = a.added row in let q = b.added row in let s = sum row in let f = first row in omega arith;
@@ -221,14 +221,14 @@ unfolding exact_nothing
 nothing_moves begin v = refl
 
 pub then_moves : (begin : Begin) (u v w : View) (m n : List ℕ) (ds es : List Deed) (last : List Move) (a : Exact begin u v m ds [])
-    (below : (place : ℕ) → 0 < stands place m → place < length (log_of v)) (grows : Grows v w) (b : Exact begin v w n es last)
+    (below : (place : ℕ) → 0 < stands place m → place < length (log_of v)) (grows : KnowsMore v w) (b : Exact begin v w n es last)
     → (exact_then begin u v w m n ds es last a below grows b).moves ≡ a.moves ++ b.moves
 unfolding exact_then
 then_moves begin u v w m n ds es last a below grows b = refl
 
 -- one move
 pub exact_move : (begin : Begin) (old new : View) (made : List ℕ) (deed : Deed) (move : Move) → Tells begin.start (entries_in new) deed move
-    → ((place : ℕ) → 0 < stands place made → IsDrawn (move ∷ []) (slice_get (log_of new) place))
+    → ((place : ℕ) → 0 < stands place made → IsOfMoves (move ∷ []) (slice_get (log_of new) place))
     → ((row : ℕ) → amount row new.numbers.added ≡ amount row old.numbers.added + adds row move)
     → ((row : ℕ) → words_in old row + adds row move ≤ words_in new row)
     → (((row : ℕ) → row < begin.rows → words_in new row ≡ words_in old row + adds row move) → IsAt begin.rows (words_in old) move)
@@ -243,7 +243,7 @@ exact_move begin old new made deed move told reserves added grown at = record {
 }
 
 pub move_moves : (begin : Begin) (old new : View) (made : List ℕ) (deed : Deed) (move : Move) (told : Tells begin.start (entries_in new) deed move)
-    (reserves : (place : ℕ) → 0 < stands place made → IsDrawn (move ∷ []) (slice_get (log_of new) place))
+    (reserves : (place : ℕ) → 0 < stands place made → IsOfMoves (move ∷ []) (slice_get (log_of new) place))
     (added : (row : ℕ) → amount row new.numbers.added ≡ amount row old.numbers.added + adds row move)
     (grown : (row : ℕ) → words_in old row + adds row move ≤ words_in new row)
     (at : ((row : ℕ) → row < begin.rows → words_in new row ≡ words_in old row + adds row move) → IsAt begin.rows (words_in old) move)

@@ -10,8 +10,8 @@ use Rattle.key_book.specs.KeyBook.{place_of}
 use Rattle.frame_shield.specs.declared.binding.Binding.{Binding}
 use Rattle.frame_shield.specs.Protects.{Protects}
 use Rattle.frame_checks.specs.declared.open_reply.OpenReply.{OpenReply}
-use Rattle.frame_checks.specs.Opening.{IsOpenReply}
-use Rattle.frame_checks.specs.Protecting as protecting
+use Rattle.frame_checks.specs.OpeningFrames.{IsOpenReply}
+use Rattle.frame_checks.specs.ProtectingFrames as protecting
 use Rattle.ep_core.specs.declared.need.Need.{Need}
 use Rattle.ep_core.specs.declared.need.Need.TheVariants as needs
 use Rattle.ep_core.specs.declared.reply.Reply.{Reply}
@@ -29,8 +29,8 @@ use Rattle.law_history.specs.Numbers.{mark_of, reserve_of}
 use Rattle.law_history.specs.Stored.{IsStored}
 use Rattle.law_worker.specs.Begin.{Begin}
 use Rattle.law_worker.specs.Deeds.{Deed}
-use Rattle.law_one_lane.specs.Machine.{Move, Found, Drew, Raised, Overdrew, IsAt, moved, Runs}
-use Rattle.law_one_lane.specs.Serving.{now, HasSlot, SaysFull, Funds, IsUnbound, IsBound, IsProtected, IsExhausted, IsUnfunded, IsOpened, IsUnopened, Shows, IsShown, IsHandled, IsUnhandled, IsUnmet, ServesKind, Serves, ServesAll, SameTasks, AreServed}
+use Rattle.law_one_lane.specs.Machine.{Move, Found, Drew, Raised, Overdrew, IsAt, word_after, Runs}
+use Rattle.law_one_lane.specs.Serving.{now, HasSlot, SaysFull, Funds, AloneUnbound, AloneBound, AloneProtected, AloneExhausted, AloneUnfunded, AloneOpened, AloneUnopened, AloneShows, AloneShown, AloneHandled, AloneUnhandled, AloneUnmet, ServesKind, AloneServes, ServesAll, SameTasks, AreServed}
 
 same_answer : (a b : Answer) → told_by a ≡ told_by b → a.position ≡ b.position → a ≡ b
 same_answer a b told place =
@@ -95,7 +95,7 @@ module _ (begin : Begin) (tells : IsTrue begin.told)
         slot_or_full (reserve_of begin.plan (now begin history) key n) (reserve_of begin.plan (now begin history) key n) refl a.2 answer full
 
     module _ (words : ℕ → ℕ) (task : Record) (a b : Answer) (own more : List Entry) (m n : Move) (at : IsAt rows words m) (at' : IsAt rows words n) where
-      bound_same : (x y : IsBound begin history task) → (x.binding ≡ y.binding) × (x.row ≡ y.row)
+      bound_same : (x y : AloneBound begin history task) → (x.binding ≡ y.binding) × (x.row ≡ y.row)
       bound_same x y =
           let ok : (let r : protecting.Answer = Ok (Some x.binding) in r) ≡ Ok (Some y.binding) = sym x.bound ∙ y.bound in
           let binding : x.binding ≡ y.binding = cc in (
@@ -103,17 +103,17 @@ module _ (begin : Begin) (tells : IsTrue begin.told)
             same_Some x.row y.row (sym x.row_is ∙ ap (λ (z : Binding). place_of (now begin history).keys z.key) binding ∙ y.row_is),
           )
 
-      unbound_or_bound : IsUnbound begin history task a own m → IsBound begin history task → ⊥
+      unbound_or_bound : AloneUnbound begin history task a own m → AloneBound begin history task → ⊥
       unbound_or_bound x y = none-some (told_by a) (sym (ap unbound_told y.bound) ∙ x.told)
 
-      unbound_both : IsUnbound begin history task a own m → IsUnbound begin history task b more n → Same a b own more m n
+      unbound_both : AloneUnbound begin history task a own m → AloneUnbound begin history task b more n → Same a b own more m n
       unbound_both x y = (
         same_answer a b (same_Some (told_by a) (told_by b) (sym x.told ∙ y.told)) (x.position_is ∙ sym y.position_is),
         x.own_is ∙ sym y.own_is,
         x.move_is ∙ sym y.move_is,
       )
 
-      protected_both : IsProtected begin history task a own m → IsProtected begin history task b more n → Same a b own more m n
+      protected_both : AloneProtected begin history task a own m → AloneProtected begin history task b more n → Same a b own more m n
       protected_both x y =
           let (binding, row) = bound_same x.is y.is in
           let number : a.number ≡ b.number = drew_is rows words m x.is.row a.number x.move_is at ∙ ap words row ∙ sym (drew_is rows words n y.is.row b.number y.move_is at') in
@@ -130,7 +130,7 @@ module _ (begin : Begin) (tells : IsTrue begin.told)
             x.move_is ∙ ap (λ (r : ℕ). Drew r a.number) row ∙ ap (λ (k : ℕ). Drew y.is.row k) number ∙ sym y.move_is,
           )
 
-      exhausted_both : IsExhausted begin history task a own m → IsExhausted begin history task b more n → Same a b own more m n
+      exhausted_both : AloneExhausted begin history task a own m → AloneExhausted begin history task b more n → Same a b own more m n
       exhausted_both x y =
           let (binding, row) = bound_same x.is y.is in
           let (move, word) = ended_is rows words m x.is.row a.number x.move_is at in
@@ -143,7 +143,7 @@ module _ (begin : Begin) (tells : IsTrue begin.told)
             move ∙ ap (λ (r : ℕ). Found r a.number) row ∙ ap (λ (k : ℕ). Found y.is.row k) number ∙ sym other,
           )
 
-      unfunded_both : IsUnfunded begin history task a own m → IsUnfunded begin history task b more n → Same a b own more m n
+      unfunded_both : AloneUnfunded begin history task a own m → AloneUnfunded begin history task b more n → Same a b own more m n
       unfunded_both x y =
           let (binding, row) = bound_same x.is y.is in
           let number : x.number ≡ y.number = drew_is rows words m x.is.row x.number x.move_is at ∙ ap words row ∙ sym (drew_is rows words n y.is.row y.number y.move_is at') in (
@@ -152,7 +152,7 @@ module _ (begin : Begin) (tells : IsTrue begin.told)
             x.move_is ∙ ap (λ (r : ℕ). Drew r x.number) row ∙ ap (λ (k : ℕ). Drew y.is.row k) number ∙ sym y.move_is,
           )
 
-      protected_or_exhausted : IsProtected begin history task a own m → IsExhausted begin history task b more n → ⊥
+      protected_or_exhausted : AloneProtected begin history task a own m → AloneExhausted begin history task b more n → ⊥
       protected_or_exhausted x y =
           let (binding, row) = bound_same x.is y.is in
           let (move, word) = ended_is rows words n y.is.row b.number y.move_is at' in
@@ -160,7 +160,7 @@ module _ (begin : Begin) (tells : IsTrue begin.told)
           let end : end_of x.is.binding.key ≡ end_of y.is.binding.key = ap (λ (z : Binding). end_of z.key) binding in
           let p = x.below in let q = y.at_end in omega arith
 
-      protected_or_unfunded : IsProtected begin history task a own m → IsUnfunded begin history task b more n → ⊥
+      protected_or_unfunded : AloneProtected begin history task a own m → AloneUnfunded begin history task b more n → ⊥
       protected_or_unfunded x y =
           let (binding, row) = bound_same x.is y.is in
           let number : a.number ≡ y.number = drew_is rows words m x.is.row a.number x.move_is at ∙ ap words row ∙ sym (drew_is rows words n y.is.row y.number y.move_is at') in
@@ -168,7 +168,7 @@ module _ (begin : Begin) (tells : IsTrue begin.told)
           (subst (λ (z : Binding). Funds begin history z.key y.number own) binding (subst (λ (k : ℕ). Funds begin history x.is.binding.key k own) number x.funded))
           y.unmarked y.full
 
-      exhausted_or_unfunded : IsExhausted begin history task a own m → IsUnfunded begin history task b more n → ⊥
+      exhausted_or_unfunded : AloneExhausted begin history task a own m → AloneUnfunded begin history task b more n → ⊥
       exhausted_or_unfunded x y =
           let (binding, row) = bound_same x.is y.is in
           let (move, word) = ended_is rows words m x.is.row a.number x.move_is at in
@@ -176,7 +176,7 @@ module _ (begin : Begin) (tells : IsTrue begin.told)
           let end : end_of x.is.binding.key ≡ end_of y.is.binding.key = ap (λ (z : Binding). end_of z.key) binding in
           let p = x.at_end in let q = y.below in omega arith
 
-      opened_both : IsOpened begin history task a own m → IsOpened begin history task b more n → Same a b own more m n
+      opened_both : AloneOpened begin history task a own m → AloneOpened begin history task b more n → Same a b own more m n
       opened_both x y =
           let (told, change) = one_opening begin.plan (now begin history) task.link task.octets x.reply y.reply x.field y.field x.replies y.replies in (
             same_answer a b (x.told ∙ told ∙ sym y.told) (x.position_is ∙ sym y.position_is),
@@ -184,13 +184,13 @@ module _ (begin : Begin) (tells : IsTrue begin.told)
             x.move_is ∙ sym y.move_is,
           )
 
-      opened_or_unopened : IsOpened begin history task a own m → IsUnopened begin history task b more n → ⊥
+      opened_or_unopened : AloneOpened begin history task a own m → AloneUnopened begin history task b more n → ⊥
       opened_or_unopened x y =
           let (told, change) = one_opening begin.plan (now begin history) task.link task.octets x.reply y.reply x.field y.field x.replies y.replies in
           slot_or_full (frame_entry begin.plan (now begin history) task.index x.reply) (frame_entry begin.plan (now begin history) task.index y.reply)
           (ap (λ (c : Change). record_entry task.index seens.Nothing c) change) x.slot b y.full
 
-      unopened_both : IsUnopened begin history task a own m → IsUnopened begin history task b more n → Same a b own more m n
+      unopened_both : AloneUnopened begin history task a own m → AloneUnopened begin history task b more n → Same a b own more m n
       unopened_both x y = (
         full_same a b (frame_entry begin.plan (now begin history) task.index x.reply) (frame_entry begin.plan (now begin history) task.index y.reply) x.full y.full,
         x.own_is ∙ sym y.own_is,
@@ -198,7 +198,7 @@ module _ (begin : Begin) (tells : IsTrue begin.told)
       )
 
       -- what the words show for a need
-      shown_both : (need : Need) (seen other : Seen) → Shows begin history need seen own m → Shows begin history need other more n
+      shown_both : (need : Need) (seen other : Seen) → AloneShows begin history need seen own m → AloneShows begin history need other more n
           → (seen ≡ other) × (own ≡ more) × (m ≡ n)
       shown_both needs.Nothing seens.Nothing seens.Nothing (x, k) (y, l) = (refl, x ∙ sym y, k ∙ sym l)
       shown_both (needs.Look key) (seens.Word p) (seens.Word q) (x, (row, row_is, k)) (y, (other, is, l)) =
@@ -248,13 +248,13 @@ module _ (begin : Begin) (tells : IsTrue begin.told)
 
     module _ (words : ℕ → ℕ) (task : Record) (a b : Answer) (m n : Move) (at : IsAt rows words m) (at' : IsAt rows words n) where
       -- what two were shown, the one with this reserve and the other with that
-      shown_same : (own more : List Entry) (x : IsShown begin history task own m) (y : IsShown begin history task more n)
+      shown_same : (own more : List Entry) (x : AloneShown begin history task own m) (y : AloneShown begin history task more n)
           → (x.seen ≡ y.seen) × (own ≡ more) × (m ≡ n)
       shown_same own more x y = shown_both words task a b own more m n at at' y.need x.seen y.seen
-          (subst (λ (k : Need). Shows begin history k x.seen own m)
+          (subst (λ (k : Need). AloneShows begin history k x.seen own m)
           (one_need (now begin history) task.octets x.need y.need x.needed y.needed) x.shows) y.shows
 
-      step_same : (own more : List Entry) (x : IsShown begin history task own m) (y : IsShown begin history task more n)
+      step_same : (own more : List Entry) (x : AloneShown begin history task own m) (y : AloneShown begin history task more n)
           → KeepsRules (now begin (history ++ own)) → (x.change ≡ y.change) × (x.reply ≡ y.reply)
       step_same own more x y rules =
           let (seen, same, move) = shown_same own more x y in
@@ -265,13 +265,13 @@ module _ (begin : Begin) (tells : IsTrue begin.told)
             ap (λ (z : Change × Reply). z.1) step,
           )
 
-      entry_same : (own more : List Entry) (x : IsShown begin history task own m) (y : IsShown begin history task more n)
+      entry_same : (own more : List Entry) (x : AloneShown begin history task own m) (y : AloneShown begin history task more n)
           → KeepsRules (now begin (history ++ own)) → record_entry task.index x.seen x.change ≡ record_entry task.index y.seen y.change
       entry_same own more x y rules =
           ap (λ (z : Seen). record_entry task.index z x.change) (shown_same own more x y).0
           ∙ ap (λ (z : Change). record_entry task.index y.seen z) (step_same own more x y rules).0
 
-      handled_both : (own more : List Entry) (x : IsHandled begin history task a own m) (y : IsHandled begin history task b more n)
+      handled_both : (own more : List Entry) (x : AloneHandled begin history task a own m) (y : AloneHandled begin history task b more n)
           → KeepsRules (now begin (history ++ x.reserve)) → Same a b own more m n
       handled_both own more x y rules =
           let (seen, reserve, move) = shown_same x.reserve y.reserve x.is y.is in
@@ -284,7 +284,7 @@ module _ (begin : Begin) (tells : IsTrue begin.told)
             move,
           )
 
-      handled_or_unhandled : (own more : List Entry) (x : IsHandled begin history task a own m) (y : IsUnhandled begin history task b more n)
+      handled_or_unhandled : (own more : List Entry) (x : AloneHandled begin history task a own m) (y : AloneUnhandled begin history task b more n)
           → KeepsRules (now begin (history ++ x.reserve)) → ⊥
       handled_or_unhandled own more x y rules =
           slot_or_full_at (record_entry task.index x.is.seen x.is.change) (record_entry task.index y.is.seen y.is.change)
@@ -297,7 +297,7 @@ module _ (begin : Begin) (tells : IsTrue begin.told)
               let s = slot tells (subst (λ (e : Entry). IsTrue (IsStored (now begin (history ++ more)) e)) (sym same) full.stored) in
               let u = full.none_left tells in omega arith
 
-      unhandled_both : (own more : List Entry) (x : IsUnhandled begin history task a own m) (y : IsUnhandled begin history task b more n) → Same a b own more m n
+      unhandled_both : (own more : List Entry) (x : AloneUnhandled begin history task a own m) (y : AloneUnhandled begin history task b more n) → Same a b own more m n
       unhandled_both own more x y =
           let (seen, same, move) = shown_same own more x.is y.is in (
             same_answer a b
@@ -307,12 +307,12 @@ module _ (begin : Begin) (tells : IsTrue begin.told)
             move,
           )
 
-      shown_or_unmet : (own more : List Entry) → IsShown begin history task own m → IsUnmet begin history task b more n → ⊥
+      shown_or_unmet : (own more : List Entry) → AloneShown begin history task own m → AloneUnmet begin history task b more n → ⊥
       shown_or_unmet own more x y =
-          by_seen x.seen (subst (λ (k : Need). Shows begin history k x.seen own m)
+          by_seen x.seen (subst (λ (k : Need). AloneShows begin history k x.seen own m)
           (one_need (now begin history) task.octets x.need (needs.Number y.key) x.needed y.needed) x.shows)
         where
-          by_seen : (seen : Seen) → Shows begin history (needs.Number y.key) seen own m → ⊥
+          by_seen : (seen : Seen) → AloneShows begin history (needs.Number y.key) seen own m → ⊥
           by_seen (seens.Number p) (low, funds, (row, row_is, k)) =
               let same : row ≡ y.row = same_Some row y.row (sym row_is ∙ y.row_is) in
               let number : p ≡ y.number = drew_is rows words m row p k at ∙ ap words same ∙ sym (drew_is rows words n y.row y.number y.move_is at') in
@@ -324,7 +324,7 @@ module _ (begin : Begin) (tells : IsTrue begin.told)
           by_seen seens.Nothing h = absurd h
           by_seen (seens.Word p) h = absurd h
 
-      unmet_both : (own more : List Entry) → IsUnmet begin history task a own m → IsUnmet begin history task b more n → Same a b own more m n
+      unmet_both : (own more : List Entry) → AloneUnmet begin history task a own m → AloneUnmet begin history task b more n → Same a b own more m n
       unmet_both own more x y =
           let needs_same : needs.Number x.key ≡ needs.Number y.key = one_need (now begin history) task.octets (needs.Number x.key) (needs.Number y.key) x.needed y.needed in
           let key : x.key ≡ y.key = cc in
@@ -337,11 +337,11 @@ module _ (begin : Begin) (tells : IsTrue begin.told)
 
     -- the same the other way round
     flipped_unmet : (words : ℕ → ℕ) (task : Record) (a b : Answer) (m n : Move) → IsAt rows words m → IsAt rows words n → (own more : List Entry)
-        → IsShown begin history task own n → IsUnmet begin history task a more m → ⊥
+        → AloneShown begin history task own n → AloneUnmet begin history task a more m → ⊥
     flipped_unmet words task a b m n at at' own more x y = shown_or_unmet words task b a n m at' at own more x y
 
     module _ (words : ℕ → ℕ) (task : Record) (a b : Answer) (m n : Move) (at : IsAt rows words m) (at' : IsAt rows words n) where
-      flipped : (own more : List Entry) → IsShown begin history task own n → IsUnmet begin history task a more m → ⊥
+      flipped : (own more : List Entry) → AloneShown begin history task own n → AloneUnmet begin history task a more m → ⊥
       flipped = flipped_unmet words task a b m n at at'
 
       -- a record of a kind: the states after the entries that it made keep the rules
@@ -374,7 +374,7 @@ module _ (begin : Begin) (tells : IsTrue begin.told)
       kind_once Command own more rules (inl x) (inr (inr y)) = absurd (shown_or_unmet words task a b m n at at' x.reserve more x.is y)
       kind_once Command own more rules (inr (inl x)) (inl y) = absurd (unhandled_or_handled x y)
         where
-          unhandled_or_handled : IsUnhandled begin history task a own m → IsHandled begin history task b more n → ⊥
+          unhandled_or_handled : AloneUnhandled begin history task a own m → AloneHandled begin history task b more n → ⊥
           unhandled_or_handled x y =
               let same = (shown_same words task a b m n at at' own y.reserve x.is y.is).1 in
               let after_own = rules own [] (sym (append-nil own)) in
@@ -395,7 +395,7 @@ module _ (begin : Begin) (tells : IsTrue begin.told)
     -- a record that the site and memory sufficed for
     serves_once : (words : ℕ → ℕ) (task : Record) (a b : Answer) (m n : Move) → IsAt rows words m → IsAt rows words n → (own more : List Entry)
         → ((front rest : List Entry) → own ≡ front ++ rest → KeepsRules (now begin (history ++ front))) → a.code ≤ JOURNAL_FULL → b.code ≤ JOURNAL_FULL
-        → Serves begin history task a own m → Serves begin history task b more n → Same a b own more m n
+        → AloneServes begin history task a own m → AloneServes begin history task b more n → Same a b own more m n
     serves_once words task a b m n at at' own more rules low less (inl late) y = absurd (omega arith)
     serves_once words task a b m n at at' own more rules low less (inr x) (inl late) = absurd (omega arith)
     serves_once words task a b m n at at' own more rules low less (inr x) (inr y) = kind_once words task a b m n at at' task.kind own more rules x y
@@ -415,12 +415,12 @@ module _ (begin : Begin) (tells : IsTrue begin.told)
   all_once history words (d ∷ ds) (e ∷ es) (m ∷ a) (n ∷ b) own more rules same low less (first, rest, is, x, xs) (start, others, are, y, ys) r q =
       let (answer, own_is, move) = serves_once history words d.task d.answer e.answer m n r.0 q.0 first start
       (λ front back split. rules front (back ++ rest) (is ∙ ap (λ (l : List Entry). l ++ rest) split ∙ append_assoc front back rest)) low.0 less.0 x
-      (subst (λ (t : Record). Serves begin history t e.answer start n) (sym same.0) y) in
-      let (answers, owns, moves) = all_once (history ++ first) (moved words m) ds es a b rest others
+      (subst (λ (t : Record). AloneServes begin history t e.answer start n) (sym same.0) y) in
+      let (answers, owns, moves) = all_once (history ++ first) (word_after words m) ds es a b rest others
       (λ front back split. subst (λ (l : List Entry). KeepsRules (now begin l)) (sym (append_assoc history first front))
       (rules (first ++ front) back (is ∙ ap (λ (l : List Entry). first ++ l) split ∙ sym (append_assoc first front back))))
       same.1 low.1 less.1 xs (subst (λ (l : List Entry). ServesAll begin (history ++ l) es b others) (sym own_is) ys) r.1
-      (subst (λ (k : Move). Runs rows (moved words k) b) (sym move) q.1) in (
+      (subst (λ (k : Move). Runs rows (word_after words k) b) (sym move) q.1) in (
         ap (λ (z : Answer). z ∷ map (λ (d : Deed). d.answer) ds) answer ∙ ap (λ (l : List Answer). e.answer ∷ l) answers,
         is ∙ ap (λ (l : List Entry). l ++ rest) own_is ∙ ap (λ (l : List Entry). start ++ l) owns ∙ sym are,
         ap (λ (k : Move). k ∷ a) move ∙ ap (λ (l : List Move). n ∷ l) moves,

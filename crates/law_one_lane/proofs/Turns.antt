@@ -9,20 +9,20 @@ use Rattle.counter_table.specs.Turn.{stands}
 use Rattle.unit_state.specs.History.{after}
 use Rattle.unit_state.proofs.Histories.{after_more}
 use Rattle.law_worker.specs.Begin.{Begin}
-use Rattle.law_worker.specs.Views.{Grows, IsRow, log_of, entries_in}
+use Rattle.law_worker.specs.Views.{KnowsMore, IsRow, log_of, entries_in}
 use Rattle.law_worker.specs.Deeds.{Deed}
 use Rattle.law_worker.proofs.Histories.{row_kept}
 use Rattle.law_worker.proofs.Logs.{stands_both, times_both}
 use Rattle.law_worker.proofs.Working.{grown_entries}
 use Rattle.law_one_lane.specs.Machine.{Move}
 use Rattle.law_one_lane.specs.Serving.{ServesAll}
-use Rattle.law_one_lane.specs.InTurn.{AllMade, IsClean, AreMarked, ServedBetween, ServedInTurn}
+use Rattle.law_one_lane.specs.InTurn.{MadeAllLines, IsClean, AreMarked, ServedBetween, ServedInTurn}
 
 either : (a b : ℕ) → 0 < a + b → (0 < a) ⊎ (0 < b)
 either zero b h = inr (omega arith)
 either (suc a) b h = inl (omega arith)
 
-pub log_low : (v w : View) → Grows v w → length (log_of v) ≤ length (log_of w)
+pub log_low : (v w : View) → KnowsMore v w → length (log_of v) ≤ length (log_of w)
 log_low v w grows =
     let s : length (log_of w) ≡ length (log_of v ++ grows.earlier.log.0) = ap length grows.earlier.log.1 in
     let t = length-append (log_of v) grows.earlier.log.0 in omega arith
@@ -32,26 +32,26 @@ risen_on : (before now later : ℕ) → now ≤ later → HasRisen before now �
 risen_on before now later low (inl h) = inl (omega arith)
 risen_on before now later low (inr h) = inr (omega arith)
 
-pub clean_before : (v w : View) → Grows v w → IsClean w → IsClean v
+pub clean_before : (v w : View) → KnowsMore v w → IsClean w → IsClean v
 clean_before v w grows clean risen =
     clean (subst (λ (o : Opening). HasRisen o.faults w.turn.known.faults) (sym grows.opening)
     (risen_on v.turn.known.opening.faults v.turn.known.faults w.turn.known.faults grows.earlier.faults risen))
 
-pub row_on : (begin : Begin) (v w : View) → Grows v w → (key row : ℕ) → IsRow begin v key row → IsRow begin w key row
+pub row_on : (begin : Begin) (v w : View) → KnowsMore v w → (key row : ℕ) → IsRow begin v key row → IsRow begin w key row
 row_on begin v w grows key row h =
     let (rest, is) = grown_entries v w grows in
     rw (is, after_more begin.start (entries_in v) rest) (row_kept (after begin.start (entries_in v)) rest key row h)
 
 -- of the places behind a log, those before a later one were made by who made those before it
-pub made_first : (u v w : View) (m n : List ℕ) → Grows v w → ((place : ℕ) → 0 < stands place n → length (log_of v) ≤ place) → AllMade u w (m ++ n)
-    → AllMade u v m
+pub made_first : (u v w : View) (m n : List ℕ) → KnowsMore v w → ((place : ℕ) → 0 < stands place n → length (log_of v) ≤ place) → MadeAllLines u w (m ++ n)
+    → MadeAllLines u v m
 made_first u v w m n grows above all place low high =
     let h = all place low (let l = log_low v w grows in omega arith) in
     let s = stands_both place m n in
     elim (either (stands place m) (stands place n) (omega arith)) [ inl here ↦ here | inr there ↦ absurd (let a = above place there in omega arith) ]
 
-pub made_rest : (u v w : View) (m n : List ℕ) → Grows u v → ((place : ℕ) → 0 < stands place m → place < length (log_of v)) → AllMade u w (m ++ n)
-    → AllMade v w n
+pub made_rest : (u v w : View) (m n : List ℕ) → KnowsMore u v → ((place : ℕ) → 0 < stands place m → place < length (log_of v)) → MadeAllLines u w (m ++ n)
+    → MadeAllLines v w n
 made_rest u v w m n grows below all place low high =
     let h = all place (let l = log_low u v grows in omega arith) high in
     let s = stands_both place m n in
@@ -82,10 +82,10 @@ pub marked_back : (begin : Begin) (v : View) (s t : List (ℕ × ℕ)) → AreMa
 marked_back begin v s t h key row number low is in' = h key row number low is (let b = times_both row number s t in omega arith)
 
 -- some behind others
-pub between_then : (begin : Begin) (u v w : View) (m n : List ℕ) (s t : List (ℕ × ℕ)) (ds es : List Deed) (a b last : List Move) → Grows u v → Grows v w
+pub between_then : (begin : Begin) (u v w : View) (m n : List ℕ) (s t : List (ℕ × ℕ)) (ds es : List Deed) (a b last : List Move) → KnowsMore u v → KnowsMore v w
     → ((place : ℕ) → 0 < stands place m → place < length (log_of v)) → ((place : ℕ) → 0 < stands place n → length (log_of v) ≤ place)
     → ServedBetween begin u v m s ds a [] → ServedBetween begin v w n t es b last
-    → (AllMade v w n → IsClean w → AreMarked begin w (s ++ t) → AreMarked begin v s)
+    → (MadeAllLines v w n → IsClean w → AreMarked begin w (s ++ t) → AreMarked begin v s)
     → ServedBetween begin u w (m ++ n) (s ++ t) (ds ++ es) (a ++ b) last
 between_then begin u v w m n s t ds es a b last low high below above x y marked = record {
   spent_is = y.spent_is ∙ (ap (λ (l : List (ℕ × ℕ)). l ++ t) x.spent_is ∙ append_assoc u.numbers.spent s t);
@@ -101,7 +101,7 @@ between_then begin u v w m n s t ds es a b last low high below above x y marked 
       );
 }
 
-pub in_turn_then : (begin : Begin) (u v w : View) (m n : List ℕ) (s t : List (ℕ × ℕ)) (ds es : List Deed) (a b last : List Move) → Grows u v → Grows v w
+pub in_turn_then : (begin : Begin) (u v w : View) (m n : List ℕ) (s t : List (ℕ × ℕ)) (ds es : List Deed) (a b last : List Move) → KnowsMore u v → KnowsMore v w
     → ((place : ℕ) → 0 < stands place m → place < length (log_of v))
     → ServedInTurn begin u v m s ds a [] → ServedInTurn begin v w n t es b last
     → ServedInTurn begin u w (m ++ n) (s ++ t) (ds ++ es) (a ++ b) last

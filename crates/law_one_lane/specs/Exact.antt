@@ -91,8 +91,8 @@ module _ (start : State) (entries : List Entry) where
   TellAll (deed ∷ deeds) (move ∷ moves) = Tells deed move × TellAll deeds moves
 
 -- the line, where it is a reserve, is of a number that one of the moves drew
-abbrev pub IsDrawn : List Move → Option Logged → Type 0
-IsDrawn moves line = (entry : Entry) → line ≡ Some (lines.Entry entry) → entry.index ≡ None
+abbrev pub IsOfMoves : List Move → Option Logged → Type 0
+IsOfMoves moves line = (entry : Entry) → line ≡ Some (lines.Entry entry) → entry.index ≡ None
     → (row : ℕ) × (number : ℕ) × (entry.seen ≡ seens.Number number) × Contains moves (Drew row number)
 
 -- What a worker did to the words, where it did it alone: each answered record made one move, and last may be the move of a
@@ -102,7 +102,7 @@ IsDrawn moves line = (entry : Entry) → line ≡ Some (lines.Entry entry) → e
 pub record Exact (begin : Begin) (old new : View) (made : List ℕ) (deeds : List Deed) (last : List Move) : Type 0 where
   pub moves : List Move
   pub told : TellAll begin.start (entries_in new) deeds moves
-  pub reserves : (place : ℕ) → 0 < stands place made → IsDrawn (moves ++ last) (slice_get (log_of new) place)
+  pub reserves : (place : ℕ) → 0 < stands place made → IsOfMoves (moves ++ last) (slice_get (log_of new) place)
   pub added : (row : ℕ) → amount row new.numbers.added ≡ amount row old.numbers.added + adds_all row (moves ++ last)
   pub grown : (row : ℕ) → words_in old row + adds_all row (moves ++ last) ≤ words_in new row
   pub exact : ((row : ℕ) → row < begin.rows → words_in new row ≡ words_in old row + adds_all row (moves ++ last))

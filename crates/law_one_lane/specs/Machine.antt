@@ -31,10 +31,10 @@ IsAt rows words (Drew row number) = (row < rows) × (number ≡ words row)
 IsAt rows words (Raised row word number) = (row < rows) × (word ≡ words row)
 IsAt rows words (Overdrew row number) = ⊥
 
-abbrev pub moved : (ℕ → ℕ) → Move → ℕ → ℕ
-moved words move row = words row + adds row move
+abbrev pub word_after : (ℕ → ℕ) → Move → ℕ → ℕ
+word_after words move row = words row + adds row move
 
 -- The machine's run: each move finds what those before it left.
 abbrev pub Runs : ℕ → (ℕ → ℕ) → List Move → Type 0
 Runs rows words [] = ⊤
-Runs rows words (move ∷ moves) = IsAt rows words move × Runs rows (moved words move) moves
+Runs rows words (move ∷ moves) = IsAt rows words move × Runs rows (word_after words move) moves

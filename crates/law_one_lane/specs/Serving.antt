@@ -8,11 +8,11 @@ use Rattle.sdls_base.specs.declared.entry.Seen.{Seen}
 use Rattle.sdls_base.specs.declared.entry.Seen.TheVariants as seens
 use Rattle.key_book.specs.KeyBook.{place_of}
 use Rattle.frame_shield.specs.declared.binding.Binding.{Binding}
-use Rattle.frame_shield.specs.declared.protecting.ShieldFault.{ShieldFault}
+use Rattle.frame_shield.specs.declared.protecting_frames.ShieldFault.{ShieldFault}
 use Rattle.frame_shield.specs.Protects.{Protects}
 use Rattle.frame_checks.specs.declared.open_reply.OpenReply.{OpenReply}
-use Rattle.frame_checks.specs.Opening.{IsOpenReply}
-use Rattle.frame_checks.specs.Protecting.{channel_check}
+use Rattle.frame_checks.specs.OpeningFrames.{IsOpenReply}
+use Rattle.frame_checks.specs.ProtectingFrames.{channel_check}
 use Rattle.ep_core.specs.declared.need.Need.{Need}
 use Rattle.ep_core.specs.declared.need.Need.TheVariants as needs
 use Rattle.ep_core.specs.declared.reply.Reply.{Reply}
@@ -26,7 +26,7 @@ use Rattle.unit_state.specs.History.{after, at_epoch, epoch_after}
 use Rattle.law_history.specs.Answers.{told_by, counting, numbered, opened_told, replied_told, unbound_told}
 use Rattle.law_history.specs.Entries.{frame_entry, record_entry, IsNeedOf, IsStepOf}
 use Rattle.law_history.specs.Numbers.{mark_of, reserve_of}
-use Rattle.law_history.specs.Protecting.{protect_reply}
+use Rattle.law_history.specs.ProtectingFrames.{protect_reply}
 use Rattle.law_history.specs.Stored.{IsStored, stored_count}
 use Rattle.law_worker.specs.Begin.{Begin}
 use Rattle.law_worker.specs.Deeds.{Deed}
@@ -70,22 +70,22 @@ module _ (begin : Begin) (history : List Entry) where
   -- ---- a frame that is to be protected
 
   -- the checks tell the answer in the state of the epoch
-  pub record IsUnbound (task : Record) (answer : Answer) (own : List Entry) (move : Move) : Type 0 where
+  pub record AloneUnbound (task : Record) (answer : Answer) (own : List Entry) (move : Move) : Type 0 where
     pub told : unbound_told (protect_reply begin.plan at_last_epoch task.link task.octets) ≡ Some (told_by answer)
     pub position_is : answer.position ≡ epoch_beside (channel_check begin.plan task.link task.octets) (epoch_after history)
     pub own_is : own ≡ []
     pub move_is : move ≡ Kept
 
   -- they bind it, to a key that has this row
-  pub record IsBound (task : Record) : Type 0 where
+  pub record AloneBound (task : Record) : Type 0 where
     pub binding : Binding
     pub bound : protect_reply begin.plan at_last_epoch task.link task.octets ≡ Ok (Some binding)
     pub row : ℕ
     pub row_is : place_of now.keys binding.key ≡ Some row
 
   -- it is protected with the number that was drawn
-  pub record IsProtected (task : Record) (answer : Answer) (own : List Entry) (move : Move) : Type 0 where
-    pub is : IsBound task
+  pub record AloneProtected (task : Record) (answer : Answer) (own : List Entry) (move : Move) : Type 0 where
+    pub is : AloneBound task
     pub told : told_by answer ≡ numbered PROTECTED is.binding.key answer.number answer.body
     pub position_is : answer.position ≡ epoch_after history
     pub below : answer.number < end_of is.binding.key
@@ -94,8 +94,8 @@ module _ (begin : Begin) (history : List Entry) where
     pub move_is : move ≡ Drew is.row answer.number
 
   -- its key has come to the end of its numbers
-  pub record IsExhausted (task : Record) (answer : Answer) (own : List Entry) (move : Move) : Type 0 where
-    pub is : IsBound task
+  pub record AloneExhausted (task : Record) (answer : Answer) (own : List Entry) (move : Move) : Type 0 where
+    pub is : AloneBound task
     pub told : told_by answer ≡ numbered EXHAUSTED is.binding.key answer.number []
     pub position_is : answer.position ≡ epoch_after history
     pub at_end : end_of is.binding.key ≤ answer.number
@@ -103,8 +103,8 @@ module _ (begin : Begin) (history : List Entry) where
     pub move_is : (move ≡ Found is.row answer.number) ⊎ (move ≡ Overdrew is.row answer.number)
 
   -- the number that was drawn cannot be reserved
-  pub record IsUnfunded (task : Record) (answer : Answer) (own : List Entry) (move : Move) : Type 0 where
-    pub is : IsBound task
+  pub record AloneUnfunded (task : Record) (answer : Answer) (own : List Entry) (move : Move) : Type 0 where
+    pub is : AloneBound task
     pub number : ℕ
     pub below : number < end_of is.binding.key
     pub unmarked : mark_of now is.binding.key ≤ number
@@ -115,7 +115,7 @@ module _ (begin : Begin) (history : List Entry) where
   -- ---- a frame that is to be opened
 
   -- the checks tell the answer, and an entry says so
-  pub record IsOpened (task : Record) (answer : Answer) (own : List Entry) (move : Move) : Type 0 where
+  pub record AloneOpened (task : Record) (answer : Answer) (own : List Entry) (move : Move) : Type 0 where
     pub reply : OpenReply
     pub field : List ℕ
     pub replies : IsOpenReply begin.plan now task.link task.octets reply field
@@ -126,7 +126,7 @@ module _ (begin : Begin) (history : List Entry) where
     pub move_is : move ≡ Kept
 
   -- that entry cannot be stored
-  pub record IsUnopened (task : Record) (answer : Answer) (own : List Entry) (move : Move) : Type 0 where
+  pub record AloneUnopened (task : Record) (answer : Answer) (own : List Entry) (move : Move) : Type 0 where
     pub reply : OpenReply
     pub field : List ℕ
     pub replies : IsOpenReply begin.plan now task.link task.octets reply field
@@ -137,44 +137,44 @@ module _ (begin : Begin) (history : List Entry) where
   -- ---- a command
 
   -- what the words showed for a need, with the reserve of a number that was drawn
-  abbrev pub Shows : Need → Seen → List Entry → Move → Type 0
-  Shows needs.Nothing seens.Nothing own move = (own ≡ []) × (move ≡ Kept)
-  Shows (needs.Look key) (seens.Word n) own move = (own ≡ []) × ((row : ℕ) × (place_of now.keys key ≡ Some row) × (move ≡ Raised row n 1))
-  Shows (needs.Raise key number) (seens.Word n) own move =
+  abbrev pub AloneShows : Need → Seen → List Entry → Move → Type 0
+  AloneShows needs.Nothing seens.Nothing own move = (own ≡ []) × (move ≡ Kept)
+  AloneShows (needs.Look key) (seens.Word n) own move = (own ≡ []) × ((row : ℕ) × (place_of now.keys key ≡ Some row) × (move ≡ Raised row n 1))
+  AloneShows (needs.Raise key number) (seens.Word n) own move =
       (own ≡ []) × ((row : ℕ) × (place_of now.keys key ≡ Some row) × (move ≡ Raised row n number))
-  Shows (needs.Number key) (seens.Number n) own move =
+  AloneShows (needs.Number key) (seens.Number n) own move =
       (n < end_of key) × Funds key n own × ((row : ℕ) × (place_of now.keys key ≡ Some row) × (move ≡ Drew row n))
-  Shows (needs.Number key) (seens.Exhausted n) own move = (end_of key ≤ n) × (own ≡ [])
+  AloneShows (needs.Number key) (seens.Exhausted n) own move = (end_of key ≤ n) × (own ≡ [])
       × ((row : ℕ) × (place_of now.keys key ≡ Some row) × ((move ≡ Found row n) ⊎ (move ≡ Overdrew row n)))
-  Shows need seen own move = ⊥
+  AloneShows need seen own move = ⊥
 
 -- it was shown what it needs
-pub record IsShown (begin : Begin) (history : List Entry) (task : Record) (reserve : List Entry) (move : Move) : Type 0 where
+pub record AloneShown (begin : Begin) (history : List Entry) (task : Record) (reserve : List Entry) (move : Move) : Type 0 where
   pub need : Need
   pub needed : IsNeedOf (now begin history) task.octets need
   pub seen : Seen
-  pub shows : Shows begin history need seen reserve move
+  pub shows : AloneShows begin history need seen reserve move
   pub change : Change
   pub reply : Reply
   pub step : IsStepOf (now begin (history ++ reserve)) task.octets seen (change, reply)
 
 module _ (begin : Begin) (history : List Entry) where
   -- the step tells the answer, and an entry says so
-  pub record IsHandled (task : Record) (answer : Answer) (own : List Entry) (move : Move) : Type 0 where
+  pub record AloneHandled (task : Record) (answer : Answer) (own : List Entry) (move : Move) : Type 0 where
     pub reserve : List Entry
-    pub is : IsShown begin history task reserve move
+    pub is : AloneShown begin history task reserve move
     pub told : told_by answer ≡ replied_told is.reply
     pub position_is : answer.position ≡ length history + length own
     pub slot : HasSlot begin (history ++ reserve) (record_entry task.index is.seen is.change)
     pub own_is : own ≡ reserve ++ record_entry task.index is.seen is.change ∷ []
 
   -- that entry cannot be stored
-  pub record IsUnhandled (task : Record) (answer : Answer) (own : List Entry) (move : Move) : Type 0 where
-    pub is : IsShown begin history task own move
+  pub record AloneUnhandled (task : Record) (answer : Answer) (own : List Entry) (move : Move) : Type 0 where
+    pub is : AloneShown begin history task own move
     pub full : SaysFull begin (history ++ own) (record_entry task.index is.seen is.change) answer
 
   -- the number that was drawn for it cannot be reserved
-  pub record IsUnmet (task : Record) (answer : Answer) (own : List Entry) (move : Move) : Type 0 where
+  pub record AloneUnmet (task : Record) (answer : Answer) (own : List Entry) (move : Move) : Type 0 where
     pub key : ℕ
     pub needed : IsNeedOf (now begin history) task.octets (needs.Number key)
     pub row : ℕ
@@ -189,15 +189,15 @@ module _ (begin : Begin) (history : List Entry) where
   -- ---- a record of any kind
 
   abbrev pub ServesKind : RecordKind → Record → Answer → List Entry → Move → Type 0
-  ServesKind Protect task answer own move = IsUnbound begin history task answer own move ⊎ (IsProtected begin history task answer own move
-      ⊎ (IsExhausted begin history task answer own move ⊎ IsUnfunded begin history task answer own move))
-  ServesKind Open task answer own move = IsOpened begin history task answer own move ⊎ IsUnopened begin history task answer own move
-  ServesKind Command task answer own move = IsHandled task answer own move ⊎ (IsUnhandled task answer own move ⊎ IsUnmet task answer own move)
+  ServesKind Protect task answer own move = AloneUnbound begin history task answer own move ⊎ (AloneProtected begin history task answer own move
+      ⊎ (AloneExhausted begin history task answer own move ⊎ AloneUnfunded begin history task answer own move))
+  ServesKind Open task answer own move = AloneOpened begin history task answer own move ⊎ AloneUnopened begin history task answer own move
+  ServesKind Command task answer own move = AloneHandled task answer own move ⊎ (AloneUnhandled task answer own move ⊎ AloneUnmet task answer own move)
 
   -- The record has this answer, made these entries and moved a word so. Nothing is said of one for which the site failed or
   -- memory was wanting: codes from 31 on.
-  abbrev pub Serves : Record → Answer → List Entry → Move → Type 0
-  Serves task answer own move = (JOURNAL_FULL < answer.code) ⊎ ServesKind task.kind task answer own move
+  abbrev pub AloneServes : Record → Answer → List Entry → Move → Type 0
+  AloneServes task answer own move = (JOURNAL_FULL < answer.code) ⊎ ServesKind task.kind task answer own move
 
 -- records served one after the other: each finds the history that those before it left
 abbrev pub ServesAll : Begin → List Entry → List Deed → List Move → List Entry → Type 0
@@ -205,7 +205,7 @@ ServesAll begin history [] [] own = own ≡ []
 ServesAll begin history [] (move ∷ moves) own = ⊥
 ServesAll begin history (deed ∷ deeds) [] own = ⊥
 ServesAll begin history (deed ∷ deeds) (move ∷ moves) own = (first : List Entry) × (rest : List Entry) × (own ≡ first ++ rest)
-    × Serves begin history deed.task deed.answer first move × ServesAll begin (history ++ first) deeds moves rest
+    × AloneServes begin history deed.task deed.answer first move × ServesAll begin (history ++ first) deeds moves rest
 
 -- the same records, one by one
 abbrev pub SameTasks : List Deed → List Deed → Type 0

@@ -5,14 +5,14 @@ ghost use Rattle.counter_table.specs.Numbers.{amount};
 ghost use Rattle.counter_table.specs.Turn.{stands};
 ghost use Rattle.counter_table.specs.Whole.{IsWhole};
 ghost use Rattle.law_worker.specs.Begin.{Begin};
-ghost use Rattle.law_worker.specs.Views.{Grows, entries_in, log_of, meeting, starting};
+ghost use Rattle.law_worker.specs.Views.{KnowsMore, entries_in, log_of, meeting, starting};
 ghost use Rattle.law_worker.specs.Deeds.{Deed};
 ghost use Rattle.sdls_base.specs.declared.entry.Entry.{Entry};
 ghost use Rattle.unit_state.specs.State.{KeepsRules};
 ghost use Rattle.unit_state.specs.History.{after};
 ghost use Rattle.law_one_lane.specs.Machine.{adds, IsAt, Move, Runs};
 ghost use Rattle.law_one_lane.specs.Serving.{AreServed, SameTasks, ServesAll};
-ghost use Rattle.law_one_lane.specs.Exact.{Exact, IsDrawn, Tells, words_in};
+ghost use Rattle.law_one_lane.specs.Exact.{Exact, IsOfMoves, Tells, words_in};
 
 use frame_shield::protected_once;
 use law_history::{messages_have_one_step, messages_need_one, openings_tell_one};
@@ -26,7 +26,7 @@ pub fn exact_nothing()
 pub fn exact_move()
     ensures { (begin : Begin) (old new : View) (made : List ℕ) (deed : Deed) (move : Move)
         → Tells begin.start (entries_in new) deed move
-        → ((place : ℕ) → 0 < stands place made → IsDrawn (move ∷ []) (slice_get (log_of new) place))
+        → ((place : ℕ) → 0 < stands place made → IsOfMoves (move ∷ []) (slice_get (log_of new) place))
         → ((row : ℕ) → amount row new.numbers.added ≡ amount row old.numbers.added + adds row move)
         → ((row : ℕ) → words_in old row + adds row move ≤ words_in new row)
         → (((row : ℕ) → row < begin.rows → words_in new row ≡ words_in old row + adds row move)
@@ -39,7 +39,7 @@ pub fn exact_move()
 pub fn exact_then()
     ensures { (begin : Begin) (old mid new : View) (made later : List ℕ) (deeds more : List Deed) (last : List Move)
         → Exact begin old mid made deeds [] → ((place : ℕ) → 0 < stands place made → place < length (log_of mid))
-        → Grows mid new → Exact begin mid new later more last → Exact begin old new (made ++ later) (deeds ++ more) last }
+        → KnowsMore mid new → Exact begin mid new later more last → Exact begin old new (made ++ later) (deeds ++ more) last }
 {}
 
 /// Law: at the end of a run that one worker did alone the words grew by its moves, so that they are the machine's, from the words

@@ -37,7 +37,7 @@ use Rattle.law_one_lane.specs.Alone.{OneLane}
 use Rattle.law_run_ends.specs.declared.end.RunEnd.{RunEnd}
 use Rattle.law_run_ends.specs.declared.end.RunEnd.TheVariants.{Ended, SiteFault}
 use Rattle.law_run_ends.specs.Call.{CallSeen, ShowsAtEntry, image_at_entry}
-use Rattle.law_run_ends.specs.Account.{Account, TellsFault, begin_of, course_of, deeds_from, deeds_in, end_answer, end_octets}
+use Rattle.law_run_ends.specs.Account.{Account, SaysSiteFailed, begin_of, course_of, deeds_from, deeds_in, end_answer, end_octets}
 use Rattle.law_run_ends.specs.Causes.{TellsEnd}
 use Rattle.law_run_ends.specs.Ends.{IsJournalFull, IsReleased, IsSoundCall, RunEnds, due_releases}
 use Rattle.law_run_ends.specs.Alone.{IsExact, NoneWants, RunsAlike}
@@ -81,7 +81,7 @@ same_tasks (place ∷ places) (answer ∷ answers) (other ∷ others) one two = 
 -- where the site did not fail and memory was not wanting, no answer has a code from 31 on
 are_served : (near : ℕ → ℕ → Type 0) (course : Course) (places : List Place) (answers : List Answer)
     → All (λ (deed : Deed). Fits near course deed.task deed.answer) (deeds_from places answers)
-    → All (λ (answer : Answer). TellsFault answer → ⊥) answers → NoneWants answers → AreServed (deeds_from places answers)
+    → All (λ (answer : Answer). SaysSiteFailed answer → ⊥) answers → NoneWants answers → AreServed (deeds_from places answers)
 are_served near course [] answers fit none wants = tt
 are_served near course (place ∷ places) [] fit none wants = tt
 are_served near course (place ∷ places) (answer ∷ answers) fit none wants =

@@ -21,10 +21,10 @@ use Rattle.unit_book.specs.declared.limits.TheConstants.{MOST_ENTRIES}
 use Rattle.law_run_ends.specs.declared.end.RunEnd.{RunEnd}
 use Rattle.law_run_ends.specs.declared.end.RunEnd.TheVariants.{Ended, Malformed, SourceFault, SiteFault, NoMemory, NoState, SessionFull, PutFailed}
 use Rattle.law_run_ends.specs.Call.{CallSeen, ShowsAtEntry, image_at_entry}
-use Rattle.law_run_ends.specs.Account.{Account, end_status, AreAnswered, TellsFault, due_octets, of_first}
+use Rattle.law_run_ends.specs.Account.{Account, end_status, AreAnswered, SaysSiteFailed, due_octets, of_first}
 use Rattle.law_run_ends.specs.Causes.{CameBy, TellsEnd}
 use Rattle.law_run_ends.specs.Ends.{RunEnds, IsRefused, due_releases}
-use Rattle.law_run_ends.specs.Says.{DidAll, GoesToItsEnd, IsFullHistory, IsLeftRefused, IsUnhindered}
+use Rattle.law_run_ends.specs.Says.{DidAll, GoesToItsEnd, EndsWithFullHistory, IsLeftRefused, IsUnhindered}
 
 -- ---- which end has which status
 
@@ -103,7 +103,7 @@ module _ (call : CallSeen) (run : RunEnds call) where
     | inr broken ↦ let lt = broken.one_failed in absurd (omega arith)
   ]
 
-  pub fault_told : (k : ℕ) (d : Answer) → k < length run.account.answers → TellsFault (slice_index_or run.account.answers k d) → call.status ≡ 5
+  pub fault_told : (k : ℕ) (d : Answer) → k < length run.account.answers → SaysSiteFailed (slice_index_or run.account.answers k d) → call.status ≡ 5
   fault_told k d low tells = elim run.put [
     | inr broken ↦ broken.status_is
     | inl put ↦ elim run.tells [
@@ -183,7 +183,7 @@ module _ (call : CallSeen) (run : RunEnds call) where
     ]
   ]
 
-  pub full_told : call.status ≡ 8 → IsFullHistory call run
+  pub full_told : call.status ≡ 8 → EndsWithFullHistory call run
   full_told eight = elim run.put [
     | inr broken ↦ absurd (let f = broken.status_is in omega arith)
     | inl put ↦ elim run.tells [

@@ -66,8 +66,8 @@ abbrev pub due_octets : CallSeen → Account → List ℕ
 due_octets call account = answers_octets account.answers ++ end_octets call account.told
 
 -- the answer says that the site has failed
-abbrev pub TellsFault : Answer → Type 0
-TellsFault answer = (answer.code ≡ SITE_FAULT) ⊎ (answer.code ≡ STOPPED)
+abbrev pub SaysSiteFailed : Answer → Type 0
+SaysSiteFailed answer = (answer.code ≡ SITE_FAULT) ⊎ (answer.code ≡ STOPPED)
 
 -- ---- records and answers
 

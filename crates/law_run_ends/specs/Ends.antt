@@ -10,7 +10,7 @@ use Rattle.disk_journal.specs.Image.{records, slot_count}
 use Rattle.disk_journal.specs.Forms.{Settles}
 use Rattle.record_io.specs.declared.status.TheConstants as status
 use Rattle.record_io.specs.Places.{records_of}
-use Rattle.record_io.specs.Reading.{Takes}
+use Rattle.record_io.specs.Reading.{HasTaken}
 use Rattle.unit_plan.specs.PlanLines.{PlanLines}
 use Rattle.unit_state.specs.declared.state.State.{State}
 use Rattle.unit_state.specs.History.{after_first}
@@ -23,7 +23,7 @@ use Rattle.law_one_lane.specs.Alone.{OneLane}
 use Rattle.law_run_ends.specs.declared.end.RunEnd.{RunEnd}
 use Rattle.law_run_ends.specs.declared.end.RunEnd.TheVariants.{Ended, SiteFault, NoMemory, NoState, SessionFull}
 use Rattle.law_run_ends.specs.Call.{CallSeen, ShowsAtEntry, image_at_entry, sunk_since}
-use Rattle.law_run_ends.specs.Account.{Account, AreAnswered, TellsFault, begin_of, course_of, deeds_in, end_octets}
+use Rattle.law_run_ends.specs.Account.{Account, AreAnswered, SaysSiteFailed, begin_of, course_of, deeds_in, end_octets}
 use Rattle.law_run_ends.specs.Alone.{IsExact}
 use Rattle.law_run_ends.specs.Causes.{CameBy, TellsEnd, PutsDue, PutsFront}
 
@@ -69,8 +69,8 @@ pub record IsReleased (call : CallSeen) (account : Account) (state : State) (end
       → length (records (image_at_entry call)) + stored_count state call.entries ≤ slot_count (image_at_entry call)
 
 -- why the book over a refused image was not opened: that the image shows no state, a fault of the site, or want of memory
-abbrev pub IsRefusal : ℕ → RunEnd → Type 0
-IsRefusal offset came = (came ≡ NoState offset) ⊎ (((count : ℕ) × (came ≡ SiteFault count)) ⊎ (came ≡ NoMemory))
+abbrev pub IsOpenRefusal : ℕ → RunEnd → Type 0
+IsOpenRefusal offset came = (came ≡ NoState offset) ⊎ (((count : ℕ) × (came ≡ SiteFault count)) ⊎ (came ≡ NoMemory))
 
 -- A moment of a call whose book was not opened: the image is one that a crash at the entry may leave, or that at the entry but
 -- for its closed gates; nothing but End was sunk.
@@ -81,7 +81,7 @@ pub record IsUnopened (call : CallSeen) (told : RunEnd) (image sunk : List ℕ) 
 -- A refused image: no book was opened, so nothing was taken of the source, and nothing is put but End. Where that is the end that
 -- came, the image is as it was, and each moment is early.
 pub record IsRefused (call : CallSeen) (account : Account) (offset : ℕ) : Type 0 where
-  pub came_is : IsRefusal offset account.came
+  pub came_is : IsOpenRefusal offset account.came
   pub source_is : call.source_after ≡ call.source
   pub no_entries : call.entries ≡ []
   pub moments : EachMoment call.site.trace call.site_after.trace (IsUnopened call account.told)
@@ -91,12 +91,12 @@ pub record IsRefused (call : CallSeen) (account : Account) (offset : ℕ) : Type
 -- How a run ends, over its account.
 pub record RunEnds (call : CallSeen) : Type 0 where
   pub account : Account
-  pub takes : Takes call.source call.source_after account.items account.read account.part
+  pub takes : HasTaken call.source call.source_after account.items account.read account.part
   pub answered : AreAnswered account account.came
   pub cause : CameBy call account account.came
   pub tells : TellsEnd call account
   pub put : PutsDue call account ⊎ PutsFront call account
-  pub faults_told : All (λ answer. TellsFault answer → Rose call.site.faults account.last) account.answers
+  pub faults_told : All (λ answer. SaysSiteFailed answer → Rose call.site.faults account.last) account.answers
   -- the counts of faults in their order; status 0 comes only where the site's stood
   pub last_later : call.site.faults ≤ account.last
   pub after_later : account.last ≤ call.site_after.faults

@@ -35,7 +35,7 @@ pub record IsLeftRefused (call : CallSeen) : Type 0 where
   pub image_is : call.status ≡ status.NO_STATE → call.site_after.trace.now.image ≡ image_at_entry call
 
 -- the history is full: a record without an answer needs an entry, or all have one, and a release is due
-pub record IsFullHistory (call : CallSeen) (ends : RunEnds call) : Type 0 where
+pub record EndsWithFullHistory (call : CallSeen) (ends : RunEnds call) : Type 0 where
   pub full : length call.entries ≡ MOST_ENTRIES
   pub by : (ends.account.came ≡ SessionFull) ⊎ ((ends.account.came ≡ Ended) × (ends.account.told ≡ SessionFull))
 

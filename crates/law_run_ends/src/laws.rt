@@ -14,10 +14,10 @@ ghost use Rattle.law_lives.specs.Sound.{IsSound};
 ghost use Rattle.law_run_ends.specs.Alone.{NoneWants, RunsAlike};
 ghost use Rattle.law_run_ends.specs.declared.end.RunEnd.TheVariants as ends;
 ghost use Rattle.law_run_ends.specs.Call.{CallSeen, image_at_entry, ShowsAtEntry};
-ghost use Rattle.law_run_ends.specs.Account.{Account, TellsFault, begin_of, course_of, due_octets, end_status};
+ghost use Rattle.law_run_ends.specs.Account.{Account, SaysSiteFailed, begin_of, course_of, due_octets, end_status};
 ghost use Rattle.law_run_ends.specs.Ends.{IsSoundCall, RunEnds};
 ghost use Rattle.law_run_ends.specs.Lives.{KeepsLives, KeepsLivesReading, no_account, ReadsSoundly};
-ghost use Rattle.law_run_ends.specs.Says.{DidAll, GoesToItsEnd, IsFullHistory, IsLeftRefused, IsUnhindered};
+ghost use Rattle.law_run_ends.specs.Says.{DidAll, GoesToItsEnd, EndsWithFullHistory, IsLeftRefused, IsUnhindered};
 
 use law_history::{releases_are_stored, rules_stay_along, stored_counts_add};
 use law_lives::used_once_in_a_life;
@@ -40,7 +40,7 @@ pub fn due_is_put()
 /// Law: an answer that tells a fault of the site makes the status that of a fault of the site.
 pub fn faults_are_told()
     ensures { (call : CallSeen) (run : RunEnds call) (k : ℕ) (default : Answer) → k < length run.account.answers
-        → TellsFault (slice_index_or run.account.answers k default) → call.status ≡ SITE_FAULT }
+        → SaysSiteFailed (slice_index_or run.account.answers k default) → call.status ≡ SITE_FAULT }
 {}
 
 /// Law: after a fault of the disk the run goes on: with the status of a fault of the site and at least one entry, where no put
@@ -58,7 +58,7 @@ pub fn status_tells_what_came()
 
 /// Law: the status of a full history says that it is full.
 pub fn full_is_told()
-    ensures { (call : CallSeen) (run : RunEnds call) → call.status ≡ SESSION_FULL → IsFullHistory call run }
+    ensures { (call : CallSeen) (run : RunEnds call) → call.status ≡ SESSION_FULL → EndsWithFullHistory call run }
 {}
 
 /// Law: the status of a fault of the site comes only where the site's count rose in the call.

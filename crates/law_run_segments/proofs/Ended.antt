@@ -24,11 +24,11 @@ use Rattle.law_worker.proofs.Histories.{entries_both}
 use Rattle.law_run_ends.specs.declared.end.RunEnd.{RunEnd}
 use Rattle.law_run_ends.specs.declared.end.RunEnd.TheVariants as ends
 use Rattle.law_run_ends.specs.Call.{CallSeen, ShowsAtEntry, SiteSeen}
-use Rattle.law_run_ends.specs.Account.{Account, TellsFault, begin_of, course_of, deeds_from, due_octets, end_answer, end_octets, end_status}
+use Rattle.law_run_ends.specs.Account.{Account, SaysSiteFailed, begin_of, course_of, deeds_from, due_octets, end_answer, end_octets, end_status}
 use Rattle.law_run_ends.specs.Causes.{CameBy, PutsDue, PutsFront, TellsEnd}
 use Rattle.law_run_segments.specs.Doing.{IsFounded, octets_put}
-use Rattle.law_run_segments.specs.Coming.{HasBroken, HasPut, IsFullHistory, PutsBy, ReadsTo}
-use Rattle.law_run_segments.specs.Finishing.{Finishes, IsEndPut}
+use Rattle.law_run_segments.specs.Coming.{HasBroken, HasPut, StopsAtFullHistory, PutsBy, EndsReading}
+use Rattle.law_run_segments.specs.Ending.{Finishes, IsEndPut}
 use Rattle.law_run_segments.specs.Ran.{CountsSlots, Ran, begin_by}
 use Rattle.law_run_segments.proofs.Faults.{told_rose}
 use Rattle.law_run_segments.proofs.Doing.{ends_run}
@@ -378,7 +378,7 @@ module _ {O : Type 0} (told : Bool) (trace : O → Trace) (faults puts : O → �
       go (Ok done) is = after_faults ∙ is.1 ∙ stood (zero_is end.end (sym is.0 ∙ zero_status))
       go (Err fault) is = absurd (let a = is.0 in omega arith)
 
-  faults_told : All (λ (answer : Answer). TellsFault answer → Rose (faults site) (faults book.site)) ran.come.answers
+  faults_told : All (λ (answer : Answer). SaysSiteFailed answer → Rose (faults site) (faults book.site)) ran.come.answers
   faults_told k d low fault =
       let B : Begin = begin_by told (trace site).now.image book.plan book.start in
       let r = told_rose (IsBetween (begin_by told (trace site).now.image book.plan book.start) first now) (course_in (begin_by told (trace site).now.image book.plan book.start) now)
@@ -699,7 +699,7 @@ module _ {O : Type 0} (told : Bool) (trace : O → Trace) (faults puts : O → �
 
     -- ---- why it ended
 
-    cause_of : (c : RunEnd) → came ≡ c → ReadsTo source source_after ran.come.items ran.come.read ran.come.part c → CameBy call account c
+    cause_of : (c : RunEnd) → came ≡ c → EndsReading source source_after ran.come.items ran.come.read ran.come.part c → CameBy call account c
     cause_of ends.Ended is reads = reads
     cause_of (ends.Malformed offset) is reads = reads
     cause_of (ends.SourceFault count) is reads = reads
@@ -720,7 +720,7 @@ module _ {O : Type 0} (told : Bool) (trace : O → Trace) (faults puts : O → �
           due = λ is_told plan state shows. due_at f same is_told plan state shows f.due;
         }
       where
-        due_at : (f : IsFullHistory (begin_by told (trace site).now.image book.plan book.start) first now (places_of ran.come.of) ran.come.answers) → entries ≡ entries_in now
+        due_at : (f : StopsAtFullHistory (begin_by told (trace site).now.image book.plan book.start) first now (places_of ran.come.of) ran.come.answers) → entries ≡ entries_in now
             → IsTrue told → (plan : PlanLines) (state : State) → ShowsAtEntry call plan state
             → (f.place.task.kind ≢ Protect) ⊎ MayAppend (IsBetween (begin_by told (trace site).now.image book.plan book.start) first now) (course_in (begin_by told (trace site).now.image book.plan book.start) now) MOST_ENTRIES f.place.task
             → (f.place.task.kind ≢ Protect) ⊎ MayAppend (NearWord state entries (records_of (places_of ran.come.of))) (course_of call account plan state) MOST_ENTRIES f.place.task

@@ -26,26 +26,26 @@ use Rattle.record_io.specs.Places.{Place, records_of}
 use Rattle.unit_book.specs.Marks.{mark_at}
 use Rattle.law_history.specs.Counts.{count_at, is_none_index, is_of_none}
 use Rattle.law_worker.specs.Begin.{Begin}
-use Rattle.law_worker.specs.Views.{entries_in, Grows, log_of}
+use Rattle.law_worker.specs.Views.{entries_in, KnowsMore, log_of}
 use Rattle.law_worker.specs.Deeds.{Deed, Does, deeds_of}
 use Rattle.law_worker.proofs.Histories.{get_front, place_of_entry}
 use Rattle.law_worker.proofs.Joining.{grows_further}
 use Rattle.law_worker.proofs.Logs.{count_one, stands_both, times_both}
 use Rattle.law_one_lane.specs.Machine.{Move, Runs}
 use Rattle.law_one_lane.specs.Serving.{ServesAll}
-use Rattle.law_one_lane.specs.InTurn.{AllMade, IsClean, IsLevel, AreMarked}
-use Rattle.law_one_lane.specs.Exact.{words_in, Exact, IsDrawn, TellAll}
+use Rattle.law_one_lane.specs.InTurn.{MadeAllLines, IsClean, IsLevel, AreMarked}
+use Rattle.law_one_lane.specs.Exact.{words_in, Exact, IsOfMoves, TellAll}
 use Rattle.law_one_lane.specs.Alone.{MovedExactly, OneLane, ServedAlone}
 use Rattle.law_one_lane.proofs.Alone.{below_log, exact_seen, seen_moves}
 use Rattle.law_one_lane.proofs.Machines.{alone, exact_nothing, exact_then, nothing_moves, runs_same, tell_more, then_moves}
 use Rattle.law_one_lane.proofs.Turns.{clean_before, log_low, made_first, made_rest, serves_both}
-use Rattle.law_lives.specs.Opened.{IsOpened}
+use Rattle.law_lives.specs.Opened.{IsJustOpened}
 use Rattle.law_lives.specs.Settled.{SettlesAt}
 use Rattle.law_run_ends.specs.Call.{CallSeen}
 use Rattle.law_run_ends.specs.Account.{Account, begin_of, deeds_from, deeds_in}
 use Rattle.law_run_ends.specs.Alone.{IsExact}
 use Rattle.law_run_ends.proofs.Placed.{deeds_both, deeds_of_segment, records_length}
-use Rattle.law_run_segments.specs.Doing.{MovedAlone, Puts, RunAlone}
+use Rattle.law_run_segments.specs.Doing.{MovedAlone, PutsPieces, RunAlone}
 
 -- ---- records of one lane
 
@@ -73,8 +73,8 @@ either zero b h = inr (omega arith)
 either (suc a) b h = inl (omega arith)
 
 -- no line that was put is a reserve
-none_reserved : (begin : Begin) (mid w : View) (puts : Puts begin mid w) (moves : List Move) (place : ℕ) → 0 < stands place puts.does.gains.made
-    → IsDrawn moves (slice_get (log_of w) place)
+none_reserved : (begin : Begin) (mid w : View) (puts : PutsPieces begin mid w) (moves : List Move) (place : ℕ) → 0 < stands place puts.does.gains.made
+    → IsOfMoves moves (slice_get (log_of w) place)
 none_reserved begin mid w puts moves place made entry is none =
     let test = ap is_of_none is ∙ ap is_none_index none in
     let a = count_one is_of_none (log_of w) place puts.does.gains.made made test in
@@ -83,7 +83,7 @@ none_reserved begin mid w puts moves place made entry is none =
 
 -- answers that were put moved no word
 moved_put : (begin : Begin) (v mid w : View) (tasks : List Record) (n : ℕ) (deeds : List Deed) → Does begin v mid tasks deeds → MovedExactly begin v mid n deeds
-    → Puts begin mid w → w.numbers ≡ mid.numbers → MovedExactly begin v w n deeds
+    → PutsPieces begin mid w → w.numbers ≡ mid.numbers → MovedExactly begin v w n deeds
 moved_put begin v mid w tasks n deeds does a puts same =
     let amounts : (row : ℕ) → amount row w.numbers.added ≡ amount row mid.numbers.added = λ row. ap (λ (k : Numbers). amount row k.added) same in
     let e = exact_seen begin v mid v w a.made deeds a.last a.exact (below_log begin v mid tasks deeds does a.made a.made_is) puts.does.grows (λ row. refl)
@@ -111,7 +111,7 @@ moved_put begin v mid w tasks n deeds does a puts same =
 
 -- the moves are those of the records
 put_moves : (begin : Begin) (v mid w : View) (tasks : List Record) (n : ℕ) (deeds : List Deed) (does : Does begin v mid tasks deeds) (a : MovedExactly begin v mid n deeds)
-    (puts : Puts begin mid w) (same : w.numbers ≡ mid.numbers) → (moved_put begin v mid w tasks n deeds does a puts same).exact.moves ≡ a.exact.moves
+    (puts : PutsPieces begin mid w) (same : w.numbers ≡ mid.numbers) → (moved_put begin v mid w tasks n deeds does a puts same).exact.moves ≡ a.exact.moves
 unfolding moved_put
 put_moves begin v mid w tasks n deeds does a puts same =
     seen_moves begin v mid v w a.made deeds a.last a.exact (below_log begin v mid tasks deeds does a.made a.made_is) puts.does.grows (λ row. refl)
@@ -128,12 +128,12 @@ above_log begin u v ts ds d made is place h =
 module _ (begin : Begin) (first v mid w : View) (places more : List Place) (answers next : List Answer) (number stored entries lines : ℕ)
     (does : Does begin first v (records_of places) (deeds_from places answers)) (each : length answers ≡ length places)
     (here : Does begin v mid (records_of more) (deeds_from more next))
-    (puts : Puts begin mid w) (same : w.numbers ≡ mid.numbers) (settles : SettlesAt begin mid w stored entries lines)
+    (puts : PutsPieces begin mid w) (same : w.numbers ≡ mid.numbers) (settles : SettlesAt begin mid w stored entries lines)
     (a : RunAlone begin first v places answers) (b : ServedAlone begin v mid (length more) (deeds_from more next)) where
   c : MovedExactly begin v w (length more) (deeds_from more next)
   c = moved_put begin v mid w (records_of more) (length more) (deeds_from more next) here b.moved puts same
 
-  grows : Grows v w
+  grows : KnowsMore v w
   grows = grows_further v mid w here.grows puts.does.grows
 
   below : (place : ℕ) → 0 < stands place a.moved.made → place < length (log_of v)
@@ -142,7 +142,7 @@ module _ (begin : Begin) (first v mid w : View) (places more : List Place) (answ
   -- what was served before, once each record has its answer
   Before : List Move → Type 0
   Before last = (e : Exact begin first v a.moved.made (deeds_from places answers) last)
-      × (last ≡ [] → AllMade first v a.moved.made → IsClean v → IsLevel first
+      × (last ≡ [] → MadeAllLines first v a.moved.made → IsClean v → IsLevel first
       → (own : List Entry) × (entries_in v ≡ entries_in first ++ own) × ServesAll begin (entries_in first) (deeds_from places answers) e.moves own)
 
   before : Before []
@@ -172,9 +172,9 @@ module _ (begin : Begin) (first v mid w : View) (places more : List Place) (answ
       subst (λ (s : State). number < mark_of s key) whole found
 
   both_served : (e : Exact begin first v a.moved.made (deeds_from places answers) []) (moves : List Move) → moves ≡ e.moves ++ b.moved.exact.moves
-      → (AllMade first v a.moved.made → IsClean v → IsLevel first
+      → (MadeAllLines first v a.moved.made → IsClean v → IsLevel first
       → (own : List Entry) × (entries_in v ≡ entries_in first ++ own) × ServesAll begin (entries_in first) (deeds_from places answers) e.moves own)
-      → b.moved.last ≡ [] → AllMade first w (a.moved.made ++ (b.moved.made ++ puts.does.gains.made)) → IsClean w → IsLevel first
+      → b.moved.last ≡ [] → MadeAllLines first w (a.moved.made ++ (b.moved.made ++ puts.does.gains.made)) → IsClean w → IsLevel first
       → (own : List Entry) × (entries_in w ≡ entries_in first ++ own)
       × ServesAll begin (entries_in first) (deeds_from places answers ++ deeds_from more next) moves own
   both_served e moves is served none all clean level =
@@ -194,7 +194,7 @@ module _ (begin : Begin) (first v mid w : View) (places more : List Place) (answ
   -- a segment behind those before
   alone_then : (moved : MovedExactly begin first w (length places + length more) (deeds_from places answers ++ deeds_from more next))
       × (IsClean w → IsLevel first → IsLevel w)
-      × (moved.last ≡ [] → AllMade first w moved.made → IsClean w → IsLevel first
+      × (moved.last ≡ [] → MadeAllLines first w moved.made → IsClean w → IsLevel first
       → (own : List Entry) × (entries_in w ≡ entries_in first ++ own)
       × ServesAll begin (entries_in first) (deeds_from places answers ++ deeds_from more next) moved.exact.moves own)
   unfolding before Before c moved_put
@@ -224,22 +224,22 @@ module _ (begin : Begin) (first v mid w : View) (places more : List Place) (answ
 alone_as : (begin : Begin) (first w : View) (places : List Place) (answers : List Answer) (n : ℕ) (deeds : List Deed) → length places ≡ n
     → deeds_from places answers ≡ deeds
     → (moved : MovedExactly begin first w n deeds) × (IsClean w → IsLevel first → IsLevel w)
-    × (moved.last ≡ [] → AllMade first w moved.made → IsClean w → IsLevel first
+    × (moved.last ≡ [] → MadeAllLines first w moved.made → IsClean w → IsLevel first
     → (own : List Entry) × (entries_in w ≡ entries_in first ++ own) × ServesAll begin (entries_in first) deeds moved.exact.moves own)
     → RunAlone begin first w places answers
 alone_as begin first w places answers n deeds size is h =
     let (moved, level, served) = subst (λ (k : ℕ). (moved : MovedExactly begin first w k (deeds_from places answers)) × (IsClean w → IsLevel first → IsLevel w)
-    × (moved.last ≡ [] → AllMade first w moved.made → IsClean w → IsLevel first
+    × (moved.last ≡ [] → MadeAllLines first w moved.made → IsClean w → IsLevel first
     → (own : List Entry) × (entries_in w ≡ entries_in first ++ own) × ServesAll begin (entries_in first) (deeds_from places answers) moved.exact.moves own)) (sym size)
     (subst (λ (ds : List Deed). (moved : MovedExactly begin first w n ds) × (IsClean w → IsLevel first → IsLevel w)
-    × (moved.last ≡ [] → AllMade first w moved.made → IsClean w → IsLevel first
+    × (moved.last ≡ [] → MadeAllLines first w moved.made → IsClean w → IsLevel first
     → (own : List Entry) × (entries_in w ≡ entries_in first ++ own) × ServesAll begin (entries_in first) ds moved.exact.moves own)) (sym is) h) in
     record { moved = moved; level = level; served = served }
 
 pub moved_on : (begin : Begin) (first v mid w : View) (places more : List Place) (answers next : List Answer) (number stored entries lines : ℕ)
     → Does begin first v (records_of places) (deeds_from places answers) → length answers ≡ length places
     → All (λ (place : Place). place.segment ≡ number) more → Does begin v mid (records_of more) (deeds_from more next)
-    → Puts begin mid w → w.numbers ≡ mid.numbers → SettlesAt begin mid w stored entries lines → MovedAlone begin first v places answers
+    → PutsPieces begin mid w → w.numbers ≡ mid.numbers → SettlesAt begin mid w stored entries lines → MovedAlone begin first v places answers
     → (OneLane (records_of more) → ServedAlone begin v mid (length (records_of more)) (deeds_of number (records_of more) next))
     → MovedAlone begin first w (places ++ more) (answers ++ next)
 moved_on begin first v mid w places more answers next number stored entries lines does each of here puts same settles earlier segment (lane, all) =
@@ -278,7 +278,7 @@ rose_of before now (inl h) = omega arith
 rose_of before now (inr h) = omega arith
 
 pub exact_call : (call : CallSeen) (account : Account) (plan : PlanLines) (begin : Begin) (first now : View) (words : List ℕ) (releases : List Entry)
-    → begin ≡ begin_of call plan begin.start → IsOpened begin first → IsWhole begin.rows now
+    → begin ≡ begin_of call plan begin.start → IsJustOpened begin first → IsWhole begin.rows now
     → ((row : ℕ) → row < MOST_KEYS → RowStands row (slice_index words row) now.numbers)
     → RunAlone begin first now account.handled account.answers → call.entries ≡ entries_in now ++ releases
     → now.turn.known.opening.faults ≡ call.site.faults → now.turn.known.faults ≡ account.last

@@ -15,7 +15,7 @@ use Rattle.key_book.specs.KeyBook.{place_of}
 use Rattle.unit_state.specs.History.{after}
 use Rattle.record_io.specs.Input.{Item, IsItem, LacksNext, beginning}
 use Rattle.record_io.specs.Places.{Place, Count, counted, first_count, places_from, places_of, records_of}
-use Rattle.record_io.specs.Reading.{SourceSeen, Standing, IsReading, Loses, ReadsMore, ReadsLast, Takes, first_standing}
+use Rattle.record_io.specs.Reading.{SourceSeen, Standing, IsReading, Loses, ReadsMore, ReadsLast, HasTaken, first_standing}
 use Rattle.record_io.proofs.Placing.{places-append, counted-append}
 use Rattle.law_history.specs.Fits.{MayAppend}
 use Rattle.unit_book.specs.declared.limits.TheConstants.{MOST_ENTRIES}
@@ -32,7 +32,7 @@ use Rattle.law_run_ends.specs.Account.{AreAnswered, of_first}
 use Rattle.law_run_ends.proofs.Placed.{IsBefore, deeds_of_segment, places_ascend, records_length}
 use Rattle.law_run_ends.proofs.Segments.{all_first, are_placed, first_segments, have_lanes}
 use Rattle.law_run_segments.specs.Doing.{AreSettledInside, HasDone, HasSettled, IsFounded, IsSegment, MovedAlone, octets_put}
-use Rattle.law_run_segments.specs.Coming.{HasBroken, HasCome, HasPut, IsFullHistory, IsUnderWay, PutsBy, ReadsTo}
+use Rattle.law_run_segments.specs.Coming.{HasBroken, HasCome, HasPut, StopsAtFullHistory, IsUnderWay, PutsBy, EndsReading}
 use Rattle.law_run_segments.specs.Segment.{HandlesAndPuts, IsFullSegment, PutsBadly, PutsWell}
 use Rattle.law_run_segments.proofs.Appending.{may_append}
 use Rattle.law_run_segments.proofs.Exacting.{alone_nothing, moved_on}
@@ -59,7 +59,7 @@ pub record Reads (start now : SourceSeen) (items : List Item) (records : List Re
   pub more : List Item
   pub read : List ℕ
   pub part : List ℕ
-  pub takes : Takes start now (items ++ more) read part
+  pub takes : HasTaken start now (items ++ more) read part
   pub records_are : records ≡ records_of (places_from (counted first_count items) more)
   pub of : All (λ (place : Place). place.segment ≡ (counted first_count items).segment) (places_from (counted first_count items) more)
 
@@ -68,7 +68,7 @@ lacks_none [] = λ rest e. let s = ap length e in let t = length-append beginnin
 lacks_none (octet ∷ read) = λ item rest is e. let s = ap length e in absurd (omega arith)
 
 -- what was read to the end of a segment was taken, and no part of another item
-pub reading_takes : (start now : SourceSeen) (standing : Standing) (items : List Item) (read : List ℕ) → IsReading start now standing items read → Takes start now items read []
+pub reading_takes : (start now : SourceSeen) (standing : Standing) (items : List Item) (read : List ℕ) → IsReading start now standing items read → HasTaken start now items read []
 reading_takes start now standing items read h = record {
   items_are = h.items_are;
   read_are = h.read_are;
@@ -285,7 +285,7 @@ module _ (start before now : SourceSeen) (standing : Standing) (begin : Begin) (
           most = omega arith;
         }
 
-    pub full_on : IsFullSegment begin v mid records next → IsFullHistory begin first w (places_of (way.items ++ r.more)) (way.answers ++ next)
+    pub full_on : IsFullSegment begin v mid records next → StopsAtFullHistory begin first w (places_of (way.items ++ r.more)) (way.answers ++ next)
     full_on f =
         let (place, there, same) = place_of_task (places_from (counted first_count way.items) r.more) (length next) f.task
         (subst (λ (rs : List Record). slice_get rs (length next) ≡ Some f.task) r.records_are f.first_without) in
@@ -307,7 +307,7 @@ module _ (start before now : SourceSeen) (standing : Standing) (begin : Begin) (
             (may_append (IsBetween begin v mid) (IsBetween begin first w) between_on begin.plan begin.start (entries_in mid) _ _ _ _ _ _ _ _ _ _ MOST_ENTRIES f.task may))
 
     -- the run came to an end with this segment
-    pub comes : (came : RunEnd) (failed_now : ℕ) → ReadsTo start now (way.items ++ r.more) r.read r.part came
+    pub comes : (came : RunEnd) (failed_now : ℕ) → EndsReading start now (way.items ++ r.more) r.read r.part came
         → ((told : RunEnd) (last : ℕ) → AreAnswered (record {
           came = came;
           told = told;

@@ -6,7 +6,7 @@ use Rattle.sdls_base.specs.declared.entry.Logged.{Logged}
 use Rattle.sdls_outside.specs.Moments.{Trace, Between, EachMoment}
 use Rattle.sdls_outside.proofs.Moments.{each_then, each_weaker}
 use Rattle.record_io.specs.Answers.{answer_octets}
-use Rattle.unit_image.specs.Opening.{Opening}
+use Rattle.unit_image.specs.OpeningImage.{Opening}
 use Rattle.unit_plan.specs.PlanLines.{PlanLines}
 use Rattle.unit_state.specs.declared.state.State.{State}
 use Rattle.law_history.specs.Log.{entries_of, pieces_of}

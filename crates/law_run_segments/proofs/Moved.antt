@@ -18,14 +18,14 @@ use Rattle.law_worker.specs.Begin.{Begin}
 use Rattle.law_worker.specs.Deeds.{Deed, epoch_told}
 use Rattle.law_worker.proofs.Histories.{entries_both}
 use Rattle.law_worker.proofs.Logs.{entries_low, told_kept}
-use Rattle.law_lives.specs.Settled.{AreSettled, IsSettled}
+use Rattle.law_lives.specs.Settled.{AreSettled, AnswerIsSettled}
 
 module _ (begin : Begin) (old new : Course) (start_is : new.start ≡ old.start) (stored more : ℕ) (fewer : stored ≤ more) (log rest : List Logged)
     (old_entries : old.entries ≡ entries_of log) (new_entries : new.entries ≡ entries_of (log ++ rest)) where
   split : new.entries ≡ old.entries ++ entries_of rest
   split = new_entries ∙ entries_both log rest ∙ ap (λ (l : List Entry). l ++ entries_of rest) (sym old_entries)
 
-  settled_one : (at : ℕ) (deed : Deed) → IsSettled begin old stored log at deed → IsSettled begin new more (log ++ rest) at deed
+  settled_one : (at : ℕ) (deed : Deed) → AnswerIsSettled begin old stored log at deed → AnswerIsSettled begin new more (log ++ rest) at deed
   settled_one at deed h =
       let inside = h.within in
       let lines : take h.lines (log ++ rest) ≡ take h.lines log = take-append-le h.lines log rest inside in

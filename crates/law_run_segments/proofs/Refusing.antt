@@ -25,7 +25,7 @@ use Rattle.disk_journal.proofs.Images.{records_of}
 use Rattle.disk_journal.proofs.Moments.{only_syncs_moments}
 use Rattle.record_io.specs.declared.status.TheConstants.{DONE, SITE_FAULT}
 use Rattle.record_io.specs.Answers.{answer_octets}
-use Rattle.record_io.specs.Reading.{SourceSeen, Takes}
+use Rattle.record_io.specs.Reading.{SourceSeen, HasTaken}
 use Rattle.unit_plan.specs.Plan.{plan_of}
 use Rattle.unit_plan.specs.PlanLines.{PlanLines}
 use Rattle.unit_plan.specs.PlanRules.{IsPlan}
@@ -35,7 +35,7 @@ use Rattle.unit_state.specs.Restart.{restarted}
 use Rattle.unit_state.specs.State.{KeepsRules}
 use Rattle.unit_image.specs.declared.fault.OpenFault.{OpenFault}
 use Rattle.unit_image.specs.declared.fault.OpenFault.TheVariants as openings
-use Rattle.unit_image.specs.Opening.{IsOpenCause}
+use Rattle.unit_image.specs.OpeningImage.{IsOpenCause}
 use Rattle.unit_image.specs.Shows.{Shows, ShowsNone}
 use Rattle.law_history.specs.Numbers.{release_at, release_of, released_floor, releases}
 use Rattle.law_history.specs.Taken.{kept_floor}
@@ -48,7 +48,7 @@ use Rattle.law_run_ends.specs.declared.end.RunEnd.TheVariants as ends
 use Rattle.law_run_ends.specs.Call.{CallSeen, sunk_since}
 use Rattle.law_run_ends.specs.Account.{Account, AreAnswered, begin_of, course_of, end_answer, end_octets, end_status}
 use Rattle.law_run_ends.specs.Causes.{CameBy, PutsDue, PutsFront, TellsEnd}
-use Rattle.law_run_ends.specs.Ends.{IsEarly, IsRefusal, IsRefused, IsReleased, IsServed, IsSoundCall, IsUnopened, RunEnds}
+use Rattle.law_run_ends.specs.Ends.{IsEarly, IsOpenRefusal, IsRefused, IsReleased, IsServed, IsSoundCall, IsUnopened, RunEnds}
 use Rattle.law_run_segments.specs.Ran.{call_seen}
 use Rattle.law_run_segments.specs.Refused.{Refused, refused_end}
 use Rattle.law_run_segments.proofs.Ended.{failed_put}
@@ -179,7 +179,7 @@ module _ {O : Type 0} (told : Bool) (trace : O → Trace) (faults puts : O → �
     last = faults back;
   }
 
-  takes : Takes source source [] [] []
+  takes : HasTaken source source [] [] []
   takes = record {
     items_are = λ k d low. absurd (omega arith);
     read_are = inl (refl, refl);
@@ -354,7 +354,7 @@ module _ {O : Type 0} (told : Bool) (trace : O → Trace) (faults puts : O → �
     -- ---- an image that shows none
 
     module _ (one : (image : List ℕ) (a b : ℕ) → ShowsNone image a → ShowsNone image b → a ≡ b) where
-      refusal : (f : OpenFault) (offset : ℕ) → Cause f → IsTrue told → ShowsNone (trace site).now.image offset → IsRefusal offset (refused_end f)
+      refusal : (f : OpenFault) (offset : ℕ) → Cause f → IsTrue told → ShowsNone (trace site).now.image offset → IsOpenRefusal offset (refused_end f)
       refusal (openings.SiteFault count) offset cause is_told none = inr (inl (count, refl))
       refusal (openings.Image at) offset cause is_told none = inl (ap ends.NoState (one (trace site).now.image at offset (cause is_told).0 none))
       refusal openings.NoMemory offset cause is_told none = inr (inr refl)

@@ -26,7 +26,7 @@ use Rattle.unit_book.specs.declared.fault.BookFault.TheVariants.{SiteFault, Stop
 use Rattle.unit_book.specs.declared.limits.TheConstants.{MOST_ENTRIES}
 use Rattle.unit_book.specs.Book.{BookView, IsBarred, IsUnstored, Refuses}
 use Rattle.unit_book.specs.GoesOn.{TellsRise}
-use Rattle.unit_book.specs.Numbers.{AllMade, EndsReleases, Releases}
+use Rattle.unit_book.specs.Numbers.{EnteredInTurn, EndsReleases, Releases}
 use Rattle.std.specs.Prelude.{IfErr}
 
 -- ---- what was added
@@ -44,12 +44,12 @@ pieces_both (lines.Piece piece ∷ a) b = ap (λ (l : List ℕ). piece ++ l) (pi
 pieces_same : (log : List Logged) (entry : Entry) → pieces_of (log ++ lines.Entry entry ∷ []) ≡ pieces_of log
 pieces_same log entry = pieces_both log (lines.Entry entry ∷ []) ∙ append-nil (pieces_of log)
 
-made_pieces : {O : Type 0} (faults : O → ℕ) (made : List Entry) (old mid : BookView O) → AllMade faults made old mid → pieces_of mid.log ≡ pieces_of old.log
+made_pieces : {O : Type 0} (faults : O → ℕ) (made : List Entry) (old mid : BookView O) → EnteredInTurn faults made old mid → pieces_of mid.log ≡ pieces_of old.log
 made_pieces {O} faults [] old mid is = ap (λ (b : BookView O). pieces_of b.log) is
 made_pieces {O} faults (entry ∷ made) old mid (next, position, one, rest) =
     made_pieces faults made next mid rest ∙ ap (λ (b : BookView O). pieces_of b.log) one.1.is ∙ pieces_same old.log entry
 
-made_all : {O : Type 0} (faults : O → ℕ) (made : List Entry) (old mid : BookView O) → AllMade faults made old mid
+made_all : {O : Type 0} (faults : O → ℕ) (made : List Entry) (old mid : BookView O) → EnteredInTurn faults made old mid
     → (entries_of mid.log ≡ entries_of old.log ++ made) × (mid.opened ≡ old.opened)
 made_all {O} faults [] old mid is =
     (ap (λ (b : BookView O). entries_of b.log) is ∙ sym (append-nil (entries_of old.log)), ap (λ (b : BookView O). b.opened) is)

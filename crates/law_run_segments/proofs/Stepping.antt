@@ -28,7 +28,7 @@ use Rattle.law_history.proofs.Accepting.{taken_kept}
 use Rattle.law_history.proofs.Along.{of_places, accepted_taken}
 use Rattle.law_history.proofs.Codes.{accepting_opening, accepts_at, fits_code}
 use Rattle.law_worker.specs.Begin.{Begin}
-use Rattle.law_worker.specs.Views.{log_of, entries_in, Grows, IsBetween}
+use Rattle.law_worker.specs.Views.{log_of, entries_in, KnowsMore, IsBetween}
 use Rattle.law_worker.specs.Work.{indexed}
 use Rattle.law_worker.specs.Deeds.{Deed, Does, AllBoth, course_in, deeds_of, is_protected, tells_entry}
 use Rattle.law_worker.specs.Order.{Layout, LiesIn, TakeTurns, Lined, Handled, ComeBefore, is_line, is_piece}
@@ -41,7 +41,7 @@ use Rattle.law_lives.specs.Sound.{deeds_octets}
 use Rattle.law_lives.proofs.Counting.{none_failed, nothing_put}
 use Rattle.law_lives.proofs.Settling.{settle, settled_later, settled_both}
 use Rattle.law_run_ends.specs.Account.{deeds_from}
-use Rattle.law_run_segments.specs.Doing.{HasDone, HasSettled, IsBefore, IsFounded, IsSegment, LieIn, Puts, Settles, octets_put}
+use Rattle.law_run_segments.specs.Doing.{HasDone, HasSettled, IsBefore, IsFounded, IsSegment, LieIn, PutsPieces, SettlesWork, octets_put}
 use Rattle.law_run_ends.proofs.Placed.{deeds_all, deeds_both, deeds_of_segment, lane_at, lane_there, records_both, records_length}
 use Rattle.law_run_segments.proofs.Doing.{legal_so_far, lined_by, made_here}
 
@@ -73,7 +73,7 @@ empty_list [] h = refl
 empty_list (e ∷ es) h = absurd (omega arith)
 
 -- the lines that were put are no entries
-no_lines : (begin : Begin) (v w : View) (puts : Puts begin v w) → count_at is_line (log_of w) puts.does.gains.made ≡ 0
+no_lines : (begin : Begin) (v w : View) (puts : PutsPieces begin v w) → count_at is_line (log_of w) puts.does.gains.made ≡ 0
 no_lines begin v w puts =
     let rest : List Logged = puts.does.grows.earlier.log.0 in
     let is : log_of w ≡ log_of v ++ rest = puts.does.grows.earlier.log.1 in
@@ -140,7 +140,7 @@ module _ (begin : Begin) (first v mid w : View) (places more : List Place) (answ
     (segment : IsSegment number places more)
     (handled : (layout : Layout) → LiesIn layout number (records_of more)
     → Handled layout begin v mid (records_of more) (deeds_of number (records_of more) next))
-    (puts : Puts begin mid w) where
+    (puts : PutsPieces begin mid w) where
   turns : AllBoth (λ (d e : Deed). d.task.index < e.task.index) (deeds_from places answers) (deeds_from more next)
   turns i d l j e m =
       let a = deeds_all (λ (t : Record). t.index < segment.next) places answers segment.low i d l in
@@ -346,12 +346,12 @@ module _ (begin : Begin) (first v mid w : View) (places more : List Place) (answ
   -- and its answers are settled at the first put behind it
   module _ (founded : IsFounded begin first) (whole_mid : IsWhole begin.rows mid) (whole_w : IsWhole begin.rows w) (up : AllPairs IsBefore (places ++ more))
       (known stored : ℕ) (settled : HasSettled begin v known places answers) (fewer : known ≤ stored)
-      (put : octets_put v ≡ answers_octets answers) (inside : ℕ) (settles : Settles begin mid w inside stored)
+      (put : octets_put v ≡ answers_octets answers) (inside : ℕ) (settles : SettlesWork begin mid w inside stored)
       (entered : All (λ (d : Deed). IsTrue (tells_entry d) → d.answer.position ≤ inside) (deeds_from more next)) where
     history : IsLegalHistory begin.plan begin.start (places ++ more) (entries_in w ++ [])
     history = legal_so_far begin first w (places ++ more) (answers ++ next) founded goes_on whole_w up
 
-    grows : Grows v w
+    grows : KnowsMore v w
     grows = grows_further v mid w own_does.grows puts.does.grows
 
     entries_within : settles.entries ≤ length (entries_in w)

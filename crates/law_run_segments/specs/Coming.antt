@@ -8,7 +8,7 @@ use Rattle.record_io.specs.declared.kinds.RecordKind.TheVariants.{Protect}
 use Rattle.record_io.specs.Answers.{answers_octets}
 use Rattle.record_io.specs.Input.{Item, IsInput, Whole, MalformedAt}
 use Rattle.record_io.specs.Places.{Place, places_of}
-use Rattle.record_io.specs.Reading.{SourceSeen, Standing, IsReading, Takes}
+use Rattle.record_io.specs.Reading.{SourceSeen, Standing, IsReading, HasTaken}
 use Rattle.unit_book.specs.declared.limits.TheConstants.{MOST_ENTRIES}
 use Rattle.law_history.specs.Fits.{MayAppend}
 use Rattle.law_worker.specs.Begin.{Begin}
@@ -44,16 +44,16 @@ pub record IsUnderWay (start source : SourceSeen) (standing : Standing) (begin :
   pub exactly : MovedAlone begin first now (places_of items) answers
 
 -- why the reading ended
-abbrev pub ReadsTo : SourceSeen → SourceSeen → List Item → List ℕ → List ℕ → RunEnd → Type 0
-ReadsTo start source items read part ends.Ended = (part ≡ []) × (IsTrue start.told → IsInput start.left items Whole)
-ReadsTo start source items read part (ends.Malformed offset) =
+abbrev pub EndsReading : SourceSeen → SourceSeen → List Item → List ℕ → List ℕ → RunEnd → Type 0
+EndsReading start source items read part ends.Ended = (part ≡ []) × (IsTrue start.told → IsInput start.left items Whole)
+EndsReading start source items read part (ends.Malformed offset) =
     (offset ≡ length read) × (IsTrue start.told → IsInput start.left items (MalformedAt offset))
-ReadsTo start source items read part (ends.SourceFault count) = Rose start.faults source.faults × (count ≡ source.faults)
-ReadsTo start source items read part (ends.SiteFault count) = ⊥
-ReadsTo start source items read part ends.NoMemory = ⊤
-ReadsTo start source items read part (ends.NoState offset) = ⊥
-ReadsTo start source items read part ends.SessionFull = ⊤
-ReadsTo start source items read part ends.PutFailed = ⊤
+EndsReading start source items read part (ends.SourceFault count) = Rose start.faults source.faults × (count ≡ source.faults)
+EndsReading start source items read part (ends.SiteFault count) = ⊥
+EndsReading start source items read part ends.NoMemory = ⊤
+EndsReading start source items read part (ends.NoState offset) = ⊥
+EndsReading start source items read part ends.SessionFull = ⊤
+EndsReading start source items read part ends.PutFailed = ⊤
 
 -- what was put, by what came
 abbrev pub PutsBy : Begin → View → ℕ → ℕ → List Answer → RunEnd → Type 0
@@ -67,7 +67,7 @@ PutsBy begin now failed_before failed answers ends.SessionFull = HasPut begin no
 PutsBy begin now failed_before failed answers ends.PutFailed = HasBroken begin now failed_before failed answers
 
 -- the history is full, and the first record without an answer needs an entry, or may need one
-pub record IsFullHistory (begin : Begin) (first now : View) (places : List Place) (answers : List Answer) : Type 0 where
+pub record StopsAtFullHistory (begin : Begin) (first now : View) (places : List Place) (answers : List Answer) : Type 0 where
   pub place : Place
   pub first_without : slice_get places (length answers) ≡ Some place
   pub full : MOST_ENTRIES ≤ length (entries_in now)
@@ -80,8 +80,8 @@ pub record HasCome (start source : SourceSeen) (begin : Begin) (first now : View
   pub part : List ℕ
   pub of : List Item
   pub answers : List Answer
-  pub takes : Takes start source items read part
-  pub reads : ReadsTo start source items read part came
+  pub takes : HasTaken start source items read part
+  pub reads : EndsReading start source items read part came
   pub answered : (told : RunEnd) (last : ℕ) → AreAnswered (record {
     came = came;
     told = told;
@@ -97,4 +97,4 @@ pub record HasCome (start source : SourceSeen) (begin : Begin) (first now : View
   pub put : PutsBy begin now failed_before failed answers came
   pub settled : IsTrue begin.told → IsFounded begin first → HasSettled begin now stored (places_of of) answers
   pub exactly : MovedAlone begin first now (places_of of) answers
-  pub full : came ≡ ends.SessionFull → IsFullHistory begin first now (places_of of) answers
+  pub full : came ≡ ends.SessionFull → StopsAtFullHistory begin first now (places_of of) answers

@@ -16,9 +16,9 @@ use Rattle.law_worker.specs.Views.{entries_in, log_of}
 use Rattle.law_worker.specs.Deeds.{Deed, Does, course_in, tells_entry}
 use Rattle.law_worker.specs.Order.{Layout, TakeTurns, Lined}
 use Rattle.law_one_lane.specs.Serving.{ServesAll}
-use Rattle.law_one_lane.specs.InTurn.{AllMade, IsClean, IsLevel}
+use Rattle.law_one_lane.specs.InTurn.{MadeAllLines, IsClean, IsLevel}
 use Rattle.law_one_lane.specs.Alone.{MovedExactly, OneLane}
-use Rattle.law_lives.specs.Opened.{IsOpened}
+use Rattle.law_lives.specs.Opened.{IsJustOpened}
 use Rattle.law_lives.specs.Settled.{AreSettled, SettlesAt}
 use Rattle.law_run_ends.specs.Account.{deeds_from}
 
@@ -38,7 +38,7 @@ pub record IsFounded (begin : Begin) (first : View) : Type 0 where
   pub plan_is : IsPlan begin.plan
   pub rules : KeepsRules begin.start
   pub left : restarted begin.start ≡ begin.start
-  pub opened : IsOpened begin first
+  pub opened : IsJustOpened begin first
 
 -- The worker did all since the opening, with the records of these places and these answers, and its lines stand in input order.
 pub record HasDone (begin : Begin) (first now : View) (places : List Place) (answers : List Answer) : Type 0 where
@@ -52,7 +52,7 @@ pub record HasDone (begin : Begin) (first now : View) (places : List Place) (ans
 pub record RunAlone (begin : Begin) (first now : View) (places : List Place) (answers : List Answer) : Type 0 where
   pub moved : MovedExactly begin first now (length places) (deeds_from places answers)
   pub level : IsClean now → IsLevel first → IsLevel now
-  pub served : moved.last ≡ [] → AllMade first now moved.made → IsClean now → IsLevel first
+  pub served : moved.last ≡ [] → MadeAllLines first now moved.made → IsClean now → IsLevel first
       → (own : List Entry) × (entries_in now ≡ entries_in first ++ own)
       × ServesAll begin (entries_in first) (deeds_from places answers) moved.exact.moves own
 
@@ -67,7 +67,7 @@ HasSettled begin now stored places answers =
 
 -- The first put behind a segment found a book that settles what the worker had done before: of so many entries that were
 -- stored, no fewer than the worker knew of; so many are stored now.
-pub record Settles (begin : Begin) (v w : View) (known stored : ℕ) : Type 0 where
+pub record SettlesWork (begin : Begin) (v w : View) (known stored : ℕ) : Type 0 where
   pub entries : ℕ
   pub lines : ℕ
   pub at : SettlesAt begin v w stored entries lines
@@ -75,7 +75,7 @@ pub record Settles (begin : Begin) (v w : View) (known stored : ℕ) : Type 0 wh
   pub before : length (pieces_of (take lines (log_of w))) ≤ length (octets_put v)
 
 -- from the one view to the other the worker put pieces, and made no entry
-pub record Puts (begin : Begin) (v w : View) : Type 0 where
+pub record PutsPieces (begin : Begin) (v w : View) : Type 0 where
   pub does : Does begin v w [] []
   pub entries : entries_in w ≡ entries_in v
 

@@ -1,7 +1,7 @@
 pub mod Doing
 pub mod Coming
 pub mod Segment
-pub mod Finishing
+pub mod Ending
 pub mod Ran
 pub mod Refused
 pub mod Reads

@@ -11,7 +11,7 @@ use Rattle.record_io.specs.Reading.{SourceSeen}
 use Rattle.unit_plan.specs.Plan.{plan_of}
 use Rattle.unit_plan.specs.PlanLines.{PlanLines}
 use Rattle.unit_state.specs.declared.state.State.{State}
-use Rattle.unit_image.specs.Opening.{Opening}
+use Rattle.unit_image.specs.OpeningImage.{Opening}
 use Rattle.unit_image.specs.Shows.{Shows}
 use Rattle.law_history.specs.Log.{entries_of}
 use Rattle.law_history.specs.Stored.{stored_count}

@@ -9,12 +9,12 @@ use Rattle.record_io.specs.declared.status.TheConstants.{SITE_FAULT}
 use Rattle.record_io.specs.Answers.{answer_octets}
 use Rattle.unit_image.specs.declared.fault.OpenFault.{OpenFault}
 use Rattle.unit_image.specs.declared.fault.OpenFault.TheVariants as faults
-use Rattle.unit_image.specs.Opening.{IsOpenCause, Opening}
+use Rattle.unit_image.specs.OpeningImage.{IsOpenCause, Opening}
 use Rattle.unit_image.specs.Shows.{ShowsNone}
 use Rattle.law_run_ends.specs.declared.end.RunEnd.{RunEnd}
 use Rattle.law_run_ends.specs.declared.end.RunEnd.TheVariants as ends
 use Rattle.law_run_ends.specs.Account.{end_answer, end_status}
-use Rattle.law_run_segments.specs.Finishing.{IsToldEnd}
+use Rattle.law_run_segments.specs.Ending.{IsToldEnd}
 
 -- why a run ends whose book was not opened
 abbrev pub refused_end : OpenFault → RunEnd

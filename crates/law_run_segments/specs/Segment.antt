@@ -15,7 +15,7 @@ use Rattle.law_worker.specs.Views.{IsBetween, entries_in}
 use Rattle.law_worker.specs.Deeds.{course_in, deeds_of}
 use Rattle.law_worker.specs.Order.{Layout, LiesIn, Handled}
 use Rattle.law_one_lane.specs.Alone.{OneLane, ServedAlone}
-use Rattle.law_run_segments.specs.Doing.{AreSettledInside, Puts, Settles, octets_put}
+use Rattle.law_run_segments.specs.Doing.{AreSettledInside, PutsPieces, SettlesWork, octets_put}
 
 -- From the first view to the second the worker handled the records; from there to the last it put the answers, or a front of
 -- them. So many entries were stored at the end.
@@ -24,9 +24,9 @@ pub record HandlesAndPuts (begin : Begin) (v mid w : View) (records : List Recor
   pub few : length answers ≤ length records
   pub whole_mid : IsWhole begin.rows mid
   pub whole : IsWhole begin.rows w
-  pub puts : Puts begin mid w
+  pub puts : PutsPieces begin mid w
   pub known : ℕ
-  pub settles : Settles begin mid w known stored
+  pub settles : SettlesWork begin mid w known stored
   pub entered : (number : ℕ) → AreSettledInside known (deeds_of number records answers)
   -- where all records are of one lane, they were served in turn; the puts moved no word
   pub exactly : OneLane records → (number : ℕ) → ServedAlone begin v mid (length records) (deeds_of number records answers)

@@ -24,11 +24,11 @@ ghost use Rattle.record_io.specs.Reading.{SourceSeen};
 ghost use Rattle.unit_book.specs.Book.{BookView};
 ghost use Rattle.law_run_ends.specs.declared.end.RunEnd.{RunEnd};
 ghost use Rattle.law_run_ends.specs.Lives.{EndsAndLives, KeepsLivesReading};
-ghost use Rattle.law_run_segments.specs.Finishing.{Finishes};
+ghost use Rattle.law_run_segments.specs.Ending.{Finishes};
 ghost use Rattle.law_run_segments.specs.Ran.{call_seen, CountsSlots, Ran};
 ghost use Rattle.law_run_segments.specs.Reads.{ReadsAlone};
 ghost use Rattle.law_run_segments.specs.Refused.{Refused};
-ghost use Rattle.law_run_segments.specs.Doing.{AreSettledInside, HasDone, HasSettled, IsBefore, IsFounded, IsSegment, octets_put, Puts, Settles};
+ghost use Rattle.law_run_segments.specs.Doing.{AreSettledInside, HasDone, HasSettled, IsBefore, IsFounded, IsSegment, octets_put, PutsPieces, SettlesWork};
 
 use law_image::shown_keeps_rules;
 use law_run_ends::{sound_call_keeps_lives, sound_reading_keeps_lives};
@@ -41,25 +41,25 @@ pub fn segment_goes_on()
         → HasDone begin first v places answers → length answers ≡ length places → IsWhole begin.rows v → IsSegment number places more
         → ((layout : Layout) → LiesIn layout number (records_of more)
         → Handled layout begin v mid (records_of more) (deeds_of number (records_of more) next))
-        → Puts begin mid w → HasDone begin first w (places ++ more) (answers ++ next) }
+        → PutsPieces begin mid w → HasDone begin first w (places ++ more) (answers ++ next) }
     ensures settled { (begin : Begin) (first v mid w : View) (places more : List Place) (answers next : List Answer) (number : ℕ)
         → HasDone begin first v places answers → length answers ≡ length places → IsWhole begin.rows v → IsSegment number places more
         → ((layout : Layout) → LiesIn layout number (records_of more)
         → Handled layout begin v mid (records_of more) (deeds_of number (records_of more) next))
-        → Puts begin mid w → IsFounded begin first → IsWhole begin.rows mid → IsWhole begin.rows w → AllPairs IsBefore (places ++ more)
+        → PutsPieces begin mid w → IsFounded begin first → IsWhole begin.rows mid → IsWhole begin.rows w → AllPairs IsBefore (places ++ more)
         → (known stored : ℕ) → HasSettled begin v known places answers → known ≤ stored → octets_put v ≡ answers_octets answers
-        → (inside : ℕ) → Settles begin mid w inside stored → AreSettledInside inside (deeds_from more next)
+        → (inside : ℕ) → SettlesWork begin mid w inside stored → AreSettledInside inside (deeds_from more next)
         → HasSettled begin w stored (places ++ more) (answers ++ next) }
     ensures quiet { (begin : Begin) (first v mid w : View) (places more : List Place) (answers next : List Answer) (number : ℕ)
         → HasDone begin first v places answers → length answers ≡ length places → IsWhole begin.rows v → IsSegment number places more
         → ((layout : Layout) → LiesIn layout number (records_of more)
         → Handled layout begin v mid (records_of more) (deeds_of number (records_of more) next))
-        → Puts begin mid w → IsWhole begin.rows mid → octets_put mid ≡ octets_put v }
+        → PutsPieces begin mid w → IsWhole begin.rows mid → octets_put mid ≡ octets_put v }
     ensures unfailed { (begin : Begin) (first v mid w : View) (places more : List Place) (answers next : List Answer) (number : ℕ)
         → HasDone begin first v places answers → length answers ≡ length places → IsWhole begin.rows v → IsSegment number places more
         → ((layout : Layout) → LiesIn layout number (records_of more)
         → Handled layout begin v mid (records_of more) (deeds_of number (records_of more) next))
-        → Puts begin mid w → IsWhole begin.rows mid → mid.turn.known.put_faults ≡ v.turn.known.put_faults }
+        → PutsPieces begin mid w → IsWhole begin.rows mid → mid.turn.known.put_faults ≡ v.turn.known.put_faults }
 {}
 
 /// Law: what is known of a run at its end, with the releases behind it.

@@ -16,7 +16,7 @@ use Rattle.unit_state.specs.History.{after, after_first, at_epoch, epoch_after}
 use Rattle.unit_state.proofs.Histories.{at_epoch_more, epochs_more}
 use Rattle.law_history.specs.Entries.{frame_entry}
 use Rattle.law_history.specs.Legal.{SeenNear}
-use Rattle.law_history.specs.Fits.{Course, CanReserve, CanRaiseFloor, CanChange, CanDraw, IsUnmarked, CanAppend, MayAppendOnce, TellsFault, FitsAny, FitsKind, Fits, StandsAt, IsBound}
+use Rattle.law_history.specs.Fits.{Course, CanReserve, CanRaiseFloor, CanChange, CanDraw, IsUnmarked, CanAppend, MayAppendOnce, TellsRisenCount, FitsAny, FitsKind, Fits, StandsAt, IsBound}
 use Rattle.law_worker.proofs.Histories.{get_front}
 
 pub seen_nearer : (near far : ℕ → ℕ → Type 0) → ((k n : ℕ) → near k n → far k n) → (k : ℕ) (seen : Seen) → SeenNear near k seen → SeenNear far k seen
@@ -106,7 +106,7 @@ module _ (near far : ℕ → ℕ → Type 0) (more : (k n : ℕ) → near k n �
   }
 
   -- no entry comes after a fault, so the count of all entries stays
-  tells_more : (code : ℕ) (x : Answer) → TellsFault old code x → TellsFault new code x
+  tells_more : (code : ℕ) (x : Answer) → TellsRisenCount old code x → TellsRisenCount new code x
   tells_more code x h = record {
     told = h.told;
     rose = h.rose;

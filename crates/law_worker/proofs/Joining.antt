@@ -14,7 +14,7 @@ use Rattle.record_io.specs.declared.records.Record.{Record}
 use Rattle.law_history.specs.Log.{entries_of}
 use Rattle.law_history.specs.Answers.{Uses}
 use Rattle.law_worker.specs.Begin.{Begin}
-use Rattle.law_worker.specs.Views.{Gains, no_gains, both_gains, log_of, entries_in, IsRow, Grows, Gained, keeping, starting, meeting, Meets}
+use Rattle.law_worker.specs.Views.{Gains, no_gains, both_gains, log_of, entries_in, IsRow, KnowsMore, Gained, keeping, starting, meeting, Meets}
 use Rattle.law_worker.specs.Work.{Works, Worked}
 use Rattle.law_worker.specs.Deeds.{Deed, StandsBehind, InTurn, StandsWithin, Agree, MadeLast, IsSpent, Answers, Does, AtOnce, AllBoth}
 use Rattle.law_worker.proofs.Logs.{stands_both, times_both, piece_count_both, last_once, entries_low}
@@ -48,10 +48,10 @@ pieces_front a b e =
     let whole : pieces b.log ≡ pieces (a.log ++ e.log.0) = ap pieces e.log.1 in
     let parts = piece_count_both a.log e.log.0 in omega arith
 
-pub grows_itself : (v : View) → Grows v v
+pub grows_itself : (v : View) → KnowsMore v v
 grows_itself v = record { nexts = λ r. omega arith; earlier = earlier_itself v.turn.known; opening = refl; epochs = omega arith }
 
-pub grows_further : (u v w : View) → Grows u v → Grows v w → Grows u w
+pub grows_further : (u v w : View) → KnowsMore u v → KnowsMore v w → KnowsMore u w
 grows_further u v w a b = record {
   nexts = λ r. le_trans (a.nexts r) (b.nexts r);
   earlier = earlier_further u.turn.known v.turn.known w.turn.known a.earlier b.earlier b.opening;
@@ -237,7 +237,7 @@ module _ (begin : Begin) (u v w : View) (ts us : List Record) (ds es : List Deed
   changes_both : z.turn.known.changes ≡ max v.turn.known.changes w.turn.known.changes
   changes_both = ap (λ (k : Known). k.changes) known
 
-  grows_left : Grows v z
+  grows_left : KnowsMore v z
   grows_left = record {
     nexts = λ r. let t = top_both r v.numbers.nexts w.numbers.nexts in omega arith;
     earlier = meet.earlier;
@@ -245,7 +245,7 @@ module _ (begin : Begin) (u v w : View) (ts us : List Record) (ds es : List Deed
     epochs = let c = changes_both in omega arith;
   }
 
-  grows_right : Grows w z
+  grows_right : KnowsMore w z
   grows_right = record {
     nexts = λ r. let t = top_both r v.numbers.nexts w.numbers.nexts in omega arith;
     earlier = meet.other_earlier;
@@ -253,10 +253,10 @@ module _ (begin : Begin) (u v w : View) (ts us : List Record) (ds es : List Deed
     epochs = let c = changes_both in omega arith;
   }
 
-  from_left : Grows u (keeping u)
+  from_left : KnowsMore u (keeping u)
   from_left = record { nexts = λ r. omega arith; earlier = earlier_itself u.turn.known; opening = refl; epochs = omega arith }
 
-  from_right : Grows u (starting u)
+  from_right : KnowsMore u (starting u)
   from_right = record { nexts = λ r. omega arith; earlier = earlier_itself u.turn.known; opening = refl; epochs = omega arith }
 
   left : Answers begin u z a.gains ds

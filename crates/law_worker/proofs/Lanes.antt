@@ -8,11 +8,11 @@ use Rattle.record_io.specs.declared.records.Record.{Record}
 use Rattle.record_io.specs.declared.answers.Answer.{Answer}
 use Rattle.law_history.specs.Counts.{draws, drawers}
 use Rattle.law_worker.specs.Begin.{Begin}
-use Rattle.law_worker.specs.Views.{Gains, Grows, IsBetween, starting, keeping, meeting, Meets}
+use Rattle.law_worker.specs.Views.{Gains, KnowsMore, IsBetween, starting, keeping, meeting, Meets}
 use Rattle.law_worker.specs.Work.{Works, indexed}
 use Rattle.law_worker.specs.Deeds.{Deed, Does, deed_of, deeds_of, AtOnce, AllBoth}
 use Rattle.law_worker.specs.Order.{Layout, LiesIn, Handled}
-use Rattle.law_worker.specs.Lanes.{is_of_lane, of_lane, giving, Part, DidPart, meeting_all, MeetAll, parts_deeds, parts_tasks}
+use Rattle.law_worker.specs.Lanes.{is_of_lane, of_lane, giving_shares, Part, DidPart, meeting_all, MeetAll, parts_deeds, parts_tasks}
 use Rattle.law_worker.proofs.Logs.{legal_wider}
 use Rattle.law_worker.proofs.Working.{raised_among, reorder}
 use Rattle.law_worker.proofs.Joining.{top_both, grows_itself, grows_further, known_after}
@@ -55,18 +55,18 @@ AreOther tasks parts ts = All (λ (t : Record). Contains tasks t × All (λ (p :
 module _ (layout : Layout) (begin : Begin) (base : View) (s : ℕ) (tasks : List Record) (lies : LiesIn layout s tasks) (free : base.turn.holds ≡ false)
     (filled : base.turn.filled ≡ true) where
   all_joined : (parts : List Part) (now : View) (ts : List Record) (ds : List Deed) → length parts < base.numbers.shares
-      → Handled layout begin (giving (length parts) base) now ts ds → All (DidPart layout begin base s tasks) parts → MeetAll begin.rows now parts
+      → Handled layout begin (giving_shares (length parts) base) now ts ds → All (DidPart layout begin base s tasks) parts → MeetAll begin.rows now parts
       → AreElsewhere s parts ds → AreOther tasks parts ts → AllPairs (λ (p q : Part). p.number ≢ q.number) parts
       → Handled layout begin base (meeting_all now parts) (ts ++ parts_tasks tasks parts) (ds ++ parts_deeds s tasks parts)
   all_joined [] now ts ds few x did meet elsewhere other apart =
-      let same : giving 0 base ≡ base = ap (λ (n : ℕ). record { numbers = record base.numbers { shares = n }; turn = base.turn }) (omega arith) in
+      let same : giving_shares 0 base ≡ base = ap (λ (n : ℕ). record { numbers = record base.numbers { shares = n }; turn = base.turn }) (omega arith) in
       subst (λ (l : List Record). Handled layout begin base now l (ds ++ [])) (sym (append-nil ts))
       (subst (Handled layout begin base now ts) (sym (append-nil ds)) (subst (λ (v : View). Handled layout begin v now ts ds) same x))
   all_joined (p ∷ parts) now ts ds few x did meet elsewhere other apart =
-      let u : View = giving (length parts) base in
+      let u : View = giving_shares (length parts) base in
       let us : List Record = of_lane p.number tasks in
       let es : List Deed = deeds_of s us p.answers in
-      let same : giving (suc (length parts)) base ≡ keeping u =
+      let same : giving_shares (suc (length parts)) base ≡ keeping u =
       ap (λ (n : ℕ). record { numbers = record base.numbers { shares = n }; turn = base.turn }) (omega arith) in
       let here : Handled layout begin (keeping u) now ts ds = subst (λ (v : View). Handled layout begin v now ts ds) same x in
       let there : Handled layout begin (starting u) p.knows us es = did 0 p (omega arith) in
@@ -98,7 +98,7 @@ module _ (layout : Layout) (begin : Begin) (base : View) (s : ℕ) (tasks : List
 
 -- what each lane's worker knew, the worker knows that took them in
 module _ (begin : Begin) where
-  grows_left : (v w : View) → v.turn.holds ≡ false → v.turn.filled ≡ true → Meets begin.rows v w → Grows v (meeting v w)
+  grows_left : (v w : View) → v.turn.holds ≡ false → v.turn.filled ≡ true → Meets begin.rows v w → KnowsMore v (meeting v w)
   grows_left v w free filled meet = record {
     nexts = λ r. let t = top_both r v.numbers.nexts w.numbers.nexts in omega arith;
     earlier = meet.earlier;
@@ -107,7 +107,7 @@ module _ (begin : Begin) where
   }
 
   grows_right : (v w : View) → v.turn.holds ≡ false → v.turn.filled ≡ true → w.turn.known.opening ≡ v.turn.known.opening → Meets begin.rows v w
-      → Grows w (meeting v w)
+      → KnowsMore w (meeting v w)
   grows_right v w free filled same meet = record {
     nexts = λ r. let t = top_both r v.numbers.nexts w.numbers.nexts in omega arith;
     earlier = meet.other_earlier;
@@ -116,7 +116,7 @@ module _ (begin : Begin) where
   }
 
   -- the worker's own knowledge
-  grows_all : (now : View) (parts : List Part) → now.turn.holds ≡ false → now.turn.filled ≡ true → MeetAll begin.rows now parts → Grows now (meeting_all now parts)
+  grows_all : (now : View) (parts : List Part) → now.turn.holds ≡ false → now.turn.filled ≡ true → MeetAll begin.rows now parts → KnowsMore now (meeting_all now parts)
   grows_all now [] free filled meet = grows_itself now
   grows_all now (p ∷ parts) free filled meet = grows_further now (meeting now p.knows) (meeting_all (meeting now p.knows) parts)
       (grows_left now p.knows free filled meet.0)
@@ -125,13 +125,13 @@ module _ (begin : Begin) where
   -- and that of each lane's
   pub lanes_grow : (now : View) (parts : List Part) → now.turn.holds ≡ false → now.turn.filled ≡ true
       → All (λ (p : Part). p.knows.turn.known.opening ≡ now.turn.known.opening) parts → MeetAll begin.rows now parts
-      → All (λ (p : Part). Grows p.knows (meeting_all now parts)) parts
-  lanes_grow now [] free filled same meet = All-nil (λ (p : Part). Grows p.knows now)
+      → All (λ (p : Part). KnowsMore p.knows (meeting_all now parts)) parts
+  lanes_grow now [] free filled same meet = All-nil (λ (p : Part). KnowsMore p.knows now)
   lanes_grow now (p ∷ parts) free filled same meet =
       let next : View = meeting now p.knows in
       let filled' : next.turn.filled ≡ true = ap (λ (b : Bool). b || p.knows.turn.filled) filled in
       let opening : next.turn.known.opening ≡ now.turn.known.opening = ap (λ k. k.opening) (known_after now p.knows free filled) in
-      All-cons (λ (q : Part). Grows q.knows (meeting_all next parts)) p parts
+      All-cons (λ (q : Part). KnowsMore q.knows (meeting_all next parts)) p parts
       (grows_further p.knows next (meeting_all next parts) (grows_right now p.knows free filled (same 0 p (omega arith)) meet.0)
       (grows_all next parts free filled' meet.1))
       (lanes_grow next parts free filled' (λ k d l. same (suc k) d (omega arith) ∙ sym opening) meet.1)
@@ -227,11 +227,11 @@ parts_within tasks (p ∷ parts) = All-append (Contains tasks) (of_lane p.number
 -- The lanes of a segment, run at once and joined: what was done is of the segment's records, and the answers may stand in any
 -- order.
 pub lanes_handled : (layout : Layout) (begin : Begin) (base now : View) (s : ℕ) (tasks : List Record) (parts : List Part) (deeds : List Deed)
-    → LiesIn layout s tasks → length parts < base.numbers.shares → base.turn.holds ≡ false → base.turn.filled ≡ true → now ≡ giving (length parts) base
+    → LiesIn layout s tasks → length parts < base.numbers.shares → base.turn.holds ≡ false → base.turn.filled ≡ true → now ≡ giving_shares (length parts) base
     → All (DidPart layout begin base s tasks) parts → MeetAll begin.rows now parts → AllPairs (λ (p q : Part). p.number ≢ q.number) parts
     → All (Contains (parts_deeds s tasks parts)) deeds → Handled layout begin base (meeting_all now parts) tasks deeds
 lanes_handled layout begin base now s tasks parts deeds lies few free filled is did meet apart in' =
-    let first : Handled layout begin (giving (length parts) base) now [] [] =
+    let first : Handled layout begin (giving_shares (length parts) base) now [] [] =
     subst (λ (v : View). Handled layout begin v now [] []) is (handled_nothing layout begin now []) in
     let all : Handled layout begin base (meeting_all now parts) (parts_tasks tasks parts) (parts_deeds s tasks parts) =
     all_joined layout begin base s tasks lies free filled parts now [] [] few first did meet (λ k d l. absurd (omega arith)) (λ k d l. absurd (omega arith)) apart in

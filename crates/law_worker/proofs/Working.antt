@@ -21,7 +21,7 @@ use Rattle.law_history.specs.Legal.{IsLegalAt}
 use Rattle.law_history.specs.Counts.{is_of_record, is_of_none}
 use Rattle.law_history.specs.Fits.{Course, Fits, MayAppend}
 use Rattle.law_worker.specs.Begin.{Begin}
-use Rattle.law_worker.specs.Views.{Gains, both_gains, log_of, entries_in, IsRow, IsBetween, Grows}
+use Rattle.law_worker.specs.Views.{Gains, both_gains, log_of, entries_in, IsRow, IsBetween, KnowsMore}
 use Rattle.law_worker.specs.Work.{IsAsked, Works}
 use Rattle.law_worker.specs.Deeds.{Deed, course_in, is_ordered, epoch_told, StandsBehind, StandsWithin, IsLastAt, Agree, EachTwo, AllBoth, MadeLast, IsSpent, Answers}
 use Rattle.law_worker.proofs.Histories.{entries_both, entries_counted, row_kept}
@@ -36,10 +36,10 @@ risen_of before now rose = elim (cases_lt before now) [
 ]
 
 -- the entries of the later view
-pub grown_entries : (v w : View) → Grows v w → (rest : List Entry) × (entries_in w ≡ entries_in v ++ rest)
+pub grown_entries : (v w : View) → KnowsMore v w → (rest : List Entry) × (entries_in w ≡ entries_in v ++ rest)
 grown_entries v w g = (entries_of g.earlier.log.0, ap entries_of g.earlier.log.1 ∙ entries_both (log_of v) g.earlier.log.0)
 
-module _ (begin : Begin) (u v w z : View) (low : Grows u v) (high : Grows w z) where
+module _ (begin : Begin) (u v w z : View) (low : KnowsMore u v) (high : KnowsMore w z) where
   rest : List Entry
   rest = (grown_entries w z high).0
 

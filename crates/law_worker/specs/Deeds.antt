@@ -20,7 +20,7 @@ use Rattle.unit_plan.specs.PlanLines.{PlanLines, link_of}
 use Rattle.law_history.specs.Answers.{Uses}
 use Rattle.law_history.specs.Fits.{Course, Fits}
 use Rattle.law_worker.specs.Begin.{Begin}
-use Rattle.law_worker.specs.Views.{Gains, Gained, Grows, IsBetween, IsRow, log_of, entries_in}
+use Rattle.law_worker.specs.Views.{Gains, Gained, KnowsMore, IsBetween, IsRow, log_of, entries_in}
 use Rattle.law_worker.specs.Work.{Works}
 
 -- an answered record, and the number of its segment
@@ -136,7 +136,7 @@ pub record Answers (begin : Begin) (old new : View) (gains : Gains) (deeds : Lis
 pub record Does (begin : Begin) (old new : View) (tasks : List Record) (deeds : List Deed) : Type 0 where
   pub gains : Gains
   pub gained : Gained old new gains
-  pub grows : Grows old new
+  pub grows : KnowsMore old new
   pub sparing : IsSparing old.turn.known new.turn.known
   pub works : Works begin old new gains tasks
   pub answers : Answers begin old new gains deeds

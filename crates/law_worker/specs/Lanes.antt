@@ -17,8 +17,8 @@ abbrev pub of_lane : ℕ → List Record → List Record
 of_lane lane tasks = filter (is_of_lane lane) tasks
 
 -- a worker that gave so many shares away
-abbrev pub giving : ℕ → View → View
-giving count v = record { numbers = record v.numbers { shares = v.numbers.shares - count }; turn = v.turn }
+abbrev pub giving_shares : ℕ → View → View
+giving_shares count v = record { numbers = record v.numbers { shares = v.numbers.shares - count }; turn = v.turn }
 
 -- What came back of a lane: its number, what its worker knows, and the answers to its records.
 pub record Part : Type 0 where

@@ -30,7 +30,7 @@ pub record IsBetween (begin : Begin) (old new : View) (key number : ℕ) : Type 
   pub most : number ≤ top row new.numbers.nexts
 
 -- the new view knows all that the old one knew, or more
-pub record Grows (old new : View) : Type 0 where
+pub record KnowsMore (old new : View) : Type 0 where
   pub nexts : (row : ℕ) → top row old.numbers.nexts ≤ top row new.numbers.nexts
   pub earlier : Earlier old.turn.known new.turn.known
   pub opening : new.turn.known.opening ≡ old.turn.known.opening

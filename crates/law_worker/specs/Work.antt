@@ -14,7 +14,7 @@ use Rattle.counter_table.specs.Turn.{stands}
 use Rattle.law_history.specs.Legal.{AsksFor, IsLegalAt}
 use Rattle.law_history.specs.Counts.{is_of_record, is_of_none, count_at, drawers}
 use Rattle.law_worker.specs.Begin.{Begin}
-use Rattle.law_worker.specs.Views.{Gains, Gained, Grows, IsBetween, log_of, entries_in}
+use Rattle.law_worker.specs.Views.{Gains, Gained, KnowsMore, IsBetween, log_of, entries_in}
 
 -- how many of the records have this index
 abbrev pub indexed : ℕ → List Record → ℕ
@@ -55,6 +55,6 @@ pub record Works (begin : Begin) (old new : View) (gains : Gains) (tasks : List 
 pub record Worked (begin : Begin) (old new : View) (tasks : List Record) : Type 0 where
   pub gains : Gains
   pub gained : Gained old new gains
-  pub grows : Grows old new
+  pub grows : KnowsMore old new
   pub sparing : IsSparing old.turn.known new.turn.known
   pub works : Works begin old new gains tasks

@@ -4,10 +4,10 @@ ghost use Rattle.std.specs.List.{AllPairs};
 ghost use Rattle.counter_table.specs.declared.view.View.{View};
 ghost use Rattle.record_io.specs.declared.records.Record.{Record};
 ghost use Rattle.law_worker.specs.Begin.{Begin};
-ghost use Rattle.law_worker.specs.Views.{Grows, keeping, meeting, Meets, starting};
+ghost use Rattle.law_worker.specs.Views.{KnowsMore, keeping, meeting, Meets, starting};
 ghost use Rattle.law_worker.specs.Deeds.{AllBoth, AtOnce, Deed};
 ghost use Rattle.law_worker.specs.Order.{AreAside, ComeBefore, Handled, Layout, LiesIn, TakeTurns};
-ghost use Rattle.law_worker.specs.Lanes.{DidPart, giving, MeetAll, meeting_all, Part, parts_deeds};
+ghost use Rattle.law_worker.specs.Lanes.{DidPart, giving_shares, MeetAll, meeting_all, Part, parts_deeds};
 
 /// Law: a worker that did nothing did so with any records, and gave no answers.
 pub fn handled_nothing()
@@ -37,7 +37,7 @@ pub fn handled_beside()
 pub fn lanes_handled()
     ensures { (layout : Layout) (begin : Begin) (base now : View) (segment : ℕ) (tasks : List Record) (parts : List Part) (deeds : List Deed)
         → LiesIn layout segment tasks → length parts < base.numbers.shares → base.turn.holds ≡ false → base.turn.filled ≡ true
-        → now ≡ giving (length parts) base → All (DidPart layout begin base segment tasks) parts → MeetAll begin.rows now parts
+        → now ≡ giving_shares (length parts) base → All (DidPart layout begin base segment tasks) parts → MeetAll begin.rows now parts
         → AllPairs (λ (one other : Part). one.number ≢ other.number) parts
         → All (Contains (parts_deeds segment tasks parts)) deeds → Handled layout begin base (meeting_all now parts) tasks deeds }
 {}
@@ -46,5 +46,5 @@ pub fn lanes_handled()
 pub fn lanes_grow()
     ensures { (begin : Begin) (now : View) (parts : List Part) → now.turn.holds ≡ false → now.turn.filled ≡ true
         → All (λ (part : Part). part.knows.turn.known.opening ≡ now.turn.known.opening) parts → MeetAll begin.rows now parts
-        → All (λ (part : Part). Grows part.knows (meeting_all now parts)) parts }
+        → All (λ (part : Part). KnowsMore part.knows (meeting_all now parts)) parts }
 {}

@@ -7,7 +7,7 @@ use Rattle.record_io.specs.declared.kinds.ItemKind.{ItemKind}
 use Rattle.record_io.specs.declared.records.Record.{Record}
 use Rattle.record_io.specs.Input.{Item}
 use Rattle.record_io.specs.Places.{Place, Count, behind, behind_record, counted, places_at, places_from, records_of}
-use Rattle.record_io.specs.Steps.{items_of, AreNumbered, Closes}
+use Rattle.record_io.specs.Steps.{items_of, AreNumbered, ClosesSegment}
 
 pub counted-append : (c : Count) (xs ys : List Item) → counted c (xs ++ ys) ≡ counted (counted c xs) ys
 counted-append c [] ys = refl
@@ -80,7 +80,7 @@ same_records (r ∷ records) c (here, numbered) =
     ∙ ap (λ (l : List Record). r ∷ l) (same_records records (behind_record c) number)
 
 -- what closes a segment has no record
-pub closing : (records : List Record) (close : List Item) (c : Count) → c.inside ≡ 0 → Closes (length records) close
+pub closing : (records : List Record) (close : List Item) (c : Count) → c.inside ≡ 0 → ClosesSegment (length records) close
     → counted c (items_of records ++ close) ≡ record { index = c.index + length records; segment = c.segment + 1; inside = 0 }
 closing records close c start (inl (few, item, fence, only)) =
     let some : counted c (items_of records) ≡ record { index = c.index + length records; segment = c.segment; inside = c.inside + length records } =
@@ -94,7 +94,7 @@ closing records close c start (inr (full, none)) =
     ∙ ap (λ (l : List Item). counted c l) (append-nil (items_of records))
     ∙ counted_full records c (omega (arith, start, full)) (omega (arith, full))
 
-pub no_more_records : (records : List Record) (close : List Item) (c : Count) → Closes (length records) close
+pub no_more_records : (records : List Record) (close : List Item) (c : Count) → ClosesSegment (length records) close
     → AreNumbered c.index records → records_of (places_from c (items_of records ++ close)) ≡ records
 no_more_records records close c (inl (few, item, fence, only)) numbered =
     let d : Count = counted c (items_of records) in

@@ -14,7 +14,7 @@ use Rattle.record_io.specs.declared.heads.Head.{Head}
 use Rattle.record_io.specs.declared.reader.Read.{Read}
 use Rattle.record_io.specs.declared.reader.Read.TheVariants as reads
 use Rattle.record_io.specs.Input.{Item, IsItem, most_octets, item_octets, items_octets, LacksItem, MOST_OCTETS}
-use Rattle.record_io.specs.Steps.{IsHead, IsNoHead, still_counted, Fails, Took, item_of, items_of, AreNumbered, Continues, Breaks, EndsBehind, ReadsItem, Wants}
+use Rattle.record_io.specs.Steps.{IsHead, IsNoHead, still_counted, TakesTooFew, Took, item_of, items_of, AreNumbered, ReadsOn, Breaks, EndsBehind, ReadsItem, Wants}
 use Rattle.record_io.proofs.Items.{items_octets-append, not_empty, lacks_short, lacks_head, lacks_octets, lacks_front, length-head, spelled_item, item_is}
 
 -- nothing was taken
@@ -86,7 +86,7 @@ breaks_at_head told old header left offset at within six none = record {
 
 -- the head of a fence, which ends the segment
 pub continues_at_fence : (told : Bool) (old new : ℕ) (header left : List ℕ) (head : Head) → IsHead header head → head.kind ≡ Fence
-    → new ≡ old + 6 → new ≤ MOST_OCTETS → Continues told 0 [] old new (header ++ left) left
+    → new ≡ old + 6 → new ≤ MOST_OCTETS → ReadsOn told 0 [] old new (header ++ left) left
 continues_at_fence told old new header left head found fence counted few =
     let none : head.len ≡ 0 = omega (arith, subst (λ (kind : ItemKind). head.len ≤ most_octets kind) fence found.short) in
     let item : Item = record { kind = head.kind; lane = head.lane; link = head.link; octets = [] } in
@@ -103,7 +103,7 @@ continues_at_fence told old new header left head found fence counted few =
 
 -- a fault behind the head
 pub fails_behind : (told : Bool) (old mid : ℕ) (header left_old left_new : List ℕ) (head : Head) → IsHead header head
-    → mid ≡ old + 6 → (f : Fails told head.len mid left_old left_new)
+    → mid ≡ old + 6 → (f : TakesTooFew told head.len mid left_old left_new)
     → Took told [] (header ++ f.part) old (header ++ left_old) left_new
 fails_behind told old mid header left_old left_new head found counted f =
     took_part told (header ++ f.part) old (header ++ left_old) left_new

@@ -9,8 +9,8 @@ use Rattle.record_io.specs.declared.records.SegmentEnd.{SegmentEnd}
 use Rattle.record_io.specs.declared.records.SegmentEnd.TheVariants.{More, End, Malformed, SourceFault}
 use Rattle.record_io.specs.Input.{Item, IsItem, item_octets, items_octets, beginning, AreRead, MOST_OCTETS}
 use Rattle.record_io.specs.Places.{Count, first_count, counted}
-use Rattle.record_io.specs.Reading.{SourceSeen, Standing, IsReading, Takes, ReadsLast, ReadsTo, Loses, HasFaultCause}
-use Rattle.record_io.specs.Steps.{still_counted, Moves, Took, items_of, AreNumbered, Segment, Wants, Closes, due_beginning, Misses, EndsBefore}
+use Rattle.record_io.specs.Reading.{SourceSeen, Standing, IsReading, HasTaken, ReadsLast, ReadsTo, Loses, HasFaultCause}
+use Rattle.record_io.specs.Steps.{still_counted, Moves, Took, items_of, AreNumbered, Segment, Wants, ClosesSegment, due_beginning, Misses, EndsBefore}
 use Rattle.record_io.proofs.Items.{items_octets-append, length-item, not_empty}
 use Rattle.record_io.proofs.Counting.{counts_more}
 use Rattle.record_io.proofs.Placing.{counted-append, counted_some, same_records, closing, no_more_records}
@@ -71,7 +71,7 @@ module _ (start mid now : SourceSeen) (standing : Standing) (items : List Item) 
   size more = omega (arith, ap length (read-append items more), length-append (read_of items) (items_octets more), h.taken_is)
 
   takes : (more : List Item) (part : List ℕ) → Took mid.told more part standing.taken mid.left now.left
-      → Takes start now (items ++ more) (read_of (items ++ more)) part
+      → HasTaken start now (items ++ more) (read_of (items ++ more)) part
   takes more part took = record {
     items_are = All-append IsItem items more h.items_are took.items_are;
     read_are = inr refl;
@@ -116,7 +116,7 @@ module _ (start mid now : SourceSeen) (standing : Standing) (items : List Item) 
       let numbered : AreNumbered c.index records = subst (λ (n : ℕ). AreNumbered n records) h.records_are segment.numbered in
       let counts : counted first_count (items ++ more) ≡ record { index = c.index + length records; segment = c.segment + 1; inside = 0 } =
       counted-append first_count items more ∙ closing records close c h.closed segment.ends.closes in
-      let all : Takes start now (items ++ more) (read_of (items ++ more)) [] = takes more [] segment.ends.took in
+      let all : HasTaken start now (items ++ more) (read_of (items ++ more)) [] = takes more [] segment.ends.took in
       record {
         more = more;
         read = read_of (items ++ more);
@@ -258,7 +258,7 @@ six_each [] = omega arith
 six_each (item ∷ items) =
     omega (arith, six_each items, length-item item, length-append (item_octets item) (items_octets items))
 
-closed_by_some : (records : List Record) (close : List Item) → Closes (length records) close → 0 < length (items_of records ++ close)
+closed_by_some : (records : List Record) (close : List Item) → ClosesSegment (length records) close → 0 < length (items_of records ++ close)
 closed_by_some records close (inl (few, item, fence, only)) = omega (arith, length-append (items_of records) close, ap length only)
 closed_by_some [] close (inr (full, none)) = absurd (omega (arith, full))
 closed_by_some (r ∷ records) close (inr (full, none)) = omega (arith, length-append (items_of (r ∷ records)) close)

@@ -24,7 +24,7 @@ first_standing = record { taken = 0; records = 0 }
 
 -- What was taken from the start on: the beginning, these items, and a part of what is behind them, in which what is due
 -- there does not stand whole.
-pub record Takes (start now : SourceSeen) (items : List Item) (read part : List ℕ) : Type 0 where
+pub record HasTaken (start now : SourceSeen) (items : List Item) (read part : List ℕ) : Type 0 where
   pub items_are : All IsItem items
   pub read_are : AreRead read items
   pub taken : IsTrue start.told → start.left ≡ read ++ (part ++ now.left)
@@ -55,7 +55,7 @@ pub record ReadsLast (start now : SourceSeen) (items : List Item) (records : Lis
   pub more : List Item
   pub read : List ℕ
   pub part : List ℕ
-  pub takes : Takes start now (items ++ more) read part
+  pub takes : HasTaken start now (items ++ more) read part
   pub records_are : records ≡ records_of (places_from (counted first_count items) more)
   pub one_segment : (counted first_count (items ++ more)).segment ≡ (counted first_count items).segment
 
@@ -73,7 +73,7 @@ pub record Loses (start now : SourceSeen) (items : List Item) : Type 0 where
   pub more : List Item
   pub read : List ℕ
   pub part : List ℕ
-  pub takes : Takes start now (items ++ more) read part
+  pub takes : HasTaken start now (items ++ more) read part
 
 -- a fault of the source comes with its count, and only where that rose
 abbrev pub HasFaultCause : ℕ → ℕ → SegmentEnd → Type 0

@@ -34,7 +34,7 @@ pub record Moves (told : Bool) (octets : List ℕ) (taken taken_new : ℕ) (left
   pub moved : IsTrue told → left_old ≡ octets ++ left_new
 
 -- some octets were taken, fewer than so many and no more than count
-pub record Fails (told : Bool) (most taken : ℕ) (left_old left_new : List ℕ) : Type 0 where
+pub record TakesTooFew (told : Bool) (most taken : ℕ) (left_old left_new : List ℕ) : Type 0 where
   pub part : List ℕ
   pub moved : IsTrue told → left_old ≡ part ++ left_new
   pub few : length part < most
@@ -60,14 +60,14 @@ AreNumbered n [] = ⊤
 AreNumbered n (r ∷ records) = (r.index ≡ n) × AreNumbered (n + 1) records
 
 -- what ends a segment behind so many records: a fence, or nothing where they are 1,024
-abbrev pub Closes : ℕ → List Item → Type 0
-Closes count close =
+abbrev pub ClosesSegment : ℕ → List Item → Type 0
+ClosesSegment count close =
     ((count < SEGMENT_RECORDS) × (fence : Item) × (fence.kind ≡ Fence) × (close ≡ fence ∷ [])) ⊎ ((count ≡ SEGMENT_RECORDS) × (close ≡ []))
 
 -- the items were read, and those that close the segment
-pub record Continues (told : Bool) (count : ℕ) (items : List Item) (taken taken_new : ℕ) (left_old left_new : List ℕ) : Type 0 where
+pub record ReadsOn (told : Bool) (count : ℕ) (items : List Item) (taken taken_new : ℕ) (left_old left_new : List ℕ) : Type 0 where
   pub close : List Item
-  pub closes : Closes count close
+  pub closes : ClosesSegment count close
   pub took : Took told (items ++ close) [] taken left_old left_new
   pub counted : taken_new ≡ taken + length (items_octets (items ++ close))
 
@@ -81,7 +81,7 @@ pub record Breaks (told : Bool) (items : List Item) (taken : ℕ) (left_old left
 
 -- what is so behind the records of a segment, by the end that is answered
 abbrev pub EndsBehind : Bool → ℕ → List Item → ℕ → ℕ → List ℕ → List ℕ → SegmentEnd → Type 0
-EndsBehind told count items taken taken_new left_old left_new More = Continues told count items taken taken_new left_old left_new
+EndsBehind told count items taken taken_new left_old left_new More = ReadsOn told count items taken taken_new left_old left_new
 EndsBehind told count items taken taken_new left_old left_new End = (count < SEGMENT_RECORDS)
     × Took told items [] taken left_old left_new
     × (IsTrue told → still_counted (taken + length (items_octets items)) left_new ≡ [])
@@ -107,9 +107,9 @@ IsFaultRead before now (reads.Next kind lane link octets) = ⊤
 IsFaultRead before now (reads.Ends end) = HasFaultCause before now end
 
 -- the count of records stays, and where a record was read there are octets enough for one more
-abbrev pub IsCounted : Standing → Standing → Read → Type 0
-IsCounted old new (reads.Next kind lane link octets) = (new.records ≡ old.records) × (6 * (new.records + 1) ≤ new.taken)
-IsCounted old new (reads.Ends end) = new.records ≡ old.records
+abbrev pub CountsRecords : Standing → Standing → Read → Type 0
+CountsRecords old new (reads.Next kind lane link octets) = (new.records ≡ old.records) × (6 * (new.records + 1) ≤ new.taken)
+CountsRecords old new (reads.Ends end) = new.records ≡ old.records
 
 -- The records of a segment, numbered on, and what ends it.
 pub record Segment (told : Bool) (old new : Standing) (left_old left_new : List ℕ) (records : List Record)

@@ -3,7 +3,7 @@ ghost use Rattle.std.specs.Prelude.{ℕ, List, ◌≡◌, ◌+◌, ◌-◌, ◌*
 ghost use Rattle.sdls_outside.specs.Faults.{HasCause};
 ghost use Rattle.record_io.specs.Input.{Item, MOST_OCTETS};
 ghost use Rattle.record_io.specs.Reading.{SourceSeen, Standing, first_standing, IsReading, ReadsTo, Loses, HasFaultCause};
-ghost use Rattle.record_io.specs.Steps.{still_counted, Fails, Moves, ReadsItem, Wants, IsFaultRead, IsCounted, Segment, due_beginning, EndsBefore};
+ghost use Rattle.record_io.specs.Steps.{still_counted, TakesTooFew, Moves, ReadsItem, Wants, IsFaultRead, CountsRecords, Segment, due_beginning, EndsBefore};
 
 use crate::heads::{Head, head_of};
 use crate::kinds::{ItemKind, RecordKind};
@@ -81,7 +81,7 @@ impl Reader {
 
         ensures few { IfOk result (λ _. self.new.taken ≤ MOST_OCTETS) }
         ensures uncounted { OnErr result (self.new ≡ self.old) }
-        ensures short { OnErr result (Fails S.told (length room.old) self.old.taken (S.left source.old) (S.left source.new)) }
+        ensures short { OnErr result (TakesTooFew S.told (length room.old) self.old.taken (S.left source.old) (S.left source.new)) }
         ensures cause { HasCause (S.faults source.old) (S.faults source.new) result }
     {
         let most = room.len().min((u64::MAX - self.taken) as usize);
@@ -108,7 +108,7 @@ impl Reader {
         ensures few { IfOk result (λ taken. IfOk taken (λ _. self.new.taken ≤ MOST_OCTETS)) }
         ensures uncounted { IfOk result (λ taken. OnErr taken (self.new ≡ self.old)) }
         ensures short { IfOk result (λ taken. OnErr taken (
-            Fails S.told len self.old.taken (S.left source.old) (S.left source.new))) }
+            TakesTooFew S.told len self.old.taken (S.left source.old) (S.left source.new))) }
         ensures untaken { OnErr result ((self.new ≡ self.old) × (S.left source.new ≡ S.left source.old)) }
         ensures later { S.faults source.old ≤ S.faults source.new }
         ensures cause { IfOk result (HasCause (S.faults source.old) (S.faults source.new)) }
@@ -174,7 +174,7 @@ impl Reader {
     fn read_item<S: Source>(&mut self, alloc: Global, source: &mut S) -> Result<Read, NoMemory>
         ensures read { IfOk result (ReadsItem S.told self.old.taken self.new.taken (S.left source.old) (S.left source.new)) }
         ensures wants { OnErr result (Wants S.told self.old.taken (S.left source.old) (S.left source.new)) }
-        ensures counted { IfOk result (λ read. IsCounted self.old self.new read) }
+        ensures counted { IfOk result (λ read. CountsRecords self.old self.new read) }
         ensures later { S.faults source.old ≤ S.faults source.new }
         ensures cause { IfOk result (IsFaultRead (S.faults source.old) (S.faults source.new)) }
     {

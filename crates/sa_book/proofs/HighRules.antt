@@ -9,7 +9,7 @@ use Rattle.sdls_base.specs.declared.states.Direction.{Direction}
 use Rattle.sdls_base.specs.declared.states.Direction.TheVariants.{Send, Receive}
 use Rattle.sa_book.specs.declared.sa_row.SaRow.{SaRow}
 use Rattle.sa_book.specs.SaRow.{IsSaRow, HasHigh}
-use Rattle.sa_book.specs.SaBook.{AreApart, IsSaBook}
+use Rattle.sa_book.specs.SaBook.{RowsAreApart, IsSaBook}
 use Rattle.sa_book.specs.SaRefusal.{receives_with, is_receiving, is_key}
 use Rattle.sa_book.specs.Numbers.{with_high, lowered, all_high}
 use Rattle.sdls_base.proofs.Searches.{pairs_map}
@@ -28,7 +28,7 @@ IsSaBook-highs rows h ok has =
     record {
       most = subst (λ n. n ≤ MOST_ASSOCIATIONS) (sym (length-map rows g)) ok.most;
       each = All-map IsSaRow g rows (λ k d low. IsSaRow-high (get_or rows k d) (h (get_or rows k d)) (ok.each k d low) (has (get_or rows k d) (ok.each k d low)));
-      apart = pairs_map AreApart g rows (λ a b apart. record { order = apart.order; channels = apart.channels; keys = apart.keys }) ok.apart;
+      apart = pairs_map RowsAreApart g rows (λ a b apart. record { order = apart.order; channels = apart.channels; keys = apart.keys }) ok.apart;
     }
 
 -- lower numbers

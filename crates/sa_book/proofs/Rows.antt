@@ -16,7 +16,7 @@ use Rattle.sa_book.specs.declared.sa_row.SaRow.{SaRow}
 use Rattle.sa_book.specs.declared.sa_refusal.SaRefusal.{SaRefusal}
 use Rattle.sa_book.specs.declared.sa_refusal.SaRefusal.TheVariants.{UnknownSpi}
 use Rattle.sa_book.specs.SaRow.{IsSaRow}
-use Rattle.sa_book.specs.SaBook.{AreApart, IsSaBook, MayFollow, row_of, place_of, changed, without, with_row}
+use Rattle.sa_book.specs.SaBook.{RowsAreApart, IsSaBook, MayFollow, row_of, place_of, changed, without, with_row}
 use Rattle.sa_book.specs.SaRefusal.{on_row}
 use Rattle.sdls_base.proofs.Searches.{find_placed, find_nowhere, chosen, left_out, pairs_set}
 
@@ -112,14 +112,14 @@ pub record Agree (a b : SaRow) : Type 0 where
   pub channels : a.state ≡ Operational → b.state ≡ Operational → a.direction ≡ b.direction → (channel : ℕ) → Contains a.channels channel → Contains b.channels channel → ⊥
   pub keys : a.direction ≡ Receive → b.direction ≡ Receive → (key : ℕ) → a.key ≡ Some key → b.key ≡ Some key → ⊥
 
-agree_before : (a b : SaRow) → AreApart a b → Agree b a
+agree_before : (a b : SaRow) → RowsAreApart a b → Agree b a
 agree_before a b ok =
     record {
       channels = λ sb sa same channel inb ina. ok.channels sa sb (sym same) channel ina inb;
       keys = λ db da key kb ka. ok.keys da db key ka kb;
     }
 
-agree_behind : (a b : SaRow) → AreApart a b → Agree a b
+agree_behind : (a b : SaRow) → RowsAreApart a b → Agree a b
 agree_behind a b ok = record { channels = ok.channels; keys = ok.keys }
 
 -- a row agrees with every other
@@ -129,7 +129,7 @@ agree_elsewhere rows i k d ok at_i at_k not_i =
     (λ (more : i < k). agree_behind (get_or rows i d) (get_or rows k d) (ok.apart i k d more at_k))
     (let apart : (k < i) ⊎ (i < k) = ⊎_elim (λ x. inl x) (λ x. inr (omega arith)) (cases_lt k i) in apart)
 
-apart_before : (other new : SaRow) → other.spi < new.spi → Agree new other → AreApart other new
+apart_before : (other new : SaRow) → other.spi < new.spi → Agree new other → RowsAreApart other new
 apart_before other new order ok =
     record {
       order = order;
@@ -137,7 +137,7 @@ apart_before other new order ok =
       keys = λ d_o dn key ko kn. ok.keys dn d_o key kn ko;
     }
 
-apart_behind : (new other : SaRow) → new.spi < other.spi → Agree new other → AreApart new other
+apart_behind : (new other : SaRow) → new.spi < other.spi → Agree new other → RowsAreApart new other
 apart_behind new other order ok = record { order = order; channels = ok.channels; keys = ok.keys }
 
 -- a write of a row that keeps its index and agrees with every other keeps the rules
@@ -149,7 +149,7 @@ IsSaBook-set rows i row new ok within read rules same_spi agrees =
     record {
       most = subst (λ n. n ≤ MOST_ASSOCIATIONS) (sym (length-set rows i new)) ok.most;
       each = All-set IsSaRow rows i new rules ok.each;
-      apart = pairs_set AreApart rows i new within
+      apart = pairs_set RowsAreApart rows i new within
           (λ k d less.
           let o : (get_or rows k d).spi < (get_or rows i d).spi = (ok.apart k i d less within).order in
           apart_before (get_or rows k d) new
@@ -205,7 +205,7 @@ IsSaBook-remove rows i ok within =
     record {
       most = omega (arith, length-remove rows i within);
       each = All-append IsSaRow (take i rows) (drop (suc i) rows) (All-take IsSaRow i rows ok.each) (All-drop IsSaRow (suc i) rows ok.each);
-      apart = all_pairs_remove AreApart rows i within ok.apart;
+      apart = all_pairs_remove RowsAreApart rows i within ok.apart;
     }
 
 -- insertion
@@ -265,7 +265,7 @@ IsSaBook-insert rows row ok room rules others agrees =
       most = subst (λ m. m ≤ MOST_ASSOCIATIONS) (sym (length-insert rows n row fits)) room;
       each = All-append IsSaRow (take n rows) (row ∷ drop n rows) (All-take IsSaRow n rows ok.each)
           (All-cons IsSaRow row (drop n rows) rules (All-drop IsSaRow n rows ok.each));
-      apart = pairs_insert AreApart rows n row fits
+      apart = pairs_insert RowsAreApart rows n row fits
           (λ k d less.
           let not_above : row.spi < (get_or rows k d).spi → ⊥ = not_less _ _ (fails_before_first p rows k d less) in
           let other = others k d (omega arith) in
@@ -285,7 +285,7 @@ IsSaBook-push rows row ok may =
     record {
       most = subst (λ n. n ≤ MOST_ASSOCIATIONS) (sym (length_push rows row)) may.room;
       each = All-push IsSaRow rows row ok.each may.rules;
-      apart = all_pairs_push AreApart rows row ok.apart may.apart;
+      apart = all_pairs_push RowsAreApart rows row ok.apart may.apart;
     }
 
 pub there_and : {X : Type 0} (o : Option X) (P : X → Type 0) → IsSomeAnd o P → IsSome o
@@ -302,6 +302,6 @@ may_follow rows i d ok within =
       rules = ok.each i d within;
       apart = λ k e low.
           let less : k < i = subst (λ n. k < n) front low in
-          subst (λ (row : SaRow). AreApart (get_or (take i rows) k e) row) (sym (get_or_default rows i d e within))
-          (subst (λ (other : SaRow). AreApart other (get_or rows i e)) (sym (get_or-take i rows k e less)) (ok.apart k i e less within));
+          subst (λ (row : SaRow). RowsAreApart (get_or (take i rows) k e) row) (sym (get_or_default rows i d e within))
+          (subst (λ (other : SaRow). RowsAreApart other (get_or rows i e)) (sym (get_or-take i rows k e less)) (ok.apart k i e less within));
     }

@@ -12,7 +12,7 @@ use Rattle.sa_book.specs.SaRow.{IsSaRow}
 
 -- The rules of a row and one that stands behind it: indexes ascend; of one direction at most one operational
 -- association covers a channel; at most one receiving association holds a key.
-pub record AreApart (a b : SaRow) : Type 0 where
+pub record RowsAreApart (a b : SaRow) : Type 0 where
   pub order : a.spi < b.spi
   pub channels : a.state ≡ Operational → b.state ≡ Operational → a.direction ≡ b.direction
       → (channel : ℕ) → Contains a.channels channel → Contains b.channels channel → ⊥
@@ -23,7 +23,7 @@ pub record AreApart (a b : SaRow) : Type 0 where
 pub record IsSaBook (rows : List SaRow) : Type 0 where
   pub most : length rows ≤ MOST_ASSOCIATIONS
   pub each : All IsSaRow rows
-  pub apart : AllPairs AreApart rows
+  pub apart : AllPairs RowsAreApart rows
 
 -- the row of an association
 abbrev pub row_of : List SaRow → ℕ → Option SaRow
@@ -49,7 +49,7 @@ with_row rows row = insert rows (position_or_len (λ other. nat_lt row.spi other
 pub record MayFollow (rows : List SaRow) (row : SaRow) : Type 0 where
   pub room : length rows + 1 ≤ MOST_ASSOCIATIONS
   pub rules : IsSaRow row
-  pub apart : All (λ other. AreApart other row) rows
+  pub apart : All (λ other. RowsAreApart other row) rows
 
 abbrev pub is_operational : SaState → Bool
 is_operational Operational = true

@@ -21,8 +21,8 @@ use Rattle.sa_book.specs.declared.sa_refusal.SaRefusal.TheVariants.{UnknownSpi, 
 use Rattle.sa_book.specs.SaBook.{row_of, covers}
 
 -- a refusal is want of memory, or the first that applies
-abbrev pub IsRefusal : SaRefusal → Option SaRefusal → Type 0
-IsRefusal refusal first = (refusal ≡ NoMemory) ⊎ (first ≡ Some refusal)
+abbrev pub IsSaRefusal : SaRefusal → Option SaRefusal → Type 0
+IsSaRefusal refusal first = (refusal ≡ NoMemory) ⊎ (first ≡ Some refusal)
 
 -- an association that is not there, and else its refusal
 abbrev pub on_row : Option SaRow → (SaRow → Option SaRefusal) → Option SaRefusal

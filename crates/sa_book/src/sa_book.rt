@@ -9,7 +9,7 @@ ghost use Rattle.sa_book.specs.SaRow.{MayAccept, new_row, with_key, without_key,
 ghost use Rattle.sa_book.specs.SaBook.{IsSaBook, MayFollow, row_of, changed, without, with_row, sender_on, in_use};
 ghost use Rattle.sa_book.specs.Numbers.{lowered, all_high};
 ghost use Rattle.sdls_base.specs.KeyId.{end_of};
-ghost use Rattle.sa_book.specs.SaRefusal.{IsRefusal, create_refusal, rekey_refusal, start_refusal, stop_refusal, expire_refusal, delete_refusal, set_number_refusal, set_window_refusal, read_number_refusal};
+ghost use Rattle.sa_book.specs.SaRefusal.{IsSaRefusal, create_refusal, rekey_refusal, start_refusal, stop_refusal, expire_refusal, delete_refusal, set_number_refusal, set_window_refusal, read_number_refusal};
 
 use crate::sa_refusal::SaRefusal;
 use crate::sa_row::{SaRow, following};
@@ -55,7 +55,7 @@ impl SaBook {
         requires numbers { All (λ channel. channel ≤ 63) new.now.channels }
         ensures created { OnOk result (self.new ≡ with_row self.old (new_row new.now)) }
         ensures accepted { OnOk result (create_refusal self.old new.now known.now ≡ None) }
-        ensures refused { IfErr result (λ refusal. IsRefusal refusal (create_refusal self.old new.now known.now)) }
+        ensures refused { IfErr result (λ refusal. IsSaRefusal refusal (create_refusal self.old new.now known.now)) }
         ensures kept { OnErr result (self.new ≡ self.old) }
     {
         judging::judge_create(&self.rows, new, known)?;

@@ -24,7 +24,7 @@ fails_next plan =
     list_any (λ call. call == plan.made) plan.failing || option_map_or (λ from. nat_le from plan.made) plan.dead_from false
 
 -- a call was made that failed just where it was to fail
-pub record Enters {T E : Type 0} (old new : Plan) (result : Result T E) : Type 0 where
+pub record FailsWhenDue {T E : Type 0} (old new : Plan) (result : Result T E) : Type 0 where
   pub fails : is_err result ≡ fails_next old
   pub counts : new ≡ record old { made = counted old.made }
 

@@ -15,7 +15,7 @@ pub struct Calls {
 }
 
 impl Calls {
-    ghost use Rattle.sdls_outside.specs.Calls.{Enters, counted, fails_next, plan_of, planned};
+    ghost use Rattle.sdls_outside.specs.Calls.{FailsWhenDue, counted, fails_next, plan_of, planned};
 
     pub fn new(failing: Vec<u64>, dead_from: Option<u64>) -> Self
         ensures plan { plan_of result ≡ planned failing.items dead_from }
@@ -31,7 +31,7 @@ impl Calls {
 
     // Counts a call, and its fault where it is to fail.
     pub fn enter(&mut self) -> Result<(), Failed>
-        ensures enters { Enters (plan_of self.old) (plan_of self.new) result }
+        ensures enters { FailsWhenDue (plan_of self.old) (plan_of self.new) result }
         ensures cause { HasCause self.old.faults self.new.faults result }
     {
         let fails = self.is_to_fail();

@@ -94,7 +94,7 @@ impl MemSite {
 
 impl Site for MemSite {
     ghost use Rattle.sdls_outside.specs.Site.{after_put};
-    ghost use Rattle.sdls_outside.specs.Calls.{Enters, counted, fails_next};
+    ghost use Rattle.sdls_outside.specs.Calls.{FailsWhenDue, counted, fails_next};
     ghost use Rattle.sdls_outside.specs.MemSite.{site_trace, site_plan, site_faults, site_put_faults};
 
     ghost told = { true };
@@ -108,7 +108,7 @@ impl Site for MemSite {
     ghost image_may_stay = { λ site _. site.history.held.stays };
 
     fn begin(&mut self) -> Result<u64, Failed>
-        ensures enters { Enters (site_plan self.old) (site_plan self.new) result }
+        ensures enters { FailsWhenDue (site_plan self.old) (site_plan self.new) result }
         ensures image_length { IfOk result (λ n. n ≡ length (site_trace self.old).now.image) }
         ensures same { site_trace self.new ≡ site_trace self.old }
         ensures puts { site_put_faults self.new ≡ site_put_faults self.old }
@@ -120,7 +120,7 @@ impl Site for MemSite {
 
     fn read_at(&mut self, at: u64, into: &mut [u8]) -> Result<(), Failed>
         requires { at + length into.old ≤ length (site_trace self.old).now.image }
-        ensures enters { Enters (site_plan self.old) (site_plan self.new) result }
+        ensures enters { FailsWhenDue (site_plan self.old) (site_plan self.new) result }
         ensures read { OnOk result (into.new ≡ take (length into.old) (drop at (site_trace self.old).now.image)) }
         ensures unread { OnErr result (into.new ≡ into.old) }
         ensures same { site_trace self.new ≡ site_trace self.old }

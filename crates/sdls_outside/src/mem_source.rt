@@ -37,7 +37,7 @@ impl MemSource {
 }
 
 impl Source for MemSource {
-    ghost use Rattle.sdls_outside.specs.Calls.{Enters};
+    ghost use Rattle.sdls_outside.specs.Calls.{FailsWhenDue};
     ghost use Rattle.sdls_outside.specs.MemSource.{pieces_left, piece_of, source_plan, source_faults};
 
     ghost told = { true };
@@ -49,7 +49,7 @@ impl Source for MemSource {
     /// It fails at the calls listed, and at no other; else it gives all that there is and fits,
     /// up to a piece.
     fn take(&mut self, into: &mut [u8]) -> Result<usize, Failed>
-        ensures enters { Enters (source_plan self.old) (source_plan self.new) result }
+        ensures enters { FailsWhenDue (source_plan self.old) (source_plan self.new) result }
         ensures count { IfOk result (λ count. count
             ≡ min (piece_of self.old) (min (length into.old) (length (pieces_left self.old)))) }
         ensures filled { IfOk result (FillsFront into.old into.new) }

@@ -4,11 +4,11 @@ use Rattle.std.proofs.lemmas.List.{length-take-le, length-append}
 use Rattle.sdls_plain.specs.declared.refusal.Refusal.{Refusal}
 use Rattle.sdls_plain.specs.declared.refusal.Refusal.TheVariants.{Short, Long, Version, Spare, Spi, Mac}
 use Rattle.record_io.specs.declared.status.TheConstants.{DONE, REFUSED}
-use Rattle.sdls_plain.specs.Check.{Passes, IsFirstFault, data_field}
+use Rattle.sdls_plain.specs.Check.{PassesChecks, IsFirstFault, data_field}
 use Rattle.sdls_outside.specs.Intake.{Collects}
 use Rattle.std.specs.Result.{IfOk, IfErr}
 use Rattle.sdls_outside.specs.Moments.{Trace}
-use Rattle.sdls_plain.specs.Answer.{CheckDue, Answers, accepted_text, refused_text}
+use Rattle.sdls_plain.specs.Answer.{CheckDue, DeliversText, accepted_text, refused_text}
 
 -- the room for the input: one octet more than the longest frame
 abbrev room : ℕ
@@ -55,7 +55,7 @@ fault_of_whole key left_old left_new buffer count fault sized collects first = e
 
 -- a frame that passes is the whole input
 whole_passed : (key left_old left_new buffer : List ℕ) (count : ℕ) → length buffer ≡ room
-    → Collects left_old left_new buffer count → Passes key (take count buffer) → take count buffer ≡ left_old
+    → Collects left_old left_new buffer count → PassesChecks key (take count buffer) → take count buffer ≡ left_old
 whole_passed key left_old left_new buffer count sized collects passes = elim (cases_lt count room) [
   | inl short ↦ whole_short left_old left_new buffer count sized collects short
   | inr full ↦
@@ -65,7 +65,7 @@ whole_passed key left_old left_new buffer count sized collects passes = elim (ca
 
 -- what is due for an accepted frame
 pub accepted_due : (key left_old left_new buffer : List ℕ) (count : ℕ) (told : Bool) (rose : Type 0) → length buffer ≡ room
-    → (IsTrue told → Collects left_old left_new buffer count) → Passes key (take count buffer)
+    → (IsTrue told → Collects left_old left_new buffer count) → PassesChecks key (take count buffer)
     → CheckDue key (λ input. IsTrue told → input ≡ left_old) rose (accepted_text (data_field (take count buffer))) DONE
 accepted_due key left_old left_new buffer count told rose sized collects passes =
     inl (take count buffer, λ is_told. whole_passed key left_old left_new buffer count sized (collects is_told) passes, inl (passes, refl, refl))
@@ -83,18 +83,18 @@ refused_due key left_old left_new buffer count false rose fault sized collects f
 pub judged : {E : Type 0} (key left_old left_new buffer : List ℕ) (count : ℕ) (source_told site_told : Bool) (rose : Type 0)
     → (verdict : Result (Bor (List ℕ)) Refusal) (result : Result ℕ E) (old new : Trace) → length buffer ≡ room
     → (IsTrue source_told → Collects left_old left_new buffer count)
-    → IfOk verdict (λ field. Passes key (take count buffer) × (field.now ≡ data_field (take count buffer)))
+    → IfOk verdict (λ field. PassesChecks key (take count buffer) × (field.now ≡ data_field (take count buffer)))
     → IfErr verdict (IsFirstFault key (take count buffer))
-    → MatchResult verdict (λ field. Answers site_told (accepted_text field.now) DONE result old new)
-    (λ refusal. Answers site_told (refused_text refusal) REFUSED result old new)
+    → MatchResult verdict (λ field. DeliversText site_told (accepted_text field.now) DONE result old new)
+    (λ refusal. DeliversText site_told (refused_text refusal) REFUSED result old new)
     → (text : List ℕ) × (due : ℕ)
     × CheckDue key (λ input. IsTrue source_told → input ≡ left_old) rose text due
-    × Answers site_told text due result old new
+    × DeliversText site_told text due result old new
 judged key left_old left_new buffer count source_told site_told rose (Ok field) result old new sized collects passed failed answered = (
   accepted_text (data_field (take count buffer)),
   DONE,
   accepted_due key left_old left_new buffer count source_told rose sized collects passed.0,
-  subst (λ (data_octets : List ℕ). Answers site_told (accepted_text data_octets) DONE result old new) passed.1 answered,
+  subst (λ (data_octets : List ℕ). DeliversText site_told (accepted_text data_octets) DONE result old new) passed.1 answered,
 )
 judged key left_old left_new buffer count source_told site_told rose (Err fault) result old new sized collects passed failed answered = (
   refused_text fault,

@@ -16,7 +16,7 @@ use Rattle.unit_image.specs.declared.fault.OpenFault.TheVariants as faults
 use Rattle.unit_state.specs.declared.state.State.{State}
 use Rattle.unit_state.specs.Restart.{restarted}
 use Rattle.unit_state.specs.History.{after_first}
-use Rattle.unit_image.specs.Opening.{IsOpenCause, Opening}
+use Rattle.unit_image.specs.OpeningImage.{IsOpenCause, Opening}
 use Rattle.unit_image.specs.Shows.{Shows, ShowsNone}
 use Rattle.unit_book.specs.Book.{BookView, IsKept, Serves, with_put}
 use Rattle.sdls_plain.specs.declared.stat.StatEnd.{StatEnd}

@@ -5,7 +5,7 @@ use Rattle.sdls_outside.specs.Moments.{Trace}
 use Rattle.sdls_plain.specs.declared.refusal.Refusal.{Refusal}
 use Rattle.sdls_plain.specs.declared.refusal.Refusal.TheVariants.{Short, Long, Version, Spare, Spi, Mac}
 use Rattle.record_io.specs.declared.status.TheConstants.{DONE, REFUSED, SOURCE_FAULT, SITE_FAULT}
-use Rattle.sdls_plain.specs.Check.{Passes, IsFirstFault, data_field}
+use Rattle.sdls_plain.specs.Check.{PassesChecks, IsFirstFault, data_field}
 use Rattle.sdls_plain.specs.Output.{Sinks, SinksFront, Delivers}
 
 -- a text and a line feed
@@ -37,11 +37,11 @@ accepted_text field = line (codes "ok " ++ encode_lower field)
 -- what `check KEY` puts for an input, and the status that goes with it
 abbrev pub CheckOutput : List ℕ → List ℕ → List ℕ → ℕ → Type 0
 CheckOutput key input text status =
-    (Passes key input × (text ≡ accepted_text (data_field input)) × (status ≡ DONE))
+    (PassesChecks key input × (text ≡ accepted_text (data_field input)) × (status ≡ DONE))
     ⊎ ((fault : Refusal) × IsFirstFault key input fault × (text ≡ refused_text fault) × (status ≡ REFUSED))
 
 -- the text is delivered, and the status that goes with it is answered
-pub record Answers {E : Type 0} (told : Bool) (text : List ℕ) (due : ℕ) (result : Result ℕ E) (old new : Trace) : Type 0 where
+pub record DeliversText {E : Type 0} (told : Bool) (text : List ℕ) (due : ℕ) (result : Result ℕ E) (old new : Trace) : Type 0 where
   pub status : IfOk result (λ status. status ≡ due)
   pub delivered : IsTrue told → Delivers text result old new
 

@@ -37,13 +37,13 @@ abbrev pub data_field : List ℕ → List ℕ
 data_field frame = drop 12 (covered frame)
 
 -- the check that refuses so fails for the frame under the key
-abbrev pub Fails : List ℕ → List ℕ → Refusal → Type 0
-Fails key frame Short = length frame < least_length
-Fails key frame Long = greatest_length < length frame
-Fails key frame Version = version_of frame ≢ 1
-Fails key frame Spare = spare_of frame ≢ 0
-Fails key frame Spi = IsReserved (parameter_index frame)
-Fails key frame Mac = mac key (covered frame) ≢ trailer frame
+abbrev pub FailsCheck : List ℕ → List ℕ → Refusal → Type 0
+FailsCheck key frame Short = length frame < least_length
+FailsCheck key frame Long = greatest_length < length frame
+FailsCheck key frame Version = version_of frame ≢ 1
+FailsCheck key frame Spare = spare_of frame ≢ 0
+FailsCheck key frame Spi = IsReserved (parameter_index frame)
+FailsCheck key frame Mac = mac key (covered frame) ≢ trailer frame
 
 -- the place of a check in the order in which they are made: profile
 abbrev pub place : Refusal → ℕ
@@ -56,13 +56,13 @@ place Mac = 5
 
 -- this check fails, and none before it
 pub record IsFirstFault (key frame : List ℕ) (fault : Refusal) : Type 0 where
-  pub fails : Fails key frame fault
-  pub first : (other : Refusal) → place other < place fault → ¬ Fails key frame other
+  pub fails : FailsCheck key frame fault
+  pub first : (other : Refusal) → place other < place fault → ¬ FailsCheck key frame other
 
 -- no check fails
-abbrev pub Passes : List ℕ → List ℕ → Type 0
-Passes key frame = (check : Refusal) → ¬ Fails key frame check
+abbrev pub PassesChecks : List ℕ → List ℕ → Type 0
+PassesChecks key frame = (check : Refusal) → ¬ FailsCheck key frame check
 
 -- none of the first checks fails, so many of them, whatever the key
 abbrev pub PassesBefore : ℕ → List ℕ → Type 0
-PassesBefore n frame = (key : List ℕ) (check : Refusal) → place check < n → ¬ Fails key frame check
+PassesBefore n frame = (key : List ℕ) (check : Refusal) → place check < n → ¬ FailsCheck key frame check

@@ -24,8 +24,8 @@ abbrev pub IsStat : List (String Global) → Type 0
 IsStat words = map string_bytes words ≡ codes "stat" ∷ []
 
 -- the one word is `run`
-abbrev pub IsRun : List (String Global) → Type 0
-IsRun words = map string_bytes words ≡ codes "run" ∷ []
+abbrev pub IsRunWord : List (String Global) → Type 0
+IsRunWord words = map string_bytes words ≡ codes "run" ∷ []
 
 -- the words are none of `check KEY`, `init` and `stat`
 abbrev pub IsNoCommand : List (String Global) → Type 0

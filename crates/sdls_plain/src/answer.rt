@@ -1,6 +1,6 @@
 ghost use Rattle.std.specs.Prelude.{◌≡◌, IsTrue, MatchResult, IfOk};
 ghost use Rattle.sdls_outside.specs.Faults.{HasCause};
-ghost use Rattle.sdls_plain.specs.Answer.{Answers, accepted_text, refused_text};
+ghost use Rattle.sdls_plain.specs.Answer.{DeliversText, accepted_text, refused_text};
 ghost use Rattle.sdls_plain.specs.Output.{Delivers};
 
 use crate::output::{put_hexadecimal, put_text};
@@ -38,8 +38,8 @@ pub(crate) fn put_verdict<O: Site>(
     verdict: Result<&[u8], Refusal>,
 ) -> Result<u8, Failed>
     ensures answered { MatchResult verdict.entry
-        (λ field. Answers O.told (accepted_text field.now) DONE result (O.trace site.old) (O.trace site.new))
-        (λ refusal. Answers O.told (refused_text refusal) REFUSED result (O.trace site.old) (O.trace site.new)) }
+        (λ field. DeliversText O.told (accepted_text field.now) DONE result (O.trace site.old) (O.trace site.new))
+        (λ refusal. DeliversText O.told (refused_text refusal) REFUSED result (O.trace site.old) (O.trace site.new)) }
     ensures cause { HasCause (O.faults site.old) (O.faults site.new) result }
 {
     match verdict {

@@ -1,6 +1,6 @@
 ghost use Rattle.std.specs.Prelude.{◌≡◌, ℕ, ◌+◌, IsTrue, List};
 ghost use Rattle.sdls_outside.specs.Faults.{HasCause, Rose};
-ghost use Rattle.sdls_plain.specs.Answer.{Answers, CheckDue};
+ghost use Rattle.sdls_plain.specs.Answer.{DeliversText, CheckDue};
 ghost use Rattle.sdls_outside.specs.Intake.{TakesAtMost};
 
 use crate::answer::put_verdict;
@@ -21,7 +21,7 @@ pub(crate) fn put_check<S: Source, O: Site>(
     ensures due { (text : List ℕ) × (due : ℕ)
         × CheckDue key.now (λ input. IsTrue S.told → input ≡ S.left source.old)
         (Rose (S.faults source.old) (S.faults source.new)) text due
-        × Answers O.told text due result (O.trace site.old) (O.trace site.new) }
+        × DeliversText O.told text due result (O.trace site.old) (O.trace site.new) }
     ensures taken { IsTrue S.told → TakesAtMost (GREATEST_LENGTH + 1) (S.left source.old) (S.left source.new) }
     ensures cause { HasCause (O.faults site.old) (O.faults site.new) result }
 {

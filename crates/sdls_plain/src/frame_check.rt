@@ -1,7 +1,7 @@
 ghost use Rattle.std.specs.Prelude.{◌≡◌, ◌↔◌, ◌-◌, ◌≤◌, List, ℕ, length, drop, take, IfOk, IfErr, IsTrue};
 ghost use Rattle.cmac.specs.Cmac.{mac};
 ghost use Rattle.sdls_base.specs.Suite.{overhead_of};
-ghost use Rattle.sdls_plain.specs.Check.{Passes, PassesBefore, IsFirstFault, IsReserved, data_field};
+ghost use Rattle.sdls_plain.specs.Check.{PassesChecks, PassesBefore, IsFirstFault, IsReserved, data_field};
 
 use crate::refusal::Refusal;
 use aes_block::Schedule;
@@ -70,7 +70,7 @@ fn is_mac(key: &Schedule, text: &[u8], trailer: &[u8]) -> bool
 /// (CCSDS 732.0-B; CCSDS 355.0-B). There is no insert zone, no operational control field and no
 /// frame error control field.
 pub fn check_frame<'a>(key: &Schedule, frame: &'a [u8]) -> Result<&'a [u8], Refusal>
-    ensures accepted { IfOk result (λ field. Passes key.now frame.now × (field.now ≡ data_field frame.now)) }
+    ensures accepted { IfOk result (λ field. PassesChecks key.now frame.now × (field.now ≡ data_field frame.now)) }
     ensures refused { IfErr result (IsFirstFault key.now frame.now) }
 {
     let room = room_of(frame)?;

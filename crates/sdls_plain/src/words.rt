@@ -1,5 +1,5 @@
 ghost use Rattle.std.specs.Prelude.{◌≡◌, ◌↔◌, ℕ, List, IsTrue, MatchOption};
-ghost use Rattle.sdls_plain.specs.Words.{IsCheck, IsInit, IsKey, IsRun, IsStat};
+ghost use Rattle.sdls_plain.specs.Words.{IsCheck, IsInit, IsKey, IsRunWord, IsStat};
 
 use aes_block::Schedule;
 
@@ -54,7 +54,7 @@ pub(crate) fn is_stat(words: &[String]) -> bool
 
 /// Whether the words are `run` alone.
 pub fn is_run(words: &[String]) -> bool
-    ensures { IsTrue result ↔ IsRun words.now }
+    ensures { IsTrue result ↔ IsRunWord words.now }
 {
     match words {
         [command] => command.as_str() == "run",

@@ -10,7 +10,7 @@ ghost use Rattle.sdls_plain.specs.Answer.{Ends, EndsCheck, usage_text};
 ghost use Rattle.sdls_plain.specs.Init.{EndsInit};
 ghost use Rattle.sdls_plain.specs.Stat.{EndsStat};
 ghost use Rattle.sdls_plain.specs.Taking.{TakesFew};
-ghost use Rattle.sdls_plain.specs.Words.{IsCheck, IsInit, IsNoCommand, IsRun, IsStat};
+ghost use Rattle.sdls_plain.specs.Words.{IsCheck, IsInit, IsNoCommand, IsRunWord, IsStat};
 ghost use Rattle.unit_drill.specs.Drilled.{EndsDrill};
 ghost use Rattle.unit_drill.specs.Words.{IsDrill};
 
@@ -46,7 +46,7 @@ pub fn run<R: Threads + Wait + Sync, S: Source, O: Site + Send, G: Gate + Sync>(
     gate: &G,
 ) -> Outcome<O>
     // Each moment of the run is early or sound, and goes on with each life that left the image at the entry; why it ends is told.
-    ensures run { IsRun words.now →
+    ensures run { IsRunWord words.now →
         let before : SourceSeen = record { told = S.told; left = S.left source.old; faults = S.faults source.old } in
         let after : SourceSeen = record { told = S.told; left = S.left source.new; faults = S.faults source.new } in
         EndsAndLives (call_seen O.told O.trace O.faults O.put_faults site result.site before after result.status result.entries.items) }
@@ -54,7 +54,7 @@ pub fn run<R: Threads + Wait + Sync, S: Source, O: Site + Send, G: Gate + Sync>(
     ensures check { (key : List ℕ) → IsCheck words.now key → EndsCheck key
         (λ input. IsTrue S.told → input ≡ S.left source.old) (Rose (S.faults source.old) (S.faults source.new))
         O.told (O.trace site) (O.trace result.site) (Rose (O.faults site) (O.faults result.site)) result.status }
-    ensures taken { IsTrue S.told → ¬ IsRun words.now → TakesFew words.now (S.left source.old) (S.left source.new) }
+    ensures taken { IsTrue S.told → ¬ IsRunWord words.now → TakesFew words.now (S.left source.old) (S.left source.new) }
 
     ensures init { IsInit words.now → EndsInit
         (λ input. IsTrue S.told → input ≡ S.left source.old) (source.new ≡ source.old) (Rose (S.faults source.old) (S.faults source.new))
@@ -75,11 +75,11 @@ pub fn run<R: Threads + Wait + Sync, S: Source, O: Site + Send, G: Gate + Sync>(
     ensures drill { (number : ℕ) → IsDrill words.now number → EndsDrill number
         O.told (O.trace site) (O.trace result.site) (Rose (O.faults site) (O.faults result.site)) result.status }
 
-    ensures usage { IsNoCommand words.now → ¬ IsRun words.now → ((number : ℕ) → ¬ IsDrill words.now number)
+    ensures usage { IsNoCommand words.now → ¬ IsRunWord words.now → ((number : ℕ) → ¬ IsDrill words.now number)
         → Ends O.told (O.trace site) (O.trace result.site) (Rose (O.faults site) (O.faults result.site))
         usage_text USAGE result.status }
-    ensures untouched { IsNoCommand words.now → ¬ IsRun words.now → source.new ≡ source.old }
-    ensures no_history { ¬ IsRun words.now → result.entries.items ≡ [] }
+    ensures untouched { IsNoCommand words.now → ¬ IsRunWord words.now → source.new ≡ source.old }
+    ensures no_history { ¬ IsRunWord words.now → result.entries.items ≡ [] }
 {
     if is_run(words) {
         return run_recorded(rt, alloc, source, site, gate);

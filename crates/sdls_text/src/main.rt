@@ -56,7 +56,7 @@ fn asked(words: &[String]) -> Option<Mode> {
 }
 
 /// Says on standard error why the run ends, and answers its status.
-fn told(rt: &HostRuntime, end: End) -> io::Result<u8> {
+fn print_end(rt: &HostRuntime, end: End) -> io::Result<u8> {
     match end {
         End::Done => return Ok(0),
         End::LineFault(line, fault) => eprintln!(rt; "sdls_text: line {line}: {fault}")?,
@@ -89,7 +89,7 @@ fn main(rt: HostRuntime) -> ExitCode {
         Mode::Answers => put_answers(alloc, &mut source, &mut sink),
     };
     let status = end.status();
-    match told(&rt, end) {
+    match print_end(&rt, end) {
         Ok(status) => ExitCode::from(status),
         Err(_) => ExitCode::from(status),
     }

@@ -7,7 +7,7 @@ use Rattle.sdls_world.specs.declared.step.Step.{Step}
 use Rattle.sdls_world.specs.declared.step.Step.TheVariants.{Arm, Draw, Peek, Spend, See, Take, Give, Write, Sync, Lift, RaiseNext, Turn, Crash}
 use Rattle.sdls_world.specs.Core.{Doer, idle, Core, key_of, doer_of, on_found, holds_turn, drawing, funding, spending, arm_found, arm_step, draw_at, draw_step, peek_at, peek_step, spend_step, take_step, write_step, lift_step, raise_step, synced, restarted, after, after_all, begun, beginning}
 use Rattle.sdls_base.specs.Numbers.{one_if, times, total, once_below}
-use Rattle.sdls_world.specs.Kept.{is_last, unused, KeyKept, DoerKept, IsKept}
+use Rattle.sdls_world.specs.Kept.{is_last, unused, KeyKept, DoerKept, IsWorldKept}
 use Rattle.sdls_world.proofs.Places.{get_set, get_snoc, get_map, total_set, total_at, total-snoc, found_at, times-append, once_below_one, once_below_more, once_below_last, once_below_yes, is_pair, same_pair, some_same, length-mapped}
 
 false≢true : false ≡ true → ⊥
@@ -26,8 +26,8 @@ rises row k k' w w' next limit durable lifted stored used actors kept =
     }
 
 -- one key changes, and its words and marks only rise
-key_moves : (w : Core) (row : ℕ) (k k' : Key) → IsKept w → slice_get w.keys row ≡ Some k → k.next ≤ k'.next → k.limit ≤ k'.limit → k.durable ≤ k'.durable → k'.limit ≤ k'.durable → k'.durable ≤ k'.mark
-    → IsKept record w { keys = set w.keys row k' }
+key_moves : (w : Core) (row : ℕ) (k k' : Key) → IsWorldKept w → slice_get w.keys row ≡ Some k → k.next ≤ k'.next → k.limit ≤ k'.limit → k.durable ≤ k'.durable → k'.limit ≤ k'.durable → k'.durable ≤ k'.mark
+    → IsWorldKept record w { keys = set w.keys row k' }
 key_moves w row k k' kept at next limit durable lifted stored =
     let w' = record w { keys = set w.keys row k' } in
     record {
@@ -41,7 +41,7 @@ key_moves w row k k' kept at next limit durable lifted stored =
 -- the actors change, and no number is used, drawn or funded
 same_actors : (w : Core) (actors : List Doer) → ((row x : ℕ) → total (unused row x) actors ≡ total (unused row x) w.actors)
     → ((i : ℕ) (a : Doer) → slice_get actors i ≡ Some a → DoerKept a × ((row : ℕ) (k : Key) → slice_get w.keys row ≡ Some k → (x : ℕ) → 0 < times row x a.funded → x < k.limit))
-    → IsKept w → IsKept record w { actors = actors }
+    → IsWorldKept w → IsWorldKept record w { actors = actors }
 same_actors w actors same each kept =
     record {
       keys = λ row k e. let old = kept.keys row k e in
@@ -59,7 +59,7 @@ arming : ℕ → Doer → Doer
 arming row a = record a { armed = Some row }
 
 -- Arm
-arm_keeps : (w : Core) (id row : ℕ) (o : Option (ℕ × Doer)) → doer_of id w.actors ≡ o → IsKept w → IsKept record w { actors = arm_found w.actors id row o }
+arm_keeps : (w : Core) (id row : ℕ) (o : Option (ℕ × Doer)) → doer_of id w.actors ≡ o → IsWorldKept w → IsWorldKept record w { actors = arm_found w.actors id row o }
 arm_keeps w id row None is kept =
     let a' : Doer = record (idle id) { armed = Some row } in
     same_actors w (w.actors ++ a' ∷ []) (λ q x. total-snoc (unused q x) w.actors a' ∙ omega arith)
@@ -81,8 +81,8 @@ arm_keeps w id row (Some f) is kept =
     kept
 
 -- Draw
-draw_keeps : (w : Core) (i row : ℕ) (a : Doer) (k : Key) → slice_get w.actors i ≡ Some a → slice_get w.keys row ≡ Some k → IsKept w
-    → IsKept record w { keys = set w.keys row (record k { next = k.next + 1 }); actors = set w.actors i (drawing row k.next a) }
+draw_keeps : (w : Core) (i row : ℕ) (a : Doer) (k : Key) → slice_get w.actors i ≡ Some a → slice_get w.keys row ≡ Some k → IsWorldKept w
+    → IsWorldKept record w { keys = set w.keys row (record k { next = k.next + 1 }); actors = set w.actors i (drawing row k.next a) }
 draw_keeps w i row a k at k_at kept =
     let a' = drawing row k.next a in
     let w' : Core = record w { keys = set w.keys row (record k { next = k.next + 1 }); actors = set w.actors i a' } in
@@ -108,7 +108,7 @@ draw_keeps w i row a k at k_at kept =
     other_row : (row q x n o : ℕ) → row ≢ q → one_if ((row == q) && (n == x)) + o ≤ o
     other_row row q x n o apart = ⊎_elim (λ y. absurd (apart y.0)) (λ z. omega arith) (is_pair q x (row, n))
 
-    key_drawn : (w : Core) (i row : ℕ) (a : Doer) (k : Key) → slice_get w.actors i ≡ Some a → IsKept w → (q : ℕ) (c c' : Key) → KeyKept q c w → c'.limit ≡ c.limit → c'.durable ≡ c.durable → c'.mark ≡ c.mark
+    key_drawn : (w : Core) (i row : ℕ) (a : Doer) (k : Key) → slice_get w.actors i ≡ Some a → IsWorldKept w → (q : ℕ) (c c' : Key) → KeyKept q c w → c'.limit ≡ c.limit → c'.durable ≡ c.durable → c'.mark ≡ c.mark
         → ((x : ℕ) → one_if ((row == q) && (k.next == x)) + once_below x c.next ≤ once_below x c'.next)
         → KeyKept q c' record w { keys = set w.keys row (record k { next = k.next + 1 }); actors = set w.actors i (drawing row k.next a) }
     key_drawn w i row a k at kept q c c' old same_limit same_durable same_mark more =
@@ -125,8 +125,8 @@ draw_keeps w i row a k at k_at kept =
         }
 
 -- Peek
-peek_keeps : (w : Core) (i : ℕ) (a : Doer) (p : ℕ × ℕ) (k : Key) → slice_get w.actors i ≡ Some a → a.last ≡ Some p → slice_get w.keys p.0 ≡ Some k → p.1 < k.limit → IsKept w
-    → IsKept record w { actors = set w.actors i (funding p a) }
+peek_keeps : (w : Core) (i : ℕ) (a : Doer) (p : ℕ × ℕ) (k : Key) → slice_get w.actors i ≡ Some a → a.last ≡ Some p → slice_get w.keys p.0 ≡ Some k → p.1 < k.limit → IsWorldKept w
+    → IsWorldKept record w { actors = set w.actors i (funding p a) }
 peek_keeps w i a p k at last k_at below kept =
     let sane = kept.actors i a at in
     let a' = funding p a in
@@ -151,8 +151,8 @@ peek_keeps w i a p k at last k_at below kept =
     kept
 
 -- Spend
-spend_keeps : (w : Core) (i : ℕ) (a : Doer) (p : ℕ × ℕ) → slice_get w.actors i ≡ Some a → a.last ≡ Some p → a.is_funded ≡ true → IsKept w
-    → IsKept record w { actors = set w.actors i (spending p a); used = w.used ++ p ∷ [] }
+spend_keeps : (w : Core) (i : ℕ) (a : Doer) (p : ℕ × ℕ) → slice_get w.actors i ≡ Some a → a.last ≡ Some p → a.is_funded ≡ true → IsWorldKept w
+    → IsWorldKept record w { actors = set w.actors i (spending p a); used = w.used ++ p ∷ [] }
 spend_keeps w i a p at last is_funded kept =
     let sane = kept.actors i a at in
     let a' = spending p a in
@@ -191,7 +191,7 @@ spend_keeps w i a p at last is_funded kept =
     pair_is p q x e f = λ j. (e j, f j)
 
 -- all keys change, and their words and marks only rise
-synced_keeps : (w : Core) → IsKept w → IsKept record w { keys = map synced w.keys }
+synced_keeps : (w : Core) → IsWorldKept w → IsWorldKept record w { keys = map synced w.keys }
 synced_keeps w kept =
     let w' = record w { keys = map synced w.keys } in
     record {
@@ -201,7 +201,7 @@ synced_keeps w kept =
       actors = kept.actors;
     }
 
-crash_keeps : (w : Core) → IsKept w → IsKept record { keys = map restarted w.keys; actors = []; holder = None; epoch = 0; used = w.used }
+crash_keeps : (w : Core) → IsWorldKept w → IsWorldKept record { keys = map restarted w.keys; actors = []; holder = None; epoch = 0; used = w.used }
 crash_keeps w kept =
     let w' : Core = record { keys = map restarted w.keys; actors = []; holder = None; epoch = 0; used = w.used } in
     record {
@@ -218,7 +218,7 @@ crash_keeps w kept =
     }
 
 -- the holder and the epoch are no part of it
-same_core : (w : Core) (holder : Option ℕ) (epoch : ℕ) → IsKept w → IsKept record w { holder = holder; epoch = epoch }
+same_core : (w : Core) (holder : Option ℕ) (epoch : ℕ) → IsWorldKept w → IsWorldKept record w { holder = holder; epoch = epoch }
 same_core w holder epoch kept =
     let w' : Core = record w { holder = holder; epoch = epoch } in
     record {
@@ -226,11 +226,11 @@ same_core w holder epoch kept =
       actors = kept.actors;
     }
 
-if_keeps : (w w' : Core) (b : Bool) → IsKept w → IsKept w' → IsKept (if b then w' else w)
+if_keeps : (w w' : Core) (b : Bool) → IsWorldKept w → IsWorldKept w' → IsWorldKept (if b then w' else w)
 if_keeps w w' true kept kept' = kept'
 if_keeps w w' false kept kept' = kept
 
-on_keeps : {X : Type 0} (w : Core) (o : Option X) (f : X → Core) → IsKept w → ((x : X) → o ≡ Some x → IsKept (f x)) → IsKept (on_found w o f)
+on_keeps : {X : Type 0} (w : Core) (o : Option X) (f : X → Core) → IsWorldKept w → ((x : X) → o ≡ Some x → IsWorldKept (f x)) → IsWorldKept (on_found w o f)
 on_keeps w None f kept each = kept
 on_keeps w (Some x) f kept each = each x refl
 
@@ -240,56 +240,56 @@ key_at w id f e = found_at (λ (k : Key). eqb k.id id) w.keys f.0 f.1 e
 doer_at : (w : Core) (id : ℕ) (f : ℕ × Doer) → doer_of id w.actors ≡ Some f → slice_get w.actors f.0 ≡ Some f.1
 doer_at w id f e = found_at (λ (a : Doer). eqb a.id id) w.actors f.0 f.1 e
 
-draw_step_keeps : (w : Core) (a : ℕ × Doer) → slice_get w.actors a.0 ≡ Some a.1 → IsKept w → (armed : Option ℕ) → IsKept (draw_step w a armed)
+draw_step_keeps : (w : Core) (a : ℕ × Doer) → slice_get w.actors a.0 ≡ Some a.1 → IsWorldKept w → (armed : Option ℕ) → IsWorldKept (draw_step w a armed)
 draw_step_keeps w a at kept None = kept
 draw_step_keeps w a at kept (Some row) = go (slice_get w.keys row) refl
   where
-    go : (o : Option Key) → slice_get w.keys row ≡ o → IsKept (draw_at w a row o)
+    go : (o : Option Key) → slice_get w.keys row ≡ o → IsWorldKept (draw_at w a row o)
     go None e = kept
     go (Some k) e = draw_keeps w a.0 row a.1 k at e kept
 
-peek_step_keeps : (w : Core) (a : ℕ × Doer) → slice_get w.actors a.0 ≡ Some a.1 → IsKept w → (funded : Bool) (last : Option (ℕ × ℕ)) → a.1.last ≡ last → IsKept (peek_step w a funded last)
+peek_step_keeps : (w : Core) (a : ℕ × Doer) → slice_get w.actors a.0 ≡ Some a.1 → IsWorldKept w → (funded : Bool) (last : Option (ℕ × ℕ)) → a.1.last ≡ last → IsWorldKept (peek_step w a funded last)
 peek_step_keeps w a at kept funded None e = kept
 peek_step_keeps w a at kept true (Some p) e = kept
 peek_step_keeps w a at kept false (Some p) e = go (slice_get w.keys p.0) refl
   where
-    below : (k : Key) → slice_get w.keys p.0 ≡ Some k → (b : Bool) → ltb p.1 k.limit ≡ b → IsKept (if b then record w { actors = set w.actors a.0 (funding p a.1) } else w)
+    below : (k : Key) → slice_get w.keys p.0 ≡ Some k → (b : Bool) → ltb p.1 k.limit ≡ b → IsWorldKept (if b then record w { actors = set w.actors a.0 (funding p a.1) } else w)
     below k k_at true is = let lt : p.1 < k.limit = grind (arith, nat_tests) in peek_keeps w a.0 a.1 p k at e k_at lt kept
     below k k_at false is = kept
 
-    go : (o : Option Key) → slice_get w.keys p.0 ≡ o → IsKept (peek_at w a p o)
+    go : (o : Option Key) → slice_get w.keys p.0 ≡ o → IsWorldKept (peek_at w a p o)
     go None k = kept
     go (Some c) k = below c k (ltb p.1 c.limit) refl
 
-spend_step_keeps : (w : Core) (a : ℕ × Doer) → slice_get w.actors a.0 ≡ Some a.1 → IsKept w → (funded : Bool) (last : Option (ℕ × ℕ)) → a.1.is_funded ≡ funded → a.1.last ≡ last → IsKept (spend_step w a funded last)
+spend_step_keeps : (w : Core) (a : ℕ × Doer) → slice_get w.actors a.0 ≡ Some a.1 → IsWorldKept w → (funded : Bool) (last : Option (ℕ × ℕ)) → a.1.is_funded ≡ funded → a.1.last ≡ last → IsWorldKept (spend_step w a funded last)
 spend_step_keeps w a at kept funded None f e = kept
 spend_step_keeps w a at kept false (Some p) f e = kept
 spend_step_keeps w a at kept true (Some p) f e = spend_keeps w a.0 a.1 p at e f kept
 
-write_step_keeps : (w : Core) (mark : ℕ) (k : ℕ × Key) → slice_get w.keys k.0 ≡ Some k.1 → IsKept w → (b c : Bool) → leb k.1.mark mark ≡ b → IsKept (if b && c then record w { keys = set w.keys k.0 (record k.1 { mark = mark }) } else w)
+write_step_keeps : (w : Core) (mark : ℕ) (k : ℕ × Key) → slice_get w.keys k.0 ≡ Some k.1 → IsWorldKept w → (b c : Bool) → leb k.1.mark mark ≡ b → IsWorldKept (if b && c then record w { keys = set w.keys k.0 (record k.1 { mark = mark }) } else w)
 write_step_keeps w mark k at kept true true is =
     let old = kept.keys k.0 k.1 at in let le : k.1.mark ≤ mark = grind (arith, nat_tests) in
     key_moves w k.0 k.1 (record k.1 { mark = mark }) kept at (omega arith) (omega arith) (omega arith) old.lifted (let s = old.stored in omega arith)
 write_step_keeps w mark k at kept true false is = kept
 write_step_keeps w mark k at kept false c is = kept
 
-lift_step_keeps : (w : Core) (k : ℕ × Key) → slice_get w.keys k.0 ≡ Some k.1 → IsKept w → IsKept (lift_step w k)
+lift_step_keeps : (w : Core) (k : ℕ × Key) → slice_get w.keys k.0 ≡ Some k.1 → IsWorldKept w → IsWorldKept (lift_step w k)
 lift_step_keeps w k at kept =
     let old = kept.keys k.0 k.1 at in
     key_moves w k.0 k.1 (record k.1 { limit = max k.1.limit k.1.durable }) kept at (omega arith) (omega arith) (omega arith) (let l = old.lifted in omega arith) old.stored
 
-raise_step_keeps : (w : Core) (number : ℕ) (k : ℕ × Key) → slice_get w.keys k.0 ≡ Some k.1 → IsKept w → IsKept (raise_step w number k)
+raise_step_keeps : (w : Core) (number : ℕ) (k : ℕ × Key) → slice_get w.keys k.0 ≡ Some k.1 → IsWorldKept w → IsWorldKept (raise_step w number k)
 raise_step_keeps w number k at kept =
     let old = kept.keys k.0 k.1 at in
     if_keeps w (record w { keys = set w.keys k.0 (record k.1 { next = max k.1.next number }) }) (leb number (end_of k.1.id)) kept
     (key_moves w k.0 k.1 (record k.1 { next = max k.1.next number }) kept at (omega arith) (omega arith) (omega arith) old.lifted old.stored)
 
-take_step_keeps : (w : Core) (id : ℕ) (o : Option ℕ) → IsKept w → IsKept (take_step w id o)
+take_step_keeps : (w : Core) (id : ℕ) (o : Option ℕ) → IsWorldKept w → IsWorldKept (take_step w id o)
 take_step_keeps w id None kept = same_core w (Some id) w.epoch kept
 take_step_keeps w id (Some h) kept = kept
 
 -- each step keeps it
-pub step_keeps : (w : Core) (s : Step) → IsKept w → IsKept (after w s)
+pub step_keeps : (w : Core) (s : Step) → IsWorldKept w → IsWorldKept (after w s)
 step_keeps w (Arm actor key) kept = on_keeps w (key_of key w.keys) (arm_step w actor) kept (λ k e.
     if_keeps w (record w { actors = arm_found w.actors actor k.0 (doer_of actor w.actors) }) (ltb k.1.next (end_of k.1.id)) kept (arm_keeps w actor k.0 (doer_of actor w.actors) refl kept))
 step_keeps w (Draw actor) kept = on_keeps w (doer_of actor w.actors) (λ a. draw_step w a a.1.armed) kept (λ a e. draw_step_keeps w a (doer_at w actor a e) kept a.1.armed)
@@ -311,12 +311,12 @@ step_keeps w (Turn actor) kept =
 step_keeps w Crash kept = crash_keeps w kept
 
 -- and so does each list of steps
-pub steps_keep : (w : Core) (steps : List Step) → IsKept w → IsKept (after_all w steps)
+pub steps_keep : (w : Core) (steps : List Step) → IsWorldKept w → IsWorldKept (after_all w steps)
 steps_keep w [] kept = kept
 steps_keep w (s ∷ ss) kept = steps_keep (after w s) ss (step_keeps w s kept)
 
 -- it holds at the beginning
-pub beginning_kept : (keys : List (ℕ × ℕ)) → IsKept (beginning keys)
+pub beginning_kept : (keys : List (ℕ × ℕ)) → IsWorldKept (beginning keys)
 beginning_kept keys =
     record {
       keys = λ q c e. let f = get_map begun keys q c e in
@@ -411,10 +411,10 @@ take_whole w (x ∷ xs) zero b = absurd (omega arith)
 take_whole w (x ∷ xs) (suc i) b = take_whole (after w x) xs i (omega arith)
 
 -- whatever a call answers
-pub answer_keeps : {E : Type 0} (r : Result (Unit {0}) E) (w w' : Core) (s : Step) → OnOk r (w' ≡ after w s) → OnErr r (w' ≡ w) → IsKept w → IsKept w'
-answer_keeps (Ok u) w w' s ok err kept = subst IsKept (sym ok) (step_keeps w s kept)
-answer_keeps (Err e) w w' s ok err kept = subst IsKept (sym err) kept
+pub answer_keeps : {E : Type 0} (r : Result (Unit {0}) E) (w w' : Core) (s : Step) → OnOk r (w' ≡ after w s) → OnErr r (w' ≡ w) → IsWorldKept w → IsWorldKept w'
+answer_keeps (Ok u) w w' s ok err kept = subst IsWorldKept (sym ok) (step_keeps w s kept)
+answer_keeps (Err e) w w' s ok err kept = subst IsWorldKept (sym err) kept
 
-pub answers_keep : {E : Type 0} (r : Result (Unit {0}) E) (w w' : Core) (steps : List Step) → OnOk r (w' ≡ after_all w steps) → OnErr r ((count : ℕ) × (w' ≡ after_all w (take count steps))) → IsKept w → IsKept w'
-answers_keep (Ok u) w w' steps ok err kept = subst IsKept (sym ok) (steps_keep w steps kept)
-answers_keep (Err e) w w' steps ok err kept = subst IsKept (sym err.1) (steps_keep w (take err.0 steps) kept)
+pub answers_keep : {E : Type 0} (r : Result (Unit {0}) E) (w w' : Core) (steps : List Step) → OnOk r (w' ≡ after_all w steps) → OnErr r ((count : ℕ) × (w' ≡ after_all w (take count steps))) → IsWorldKept w → IsWorldKept w'
+answers_keep (Ok u) w w' steps ok err kept = subst IsWorldKept (sym ok) (steps_keep w steps kept)
+answers_keep (Err e) w w' steps ok err kept = subst IsWorldKept (sym err.1) (steps_keep w (take err.0 steps) kept)

@@ -28,6 +28,6 @@ pub record DoerKept (a : Doer) : Type 0 where
   pub drawn : (row x : ℕ) → times row x a.spent + is_last row x a.last ≤ times row x a.drawn
   pub funded : a.is_funded ≡ true → (p : ℕ × ℕ) → a.last ≡ Some p → 0 < times p.0 p.1 a.funded
 
-pub record IsKept (w : Core) : Type 0 where
+pub record IsWorldKept (w : Core) : Type 0 where
   pub keys : (row : ℕ) (k : Key) → slice_get w.keys row ≡ Some k → KeyKept row k w
   pub actors : (i : ℕ) (a : Doer) → slice_get w.actors i ≡ Some a → DoerKept a

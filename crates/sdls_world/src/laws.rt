@@ -3,13 +3,13 @@ ghost use Rattle.std.specs.Prelude.{◌<◌, ◌≤◌, ℕ, List, length};
 ghost use Rattle.sdls_world.specs.declared.step.Step.{Step};
 ghost use Rattle.sdls_world.specs.Core.{Core, after_all, beginning};
 ghost use Rattle.sdls_base.specs.Numbers.{times};
-ghost use Rattle.sdls_world.specs.Kept.{IsKept};
+ghost use Rattle.sdls_world.specs.Kept.{IsWorldKept};
 
 /// Law: what holds of the core at the beginning, and is kept by each step, holds after every list of steps.
 #[tactic(auto, using(crate::proofs::Moments::steps_keep, crate::proofs::Moments::beginning_kept))]
 pub fn kept_always()
-    ensures kept { (w : Core) (steps : List Step) → IsKept w → IsKept (after_all w steps) }
-    ensures beginning { (keys : List (ℕ × ℕ)) → IsKept (beginning keys) }
+    ensures kept { (w : Core) (steps : List Step) → IsWorldKept w → IsWorldKept (after_all w steps) }
+    ensures beginning { (keys : List (ℕ × ℕ)) → IsWorldKept (beginning keys) }
 {}
 
 /// Law: in all lives together no pair of row and number is used twice.

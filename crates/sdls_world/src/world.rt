@@ -3,7 +3,7 @@ ghost use Rattle.std.specs.Prelude.{◌≡◌, ◌≢◌, ◌<◌, ◌≤◌, �
 ghost use Rattle.sdls_base.specs.KeyId.{end_of};
 ghost use Rattle.sdls_world.specs.declared.step.Step.TheVariants.{Arm, Draw, Peek, Spend, See, Take, Give, Write, Sync, Lift, RaiseNext, Turn, Crash};
 ghost use Rattle.sdls_world.specs.Core.{key_of, doer_of, holds_turn, after, after_all, begun, beginning, synced, restarted};
-ghost use Rattle.sdls_world.specs.Kept.{IsKept};
+ghost use Rattle.sdls_world.specs.Kept.{IsWorldKept};
 
 use crate::actor::Actor;
 use crate::key::Key;
@@ -39,7 +39,7 @@ impl World {
         requires apart { (i j : ℕ) (a b : ℕ × ℕ) → slice_get keys.now i ≡ Some a → slice_get keys.now j ≡ Some b → i ≢ j → a.0 ≢ b.0 }
         requires marks { (i : ℕ) (a : ℕ × ℕ) → slice_get keys.now i ≡ Some a → (1 ≤ a.1) × (a.1 ≤ end_of a.0) }
         ensures world { IfOk result (λ w. w ≡ beginning keys.now) }
-        ensures kept { IfOk result IsKept }
+        ensures kept { IfOk result IsWorldKept }
     {
         let keys = first_keys(alloc, keys)?;
         Ok(World {
@@ -70,7 +70,7 @@ impl World {
     pub fn step(&mut self, step: &Step) -> Result<(), NoMemory>
         ensures ok { OnOk result (self.new ≡ after self.old step.now) }
         ensures err { OnErr result (self.new ≡ self.old) }
-        ensures kept { IsKept self.old → IsKept self.new }
+        ensures kept { IsWorldKept self.old → IsWorldKept self.new }
     {
         self.change(step)
     }
@@ -79,7 +79,7 @@ impl World {
     pub fn run(&mut self, steps: &[Step]) -> Result<(), NoMemory>
         ensures ok { OnOk result (self.new ≡ after_all self.old steps.now) }
         ensures err { OnErr result ((count : ℕ) × (self.new ≡ after_all self.old (take count steps.now))) }
-        ensures kept { IsKept self.old → IsKept self.new }
+        ensures kept { IsWorldKept self.old → IsWorldKept self.new }
     {
         self.change_all(steps)
     }

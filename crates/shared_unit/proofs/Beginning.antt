@@ -16,7 +16,7 @@ use Rattle.counter_table.specs.declared.view.Turn.{Turn}
 use Rattle.counter_table.specs.declared.view.View.{View}
 use Rattle.counter_table.specs.declared.counters.Counters.{Counters}
 use Rattle.counter_table.specs.declared.counters.Worker.{Worker}
-use Rattle.counter_table.specs.Known.{mark_of, pieces}
+use Rattle.counter_table.specs.Known.{known_mark, pieces}
 use Rattle.counter_table.specs.Numbers.{amount, count_of, top, raising, lifting, joined, keeper, newcomer, first_numbers}
 use Rattle.counter_table.specs.Turn.{stands, places, no_turn, filling, learning, merged, beginner}
 use Rattle.counter_table.specs.Play.{IsAsKnown}
@@ -26,7 +26,7 @@ use Rattle.law_history.specs.Log.{entries_of}
 use Rattle.unit_book.specs.Book.{BookView, IsKept}
 use Rattle.unit_book.specs.Marks.{mark_at}
 use Rattle.unit_book.proofs.KeptLaws.{bounds_of}
-use Rattle.shared_unit.specs.Told.{told_by}
+use Rattle.shared_unit.specs.Told.{known_of_book}
 use Rattle.shared_unit.specs.Turn.{IsReady, TakesOnce, taking_once}
 use Rattle.shared_unit.specs.Sharing.{Begins, IsRaised}
 use Rattle.shared_unit.proofs.Reserved.{not_both}
@@ -69,7 +69,7 @@ none_counted : (row : ℕ) (ps : List (ℕ × ℕ)) → ps ≡ [] → count_of r
 none_counted row [] e = refl
 none_counted row (p ∷ ps) e = absurd cc
 
-pub raised_more : (book : Known) (n m mark lifted : ℕ) (v u x w : View) → IsRaised book n v u → mark ≡ mark_of book n
+pub raised_more : (book : Known) (n m mark lifted : ℕ) (v u x w : View) → IsRaised book n v u → mark ≡ known_mark book n
     → x.numbers ≡ raising n mark m u.numbers → x.turn ≡ u.turn → w.numbers ≡ lifting n lifted x.numbers → w.turn ≡ learning book.marks x.turn
     → IsRaised book (n + 1) v w
 raised_more book n m mark lifted v u x w r is one same two learned =
@@ -91,34 +91,34 @@ raised_more book n m mark lifted v u x w r is one same two learned =
       nexts : w.numbers.nexts ≡ u.numbers.nexts ++ (n, m) ∷ (n, max m mark) ∷ []
       nexts = ap (λ (k : Numbers). k.nexts) numbers
 
-      here : (row : ℕ) → row ≡ n → mark_of book row ≤ top row w.numbers.nexts
+      here : (row : ℕ) → row ≡ n → known_mark book row ≤ top row w.numbers.nexts
       here row e =
           let a : mark ≤ top n w.numbers.nexts = subst (λ (ps : List (ℕ × ℕ)). mark ≤ top n ps) (sym nexts) (top_raised n m mark u.numbers.nexts) in
-          let b : mark_of book n ≤ top n w.numbers.nexts = omega arith in
-          subst (λ (q : ℕ). mark_of book q ≤ top q w.numbers.nexts) (sym e) b
+          let b : known_mark book n ≤ top n w.numbers.nexts = omega arith in
+          subst (λ (q : ℕ). known_mark book q ≤ top q w.numbers.nexts) (sym e) b
 
       raised_is : w.numbers.raised ≡ u.numbers.raised ++ (n, mark) ∷ []
       raised_is = ap (λ (k : Numbers). k.raised) numbers
 
-      low_here : (row : ℕ) → row ≡ n → top row w.numbers.raised ≤ max (top row v.numbers.raised) (mark_of book row)
+      low_here : (row : ℕ) → row ≡ n → top row w.numbers.raised ≤ max (top row v.numbers.raised) (known_mark book row)
       low_here row e =
           let a = ap (top row) raised_is in
           let b = low_numbers row n mark u.numbers.raised in
           let c = some_here n row mark in
-          let d : mark ≡ mark_of book row = is ∙ ap (mark_of book) (sym e) in
+          let d : mark ≡ known_mark book row = is ∙ ap (known_mark book) (sym e) in
           let l = r.low row in omega arith
 
-      low_else : (row : ℕ) → row ≢ n → top row w.numbers.raised ≤ max (top row v.numbers.raised) (mark_of book row)
+      low_else : (row : ℕ) → row ≢ n → top row w.numbers.raised ≤ max (top row v.numbers.raised) (known_mark book row)
       low_else row apart =
           let a = ap (top row) raised_is in
           let b = low_numbers row n mark u.numbers.raised in
           let c = none_else n row mark apart in
           let l = r.low row in omega arith
 
-      before : (row : ℕ) → row ≢ n → row < n + 1 → mark_of book row ≤ top row w.numbers.nexts
+      before : (row : ℕ) → row ≢ n → row < n + 1 → known_mark book row ≤ top row w.numbers.nexts
       before row apart h =
           let a = r.raised row (omega arith) in
-          subst (λ (ps : List (ℕ × ℕ)). mark_of book row ≤ top row ps) (sym nexts)
+          subst (λ (ps : List (ℕ × ℕ)). known_mark book row ≤ top row ps) (sym nexts)
           (let b = top_kept row u.numbers.nexts ((n, m) ∷ (n, max m mark) ∷ []) in omega arith)
 
 same_if : {X : Type 0} (b : Bool) (x : X) → (if b then x else x) ≡ x
@@ -167,8 +167,8 @@ module _ (k : Known) (t u : Turn) (is : u ≡ taking_once k k t) where
 
 module _ {O B : Type 0} (told : Bool) (trace : O → Trace) (faults puts : O → ℕ) (book found : BookView O) where
   pub begins : (counters : Counters B) (plan : PlanLines) (worker : Worker B) (t : Turn) (v w u : View)
-      → t ≡ filling (told_by trace faults puts book) no_turn → book.log ≡ [] → TakesOnce (told_by trace faults puts found) (told_by trace faults puts found) t u.turn
-      → IsAsKnown t (told_by trace faults puts found) → IsKept told trace faults book → IsKept told trace faults found → v.numbers ≡ first_numbers → IsRaised (told_by trace faults puts found) 512 v w → u.numbers ≡ w.numbers
+      → t ≡ filling (known_of_book trace faults puts book) no_turn → book.log ≡ [] → TakesOnce (known_of_book trace faults puts found) (known_of_book trace faults puts found) t u.turn
+      → IsAsKnown t (known_of_book trace faults puts found) → IsKept told trace faults book → IsKept told trace faults found → v.numbers ≡ first_numbers → IsRaised (known_of_book trace faults puts found) 512 v w → u.numbers ≡ w.numbers
       → view worker ≡ record { numbers = joined (keeper u.numbers) (newcomer u.numbers); turn = merged u.turn (beginner u.turn) }
       → IsReady counters plan worker → ((view worker).numbers.shares ≡ 1024 → IsWhole 512 (view worker))
       → Begins trace faults puts book counters plan worker
@@ -193,7 +193,7 @@ module _ {O B : Type 0} (told : Bool) (trace : O → Trace) (faults puts : O →
         added = λ row h. (exact row h).1;
       } where
         k : Known
-        k = told_by trace faults puts found
+        k = known_of_book trace faults puts found
 
         shares : (view worker).numbers.shares ≡ 1024
         shares =
@@ -204,19 +204,19 @@ module _ {O B : Type 0} (told : Bool) (trace : O → Trace) (faults puts : O →
 
         made : (view worker).turn.made ≡ []
         made = ap (λ (x : View). x.turn.made) is
-            ∙ back_made (told_by trace faults puts found) t u.turn takes.turn
+            ∙ back_made (known_of_book trace faults puts found) t u.turn takes.turn
             (ap (λ (x : Turn). x.made) filled ∙ no_places 0 (length book.log) (ap length first))
 
         log : (view worker).turn.known.log ≡ []
         log = empty_log (view worker).turn.known.log
             (λ place. sym (ap (stands place) made) ∙ (whole shares).made place)
 
-        opening : (view worker).turn.known.opening ≡ (told_by trace faults puts book).opening
-        opening = ap (λ (x : View). x.turn.known.opening) is ∙ back_opening (told_by trace faults puts found) t u.turn takes.turn
+        opening : (view worker).turn.known.opening ≡ (known_of_book trace faults puts book).opening
+        opening = ap (λ (x : View). x.turn.known.opening) is ∙ back_opening (known_of_book trace faults puts found) t u.turn takes.turn
             ∙ takes.follows.opening ∙ ap (λ (x : Turn). x.known.opening) filled
 
         log_found : found.log ≡ []
-        log_found = sym (ap (λ (x : View). x.turn.known.log) is ∙ back_log (told_by trace faults puts found) t u.turn takes.turn) ∙ log
+        log_found = sym (ap (λ (x : View). x.turn.known.log) is ∙ back_log (known_of_book trace faults puts found) t u.turn takes.turn) ∙ log
 
         start : found.start ≡ book.start
         start = ap (λ (o : Opening). o.start) (takes.follows.opening ∙ ap (λ (x : Turn). x.known.opening) filled)
@@ -230,7 +230,7 @@ module _ {O B : Type 0} (told : Bool) (trace : O → Trace) (faults puts : O →
             let e = ap (λ (ls : List Logged). length (entries_of ls)) none in
             let s = held.stands in omega arith
 
-        known_filled : t.known ≡ told_by trace faults puts book
+        known_filled : t.known ≡ known_of_book trace faults puts book
         known_filled = ap (λ (x : Turn). x.known) filled
 
         put_faults : (view worker).turn.known.put_faults ≡ puts book.site
@@ -248,7 +248,7 @@ module _ {O B : Type 0} (told : Bool) (trace : O → Trace) (faults puts : O →
             let b = ap (λ (x : Known). x.faults) known_filled in
             let c = known_as.faults in omega arith
 
-        marked : (row : ℕ) → mark_of (told_by trace faults puts found) row ≡ mark_at book.start row
+        marked : (row : ℕ) → known_mark (known_of_book trace faults puts found) row ≡ mark_at book.start row
         marked row = ap (λ (s : State). mark_at s row) state
 
         raised_low : (row : ℕ) → row < 512 → top row (view worker).numbers.raised ≤ mark_at book.start row
@@ -288,8 +288,8 @@ module _ {O B : Type 0} (told : Bool) (trace : O → Trace) (faults puts : O →
             by_last next stands_at.last low m one r none bound seen grown where
               by_last : (next : ℕ) → (next ≡ 1) ⊎ (top row (view worker).numbers.nexts ≡ next)
                   → mark_at book.start row ≤ top row (view worker).numbers.nexts
-                  → mark_of (told_by trace faults puts found) row ≡ mark_at book.start row
-                  → 1 ≤ mark_of (told_by trace faults puts found) row
+                  → known_mark (known_of_book trace faults puts found) row ≡ mark_at book.start row
+                  → 1 ≤ known_mark (known_of_book trace faults puts found) row
                   → top row (view worker).numbers.raised ≤ mark_at book.start row
                   → count_of row (view worker).numbers.drawn ≡ 0
                   → next ≤ max 1 (top row (view worker).numbers.raised) + count_of row (view worker).numbers.drawn

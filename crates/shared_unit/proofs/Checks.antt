@@ -11,15 +11,15 @@ use Rattle.unit_plan.specs.PlanLines.{PlanLines, link_of}
 use Rattle.unit_state.specs.declared.state.State.{State}
 use Rattle.unit_state.specs.State.{key_row}
 use Rattle.frame_shield.specs.declared.binding.Binding.{Binding}
-use Rattle.frame_shield.specs.declared.protecting.ShieldFault.{ShieldFault}
-use Rattle.frame_shield.specs.declared.protecting.ShieldFault.TheVariants.{Layout, Channel, State as NoSender}
+use Rattle.frame_shield.specs.declared.protecting_frames.ShieldFault.{ShieldFault}
+use Rattle.frame_shield.specs.declared.protecting_frames.ShieldFault.TheVariants.{Layout, Channel, State as NoSender}
 use Rattle.frame_shield.specs.ShieldFault.{fault_number}
 use Rattle.frame_checks.specs.Header.{lacks_header, is_clear, channel_of}
 use Rattle.frame_checks.specs.Binding.{binding_of}
-use Rattle.frame_checks.specs.Protecting.{Answer, answer_on, channel_check, channel_on, protect_check, IsSentClear}
+use Rattle.frame_checks.specs.ProtectingFrames.{Answer, answer_on, channel_check, channel_on, protect_check, IsSentClear}
 use Rattle.unit_book.specs.Epoch.{binding_on}
-use Rattle.law_history.specs.Protecting.{layout_check, protect_reply}
-use Rattle.shared_unit.specs.Permit.{IsUnfit}
+use Rattle.law_history.specs.ProtectingFrames.{layout_check, protect_reply}
+use Rattle.shared_unit.specs.Permit.{LacksLayout}
 
 -- the first three checks, and all four, of what they look at
 abbrev chan : Bool → Bool → Option ℕ → Result (Option ℕ) ShieldFault
@@ -135,7 +135,7 @@ clear_channel plan link clear h = by_line (link_of plan.links link) h where
 
 -- a clear frame that has not its layout fails the last check
 pub unfit_answer : (plan : PlanLines) (state : State) (link : ℕ) (clear : List ℕ) (b : Binding) (fault : ShieldFault)
-    → protect_check plan state link clear ≡ Ok (Some b) → IsUnfit b clear fault → protect_reply plan state link clear ≡ Err fault
+    → protect_check plan state link clear ≡ Ok (Some b) → LacksLayout b clear fault → protect_reply plan state link clear ≡ Err fault
 unfit_answer plan state link clear b fault h u =
     ap (layout_check clear) h
     ∙ ap (λ (o : Option FrameFault). let a : Answer = option_map_or (λ (f : FrameFault). Err (Layout (fault_number f))) o (Ok (Some b)) in a) u.1

@@ -10,7 +10,7 @@ use Rattle.unit_state.specs.Restart.{counts, still}
 use Rattle.ep_core.specs.declared.need.Need.{Need}
 use Rattle.ep_core.specs.declared.need.Need.TheVariants as needs
 use Rattle.ep_core.specs.declared.reply.Reply.{Reply}
-use Rattle.ep_core.specs.Seen.{Fits}
+use Rattle.ep_core.specs.Seen.{MeetsNeed}
 use Rattle.counter_table.specs.declared.view.Known.{Known}
 use Rattle.counter_table.specs.declared.view.Numbers.{Numbers}
 use Rattle.counter_table.specs.declared.view.Turn.{Turn}
@@ -28,7 +28,7 @@ use Rattle.law_history.proofs.OneStep.{need_one}
 use Rattle.unit_book.proofs.KeptLaws.{kept_still, kept_changes}
 use Rattle.unit_book.proofs.EpochStates.{alike_served}
 use Rattle.unit_book.proofs.GoingOn.{goes_then}
-use Rattle.shared_unit.specs.Told.{told_by}
+use Rattle.shared_unit.specs.Told.{known_of_book}
 use Rattle.shared_unit.specs.Going.{GoesUp}
 use Rattle.shared_unit.specs.Turn.{Visits}
 use Rattle.shared_unit.specs.Sharing.{KnowsHeld}
@@ -63,7 +63,7 @@ module _ {O : Type 0} (faults puts : O → ℕ) where
   satisfies_changes need seen found middle v w h = absurd h
 
   fits_need : (need : Need) (seen : Seen) (found middle : BookView O) (v w : Numbers) → Satisfies faults need seen found middle v w
-      → Fits middle.state need seen
+      → MeetsNeed middle.state need seen
   fits_need needs.Nothing sights.Nothing found middle v w h = refl
   fits_need (needs.Look key) (sights.Word n) found middle v w h = h.1.positive
   fits_need (needs.Raise key number) (sights.Word n) found middle v w h = h.1.positive
@@ -101,8 +101,8 @@ module _ {O : Type 0} (trace : O → Trace) (faults puts : O → ℕ) where
     needs_same : (found middle : BookView O) → IsKept told trace faults found → IsKept told trace faults middle → GoesUp faults puts found middle
         → middle.changes ≡ found.changes → still middle.state ≡ still found.state
     needs_same found middle before after up same =
-        let k : Known = told_by trace faults puts found in
-        let l : Known = told_by trace faults puts middle in
+        let k : Known = known_of_book trace faults puts found in
+        let l : Known = known_of_book trace faults puts middle in
         let at : epoch_state middle ≡ epoch_state found =
         state_at_stays k l up.goes.added middle.changes (goes_opening trace faults puts found middle up) up.goes.log
         (let a = kept_changes told trace faults found before in omega arith)
@@ -112,16 +112,16 @@ module _ {O : Type 0} (trace : O → Trace) (faults puts : O → ℕ) where
     pub satisfies_fits : (pdu : List ℕ) (need other : Need) (seen : Seen) (found middle : BookView O) (v w : Numbers)
         → Satisfies faults need seen found middle v w → IsNeedOf found.state pdu need
         → IsKept told trace faults found → IsKept told trace faults middle → GoesUp faults puts found middle
-        → IsNeedOf middle.state pdu other → Fits middle.state other seen
+        → IsNeedOf middle.state pdu other → MeetsNeed middle.state other seen
     satisfies_fits pdu need other seen found middle v w h is before after up there =
         let served = alike_served found.plan middle.state found.state
         (needs_same found middle before after up (satisfies_changes faults puts need seen found middle v w h)) in
         let one : need ≡ other = need_one found.state pdu need other is ((served.needs pdu other).0 there) in
-        subst (λ (n : Need). Fits middle.state n seen) one (fits_need faults puts need seen found middle v w h)
+        subst (λ (n : Need). MeetsNeed middle.state n seen) one (fits_need faults puts need seen found middle v w h)
 
     pub holds_visits : (found given : BookView O) (t v w u : Turn) → IsKept told trace faults found → IsKept told trace faults given
-        → Follows t (told_by trace faults puts found) → GoesUp faults puts found given → v ≡ taking (told_by trace faults puts found) t
-        → KnowsHeld (told_by trace faults puts given) v w → u ≡ giving (told_by trace faults puts given) w → Visits told trace faults puts found given t u
+        → Follows t (known_of_book trace faults puts found) → GoesUp faults puts found given → v ≡ taking (known_of_book trace faults puts found) t
+        → KnowsHeld (known_of_book trace faults puts given) v w → u ≡ giving (known_of_book trace faults puts given) w → Visits told trace faults puts found given t u
     holds_visits found given t v w u before after follows up took holds gave =
         let on = continues trace faults puts found given up in
         record {
@@ -132,21 +132,21 @@ module _ {O : Type 0} (trace : O → Trace) (faults puts : O → ℕ) where
             earlier = on.earlier;
             sparing = on.sparing;
             opening = on.opening;
-            turn = gave ∙ ap (giving (told_by trace faults puts given)) holds.is
-                ∙ ap (λ (k : Turn). giving (told_by trace faults puts given) (record k { known = record k.known { marks = holds.marks; changes = given.changes } })) took;
+            turn = gave ∙ ap (giving (known_of_book trace faults puts given)) holds.is
+                ∙ ap (λ (k : Turn). giving (known_of_book trace faults puts given) (record k { known = record k.known { marks = holds.marks; changes = given.changes } })) took;
           };
         }
 
-  pub holds_here : (given : BookView O) (v w : Turn) → v.known ≡ told_by trace faults puts given → w ≡ v → KnowsHeld (told_by trace faults puts given) v w
+  pub holds_here : (given : BookView O) (v w : Turn) → v.known ≡ known_of_book trace faults puts given → w ≡ v → KnowsHeld (known_of_book trace faults puts given) v w
   holds_here given v w known same = record {
     marks = marks_of given.state;
     below = λ row. omega arith;
     is = same ∙ ap (λ (k : Known). record v { known = record v.known { marks = k.marks; changes = k.changes } }) known;
   }
 
-  pub holds_of : (found middle given : BookView O) (v u w : Turn) → v.known ≡ told_by trace faults puts found → GoesUp faults puts found middle
+  pub holds_of : (found middle given : BookView O) (v u w : Turn) → v.known ≡ known_of_book trace faults puts found → GoesUp faults puts found middle
       → KeepsMarks middle.state given.state → (u ≡ v) ⊎ (u ≡ learning (marks_of middle.state) v) → w ≡ knowing given.changes u
-      → KnowsHeld (told_by trace faults puts given) v w
+      → KnowsHeld (known_of_book trace faults puts given) v w
   holds_of found middle given v u w known on keeps (inl same) is = record {
     marks = marks_of found.state;
     below = λ row. (let a = on.marks row in let b = keeps row in omega arith);
@@ -159,26 +159,26 @@ module _ {O : Type 0} (trace : O → Trace) (faults puts : O → ℕ) where
     is = is ∙ ap (knowing given.changes) learned;
   }
 
-  pub changes_known : (found middle : BookView O) (v u : Turn) → v.known ≡ told_by trace faults puts found
+  pub changes_known : (found middle : BookView O) (v u : Turn) → v.known ≡ known_of_book trace faults puts found
       → (u ≡ v) ⊎ (u ≡ learning (marks_of middle.state) v) → u.known.changes ≡ found.changes
   changes_known found middle v u known (inl same) = ap (λ (t : Turn). t.known.changes) same ∙ ap (λ (k : Known). k.changes) known
   changes_known found middle v u known (inr learned) = ap (λ (t : Turn). t.known.changes) learned ∙ ap (λ (k : Known). k.changes) known
 
   -- where the count of changes is as it was, the holder knows it
-  pub holds_still : (found middle given : BookView O) (v u : Turn) → v.known ≡ told_by trace faults puts found → GoesUp faults puts found middle
+  pub holds_still : (found middle given : BookView O) (v u : Turn) → v.known ≡ known_of_book trace faults puts found → GoesUp faults puts found middle
       → KeepsMarks middle.state given.state → middle.changes ≡ found.changes → given.changes ≡ middle.changes
-      → (u ≡ v) ⊎ (u ≡ learning (marks_of middle.state) v) → KnowsHeld (told_by trace faults puts given) v u
+      → (u ≡ v) ⊎ (u ≡ learning (marks_of middle.state) v) → KnowsHeld (known_of_book trace faults puts given) v u
   holds_still found middle given v u known on keeps same last turn =
       holds_of found middle given v u u known on keeps turn
       (ap (λ (n : ℕ). knowing n u) (changes_known found middle v u known turn ∙ sym same ∙ sym last))
 
-  pub holds_gives : (found given : BookView O) (t v w : Turn) → v ≡ taking (told_by trace faults puts found) t → KnowsHeld (told_by trace faults puts given) v w
-      → GoesUp faults puts found given → MayGive w.known (told_by trace faults puts given)
+  pub holds_gives : (found given : BookView O) (t v w : Turn) → v ≡ taking (known_of_book trace faults puts found) t → KnowsHeld (known_of_book trace faults puts given) v w
+      → GoesUp faults puts found given → MayGive w.known (known_of_book trace faults puts given)
   holds_gives found given t v w took holds up =
       let on = continues trace faults puts found given up in
-      let known : w.known ≡ record (told_by trace faults puts found) { marks = holds.marks; changes = given.changes } =
+      let known : w.known ≡ record (known_of_book trace faults puts found) { marks = holds.marks; changes = given.changes } =
       ap (λ (k : Turn). k.known) holds.is ∙ ap (λ (k : Turn). record k.known { marks = holds.marks; changes = given.changes }) took in
-      subst (λ (k : Known). MayGive k (told_by trace faults puts given)) (sym known) (record {
+      subst (λ (k : Known). MayGive k (known_of_book trace faults puts given)) (sym known) (record {
         marks = holds.below;
         earlier = record { log = on.earlier.log; changes = omega arith; faults = on.earlier.faults; standing = on.earlier.standing; put_faults = on.earlier.put_faults; stopped = on.earlier.stopped };
         sparing = on.sparing;

@@ -6,9 +6,9 @@ use Rattle.counter_table.specs.declared.view.Known.{Known}
 use Rattle.counter_table.specs.declared.view.Numbers.{Numbers}
 use Rattle.counter_table.specs.declared.view.Turn.{Turn}
 use Rattle.counter_table.specs.declared.view.View.{View}
-use Rattle.counter_table.specs.Known.{mark_of}
+use Rattle.counter_table.specs.Known.{known_mark}
 use Rattle.counter_table.specs.Play.{IsCovered}
-use Rattle.shared_unit.specs.Told.{told_by}
+use Rattle.shared_unit.specs.Told.{known_of_book}
 use Rattle.shared_unit.specs.Turn.{FindsCovered, Loads, Visits}
 use Rattle.shared_unit.specs.Numbers.{ComesBack}
 use Rattle.shared_unit.specs.Protecting.{CoversIfTaken}
@@ -21,7 +21,7 @@ back_spent row end n v w back = ap (λ (k : Numbers). k.spent) back.is ∙ ap (�
 -- what covers the numbers covers them where none was spent since
 covers_before : (v u : Numbers) (book : Known) → u.spent ≡ v.spent → IsCovered 512 u book → IsCovered 512 v book
 covers_before v u book same covered = λ row x there.
-    subst (λ (spent : List (ℕ × ℕ)). times row x spent ≤ once_below x (mark_of book row)) same (covered row x there)
+    subst (λ (spent : List (ℕ × ℕ)). times row x spent ≤ once_below x (known_mark book row)) same (covered row x there)
 
 module _ {O : Type 0} (told : Bool) (trace : O → Trace) (faults puts : O → ℕ) where
   pub covers_none : (v w : View) → w.turn ≡ v.turn → CoversIfTaken told trace faults puts v w
@@ -39,7 +39,7 @@ module _ {O : Type 0} (told : Bool) (trace : O → Trace) (faults puts : O → �
       found = finds.found;
       given = finds.given;
       visits = subst (λ (t : Turn). Visits told trace faults puts finds.found finds.given t w.turn) loads.is finds.visits;
-      covered = covers_before v.numbers u.numbers (told_by trace faults puts finds.found) same finds.covered;
+      covered = covers_before v.numbers u.numbers (known_of_book trace faults puts finds.found) same finds.covered;
     },
   )
 
@@ -52,7 +52,7 @@ module _ {O : Type 0} (told : Bool) (trace : O → Trace) (faults puts : O → �
       found = finds.found;
       given = finds.given;
       visits = subst (λ (t : Turn). Visits told trace faults puts finds.found finds.given t w.turn) same finds.visits;
-      covered = covers_before v.numbers u.numbers (told_by trace faults puts finds.found) (ap (λ (k : Numbers). k.spent) numbers) finds.covered;
+      covered = covers_before v.numbers u.numbers (known_of_book trace faults puts finds.found) (ap (λ (k : Numbers). k.spent) numbers) finds.covered;
     },
   )
   covers_on v u w numbers (inr (epoch, loads)) finds =

@@ -7,14 +7,14 @@ use Rattle.counter_table.specs.Known.{MayFill}
 use Rattle.law_history.specs.Log.{entries_of}
 use Rattle.unit_book.specs.Book.{BookView, IsKept}
 use Rattle.unit_book.proofs.KeptLaws.{bounds_of}
-use Rattle.shared_unit.specs.Told.{told_by}
+use Rattle.shared_unit.specs.Told.{known_of_book}
 
 none_taken : (n : ℕ) → epoch_after (take n []) ≡ 0
 none_taken zero = refl
 none_taken (suc n) = refl
 
 pub may_fill : {O : Type 0} (told : Bool) (trace : O → Trace) (faults puts : O → ℕ) (book : BookView O) → IsKept told trace faults book → book.log ≡ []
-    → MayFill (told_by trace faults puts book)
+    → MayFill (known_of_book trace faults puts book)
 may_fill told trace faults puts book kept first = record {
   marks = λ row. (bounds_of book.state kept.rules).from_one row;
   changes = kept.epoch ∙ ap (λ (log : List Logged). epoch_after (take book.standing (entries_of log))) first ∙ none_taken book.standing;

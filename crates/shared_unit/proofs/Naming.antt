@@ -8,7 +8,7 @@ use Rattle.shared_unit.specs.declared.permit.Permit.{Permit}
 use Rattle.shared_unit.specs.declared.permit.Protected.{Protected}
 use Rattle.shared_unit.specs.declared.permit.Protected.TheVariants as answers
 use Rattle.shared_unit.specs.Turn.{Visits, Loads}
-use Rattle.shared_unit.specs.Finishing.{IsFinished}
+use Rattle.shared_unit.specs.UnderTurn.{IsFinished}
 use Rattle.shared_unit.specs.Protecting.{FindsEpoch, IfEpoch, IsEpochOf}
 use Rattle.shared_unit.proofs.Passing.{takes_on, visit_takes}
 

@@ -13,8 +13,8 @@ use Rattle.unit_book.specs.declared.fault.BookFault.TheVariants.{SiteFault, Stop
 use Rattle.unit_book.specs.Book.{BookView, IsBarred, IsUnstored, CanEnter, Made}
 use Rattle.law_history.specs.Numbers.{mark_of, reserve_of}
 use Rattle.shared_unit.specs.declared.permit.Permit.{Permit}
-use Rattle.shared_unit.specs.Told.{told_by}
-use Rattle.shared_unit.specs.Turn.{IsReady, Visits, Grows, Loads}
+use Rattle.shared_unit.specs.Told.{known_of_book}
+use Rattle.shared_unit.specs.Turn.{IsReady, Visits, KnowsMoreOfBook, Loads}
 use Rattle.shared_unit.specs.Funding.{Reserves}
 use Rattle.shared_unit.specs.Protecting.{AddsReserve, Looks, MayTakeTurn, TakesTurn, TakesAtMostOnce, IsTrueIfKept}
 use Rattle.shared_unit.proofs.Steps.{takes_grows}
@@ -143,18 +143,18 @@ module _ {O : Type 0} (told : Bool) (trace : O → Trace) (faults puts : O → �
   passes_funded p n result v u w found given l s r =
       passes_after p.epoch v u w l (passes_served p.binding.key found given u w s (inr (n, result, r)))
 
-  looks_grows : (v w : Turn) → Looks v w → Grows v w
-  looks_grows v w l = subst (λ (t : Turn). Grows v t) (sym l.is) (record {
+  looks_grows : (v w : Turn) → Looks v w → KnowsMoreOfBook v w
+  looks_grows v w l = subst (λ (t : Turn). KnowsMoreOfBook v t) (sym l.is) (record {
     earlier = record { log = ([], sym (append-nil v.known.log)); changes = omega arith; faults = omega arith; standing = omega arith; put_faults = omega arith; stopped = λ _. refl };
     sparing = omega arith;
     opening = refl;
     epoch = l.later;
   })
 
-  pub passes_grows : (v w : Turn) → TakesAtMostOnce told trace faults puts v w → Grows v w
+  pub passes_grows : (v w : Turn) → TakesAtMostOnce told trace faults puts v w → KnowsMoreOfBook v w
   passes_grows v w (inl look) = looks_grows v w look
   passes_grows v w (inr t) =
-      let g = takes_grows (told_by trace faults puts t.found) (told_by trace faults puts t.given) (seeing t.epoch v) w t.visits.takes in
+      let g = takes_grows (known_of_book trace faults puts t.found) (known_of_book trace faults puts t.given) (seeing t.epoch v) w t.visits.takes in
       record {
         earlier = record { log = g.earlier.log; changes = g.earlier.changes; faults = g.earlier.faults; standing = g.earlier.standing; put_faults = g.earlier.put_faults; stopped = g.earlier.stopped };
         sparing = g.sparing;

@@ -3,8 +3,8 @@ use Rattle.std.proofs.Common.{◌≡◌, ◌⊎◌, inl, inr, ℕ, ◌+◌, ◌<
 use Rattle.sdls_base.specs.KeyId.{end_of}
 use Rattle.sdls_outside.specs.Moments.{Trace}
 use Rattle.unit_plan.specs.PlanLines.{PlanLines}
-use Rattle.frame_shield.specs.declared.protecting.ShieldFault.{ShieldFault}
-use Rattle.frame_checks.specs.Protecting.{channel_check}
+use Rattle.frame_shield.specs.declared.protecting_frames.ShieldFault.{ShieldFault}
+use Rattle.frame_checks.specs.ProtectingFrames.{channel_check}
 use Rattle.counter_table.specs.declared.view.Known.{Known}
 use Rattle.counter_table.specs.declared.view.Numbers.{Numbers}
 use Rattle.counter_table.specs.declared.view.Turn.{Turn}
@@ -20,15 +20,15 @@ use Rattle.shared_unit.specs.declared.permit.Done.{Done}
 use Rattle.shared_unit.specs.declared.permit.Protected.{Protected}
 use Rattle.shared_unit.specs.declared.permit.Protected.TheVariants as answers
 use Rattle.shared_unit.specs.declared.permit.Ready.TheVariants as readies
-use Rattle.shared_unit.specs.Told.{told_by, state_at, entry_count}
+use Rattle.shared_unit.specs.Told.{known_of_book, state_at, entry_count}
 use Rattle.unit_book.specs.Marks.{marks_of}
 use Rattle.shared_unit.specs.Turn.{Visits, Loads, taking_once}
 use Rattle.shared_unit.specs.Going.{GoesUp}
 use Rattle.shared_unit.specs.Numbers.{Draws, ComesBack, RunsOut, UsesNumber}
-use Rattle.shared_unit.specs.Permit.{IsOfPermit, IsUnfit, IsReadyStep, Permits}
+use Rattle.shared_unit.specs.Permit.{IsOfPermit, LacksLayout, IsReadyStep, Permits}
 use Rattle.shared_unit.specs.declared.permit.PermitReply.TheVariants as replies
 use Rattle.shared_unit.specs.Funding.{Reserves, IsFundStep}
-use Rattle.shared_unit.specs.Finishing.{IsFinished}
+use Rattle.shared_unit.specs.UnderTurn.{IsFinished}
 use Rattle.shared_unit.specs.Protecting.{AddsReserve, FailsAt, Funds, IsByKept, IsKeptStep, IsProtectStep, IsRefusedAt, IsUnder, IsUsed, Looks, Rests, TakesTurn}
 use Rattle.shared_unit.proofs.Checks.{bound_check, refused_answer, unfit_answer}
 use Rattle.shared_unit.proofs.Kept.{IsLevel}
@@ -38,7 +38,7 @@ use Rattle.shared_unit.proofs.Passing.{loads_looks, may_on, reserves_changes, ta
 
 -- a frame without its layout fails the last check, under a permit that is true
 pub fails_at : (plan : PlanLines) (p : Permit) (link : ℕ) (clear : List ℕ) (fault : ShieldFault) (epoch : ℕ) (w : Turn) → IsUsed plan link clear p w
-    → w.known.opening.plan ≡ plan → IsUnfit p.binding clear fault → epoch ≡ p.epoch → FailsAt link clear fault epoch w
+    → w.known.opening.plan ≡ plan → LacksLayout p.binding clear fault → epoch ≡ p.epoch → FailsAt link clear fault epoch w
 fails_at plan p link clear fault epoch w used planned unfit same =
     let is = used.trusted in
     let on : channel_check w.known.opening.plan p.link clear ≡ Ok (Some p.channel) =
@@ -57,7 +57,7 @@ pub refused_at : {O : Type 0} (told : Bool) (trace : O → Trace) (faults puts :
     → Visits told trace faults puts found found v w → ((channel : ℕ) × (channel_check found.plan link clear ≡ Ok (Some channel)))
     → FailsAt link clear fault epoch w
 refused_at told trace faults puts link clear fault epoch found v w h level visit passes =
-    let k : Known = told_by trace faults puts found in
+    let k : Known = known_of_book trace faults puts found in
     subst (λ (t : Turn). FailsAt link clear fault epoch t) (sym visit.takes.turn) (subst (λ (n : ℕ). FailsAt link clear fault n (taking_once k k v)) (sym h.1) (record {
       seen = omega arith;
       reached = level.reached;
@@ -132,7 +132,7 @@ module _ {O : Type 0} (told : Bool) (trace : O → Trace) (faults puts : O → �
       let found : BookView O = funded.1.0 in
       let given : BookView O = funded.1.1 in
       let visit = funded.1.2 in
-      let known : w.turn.known ≡ told_by trace faults puts given = ap (λ (k : Turn). k.known) visit.takes.turn in
+      let known : w.turn.known ≡ known_of_book trace faults puts given = ap (λ (k : Turn). k.known) visit.takes.turn in
       let one = ap (λ (k : Turn). k.turns) need.1.is in
       let two = ap (λ (k : Turn). k.turns) visit.takes.turn in
       let back = back_tickets p.row (end_of p.binding.key) t.1 v.numbers u.numbers need.4 in
@@ -195,16 +195,16 @@ module _ {O : Type 0} (told : Bool) (trace : O → Trace) (faults puts : O → �
     finished_turn (answers.Fault fault position) v w h = inl h.2
 
     pub finished_gives : (a : Protected) (t : Turn) (v w : View) → IsFinished faults p clear out a found given v w → GoesUp faults puts found given
-        → v.turn ≡ taking (told_by trace faults puts found) t → MayGive w.turn.known (told_by trace faults puts given)
+        → v.turn ≡ taking (known_of_book trace faults puts found) t → MayGive w.turn.known (known_of_book trace faults puts given)
     finished_gives a t v w h g took = by_turn (finished_turn a v w h) where
-      by_turn : (w.turn ≡ v.turn) ⊎ (w.turn ≡ learning (marks_of given.state) v.turn) → MayGive w.turn.known (told_by trace faults puts given)
+      by_turn : (w.turn ≡ v.turn) ⊎ (w.turn ≡ learning (marks_of given.state) v.turn) → MayGive w.turn.known (known_of_book trace faults puts given)
       by_turn (inl same) = may_give trace faults puts w.turn.known found given (ap (λ (k : Turn). k.known) (same ∙ took)) g (finished_changes a v w h)
       by_turn (inr learned) = may_give_learned trace faults puts w.turn.known found given
           (ap (λ (k : Turn). k.known) learned ∙ ap (λ (k : Turn). (learning (marks_of given.state) k).known) took) g (finished_changes a v w h)
 
     pub finished_visits : (a : Protected) (t u : Turn) (v w : View) → IsFinished faults p clear out a found given v w → GoesUp faults puts found given
-        → IsKept told trace faults found → IsKept told trace faults given → Follows t (told_by trace faults puts found)
-        → v.turn ≡ taking (told_by trace faults puts found) t → u ≡ giving (told_by trace faults puts given) w.turn → Visits told trace faults puts found given t u
+        → IsKept told trace faults found → IsKept told trace faults given → Follows t (known_of_book trace faults puts found)
+        → v.turn ≡ taking (known_of_book trace faults puts found) t → u ≡ giving (known_of_book trace faults puts given) w.turn → Visits told trace faults puts found given t u
     finished_visits a t u v w h g before after follows took gave = by_turn (finished_turn a v w h) where
       by_turn : (w.turn ≡ v.turn) ⊎ (w.turn ≡ learning (marks_of given.state) v.turn) → Visits told trace faults puts found given t u
       by_turn (inl same) = visits trace faults puts told found given t w.turn u before after follows g (same ∙ took) gave
@@ -226,7 +226,7 @@ module _ {O : Type 0} (told : Bool) (trace : O → Trace) (faults puts : O → �
     finished_under a v w x y h before later s at =
         by_answer a (subst (λ (k : Numbers). IsFinished faults p clear out a found given (record v { numbers = x.numbers }) (record w { numbers = k })) (sym later)
         (subst (λ (k : Numbers). IsFinished faults p clear out a found given (record v { numbers = k }) w) before h)) where
-          known : y.turn.known ≡ told_by trace faults puts given
+          known : y.turn.known ≡ known_of_book trace faults puts given
           known = ap (λ (t : Turn). t.known) s.takes.turn
 
           seen : epoch_seen x.turn ≤ p.epoch

@@ -5,11 +5,11 @@ use Rattle.sdls_outside.specs.Moments.{Trace}
 use Rattle.key_book.specs.KeyBook.{place_of}
 use Rattle.unit_state.proofs.StateLaws.{places_kept}
 use Rattle.counter_table.specs.declared.view.Numbers.{Numbers}
-use Rattle.counter_table.specs.Known.{mark_of}
+use Rattle.counter_table.specs.Known.{known_mark}
 use Rattle.counter_table.specs.Numbers.{lifting, spending, returning, peeking}
 use Rattle.unit_book.specs.Book.{BookView, Made}
 use Rattle.law_history.specs.Numbers.{mark_of as held_mark, reserve_of}
-use Rattle.shared_unit.specs.Told.{told_by}
+use Rattle.shared_unit.specs.Told.{known_of_book}
 use Rattle.shared_unit.specs.Numbers.{Lifts}
 use Rattle.shared_unit.specs.Funding.{Reserves}
 use Rattle.unit_book.proofs.Places.{mark_placed}
@@ -25,7 +25,7 @@ reserves_place {O} faults key n mark row found given h place = by_case h.2 where
       ∙ places_kept found.state (reserve_of found.plan found.state key n).change key row place
 
 pub reserved_mark : {O : Type 0} (trace : O → Trace) (faults puts : O → ℕ) (key n mark row : ℕ) (found given : BookView O) → Reserves faults key n (Ok mark) found given
-    → place_of found.state.keys key ≡ Some row → n < mark_of (told_by trace faults puts given) row
+    → place_of found.state.keys key ≡ Some row → n < known_mark (known_of_book trace faults puts given) row
 reserved_mark trace faults puts key n mark row found given h place =
     let a = mark_placed given.state key row (reserves_place faults key n mark row found given h place) in
     let b = h.1 in

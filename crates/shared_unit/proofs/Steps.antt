@@ -11,22 +11,22 @@ use Rattle.unit_state.specs.declared.state.State.{State}
 use Rattle.counter_table.specs.declared.view.Known.{Known}
 use Rattle.counter_table.specs.declared.view.Opening.{Opening}
 use Rattle.counter_table.specs.declared.view.Turn.{Turn}
-use Rattle.counter_table.specs.Known.{Earlier, IsSparing, KeepsMarks, MayGive, HasRisen, pieces}
+use Rattle.counter_table.specs.Known.{Earlier, IsSparing, LowersNoMark, MayGive, HasRisen, pieces}
 use Rattle.counter_table.specs.Turn.{taking, giving, learning}
 use Rattle.counter_table.specs.Play.{Follows}
 use Rattle.law_history.specs.Log.{entries_of}
 use Rattle.unit_book.specs.Book.{BookView, IsKept}
-use Rattle.shared_unit.specs.Told.{told_by}
+use Rattle.shared_unit.specs.Told.{known_of_book}
 use Rattle.unit_book.specs.Marks.{marks_of, KeepsMarks as StateMarks}
 use Rattle.unit_book.specs.declared.fault.BookFault.{BookFault}
 use Rattle.unit_book.specs.GoesOn.{GoesOn}
-use Rattle.shared_unit.specs.Turn.{Grows, TakesOnce, Visits}
+use Rattle.shared_unit.specs.Turn.{KnowsMoreOfBook, TakesOnce, Visits}
 use Rattle.shared_unit.specs.Going.{GoesUp}
 use Rattle.unit_book.proofs.GoingOn.{goes_same}
 use Rattle.shared_unit.proofs.Epochs.{entries_counted, entries_of-append}
 
 pub record Continues (found given : Known) : Type 0 where
-  pub marks : KeepsMarks found given
+  pub marks : LowersNoMark found given
   pub earlier : Earlier found given
   pub sparing : IsSparing found given
   pub opening : given.opening ≡ found.opening
@@ -85,7 +85,7 @@ module _ {O : Type 0} (faults puts : O → ℕ) where
   goes_unchanged old new same = subst (λ (book : BookView O). GoesUp faults puts old book) (sym same) (goes_itself old)
 
 module _ {O : Type 0} (trace : O → Trace) (faults puts : O → ℕ) where
-  pub goes_opening : (old new : BookView O) → GoesUp faults puts old new → (told_by trace faults puts new).opening ≡ (told_by trace faults puts old).opening
+  pub goes_opening : (old new : BookView O) → GoesUp faults puts old new → (known_of_book trace faults puts new).opening ≡ (known_of_book trace faults puts old).opening
   goes_opening old new up =
       let g = up.goes in
       ap (λ (i : List ℕ). let o : Opening = record { image = i; plan = new.plan; start = new.start; trail = trace new.opened; faults = faults new.opened } in o) g.image
@@ -93,7 +93,7 @@ module _ {O : Type 0} (trace : O → Trace) (faults puts : O → ℕ) where
       ∙ ap (λ (s : State). let o : Opening = record { image = old.image; plan = old.plan; start = s; trail = trace new.opened; faults = faults new.opened } in o) g.start
       ∙ ap (λ (z : O). let o : Opening = record { image = old.image; plan = old.plan; start = old.start; trail = trace z; faults = faults z } in o) g.opened
 
-  pub continues : (old new : BookView O) → GoesUp faults puts old new → Continues (told_by trace faults puts old) (told_by trace faults puts new)
+  pub continues : (old new : BookView O) → GoesUp faults puts old new → Continues (known_of_book trace faults puts old) (known_of_book trace faults puts new)
   continues old new up =
       let g = up.goes in
       record {
@@ -117,19 +117,19 @@ module _ {O : Type 0} (trace : O → Trace) (faults puts : O → ℕ) where
       }
 
   -- a book that was found may be given back as it is then, where its changes are known
-  pub may_give : (known : Known) (found given : BookView O) → known ≡ told_by trace faults puts found → GoesUp faults puts found given
-      → given.changes ≡ found.changes → MayGive known (told_by trace faults puts given)
+  pub may_give : (known : Known) (found given : BookView O) → known ≡ known_of_book trace faults puts found → GoesUp faults puts found given
+      → given.changes ≡ found.changes → MayGive known (known_of_book trace faults puts given)
   may_give known found given same g changes =
       let c = continues found given g in
-      subst (λ (k : Known). MayGive k (told_by trace faults puts given)) (sym same)
+      subst (λ (k : Known). MayGive k (known_of_book trace faults puts given)) (sym same)
       (record { marks = c.marks; earlier = c.earlier; sparing = c.sparing; opening = c.opening; changes = changes })
 
   -- after a lift the holder knows the held book's marks
-  pub may_give_learned : (known : Known) (found given : BookView O) → known ≡ record (told_by trace faults puts found) { marks = marks_of given.state }
-      → GoesUp faults puts found given → given.changes ≡ found.changes → MayGive known (told_by trace faults puts given)
+  pub may_give_learned : (known : Known) (found given : BookView O) → known ≡ record (known_of_book trace faults puts found) { marks = marks_of given.state }
+      → GoesUp faults puts found given → given.changes ≡ found.changes → MayGive known (known_of_book trace faults puts given)
   may_give_learned known found given same g changes =
       let c = continues found given g in
-      subst (λ (k : Known). MayGive k (told_by trace faults puts given)) (sym same) (record {
+      subst (λ (k : Known). MayGive k (known_of_book trace faults puts given)) (sym same) (record {
         marks = λ row. omega arith;
         earlier = record { log = c.earlier.log; changes = c.earlier.changes; faults = c.earlier.faults; standing = c.earlier.standing; put_faults = c.earlier.put_faults; stopped = c.earlier.stopped };
         sparing = c.sparing;
@@ -137,37 +137,37 @@ module _ {O : Type 0} (trace : O → Trace) (faults puts : O → ℕ) where
         changes = changes;
       })
 
-  pub keeps_more : (known : Known) (old new : BookView O) → KeepsMarks known (told_by trace faults puts old) → GoesUp faults puts old new
-      → KeepsMarks known (told_by trace faults puts new)
+  pub keeps_more : (known : Known) (old new : BookView O) → LowersNoMark known (known_of_book trace faults puts old) → GoesUp faults puts old new
+      → LowersNoMark known (known_of_book trace faults puts new)
   keeps_more known old new h g row = let a = h row in let b = g.marks row in omega arith
 
   module _ (told : Bool) where
     pub visits : (found given : BookView O) (v m w : Turn) → IsKept told trace faults found → IsKept told trace faults given
-        → Follows v (told_by trace faults puts found) → GoesUp faults puts found given → m ≡ taking (told_by trace faults puts found) v
-        → w ≡ giving (told_by trace faults puts given) m → Visits told trace faults puts found given v w
+        → Follows v (known_of_book trace faults puts found) → GoesUp faults puts found given → m ≡ taking (known_of_book trace faults puts found) v
+        → w ≡ giving (known_of_book trace faults puts given) m → Visits told trace faults puts found given v w
     visits found given v m w before after follows g took gave =
         let c = continues found given g in
         record {
           found_kept = before;
           given_kept = after;
-          takes = record { follows = follows; earlier = c.earlier; sparing = c.sparing; opening = c.opening; turn = gave ∙ ap (giving (told_by trace faults puts given)) took };
+          takes = record { follows = follows; earlier = c.earlier; sparing = c.sparing; opening = c.opening; turn = gave ∙ ap (giving (known_of_book trace faults puts given)) took };
         }
 
     pub visits_learned : (found given : BookView O) (v m w : Turn) → IsKept told trace faults found → IsKept told trace faults given
-        → Follows v (told_by trace faults puts found) → GoesUp faults puts found given → m ≡ learning (marks_of given.state) (taking (told_by trace faults puts found) v)
-        → w ≡ giving (told_by trace faults puts given) m → Visits told trace faults puts found given v w
+        → Follows v (known_of_book trace faults puts found) → GoesUp faults puts found given → m ≡ learning (marks_of given.state) (taking (known_of_book trace faults puts found) v)
+        → w ≡ giving (known_of_book trace faults puts given) m → Visits told trace faults puts found given v w
     visits_learned found given v m w before after follows g took gave =
         let c = continues found given g in
         record {
           found_kept = before;
           given_kept = after;
-          takes = record { follows = follows; earlier = c.earlier; sparing = c.sparing; opening = c.opening; turn = gave ∙ ap (giving (told_by trace faults puts given)) took };
+          takes = record { follows = follows; earlier = c.earlier; sparing = c.sparing; opening = c.opening; turn = gave ∙ ap (giving (known_of_book trace faults puts given)) took };
         }
 
 -- what a worker knows grows when it takes the turn
-pub takes_grows : (found given : Known) (v w : Turn) → TakesOnce found given v w → Grows v w
+pub takes_grows : (found given : Known) (v w : Turn) → TakesOnce found given v w → KnowsMoreOfBook v w
 takes_grows found given v w s =
-    let P : Turn → Type 0 = λ t. Grows v t in
+    let P : Turn → Type 0 = λ t. KnowsMoreOfBook v t in
     subst P (sym s.turn) (record {
       earlier = earlier_again v.known found given s.follows.earlier s.earlier s.opening;
       sparing = (let a = s.follows.sparing in let b = s.sparing in omega arith);

@@ -2,7 +2,7 @@
 use Rattle.std.proofs.Common.{◌≡◌, ℕ, ◌<◌, ◌≤◌, max, List, [], ◌∷◌, ◌++◌, refl, sym, ap, subst, ◌∙◌, arith, eq-eqb, Some, Ok}
 use Rattle.counter_table.specs.declared.view.Numbers.{Numbers}
 use Rattle.counter_table.specs.Numbers.{top, arming, drawing, lifting}
-use Rattle.shared_unit.specs.Numbers.{Draws, IsDrawn}
+use Rattle.shared_unit.specs.Numbers.{Draws, IsDrawAnswer}
 
 pub top-append : (row : ℕ) (ps qs : List (ℕ × ℕ)) → top row (ps ++ qs) ≡ max (top row ps) (top row qs)
 top-append row [] qs = omega arith
@@ -25,7 +25,7 @@ draws row end n m v u w found armed below later positive drawn =
     }
 
 pub drawn_ok : (row end m r : ℕ) (t : ℕ × ℕ) (v u w : Numbers) → r ≡ row → top row v.nexts ≤ m → u ≡ arming row end m v → m < end
-    → t.0 ≡ r → top r u.nexts ≤ t.1 → 0 < t.1 → w ≡ drawing r t.1 u → t.1 < end → IsDrawn row end (Ok t) v w
+    → t.0 ≡ r → top r u.nexts ≤ t.1 → 0 < t.1 → w ≡ drawing r t.1 u → t.1 < end → IsDrawAnswer row end (Ok t) v w
 drawn_ok row end m r t v u w same found armed below own later positive drawn fits =
     let last : w.last ≡ Some (t.0, t.1) = ap (λ (k : Numbers). k.last) drawn ∙ ap (λ (q : ℕ). Some (q, t.1)) (sym own) in (
       own ∙ same,

@@ -4,7 +4,7 @@ use Rattle.sdls_outside.specs.Moments.{Trace}
 use Rattle.key_book.specs.KeyBook.{place_of}
 use Rattle.unit_plan.specs.PlanLines.{PlanLines, link_of}
 use Rattle.unit_state.specs.declared.state.State.{State}
-use Rattle.frame_checks.specs.Protecting.{channel_check}
+use Rattle.frame_checks.specs.ProtectingFrames.{channel_check}
 use Rattle.counter_table.specs.declared.view.Known.{Known}
 use Rattle.counter_table.specs.declared.view.Opening.{Opening}
 use Rattle.counter_table.specs.declared.view.Turn.{Turn}
@@ -16,15 +16,15 @@ use Rattle.unit_book.specs.Book.{BookView}
 use Rattle.shared_unit.specs.declared.permit.Permit.{Permit}
 use Rattle.shared_unit.specs.declared.permit.PermitReply.{PermitReply}
 use Rattle.shared_unit.specs.declared.permit.PermitReply.TheVariants as replies
-use Rattle.shared_unit.specs.Told.{told_by, state_at}
-use Rattle.shared_unit.specs.Turn.{Grows, TakesOnce}
+use Rattle.shared_unit.specs.Told.{known_of_book, state_at}
+use Rattle.shared_unit.specs.Turn.{KnowsMoreOfBook, TakesOnce}
 use Rattle.shared_unit.proofs.Kept.{IsLevel}
 use Rattle.shared_unit.specs.Permit.{IsTrueFor, IsOfPermit, IfPermit, Permits}
 use Rattle.unit_book.specs.Epoch.{binding_on}
 use Rattle.shared_unit.proofs.Checks.{check_bound}
 use Rattle.shared_unit.proofs.Epochs.{state_at_stays, epochs_longer, row_later}
 
-pub permit_stays : (p : Permit) (v w : Turn) → Grows v w → IsTrueFor p v → IsTrueFor p w
+pub permit_stays : (p : Permit) (v w : Turn) → KnowsMoreOfBook v w → IsTrueFor p v → IsTrueFor p w
 permit_stays p v w grows is =
     let more = grows.earlier.log in
     let same : state_at w.known p.epoch ≡ state_at v.known p.epoch =
@@ -42,11 +42,11 @@ permit_stays p v w grows is =
     }
 
 -- the held book has the permit's row for its key
-pub row_held : {O : Type 0} (trace : O → Trace) (faults puts : O → ℕ) (p : Permit) (v : Turn) (book : BookView O) → Follows v (told_by trace faults puts book) → IsTrueFor p v
+pub row_held : {O : Type 0} (trace : O → Trace) (faults puts : O → ℕ) (p : Permit) (v : Turn) (book : BookView O) → Follows v (known_of_book trace faults puts book) → IsTrueFor p v
     → IsLevel book → place_of book.state.keys p.binding.key ≡ Some p.row
 row_held trace faults puts p v book follows is level =
     let more = follows.earlier.log in
-    let k : Known = told_by trace faults puts book in
+    let k : Known = known_of_book trace faults puts book in
     let same : state_at k p.epoch ≡ state_at v.known p.epoch = state_at_stays v.known k more.0 p.epoch follows.opening more.1 is.reached in
     sym (level.rows p.binding.key)
     ∙ row_later book.start (entries_of book.log) p.epoch book.changes p.binding.key p.row
@@ -55,9 +55,9 @@ row_held trace faults puts p v book follows is level =
 
 -- what the book permits is true for the worker that found the book so
 pub permit_true : {O : Type 0} (trace : O → Trace) (faults puts : O → ℕ) (link : ℕ) (clear : List ℕ) (p : Permit) (found : BookView O) (given : Known) (v w : Turn)
-    → Permits link clear (replies.Permit p) found → IsLevel found → TakesOnce (told_by trace faults puts found) given v w → IsTrueFor p w
+    → Permits link clear (replies.Permit p) found → IsLevel found → TakesOnce (known_of_book trace faults puts found) given v w → IsTrueFor p w
 permit_true trace faults puts link clear p found given v w h level s =
-    let k : Known = told_by trace faults puts found in
+    let k : Known = known_of_book trace faults puts found in
     let here = h.0 in
     let epoch : p.epoch ≡ found.changes = h.2 in
     let bound = check_bound found.plan (state_at k found.changes) link clear p.channel p.binding h.1 (level.binds link clear ∙ h.3) in
@@ -84,7 +84,7 @@ of_permit link clear p found plan h same =
     ap (λ (l : PlanLines). channel_check l p.link clear) (sym same) ∙ ap (λ (n : ℕ). channel_check found.plan n clear) h.0 ∙ h.1
 
 pub permitted : {O : Type 0} (trace : O → Trace) (faults puts : O → ℕ) (plan : PlanLines) (link : ℕ) (clear : List ℕ) (reply : PermitReply) (found : BookView O) (given : Known) (v w : Turn)
-    → Permits link clear reply found → IsLevel found → TakesOnce (told_by trace faults puts found) given v w → found.plan ≡ plan
+    → Permits link clear reply found → IsLevel found → TakesOnce (known_of_book trace faults puts found) given v w → found.plan ≡ plan
     → IfPermit reply (λ p. IsTrueFor p w × IsOfPermit plan p clear)
 permitted trace faults puts plan link clear (replies.Permit p) found given v w h level s same =
     (permit_true trace faults puts link clear p found given v w h level s, of_permit link clear p found plan h same)

@@ -8,11 +8,11 @@ use Rattle.unit_book.specs.Book.{BookView, Made, Refuses}
 use Rattle.law_history.specs.Numbers.{mark_of, reserve_of}
 use Rattle.shared_unit.specs.declared.permit.Permit.{Permit}
 use Rattle.shared_unit.specs.declared.permit.Done.{Done}
-use Rattle.shared_unit.specs.Told.{told_by, entry_count}
+use Rattle.shared_unit.specs.Told.{known_of_book, entry_count}
 use Rattle.unit_book.specs.Marks.{marks_of}
 use Rattle.shared_unit.specs.Turn.{Visits}
 use Rattle.shared_unit.specs.Numbers.{Lifts}
-use Rattle.shared_unit.specs.Permit.{IsProtected}
+use Rattle.shared_unit.specs.Permit.{IsProtectedUnder}
 
 -- A number is reserved, or refused: the mark was above it already, or an entry raises it.
 abbrev pub Reserves : {O : Type 0} → (O → ℕ) → ℕ → ℕ → Result ℕ BookFault → BookView O → BookView O → Type 0
@@ -33,10 +33,10 @@ IsFunded faults key row n (Err fault) found given v w =
 -- what `fund` does, by its answer
 abbrev pub IsFundStep : {O : Type 0} → Bool → (O → Trace) → (O → ℕ) → (O → ℕ) → Permit → ℕ → List ℕ → List ℕ → Result Done (BookFault × ℕ) → View → View → Type 0
 IsFundStep {O} told trace faults puts p n clear out (Ok done) v w =
-    (done.number ≡ n) × IsProtected p clear out done × Lifts p.row n v.numbers w.numbers
+    (done.number ≡ n) × IsProtectedUnder p clear out done × Lifts p.row n v.numbers w.numbers
     × ((found : BookView O) × (given : BookView O) × (mark : ℕ) × Visits told trace faults puts found given v.turn w.turn
     × Reserves faults p.binding.key n (Ok mark) found given)
 IsFundStep {O} told trace faults puts p n clear out (Err fault) v w =
     (w.numbers ≡ v.numbers)
     × ((found : BookView O) × (given : BookView O) × Visits told trace faults puts found given v.turn w.turn
-    × Reserves faults p.binding.key n (Err fault.0) found given × (fault.1 ≡ entry_count (told_by trace faults puts given)))
+    × Reserves faults p.binding.key n (Err fault.0) found given × (fault.1 ≡ entry_count (known_of_book trace faults puts given)))

@@ -5,7 +5,7 @@ pub mod Numbers
 pub mod Permit
 pub mod Funding
 pub mod Calls
-pub mod Finishing
+pub mod UnderTurn
 pub mod Protecting
 pub mod Commanding
 pub mod Sharing

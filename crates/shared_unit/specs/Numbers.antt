@@ -33,9 +33,9 @@ abbrev pub RunsOut : ℕ → ℕ → ℕ → Numbers → Numbers → Type 0
 RunsOut row end n v w = (end ≤ n) × (((top row v.nexts ≤ n) × (w ≡ arming row end n v)) ⊎ Draws row end n v w)
 
 -- a draw by its answer
-abbrev pub IsDrawn : ℕ → ℕ → Result (ℕ × ℕ) ℕ → Numbers → Numbers → Type 0
-IsDrawn row end (Ok ticket) v w = (ticket.0 ≡ row) × (ticket.1 < end) × (w.last ≡ Some ticket) × Draws row end ticket.1 v w
-IsDrawn row end (Err n) v w = RunsOut row end n v w
+abbrev pub IsDrawAnswer : ℕ → ℕ → Result (ℕ × ℕ) ℕ → Numbers → Numbers → Type 0
+IsDrawAnswer row end (Ok ticket) v w = (ticket.0 ≡ row) × (ticket.1 < end) × (w.last ≡ Some ticket) × Draws row end ticket.1 v w
+IsDrawAnswer row end (Err n) v w = RunsOut row end n v w
 
 -- the limit was lifted to the mark and found above the number, which is spent
 pub record Lifts (row n : ℕ) (v w : Numbers) : Type 0 where

@@ -6,12 +6,12 @@ use Rattle.key_book.specs.KeyBook.{place_of}
 use Rattle.unit_plan.specs.PlanLines.{PlanLines, link_of}
 use Rattle.unit_state.specs.History.{epoch_after}
 use Rattle.frame_shield.specs.declared.binding.Binding.{Binding}
-use Rattle.frame_shield.specs.declared.protecting.ShieldFault.{ShieldFault}
-use Rattle.frame_shield.specs.declared.protecting.ShieldFault.TheVariants.{Layout}
+use Rattle.frame_shield.specs.declared.protecting_frames.ShieldFault.{ShieldFault}
+use Rattle.frame_shield.specs.declared.protecting_frames.ShieldFault.TheVariants.{Layout}
 use Rattle.frame_shield.specs.Binding.{IsBinding, clear_fault}
 use Rattle.frame_shield.specs.Protects.{Protects}
 use Rattle.frame_shield.specs.ShieldFault.{fault_number}
-use Rattle.frame_checks.specs.Protecting.{channel_check, protect_check}
+use Rattle.frame_checks.specs.ProtectingFrames.{channel_check, protect_check}
 use Rattle.counter_table.specs.declared.view.Turn.{Turn}
 use Rattle.counter_table.specs.declared.view.View.{View}
 use Rattle.counter_table.specs.Turn.{epoch_seen}
@@ -62,12 +62,12 @@ Permits link clear (replies.Refused fault epoch) book =
     (protect_check book.plan book.state link clear ≡ Err fault) × (epoch ≡ book.changes)
 
 -- the clear frame has not its layout: this is the first check that fails
-abbrev pub IsUnfit : Binding → List ℕ → ShieldFault → Type 0
-IsUnfit binding clear fault =
+abbrev pub LacksLayout : Binding → List ℕ → ShieldFault → Type 0
+LacksLayout binding clear fault =
     (found : FrameFault) × (clear_fault binding clear ≡ Some found) × (fault ≡ Layout (fault_number found))
 
 -- the number is the key's, and the front of the octets is the frame protected with it
-pub record IsProtected (permit : Permit) (clear out : List ℕ) (done : Done) : Type 0 where
+pub record IsProtectedUnder (permit : Permit) (clear out : List ℕ) (done : Done) : Type 0 where
   pub key : done.key ≡ permit.binding.key
   pub epoch : done.epoch ≡ permit.epoch
   pub below : done.number < end_of permit.binding.key
@@ -75,7 +75,7 @@ pub record IsProtected (permit : Permit) (clear out : List ℕ) (done : Done) : 
 
 -- what `protect_ready` does, by its answer
 abbrev pub IsReadyStep : Permit → List ℕ → List ℕ → Ready → View → View → Type 0
-IsReadyStep p clear out (readies.Refused fault) v w = IsUnfit p.binding clear fault × (w.numbers ≡ v.numbers) × (w.turn ≡ v.turn)
+IsReadyStep p clear out (readies.Refused fault) v w = LacksLayout p.binding clear fault × (w.numbers ≡ v.numbers) × (w.turn ≡ v.turn)
 IsReadyStep p clear out (readies.Stale epoch) v w =
     (clear_fault p.binding clear ≡ None) × (p.epoch ≢ epoch) × (w.numbers ≡ v.numbers) × Loads epoch v.turn w.turn
 IsReadyStep p clear out (readies.Exhausted n) v w =
@@ -84,5 +84,5 @@ IsReadyStep p clear out (readies.NeedBlock ticket) v w =
     (clear_fault p.binding clear ≡ None) × Loads p.epoch v.turn w.turn × (ticket.0 ≡ p.row) × (ticket.1 < end_of p.binding.key)
     × ComesBack p.row (end_of p.binding.key) ticket.1 v.numbers w.numbers
 IsReadyStep p clear out (readies.Done d) v w =
-    (clear_fault p.binding clear ≡ None) × Loads p.epoch v.turn w.turn × IsProtected p clear out d
+    (clear_fault p.binding clear ≡ None) × Loads p.epoch v.turn w.turn × IsProtectedUnder p clear out d
     × Spends p.row (end_of p.binding.key) d.number v.numbers w.numbers

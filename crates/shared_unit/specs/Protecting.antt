@@ -4,10 +4,10 @@ use Rattle.sdls_base.specs.KeyId.{end_of}
 use Rattle.sdls_outside.specs.Moments.{Trace}
 use Rattle.unit_plan.specs.PlanLines.{PlanLines}
 use Rattle.unit_state.specs.History.{epoch_after}
-use Rattle.frame_shield.specs.declared.protecting.ShieldFault.{ShieldFault}
+use Rattle.frame_shield.specs.declared.protecting_frames.ShieldFault.{ShieldFault}
 use Rattle.frame_shield.specs.Binding.{clear_fault}
-use Rattle.frame_checks.specs.Protecting.{channel_check}
-use Rattle.law_history.specs.Protecting.{protect_reply}
+use Rattle.frame_checks.specs.ProtectingFrames.{channel_check}
+use Rattle.law_history.specs.ProtectingFrames.{protect_reply}
 use Rattle.counter_table.specs.declared.view.Turn.{Turn}
 use Rattle.counter_table.specs.declared.view.View.{View}
 use Rattle.counter_table.specs.Turn.{epoch_seen, seeing}
@@ -21,7 +21,7 @@ use Rattle.shared_unit.specs.declared.permit.Protected.TheVariants as answers
 use Rattle.shared_unit.specs.Told.{state_at, entry_count}
 use Rattle.shared_unit.specs.Turn.{FindsCovered, Visits, Loads}
 use Rattle.shared_unit.specs.Numbers.{Draws, ComesBack, RunsOut, UsesNumber}
-use Rattle.shared_unit.specs.Permit.{IsTrueFor, IsOfPermit, IsProtected, IsUnfit}
+use Rattle.shared_unit.specs.Permit.{IsTrueFor, IsOfPermit, IsProtectedUnder, LacksLayout}
 use Rattle.shared_unit.specs.Funding.{Reserves}
 
 -- The first check that fails in the state of an epoch that was seen. Those for which the plan is enough were passed.
@@ -37,9 +37,9 @@ RunsOutUnder p clear key n epoch v w = (clear_fault p.binding clear ≡ None) ×
     × RunsOut p.row (end_of key) n v.numbers w.numbers × (epoch_seen v.turn ≤ epoch)
 
 -- The number was drawn and spent, and the frame is protected with it, in an epoch that is no less than the one seen before.
-pub record IsDone (p : Permit) (clear out : List ℕ) (d : Done) (v w : View) : Type 0 where
+pub record IsDrawnAndProtected (p : Permit) (clear out : List ℕ) (d : Done) (v w : View) : Type 0 where
   pub fits : clear_fault p.binding clear ≡ None
-  pub protected : IsProtected p clear out d
+  pub protected : IsProtectedUnder p clear out d
   pub later : epoch_seen v.turn ≤ d.epoch
   pub back : ℕ
   pub uses : UsesNumber p.row d.number back v.numbers w.numbers
@@ -127,10 +127,10 @@ module _ {O : Type 0} (told : Bool) (trace : O → Trace) (faults puts : O → �
   -- What was done under a permit, by the answer. The turn is taken for a reserve of the number that was drawn here, or the book
   -- is given back as it was found.
   abbrev pub IsUnder : Permit → List ℕ → List ℕ → Protected → View → View → Type 0
-  IsUnder p clear out (answers.Done d) v w = IsDone p clear out d v w × MayTakeTurn (Funds faults p.binding.key d.number) v.turn w.turn
+  IsUnder p clear out (answers.Done d) v w = IsDrawnAndProtected p clear out d v w × MayTakeTurn (Funds faults p.binding.key d.number) v.turn w.turn
   IsUnder p clear out answers.Clear v w = ⊥
   IsUnder p clear out (answers.Refused fault epoch) v w =
-      IsUnfit p.binding clear fault × (epoch ≡ p.epoch) × (w.numbers ≡ v.numbers) × (epoch_seen v.turn ≤ epoch) × MayTakeTurn Rests v.turn w.turn
+      LacksLayout p.binding clear fault × (epoch ≡ p.epoch) × (w.numbers ≡ v.numbers) × (epoch_seen v.turn ≤ epoch) × MayTakeTurn Rests v.turn w.turn
   IsUnder p clear out (answers.Exhausted key n epoch) v w = RunsOutUnder p clear key n epoch v w × MayTakeTurn Rests v.turn w.turn
   IsUnder p clear out (answers.Fault fault position) v w = IsRefusedUnder p clear fault position v w
 

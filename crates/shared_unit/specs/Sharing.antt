@@ -4,12 +4,12 @@ use Rattle.sdls_outside.specs.Moments.{Trace, EachMoment}
 use Rattle.disk_journal.specs.Image.{held}
 use Rattle.unit_plan.specs.Plan.{plan_of}
 use Rattle.unit_plan.specs.PlanLines.{PlanLines}
-use Rattle.unit_image.specs.Opening.{Opening, SameJournal}
+use Rattle.unit_image.specs.OpeningImage.{Opening, SameJournal}
 use Rattle.unit_image.specs.Shows.{Shows}
 use Rattle.counter_table.specs.declared.view.Known.{Known}
 use Rattle.counter_table.specs.declared.view.Turn.{Turn}
 use Rattle.counter_table.specs.declared.view.View.{View}
-use Rattle.counter_table.specs.Known.{mark_of}
+use Rattle.counter_table.specs.Known.{known_mark}
 use Rattle.counter_table.specs.Numbers.{amount, top}
 use Rattle.counter_table.specs.Whole.{IsWhole}
 use Rattle.counter_table.specs.Worker.{view}
@@ -17,13 +17,13 @@ use Rattle.counter_table.specs.declared.counters.Counters.{Counters}
 use Rattle.counter_table.specs.declared.counters.Worker.{Worker}
 use Rattle.unit_book.specs.Book.{BookView, IsKept, begun}
 use Rattle.unit_book.specs.Marks.{mark_at}
-use Rattle.shared_unit.specs.Told.{told_by}
+use Rattle.shared_unit.specs.Told.{known_of_book}
 use Rattle.shared_unit.specs.Turn.{IsReady}
 
 -- The holder of the turn knows these marks of the held book, and its count of changes.
 pub record KnowsHeld (given : Known) (v w : Turn) : Type 0 where
   pub marks : List ℕ
-  pub below : (row : ℕ) → slice_index_or marks row 1 ≤ mark_of given row
+  pub below : (row : ℕ) → slice_index_or marks row 1 ≤ known_mark given row
   pub is : w ≡ record v { known = record v.known { marks = marks; changes = given.changes } }
 
 -- The words of so many rows were raised to their marks
@@ -32,11 +32,11 @@ pub record IsRaised (book : Known) (count : ℕ) (v w : View) : Type 0 where
   pub drawn : w.numbers.drawn ≡ v.numbers.drawn
   pub spent : w.numbers.spent ≡ v.numbers.spent
   pub shares : w.numbers.shares ≡ v.numbers.shares
-  pub raised : (row : ℕ) → row < count → mark_of book row ≤ top row w.numbers.nexts
-  pub low : (row : ℕ) → top row w.numbers.raised ≤ max (top row v.numbers.raised) (mark_of book row)
+  pub raised : (row : ℕ) → row < count → known_mark book row ≤ top row w.numbers.nexts
+  pub low : (row : ℕ) → top row w.numbers.raised ≤ max (top row v.numbers.raised) (known_mark book row)
 
 -- The book that was opened on the site, as the opening left both.
-pub record IsOpened {O : Type 0} (told : Bool) (trace : O → Trace) (faults puts : O → ℕ) (site : O) (book : BookView O) : Type 0 where
+pub record BookIsOpened {O : Type 0} (told : Bool) (trace : O → Trace) (faults puts : O → ℕ) (site : O) (book : BookView O) : Type 0 where
   pub kept : IsKept told trace faults book
   pub begun_is : book ≡ begun book.site (trace site).now.image book.plan book.start book.journal
   pub shows : IsTrue told → Shows (trace site).now.image book.start × Shows (trace book.site).now.image book.start
@@ -56,7 +56,7 @@ pub record Begins {O B : Type 0} (trace : O → Trace) (faults puts : O → ℕ)
   pub spent : (view worker).numbers.spent ≡ []
   pub made : (view worker).turn.made ≡ []
   pub log : (view worker).turn.known.log ≡ []
-  pub opening : (view worker).turn.known.opening ≡ (told_by trace faults puts book).opening
+  pub opening : (view worker).turn.known.opening ≡ (known_of_book trace faults puts book).opening
   pub whole : IsWhole 512 (view worker)
   pub standing : (view worker).turn.known.standing ≡ book.standing
   pub put_faults : (view worker).turn.known.put_faults ≡ puts book.site

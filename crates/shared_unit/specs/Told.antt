@@ -8,8 +8,8 @@ use Rattle.unit_book.specs.Book.{BookView}
 use Rattle.unit_book.specs.Marks.{marks_of}
 use Rattle.law_history.specs.Log.{entries_of}
 
-abbrev pub told_by : {O : Type 0} → (O → Trace) → (O → ℕ) → (O → ℕ) → BookView O → Known
-told_by trace faults puts book = record {
+abbrev pub known_of_book : {O : Type 0} → (O → Trace) → (O → ℕ) → (O → ℕ) → BookView O → Known
+known_of_book trace faults puts book = record {
   marks = marks_of book.state;
   log = book.log;
   changes = book.changes;

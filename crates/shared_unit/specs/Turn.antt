@@ -12,7 +12,7 @@ use Rattle.counter_table.specs.Turn.{epoch_seen, places, seeing}
 use Rattle.counter_table.specs.Play.{Follows, IsCovered}
 use Rattle.counter_table.specs.Worker.{view, IsOf}
 use Rattle.unit_book.specs.Book.{BookView, IsKept}
-use Rattle.shared_unit.specs.Told.{told_by}
+use Rattle.shared_unit.specs.Told.{known_of_book}
 
 -- The worker is of these counters, knows of a book that was opened with this plan, and has not the turn.
 pub record IsReady {B : Type 0} (counters : Counters B) (plan : PlanLines) (worker : Worker B) : Type 0 where
@@ -42,17 +42,17 @@ pub record TakesOnce (found given : Known) (v w : Turn) : Type 0 where
 pub record Visits {O : Type 0} (told : Bool) (trace : O → Trace) (faults puts : O → ℕ) (found given : BookView O) (v w : Turn) : Type 0 where
   pub found_kept : IsKept told trace faults found
   pub given_kept : IsKept told trace faults given
-  pub takes : TakesOnce (told_by trace faults puts found) (told_by trace faults puts given) v w
+  pub takes : TakesOnce (known_of_book trace faults puts found) (known_of_book trace faults puts given) v w
 
 -- The book that a call found under the turn is above each number that the worker had spent: it is below its row's mark.
 pub record FindsCovered {O : Type 0} (told : Bool) (trace : O → Trace) (faults puts : O → ℕ) (v w : View) : Type 0 where
   pub found : BookView O
   pub given : BookView O
   pub visits : Visits told trace faults puts found given v.turn w.turn
-  pub covered : IsCovered 512 v.numbers (told_by trace faults puts found)
+  pub covered : IsCovered 512 v.numbers (known_of_book trace faults puts found)
 
 -- what a worker knows of the book only grows
-pub record Grows (v w : Turn) : Type 0 where
+pub record KnowsMoreOfBook (v w : Turn) : Type 0 where
   pub earlier : Earlier v.known w.known
   pub sparing : IsSparing v.known w.known
   pub opening : w.known.opening ≡ v.known.opening

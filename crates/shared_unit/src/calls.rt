@@ -1,12 +1,12 @@
 //! The calls that take the turn once: opening frames, putting answers, and the count of entries.
 ghost use Rattle.std.specs.Prelude.{◌≡◌, ◌<◌, ◌≤◌, ℕ, MatchResult};
-ghost use Rattle.frame_checks.specs.Accepting.{Leaves, field_in};
+ghost use Rattle.frame_checks.specs.Accepting.{LeavesOctets, field_in};
 ghost use Rattle.counter_table.specs.Play.{IsAsKnown, IsCovered};
 ghost use Rattle.counter_table.specs.Worker.{view, KeepsNumbers};
 ghost use Rattle.unit_book.specs.Book.{BookView};
-ghost use Rattle.unit_book.specs.Records.{Opens, RefusesFrame};
+ghost use Rattle.unit_book.specs.Records.{OpensWithEntry, RefusesFrame};
 ghost use Rattle.shared_unit.specs.Calls.{IsPut, WithPosition};
-ghost use Rattle.shared_unit.specs.Told.{told_by, entry_count};
+ghost use Rattle.shared_unit.specs.Told.{known_of_book, entry_count};
 ghost use Rattle.shared_unit.specs.Turn.{FindsCovered, IsReady, Visits};
 
 use crate::unit::{Unit, Worker};
@@ -22,7 +22,7 @@ impl<O: Site> Unit<O> {
         ensures ready { IsReady self.now.counters self.now.plan worker.new }
         ensures numbers { KeepsNumbers worker.old worker.new }
         ensures counted { (found : BookView O) × Visits O.told O.trace O.faults O.put_faults found found (view worker.old).turn (view worker.new).turn
-            × (result ≡ entry_count (told_by O.trace O.faults O.put_faults found)) }
+            × (result ≡ entry_count (known_of_book O.trace O.faults O.put_faults found)) }
     {
         let held = self.counters.take(rt, worker);
         let count = held.book.count();
@@ -45,8 +45,8 @@ impl<O: Site> Unit<O> {
         // shares found the book as it was known.
         ensures put { (found given : BookView O) × Visits O.told O.trace O.faults O.put_faults found given (view worker.old).turn (view worker.new).turn
             × IsPut O.told O.trace O.faults O.put_faults octets.now result found given
-            × IsCovered 512 (view worker.old).numbers (told_by O.trace O.faults O.put_faults found)
-            × ((view worker.old).numbers.shares ≡ 1024 → IsAsKnown (view worker.old).turn (told_by O.trace O.faults O.put_faults found)) }
+            × IsCovered 512 (view worker.old).numbers (known_of_book O.trace O.faults O.put_faults found)
+            × ((view worker.old).numbers.shares ≡ 1024 → IsAsKnown (view worker.old).turn (known_of_book O.trace O.faults O.put_faults found)) }
     {
         let mut held = self.counters.take(rt, worker);
         let result = held.book.put(octets);
@@ -69,8 +69,8 @@ impl<O: Site> Unit<O> {
         ensures ready { IsReady self.now.counters self.now.plan worker.new }
         ensures numbers { KeepsNumbers worker.old worker.new }
         ensures opened { (found given : BookView O) × Visits O.told O.trace O.faults O.put_faults found given (view worker.old).turn (view worker.new).turn
-            × WithPosition result (told_by O.trace O.faults O.put_faults given) (λ answer. MatchResult answer
-            (λ told. Opens O.faults index link frame.old (field_in told.0 frame.new) found given told.0 told.1 × Leaves told.0 frame.old frame.new)
+            × WithPosition result (known_of_book O.trace O.faults O.put_faults given) (λ answer. MatchResult answer
+            (λ told. OpensWithEntry O.faults index link frame.old (field_in told.0 frame.new) found given told.0 told.1 × LeavesOctets told.0 frame.old frame.new)
             (RefusesFrame O.faults index link frame.old found given)) }
 
         // No number was spent by the worker that is not below its row's mark in the book that the call found.

@@ -2,7 +2,7 @@
 ghost use Rattle.std.specs.Prelude.{◌≡◌, ◌⊎◌, ◌<◌, ◌+◌, ℕ, Some, true};
 ghost use Rattle.key_book.specs.KeyBook.{place_of};
 ghost use Rattle.ep_core.specs.declared.need.Need.TheVariants as needs;
-ghost use Rattle.counter_table.specs.Known.{KeepsMarks};
+ghost use Rattle.counter_table.specs.Known.{LowersNoMark};
 ghost use Rattle.counter_table.specs.Worker.{view, IsSame, IsOf, KeepsNumbers};
 ghost use Rattle.unit_book.specs.Book.{BookView, IsKept};
 ghost use Rattle.unit_book.specs.Needs.{NamesKey};
@@ -10,7 +10,7 @@ ghost use Rattle.shared_unit.specs.Calls.{WithPosition};
 ghost use Rattle.shared_unit.specs.Commanding.{IsCommanded, IsSeen, knowing};
 ghost use Rattle.shared_unit.specs.Going.{GoesUp};
 ghost use Rattle.shared_unit.specs.Sharing.{KnowsHeld};
-ghost use Rattle.shared_unit.specs.Told.{told_by};
+ghost use Rattle.shared_unit.specs.Told.{known_of_book};
 ghost use Rattle.shared_unit.specs.Turn.{FindsCovered, IsReady, Visits};
 
 use crate::shelf::Shelf;
@@ -37,7 +37,7 @@ impl<O: Site> Unit<O> {
     }
 
     // Draws a number of the key, reserves and spends it.
-    fn number_for(
+    fn draw_and_reserve(
         &self,
         worker: &mut Worker<O>,
         held: &mut Held<Shelf<O>>,
@@ -46,7 +46,7 @@ impl<O: Site> Unit<O> {
         requires own { IsOf self.now.counters worker.old }
         requires turn { (view worker.old).turn.holds ≡ true }
         requires filled { (view worker.old).turn.filled ≡ true }
-        requires marks { KeepsMarks (view worker.old).turn.known (told_by O.trace O.faults O.put_faults held.old.book) }
+        requires marks { LowersNoMark (view worker.old).turn.known (known_of_book O.trace O.faults O.put_faults held.old.book) }
         requires key { (row : ℕ) × (place_of held.old.book.state.keys key ≡ Some row) }
         requires kept { IsKept O.told O.trace O.faults held.old.book }
         ensures same { IsSame worker.old worker.new }
@@ -55,16 +55,16 @@ impl<O: Site> Unit<O> {
         ensures seen { IsSeen O.faults (needs.Number key) result held.old.book held.new.book (view worker.old) (view worker.new) }
     {
         let row = self.row_in(held, key);
-        let ticket = match self.drawn(worker, row, key.end()) {
+        let ticket = match self.draw_below(worker, row, key.end()) {
             Ok(ticket) => ticket,
             Err(number) => return Ok(Seen::Exhausted(number)),
         };
-        let funded = self.reserved(worker, held, key, row, ticket)?;
+        let funded = self.reserve_and_spend(worker, held, key, row, ticket)?;
         Ok(Seen::Number(funded.number()))
     }
 
     // What the words show for a need of the held book.
-    fn seen_for(
+    fn meet_need(
         &self,
         worker: &mut Worker<O>,
         held: &mut Held<Shelf<O>>,
@@ -73,7 +73,7 @@ impl<O: Site> Unit<O> {
         requires own { IsOf self.now.counters worker.old }
         requires turn { (view worker.old).turn.holds ≡ true }
         requires filled { (view worker.old).turn.filled ≡ true }
-        requires marks { KeepsMarks (view worker.old).turn.known (told_by O.trace O.faults O.put_faults held.old.book) }
+        requires marks { LowersNoMark (view worker.old).turn.known (known_of_book O.trace O.faults O.put_faults held.old.book) }
         requires names { NamesKey held.old.book.state need }
         requires kept { IsKept O.told O.trace O.faults held.old.book }
         ensures same { IsSame worker.old worker.new }
@@ -91,12 +91,12 @@ impl<O: Site> Unit<O> {
                 let row = self.row_in(held, key);
                 Ok(Seen::Word(self.counters.raise_next(worker, held, row, number)))
             }
-            Need::Number(key) => self.number_for(worker, held, key),
+            Need::Number(key) => self.draw_and_reserve(worker, held, key),
         }
     }
 
     // Turns the epoch where the count of changes went on.
-    fn turned(&self, worker: &mut Worker<O>, held: &Held<Shelf<O>>, before: u64)
+    fn turn_epoch_if_changed(&self, worker: &mut Worker<O>, held: &Held<Shelf<O>>, before: u64)
         requires own { IsOf self.now.counters worker.old }
         requires turn { (view worker.old).turn.holds ≡ true }
         requires filled { (view worker.old).turn.filled ≡ true }
@@ -111,7 +111,7 @@ impl<O: Site> Unit<O> {
     }
 
     // The command in the held book. The epoch is turned once its change is stored.
-    fn commanded(
+    fn do_command(
         &self,
         worker: &mut Worker<O>,
         held: &mut Held<Shelf<O>>,
@@ -121,24 +121,24 @@ impl<O: Site> Unit<O> {
         requires own { IsOf self.now.counters worker.old }
         requires turn { (view worker.old).turn.holds ≡ true }
         requires filled { (view worker.old).turn.filled ≡ true }
-        requires known { (view worker.old).turn.known ≡ told_by O.trace O.faults O.put_faults held.old.book }
+        requires known { (view worker.old).turn.known ≡ known_of_book O.trace O.faults O.put_faults held.old.book }
         ensures same { IsSame worker.old worker.new }
         ensures was_kept { IsKept O.told O.trace O.faults held.old.book }
         ensures kept { IsKept O.told O.trace O.faults held.new.book }
         ensures goes_on { GoesUp O.faults O.put_faults held.old.book held.new.book }
-        ensures holds { KnowsHeld (told_by O.trace O.faults O.put_faults held.new.book) (view worker.old).turn (view worker.new).turn }
+        ensures holds { KnowsHeld (known_of_book O.trace O.faults O.put_faults held.new.book) (view worker.old).turn (view worker.new).turn }
         ensures step { IsCommanded O.faults index pdu.now result held.old.book held.new.book (view worker.old).numbers (view worker.new).numbers }
     {
         let Ok(need) = held.book.need(pdu) else {
             return Err(BookFault::NoMemory);
         };
-        let seen = self.seen_for(worker, held, need)?;
+        let seen = self.meet_need(worker, held, need)?;
         let before = held.book.changes();
         let reply = match held.book.command(index, pdu, seen) {
             Ok(reply) => reply,
             Err(fault) => return Err(fault),
         };
-        self.turned(worker, held, before);
+        self.turn_epoch_if_changed(worker, held, before);
         Ok(reply)
     }
 
@@ -157,14 +157,14 @@ impl<O: Site> Unit<O> {
         ensures same { IsSame worker.old worker.new }
         ensures shares { (view worker.new).numbers.shares ≡ (view worker.old).numbers.shares }
         ensures commanded { (found given : BookView O) × Visits O.told O.trace O.faults O.put_faults found given (view worker.old).turn (view worker.new).turn
-            × WithPosition result (told_by O.trace O.faults O.put_faults given)
+            × WithPosition result (known_of_book O.trace O.faults O.put_faults given)
             (λ answer. IsCommanded O.faults index pdu.now answer found given (view worker.old).numbers (view worker.new).numbers) }
 
         // No number was spent by the worker that is not below its row's mark in the book that the call found.
         ensures covered { FindsCovered O.told O.trace O.faults O.put_faults (view worker.old) (view worker.new) }
     {
         let mut held = self.counters.take(rt, worker);
-        let result = self.commanded(worker, &mut held, index, pdu);
+        let result = self.do_command(worker, &mut held, index, pdu);
         let count = held.book.count();
         self.counters.give(worker, held);
         match result {

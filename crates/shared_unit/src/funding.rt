@@ -3,13 +3,13 @@ ghost use Rattle.std.specs.Prelude.{◌≡◌, ◌<◌, ℕ, length, true, Some,
 ghost use Rattle.sdls_base.specs.KeyId.{end_of};
 ghost use Rattle.key_book.specs.KeyBook.{place_of};
 ghost use Rattle.frame_shield.specs.Binding.{clear_fault};
-ghost use Rattle.counter_table.specs.Known.{KeepsMarks};
+ghost use Rattle.counter_table.specs.Known.{LowersNoMark};
 ghost use Rattle.counter_table.specs.Worker.{view, IsOf, IsSame};
 ghost use Rattle.unit_book.specs.Book.{IsKept};
 ghost use Rattle.shared_unit.specs.Funding.{IsFunded, IsFundStep};
 ghost use Rattle.shared_unit.specs.Going.{GoesUp};
 ghost use Rattle.shared_unit.specs.Permit.{IsOfPermit, IsTrueFor};
-ghost use Rattle.shared_unit.specs.Told.{told_by};
+ghost use Rattle.shared_unit.specs.Told.{known_of_book};
 ghost use Rattle.shared_unit.specs.Turn.{FindsCovered, IsReady};
 
 use crate::permit::{Done, Permit};
@@ -24,7 +24,7 @@ use unit_book::BookFault;
 
 impl<O: Site> Unit<O> {
     /// Reserves the ticket's number in the held book, and spends it.
-    pub(crate) fn reserved(
+    pub(crate) fn reserve_and_spend(
         &self,
         worker: &mut Worker<O>,
         held: &mut Held<Shelf<O>>,
@@ -35,7 +35,7 @@ impl<O: Site> Unit<O> {
         requires own { IsOf self.now.counters worker.old }
         requires turn { (view worker.old).turn.holds ≡ true }
         requires filled { (view worker.old).turn.filled ≡ true }
-        requires marks { KeepsMarks (view worker.old).turn.known (told_by O.trace O.faults O.put_faults held.old.book) }
+        requires marks { LowersNoMark (view worker.old).turn.known (known_of_book O.trace O.faults O.put_faults held.old.book) }
         requires row { row < 512 }
         requires place { place_of held.old.book.state.keys key ≡ Some row }
         requires ticket { (ticket.0 ≡ row) × (ticket.1 < end_of key) × ((view worker.old).numbers.last ≡ Some ticket) }
@@ -82,7 +82,7 @@ impl<O: Site> Unit<O> {
         let mut held = self.counters.take(rt, worker);
         held.book.look();
         let key = permit.binding.key;
-        let funded = match self.reserved(worker, &mut held, key, permit.row, ticket) {
+        let funded = match self.reserve_and_spend(worker, &mut held, key, permit.row, ticket) {
             Ok(funded) => funded,
             Err(fault) => {
                 let count = held.book.count();

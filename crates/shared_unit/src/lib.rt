@@ -12,15 +12,15 @@
 
 mod calls;
 mod commanding;
-mod finishing;
 mod funding;
-mod keeping;
-mod opening;
+mod opening_image;
 mod permit;
 mod permitting;
 mod protecting;
+mod ready;
 mod sharing;
 mod shelf;
+mod under_turn;
 mod unit;
 
 pub use permit::{Done, Permit, PermitReply, Protected, Ready};

@@ -5,7 +5,7 @@ ghost use Rattle.counter_table.specs.Worker.{view, KeepsNumbers};
 ghost use Rattle.unit_book.specs.Book.{BookView, IsKept};
 ghost use Rattle.shared_unit.specs.declared.permit.Permit.{Permit};
 ghost use Rattle.shared_unit.specs.Permit.{IfPermit, IsOfPermit, IsTrueFor, Permits};
-ghost use Rattle.shared_unit.specs.Turn.{Grows, IsReady, Visits};
+ghost use Rattle.shared_unit.specs.Turn.{KnowsMoreOfBook, IsReady, Visits};
 
 use crate::permit::{Permit, PermitReply};
 use crate::shelf::Shelf;
@@ -17,7 +17,7 @@ use unit_plan::Plan;
 
 /// Law: a permit that is true for a worker stays true while what the worker knows grows.
 pub fn permits_stay()
-    ensures { (permit : Permit) (v w : Turn) → Grows v w → IsTrueFor permit v → IsTrueFor permit w }
+    ensures { (permit : Permit) (v w : Turn) → KnowsMoreOfBook v w → IsTrueFor permit v → IsTrueFor permit w }
 {}
 
 /// What the held book permits for a frame.

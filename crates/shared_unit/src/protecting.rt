@@ -1,79 +1,180 @@
-//! The way of a frame: with a permit it makes steps on words alone.
-ghost use Rattle.std.specs.Prelude.{◌≡◌, ◌≤◌, ◌<◌, ◌^◌, ℕ, length};
-ghost use Rattle.counter_table.specs.Worker.{view, IsOf, IsSame, KeepsTurn};
-ghost use Rattle.shared_unit.specs.Numbers.{IsDrawn};
-ghost use Rattle.shared_unit.specs.Permit.{IsOfPermit, IsReadyStep, IsTrueFor};
-ghost use Rattle.shared_unit.specs.Turn.{IsReady};
+//! A frame is protected: with the kept permit where that still holds, and else under the turn.
+ghost use Rattle.std.specs.Prelude.{◌≡◌, ◌≤◌, ◌<◌, ◌+◌, ℕ, length, Some, Ok, IfSome};
+ghost use Rattle.frame_checks.specs.ProtectingFrames.{channel_check};
+ghost use Rattle.counter_table.specs.Turn.{epoch_seen};
+ghost use Rattle.counter_table.specs.Worker.{view, IsSame};
+ghost use Rattle.shared_unit.specs.declared.permit.Permit.{Permit};
+ghost use Rattle.shared_unit.specs.declared.permit.Done.{Done};
+ghost use Rattle.shared_unit.specs.Permit.{IsOfPermit, IsTrueFor};
+ghost use Rattle.shared_unit.specs.Protecting.{CoversIfTaken, FindsEpoch, IfEpoch, IsByKept, IsEpochOf, IsKeptStep, IsProtectStep, IsTrueIfKept, TakesAtMostOnce, TakesByTicket};
+ghost use Rattle.shared_unit.specs.Turn.{FindsCovered, IsReady};
 
-use crate::permit::{Done, Permit, Ready};
+use crate::permit::{Permit, PermitReply, Protected, Ready};
+use crate::permitting::permit_in;
 use crate::unit::{Unit, Worker};
-use counter_table::{Arm, Ticket};
-use frame_shield::{fits, shield};
+use sdls_base::ChannelId;
 use sdls_outside::Site;
+use std::sync::Wait;
 
 impl<O: Site> Unit<O> {
-    /// Draws a number below the end. An `Err` has the word or the number at or above it.
-    pub(crate) fn drawn(&self, worker: &mut Worker<O>, row: u16, end: u64) -> Result<Ticket, u64>
-        requires own { IsOf self.now.counters worker.old }
-        requires row { row < 512 }
-        requires end { end ≤ 2 ^ 48 }
-        ensures same { KeepsTurn worker.old worker.new }
-        ensures drawn { IsDrawn row end result (view worker.old).numbers (view worker.new).numbers }
-    {
-        let armed = match self.counters.arm(worker, row, end) {
-            Arm::Armed(armed) => armed,
-            Arm::Exhausted(word) => return Err(word),
-        };
-        let ticket = self.counters.draw(worker, armed);
-        let number = ticket.number();
-        if number < end {
-            Ok(ticket)
-        } else {
-            Err(number)
-        }
-    }
-
-    /// Protects a frame under a permit, by steps on words alone: asks whether the clear frame has its layout, loads the epoch,
-    /// draws a number and looks at the limit. Takes neither memory nor the turn.
-    pub fn protect_ready(
+    // With a permit of the frame's channel. `None`: the epoch went on.
+    fn protect_with_kept<R: Wait>(
         &self,
+        rt: &R,
         worker: &mut Worker<O>,
         permit: &Permit,
         clear: &[u8],
         out: &mut [u8],
-    ) -> Ready
+    ) -> Option<Protected>
         requires ready { IsReady self.now.counters self.now.plan worker.old }
         requires permit { IsTrueFor permit.now (view worker.old).turn }
         requires frame { IsOfPermit self.now.plan permit.now clear.now }
         requires room { length out.old ≡ 2048 }
         ensures ready { IsReady self.now.counters self.now.plan worker.new }
         ensures same { IsSame worker.old worker.new }
-        ensures step { IsReadyStep permit.now clear.now out.new result (view worker.old) (view worker.new) }
+        ensures turn { TakesAtMostOnce O.told O.trace O.faults O.put_faults (view worker.old).turn (view worker.new).turn }
+        ensures covered { CoversIfTaken O.told O.trace O.faults O.put_faults (view worker.old) (view worker.new) }
+        ensures epoch { IfSome result (λ answer. IfEpoch answer (λ epoch. (view worker.new).turn.epoch ≡ epoch)) }
+        ensures step { IsKeptStep O.told O.trace O.faults O.put_faults permit.now clear.now out.new result (view worker.old) (view worker.new) }
     {
-        if let Err(fault) = fits(&permit.binding, clear) {
-            return Ready::Refused(fault);
-        }
-        let epoch = self.counters.see_epoch(worker);
-        if epoch != permit.epoch {
-            return Ready::Stale(epoch);
-        }
-        let key = permit.binding.key;
-        let ticket = match self.drawn(worker, permit.row, key.end()) {
-            Ok(ticket) => ticket,
-            Err(number) => return Ready::Exhausted(number),
-        };
-        match self.counters.peek_limit(worker, ticket) {
-            Ok(funded) => {
-                let number = funded.number();
-                let length = shield(&permit.binding, number, clear, out);
-                Ready::Done(Done {
-                    key,
-                    number,
-                    epoch,
-                    length,
-                })
+        match self.protect_ready(worker, permit, clear, out) {
+            Ready::Done(done) => Some(Protected::Done(done)),
+            Ready::NeedBlock(ticket) => match self.fund(rt, worker, permit, ticket, clear, out) {
+                Ok(done) => Some(Protected::Done(done)),
+                Err((fault, position)) => Some(Protected::Fault(fault, position)),
+            },
+            Ready::Stale(_epoch) => None,
+            Ready::Exhausted(number) => {
+                Some(Protected::Exhausted(permit.binding.key, number, permit.epoch))
             }
-            Err(ticket) => Ready::NeedBlock(ticket),
+            Ready::Refused(fault) => {
+                let epoch = self.counters.see_epoch(worker);
+                if epoch == permit.epoch {
+                    Some(Protected::Refused(fault, epoch))
+                } else {
+                    None
+                }
+            }
         }
+    }
+
+    // With what is kept, where it is of the frame's channel.
+    fn protect_if_kept<R: Wait>(
+        &self,
+        rt: &R,
+        worker: &mut Worker<O>,
+        kept: &Option<Permit>,
+        link: u8,
+        channel: ChannelId,
+        clear: &[u8],
+        out: &mut [u8],
+    ) -> Option<Protected>
+        requires ready { IsReady self.now.counters self.now.plan worker.old }
+        requires kept { IsTrueIfKept kept.now (view worker.old).turn }
+        requires channel { channel_check self.now.plan link clear.now ≡ Ok (Some channel) }
+        requires room { length out.old ≡ 2048 }
+        ensures ready { IsReady self.now.counters self.now.plan worker.new }
+        ensures same { IsSame worker.old worker.new }
+        ensures turn { TakesAtMostOnce O.told O.trace O.faults O.put_faults (view worker.old).turn (view worker.new).turn }
+        ensures covered { CoversIfTaken O.told O.trace O.faults O.put_faults (view worker.old) (view worker.new) }
+        ensures epoch { IfSome result (λ answer. IfEpoch answer (λ epoch. (view worker.new).turn.epoch ≡ epoch)) }
+        ensures step { IsByKept O.told O.trace O.faults O.put_faults self.now.plan kept.now link clear.now out.new result (view worker.old) (view worker.new) }
+    {
+        let Some(permit) = kept else {
+            return None;
+        };
+        if permit.link != link {
+            return None;
+        }
+        if permit.channel != channel {
+            return None;
+        }
+        self.protect_with_kept(rt, worker, permit, clear, out)
+    }
+
+    // Renews the permit under the turn, and finishes there.
+    fn protect_with_new<R: Wait>(
+        &self,
+        rt: &R,
+        worker: &mut Worker<O>,
+        kept: &mut Option<Permit>,
+        link: u8,
+        clear: &[u8],
+        out: &mut [u8],
+    ) -> Protected
+        requires ready { IsReady self.now.counters self.now.plan worker.old }
+        requires kept { IsTrueIfKept kept.old (view worker.old).turn }
+        requires channel { (channel : ℕ) × (channel_check self.now.plan link clear.now ≡ Ok (Some channel)) }
+        requires room { length out.old ≡ 2048 }
+        ensures ready { IsReady self.now.counters self.now.plan worker.new }
+        ensures same { IsSame worker.old worker.new }
+        ensures turn { TakesAtMostOnce O.told O.trace O.faults O.put_faults (view worker.old).turn (view worker.new).turn }
+        ensures covered { FindsCovered O.told O.trace O.faults O.put_faults (view worker.old) (view worker.new) }
+        ensures kept { IsTrueIfKept kept.new (view worker.new).turn }
+        ensures step { IsProtectStep O.told O.trace O.faults O.put_faults self.now.plan link clear.now out.new kept.new result (view worker.old) (view worker.new) }
+        ensures epochs { IfEpoch result (FindsEpoch O.told O.trace O.faults O.put_faults (view worker.old).turn (view worker.new).turn) }
+        ensures later { (d : Done) → result ≡ Protected.Done d → epoch_seen (view worker.old).turn ≤ d.epoch }
+        ensures epoch { (view worker.new).turn.epoch ≡ (view worker.old).turn.epoch }
+    {
+        let mut held = self.counters.take(rt, worker);
+        match permit_in(&self.plan, &held.book, link, clear) {
+            PermitReply::Refused(fault, epoch) => {
+                self.counters.give(worker, held);
+                Protected::Refused(fault, epoch)
+            }
+            PermitReply::Clear => unreachable!(),
+            PermitReply::Permit(permit) => {
+                let answer = self.protect_under_turn(worker, &mut held, &permit, clear, out);
+                self.counters.give(worker, held);
+                *kept = Some(permit);
+                answer
+            }
+        }
+    }
+
+    /// Protects a frame in clear (CCSDS 355.0-B, ApplySecurity): with the kept permit where that is of the frame's channel and
+    /// the epoch did not go on, and else with a new one, which is kept then. Where the plan is enough for the check that fails
+    /// first, the epoch beside it is 0, and nothing is looked at. Takes no memory.
+    pub fn protect<R: Wait>(
+        &self,
+        rt: &R,
+        worker: &mut Worker<O>,
+        kept: &mut Option<Permit>,
+        link: u8,
+        clear: &[u8],
+        out: &mut [u8],
+    ) -> Protected
+        requires ready { IsReady self.now.counters self.now.plan worker.old }
+        requires kept { IsTrueIfKept kept.old (view worker.old).turn }
+        requires room { length out.old ≡ 2048 }
+        ensures ready { IsReady self.now.counters self.now.plan worker.new }
+        ensures same { IsSame worker.old worker.new }
+        ensures shares { (view worker.new).numbers.shares ≡ (view worker.old).numbers.shares }
+        ensures turn { TakesAtMostOnce O.told O.trace O.faults O.put_faults (view worker.old).turn (view worker.new).turn }
+        ensures kept { IsTrueIfKept kept.new (view worker.new).turn }
+        ensures step { IsProtectStep O.told O.trace O.faults O.put_faults self.now.plan link clear.now out.new kept.new result (view worker.old) (view worker.new) }
+
+        // No number was spent by the worker that is not below its row's mark in the book that the call found, if it took the turn.
+        ensures covered { CoversIfTaken O.told O.trace O.faults O.put_faults (view worker.old) (view worker.new) }
+
+        // The epoch beside an answer is the one loaded last, or that of the book held; where the plan is enough there is none.
+        ensures epochs { (channel : ℕ) → channel_check self.now.plan link clear.now ≡ Ok (Some channel)
+            → IfEpoch result (IsEpochOf O.told O.trace O.faults O.put_faults (view worker.old).turn (view worker.new).turn) }
+
+        // With the kept permit, where its epoch was the one loaded last, the turn is taken for a ticket that came back alone.
+        ensures turns { (p : Permit) (d : Done) → kept.old ≡ Some p → p.link ≡ link → IsOfPermit self.now.plan p clear.now
+            → result ≡ Protected.Done d → d.epoch ≡ p.epoch → TakesByTicket (view worker.old) (view worker.new) }
+        ensures turns_kept { (p : Permit) → kept.old ≡ Some p → p.link ≡ link → IsOfPermit self.now.plan p clear.now
+            → (view worker.new).turn.epoch ≤ p.epoch → TakesByTicket (view worker.old) (view worker.new) }
+    {
+        let channel = match frame_checks::channel(&self.plan, link, clear) {
+            Err(fault) => return Protected::Refused(fault, 0),
+            Ok(None) => return Protected::Clear,
+            Ok(Some(channel)) => channel,
+        };
+        if let Some(answer) = self.protect_if_kept(rt, worker, &*kept, link, channel, clear, out) {
+            return answer;
+        }
+        self.protect_with_new(rt, worker, kept, link, clear, out)
     }
 }

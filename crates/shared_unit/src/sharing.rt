@@ -1,13 +1,13 @@
 //! The workers of a unit, and its end.
 ghost use Rattle.std.specs.Prelude.{◌≡◌, ◌+◌, ◌<◌, ◌≤◌, ℕ};
-ghost use Rattle.counter_table.specs.Close.{Closes};
+ghost use Rattle.counter_table.specs.Close.{ClosesCounters};
 ghost use Rattle.counter_table.specs.Numbers.{joined, keeper, newcomer};
 ghost use Rattle.counter_table.specs.Turn.{beginner, merged};
 ghost use Rattle.counter_table.specs.Whole.{IsWhole, Meet};
 ghost use Rattle.counter_table.specs.Worker.{view, IsSame};
 ghost use Rattle.sdls_base.specs.Numbers.{times};
 ghost use Rattle.unit_book.specs.Book.{IsKept};
-ghost use Rattle.shared_unit.specs.Told.{told_by};
+ghost use Rattle.shared_unit.specs.Told.{known_of_book};
 ghost use Rattle.shared_unit.specs.Turn.{IsReady};
 
 use crate::unit::{Unit, Worker};
@@ -56,7 +56,7 @@ impl<O: Site> Unit<O> {
         requires ready { IsReady self.counters self.plan worker }
         requires all { (view worker).numbers.shares ≡ 1024 }
         ensures kept { IsKept O.told O.trace O.faults result.0 }
-        ensures closes { Closes 512 (view worker) (told_by O.trace O.faults O.put_faults result.0) result.1.items }
+        ensures closes { ClosesCounters 512 (view worker) (known_of_book O.trace O.faults O.put_faults result.0) result.1.items }
     {
         let counters = self.into_counters();
         let (shelf, nexts) = counters.close(worker);

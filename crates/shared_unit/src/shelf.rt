@@ -4,18 +4,18 @@ ghost use Rattle.sdls_base.specs.KeyId.{end_of};
 ghost use Rattle.key_book.specs.KeyBook.{place_of};
 ghost use Rattle.unit_state.specs.State.{key_row};
 ghost use Rattle.frame_shield.specs.Binding.{IsBinding};
-ghost use Rattle.frame_checks.specs.Accepting.{Leaves, field_in};
-ghost use Rattle.frame_checks.specs.Protecting.{IsSentClear, protect_check};
+ghost use Rattle.frame_checks.specs.Accepting.{LeavesOctets, field_in};
+ghost use Rattle.frame_checks.specs.ProtectingFrames.{IsSentClear, protect_check};
 ghost use Rattle.ep_core.specs.declared.need.Need.{Need};
-ghost use Rattle.ep_core.specs.Seen.{Fits};
+ghost use Rattle.ep_core.specs.Seen.{MeetsNeed};
 ghost use Rattle.law_history.specs.Log.{entries_of};
 ghost use Rattle.unit_book.specs.Book.{IsKept};
-ghost use Rattle.unit_book.specs.Records.{Handles, Opens, RefusesFrame, RefusesMessage};
+ghost use Rattle.unit_book.specs.Records.{Handles, OpensWithEntry, RefusesFrame, RefusesMessage};
 ghost use Rattle.law_history.specs.Entries.{IsNeedOf};
 ghost use Rattle.shared_unit.specs.Calls.{IsPut};
 ghost use Rattle.shared_unit.specs.Funding.{Reserves};
 ghost use Rattle.shared_unit.specs.Going.{GoesUp};
-ghost use Rattle.shared_unit.specs.Told.{told_by};
+ghost use Rattle.shared_unit.specs.Told.{known_of_book};
 
 use counter_table::Counted;
 use ep_core::{Need, Reply};
@@ -42,7 +42,7 @@ impl<O: Site> Model for Shelf<O> {
 }
 
 impl<O: Site> Counted for Shelf<O> {
-    ghost told = { λ shelf. told_by O.trace O.faults O.put_faults shelf };
+    ghost told = { λ shelf. known_of_book O.trace O.faults O.put_faults shelf };
 
     fn mark(&self, row: u16) -> u64 {
         let row = usize::from(row);
@@ -130,8 +130,8 @@ impl<O: Site> Shelf<O> {
         ensures was_kept { IsKept O.told O.trace O.faults self.old }
         ensures kept { IsKept O.told O.trace O.faults self.new }
         ensures made { MatchResult result
-            (λ answer. Opens O.faults index link frame.old (field_in answer.0 frame.new) self.old self.new answer.0 answer.1
-            × Leaves answer.0 frame.old frame.new)
+            (λ answer. OpensWithEntry O.faults index link frame.old (field_in answer.0 frame.new) self.old self.new answer.0 answer.1
+            × LeavesOctets answer.0 frame.old frame.new)
             (RefusesFrame O.faults index link frame.old self.old self.new) }
         ensures goes_on { GoesUp O.faults O.put_faults self.old self.new }
         ensures changes { self.new.changes ≡ self.old.changes }
@@ -152,7 +152,7 @@ impl<O: Site> Shelf<O> {
         pdu: &[u8],
         seen: Seen,
     ) -> Result<(Reply, u64), BookFault>
-        requires seen { (need : Need) → IsNeedOf self.old.state pdu.now need → Fits self.old.state need seen }
+        requires seen { (need : Need) → IsNeedOf self.old.state pdu.now need → MeetsNeed self.old.state need seen }
         ensures was_kept { IsKept O.told O.trace O.faults self.old }
         ensures kept { IsKept O.told O.trace O.faults self.new }
         ensures made { MatchResult result

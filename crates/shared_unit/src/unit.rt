@@ -1,5 +1,5 @@
 ghost use Rattle.std.specs.Prelude.{◌≡◌};
-ghost use Rattle.frame_checks.specs.Protecting.{channel_check};
+ghost use Rattle.frame_checks.specs.ProtectingFrames.{channel_check};
 
 use crate::shelf::Shelf;
 use counter_table::Counters;

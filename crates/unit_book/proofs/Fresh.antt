@@ -9,7 +9,7 @@ use Rattle.unit_plan.specs.PlanLines.{PlanLines}
 use Rattle.unit_state.specs.declared.state.State.{State}
 use Rattle.unit_state.specs.State.{KeepsRules}
 use Rattle.unit_state.specs.Restart.{restarted}
-use Rattle.unit_image.specs.Opening.{SameJournal}
+use Rattle.unit_image.specs.OpeningImage.{SameJournal}
 use Rattle.unit_image.specs.Shows.{Shows}
 use Rattle.unit_book.specs.Book.{ShowsFrom, Serves, IsHistory, IsKept, begun}
 use Rattle.unit_book.proofs.MarksKept.{marks_same}

@@ -27,7 +27,7 @@ use Rattle.law_history.specs.Log.{entries_of}
 use Rattle.unit_book.specs.Log.{sunk_between}
 use Rattle.law_history.specs.Stored.{IsStored, stored_count}
 use Rattle.unit_book.specs.Marks.{is_release, HasNoRelease, KeepsMarks}
-use Rattle.unit_book.specs.Book.{BookView, IsCurrent, IsCounted, IsKept, CanEnter, Enters, entered, left_out, with_put}
+use Rattle.unit_book.specs.Book.{BookView, IsCurrent, CountsUsedSlots, IsKept, CanEnter, Enters, entered, left_out, with_put}
 use Rattle.unit_book.proofs.MarksKept.{no_release_last, marks_then}
 use Rattle.unit_book.proofs.Growing.{after_entry, first_same, first_all, says_held}
 use Rattle.unit_book.proofs.Serving.{piece_entries, entry_entries, puts_history, piece_current, NextEntry, IsGrowing, failed_history, stored_history, unstored_history}
@@ -80,7 +80,7 @@ kept_put {O} told trace faults octets old site low puts kept =
           kept.stands (puts is_told) (kept.history is_told);
       current = λ is_told not. piece_current octets (trace old.site) (trace site) old.start old.journal old.log piece
           (puts is_told) (kept.current is_told (not_rose_earlier (faults old.opened) (faults old.site) (faults site) low not));
-      counted = λ is_told not. subst (λ (entries : List Entry). IsCounted old.image old.start old.journal entries) (sym same)
+      counted = λ is_told not. subst (λ (entries : List Entry). CountsUsedSlots old.image old.start old.journal entries) (sym same)
           (kept.counted is_told (not_rose_earlier (faults old.opened) (faults old.site) (faults site) low not));
     }
 

@@ -11,12 +11,12 @@ use Rattle.unit_state.specs.Applied.{applied}
 use Rattle.unit_book.specs.declared.fault.BookFault.{BookFault}
 use Rattle.unit_book.specs.Book.{BookView, Made, Refuses}
 use Rattle.law_history.specs.Numbers.{release_of, release_at, releases}
-use Rattle.unit_book.specs.Numbers.{AllMade, Releases}
+use Rattle.unit_book.specs.Numbers.{EnteredInTurn, Releases}
 
 -- the releases before a place are made, and those from it on are what is left
 pub record SoFar {O : Type 0} (faults : O → ℕ) (words : List ℕ) (place : ℕ) (old mid : BookView O) : Type 0 where
   pub made : List Entry
-  pub are_made : AllMade faults made old mid
+  pub are_made : EnteredInTurn faults made old mid
   pub all : made ++ releases mid.state place (drop place words) ≡ releases old.state 0 words
 
 -- how one release ends
@@ -28,7 +28,7 @@ pub none_so_far : {O : Type 0} (faults : O → ℕ) (words : List ℕ) (old : Bo
 none_so_far {O} faults words old = record { made = []; are_made = refl; all = refl }
 
 all_made_more : {O : Type 0} (faults : O → ℕ) (made : List Entry) (entry : Entry) (old mid new : BookView O) (position : ℕ)
-    → AllMade faults made old mid → Made faults entry mid new position → AllMade faults (made ++ entry ∷ []) old new
+    → EnteredInTurn faults made old mid → Made faults entry mid new position → EnteredInTurn faults (made ++ entry ∷ []) old new
 all_made_more {O} faults [] entry old mid new position are made =
     (new, position, subst (λ (b : BookView O). Made faults entry b new position) are made, refl)
 all_made_more {O} faults (first ∷ rest) entry old mid new position (next, at, is, are) made =

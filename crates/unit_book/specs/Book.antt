@@ -76,7 +76,7 @@ pub record IsCurrent (now : Trace) (start : State) (journal : JournalView) (entr
   pub shows : Shows now.now.image (restarted (after start entries))
 
 -- The slots are those of the image that was read, and used are one for each of its records and for each entry that takes one.
-pub record IsCounted (image : List ℕ) (start : State) (journal : JournalView) (entries : List Entry) : Type 0 where
+pub record CountsUsedSlots (image : List ℕ) (start : State) (journal : JournalView) (entries : List Entry) : Type 0 where
   pub slots : journal.slots ≡ slot_count image
   pub used : journal.used ≡ length (records image) + stored_count start entries
 
@@ -95,7 +95,7 @@ pub record IsKept {O : Type 0} (told : Bool) (trace : O → Trace) (faults : O �
   pub current : IsTrue told → ¬ Rose (faults book.opened) (faults book.site)
       → IsCurrent (trace book.site) book.start book.journal (entries_of book.log)
   pub counted : IsTrue told → ¬ Rose (faults book.opened) (faults book.site)
-      → IsCounted book.image book.start book.journal (entries_of book.log)
+      → CountsUsedSlots book.image book.start book.journal (entries_of book.log)
 
 -- The site has not failed since the opening, and there is room for an entry.
 abbrev pub CanEnter : {O : Type 0} → (O → ℕ) → BookView O → Type 0
@@ -138,9 +138,9 @@ IsUnstored faults entry old new SessionFull = ⊥
 IsUnstored faults entry old new NoMemory = ⊥
 
 -- how the next state comes about: by a change that takes no memory, or as this one
-abbrev pub Makes : State → Change → Next → Type 0
-Makes state change Here = IsLight change
-Makes state change (Then next) = next ≡ applied state change
+abbrev pub IsNextState : State → Change → Next → Type 0
+IsNextState state change Here = IsLight change
+IsNextState state change (Then next) = next ≡ applied state change
 
 -- The entry was made, and its change with it. It took a slot where it is stored.
 pub record Enters {O : Type 0} (entry : Entry) (old new : BookView O) (position : ℕ) : Type 0 where

@@ -13,7 +13,7 @@ use Rattle.unit_state.specs.declared.state.State.{State}
 use Rattle.unit_state.specs.History.{at_epoch}
 use Rattle.frame_shield.specs.declared.binding.Binding.{Binding}
 use Rattle.frame_checks.specs.Binding.{binding_of}
-use Rattle.frame_checks.specs.Protecting.{protect_check}
+use Rattle.frame_checks.specs.ProtectingFrames.{protect_check}
 use Rattle.ep_core.specs.declared.need.Need.{Need}
 use Rattle.law_history.specs.Log.{entries_of}
 use Rattle.unit_book.specs.Marks.{mark_at, highest_mark}

@@ -6,10 +6,10 @@ use Rattle.unit_book.specs.declared.fault.BookFault.{BookFault}
 use Rattle.unit_book.specs.Book.{BookView, Made, Refuses}
 
 -- these entries were made, one after the other
-abbrev pub AllMade : {O : Type 0} → (O → ℕ) → List Entry → BookView O → BookView O → Type 0
-AllMade faults [] old new = new ≡ old
-AllMade faults (entry ∷ entries) old new =
-    (next : BookView _) × (position : ℕ) × Made faults entry old next position × AllMade faults entries next new
+abbrev pub EnteredInTurn : {O : Type 0} → (O → ℕ) → List Entry → BookView O → BookView O → Type 0
+EnteredInTurn faults [] old new = new ≡ old
+EnteredInTurn faults (entry ∷ entries) old new =
+    (next : BookView _) × (position : ℕ) × Made faults entry old next position × EnteredInTurn faults entries next new
 
 -- how the releases end: all made, or one refused
 abbrev pub EndsReleases : {O : Type 0} → (O → ℕ) → List Entry → BookView O → BookView O → Result (Unit {0}) BookFault → Type 0
@@ -22,5 +22,5 @@ pub record Releases {O : Type 0} (faults : O → ℕ) (words : List ℕ) (old ne
   pub rest : List Entry
   pub all : made ++ rest ≡ releases old.state 0 words
   pub mid : BookView O
-  pub are_made : AllMade faults made old mid
+  pub are_made : EnteredInTurn faults made old mid
   pub ends : EndsReleases faults rest mid new result

@@ -3,7 +3,7 @@ use Rattle.std.specs.Prelude.{◌≡◌, ℕ, ◌⊎◌, List}
 use Rattle.sdls_base.specs.declared.change.Change.{Change}
 use Rattle.sdls_base.specs.declared.entry.Seen.{Seen}
 use Rattle.frame_checks.specs.declared.open_reply.OpenReply.{OpenReply}
-use Rattle.frame_checks.specs.Opening.{IsOpenReply}
+use Rattle.frame_checks.specs.OpeningFrames.{IsOpenReply}
 use Rattle.ep_core.specs.declared.reply.Reply.{Reply}
 use Rattle.law_history.specs.Entries.{frame_entry, record_entry, IsStepOf}
 use Rattle.unit_book.specs.declared.fault.BookFault.{BookFault}
@@ -11,7 +11,7 @@ use Rattle.unit_book.specs.declared.fault.BookFault.TheVariants as faults
 use Rattle.unit_book.specs.Book.{BookView, CanEnter, IsBarred, IsUnstored, Made}
 
 -- the frame was opened with this reply, as the checks answer in the state before, and made its entry
-pub record Opens {O : Type 0} (faults_of : O → ℕ) (index link : ℕ) (frame field : List ℕ) (old new : BookView O) (reply : OpenReply) (position : ℕ) : Type 0 where
+pub record OpensWithEntry {O : Type 0} (faults_of : O → ℕ) (index link : ℕ) (frame field : List ℕ) (old new : BookView O) (reply : OpenReply) (position : ℕ) : Type 0 where
   pub reply_is : IsOpenReply old.plan old.state link frame reply field
   pub made : Made faults_of (frame_entry old.plan old.state index reply) old new position
 

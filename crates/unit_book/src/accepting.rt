@@ -5,12 +5,12 @@ ghost use Rattle.unit_state.specs.State.{KeepsRules, key_row};
 ghost use Rattle.unit_state.specs.Allows.{Allows};
 ghost use Rattle.unit_state.specs.Restart.{IsLight};
 ghost use Rattle.unit_state.specs.Laws.{IsNoMarks};
-ghost use Rattle.frame_checks.specs.Accepting.{field_in, Leaves, MayBeAccepted, OnAccepted};
+ghost use Rattle.frame_checks.specs.Accepting.{field_in, LeavesOctets, MayBeAccepted, OnAccepted};
 ghost use Rattle.unit_book.specs.Marks.{KeepsMarks};
 ghost use Rattle.unit_book.specs.Book.{IsKept};
 ghost use Rattle.unit_book.specs.GoesOn.{GoesOn, TellsRise};
 ghost use Rattle.law_history.specs.Entries.{raised_floor, frame_change};
-ghost use Rattle.unit_book.specs.Records.{Opens, RefusesFrame};
+ghost use Rattle.unit_book.specs.Records.{OpensWithEntry, RefusesFrame};
 
 use crate::book::Book;
 use crate::fault::BookFault;
@@ -74,8 +74,8 @@ impl<O: Site> Book<O> {
         requires kept { IsKept O.told O.trace O.faults self.old }
         ensures kept { IsKept O.told O.trace O.faults self.new }
         ensures made { MatchResult result
-            (λ answer. Opens O.faults index link frame.old (field_in answer.0 frame.new) self.old self.new answer.0 answer.1
-            × Leaves answer.0 frame.old frame.new)
+            (λ answer. OpensWithEntry O.faults index link frame.old (field_in answer.0 frame.new) self.old self.new answer.0 answer.1
+            × LeavesOctets answer.0 frame.old frame.new)
             (RefusesFrame O.faults index link frame.old self.old self.new) }
         ensures goes_on { GoesOn O.faults self.old self.new }
         ensures marks { KeepsMarks self.old.state self.new.state }

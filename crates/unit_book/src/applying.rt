@@ -3,7 +3,7 @@ ghost use Rattle.std.specs.Prelude.{◌≡◌, if◌then◌else◌};
 ghost use Rattle.unit_state.specs.Applied.{applied};
 ghost use Rattle.unit_state.specs.Allows.{Allows};
 ghost use Rattle.unit_state.specs.Restart.{counts};
-ghost use Rattle.unit_book.specs.Book.{Makes};
+ghost use Rattle.unit_book.specs.Book.{IsNextState};
 
 use crate::next::Next;
 use sdls_base::Change;
@@ -12,7 +12,7 @@ use unit_state::State;
 /// Puts the state after the change in its place.
 pub(crate) fn put_next(state: &mut State, change: &Change, next: Next)
     requires allowed { Allows state.old change.now }
-    requires makes { Makes state.old change.now next }
+    requires makes { IsNextState state.old change.now next }
     ensures { state.new ≡ applied state.old change.now }
 {
     match next {
@@ -22,7 +22,7 @@ pub(crate) fn put_next(state: &mut State, change: &Change, next: Next)
 }
 
 /// Whether a change counts for the epoch, as a number.
-pub(crate) fn counted(change: &Change) -> u64
+pub(crate) fn changes_of(change: &Change) -> u64
     ensures { result ≡ (if counts change.now then 1 else 0) }
 {
     if unit_state::counts(change) { 1 } else { 0 }

@@ -3,7 +3,7 @@ ghost use Rattle.std.specs.Prelude.{◌≡◌, ◌≤◌, IsTrue, [], vec_capaci
 ghost use Rattle.disk_journal.specs.Journal.{IsSettled};
 ghost use Rattle.unit_state.specs.State.{KeepsRules};
 ghost use Rattle.unit_state.specs.Restart.{restarted};
-ghost use Rattle.unit_image.specs.Opening.{SameJournal};
+ghost use Rattle.unit_image.specs.OpeningImage.{SameJournal};
 ghost use Rattle.unit_image.specs.Shows.{Shows};
 ghost use Rattle.law_history.specs.Log.{entries_of};
 ghost use Rattle.unit_book.specs.Book.{IsKept, begun};

@@ -10,10 +10,10 @@ ghost use Rattle.unit_state.specs.Restart.{stored_as};
 ghost use Rattle.law_history.specs.Log.{entries_of};
 ghost use Rattle.unit_book.specs.Log.{sunk_between};
 ghost use Rattle.unit_book.specs.Marks.{is_release, KeepsMarks};
-ghost use Rattle.unit_book.specs.Book.{IsKept, CanEnter, IsBarred, IsUnstored, Enters, Makes, entered, left_out, with_put, PutFails};
+ghost use Rattle.unit_book.specs.Book.{IsKept, CanEnter, IsBarred, IsUnstored, Enters, IsNextState, entered, left_out, with_put, PutFails};
 ghost use Rattle.unit_book.specs.GoesOn.{GoesOn, TellsRise};
 
-use crate::applying::{counted, put_next};
+use crate::applying::{changes_of, put_next};
 use crate::fault::BookFault;
 use crate::limits::MOST_ENTRIES;
 use crate::log::{Log, with_entry, with_piece};
@@ -115,18 +115,18 @@ impl<O: Site> Book<O> {
         requires room { length (entries_of self.old.log) < MOST_ENTRIES }
         requires whole { self.old.standing ≡ length (entries_of self.old.log) }
         requires allows { Allows self.old.state entry.change }
-        requires makes { Makes self.old.state entry.change next }
+        requires makes { IsNextState self.old.state entry.change next }
         ensures { self.new ≡ entered entry self.old }
     {
         put_next(&mut self.state, &entry.change, next);
-        self.changes += counted(&entry.change);
+        self.changes += changes_of(&entry.change);
         self.standing += 1;
         self.log = with_entry(&self.log, &entry);
         self.entries.push_reserved(entry);
     }
 
     /// Notes an entry whose append failed.
-    fn leave_out(&mut self, entry: Entry)
+    fn note_failed(&mut self, entry: Entry)
         requires room { length (entries_of self.old.log) < MOST_ENTRIES }
         ensures { self.new ≡ left_out entry self.old }
     {
@@ -144,7 +144,7 @@ impl<O: Site> Book<O> {
         requires kept { IsKept O.told O.trace O.faults self.old }
         requires can { CanEnter O.faults self.old }
         requires allows { Allows self.old.state entry.change }
-        requires makes { Makes self.old.state entry.change next }
+        requires makes { IsNextState self.old.state entry.change next }
         requires marks { is_release entry ≡ false → KeepsMarks self.old.state (applied self.old.state entry.change) }
         requires free { self.old.journal.used < self.old.journal.slots }
         requires stored { (stored : Change) × (stored_as self.old.state entry.change ≡ Some stored) × IsRecord stored body.now }
@@ -160,7 +160,7 @@ impl<O: Site> Book<O> {
                 Ok(self.count())
             }
             Err(JournalFault::SiteFault(count)) => {
-                self.leave_out(entry);
+                self.note_failed(entry);
                 Err(BookFault::SiteFault(count))
             }
             Err(_) => unreachable!(),
@@ -172,7 +172,7 @@ impl<O: Site> Book<O> {
         requires kept { IsKept O.told O.trace O.faults self.old }
         requires can { CanEnter O.faults self.old }
         requires allows { Allows self.old.state entry.change }
-        requires makes { Makes self.old.state entry.change next }
+        requires makes { IsNextState self.old.state entry.change next }
         requires marks { is_release entry ≡ false → KeepsMarks self.old.state (applied self.old.state entry.change) }
         requires unstored { stored_as self.old.state entry.change ≡ None }
         ensures kept { IsKept O.told O.trace O.faults self.new }
@@ -189,7 +189,7 @@ impl<O: Site> Book<O> {
         requires kept { IsKept O.told O.trace O.faults self.old }
         requires can { CanEnter O.faults self.old }
         requires allows { Allows self.old.state entry.change }
-        requires makes { Makes self.old.state entry.change next }
+        requires makes { IsNextState self.old.state entry.change next }
         requires marks { is_release entry ≡ false → KeepsMarks self.old.state (applied self.old.state entry.change) }
         ensures kept { IsKept O.told O.trace O.faults self.new }
         ensures made { MatchResult result (Enters entry self.old self.new) (IsUnstored O.faults entry self.old self.new) }

@@ -1,13 +1,13 @@
 // The commands of the key and association management.
 ghost use Rattle.std.specs.Prelude.{◌≡◌, ◌≤◌, ⊤, IfOk, IfErr, MatchResult};
 ghost use Rattle.ep_core.specs.declared.need.Need.{Need};
-ghost use Rattle.ep_core.specs.Seen.{Fits};
+ghost use Rattle.ep_core.specs.Seen.{MeetsNeed};
 ghost use Rattle.unit_state.specs.State.{KeepsRules};
 ghost use Rattle.unit_state.specs.Applied.{applied};
 ghost use Rattle.unit_state.specs.Allows.{Allows};
 ghost use Rattle.unit_state.specs.Laws.{IsNoMarks};
 ghost use Rattle.unit_book.specs.Marks.{KeepsMarks};
-ghost use Rattle.unit_book.specs.Book.{IsKept, Makes};
+ghost use Rattle.unit_book.specs.Book.{IsKept, IsNextState};
 ghost use Rattle.unit_book.specs.GoesOn.{GoesOn, TellsRise};
 ghost use Rattle.law_history.specs.Entries.{IsNeedOf, IsStepOf};
 ghost use Rattle.unit_book.specs.Records.{Handles, RefusesMessage};
@@ -30,7 +30,7 @@ fn step_of(
     seen: &Seen,
 ) -> Result<(Change, Reply), NoMemory>
     requires rules { KeepsRules state.now }
-    requires seen { (need : Need) → IsNeedOf state.now pdu.now need → Fits state.now need seen.now }
+    requires seen { (need : Need) → IsNeedOf state.now pdu.now need → MeetsNeed state.now need seen.now }
     ensures step { IfOk result (IsStepOf state.now pdu.now seen.now) }
     ensures allowed { IfOk result (λ step. Allows state.now step.0) }
     ensures numbers { IfOk result (λ step. IsNoMarks step.0) }
@@ -54,9 +54,9 @@ fn step_of(
 }
 
 /// The state after a change, made on a copy.
-fn changed(state: &State, change: &Change) -> Result<Next, NoMemory>
+fn apply_to_copy(state: &State, change: &Change) -> Result<Next, NoMemory>
     requires { Allows state.now change.now }
-    ensures { IfOk result (Makes state.now change.now) }
+    ensures { IfOk result (IsNextState state.now change.now) }
 {
     if *change == Change::Nothing {
         return Ok(Next::Here);
@@ -87,7 +87,7 @@ impl<O: Site> Book<O> {
     /// state's place once the change is stored.
     pub fn command(&mut self, index: u64, pdu: &[u8], seen: Seen) -> Result<(Reply, u64), BookFault>
         requires kept { IsKept O.told O.trace O.faults self.old }
-        requires seen { (need : Need) → IsNeedOf self.old.state pdu.now need → Fits self.old.state need seen }
+        requires seen { (need : Need) → IsNeedOf self.old.state pdu.now need → MeetsNeed self.old.state need seen }
         ensures kept { IsKept O.told O.trace O.faults self.new }
         ensures made { MatchResult result
             (λ answer. Handles O.faults index pdu.now seen self.old self.new answer.0 answer.1)
@@ -102,7 +102,7 @@ impl<O: Site> Book<O> {
         let Ok((change, reply)) = step_of(*self.entries.allocator(), &self.state, pdu, &seen) else {
             return Err(BookFault::NoMemory);
         };
-        let Ok(next) = changed(&self.state, &change) else {
+        let Ok(next) = apply_to_copy(&self.state, &change) else {
             return Err(BookFault::NoMemory);
         };
         let entry = Entry {

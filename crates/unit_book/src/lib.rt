@@ -18,7 +18,7 @@ mod laws;
 mod limits;
 mod log;
 mod next;
-mod opening;
+mod opening_image;
 mod releasing;
 mod reserving;
 mod showing;

@@ -3,7 +3,7 @@ ghost use Rattle.std.specs.Prelude.{◌≡◌, ◌<◌, length, slice_index_or, 
 ghost use Rattle.key_book.specs.declared.key_row.KeyRow.{KeyRow};
 ghost use Rattle.key_book.specs.KeyBook.{place_of};
 ghost use Rattle.frame_shield.specs.Binding.{IsBinding};
-ghost use Rattle.frame_checks.specs.Protecting.{protect_check};
+ghost use Rattle.frame_checks.specs.ProtectingFrames.{protect_check};
 ghost use Rattle.unit_book.specs.Book.{IsKept};
 
 use crate::book::Book;

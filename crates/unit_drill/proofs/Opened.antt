@@ -16,11 +16,11 @@ use Rattle.shared_unit.specs.Sharing.{Begins}
 use Rattle.shared_unit.specs.Sharing as sharing
 use Rattle.law_worker.specs.Begin.{Begin}
 use Rattle.unit_drill.specs.declared.image.TheConstants.{SLOTS}
-use Rattle.law_drill.specs.Drilled.{IsOpened}
+use Rattle.law_drill.specs.Drilled.{UnitIsOpened}
 use Rattle.unit_drill.specs.Drilled.{MayServe}
 
 module _ {O B : Type 0} (trace : O → Trace) (faults puts : O → ℕ) (site : O) (book : BookView O) (counters : Counters B) (planned : PlanLines)
-    (worker : Worker B) (opened : sharing.IsOpened true trace faults puts site book)
+    (worker : Worker B) (opened : sharing.BookIsOpened true trace faults puts site book)
     (begins : Begins trace faults puts book counters planned worker) (plan : List ℕ) (holds : trace site ≡ fresh (initial_image plan SLOTS)) where
   image_is : (trace site).now.image ≡ initial_image plan SLOTS
   image_is = ap (λ (t : Trace). t.now.image) holds
@@ -35,7 +35,7 @@ module _ {O B : Type 0} (trace : O → Trace) (faults puts : O → ℕ) (site : 
     used = length (records (view worker).turn.known.opening.image);
   }
 
-  pub opened_begins : MayServe counters planned worker × ((begin : Begin) × IsOpened plan begin (view worker))
+  pub opened_begins : MayServe counters planned worker × ((begin : Begin) × UnitIsOpened plan begin (view worker))
   opened_begins = (
     record { ready = begins.ready; shares = begins.shares },
     (

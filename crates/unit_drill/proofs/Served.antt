@@ -13,7 +13,7 @@ use Rattle.law_worker.specs.Order.{Handled, Layout, LiesIn}
 use Rattle.law_calls.specs.Visiting.{BeganWith}
 use Rattle.disk_journal.specs.Image.{records, slot_count}
 use Rattle.frame_workers.specs.Ends.{EndsSegment}
-use Rattle.law_drill.specs.Drilled.{Serves, tells_fault}
+use Rattle.law_drill.specs.Drilled.{HandlesSegment, tells_fault}
 use Rattle.law_drill.proofs.Tasks.{OnLane, drill_layout, drill_lies}
 
 pub served : (v w : View) (tasks : List Record) (answers : List Answer) (full : Bool) (ahead : ℕ) → All (OnLane ahead) tasks
@@ -22,7 +22,7 @@ pub served : (v w : View) (tasks : List Record) (answers : List Answer) (full : 
     → ((begin : Begin) → BeganWith true begin v.turn.known.opening → EndsSegment begin v w tasks answers full)
     → list_any tells_fault answers ≡ false → IsWhole 512 w
     → (begin : Begin) → BeganWith true begin v.turn.known.opening
-    → Serves begin v w tasks answers × BeganWith true begin w.turn.known.opening
+    → HandlesSegment begin v w tasks answers × BeganWith true begin w.turn.known.opening
 served v w tasks answers full ahead lanes handled ends quiet whole begin began = (
   record { handled = λ layout number lies. handled begin layout number began lies; full = full; ends = ends begin began; quiet = quiet; whole = whole },
   subst (λ (o : Opening). BeganWith true begin o)

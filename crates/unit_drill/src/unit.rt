@@ -6,7 +6,7 @@ ghost use Rattle.record_io.specs.declared.records.Record.{Record};
 ghost use Rattle.law_worker.specs.Begin.{Begin};
 ghost use Rattle.law_worker.specs.Deeds.{Ascend};
 ghost use Rattle.law_calls.specs.Visiting.{BeganWith};
-ghost use Rattle.law_drill.specs.Drilled.{IsOpened, Serves, tells_fault};
+ghost use Rattle.law_drill.specs.Drilled.{UnitIsOpened, HandlesSegment, tells_fault};
 ghost use Rattle.unit_drill.specs.Drilled.{MayServe};
 
 use crate::image::site_of;
@@ -50,7 +50,7 @@ impl DrillUnit {
     pub(crate) fn open<R: Wait>(rt: &R, alloc: Global, plan: &[u8]) -> Result<DrillUnit, NoMemory>
         requires { length plan.now ≤ PLAN_ROOM }
         ensures { IfOk result (λ made. MayServe made.unit.counters made.unit.plan made.worker
-            × ((begin : Begin) × IsOpened plan.now begin (view made.worker))) }
+            × ((begin : Begin) × UnitIsOpened plan.now begin (view made.worker))) }
     {
         let site = site_of(alloc, plan)?;
         match Unit::open(rt, alloc, site) {
@@ -72,7 +72,7 @@ impl DrillUnit {
         requires ascend { Ascend records.now }
         ensures may { MayServe self.new.unit.counters self.new.unit.plan self.new.worker }
         ensures serves { IfOk result (λ answers. (begin : Begin) → BeganWith true begin (view self.old.worker).turn.known.opening
-            → Serves begin (view self.old.worker) (view self.new.worker) records.now answers.items
+            → HandlesSegment begin (view self.old.worker) (view self.new.worker) records.now answers.items
             × BeganWith true begin (view self.new.worker).turn.known.opening) }
         ensures few { IfOk result (λ answers. vec_len answers ≤ length records.now) }
     {

@@ -13,8 +13,8 @@ use Rattle.unit_state.specs.Laws.{StoresWell}
 use Rattle.unit_state.proofs.Again.{applied_alike}
 use Rattle.unit_state.proofs.Allowed.{allowed_alike}
 use Rattle.disk_journal.specs.Image.{Held, grown}
-use Rattle.unit_image.specs.Shows.{LeadTo, Says, IsUnfit, IsBadRecord}
-use Rattle.unit_image.specs.Opening.{Takes}
+use Rattle.unit_image.specs.Shows.{LeadTo, Says, IsNoChangeAt, IsBadRecord}
+use Rattle.unit_image.specs.OpeningImage.{TakesRecord}
 
 -- one record more
 pub led_more : (state : State) (bodies : List (List ℕ)) (last : State) (body : List ℕ) (change : Change) → LeadTo state bodies last
@@ -33,7 +33,7 @@ take_next bodies index body there =
 
 -- the record at a place, when those before it are done
 pub led_next : (first : State) (bodies : List (List ℕ)) (index : ℕ) (old new : State) → LeadTo first (take index bodies) old
-    → Takes bodies index old new → LeadTo first (take (index + 1) bodies) new
+    → TakesRecord bodies index old new → LeadTo first (take (index + 1) bodies) new
 led_next first bodies index old new led takes =
     subst (λ (front : List (List ℕ)). LeadTo first front new) (sym (take_next bodies index takes.body takes.there))
     (subst (λ (state : State). LeadTo first (take index bodies ++ takes.body ∷ []) state) (sym takes.is)

@@ -17,7 +17,7 @@ use Rattle.unit_state.specs.Restart.{restarted}
 use Rattle.disk_journal.specs.declared.layout.TheConstants.{PLAN_AT, SLOT_COUNT_AT}
 use Rattle.disk_journal.specs.Image.{Held, held, record_at}
 use Rattle.disk_journal.specs.Fault.{image_fault}
-use Rattle.unit_image.specs.Shows.{SaysPlan, LeadTo, Says, Shows, IsUnfit, IsBadRecord, SaysNone, ShowsNone}
+use Rattle.unit_image.specs.Shows.{SaysPlan, LeadTo, Says, Shows, IsNoChangeAt, IsBadRecord, SaysNone, ShowsNone}
 
 abbrev ok_or : {X : Type 0} → X → Result X PlanFault → X
 ok_or other (Ok x) = x

@@ -43,7 +43,7 @@ pub record Shows (image : List ℕ) (state : State) : Type 0 where
   pub says : Says what state
 
 -- the body at this place is no record of a change that the state allows
-pub record IsUnfit (bodies : List (List ℕ)) (place : ℕ) (state : State) : Type 0 where
+pub record IsNoChangeAt (bodies : List (List ℕ)) (place : ℕ) (state : State) : Type 0 where
   pub body : List ℕ
   pub there : slice_get bodies place ≡ Some body
   pub bad : (change : Change) → IsRecord change body → ¬ Allows state change
@@ -52,7 +52,7 @@ pub record IsUnfit (bodies : List (List ℕ)) (place : ℕ) (state : State) : Ty
 pub record IsBadRecord (state : State) (bodies : List (List ℕ)) (place : ℕ) : Type 0 where
   pub before : State
   pub led : LeadTo state (take place bodies) before
-  pub unfit : IsUnfit bodies place before
+  pub unfit : IsNoChangeAt bodies place before
 
 -- What an image holds says no state, and this is the offset of the first check that fails: that the text is a plan whose lines
 -- make a state; that the slots are the plan's; that each record is of a change that is allowed.

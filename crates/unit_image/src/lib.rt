@@ -7,11 +7,11 @@
 
 mod fault;
 mod laws;
-mod opening;
+mod opening_image;
 mod reading;
 mod records;
 
 pub use fault::OpenFault;
 pub use laws::{refused_with_one, says_more, shows_one};
-pub use opening::{Opened, open};
+pub use opening_image::{Opened, open};
 pub use records::stored_record;

@@ -6,8 +6,8 @@ ghost use Rattle.disk_journal.specs.Image.{records, held, record_at};
 ghost use Rattle.disk_journal.specs.Journal.{IsOpen};
 ghost use Rattle.unit_state.specs.State.{KeepsRules};
 ghost use Rattle.unit_state.specs.Allows.{Allows};
-ghost use Rattle.unit_image.specs.Shows.{SaysPlan, LeadTo, IsUnfit, IsBadRecord, SaysNone};
-ghost use Rattle.unit_image.specs.Opening.{as_open_fault, HasOpenFault, IsTextCause, Takes};
+ghost use Rattle.unit_image.specs.Shows.{SaysPlan, LeadTo, IsNoChangeAt, IsBadRecord, SaysNone};
+ghost use Rattle.unit_image.specs.OpeningImage.{as_open_fault, HasOpenFault, IsTextCause, TakesRecord};
 
 use crate::fault::OpenFault;
 use book_record::{RecordError, read_record};
@@ -122,12 +122,12 @@ fn take_record<O: Site>(
     requires opened { IsTrue O.told → IsOpen (O.trace site.old) journal.now }
     requires rules { KeepsRules state.old }
     ensures taken { IsTrue O.told → OnOk result
-        (Takes (records (O.trace site.old).now.image) index state.old state.new) }
+        (TakesRecord (records (O.trace site.old).now.image) index state.old state.new) }
     ensures rules { KeepsRules state.new }
     ensures same { IsTrue O.told → O.trace site.new ≡ O.trace site.old }
     ensures puts { O.put_faults site.new ≡ O.put_faults site.old }
     ensures fault { HasOpenFault (O.faults site.old) (O.faults site.new) (λ offset. IsTrue O.told
-        → IsUnfit (records (O.trace site.old).now.image) index state.old × (offset ≡ record_at (O.trace site.old).now.image index)) result }
+        → IsNoChangeAt (records (O.trace site.old).now.image) index state.old × (offset ≡ record_at (O.trace site.old).now.image index)) result }
 {
     let body = match journal.body(site, index) {
         Ok(body) => body,

@@ -4,7 +4,7 @@ ghost use Rattle.unit_plan.specs.Lines.{words_of};
 ghost use Rattle.unit_plan.specs.PlanRules.{IsAssociation};
 ghost use Rattle.unit_plan.specs.PlanError.{Gives};
 ghost use Rattle.unit_plan.specs.LineForm.{bounded, channel_id, version_said, device_said, number_said, association_of};
-ghost use Rattle.unit_plan.specs.Plan.{Takes, in_order, is_on_link, version_taken, device_taken, slots_taken, block_taken, accept_taken, link_taken, channel_taken, key_taken, admitted, association_added, association_taken, taken_as, taken, is_skipped, line_taken};
+ghost use Rattle.unit_plan.specs.Plan.{TakesPlanLine, in_order, is_on_link, version_taken, device_taken, slots_taken, block_taken, accept_taken, link_taken, channel_taken, key_taken, admitted, association_added, association_taken, taken_as, taken, is_skipped, line_taken};
 
 use crate::association_line::{AssociationLine, are_channels, association};
 use crate::channel_line::{Place, channel, is_place};
@@ -116,7 +116,7 @@ impl Plan {
 
     #[tactic(auto, unfolding(crate::specs::Plan::version_taken))]
     fn take_version(&mut self, line: u32, words: &mut Words<'_>) -> Result<(), PlanError>
-        ensures { Takes result (version_taken line self.old words.old) self.new }
+        ensures { TakesPlanLine result (version_taken line self.old words.old) self.new }
     {
         version(words).ok_or(refused(line, PlanCause::Form))?;
         self.in_order(line, 0)?;
@@ -126,7 +126,7 @@ impl Plan {
 
     #[tactic(auto, unfolding(crate::specs::Plan::device_taken))]
     fn take_device(&mut self, line: u32, words: &mut Words<'_>) -> Result<(), PlanError>
-        ensures { Takes result (device_taken line self.old words.old) self.new }
+        ensures { TakesPlanLine result (device_taken line self.old words.old) self.new }
     {
         let device = device(words).ok_or(refused(line, PlanCause::Form))?;
         self.in_order(line, 1)?;
@@ -137,7 +137,7 @@ impl Plan {
 
     #[tactic(auto, unfolding(crate::specs::Plan::slots_taken))]
     fn take_slots(&mut self, line: u32, words: &mut Words<'_>) -> Result<(), PlanError>
-        ensures { Takes result (slots_taken line self.old words.old) self.new }
+        ensures { TakesPlanLine result (slots_taken line self.old words.old) self.new }
     {
         let n = number(words).ok_or(refused(line, PlanCause::Form))?;
         self.in_order(line, 2)?;
@@ -149,7 +149,7 @@ impl Plan {
 
     #[tactic(auto, unfolding(crate::specs::Plan::block_taken))]
     fn take_block(&mut self, line: u32, words: &mut Words<'_>) -> Result<(), PlanError>
-        ensures { Takes result (block_taken line self.old words.old) self.new }
+        ensures { TakesPlanLine result (block_taken line self.old words.old) self.new }
     {
         let n = number(words).ok_or(refused(line, PlanCause::Form))?;
         self.in_order(line, 3)?;
@@ -161,7 +161,7 @@ impl Plan {
 
     #[tactic(auto, unfolding(crate::specs::Plan::accept_taken))]
     fn take_accept(&mut self, line: u32, words: &mut Words<'_>) -> Result<(), PlanError>
-        ensures { Takes result (accept_taken line self.old words.old) self.new }
+        ensures { TakesPlanLine result (accept_taken line self.old words.old) self.new }
     {
         let n = number(words).ok_or(refused(line, PlanCause::Form))?;
         self.in_order(line, 4)?;
@@ -173,7 +173,7 @@ impl Plan {
 
     #[tactic(auto, unfolding(crate::specs::Plan::link_taken))]
     fn take_link(&mut self, line: u32, words: &mut Words<'_>) -> Result<(), PlanError>
-        ensures { Takes result (link_taken line self.old words.old) self.new }
+        ensures { TakesPlanLine result (link_taken line self.old words.old) self.new }
     {
         let said = link(words).ok_or(refused(line, PlanCause::Form))?;
         self.in_order(line, 5)?;
@@ -195,7 +195,7 @@ impl Plan {
 
     #[tactic(auto, unfolding(crate::specs::Plan::channel_taken))]
     fn take_channel(&mut self, line: u32, words: &mut Words<'_>) -> Result<(), PlanError>
-        ensures { Takes result (channel_taken line self.old words.old) self.new }
+        ensures { TakesPlanLine result (channel_taken line self.old words.old) self.new }
     {
         let (n, place) = channel(words).ok_or(refused(line, PlanCause::Form))?;
         self.in_order(line, 5)?;
@@ -211,7 +211,7 @@ impl Plan {
 
     #[tactic(auto, unfolding(crate::specs::Plan::key_taken))]
     fn take_key(&mut self, alloc: Global, line: u32, words: &mut Words<'_>) -> Result<(), PlanError>
-        ensures { Takes result (key_taken line self.old words.old) self.new }
+        ensures { TakesPlanLine result (key_taken line self.old words.old) self.new }
     {
         let said = key(alloc, words)?.ok_or(refused(line, PlanCause::Form))?;
         self.in_order(line, 5)?;
@@ -245,7 +245,7 @@ impl Plan {
     #[tactic(auto, unfolding(crate::specs::Plan::association_added))]
     fn add_association(&mut self, found: PlanSa) -> Result<(), PlanError>
         requires { IsAssociation found }
-        ensures { Takes result (association_added self.old found) self.new }
+        ensures { TakesPlanLine result (association_added self.old found) self.new }
     {
         self.admit(&found)?;
         self.associations.push(found)?;
@@ -259,7 +259,7 @@ impl Plan {
         line: u32,
         words: &mut Words<'_>,
     ) -> Result<(), PlanError>
-        ensures { Takes result (association_taken line self.old words.old) self.new }
+        ensures { TakesPlanLine result (association_taken line self.old words.old) self.new }
     {
         let said = association(alloc, words)?.ok_or(refused(line, PlanCause::Form))?;
         self.in_order(line, 5)?;
@@ -276,7 +276,7 @@ impl Plan {
         kind: Kind,
         words: &mut Words<'_>,
     ) -> Result<(), PlanError>
-        ensures { Takes result (taken_as line self.old kind words.old) self.new }
+        ensures { TakesPlanLine result (taken_as line self.old kind words.old) self.new }
     {
         match kind {
             Kind::Version => self.take_version(line, words),
@@ -293,7 +293,7 @@ impl Plan {
 
     #[tactic(auto, unfolding(crate::specs::Plan::taken))]
     fn take(&mut self, alloc: Global, line: u32, words: &mut Words<'_>) -> Result<(), PlanError>
-        ensures { Takes result (taken line self.old words.old) self.new }
+        ensures { TakesPlanLine result (taken line self.old words.old) self.new }
     {
         let word = words.next().ok_or(refused(line, PlanCause::Form))?;
         let kind = kind_of(word).ok_or(refused(line, PlanCause::Form))?;
@@ -307,7 +307,7 @@ impl Plan {
         line: u32,
         text: &[u8],
     ) -> Result<(), PlanError>
-        ensures { Takes result (line_taken line self.old text.now) self.new }
+        ensures { TakesPlanLine result (line_taken line self.old text.now) self.new }
     {
         if is_skipped(text) {
             return Ok(());

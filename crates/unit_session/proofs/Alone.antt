@@ -23,7 +23,7 @@ use Rattle.unit_book.specs.Book.{BookView, PutFails}
 use Rattle.unit_book.specs.Log.{sunk_between}
 use Rattle.law_history.specs.Log.{entries_of, pieces_of}
 use Rattle.shared_unit.specs.Calls.{IsPut}
-use Rattle.shared_unit.specs.Told.{told_by}
+use Rattle.shared_unit.specs.Told.{known_of_book}
 use Rattle.shared_unit.specs.Turn.{Visits}
 use Rattle.law_worker.specs.Begin.{Begin}
 use Rattle.law_worker.specs.Views.{log_of, entries_in}
@@ -34,7 +34,7 @@ use Rattle.law_worker.proofs.Logs.{stands_both}
 use Rattle.law_lives.specs.Settled.{SettlesAt}
 use Rattle.law_lives.proofs.Counting.{pieces_both}
 use Rattle.law_calls.specs.Visiting.{BeganWith, Visited}
-use Rattle.law_run_segments.specs.Doing.{Puts, octets_put}
+use Rattle.law_run_segments.specs.Doing.{PutsPieces, octets_put}
 use Rattle.unit_session.specs.Putting.{Adds, PutsOctets, SettlesAll}
 use Rattle.unit_session.proofs.Octets.{puts_adds}
 
@@ -81,11 +81,11 @@ made_one_more made n each x =
 module _ {O : Type 0} (told : Bool) (trace : O → Trace) (faults puts : O → ℕ) (octets : List ℕ) (result : Result (Unit {0}) BookFault)
     (v w : View) (found given : BookView O) (free : v.turn.holds ≡ false) (numbers : w.numbers ≡ v.numbers)
     (visits : Visits told trace faults puts found given v.turn w.turn) (put : IsPut told trace faults puts octets result found given)
-    (known : IsAsKnown v.turn (told_by trace faults puts found)) where
+    (known : IsAsKnown v.turn (known_of_book trace faults puts found)) where
   abbrev piece : List ℕ
   piece = sunk_between (trace found.site) (trace given.site)
 
-  known_is : w.turn.known ≡ told_by trace faults puts given
+  known_is : w.turn.known ≡ known_of_book trace faults puts given
   known_is = ap (λ (t : Turn). t.known) visits.takes.turn
 
   given_log : given.log ≡ log_of v ++ lines.Piece piece ∷ []
@@ -142,7 +142,7 @@ module _ {O : Type 0} (told : Bool) (trace : O → Trace) (faults puts : O → �
     visited : (begin : Begin) → BeganWith told begin v.turn.known.opening → Visited told trace faults puts begin found given v w
     visited begin began = record { began = began; free = free; visits = visits; numbers = numbers }
 
-    puts_one : (begin : Begin) → BeganWith told begin v.turn.known.opening → Puts begin v w
+    puts_one : (begin : Begin) → BeganWith told begin v.turn.known.opening → PutsPieces begin v w
     puts_one begin began = record { does = does_unanswered begin v w [] (works begin [] (visited begin began)); entries = entries_are }
 
     settles_one : (begin : Begin) → BeganWith told begin v.turn.known.opening → SettlesAll begin v w

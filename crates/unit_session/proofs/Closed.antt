@@ -16,17 +16,17 @@ use Rattle.unit_plan.specs.PlanLines.{PlanLines}
 use Rattle.unit_plan.specs.PlanRules.{IsPlan}
 use Rattle.unit_state.specs.declared.state.State.{State}
 use Rattle.unit_state.specs.Restart.{restarted}
-use Rattle.unit_image.specs.Opening.{Opening}
+use Rattle.unit_image.specs.OpeningImage.{Opening}
 use Rattle.unit_image.specs.Shows.{Shows}
 use Rattle.law_history.specs.Log.{entries_of}
 use Rattle.law_history.specs.Stored.{stored_count}
 use Rattle.unit_book.specs.Book.{BookView}
 use Rattle.unit_book.specs.Marks.{mark_at}
-use Rattle.shared_unit.specs.Sharing.{Begins, IsOpened}
-use Rattle.shared_unit.specs.Told.{told_by}
+use Rattle.shared_unit.specs.Sharing.{Begins, BookIsOpened}
+use Rattle.shared_unit.specs.Told.{known_of_book}
 use Rattle.law_calls.specs.Visiting.{BeganWith}
 use Rattle.law_run_segments.specs.Coming.{HasCome}
-use Rattle.law_run_segments.specs.Finishing.{PutsEnd}
+use Rattle.law_run_segments.specs.Ending.{PutsEnd}
 use Rattle.law_run_segments.specs.Ran.{CountsSlots, Ran, begin_by}
 use Rattle.law_run_ends.specs.declared.end.RunEnd.{RunEnd}
 use Rattle.unit_session.specs.Running.{RunsUnit}
@@ -42,11 +42,11 @@ image_stays {O} told trace faults puts came end old new status (inl (came_is, sa
 image_stays {O} told trace faults puts came end old new status (inr (came_is, put)) = ap (λ (b : BookView O). b.image) put.made
 
 module _ {O B : Type 0} (told : Bool) (trace : O → Trace) (faults puts : O → ℕ) (site after : O) (opened : BookView O) (counters : Counters B) (plan : PlanLines)
-    (worker : Worker B) (here : IsOpened told trace faults puts site opened) (begins : Begins trace faults puts opened counters plan worker)
+    (worker : Worker B) (here : BookIsOpened told trace faults puts site opened) (begins : Begins trace faults puts opened counters plan worker)
     (source source_after : SourceSeen) (entries : List Entry) (status : ℕ)
     (runs : RunsUnit told trace faults puts (faults site) source source_after (view worker) after entries status) where
   -- what the book was opened with
-  same_opening : (told_by trace faults puts runs.book).opening ≡ (told_by trace faults puts opened).opening
+  same_opening : (known_of_book trace faults puts runs.book).opening ≡ (known_of_book trace faults puts opened).opening
   same_opening = runs.closes.follows.opening ∙ runs.opening ∙ begins.opening
 
   image_is : runs.book.image ≡ (trace site).now.image
@@ -72,7 +72,7 @@ module _ {O B : Type 0} (told : Bool) (trace : O → Trace) (faults puts : O →
 
   began : BeganWith told (begin_by told (trace site).now.image runs.book.plan runs.book.start) (view worker).turn.known.opening
   began =
-      let first : (told_by trace faults puts runs.book).opening ≡ (view worker).turn.known.opening = runs.closes.follows.opening ∙ runs.opening in
+      let first : (known_of_book trace faults puts runs.book).opening ≡ (view worker).turn.known.opening = runs.closes.follows.opening ∙ runs.opening in
       let same : (view worker).turn.known.opening.image ≡ (trace site).now.image =
       ap (λ (o : openings.Opening). o.image) (sym first) ∙ image_is in
       record {

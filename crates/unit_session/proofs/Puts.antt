@@ -17,26 +17,26 @@ use Rattle.law_worker.specs.Views.{log_of}
 use Rattle.law_worker.proofs.Joining.{does_then, does_nothing}
 use Rattle.law_worker.proofs.Logs.{times_both}
 use Rattle.law_calls.specs.Visiting.{BeganWith}
-use Rattle.law_run_segments.specs.Doing.{Puts, octets_put}
+use Rattle.law_run_segments.specs.Doing.{PutsPieces, octets_put}
 use Rattle.law_one_lane.proofs.Turns.{clean_before}
-use Rattle.unit_session.specs.Putting.{Begun, Leaves, OfRun, PutsOctets, SettlesAll, TakesOctets, TakesSoFar}
+use Rattle.unit_session.specs.Putting.{Begun, PutLeaves, OfRun, PutsOctets, SettlesAll, TakesOctets, TakesSoFar}
 use Rattle.unit_session.proofs.Octets.{adds_then, takes_behind, between_wider, put_last, put_more, put_some}
 use Rattle.record_io.specs.declared.answers.Answer.{Answer}
 use Rattle.record_io.specs.Answers.{answer_octets, answers_octets}
 
 -- ---- puts one after the other
 
-pub puts_none : (begin : Begin) (v : View) → Puts begin v v
+pub puts_none : (begin : Begin) (v : View) → PutsPieces begin v v
 puts_none begin v = record { does = does_nothing begin v []; entries = refl }
 
-pub puts_then : (begin : Begin) (u v w : View) → Puts begin u v → Puts begin v w → Puts begin u w
+pub puts_then : (begin : Begin) (u v w : View) → PutsPieces begin u v → PutsPieces begin v w → PutsPieces begin u w
 puts_then begin u v w first second = record {
   does = does_then begin u v w [] [] [] [] first.does second.does (λ i d l. absurd (omega arith));
   entries = second.entries ∙ first.entries;
 }
 
 -- what a put settled stays settled
-pub settles_on : (begin : Begin) (u v w : View) → SettlesAll begin u v → Puts begin v w → SettlesAll begin u w
+pub settles_on : (begin : Begin) (u v w : View) → SettlesAll begin u v → PutsPieces begin v w → SettlesAll begin u w
 settles_on begin u v w s on =
     let rest : List Logged = on.does.grows.earlier.log.0 in
     let log : log_of w ≡ log_of v ++ rest = on.does.grows.earlier.log.1 in
@@ -62,7 +62,7 @@ settles_on begin u v w s on =
     }
 
 -- behind pieces that were put
-pub settles_first : (begin : Begin) (u v w : View) → Puts begin u v → Begun begin u v → Puts begin v w → SettlesAll begin v w → SettlesAll begin u w
+pub settles_first : (begin : Begin) (u v w : View) → PutsPieces begin u v → Begun begin u v → PutsPieces begin v w → SettlesAll begin v w → SettlesAll begin u w
 settles_first begin u v w before (inr settled) on s = settles_on begin u v w settled on
 settles_first begin u v w before (inl same) on s = record {
   entries = s.entries;
@@ -82,7 +82,7 @@ settles_first begin u v w before (inl same) on s = record {
   before = let a = s.before in let b = ap (λ (l : List Logged). length (pieces_of l)) same in omega arith;
 }
 
-pub begun_then : (begin : Begin) (u v w : View) → Puts begin u v → Begun begin u v → Puts begin v w → Begun begin v w → Begun begin u w
+pub begun_then : (begin : Begin) (u v w : View) → PutsPieces begin u v → Begun begin u v → PutsPieces begin v w → Begun begin v w → Begun begin u w
 begun_then begin u v w before first on (inr settled) = inr (settles_first begin u v w before first on settled)
 begun_then begin u v w before (inl same) on (inl none) = inl (none ∙ same)
 begun_then begin u v w before (inr settled) on (inl none) = inr (settles_on begin u v w settled on)
@@ -93,11 +93,11 @@ begun_then begin u v w before (inr settled) on (inl none) = inr (settles_on begi
 began_on : (told : Bool) (begin : Begin) (a b : Opening) → b ≡ a → BeganWith told begin a → BeganWith told begin b
 began_on told begin a b same h = subst (BeganWith told begin) (sym same) h
 
-pub leaves_none : {T E : Type 0} → (told : Bool) (value : T) (v : View) → Leaves {T = T} {E = E} told (Ok value) v v
+pub leaves_none : {T E : Type 0} → (told : Bool) (value : T) (v : View) → PutLeaves {T = T} {E = E} told (Ok value) v v
 leaves_none told value v = record { opening = refl; counted = refl; rose = tt; puts = λ begin h. puts_none begin v; numbers = refl }
 
 pub leaves_then : {S T E : Type 0} → (told : Bool) (value : S) (result : Result T E) (u v w : View)
-    → Leaves {T = S} {E = E} told (Ok value) u v → Leaves told result v w → Leaves told result u w
+    → PutLeaves {T = S} {E = E} told (Ok value) u v → PutLeaves told result v w → PutLeaves told result u w
 leaves_then {S = S} {T = T} {E = E} told value result u v w first second = record {
   opening = second.opening ∙ first.opening;
   counted = second.counted ∙ ap (after_put result) first.counted;

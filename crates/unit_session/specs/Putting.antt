@@ -13,7 +13,7 @@ use Rattle.shared_unit.specs.Turn.{IsReady}
 use Rattle.law_worker.specs.Begin.{Begin}
 use Rattle.law_worker.specs.Views.{log_of}
 use Rattle.law_calls.specs.Visiting.{BeganWith}
-use Rattle.law_run_segments.specs.Doing.{Puts, Settles, octets_put}
+use Rattle.law_run_segments.specs.Doing.{PutsPieces, SettlesWork, octets_put}
 
 -- One worker of the unit, with all shares, which did all that was done.
 pub record IsAlone {B : Type 0} (counters : Counters B) (plan : PlanLines) (worker : Worker B) : Type 0 where
@@ -34,7 +34,7 @@ TakesOver octets result piece_old piece_new old new = MatchResult result
 
 -- the first put settled what the worker had done before, of the entries that it knew to stand
 abbrev pub SettlesAll : Begin → View → View → Type 0
-SettlesAll begin v w = Settles begin v w v.turn.known.standing w.turn.known.standing
+SettlesAll begin v w = SettlesWork begin v w v.turn.known.standing w.turn.known.standing
 
 -- nothing was put, or the first put settled
 abbrev pub Begun : Begin → View → View → Type 0
@@ -46,22 +46,22 @@ OfRun told v P = (begin : Begin) → BeganWith told begin v.turn.known.opening �
 
 -- What every putting leaves: the opening and the numbers stand, one more put failed where the answer is a fault, and the site's
 -- count then had risen.
-pub record Leaves {T E : Type 0} (told : Bool) (result : Result T E) (v w : View) : Type 0 where
+pub record PutLeaves {T E : Type 0} (told : Bool) (result : Result T E) (v w : View) : Type 0 where
   pub opening : w.turn.known.opening ≡ v.turn.known.opening
   pub counted : w.turn.known.put_faults ≡ after_put result v.turn.known.put_faults
   pub rose : OnErr result (Rose w.turn.known.opening.faults w.turn.known.faults)
-  pub puts : OfRun told v (λ begin. Puts begin v w)
+  pub puts : OfRun told v (λ begin. PutsPieces begin v w)
   pub numbers : w.numbers ≡ v.numbers
 
 -- The octets were put, or a front of them.
 pub record PutsOctets {T E : Type 0} (told : Bool) (octets : List ℕ) (result : Result T E) (v w : View) : Type 0 where
-  pub leaves : Leaves told result v w
+  pub leaves : PutLeaves told result v w
   pub adds : IsTrue told → Adds octets result (octets_put v) (octets_put w)
   pub settles : OfRun told v (λ begin. SettlesAll begin v w)
 
 -- The octets were taken over into the piece, or put with it.
 pub record TakesOctets {T E : Type 0} (told : Bool) (octets : List ℕ) (result : Result T E) (piece_old piece_new : List ℕ) (v w : View) : Type 0 where
-  pub leaves : Leaves told result v w
+  pub leaves : PutLeaves told result v w
   pub takes : IsTrue told → TakesOver octets result piece_old piece_new (octets_put v) (octets_put w)
   pub begun : OfRun told v (λ begin. Begun begin v w)
   pub settles : OnErr result (OfRun told v (λ begin. SettlesAll begin v w))
@@ -70,7 +70,7 @@ pub record TakesOctets {T E : Type 0} (told : Bool) (octets : List ℕ) (result 
 pub record TakesSoFar (told : Bool) (octets piece : List ℕ) (v w : View) : Type 0 where
   pub opening : w.turn.known.opening ≡ v.turn.known.opening
   pub counted : w.turn.known.put_faults ≡ v.turn.known.put_faults
-  pub puts : OfRun told v (λ begin. Puts begin v w)
+  pub puts : OfRun told v (λ begin. PutsPieces begin v w)
   pub numbers : w.numbers ≡ v.numbers
   pub takes : IsTrue told → (length (octets_put v) ≤ length (octets_put w)) × (octets_put w ++ piece ≡ octets_put v ++ octets)
   pub begun : OfRun told v (λ begin. Begun begin v w)

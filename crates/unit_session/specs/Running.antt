@@ -6,19 +6,19 @@ use Rattle.sdls_outside.specs.Faults.{HasCause}
 use Rattle.sdls_outside.specs.Moments.{Trace}
 use Rattle.sdls_outside.specs.Site as sites
 use Rattle.counter_table.specs.declared.view.View.{View}
-use Rattle.counter_table.specs.Close.{Closes}
+use Rattle.counter_table.specs.Close.{ClosesCounters}
 use Rattle.counter_table.specs.Whole.{IsWhole}
 use Rattle.record_io.specs.declared.status.TheConstants.{SITE_FAULT}
 use Rattle.record_io.specs.Answers.{answer_octets}
 use Rattle.record_io.specs.Reading.{SourceSeen}
 use Rattle.unit_image.specs.declared.fault.OpenFault.{OpenFault}
 use Rattle.unit_book.specs.Book.{BookView, IsKept}
-use Rattle.shared_unit.specs.Told.{told_by}
+use Rattle.shared_unit.specs.Told.{known_of_book}
 use Rattle.law_worker.specs.Begin.{Begin}
 use Rattle.law_calls.specs.Visiting.{BeganWith}
 use Rattle.law_run_ends.specs.declared.end.RunEnd.{RunEnd}
 use Rattle.law_run_ends.specs.Account.{end_answer, end_status}
-use Rattle.law_run_segments.specs.Finishing.{Finishes, IsToldEnd}
+use Rattle.law_run_segments.specs.Ending.{Finishes, IsToldEnd}
 use Rattle.law_run_segments.specs.Refused.{refused_end}
 use Rattle.unit_session.specs.Serving.{Comes}
 
@@ -34,7 +34,7 @@ pub record RunsUnit {O : Type 0} (told : Bool) (trace : O → Trace) (faults put
   pub opening : now.turn.known.opening ≡ first.turn.known.opening
   pub whole : IsWhole 512 now
   pub kept : IsKept told trace faults book
-  pub closes : Closes 512 now (told_by trace faults puts book) words
+  pub closes : ClosesCounters 512 now (known_of_book trace faults puts book) words
   pub finishes : Finishes told trace faults puts before words came book site entries status
 
 -- where a book was not opened: End was put, or a front of it; so many faults had been counted before the run

@@ -2,13 +2,13 @@
 //! releases what was not used and puts End.
 #![tactic(auto)]
 
-mod finishing;
+mod ending;
 mod putting;
 mod running;
 mod serving;
 mod session;
 
-pub use finishing::finish;
+pub use ending::finish;
 pub use running::run_recorded;
 pub use serving::Stop;
 pub use session::Session;

@@ -10,7 +10,7 @@ ghost use Rattle.law_run_segments.specs.Refused.{refused_end};
 ghost use Rattle.unit_session.specs.Putting.{IsAlone};
 ghost use Rattle.unit_session.specs.Running.{PutsRefusal, RunsUnit};
 
-use crate::finishing::{answer_of, finish, told_end};
+use crate::ending::{answer_of, finish, told_end};
 use crate::session::Session;
 use frame_workers::Gate;
 use law_image::shown_keeps_rules;

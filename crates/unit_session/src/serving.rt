@@ -58,7 +58,7 @@ fn end_of(stop: Stop) -> RunEnd
 }
 
 /// Whether more records are served, behind answers that were put, or a front of them.
-fn served(put: Result<(), BookFault>, full: bool) -> Result<(), Stop>
+fn stop_after(put: Result<(), BookFault>, full: bool) -> Result<(), Stop>
     ensures { result ≡ served_as put full }
 {
     match put {
@@ -89,7 +89,7 @@ impl<O: Site + Send> Session<O> {
             Err(NoMemory) => return Err(Stop::NoMemory),
         };
         let put = self.put_answers(rt, &segment.answers);
-        served(put, segment.full)
+        stop_after(put, segment.full)
     }
 
     /// Reads the next segment and serves it. `None`: the input may go on.

@@ -105,7 +105,7 @@ abbrev pub initial : PlanLines → Result State PlanFault
 initial plan = lines_made (bare plan) plan.keys plan.associations
 
 -- what a call answers, and the state that it left, is what lines make, unless memory was wanting
-abbrev pub Makes : Result (Unit {0}) PlanError → Result State PlanFault → State → Type 0
-Makes (Ok u) said state = said ≡ Ok state
-Makes (Err (RefusedAt first)) said state = said ≡ Err first
-Makes (Err NoMemory) said state = ⊤
+abbrev pub MakesLines : Result (Unit {0}) PlanError → Result State PlanFault → State → Type 0
+MakesLines (Ok u) said state = said ≡ Ok state
+MakesLines (Err (RefusedAt first)) said state = said ≡ Err first
+MakesLines (Err NoMemory) said state = ⊤

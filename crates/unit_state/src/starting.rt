@@ -8,7 +8,7 @@ ghost use Rattle.unit_plan.specs.PlanError.{Gives};
 ghost use Rattle.sdls_base.specs.Bounds.{IsKeyLength};
 ghost use Rattle.unit_plan.specs.PlanRules.{IsAssociation};
 ghost use Rattle.unit_state.specs.State.{KeepsRules};
-ghost use Rattle.unit_state.specs.Initial.{Makes, bare, loaded, activated, activated_if, key_made, keys_made, least_first, created, keyed, started, association_made, count_before, lines_made, initial};
+ghost use Rattle.unit_state.specs.Initial.{MakesLines, bare, loaded, activated, activated_if, key_made, keys_made, least_first, created, keyed, started, association_made, count_before, lines_made, initial};
 
 use crate::state::State;
 use key_book::{KeyBook, KeyRefusal, KeyRow};
@@ -64,7 +64,7 @@ impl State {
 
     fn load_line(&mut self, alloc: Global, key: &PlanKey) -> Result<(), PlanError>
         requires { IsKeyLength (length key.now.item.bytes) }
-        ensures { Makes result (loaded self.old key.now) self.new }
+        ensures { MakesLines result (loaded self.old key.now) self.new }
     {
         let items = vec![in alloc; key.item.clone()?]?;
         match self.keys.load(items.as_slice()) {
@@ -75,7 +75,7 @@ impl State {
     }
 
     fn activate_line(&mut self, alloc: Global, key: &PlanKey) -> Result<(), PlanError>
-        ensures { Makes result (activated self.old key.now) self.new }
+        ensures { MakesLines result (activated self.old key.now) self.new }
     {
         let ids = KeyList::new(vec![in alloc; key.item.id]?);
         match self.keys.set_state(&ids, KeyState::Active, &[]) {
@@ -86,7 +86,7 @@ impl State {
 
     fn make_key(&mut self, alloc: Global, key: &PlanKey) -> Result<(), PlanError>
         requires { IsKeyLength (length key.now.item.bytes) }
-        ensures { Makes result (key_made self.old key.now) self.new }
+        ensures { MakesLines result (key_made self.old key.now) self.new }
     {
         self.load_line(alloc, key)?;
         match key.state {
@@ -97,7 +97,7 @@ impl State {
 
     fn create_line(&mut self, found: &PlanSa) -> Result<(), PlanError>
         requires { IsAssociation found.now }
-        ensures { Makes result (created self.old found.now) self.new }
+        ensures { MakesLines result (created self.old found.now) self.new }
     {
         match self
             .associations
@@ -110,7 +110,7 @@ impl State {
     }
 
     fn key_line(&mut self, found: &PlanSa) -> Result<(), PlanError>
-        ensures { Makes result (keyed self.old found.now) self.new }
+        ensures { MakesLines result (keyed self.old found.now) self.new }
     {
         let spi = found.sa.spi;
         let Ok(row) = self.associations.status(spi) else {
@@ -133,7 +133,7 @@ impl State {
     }
 
     fn start_line(&mut self, found: &PlanSa) -> Result<(), PlanError>
-        ensures { Makes result (started self.old found.now) self.new }
+        ensures { MakesLines result (started self.old found.now) self.new }
     {
         match self.associations.start(found.sa.spi) {
             Ok(()) => Ok(()),
@@ -143,7 +143,7 @@ impl State {
 
     fn make_association(&mut self, found: &PlanSa) -> Result<(), PlanError>
         requires { IsAssociation found.now }
-        ensures { Makes result (association_made self.old found.now) self.new }
+        ensures { MakesLines result (association_made self.old found.now) self.new }
     {
         self.create_line(found)?;
         self.key_line(found)?;
@@ -152,7 +152,7 @@ impl State {
 
     fn make_keys(&mut self, alloc: Global, keys: &[PlanKey]) -> Result<(), PlanError>
         requires { All (λ key. IsKeyLength (length key.item.bytes)) keys.now }
-        ensures { Makes result (keys_made self.old keys.now) self.new }
+        ensures { MakesLines result (keys_made self.old keys.now) self.new }
     {
         for key in keys {
             self.make_key(alloc, key)?;
@@ -168,7 +168,7 @@ impl State {
     ) -> Result<(), PlanError>
         requires keys { All (λ key. IsKeyLength (length key.item.bytes)) keys.now }
         requires associations { All IsAssociation associations.now }
-        ensures { Makes result (lines_made self.old keys.now associations.now) self.new }
+        ensures { MakesLines result (lines_made self.old keys.now associations.now) self.new }
     {
         let mut rest = keys;
         for found in associations {

@@ -12,8 +12,8 @@ use Rattle.ep_core.proofs.ComposeFacts.{master_length}
 use Rattle.ep_core.proofs.Steps.{step_loading, ok_too, opened_length}
 use Rattle.ep_core.proofs.rekeying.rekeying.Goals as goal
 
-pub opened-requires-clause-bytes : goal.opened-requires-clause-bytes
-opened-requires-clause-bytes c =
+pub open_text-requires-clause-bytes : goal.open_text-requires-clause-bytes
+open_text-requires-clause-bytes c =
     let there : key_row c.args.state.now c.args.master ≡ Some c.unwrap.result.1.now = sym (rw c.unwrap.ensures at c.find.ensures.row) in
     master_length c.args.state.now c.args.master c.unwrap.result.1.now c.requires.rules there (sym c.master_refusal.ensures ∙ c.in_default.is)
 

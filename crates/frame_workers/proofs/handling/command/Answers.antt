@@ -3,7 +3,7 @@ use Rattle.counter_table.specs.declared.view.View.{View}
 use Rattle.counter_table.specs.Worker.{view}
 use Rattle.record_io.specs.declared.records.Record.{Record}
 use Rattle.shared_unit.specs.Calls.{WithPosition}
-use Rattle.shared_unit.specs.Told.{told_by}
+use Rattle.shared_unit.specs.Told.{known_of_book}
 use Rattle.law_calls.specs.Answering.{Answered, AnsweredExactly}
 use Rattle.shared_unit.specs.Commanding.{IsCommanded}
 use Rattle.law_worker.specs.Order.{Layout}
@@ -17,7 +17,7 @@ pub returns-clause-answered : goal.returns-clause-answered
 returns-clause-answered g c layout begin segment b =
     let v : View = view c.args.worker.now in let w : View = view c.command-commanded.new.worker in let task : Record = c.args.task.now in
     let (found, given, visits, told) = c.command-commanded.ensures.commanded in
-    let handled = subst (λ (l : List ℕ). WithPosition c.command-commanded.result (told_by g.O.Site.trace g.O.Site.faults g.O.Site.put_faults given)
+    let handled = subst (λ (l : List ℕ). WithPosition c.command-commanded.result (known_of_book g.O.Site.trace g.O.Site.faults g.O.Site.put_faults given)
     (λ answer. IsCommanded g.O.Site.faults task.index l answer found given v.numbers w.numbers)) c.as_slice.ensures told in
     subst (Answered layout begin segment v w task) (sym c.commanded_answer.ensures)
     (commanding_answers g.O.Site.told g.O.Site.trace g.O.Site.faults g.O.Site.put_faults begin layout segment task v w found given b c.requires.ready.free c.requires.kind
@@ -28,7 +28,7 @@ returns-clause-exactly g c begin segment b =
     let v : View = view c.args.worker.now in let w : View = view c.command-commanded.new.worker in let task : Record = c.args.task.now in
     let apart : Layout = record { lane_of = λ i. 0; segment_of = λ i. 0 } in
     let (found, given, visits, told) = c.command-commanded.ensures.commanded in
-    let handled = subst (λ (l : List ℕ). WithPosition c.command-commanded.result (told_by g.O.Site.trace g.O.Site.faults g.O.Site.put_faults given)
+    let handled = subst (λ (l : List ℕ). WithPosition c.command-commanded.result (known_of_book g.O.Site.trace g.O.Site.faults g.O.Site.put_faults given)
     (λ answer. IsCommanded g.O.Site.faults task.index l answer found given v.numbers w.numbers)) c.as_slice.ensures told in
     subst (AnsweredExactly begin segment v w task) (sym c.commanded_answer.ensures)
     (commanding_exactly g.O.Site.told g.O.Site.trace g.O.Site.faults g.O.Site.put_faults begin apart segment task v w found given b c.requires.ready.free c.requires.kind

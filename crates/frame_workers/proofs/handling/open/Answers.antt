@@ -5,10 +5,10 @@ use Rattle.counter_table.specs.Worker.{view}
 use Rattle.record_io.specs.declared.answers.Answer.{Answer}
 use Rattle.record_io.specs.declared.records.Record.{Record}
 use Rattle.shared_unit.specs.Calls.{WithPosition}
-use Rattle.shared_unit.specs.Told.{told_by}
+use Rattle.shared_unit.specs.Told.{known_of_book}
 use Rattle.law_calls.specs.Answering.{Answered, AnsweredExactly}
-use Rattle.frame_checks.specs.Accepting.{Leaves, field_in}
-use Rattle.unit_book.specs.Records.{Opens, RefusesFrame}
+use Rattle.frame_checks.specs.Accepting.{LeavesOctets, field_in}
+use Rattle.unit_book.specs.Records.{OpensWithEntry, RefusesFrame}
 use Rattle.law_calls.specs.Answering.{opened_answer}
 use Rattle.law_calls.proofs.Openings.{opening_answers}
 use Rattle.law_calls.proofs.OpensExactly.{opens_exactly}
@@ -20,7 +20,7 @@ use Rattle.frame_workers.proofs.handling.open.Goals as goal
 
 pub returns-in_default-clause-answered : goal.returns-in_default-clause-answered
 returns-in_default-clause-answered g c layout begin segment b = subst (λ (a : Answer). Answered layout begin segment (view c.args.worker.now) (view c.args.worker.now) c.args.task.now (Some a))
-    (sym c.unserved.ensures) (unserved begin layout segment (view c.args.worker.now) c.args.task.now)
+    (sym c.answer_no_memory.ensures) (unserved begin layout segment (view c.args.worker.now) c.args.task.now)
 
 pub returns-clause-answered : goal.returns-clause-answered
 returns-clause-answered g c layout begin segment b =
@@ -28,9 +28,9 @@ returns-clause-answered g c layout begin segment b =
     let left : List ℕ = c.open_frame-opened.new.frame in
     let (found, given, visits, told) = c.open_frame-opened.ensures.opened in
     let same : c.as_mut_slice.result.now ≡ task.octets = c.as_mut_slice.ensures.value ∙ (c.in-Ok.ensures.items ∙ c.as_slice.ensures) in
-    let opened = subst (λ (l : List ℕ). WithPosition c.open_frame-opened.result (told_by g.O.Site.trace g.O.Site.faults g.O.Site.put_faults given)
+    let opened = subst (λ (l : List ℕ). WithPosition c.open_frame-opened.result (known_of_book g.O.Site.trace g.O.Site.faults g.O.Site.put_faults given)
     (λ answer. MatchResult answer
-    (λ told. Opens g.O.Site.faults task.index task.link l (field_in told.0 left) found given told.0 told.1 × Leaves told.0 l left)
+    (λ told. OpensWithEntry g.O.Site.faults task.index task.link l (field_in told.0 left) found given told.0 told.1 × LeavesOctets told.0 l left)
     (RefusesFrame g.O.Site.faults task.index task.link l found given))) same told in
     let long : length left ≡ length c.as_mut_slice.result.now = c.open_frame-opened.auto.frame in
     let size : length left ≡ length c.in-Ok.frame.items = long ∙ ap length c.as_mut_slice.ensures.value in
@@ -41,7 +41,7 @@ returns-clause-answered g c layout begin segment b =
 
 pub returns-in_default-clause-exactly : goal.returns-in_default-clause-exactly
 returns-in_default-clause-exactly g c begin segment b = subst (λ (a : Answer). AnsweredExactly begin segment (view c.args.worker.now) (view c.args.worker.now) c.args.task.now (Some a))
-    (sym c.unserved.ensures) (unserved_exactly begin segment (view c.args.worker.now) c.args.task.now)
+    (sym c.answer_no_memory.ensures) (unserved_exactly begin segment (view c.args.worker.now) c.args.task.now)
 
 pub returns-clause-exactly : goal.returns-clause-exactly
 returns-clause-exactly g c begin segment b =
@@ -49,9 +49,9 @@ returns-clause-exactly g c begin segment b =
     let left : List ℕ = c.open_frame-opened.new.frame in
     let (found, given, visits, told) = c.open_frame-opened.ensures.opened in
     let same : c.as_mut_slice.result.now ≡ task.octets = c.as_mut_slice.ensures.value ∙ (c.in-Ok.ensures.items ∙ c.as_slice.ensures) in
-    let opened = subst (λ (l : List ℕ). WithPosition c.open_frame-opened.result (told_by g.O.Site.trace g.O.Site.faults g.O.Site.put_faults given)
+    let opened = subst (λ (l : List ℕ). WithPosition c.open_frame-opened.result (known_of_book g.O.Site.trace g.O.Site.faults g.O.Site.put_faults given)
     (λ answer. MatchResult answer
-    (λ told. Opens g.O.Site.faults task.index task.link l (field_in told.0 left) found given told.0 told.1 × Leaves told.0 l left)
+    (λ told. OpensWithEntry g.O.Site.faults task.index task.link l (field_in told.0 left) found given told.0 told.1 × LeavesOctets told.0 l left)
     (RefusesFrame g.O.Site.faults task.index task.link l found given))) same told in
     let long : length left ≡ length c.as_mut_slice.result.now = c.open_frame-opened.auto.frame in
     let size : length left ≡ length c.in-Ok.frame.items = long ∙ ap length c.as_mut_slice.ensures.value in

@@ -15,7 +15,7 @@ use Rattle.frame_workers.proofs.handling.protect.Goals as goal
 
 pub returns-in_default-clause-answered : goal.returns-in_default-clause-answered
 returns-in_default-clause-answered g c layout begin segment b = subst (λ (a : Answer). Answered layout begin segment (view c.args.worker.now) (view c.args.worker.now) c.args.task.now (Some a))
-    (sym c.unserved.ensures) (unserved begin layout segment (view c.args.worker.now) c.args.task.now)
+    (sym c.answer_no_memory.ensures) (unserved begin layout segment (view c.args.worker.now) c.args.task.now)
 
 pub returns-clause-answered : goal.returns-clause-answered
 returns-clause-answered g c layout begin segment b =
@@ -32,7 +32,7 @@ returns-clause-answered g c layout begin segment b =
 
 pub returns-in_default-clause-exactly : goal.returns-in_default-clause-exactly
 returns-in_default-clause-exactly g c begin segment b = subst (λ (a : Answer). AnsweredExactly begin segment (view c.args.worker.now) (view c.args.worker.now) c.args.task.now (Some a))
-    (sym c.unserved.ensures) (unserved_exactly begin segment (view c.args.worker.now) c.args.task.now)
+    (sym c.answer_no_memory.ensures) (unserved_exactly begin segment (view c.args.worker.now) c.args.task.now)
 
 pub returns-clause-exactly : goal.returns-clause-exactly
 returns-clause-exactly g c begin segment b =

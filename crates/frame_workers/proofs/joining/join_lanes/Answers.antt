@@ -5,7 +5,7 @@ use Rattle.std.proofs.lemmas.List.Elements.{All-pop}
 use Rattle.counter_table.specs.Worker.{view}
 use Rattle.shared_unit.specs.Turn.{IsReady}
 use Rattle.law_worker.specs.Lanes.{Part}
-use Rattle.frame_workers.specs.Lanes.{AreApart, left_at, part_of, parts_of}
+use Rattle.frame_workers.specs.Lanes.{HaveOwnNumbers, left_at, part_of, parts_of}
 use Rattle.frame_workers.proofs.Joins.{parts_push, parts_all, joined_next, meet_next, answers_or, none_kept, keeps_next, pairs_pop}
 use Rattle.frame_workers.proofs.Places.{left_set, left_other}
 use Rattle.frame_workers.proofs.joining.join_lanes.Goals as goal
@@ -46,7 +46,7 @@ lanes-preserved g c =
     let met = c.join.ensures.joined in
     let ready = All-pop (λ lane. IsReady c.args.unit.now.counters c.args.unit.now.plan lane.worker × (lane.number < 16)) c.lanes.lanes.items left c.pop.result c.pop.ensures.items inv.ready in
     let one = subst (λ o. IfSome o (λ lane. IsReady c.args.unit.now.counters c.args.unit.now.plan lane.worker × (lane.number < 16))) c.in-Some.is ready.1 in
-    let apart = pairs_pop AreApart c.lanes.lanes.items left lane items inv.apart in
+    let apart = pairs_pop HaveOwnNumbers c.lanes.lanes.items left lane items inv.apart in
     let number : c.from-number.result ≡ lane.number = c.from-number.ensures in
     let many = inv.many in let below = one.1 in
     let low : c.from-number.result < length c.lanes.parts = omega arith in

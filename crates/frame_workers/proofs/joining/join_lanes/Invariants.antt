@@ -3,7 +3,7 @@ use Rattle.std.specs.List.{All, AllPairs}
 use Rattle.counter_table.specs.Worker.{view}
 use Rattle.shared_unit.specs.Turn.{IsReady}
 use Rattle.law_worker.specs.Lanes.{MeetAll, meeting_all}
-use Rattle.frame_workers.specs.Lanes.{AreApart, answers_of, left_at, parts_of}
+use Rattle.frame_workers.specs.Lanes.{HaveOwnNumbers, answers_of, left_at, parts_of}
 use Rattle.frame_workers.proofs.Joins.{answers_or}
 use Rattle.frame_workers.proofs.joining.join_lanes.Given as goal
 
@@ -11,7 +11,7 @@ abbrev pub invariant-lanes : goal.invariant-lanes
 invariant-lanes g l = record {
   is_ready : IsReady l.unit.counters l.unit.plan l.worker;
   ready : All (λ lane. IsReady l.unit.counters l.unit.plan lane.worker × (lane.number < 16)) l.lanes.items;
-  apart : AllPairs AreApart l.lanes.items;
+  apart : AllPairs HaveOwnNumbers l.lanes.items;
   many : length l.parts ≡ 16;
   joined : meeting_all (view l.worker) (parts_of l.lanes.items) ≡ meeting_all (view l.initial.worker) (parts_of l.initial.lanes.items);
   meet : MeetAll 512 (view l.worker) (parts_of l.lanes.items) → MeetAll 512 (view l.initial.worker) (parts_of l.initial.lanes.items);

@@ -6,8 +6,8 @@ use Rattle.std.proofs.lemmas.List.Quantifiers.{all_pairs_push}
 use Rattle.counter_table.specs.declared.view.View.{View}
 use Rattle.counter_table.specs.Worker.{view}
 use Rattle.shared_unit.specs.Turn.{IsReady}
-use Rattle.law_worker.specs.Lanes.{giving, is_of_lane}
-use Rattle.frame_workers.specs.Lanes.{AreApart, IsRoom, IsSplit, IsThere}
+use Rattle.law_worker.specs.Lanes.{giving_shares, is_of_lane}
+use Rattle.frame_workers.specs.Lanes.{HaveOwnNumbers, IsRoom, IsSplit, IsThere}
 use Rattle.frame_workers.proofs.Splits.{gives_more, starts_so, there_push, there_last, room_last, rooms_left}
 use Rattle.frame_workers.proofs.joining.split_lanes.Goals as goal
 
@@ -28,7 +28,7 @@ rooms-preserved g c =
     let used : list_any (is_of_lane c.len-number.result) c.args.records.now ≡ true = sym c.is_used.ensures ∙ c.if-not-is_used.false in
     record {
       is_ready = c.split-split.ensures.ready;
-      given = subst (λ (n : ℕ). view c.split-split.new.worker ≡ giving n base) (sym more)
+      given = subst (λ (n : ℕ). view c.split-split.new.worker ≡ giving_shares n base) (sym more)
           (gives_more base (view c.rooms.worker) (view c.split-split.new.worker) (length c.rooms.lanes.items) inv.given c.split-split.ensures.keeper);
       shares = inv.shares;
       many = omega arith;
@@ -43,8 +43,8 @@ rooms-preserved g c =
           }));
       above = subst (λ l. All (λ lane. length left ≤ lane.number) l) (sym pushed.items)
           (All-push (λ lane. length left ≤ lane.number) c.rooms.lanes.items _ (λ k d l. let a = inv.above k d l in omega arith) (omega arith));
-      apart = subst (λ l. AllPairs AreApart l) (sym pushed.items)
-          (all_pairs_push AreApart c.rooms.lanes.items _ inv.apart (λ k d l e. let a = inv.above k d l in absurd (omega arith)));
+      apart = subst (λ l. AllPairs HaveOwnNumbers l) (sym pushed.items)
+          (all_pairs_push HaveOwnNumbers c.rooms.lanes.items _ inv.apart (λ k d l e. let a = inv.above k d l in absurd (omega arith)));
       each = λ n low high there. elim (cases_eq (length left) n) [
         | inl is ↦ subst (IsThere n) (sym pushed.items) (there_last n c.rooms.lanes.items _ (number ∙ is))
         | inr off ↦ subst (IsThere n) (sym pushed.items) (there_push n c.rooms.lanes.items _ (inv.each n (omega arith) high there))

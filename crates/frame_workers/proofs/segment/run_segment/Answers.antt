@@ -10,7 +10,7 @@ use Rattle.law_worker.specs.Order.{Handled}
 use Rattle.law_worker.specs.Lanes.{MeetAll, meeting_all, parts_deeds}
 use Rattle.law_one_lane.specs.Alone.{ServedAlone}
 use Rattle.frame_workers.specs.Ends.{EndsSegment}
-use Rattle.frame_workers.specs.Lanes.{AreAmong, AreApart, HasRun, answers_of, left_at, parts_of}
+use Rattle.frame_workers.specs.Lanes.{AreAmong, HaveOwnNumbers, HasRun, answers_of, left_at, parts_of}
 use Rattle.frame_workers.proofs.Joins.{each_among}
 use Rattle.frame_workers.proofs.Segments.{slice_whole, by_flag, by_end, stops_same, new_apart, new_ready, joined_shares, all_handled, all_exactly, all_ends}
 use Rattle.frame_workers.proofs.segment.run_segment.Goals as goal
@@ -34,7 +34,7 @@ join_lanes-requires-clause-apart g c =
     let whole : take c.split_lanes.new.lanes.len (new ++ drop (length new) old) ≡ new = slice_whole c.split_lanes.new.lanes.len new old many c.split_lanes.new.lanes.ok.0 in
     let ran = subst (λ l. (k : ℕ) (d : _) → k < length l → HasRun (IsReady c.args.unit.now.counters c.args.unit.now.plan) g.O.Site.told rs (slice_index_or l k d) (slice_index_or new k d))
     c.as_mut_slice.ensures.value c.run_lanes.ensures.ran in
-    subst (λ l. AllPairs AreApart l) (sym whole) (new_apart (IsReady c.args.unit.now.counters c.args.unit.now.plan) g.O.Site.told rs base old new c.split_lanes.ensures.split c.split_lanes.ensures.apart c.split_lanes.ensures.each many ran)
+    subst (λ l. AllPairs HaveOwnNumbers l) (sym whole) (new_apart (IsReady c.args.unit.now.counters c.args.unit.now.plan) g.O.Site.told rs base old new c.split_lanes.ensures.split c.split_lanes.ensures.apart c.split_lanes.ensures.each many ran)
 
 pub look_back-requires-clause-two : goal.look_back-requires-clause-two
 look_back-requires-clause-two g c =

@@ -1,6 +1,6 @@
 use Rattle.std.proofs.Common.{◌≡◌, Ok, Some, None, Option, sym, ap, ◌∙◌}
 use Rattle.frame_shield.specs.declared.binding.Binding.{Binding}
-use Rattle.frame_checks.specs.Protecting.{Answer, protect_check}
+use Rattle.frame_checks.specs.ProtectingFrames.{Answer, protect_check}
 use Rattle.shared_unit.proofs.Checks.{bound_channel, bound_there, clear_channel}
 use Rattle.shared_unit.proofs.Places.{there_place}
 use Rattle.shared_unit.proofs.permitting.permit_in.Goals as goal

@@ -2,7 +2,7 @@ use Rattle.std.proofs.Common.{◌≡◌, ℕ, suc, ◌+◌, ◌/◌, List, ◌++
 use Rattle.counter_table.specs.Worker.{view}
 use Rattle.drill_frames.specs.declared.counts.Counts.{Counts}
 use Rattle.record_io.specs.declared.answers.Answer.{Answer}
-use Rattle.law_drill.specs.Drilled.{AreChunks, IsChunk, IsOpened}
+use Rattle.law_drill.specs.Drilled.{AreChunks, IsChunk, UnitIsOpened}
 use Rattle.unit_drill.proofs.running.counts_of.Goals as goal
 
 pub loop-chunk-preserved : goal.loop-chunk-preserved
@@ -47,8 +47,8 @@ pub returns : goal.returns
 returns g c =
     let sends = c.in_ok-open.ensures.1 in
     let receives = c.in_ok-open-2.ensures.1 in
-    let sender = subst (λ (plan : List ℕ). IsOpened plan sends.0 (view c.in_ok-open.field-0.worker)) c.sender_plan.ensures.lines sends.1 in
-    let receiver = subst (λ (plan : List ℕ). IsOpened plan receives.0 (view c.in_ok-open-2.field-0.worker)) c.receiver_plan.ensures.lines
+    let sender = subst (λ (plan : List ℕ). UnitIsOpened plan sends.0 (view c.in_ok-open.field-0.worker)) c.sender_plan.ensures.lines sends.1 in
+    let receiver = subst (λ (plan : List ℕ). UnitIsOpened plan receives.0 (view c.in_ok-open-2.field-0.worker)) c.receiver_plan.ensures.lines
     receives.1 in
     let chunks = c.loop-chunk.invariant.chunks sends.0 receives.0 sender.began receiver.began in
     let last : c.loop-chunk.chunk ≡ (c.args.number + 255) / 256 = omega arith in (

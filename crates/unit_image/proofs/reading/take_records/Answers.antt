@@ -1,7 +1,7 @@
 use Rattle.std.proofs.Common.{◌∙◌, subst}
 use Rattle.sdls_outside.specs.Moments.{Trace}
 use Rattle.disk_journal.specs.Image.{records}
-use Rattle.unit_image.specs.Opening.{Takes}
+use Rattle.unit_image.specs.OpeningImage.{TakesRecord}
 use Rattle.unit_image.proofs.Leading.{led_next}
 use Rattle.unit_image.proofs.reading.take_records.Goals as goal
 
@@ -12,7 +12,7 @@ loop-index-preserved g c = record {
   same = λ told. c.take_record.ensures.same told ∙ c.loop-index.invariant.same told;
   led = λ told. led_next c.args.state.now (records (g.O.Site.trace c.args.site.now).now.image) c.loop-index.index
       c.loop-index.state c.take_record.new.state (c.loop-index.invariant.led told)
-      (subst (λ (trace : Trace). Takes (records trace.now.image) c.loop-index.index c.loop-index.state c.take_record.new.state)
+      (subst (λ (trace : Trace). TakesRecord (records trace.now.image) c.loop-index.index c.loop-index.state c.take_record.new.state)
       (c.loop-index.invariant.same told) (c.in_ok-take_record.ensures.taken told));
   rules = c.take_record.ensures.rules;
 }

@@ -4,7 +4,7 @@ use Rattle.record_io.specs.declared.answers.Answer.{Answer}
 use Rattle.record_io.specs.Answers.{answer_octets}
 use Rattle.law_run_ends.specs.declared.end.RunEnd.{RunEnd}
 use Rattle.law_run_ends.specs.Account.{end_answer}
-use Rattle.law_run_segments.specs.Finishing.{IsToldEnd}
+use Rattle.law_run_segments.specs.Ending.{IsToldEnd}
 use Rattle.law_run_segments.specs.Refused.{refused_end}
 use Rattle.unit_session.proofs.running.refuse.Goals as goal
 

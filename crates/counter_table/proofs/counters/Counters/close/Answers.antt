@@ -1,6 +1,6 @@
 use Rattle.std.proofs.Common.{◌≡◌, ◌<◌, ℕ, ◌∙◌, sym, ap, subst, Some}
 use mathlib.Core.Option.{some-injective}
-use Rattle.counter_table.specs.Close.{Closes}
+use Rattle.counter_table.specs.Close.{ClosesCounters}
 use Rattle.counter_table.proofs.Ending.{closes}
 use Rattle.counter_table.proofs.counters.Counters.close.Goals as goal
 
@@ -27,5 +27,5 @@ returns g c =
     let book : end.0 ≡ c.in-Some.book = sym (inside c.in-Some.book end.0 same) in
     let nexts = c.nexts_of-nexts.result.items in
     let at_key = end.2 nexts (c.nexts_of-nexts.ensures.rows ∙ (c.into_parts-table.ensures.rows ∙ sym rows)) (λ row b. c.nexts_of-nexts.ensures.nexts row (subst (λ (k : ℕ). row < k) (rows ∙ sym c.into_parts-table.ensures.rows) b)) in
-    subst (λ (k : ℕ). Closes k c.args.worker.seat.me.0 (told c.in-Some.book) nexts) rows
-    (subst (λ (b : g.row.B.Denot). Closes c.into_parts-table.result.0.shared.key c.args.worker.seat.me.0 (told b) nexts) book at_key)
+    subst (λ (k : ℕ). ClosesCounters k c.args.worker.seat.me.0 (told c.in-Some.book) nexts) rows
+    (subst (λ (b : g.row.B.Denot). ClosesCounters c.into_parts-table.result.0.shared.key c.args.worker.seat.me.0 (told b) nexts) book at_key)

@@ -1,6 +1,6 @@
 use Rattle.std.proofs.Common.{rules, ◌≡◌, ◌<◌, ◌≤◌, ◌∙◌, ap, arith, subst, sym, get_or}
 use Rattle.counter_table.specs.Rule.{limit_at}
-use Rattle.counter_table.specs.Known.{mark_of}
+use Rattle.counter_table.specs.Known.{known_mark}
 use Rattle.counter_table.proofs.Holding.{lift_allows}
 use Rattle.counter_table.proofs.counters.Counters.max_to_lift.Goals as goal
 
@@ -15,5 +15,5 @@ fetch_max-requires g c =
       search rules,
       search rules,
       rw at (rw told.1 (lift_allows _ _ _ _ _ g.T.Told.of_row g.T.Told.number g.T.Told.marks below c.args.worker.now.alive c.requires.turn c.requires.filled
-          (λ r. subst (λ z. mark_of c.args.worker.now.seat.me.0.turn.known r ≤ get_or z r 1) told.2 (c.requires.marks r)) mark)),
+          (λ r. subst (λ z. known_mark c.args.worker.now.seat.me.0.turn.known r ≤ get_or z r 1) told.2 (c.requires.marks r)) mark)),
     )

@@ -3,7 +3,7 @@ use Rattle.counter_table.specs.declared.view.Opening.{Opening}
 use Rattle.counter_table.specs.declared.view.Turn.{Turn}
 use Rattle.counter_table.specs.Worker.{view}
 use Rattle.unit_book.specs.Book.{BookView}
-use Rattle.shared_unit.specs.Told.{told_by}
+use Rattle.shared_unit.specs.Told.{known_of_book}
 use Rattle.shared_unit.proofs.Kept.{level_of}
 use Rattle.shared_unit.proofs.Steps.{goes_itself, may_give, visits}
 use Rattle.shared_unit.proofs.Trust.{permitted}
@@ -36,7 +36,7 @@ pub returns-clause-trusted : goal.returns-clause-trusted
 returns-clause-trusted g c =
     let found : BookView g.row.O.Denot = c.take-held.result.book in
     let kept = c.permit_in-reply.ensures.kept in
-    permitted g.O.Site.trace g.O.Site.faults g.O.Site.put_faults _ c.args.link c.args.clear.now c.permit_in-reply.result found (told_by g.O.Site.trace g.O.Site.faults g.O.Site.put_faults found)
+    permitted g.O.Site.trace g.O.Site.faults g.O.Site.put_faults _ c.args.link c.args.clear.now c.permit_in-reply.result found (known_of_book g.O.Site.trace g.O.Site.faults g.O.Site.put_faults found)
     (view c.args.worker.now).turn (view c.give.new.worker).turn c.permit_in-reply.ensures.permits
     (level_of g.O.Site.told g.O.Site.trace g.O.Site.faults found kept)
     (visits g.O.Site.trace g.O.Site.faults g.O.Site.put_faults g.O.Site.told found found (view c.args.worker.now).turn (view c.take-held.new.worker).turn (view c.give.new.worker).turn

@@ -1,14 +1,14 @@
 use Rattle.std.proofs.Common.{sym, subst}
 use Rattle.unit_state.specs.Allows.{Allows}
 use Rattle.ep_core.specs.declared.need.Need.{Need}
-use Rattle.ep_core.specs.Seen.{Fits}
+use Rattle.ep_core.specs.Seen.{MeetsNeed}
 use Rattle.unit_book.specs.Book.{BookView}
 use Rattle.law_history.specs.Entries.{IsNeedOf}
 use Rattle.unit_book.proofs.MarksKept.{no_marks_kept}
 use Rattle.unit_book.proofs.book.Book.command.Goals as goal
 
 pub step_of-requires-clause-seen : goal.step_of-requires-clause-seen
-step_of-requires-clause-seen g c = subst (λ (b : BookView _). (need : Need) → IsNeedOf b.state c.args.pdu.now need → Fits b.state need c.args.seen)
+step_of-requires-clause-seen g c = subst (λ (b : BookView _). (need : Need) → IsNeedOf b.state c.args.pdu.now need → MeetsNeed b.state need c.args.seen)
     (sym c.self.view_is) c.requires.seen
 
 pub commit-requires-clause-marks : goal.commit-requires-clause-marks

@@ -30,7 +30,7 @@ returns-in-Err-SiteFault-clause-kept g c =
     let faults = g.O.Site.faults in
     let ready : Ready told trace faults _ c.args.entry = ready_of told trace faults c.args.self.now _ c.args.entry c.self.view_is
     (record { kept = c.requires.kept; can = c.requires.can; allows = c.requires.allows; keeps = c.requires.marks }) in
-    kept_left_out told trace faults _ _ c.append.new.site c.append.new.self c.args.entry ready c.in-Err-SiteFault.ensures.not_counted c.leave_out.ensures
+    kept_left_out told trace faults _ _ c.append.new.site c.append.new.self c.args.entry ready c.in-Err-SiteFault.ensures.not_counted c.note_failed.ensures
     (kept_failed told trace faults _ c.args.entry ready c.args.body.now c.append.new.site
     (record_of c.args.self.now _ c.args.entry c.args.body.now c.self.view_is c.requires.stored)
     (rw c.in-Err-SiteFault.field-0-is at c.in-Err-SiteFault.ensures.fault.cause).0 c.in-Err-SiteFault.ensures.fault.later
@@ -41,7 +41,7 @@ returns-in-Err-SiteFault-clause-made g c =
     let cause = (rw c.in-Err-SiteFault.field-0-is at c.in-Err-SiteFault.ensures.fault.cause) in (
       stored_true c.args.self.now.state c.args.entry c.requires.stored.0 c.requires.stored.1,
       c.requires.free,
-      rose_there g.O.Site.faults c.args.self.now _ _ c.append.new.site c.append.new.self c.args.entry c.self.view_is c.leave_out.ensures cause.0,
-      c.in-Err-SiteFault.count-is ∙ count_there g.O.Site.faults c.args.self.now _ _ c.append.new.site c.append.new.self c.args.entry _ c.self.view_is c.leave_out.ensures cause.1,
-      left_out_site c.args.self.now _ _ c.append.new.site c.append.new.self c.args.entry c.self.view_is c.in-Err-SiteFault.ensures.not_counted c.leave_out.ensures,
+      rose_there g.O.Site.faults c.args.self.now _ _ c.append.new.site c.append.new.self c.args.entry c.self.view_is c.note_failed.ensures cause.0,
+      c.in-Err-SiteFault.count-is ∙ count_there g.O.Site.faults c.args.self.now _ _ c.append.new.site c.append.new.self c.args.entry _ c.self.view_is c.note_failed.ensures cause.1,
+      left_out_site c.args.self.now _ _ c.append.new.site c.append.new.self c.args.entry c.self.view_is c.in-Err-SiteFault.ensures.not_counted c.note_failed.ensures,
     )

@@ -6,7 +6,7 @@ use Rattle.counter_table.specs.Worker.{view}
 use Rattle.law_worker.specs.Deeds.{Ascend}
 use Rattle.drill_frames.specs.Counting.{count_accepted, count_code, count_fields}
 use Rattle.drill_frames.specs.Frames.{open_tasks, replay_tasks}
-use Rattle.law_drill.specs.Drilled.{Serves}
+use Rattle.law_drill.specs.Drilled.{HandlesSegment}
 use Rattle.law_drill.proofs.Tasks.{OnLane, open_ascends, open_lanes, protect_ascends, protect_lanes, replay_lanes}
 use Rattle.unit_drill.proofs.chunk.Pair.serve_chunk.Goals as goal
 
@@ -55,11 +55,11 @@ returns-clause-chunk g c = λ one other began_one began_other.
         opened = opened;
         again = again;
         mid = view c.serve-2.new.self.worker;
-        protects = subst (λ (l : List Record). Serves one (view c.args.self.now.sender.worker) (view c.serve.new.self.worker) l sent)
+        protects = subst (λ (l : List Record). HandlesSegment one (view c.args.self.now.sender.worker) (view c.serve.new.self.worker) l sent)
             (c.deref.ensures.value ∙ c.in_ok-tasks.ensures.items) protects.0;
-        opens = subst (λ (l : List Record). Serves other (view c.args.self.now.receiver.worker) (view c.serve-2.new.self.worker) l opened)
+        opens = subst (λ (l : List Record). HandlesSegment other (view c.args.self.now.receiver.worker) (view c.serve-2.new.self.worker) l opened)
             (c.deref-3.ensures.value ∙ is_received) opens.0;
-        replays = subst (λ (l : List Record). Serves other (view c.serve-2.new.self.worker) (view c.serve-3.new.self.worker) l again)
+        replays = subst (λ (l : List Record). HandlesSegment other (view c.serve-2.new.self.worker) (view c.serve-3.new.self.worker) l again)
             (c.deref-5.ensures.value ∙ is_again) replays.0;
         protected = c.count_code-3.ensures.count ∙ ap (count_code 0) c.deref-11.ensures.value;
         accepted =

@@ -1,5 +1,0 @@
-use Rattle.std.proofs.Common.{refl}
-use Rattle.frame_checks.proofs.opening.judge.Goals as goal
-
-pub returns-in-BadMac-clause-judged : goal.returns-in-BadMac-clause-judged
-returns-in-BadMac-clause-judged c = λ number opened opens. c.in-BadMac.ensures.bad_mac.0 refl number opened opens

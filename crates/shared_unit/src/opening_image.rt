@@ -1,0 +1,109 @@
+//! The beginning of a unit.
+ghost use Rattle.std.specs.Prelude.{◌≡◌, ◌<◌, ◌≤◌, ◌^◌, ℕ, IsTrue, true, [], IfOk, IfErr, MatchResult};
+ghost use Rattle.sdls_outside.specs.Moments.{EachMoment};
+ghost use Rattle.disk_journal.specs.Changes.{OnlySyncs};
+ghost use Rattle.unit_image.specs.OpeningImage.{IsOpenCause, Opening};
+ghost use Rattle.unit_image.specs.Shows.{ShowsNone};
+ghost use Rattle.counter_table.specs.Known.{known_mark};
+ghost use Rattle.counter_table.specs.Worker.{view, IsOf};
+ghost use Rattle.unit_book.specs.Book.{BookView, IsKept};
+ghost use Rattle.shared_unit.specs.Sharing.{Begins, BookIsOpened, IsRaised};
+ghost use Rattle.shared_unit.specs.Told.{known_of_book};
+
+use crate::shelf::Shelf;
+use crate::unit::{Unit, Worker};
+use counter_table::{Counted, Counters, Held};
+use sdls_base::NoMemory;
+use sdls_outside::Site;
+use std::alloc::Global;
+use std::sync::Wait;
+use unit_book::Book;
+use unit_image::OpenFault;
+
+// A row for each key that a book can have.
+const ROWS: u16 = 512;
+
+// The site of a book that is not needed any more.
+fn site_of<O: Site>(book: Book<O>) -> O
+    ensures { result ≡ book.site }
+{
+    let (site, _entries) = book.into_site();
+    site
+}
+
+impl<O: Site> Unit<O> {
+    // Raises each word `next` to its row's mark, and lifts each limit there.
+    fn raise_all(&self, worker: &mut Worker<O>, held: &Held<Shelf<O>>)
+        requires own { IsOf self.now.counters worker.old }
+        requires turn { (view worker.old).turn.holds ≡ true }
+        requires filled { (view worker.old).turn.filled ≡ true }
+        requires known { (view worker.old).turn.known ≡ known_of_book O.trace O.faults O.put_faults held.now.book }
+        requires marks { (row : ℕ) → known_mark (known_of_book O.trace O.faults O.put_faults held.now.book) row ≤ 2 ^ 48 }
+        ensures own { IsOf self.now.counters worker.new }
+        ensures raised { IsRaised (known_of_book O.trace O.faults O.put_faults held.now.book) 512 (view worker.old) (view worker.new) }
+    {
+        for row in 0..ROWS {
+            let mark = held.book.mark(row);
+            self.counters.raise_next(worker, held, row, mark);
+            self.counters.lift(worker, held, row);
+        }
+    }
+
+    // A unit over a book that was opened, with all words at its marks. Where memory is wanting the site comes back.
+    fn share_book<R: Wait>(rt: &R, alloc: Global, book: Book<O>) -> Result<(Unit<O>, Worker<O>), O>
+        requires kept { IsKept O.told O.trace O.faults book }
+        requires first { book.log ≡ [] }
+        ensures made { IfOk result (λ made. Begins O.trace O.faults O.put_faults book made.0.counters made.0.plan made.1) }
+        ensures refused { IfErr result (λ site. site ≡ book.site) }
+    {
+        let plan = match book.plan().copy() {
+            Ok(plan) => plan,
+            Err(NoMemory) => return Err(site_of(book)),
+        };
+        let (counters, mut worker) = match Counters::new(alloc, ROWS) {
+            Ok(made) => made,
+            Err(NoMemory) => return Err(site_of(book)),
+        };
+        counters.fill(&mut worker, Shelf::new(book));
+        let unit = Unit { counters, plan };
+        let held = unit.counters.take(rt, &mut worker);
+        held.book.look();
+        unit.raise_all(&mut worker, &held);
+        unit.counters.give(&mut worker, held);
+        // For contracts alone: a worker that has all shares did all that was done.
+        let other = unit.split(&mut worker);
+        unit.join(&mut worker, other);
+        Ok((unit, worker))
+    }
+
+    /// Opens the image of a site, and makes the words of its keys: each word `next` and `limit` begins at its key's mark.
+    /// Answers the unit and its first worker, which has all shares. The refusals are those of [`Book::open`]; where memory
+    /// for the words is wanting, the site is as the opening left it.
+    pub fn open<R: Wait>(
+        rt: &R,
+        alloc: Global,
+        site: O,
+    ) -> Result<(Unit<O>, Worker<O>), (OpenFault, O)>
+        ensures opened { IfOk result (λ made. (book : BookView O) × BookIsOpened O.told O.trace O.faults O.put_faults site book
+            × Begins O.trace O.faults O.put_faults book made.0.counters made.0.plan made.1) }
+
+        // Only an image that shows no state is refused as one, and nothing is written then.
+        ensures refused { IfErr result (λ refused. IsOpenCause (O.faults site) (O.faults refused.1)
+            (λ offset. IsTrue O.told → ShowsNone (O.trace site).now.image offset
+            × OnlySyncs (O.trace site) (O.trace refused.1)) refused.0) }
+
+        // A crash at any moment leaves what one before may have left, or the image but for its closed gates.
+        ensures any_moment { IfErr result (λ refused. IsTrue O.told → EachMoment (O.trace site) (O.trace refused.1) (Opening (O.trace site))) }
+        ensures later { IfErr result (λ refused. O.faults site ≤ O.faults refused.1) }
+        ensures puts { IfErr result (λ refused. O.put_faults refused.1 ≡ O.put_faults site) }
+    {
+        let book = match Book::open(alloc, site) {
+            Ok(book) => book,
+            Err(refused) => return Err(refused),
+        };
+        match Unit::share_book(rt, alloc, book) {
+            Ok(made) => Ok(made),
+            Err(site) => Err((OpenFault::NoMemory, site)),
+        }
+    }
+}

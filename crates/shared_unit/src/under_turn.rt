@@ -1,0 +1,64 @@
+//! A frame that is protected under the turn.
+ghost use Rattle.std.specs.Prelude.{◌≡◌, ◌<◌, length, true, Some};
+ghost use Rattle.key_book.specs.KeyBook.{place_of};
+ghost use Rattle.frame_shield.specs.Binding.{IsBinding};
+ghost use Rattle.counter_table.specs.Known.{LowersNoMark};
+ghost use Rattle.counter_table.specs.Worker.{view, IsOf, IsSame};
+ghost use Rattle.unit_book.specs.Book.{IsKept};
+ghost use Rattle.shared_unit.specs.UnderTurn.{IsFinished};
+ghost use Rattle.shared_unit.specs.Going.{GoesUp};
+ghost use Rattle.shared_unit.specs.Told.{known_of_book};
+
+use crate::permit::{Done, Permit, Protected};
+use crate::shelf::Shelf;
+use crate::unit::{Unit, Worker};
+use counter_table::Held;
+use frame_shield::{fits, shield};
+use sdls_outside::Site;
+
+impl<O: Site> Unit<O> {
+    /// Protects a frame under a permit of the held book.
+    pub(crate) fn protect_under_turn(
+        &self,
+        worker: &mut Worker<O>,
+        held: &mut Held<Shelf<O>>,
+        permit: &Permit,
+        clear: &[u8],
+        out: &mut [u8],
+    ) -> Protected
+        requires own { IsOf self.now.counters worker.old }
+        requires turn { (view worker.old).turn.holds ≡ true }
+        requires filled { (view worker.old).turn.filled ≡ true }
+        requires marks { LowersNoMark (view worker.old).turn.known (known_of_book O.trace O.faults O.put_faults held.old.book) }
+        requires place { place_of held.old.book.state.keys permit.now.binding.key ≡ Some permit.now.row }
+        requires row { permit.now.row < 512 }
+        requires binding { IsBinding permit.now.binding }
+        requires kept { IsKept O.told O.trace O.faults held.old.book }
+        requires room { length out.old ≡ 2048 }
+        ensures same { IsSame worker.old worker.new }
+        ensures kept { IsKept O.told O.trace O.faults held.new.book }
+        ensures goes_on { GoesUp O.faults O.put_faults held.old.book held.new.book }
+        ensures step { IsFinished O.faults permit.now clear.now out.new result held.old.book held.new.book (view worker.old) (view worker.new) }
+    {
+        let key = permit.binding.key;
+        if let Err(fault) = fits(&permit.binding, clear) {
+            return Protected::Refused(fault, permit.epoch);
+        }
+        let ticket = match self.draw_below(worker, permit.row, key.end()) {
+            Ok(ticket) => ticket,
+            Err(number) => return Protected::Exhausted(key, number, permit.epoch),
+        };
+        let funded = match self.reserve_and_spend(worker, held, key, permit.row, ticket) {
+            Ok(funded) => funded,
+            Err(fault) => return Protected::Fault(fault, held.book.count()),
+        };
+        let number = funded.number();
+        let length = shield(&permit.binding, number, clear, out);
+        Protected::Done(Done {
+            key,
+            number,
+            epoch: permit.epoch,
+            length,
+        })
+    }
+}

@@ -1,0 +1,87 @@
+// The opening of a book.
+ghost use Rattle.std.specs.Prelude.{◌≡◌, ◌≤◌, IsTrue, Ok, IfOk, IfErr, MatchResult, [], vec_capacity};
+ghost use Rattle.sdls_outside.specs.Moments.{EachMoment};
+ghost use Rattle.disk_journal.specs.Changes.{OnlySyncs};
+ghost use Rattle.disk_journal.specs.Image.{held};
+ghost use Rattle.disk_journal.specs.Journal.{IsSettled};
+ghost use Rattle.unit_plan.specs.Plan.{plan_of};
+ghost use Rattle.unit_state.specs.State.{KeepsRules};
+ghost use Rattle.unit_image.specs.Shows.{Shows, ShowsNone};
+ghost use Rattle.unit_image.specs.OpeningImage.{HasOpenFault, IsOpenCause, Opening, SameJournal};
+ghost use Rattle.unit_book.specs.Book.{IsKept, begun};
+
+use crate::book::Book;
+use crate::limits::MOST_ENTRIES;
+use sdls_base::Entry;
+use sdls_outside::{Failed, Site};
+use std::alloc::Global;
+use std::snapshot::Snapshot;
+use unit_image::{OpenFault, Opened};
+
+/// Starts a run on the site, reserves the room for the entries, and opens the image.
+fn start<O: Site>(alloc: Global, site: &mut O) -> Result<(Opened, Vec<Entry>), OpenFault>
+    ensures room { IfOk result (λ begun. (begun.1.items ≡ []) × (MOST_ENTRIES ≤ vec_capacity begun.1)) }
+    ensures settled { IsTrue O.told → IfOk result (λ begun. IsSettled (O.trace site.new) begun.0.journal) }
+    ensures shows { IsTrue O.told → IfOk result (λ begun. Shows (O.trace site.old).now.image begun.0.state
+        × Shows (O.trace site.new).now.image begun.0.state
+        × SameJournal (O.trace site.old).now.image (O.trace site.new).now.image begun.0.journal) }
+    ensures plan { IsTrue O.told → IfOk result (λ begun.
+        plan_of (held (O.trace site.old).now.image).plan ≡ Ok begun.0.plan) }
+    ensures rules { IfOk result (λ begun. KeepsRules begun.0.state) }
+    ensures any_moment { IsTrue O.told → EachMoment (O.trace site.old) (O.trace site.new) (Opening (O.trace site.old)) }
+    ensures puts { O.put_faults site.new ≡ O.put_faults site.old }
+    ensures fault { HasOpenFault (O.faults site.old) (O.faults site.new)
+        (λ offset. IsTrue O.told → ShowsNone (O.trace site.old).now.image offset
+        × OnlySyncs (O.trace site.old) (O.trace site.new)) result }
+{
+    match site.begin() {
+        Ok(_) => {}
+        Err(Failed) => return Err(OpenFault::SiteFault(site.faults())),
+    }
+    let Ok(entries) = Vec::with_capacity(alloc, MOST_ENTRIES) else {
+        return Err(OpenFault::NoMemory);
+    };
+    match unit_image::open(alloc, site) {
+        Ok(found) => Ok((found, entries)),
+        Err(fault) => Err(fault),
+    }
+}
+
+impl<O: Site> Book<O> {
+    /// Opens the image of a site: starts a run on it, reserves the room for the entries, makes all checks of the image, and
+    /// brings its journal to rest.
+    ///
+    /// An answer `Image`, with the offset of the first check that fails, says that the image shows no state; nothing is
+    /// written then. Each other refusal is a fault of the site or want of memory.
+    pub fn open(alloc: Global, mut site: O) -> Result<Book<O>, (OpenFault, O)>
+        ensures kept { IfOk result (IsKept O.told O.trace O.faults) }
+        ensures begun { IfOk result (λ book.
+            book ≡ begun book.site (O.trace site).now.image book.plan book.start book.journal) }
+        // The image that was read, and the one that the opening left, show the state at the start.
+        ensures shows { IsTrue O.told → IfOk result (λ book. Shows (O.trace site).now.image book.start
+            × Shows (O.trace book.site).now.image book.start
+            × SameJournal (O.trace site).now.image (O.trace book.site).now.image book.journal) }
+        ensures plan { IsTrue O.told → IfOk result (λ book. plan_of (held (O.trace site).now.image).plan ≡ Ok book.plan) }
+
+        // Only an image that shows no state is refused as one, and nothing is written then.
+        ensures refused { IfErr result (λ refused. IsOpenCause (O.faults site) (O.faults refused.1)
+            (λ offset. IsTrue O.told → ShowsNone (O.trace site).now.image offset
+            × OnlySyncs (O.trace site) (O.trace refused.1)) refused.0) }
+
+        // A crash at any moment leaves what one before may have left, or the image but for its closed gates.
+        ensures any_moment { IsTrue O.told → MatchResult result
+            (λ book. EachMoment (O.trace site) (O.trace book.site) (Opening (O.trace site)))
+            (λ refused. EachMoment (O.trace site) (O.trace refused.1) (Opening (O.trace site))) }
+        ensures puts { MatchResult result (λ book. O.put_faults book.site ≡ O.put_faults site)
+            (λ refused. O.put_faults refused.1 ≡ O.put_faults site) }
+        ensures later { MatchResult result (λ book. O.faults site ≤ O.faults book.site)
+            (λ refused. O.faults site ≤ O.faults refused.1) }
+        ensures stood { IfOk result (λ book. O.faults book.site ≡ O.faults site) }
+    {
+        let taken = Snapshot::of(&site);
+        match start(alloc, &mut site) {
+            Ok((found, entries)) => Ok(Book::new(site, taken, found, entries)),
+            Err(fault) => Err((fault, site)),
+        }
+    }
+}

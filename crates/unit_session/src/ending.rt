@@ -1,0 +1,107 @@
+// The end of a run: the release of what was not used, and End.
+ghost use Rattle.std.specs.Prelude.{◌≡◌, ◌↔◌, ◌<◌, ◌≤◌, ℕ, IsTrue, length, slice_index};
+ghost use Rattle.sdls_outside.specs.Faults.{Rose};
+ghost use Rattle.unit_book.specs.Book.{BookView, IsKept};
+ghost use Rattle.law_run_ends.specs.Account.{end_answer};
+ghost use Rattle.law_run_segments.specs.Ending.{Finishes, IsToldEnd, PutsEnd};
+
+use law_run_ends::RunEnd;
+use record_io::status::SITE_FAULT;
+use record_io::{Answer, Outcome, answer_header, code};
+use sdls_base::Octets;
+use sdls_outside::Site;
+use std::alloc::Global;
+use unit_book::{Book, BookFault};
+
+/// Whether a count of faults rose.
+fn rose(before: u64, now: u64) -> bool
+    requires { before ≤ now }
+    ensures { IsTrue result ↔ Rose before now }
+{
+    now > before || now == u64::MAX
+}
+
+/// The end that is told: a fault of the site that came before all answers were put; else what came; and behind an input that
+/// ended, what the release met.
+pub(crate) fn told_end(
+    before: u64,
+    last: u64,
+    now: u64,
+    came: RunEnd,
+    released: Result<(), BookFault>,
+) -> RunEnd
+    requires last { before ≤ last }
+    requires now { last ≤ now }
+    ensures { IsToldEnd before last now came released result }
+{
+    if rose(before, last) {
+        return RunEnd::SiteFault(last);
+    }
+    if came != RunEnd::Ended {
+        return came;
+    }
+    if rose(last, now) {
+        return RunEnd::SiteFault(now);
+    }
+    if released == Err(BookFault::SessionFull) {
+        return RunEnd::SessionFull;
+    }
+    RunEnd::Ended
+}
+
+/// The End answer.
+pub(crate) fn answer_of(alloc: Global, end: RunEnd, entries: u64) -> Answer
+    ensures { result ≡ end_answer end entries }
+{
+    Answer {
+        code: code::END,
+        detail: end.status(),
+        key: 0,
+        position: entries,
+        number: end.number(),
+        body: Octets::new(Vec::new(alloc)),
+    }
+}
+
+/// Puts End, and answers the status. Where a put failed before, nothing is put.
+fn put_end<O: Site>(alloc: Global, book: &mut Book<O>, came: RunEnd, told: RunEnd) -> u8
+    requires kept { IsKept O.told O.trace O.faults book.old }
+    ensures kept { IsKept O.told O.trace O.faults book.new }
+    ensures ends { PutsEnd O.told O.trace O.faults O.put_faults came told book.old book.new result }
+{
+    if came == RunEnd::PutFailed {
+        return SITE_FAULT;
+    }
+    let answer = answer_of(alloc, told, book.count());
+    match book.put(&answer_header(&answer)) {
+        Ok(()) => told.status(),
+        Err(_) => SITE_FAULT,
+    }
+}
+
+/// Releases what the run did not use, and puts End. `before` is the site's count of faults before the run, `words` the rows'
+/// words `next`.
+pub fn finish<O: Site>(
+    alloc: Global,
+    mut book: Book<O>,
+    words: &[u64],
+    before: u64,
+    came: RunEnd,
+) -> Outcome<O>
+    requires kept { IsKept O.told O.trace O.faults book }
+    requires words { length book.state.keys ≤ length words.now }
+    requires some { (place : ℕ) → place < length book.state.keys → 1 ≤ slice_index words.now place }
+    requires later { before ≤ O.faults book.site }
+    ensures finishes { Finishes O.told O.trace O.faults O.put_faults before words.now came book result.site result.entries.items result.status }
+{
+    let last = book.faults();
+    let released = book.release(words);
+    let told = told_end(before, last, book.faults(), came, released);
+    let status = put_end(alloc, &mut book, came, told);
+    let (site, entries) = book.into_site();
+    Outcome {
+        status,
+        site,
+        entries,
+    }
+}
