@@ -1,4 +1,4 @@
--- AOS Transfer Frame (CCSDS 732.0-B).
+-- AOS Transfer Frame (CCSDS 732.0-B-4).
 use Rattle.std.specs.Prelude.{◌≡◌, ℕ, ◌+◌, ◌^◌, ◌<◌, ◌≤◌, Bool, List, [], ◌∷◌, ◌++◌, length, Option, option_copied, unwrap_or}
 use Rattle.sdls_base.specs.declared.layout.AosLayout.{AosLayout}
 use Rattle.sdls_base.specs.ControlField.{IsControlField}

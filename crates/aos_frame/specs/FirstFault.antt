@@ -1,4 +1,4 @@
--- The checks of an AOS transfer frame, in their order (profile; the layout is that of CCSDS 732.0-B).
+-- The checks of an AOS transfer frame, in their order (profile; the layout is that of CCSDS 732.0-B-4).
 use Rattle.std.specs.Prelude.{ℕ, ◌/◌, ◌%◌, not, ◌==◌, nat_lt, List, [], ◌∷◌, length, slice_index, Option}
 use Rattle.sdls_base.specs.declared.layout.AosLayout.{AosLayout}
 use Rattle.sdls_base.specs.declared.layout.FrameFault.{FrameFault}

@@ -1,4 +1,5 @@
--- The numbers of states, directions and suites in a record (the states are those of CCSDS 355.1-B; the numbers are profile).
+-- The numbers of states, directions and suites in a record (the states are those of CCSDS 355.1-B-1; the numbers are
+-- profile).
 use Rattle.std.specs.Prelude.{ℕ, Option, Some, None}
 use Rattle.sdls_base.specs.declared.states.Direction.{Direction}
 use Rattle.sdls_base.specs.declared.states.Direction.TheVariants.{Send, Receive}

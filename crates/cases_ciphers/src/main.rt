@@ -91,7 +91,7 @@ fn products() -> u32 {
     agreed
 }
 
-/// The register, bit by bit (CCSDS 232.0-B, Frame Error Control Field).
+/// The register, bit by bit (CCSDS 232.0-B-4, Frame Error Control Field).
 fn register(octets: &[u8]) -> u16 {
     let mut register = 0xFFFFu16;
     for octet in octets {

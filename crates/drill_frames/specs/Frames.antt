@@ -19,8 +19,8 @@ field_octets number count = map (field_octet number) (range_with_len 0 count)
 abbrev pub data_field : ℕ → List ℕ
 data_field number = field_octets number FIELD_LENGTH
 
--- A TC transfer frame in clear (CCSDS 232.0-B): version and flags 0, spacecraft 1, the virtual channel, 36 as the length field,
--- the sequence number, the data field.
+-- A TC transfer frame in clear (CCSDS 232.0-B-4): version and flags 0, spacecraft 1, the virtual channel, 36 as the
+-- length field, the sequence number, the data field.
 abbrev pub clear_frame : ℕ → List ℕ
 clear_frame number = 0 ∷ 1 ∷ 4 * (number % LANES) ∷ 36 ∷ (number % 256) ∷ data_field number
 

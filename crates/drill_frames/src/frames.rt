@@ -33,8 +33,8 @@ pub fn data_field(number: u64) -> [u8; FIELD_LENGTH]
     field
 }
 
-/// A TC transfer frame in clear (CCSDS 232.0-B): version and flags 0, spacecraft 1, the virtual channel that goes with the lane,
-/// 36 as the length field, the sequence number, the data field.
+/// A TC transfer frame in clear (CCSDS 232.0-B-4): version and flags 0, spacecraft 1, the virtual channel that goes
+/// with the lane, 36 as the length field, the sequence number, the data field.
 pub fn clear_frame(alloc: Global, number: u64) -> Result<Octets, NoMemory>
     ensures { IfOk result (λ frame. frame ≡ clear_frame number) }
 {

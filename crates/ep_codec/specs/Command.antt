@@ -1,4 +1,5 @@
--- The commands of the procedures, as messages (the procedures are those of CCSDS 355.1-B; tags and layouts are profile).
+-- The commands of the procedures, as messages (the procedures are those of CCSDS 355.1-B-1; tags and layouts are
+-- profile).
 use Rattle.std.specs.Prelude.{◌≡◌, ⊤, ℕ, ◌*◌, ◌^◌, ◌<◌, ◌≤◌, IsTrue, List, ◌∷◌, ◌++◌, length}
 use Rattle.std.specs.List.{flat_map, AllByRecursion}
 use Rattle.std.specs.Int.{w16, w64, to_be_bytes, is_in_range}

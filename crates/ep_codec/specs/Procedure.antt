@@ -1,4 +1,4 @@
--- The procedures of the key and association management (the procedures are those of CCSDS 355.1-B; tags, layouts and
+-- The procedures of the key and association management (the procedures are those of CCSDS 355.1-B-1; tags, layouts and
 -- lengths are profile).
 use Rattle.std.specs.Prelude.{ℕ, ◌-◌, ◌%◌, ◌==◌, ◌&&◌, ◌||◌, nat_lt, if◌then◌else◌, Bool, List, [], ◌∷◌, Option, None, find}
 use Rattle.std.specs.Int.{is_in_range}

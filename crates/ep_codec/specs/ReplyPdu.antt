@@ -1,4 +1,5 @@
--- The replies of the procedures, as messages (the procedures are those of CCSDS 355.1-B; tags and layouts are profile).
+-- The replies of the procedures, as messages (the procedures are those of CCSDS 355.1-B-1; tags and layouts are
+-- profile).
 use Rattle.std.specs.Prelude.{◌≡◌, ⊤, ℕ, ◌^◌, ◌<◌, ◌≤◌, IsTrue, not, List, [], ◌∷◌, ◌++◌, length, IfSome, unwrap_or}
 use Rattle.std.specs.List.{flat_map, AllByRecursion}
 use Rattle.std.specs.Int.{w16, w32, w64, to_be_bytes}

@@ -4,7 +4,7 @@ ghost use Rattle.ep_codec.specs.CommandReading.{command_procedure};
 use crate::procedure::Procedure;
 use sdls_base::{KeyId, KeyList, NewSa, Octets, Spi};
 
-/// A command of a procedure of the key and association management (CCSDS 355.1-B). The bounds are profile.
+/// A command of a procedure of the key and association management (CCSDS 355.1-B-1). The bounds are profile.
 #[derive(Debug, PartialEq, Eq, Drop)]
 pub enum Command {
     /// Loads the keys that are sealed under a master key, by GCM: 19 to 280 octets.

@@ -1,5 +1,5 @@
 //! Procedure messages of the key and association management: the commands and replies by which the Extended Procedures
-//! (CCSDS 355.1-B) load, activate and destroy keys and create, rekey and delete security associations over the link.
+//! (CCSDS 355.1-B-1) load, activate and destroy keys and create, rekey and delete security associations over the link.
 //! The procedures are the standard's by purpose; tags and layouts are profile.
 //!
 //! [`read_pdu`] and [`read_reply`] take octets apart, or name the offset of the first fault. [`write_pdu`] and

@@ -4,7 +4,7 @@ ghost use Rattle.ep_codec.specs.ReplyReading.{reply_procedure};
 use crate::procedure::Procedure;
 use sdls_base::{Direction, KeyId, KeyRows, Octets, SaState, Spi, Suite};
 
-/// The reply of a procedure (CCSDS 355.1-B). One that carries nothing says that the command was done.
+/// The reply of a procedure (CCSDS 355.1-B-1). One that carries nothing says that the command was done.
 /// The bounds are profile.
 #[derive(Debug, PartialEq, Eq, Drop)]
 pub enum ReplyPdu {

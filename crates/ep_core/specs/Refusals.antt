@@ -1,4 +1,4 @@
--- The refusals of each command, in their order; the first that applies is told (CCSDS 355.1-B; order profile).
+-- The refusals of each command, in their order; the first that applies is told (CCSDS 355.1-B-1; order profile).
 use Rattle.std.specs.Prelude.{ℕ, ◌+◌, Bool, true, false, not, List, [], ◌∷◌, ◌++◌, length, Option, Some, None, is_none}
 use Rattle.std.specs.List.{flat_map}
 use Rattle.std.specs.Option.{option_map, option_map_or, option_and_then}

@@ -1,4 +1,4 @@
--- The step of a procedure: what a command changes in a state, and its reply (CCSDS 355.1-B; profile).
+-- The step of a procedure: what a command changes in a state, and its reply (CCSDS 355.1-B-1; profile).
 use Rattle.std.specs.Prelude.{◌≡◌, ⊤, ℕ, ◌+◌, List, [], length, Option, Some, None, MatchOption, IsSomeAnd}
 use Rattle.std.specs.List.{flat_map}
 use Rattle.std.specs.Option.{option_map_or}

@@ -1,4 +1,4 @@
-//! What a command of the key and association management does (CCSDS 355.1-B; order of refusals profile): decided from
+//! What a command of the key and association management does (CCSDS 355.1-B-1; order of refusals profile): decided from
 //! a state and from what was seen of one key's numbers, and put down as a change and a reply. Nothing here changes a
 //! state.
 //!

@@ -1,4 +1,5 @@
--- What a frame's header says of where it belongs (CCSDS 232.0-B, 132.0-B and 732.0-B, Transfer Frame Primary Header).
+-- What a frame's header says of where it belongs (CCSDS 232.0-B-4, 132.0-B-3 and 732.0-B-4, Transfer Frame Primary
+-- Header).
 use Rattle.std.specs.Prelude.{◌≡◌, ℕ, ◌+◌, ◌*◌, ◌/◌, ◌%◌, ◌^◌, ◌==◌, nat_lt, Bool, false, if◌then◌else◌, List, length, slice_index, Option, Some, None}
 use Rattle.sdls_base.specs.declared.link.AnyLayout.{AnyLayout}
 use Rattle.sdls_base.specs.declared.link.AnyLayout.TheVariants.{Tc, Tm, Aos}

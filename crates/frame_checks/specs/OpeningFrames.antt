@@ -1,4 +1,4 @@
--- The checks of a frame that is to be opened (CCSDS 355.0-B, ProcessSecurity; order profile).
+-- The checks of a frame that is to be opened (CCSDS 355.0-B-2, ProcessSecurity; order profile).
 use Rattle.std.specs.Prelude.{◌≡◌, ℕ, ◌==◌, ◌||◌, nat_lt, not, if◌then◌else◌, List, [], ◌∷◌, length, take, Option, Some, None, is_some, is_none, MatchOption}
 use Rattle.std.specs.List.{list_any}
 use Rattle.std.specs.Int.{w16, from_be_bytes}

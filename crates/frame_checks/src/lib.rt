@@ -1,5 +1,5 @@
-//! What a unit's state says of one frame (CCSDS 355.0-B, ApplySecurity and ProcessSecurity; the order of the checks is
-//! profile).
+//! What a unit's state says of one frame (CCSDS 355.0-B-2, ApplySecurity and ProcessSecurity; the order of the checks
+//! is profile).
 //!
 //! `binding` makes the checks of a frame that is to be protected, up to the association that sends it, and `channel` those
 //! of them for which the plan is enough. `open_frame`

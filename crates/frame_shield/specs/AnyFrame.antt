@@ -1,4 +1,4 @@
--- A transfer frame of one of three kinds: TC (CCSDS 232.0-B), TM (132.0-B) or AOS (732.0-B).
+-- A transfer frame of one of three kinds: TC (CCSDS 232.0-B-4), TM (132.0-B-3) or AOS (732.0-B-4).
 use Rattle.std.specs.Prelude.{ℕ, List, [], Option}
 use Rattle.sdls_base.specs.declared.layout.FrameFault.{FrameFault}
 use Rattle.tc_frame.specs.TcFrame as tc_frames

@@ -1,4 +1,4 @@
--- Frames opened (CCSDS 355.0-B, ProcessSecurity).
+-- Frames opened (CCSDS 355.0-B-2, ProcessSecurity).
 use Rattle.std.specs.Prelude.{◌≡◌, ℕ, ◌+◌, ◌≤◌, List, length, take, drop, slice_range}
 use Rattle.std.specs.Int.{w16, to_be_bytes}
 use Rattle.sdls_base.specs.Suite.{overhead_of}

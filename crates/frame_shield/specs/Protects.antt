@@ -1,4 +1,4 @@
--- Frames protected (CCSDS 355.0-B, ApplySecurity).
+-- Frames protected (CCSDS 355.0-B-2, ApplySecurity).
 use Rattle.std.specs.Prelude.{◌≡◌, ℕ, List}
 use Rattle.sdls_header.specs.SecurityHeader.{Pieces}
 use Rattle.frame_shield.specs.declared.binding.Binding.{Binding}

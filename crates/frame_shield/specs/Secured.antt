@@ -1,4 +1,4 @@
--- The room of a protected frame: security header, text, MAC (CCSDS 355.0-B, Security Header and Security Trailer).
+-- The room of a protected frame: security header, text, MAC (CCSDS 355.0-B-2, Security Header and Security Trailer).
 use Rattle.std.specs.Prelude.{◌≡◌, ℕ, ◌++◌, List}
 use Rattle.std.specs.Int.{w64, to_be_bytes}
 use Rattle.cmac.specs.Cmac.{mac}

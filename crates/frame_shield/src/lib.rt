@@ -1,4 +1,4 @@
-//! One transfer frame protected and opened by the Space Data Link Security Protocol (CCSDS 355.0-B).
+//! One transfer frame protected and opened by the Space Data Link Security Protocol (CCSDS 355.0-B-2).
 //!
 //! `shield` makes the protected frame of a clear one, under a number that serves once. `unshield` is its other
 //! direction, where the MAC is right. `fits` says beforehand whether a clear frame has its layout. Which numbers were

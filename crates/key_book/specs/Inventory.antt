@@ -1,4 +1,4 @@
--- The inventory of keys (CCSDS 355.1-B, key inventory; bounds profile).
+-- The inventory of keys (CCSDS 355.1-B-1, key inventory; bounds profile).
 use Rattle.std.specs.Prelude.{◌≡◌, ℕ, ◌&&◌, nat_le, List, length, map, filter, take, IsPermutation}
 use Rattle.std.specs.List.Sorted.{IsNonDecreasingBy}
 use Rattle.sdls_base.specs.declared.states.KeyState.{KeyState}

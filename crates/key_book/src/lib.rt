@@ -1,4 +1,4 @@
-//! The keys of a unit (CCSDS 355.1-B, key management): their octets, states and digests, and the numbers that each
+//! The keys of a unit (CCSDS 355.1-B-1, key management): their octets, states and digests, and the numbers that each
 //! may have been used with.
 //!
 //! A `KeyBook` is seen as the list of its rows in the order of loading. A row never changes its place, and stays when

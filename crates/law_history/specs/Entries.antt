@@ -1,4 +1,4 @@
--- The entries that frames and commands make (CCSDS 355.0-B, ProcessSecurity; 355.1-B, procedures; numbers profile).
+-- The entries that frames and commands make (CCSDS 355.0-B-2, ProcessSecurity; 355.1-B-1, procedures; numbers profile).
 use Rattle.std.specs.Prelude.{◌≡◌, ℕ, ◌+◌, ◌-◌, min, nat_lt, if◌then◌else◌, ◌⊎◌, List, Some}
 use Rattle.sdls_base.specs.KeyId.{end_of}
 use Rattle.sdls_base.specs.declared.change.Change.{Change}

@@ -1,4 +1,4 @@
--- All checks of a frame that is to be protected (CCSDS 355.0-B, ApplySecurity; order profile).
+-- All checks of a frame that is to be protected (CCSDS 355.0-B-2, ApplySecurity; order profile).
 use Rattle.std.specs.Prelude.{ℕ, List, Some, None, Ok, Err}
 use Rattle.std.specs.Option.{option_map_or}
 use Rattle.unit_plan.specs.PlanLines.{PlanLines}

@@ -1,4 +1,4 @@
--- The anti-replay window (CCSDS 355.0-B, anti-replay sequence number; widths and ends profile).
+-- The anti-replay window (CCSDS 355.0-B-2, anti-replay sequence number; widths and ends profile).
 use Rattle.std.specs.Prelude.{ℕ, ◌+◌, ◌<◌, ◌≤◌, ⊤, List, [], ◌∷◌}
 use Rattle.replay_window.specs.declared.window.Window.{Window}
 

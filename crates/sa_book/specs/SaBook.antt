@@ -1,4 +1,4 @@
--- The rows of a book of security associations, ascending by index (CCSDS 355.0-B, Security Associations).
+-- The rows of a book of security associations, ascending by index (CCSDS 355.0-B-2, Security Associations).
 use Rattle.std.specs.Prelude.{◌≡◌, ℕ, ◌+◌, ◌<◌, ◌≤◌, Bool, true, false, not, ◌&&◌, ◌==◌, nat_lt, if◌then◌else◌, List, length, map, filter, insert, Option, Some, position, All, AllPairs, Contains}
 use Rattle.std.specs.List.{find, list_any, filter_map, position_or_len}
 use Rattle.std.specs.Option.{option_map}

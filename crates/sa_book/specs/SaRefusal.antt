@@ -1,4 +1,4 @@
--- Which refusal comes first (CCSDS 355.1-B, SA management; order profile).
+-- Which refusal comes first (CCSDS 355.1-B-1, SA management; order profile).
 use Rattle.std.specs.Prelude.{◌≡◌, ℕ, ◌⊎◌, Bool, true, false, not, ◌&&◌, ◌==◌, nat_lt, nat_le, List, [], ◌∷◌, length, Option, Some, None, is_some}
 use Rattle.std.specs.List.{find, list_any}
 use Rattle.std.specs.Option.{option_map, option_map_or}

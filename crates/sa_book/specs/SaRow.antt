@@ -1,4 +1,4 @@
--- A security association (CCSDS 355.0-B, Security Associations; bounds and numbers profile).
+-- A security association (CCSDS 355.0-B-2, Security Associations; bounds and numbers profile).
 use Rattle.std.specs.Prelude.{◌≡◌, ℕ, ◌-◌, ◌<◌, ◌↔◌, Option, Some, None, IfSome, IsNone}
 use Rattle.sdls_base.specs.Bounds.{AreChannels, IsWidth}
 use Rattle.sdls_base.specs.KeyId.{class_of, end_of}

@@ -1,4 +1,5 @@
--- The operational control field of TM and AOS transfer frames, 4 octets (CCSDS 132.0-B and 732.0-B, Operational Control Field).
+-- The operational control field of TM and AOS transfer frames, 4 octets (CCSDS 132.0-B-3 and 732.0-B-4, Operational
+-- Control Field).
 use Rattle.std.specs.Prelude.{◌≡◌, ℕ, ◌-◌, Bool, if◌then◌else◌, List, length, take, drop, Option, Some, None}
 use Rattle.std.specs.Option.{option_map}
 

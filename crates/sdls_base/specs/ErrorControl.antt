@@ -1,4 +1,4 @@
--- The frame error control field (CCSDS 232.0-B, 132.0-B and 732.0-B, Frame Error Control Field).
+-- The frame error control field (CCSDS 232.0-B-4, 132.0-B-3 and 732.0-B-4, Frame Error Control Field).
 -- A polynomial over GF(2) is seen as the number whose bit i is the coefficient of x^i: bit_xor adds, and * 2 ^ k
 -- multiplies by x^k.
 use Rattle.std.specs.Prelude.{◌≡◌, ℕ, ◌+◌, ◌-◌, ◌*◌, ◌^◌, ◌<◌, nat_lt, if◌then◌else◌, Bool, true, false, not, ◌&&◌, List, [], ◌∷◌, ◌++◌, length, take, drop, fold, bit_xor}

@@ -1,4 +1,5 @@
--- The first check of a list that fails, whatever it tells. (CCSDS 355.0-B and 355.1-B leave the order of checks to the profile.)
+-- The first check of a list that fails, whatever it tells. (CCSDS 355.0-B-2 and 355.1-B-1 leave the order of checks to
+-- the profile.)
 use Rattle.std.specs.Prelude.{Bool, true, false, if◌then◌else◌, List, [], ◌∷◌, Option, Some, None}
 
 -- a check: whether it fails, and what it tells then

@@ -1,4 +1,4 @@
--- What a link says of its transfer frames (CCSDS 355.0-B, authentication bit mask; lengths and usual masks profile).
+-- What a link says of its transfer frames (CCSDS 355.0-B-2, authentication bit mask; lengths and usual masks profile).
 use Rattle.std.specs.Prelude.{◌≡◌, ℕ, ◌+◌, ◌≤◌, Bool, true, false, List, [], ◌∷◌, take}
 use Rattle.sdls_base.specs.declared.link.AnyLayout.{AnyLayout}
 use Rattle.sdls_base.specs.declared.link.AnyLayout.TheVariants.{Tc, Tm, Aos}

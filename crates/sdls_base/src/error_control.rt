@@ -128,7 +128,7 @@ fn with_four(register: u16, a: u8, b: u8, c: u8, d: u8) -> u16
         ^ from_zeros(d)
 }
 
-/// The frame error control field over `octets` (CCSDS 232.0-B, 132.0-B and 732.0-B, Frame Error Control Field):
+/// The frame error control field over `octets` (CCSDS 232.0-B-4, 132.0-B-3 and 732.0-B-4, Frame Error Control Field):
 /// generator x^16 + x^12 + x^5 + 1, register preset to ones, most significant bit first.
 pub fn fecf(octets: &[u8]) -> u16
     ensures register { result ≡ frame_error_control octets.now }

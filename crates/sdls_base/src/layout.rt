@@ -26,7 +26,7 @@ pub enum FrameFault {
     Fecf = 7,
 }
 
-/// What a link says of its TC transfer frames (CCSDS 232.0-B).
+/// What a link says of its TC transfer frames (CCSDS 232.0-B-4).
 #[derive(Clone, Copy, Debug, PartialEq, Eq)]
 pub struct TcLayout {
     /// Frames without the control command flag have a segment header.
@@ -37,7 +37,7 @@ pub struct TcLayout {
     pub most: u16,
 }
 
-/// What a link says of its TM transfer frames (CCSDS 132.0-B).
+/// What a link says of its TM transfer frames (CCSDS 132.0-B-3).
 #[derive(Clone, Copy, Debug, PartialEq, Eq)]
 pub struct TmLayout {
     /// The octets of each frame.
@@ -46,7 +46,7 @@ pub struct TmLayout {
     pub fecf: bool,
 }
 
-/// What a link says of its AOS transfer frames (CCSDS 732.0-B).
+/// What a link says of its AOS transfer frames (CCSDS 732.0-B-4).
 #[derive(Clone, Copy, Debug, PartialEq, Eq)]
 pub struct AosLayout {
     /// The octets of each frame.

@@ -1,4 +1,4 @@
-//! The plain types of a space link security unit (CCSDS 355.0-B and 355.1-B): names, states, frame layouts, changes
+//! The plain types of a space link security unit (CCSDS 355.0-B-2 and 355.1-B-1): names, states, frame layouts, changes
 //! and the entries of a history.
 //!
 //! No cipher, no table and no store stands here. The names (`Spi`, `KeyId`, `ChannelId`) are seen by contracts as

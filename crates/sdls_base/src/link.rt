@@ -11,7 +11,7 @@ pub enum AnyLayout {
     Aos(AosLayout),
 }
 
-/// The authentication bit mask of a link (CCSDS 355.0-B): the first `length` octets. Past them the mask is 00.
+/// The authentication bit mask of a link (CCSDS 355.0-B-2): the first `length` octets. Past them the mask is 00.
 #[derive(Clone, Copy, Debug, PartialEq, Eq)]
 pub struct Mask {
     pub octets: [u8; 6],

@@ -1,7 +1,7 @@
 ghost use Rattle.std.specs.Prelude.{◌≡◌, ◌≤◌, length, option_copied};
 ghost use Rattle.sdls_base.specs.ControlField.{ocf_length, before_ocf, ocf_at};
 
-/// The octets of an operational control field (CCSDS 132.0-B and 732.0-B).
+/// The octets of an operational control field (CCSDS 132.0-B-3 and 732.0-B-4).
 const OCF: usize = 4;
 
 /// The octets before the operational control field, and the field where the frame has one.

@@ -3,7 +3,7 @@ ghost use Rattle.std.specs.Option.{SomeIff};
 
 use std::marker::Model;
 
-/// The security parameter index, which names a security association (CCSDS 355.0-B). 0 and 65,535 are reserved.
+/// The security parameter index, which names a security association (CCSDS 355.0-B-2). 0 and 65,535 are reserved.
 #[derive(Clone, Copy, Debug, PartialEq, Eq, PartialOrd, Ord, Hash)]
 pub struct Spi {
     number: u16,

@@ -3,7 +3,7 @@ ghost use Rattle.sdls_base.specs.Suite.{overhead_of, class_of_suite};
 
 use crate::key_id::KeyClass;
 
-/// The life of a key, each state after the one before (CCSDS 355.1-B). `as u8` gives its number in the formats.
+/// The life of a key, each state after the one before (CCSDS 355.1-B-1). `as u8` gives its number in the formats.
 #[derive(Clone, Copy, Debug, PartialEq, Eq)]
 pub enum KeyState {
     PreActive = 1,
@@ -12,7 +12,7 @@ pub enum KeyState {
     Destroyed = 4,
 }
 
-/// The state of a security association (CCSDS 355.1-B). `as u8` gives its number in the formats.
+/// The state of a security association (CCSDS 355.1-B-1). `as u8` gives its number in the formats.
 #[derive(Clone, Copy, Debug, PartialEq, Eq)]
 pub enum SaState {
     Unkeyed = 1,

@@ -79,7 +79,7 @@ pub fn put_optional(out: &mut [u8], at: usize, field: Option<&[u8]>) -> usize
 
 /// Writes the frame of a link whose frames have one length: the primary header, what stands between it and the room,
 /// the room, the operational control field where there is one, and the frame error control field where the layout has
-/// one (CCSDS 132.0-B and 732.0-B, Transfer Frame). Answers the frame's octets.
+/// one (CCSDS 132.0-B-3 and 732.0-B-4, Transfer Frame). Answers the frame's octets.
 pub fn put_frame(
     out: &mut [u8],
     header: &[u8],

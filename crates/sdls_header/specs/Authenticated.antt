@@ -1,4 +1,4 @@
--- What a MAC covers of a frame before its data field (CCSDS 355.0-B, authentication bit mask).
+-- What a MAC covers of a frame before its data field (CCSDS 355.0-B-2, authentication bit mask).
 use Rattle.std.specs.Prelude.{ℕ, List, [], ◌∷◌, ◌++◌, bit_and}
 
 -- each octet of the prefix under its octet of the mask; past the mask's end that is 00

@@ -1,4 +1,4 @@
--- Security Header and Security Trailer (CCSDS 355.0-B); the widths of the fields are profile.
+-- Security Header and Security Trailer (CCSDS 355.0-B-2); the widths of the fields are profile.
 use Rattle.std.specs.Prelude.{◌≡◌, ℕ, ◌^◌, ◌<◌, List, ◌++◌, length, take}
 use Rattle.std.specs.Int.{w16, w32, w64, to_be_bytes}
 use Rattle.sdls_base.specs.declared.states.Suite.{Suite}

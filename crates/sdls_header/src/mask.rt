@@ -1,7 +1,7 @@
 ghost use Rattle.std.specs.Prelude.{◌≡◌, ℕ, ◌<◌, length, slice_index, bit_and};
 ghost use Rattle.sdls_header.specs.Authenticated.{masked_octets};
 
-/// Puts each octet of a frame's prefix under its octet of the mask (CCSDS 355.0-B, authentication bit mask), where it
+/// Puts each octet of a frame's prefix under its octet of the mask (CCSDS 355.0-B-2, authentication bit mask), where it
 /// lies. Past the mask's end the mask is 00; what the mask has past the prefix is not looked at.
 pub fn mask_in_place(prefix: &mut [u8], mask: &[u8])
     ensures octets { (i : ℕ) → i < length prefix.old

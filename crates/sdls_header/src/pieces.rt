@@ -9,7 +9,8 @@ pub enum Vector {
     Wide { device: [u8; 4], number: u64 },
 }
 
-/// Security Header (CCSDS 355.0-B): the security parameter index, then the vector. It has no pad length field (profile).
+/// Security Header (CCSDS 355.0-B-2): the security parameter index, then the vector. It has no pad length field
+/// (profile).
 #[derive(Clone, Copy, Debug)]
 pub struct SecurityHeader {
     pub spi: Spi,

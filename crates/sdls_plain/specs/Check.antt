@@ -1,5 +1,5 @@
 -- One AOS transfer frame of the CMAC suite, judged under a key.
--- CCSDS 732.0-B, Transfer Frame Primary Header; CCSDS 355.0-B, Security Header and Security Trailer.
+-- CCSDS 732.0-B-4, Transfer Frame Primary Header; CCSDS 355.0-B-2, Security Header and Security Trailer.
 use Rattle.std.specs.Prelude.{◌≡◌, ◌≢◌, ℕ, ◌+◌, ◌-◌, ◌<◌, ◌⊎◌, List, [], ◌∷◌, length, take, drop}
 use Rattle.aos_frame.specs.FirstFault.{version_of, spare_of}
 use Rattle.cmac.specs.Cmac.{mac}
@@ -20,7 +20,7 @@ greatest_length = 2048
 abbrev pub parameter_index : List ℕ → List ℕ
 parameter_index frame = take 2 (drop 6 frame)
 
--- the index is 0 or 65535 (CCSDS 355.0-B, Security Parameter Index)
+-- the index is 0 or 65535 (CCSDS 355.0-B-2, Security Parameter Index)
 abbrev pub IsReserved : List ℕ → Type 0
 IsReserved index = (index ≡ 0 ∷ 0 ∷ []) ⊎ (index ≡ 255 ∷ 255 ∷ [])
 

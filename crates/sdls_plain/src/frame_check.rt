@@ -67,7 +67,7 @@ fn is_mac(key: &Schedule, text: &[u8], trailer: &[u8]) -> bool
 ///
 /// The frame has a primary header of 6 octets, all of whose bits the MAC covers, then the security
 /// header (SPI of 2 octets, sequence number of 4), the data field and a MAC of 16 octets
-/// (CCSDS 732.0-B; CCSDS 355.0-B). There is no insert zone, no operational control field and no
+/// (CCSDS 732.0-B-4; CCSDS 355.0-B-2). There is no insert zone, no operational control field and no
 /// frame error control field.
 pub fn check_frame<'a>(key: &Schedule, frame: &'a [u8]) -> Result<&'a [u8], Refusal>
     ensures accepted { IfOk result (λ field. PassesChecks key.now frame.now × (field.now ≡ data_field frame.now)) }

@@ -1,8 +1,9 @@
 //! The words that need no threads: octets in, octets out, and a status at the end.
 //!
-//! [`run_plain`] serves them: `check KEY` judges one AOS transfer frame (CCSDS 732.0-B) that carries a CMAC (CCSDS 355.0-B),
-//! `init` makes the image of a unit from a plan, and `stat` tells what an image holds; every other list of words is answered
-//! with the usage line. [`is_run`] says whether the words are those of a run, which is not served here.
+//! [`run_plain`] serves them: `check KEY` judges one AOS transfer frame (CCSDS 732.0-B-4) that carries a CMAC (CCSDS
+//! 355.0-B-2), `init` makes the image of a unit from a plan, and `stat` tells what an image holds; every other list of
+//! words is answered with the usage line. [`is_run`] says whether the words are those of a run, which is not served
+//! here.
 //!
 //! The input comes from a `Source`, and what is put goes to a `Site`: both are traits of `sdls_outside`, so that a clause can
 //! speak of what they hold.

@@ -1,7 +1,7 @@
 //! The top call of the space link security unit: words in, octets out, and a status at the end.
 //!
 //! [`run`] serves the words after the program's name: `check KEY` judges one AOS transfer frame
-//! (CCSDS 732.0-B) that carries a CMAC (CCSDS 355.0-B), `init` makes the image of a unit from a plan,
+//! (CCSDS 732.0-B-4) that carries a CMAC (CCSDS 355.0-B-2), `init` makes the image of a unit from a plan,
 //! `run` serves a recorded input of frames to protect, frames to open and commands, `stat` tells
 //! what an image holds, and `drill N` protects and opens N frames with two units in memory; every other list
 //! of words is answered with the usage line. [`run_plain`] serves the words that need no threads.

@@ -1,4 +1,4 @@
--- A command under the turn: what the words showed, and the step (CCSDS 355.1-B; numbers profile).
+-- A command under the turn: what the words showed, and the step (CCSDS 355.1-B-1; numbers profile).
 use Rattle.std.specs.Prelude.{◌≡◌, ◌⊎◌, ℕ, ◌<◌, ◌≤◌, List, Some, Result, Ok, Err}
 use Rattle.sdls_base.specs.KeyId.{end_of}
 use Rattle.sdls_base.specs.declared.entry.Seen.{Seen}

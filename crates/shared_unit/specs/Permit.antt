@@ -1,4 +1,5 @@
--- Permits: what a worker may protect frames under, and what it does with one (CCSDS 355.0-B, ApplySecurity; permits profile).
+-- Permits: what a worker may protect frames under, and what it does with one (CCSDS 355.0-B-2, ApplySecurity; permits
+-- profile).
 use Rattle.std.specs.Prelude.{◌≡◌, ◌≢◌, ℕ, ◌<◌, ◌≤◌, List, take, Some, None, Ok, Err, ⊤}
 use Rattle.sdls_base.specs.KeyId.{end_of}
 use Rattle.sdls_base.specs.declared.layout.FrameFault.{FrameFault}

@@ -1,4 +1,4 @@
--- What `protect` does, by its answer (CCSDS 355.0-B, ApplySecurity; permits profile).
+-- What `protect` does, by its answer (CCSDS 355.0-B-2, ApplySecurity; permits profile).
 use Rattle.std.specs.Prelude.{◌≡◌, ◌⊎◌, ⊤, ℕ, ◌+◌, ◌<◌, ◌≤◌, Bool, List, Option, Some, None, Result, Ok, Err}
 use Rattle.sdls_base.specs.KeyId.{end_of}
 use Rattle.sdls_outside.specs.Moments.{Trace}

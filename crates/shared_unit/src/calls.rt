@@ -55,8 +55,8 @@ impl<O: Site> Unit<O> {
     }
 
     /// Handles the record with this number, whose frame came on this link: opens the frame in place where no check fails, and
-    /// answers the reply and its position (CCSDS 355.0-B, ProcessSecurity). Beside a fault stands the count of the run's
-    /// entries. After an answer that is not `Accepted` the frame's octets may be any. Takes no memory.
+    /// answers the reply and its position (CCSDS 355.0-B-2, ProcessSecurity). Beside a fault stands the count of the
+    /// run's entries. After an answer that is not `Accepted` the frame's octets may be any. Takes no memory.
     pub fn open_frame<R: Wait>(
         &self,
         rt: &R,

@@ -142,9 +142,10 @@ impl<O: Site> Unit<O> {
         Ok(reply)
     }
 
-    /// Handles the record with this number, whose octets are a message of a command (CCSDS 355.1-B): looks at the words that it
-    /// needs, does it in the book, and turns the epoch where it changed the state. Answers the reply and its position. Beside a
-    /// fault stands the count of the run's entries. A number that was drawn and a word that was raised for it stay so.
+    /// Handles the record with this number, whose octets are a message of a command (CCSDS 355.1-B-1): looks at the
+    /// words that it needs, does it in the book, and turns the epoch where it changed the state. Answers the reply and
+    /// its position. Beside a fault stands the count of the run's entries. A number that was drawn and a word that was
+    /// raised for it stay so.
     pub fn command<R: Wait>(
         &self,
         rt: &R,

@@ -1,5 +1,5 @@
-//! The unit that lanes share: up to 1,024 workers make its calls at once on one book (CCSDS 355.0-B and 355.1-B; numbers,
-//! permits and turns are profile).
+//! The unit that lanes share: up to 1,024 workers make its calls at once on one book (CCSDS 355.0-B-2 and 355.1-B-1;
+//! numbers, permits and turns are profile).
 //!
 //! [`Unit::open`] opens the image of a site, and [`Unit::split`] gives a worker to each lane.
 //! A worker that has a [`Permit`] protects frames by steps on words alone ([`Unit::protect_ready`]). What changes the image

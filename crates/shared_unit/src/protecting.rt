@@ -132,9 +132,9 @@ impl<O: Site> Unit<O> {
         }
     }
 
-    /// Protects a frame in clear (CCSDS 355.0-B, ApplySecurity): with the kept permit where that is of the frame's channel and
-    /// the epoch did not go on, and else with a new one, which is kept then. Where the plan is enough for the check that fails
-    /// first, the epoch beside it is 0, and nothing is looked at. Takes no memory.
+    /// Protects a frame in clear (CCSDS 355.0-B-2, ApplySecurity): with the kept permit where that is of the frame's
+    /// channel and the epoch did not go on, and else with a new one, which is kept then. Where the plan is enough for
+    /// the check that fails first, the epoch beside it is 0, and nothing is looked at. Takes no memory.
     pub fn protect<R: Wait>(
         &self,
         rt: &R,

@@ -1,4 +1,4 @@
--- TC Transfer Frame (CCSDS 232.0-B).
+-- TC Transfer Frame (CCSDS 232.0-B-4).
 use Rattle.std.specs.Prelude.{◌≡◌, ℕ, ◌+◌, ◌-◌, ◌^◌, ◌<◌, ◌≤◌, Bool, not, ◌&&◌, List, [], ◌∷◌, ◌++◌, length, Option, is_some, IfSome}
 use Rattle.std.specs.Option.{option_to_list}
 use Rattle.sdls_base.specs.declared.layout.TcLayout.{TcLayout}

@@ -1,4 +1,4 @@
--- The checks of a TM transfer frame, in their order (profile; the layout is that of CCSDS 132.0-B).
+-- The checks of a TM transfer frame, in their order (profile; the layout is that of CCSDS 132.0-B-3).
 use Rattle.std.specs.Prelude.{ℕ, ◌+◌, ◌-◌, ◌*◌, ◌/◌, ◌%◌, ◌^◌, Bool, not, ◌&&◌, ◌||◌, ◌==◌, nat_lt, List, [], ◌∷◌, length, slice_index, Option}
 use Rattle.sdls_base.specs.declared.layout.TmLayout.{TmLayout}
 use Rattle.sdls_base.specs.declared.layout.FrameFault.{FrameFault}

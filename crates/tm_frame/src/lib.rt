@@ -1,4 +1,4 @@
-//! TM transfer frames (CCSDS 132.0-B), with or without secondary header, operational control field and frame error
+//! TM transfer frames (CCSDS 132.0-B-3), with or without secondary header, operational control field and frame error
 //! control field.
 //!
 //! `read` takes a frame of a layout apart, or names the first check that fails. `write` is its other direction. The

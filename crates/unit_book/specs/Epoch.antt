@@ -1,4 +1,4 @@
--- What a book serves at an epoch (CCSDS 355.0-B, ApplySecurity; profile).
+-- What a book serves at an epoch (CCSDS 355.0-B-2, ApplySecurity; profile).
 use Rattle.std.specs.Prelude.{◌≡◌, ◌↔◌, ℕ, ◌+◌, ◌<◌, ◌≤◌, List, [], ◌∷◌, ◌++◌, length, Option, Some, slice_get}
 use Rattle.std.specs.Option.{option_and_then}
 use Rattle.sdls_base.specs.declared.TheConstants.{MOST_KEYS}

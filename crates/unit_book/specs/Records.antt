@@ -1,4 +1,4 @@
--- How a book handles frames and commands (CCSDS 355.0-B, ProcessSecurity; 355.1-B, procedures).
+-- How a book handles frames and commands (CCSDS 355.0-B-2, ProcessSecurity; 355.1-B-1, procedures).
 use Rattle.std.specs.Prelude.{◌≡◌, ℕ, ◌⊎◌, List}
 use Rattle.sdls_base.specs.declared.change.Change.{Change}
 use Rattle.sdls_base.specs.declared.entry.Seen.{Seen}

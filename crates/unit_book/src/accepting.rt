@@ -61,8 +61,8 @@ impl<O: Site> Book<O> {
     }
 
     /// Handles the record with this number, whose frame came on this link: makes the checks of opening in their order, and
-    /// where none fails, accepts the number and opens the frame in place (CCSDS 355.0-B, ProcessSecurity). Answers the reply
-    /// and its position. A floor that rises is stored before the answer. Takes no memory.
+    /// where none fails, accepts the number and opens the frame in place (CCSDS 355.0-B-2, ProcessSecurity). Answers
+    /// the reply and its position. A floor that rises is stored before the answer. Takes no memory.
     ///
     /// After an answer that is not `Accepted` the frame's octets may be any.
     pub fn accept(

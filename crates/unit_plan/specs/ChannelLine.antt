@@ -33,7 +33,7 @@ abbrev pub is_map : Bool → Option ℕ → Bool
 is_map wanted (Some n) = wanted && nat_le n 63
 is_map wanted None = not wanted
 
--- the bounds on a link (CCSDS 232.0-B, 132.0-B and 732.0-B; of AOS 63 is the channel of idle frames)
+-- the bounds on a link (CCSDS 232.0-B-4, 132.0-B-3 and 732.0-B-4; of AOS 63 is the channel of idle frames)
 abbrev pub is_place : AnyLayout → Place → Bool
 is_place (Tc layout) place = nat_le place.spacecraft 1023 && (nat_le place.channel 63 && is_map layout.segment place.map)
 is_place (Tm layout) place = nat_le place.spacecraft 1023 && (nat_le place.channel 7 && is_map false place.map)

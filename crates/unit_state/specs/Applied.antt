@@ -1,4 +1,4 @@
--- What each change makes of a state (CCSDS 355.1-B, key and SA management; numbers profile).
+-- What each change makes of a state (CCSDS 355.1-B-1, key and SA management; numbers profile).
 use Rattle.std.specs.Prelude.{ℕ, ◌-◌, max, List, ◌++◌, map, Option, Some, None}
 use Rattle.std.specs.Option.{option_map, option_and_then}
 use Rattle.sdls_base.specs.declared.change.Change.{Change}

@@ -1,4 +1,4 @@
--- A unit's state and its rules (CCSDS 355.1-B, key and SA management; numbers profile).
+-- A unit's state and its rules (CCSDS 355.1-B-1, key and SA management; numbers profile).
 use Rattle.std.specs.Prelude.{◌≡◌, ℕ, ◌≤◌, List, Option, All, IfSome, IsSomeAnd}
 use Rattle.sdls_base.specs.declared.states.KeyState.TheVariants.{Active}
 use Rattle.key_book.specs.declared.key_row.KeyRow.{KeyRow}
