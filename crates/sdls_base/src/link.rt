@@ -39,8 +39,8 @@ impl AnyLayout {
 }
 
 impl Mask {
-    /// The usual mask of TC frames (profile): version, the two spare bits left out, spacecraft and virtual channel, and
-    /// the segment header whole where there is one.
+    /// The usual mask of TC frames (profile): version, spacecraft and virtual channel, and the segment header whole if
+    /// there is one. Bypass flag, control command flag, spare bits, length and sequence number are not covered.
     pub fn usual_tc(segment: bool) -> Mask
         ensures { result ≡ usual_tc segment }
     {
