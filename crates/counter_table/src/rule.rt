@@ -1,4 +1,5 @@
-//! The rule of the counters, and what each step tells. But for `Counted` all of it is for contracts alone.
+//! The rule of the counters, and what each step tells. Apart from `Counted`, all of it is here
+//! for contracts alone.
 ghost use Rattle.std.specs.Prelude.{◌≡◌};
 ghost use Rattle.std.specs.Prelude.{ℕ, List, []};
 ghost use Rattle.counter_table.specs.declared.view.Known.{Known};

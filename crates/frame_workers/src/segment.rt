@@ -49,7 +49,7 @@ fn empty_rooms(alloc: Global) -> Result<Vec<Vec<Answer>>, NoMemory>
     Ok(rooms)
 }
 
-/// Splits a worker off and joins it at once: who has all shares then knows that it did all.
+/// For contracts alone: splits a worker off and joins it at once. Who has all shares then knows that it did all.
 fn look_back<O: Site>(unit: &Unit<O>, worker: &mut Worker<O>)
     requires ready { IsReady unit.now.counters unit.now.plan worker.old }
     requires two { 1 < (view worker.old).numbers.shares }

@@ -50,7 +50,7 @@ fn line_of(alloc: Global, recorded: Record) -> Result<Line, NoMemory>
         link,
         octets,
     } = recorded;
-    // for the proof alone
+    // For contracts alone.
     hold_octets(octets.as_slice());
     match kind {
         RecordKind::Protect => Ok(Line::Protect { lane, link, octets }),

@@ -80,7 +80,7 @@ impl<O: Site> Shelf<O> {
         book
     }
 
-    // For contracts alone: the book is kept.
+    /// For contracts alone: the book is kept.
     pub(crate) fn look(&self)
         ensures { IsKept O.told O.trace O.faults self.now }
     {

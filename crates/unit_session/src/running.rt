@@ -64,7 +64,8 @@ fn refuse<O: Site>(alloc: Global, before: u64, fault: OpenFault, mut site: O) ->
     }
 }
 
-/// Law: the image as it reads is one that a crash may leave. Here a function that starts threads can cite it.
+/// For contracts alone. Law: the image as it reads is one that a crash may leave. Here a function that starts threads
+/// can cite it.
 fn image_stays<O: Site>()
     ensures { (site : O) → IsTrue O.told → Leaves (O.trace site).now (O.trace site).now.image }
 {}
