@@ -13,7 +13,7 @@ use Rattle.counter_table.specs.declared.view.Numbers.{Numbers}
 use Rattle.counter_table.specs.declared.view.Turn.{Turn}
 use Rattle.counter_table.specs.declared.view.View.{View}
 use Rattle.sdls_base.specs.Numbers.{one_if, times, total, once_below}
-use Rattle.counter_table.specs.Numbers.{count_of, amount, top, no_numbers}
+use Rattle.counter_table.specs.Numbers.{count_of, amount, top, no_numbers, ALL_SHARES}
 use Rattle.counter_table.specs.Turn.{stands, no_turn}
 use Rattle.counter_table.specs.Rule.{greatest, next_at, KnowsBook, IsAtHome, IsKept}
 use Rattle.counter_table.specs.Play.{IsAsKnown, IsCovered}
@@ -52,7 +52,7 @@ module _ {B : Type 0} (told : B → Known) (count : ℕ) (s : State (Option B) V
   pub look : Look v.turn
   look = record { made = made_once; book = kept.book; known = knows.earlier; one = knows.one; other = knows.other; opening = λ f. (knows.opening f).1 }
 
-  module _ (all : v.numbers.shares ≡ 1024) where
+  module _ (all : v.numbers.shares ≡ ALL_SHARES) where
     -- with all shares, each other worker ended
     pub alone : (j : ℕ) (u : Turn) → get_elem? (turns_of s.views) j ≡ some u → j ≢ id → u ≡ no_turn
     alone j u e apart =

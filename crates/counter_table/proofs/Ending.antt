@@ -10,7 +10,7 @@ use Rattle.atomic_table.specs.Table.{State, opening, Final, Seen}
 use Rattle.counter_table.specs.declared.view.Known.{Known}
 use Rattle.counter_table.specs.declared.view.View.{View}
 use Rattle.counter_table.specs.Known.{unknown}
-use Rattle.counter_table.specs.Numbers.{first_numbers}
+use Rattle.counter_table.specs.Numbers.{first_numbers, ALL_SHARES}
 use Rattle.counter_table.specs.Turn.{no_turn}
 use Rattle.sdls_base.specs.Numbers.{once_below}
 use Rattle.counter_table.specs.Rule.{greatest, next_at, limit_at, SeatFits, RowFits, IsSane, NumbersFit, TurnFits, IsKept, IsAtHome}
@@ -20,6 +20,7 @@ use Rattle.counter_table.proofs.Sums.{each_snoc}
 use Rattle.counter_table.proofs.Knowing.{ended_knows}
 use Rattle.counter_table.proofs.Booking.{false≢true}
 use Rattle.counter_table.proofs.Alone.{as_known, knows, covers, row_stands, made_only, whole, home}
+use Rattle.counter_table.specs.declared.drawing.TheConstants.{ROW_WORDS}
 
 -- one worker
 single : {V : Type 0} (P : V → Type 0) (v : V) → P v → (j : ℕ) (u : V) → get_elem? (v ∷ []) j ≡ some u → P u
@@ -47,26 +48,26 @@ value_there (x ∷ xs) zero n e = sym (some-injective x n e)
 value_there (x ∷ xs) (suc i) n e = value_there xs i n e
 
 abbrev pub first_words : ℕ → List ℕ
-first_words count = set (set (replicate (16 * count + 16) 1) 0 0) 1 0
+first_words count = set (set (replicate (ROW_WORDS * count + ROW_WORDS) 1) 0 0) 1 0
 
 module _ (count : ℕ) where
-  size : length (first_words count) ≡ 16 * count + 16
-  size = length-set (set (replicate (16 * count + 16) 1) 0 0) 1 0 ∙ (length-set (replicate (16 * count + 16) 1) 0 0 ∙ length-replicate (16 * count + 16) 1)
+  size : length (first_words count) ≡ ROW_WORDS * count + ROW_WORDS
+  size = length-set (set (replicate (ROW_WORDS * count + ROW_WORDS) 1) 0 0) 1 0 ∙ (length-set (replicate (ROW_WORDS * count + ROW_WORDS) 1) 0 0 ∙ length-replicate (ROW_WORDS * count + ROW_WORDS) 1)
 
   word_turn : get_or (first_words count) 0 0 ≡ 0
   word_turn =
-      let b : 0 < length (replicate (16 * count + 16) 1) = omega (arith, length-replicate {A = ℕ} (16 * count + 16) 1) in
-      get_or-set_other (set (replicate (16 * count + 16) 1) 0 0) 1 0 0 0 (λ e. omega arith) ∙ get_or-set_same (replicate (16 * count + 16) 1) 0 0 0 b
+      let b : 0 < length (replicate (ROW_WORDS * count + ROW_WORDS) 1) = omega (arith, length-replicate {A = ℕ} (ROW_WORDS * count + ROW_WORDS) 1) in
+      get_or-set_other (set (replicate (ROW_WORDS * count + ROW_WORDS) 1) 0 0) 1 0 0 0 (λ e. omega arith) ∙ get_or-set_same (replicate (ROW_WORDS * count + ROW_WORDS) 1) 0 0 0 b
 
   word_epoch : get_or (first_words count) 1 0 ≡ 0
   word_epoch =
-      let b : 1 < length (set (replicate (16 * count + 16) 1) 0 0) = omega (arith, length-replicate {A = ℕ} (16 * count + 16) 1, length-set {A = ℕ} (replicate (16 * count + 16) 1) 0 0) in
-      get_or-set_same (set (replicate (16 * count + 16) 1) 0 0) 1 0 0 b
+      let b : 1 < length (set (replicate (ROW_WORDS * count + ROW_WORDS) 1) 0 0) = omega (arith, length-replicate {A = ℕ} (ROW_WORDS * count + ROW_WORDS) 1, length-set {A = ℕ} (replicate (ROW_WORDS * count + ROW_WORDS) 1) 0 0) in
+      get_or-set_same (set (replicate (ROW_WORDS * count + ROW_WORDS) 1) 0 0) 1 0 0 b
 
-  word_row : (j : ℕ) → 1 < j → j < 16 * count + 16 → get_or (first_words count) j 0 ≡ 1
+  word_row : (j : ℕ) → 1 < j → j < ROW_WORDS * count + ROW_WORDS → get_or (first_words count) j 0 ≡ 1
   word_row j low high =
-      get_or-set_other (set (replicate (16 * count + 16) 1) 0 0) 1 j 0 0 (λ e. omega arith)
-      ∙ (get_or-set_other (replicate (16 * count + 16) 1) 0 j 0 0 (λ e. omega arith) ∙ get_or-replicate (16 * count + 16) j 1 0 high)
+      get_or-set_other (set (replicate (ROW_WORDS * count + ROW_WORDS) 1) 0 0) 1 j 0 0 (λ e. omega arith)
+      ∙ (get_or-set_other (replicate (ROW_WORDS * count + ROW_WORDS) 1) 0 j 0 0 (λ e. omega arith) ∙ get_or-replicate (ROW_WORDS * count + ROW_WORDS) j 1 0 high)
 
   none_below : (p : ℕ) → once_below p 0 ≡ 0
   none_below p = grind (arith, nat_tests)
@@ -105,7 +106,7 @@ module _ (count : ℕ) where
         ended = single (λ u. u.numbers.shares ≡ 0 → u.turn ≡ no_turn) first_view (λ e. refl);
       }
 
-module _ {B : Type 0} (told : B → Known) (count : ℕ) (s : State (Option B) View) (id : ℕ) (v : View) (at : get_elem? s.views id ≡ some v) (kept : IsKept told count s) (all : v.numbers.shares ≡ 1024) (full : v.turn.filled ≡ true) where
+module _ {B : Type 0} (told : B → Known) (count : ℕ) (s : State (Option B) View) (id : ℕ) (v : View) (at : get_elem? s.views id ≡ some v) (kept : IsKept told count s) (all : v.numbers.shares ≡ ALL_SHARES) (full : v.turn.filled ≡ true) where
   closes_with : (b : B) → told b ≡ kept.book → (nexts : List ℕ) → length nexts ≡ count → ((row : ℕ) → row < count → get_or nexts row 0 ≡ get_or s.words (next_at row) 0)
       → ClosesCounters count v (told b) nexts
   closes_with b is nexts rows same = subst (λ k. ClosesCounters count v k nexts) (sym is)
@@ -121,7 +122,7 @@ module _ {B : Type 0} (told : B → Known) (count : ℕ) (s : State (Option B) V
 
 -- what the end says of the slot and of the words
 pub closes : {B : Type 0} (told : B → Known) (count id : ℕ) (v : View) (words : List ℕ) (slots : List (Option B)) → Final (Seen (IsKept told count) id v) words slots
-    → v.numbers.shares ≡ 1024 → v.turn.holds ≡ false → v.turn.filled ≡ true
+    → v.numbers.shares ≡ ALL_SHARES → v.turn.holds ≡ false → v.turn.filled ≡ true
     → (b : B) × (get_elem? slots 0 ≡ some (Some b))
     × ((nexts : List ℕ) → length nexts ≡ count → ((row : ℕ) → row < count → get_or nexts row 0 ≡ get_or words (next_at row) 0) → ClosesCounters count v (told b) nexts)
 closes told count id v words slots final all free full =

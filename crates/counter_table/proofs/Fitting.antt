@@ -1,5 +1,5 @@
 -- Each step on a row's words keeps the rule's part on numbers.
-use Rattle.std.proofs.Common.{◌≡◌, ◌≢◌, ◌⊎◌, ℕ, ◌+◌, ◌*◌, ◌<◌, ◌≤◌, max, eqb, true, false, List, set, get_or, length, sym, refl, ◌∙◌, subst, ⊎_elim, arith, eq-eqb, ne_eqb, get_or-set_same, get_or-set_other, length-set, Some, None, if◌then◌else◌, Option, Bool, ltb}
+use Rattle.std.proofs.Common.{◌≡◌, ◌≢◌, ◌⊎◌, ℕ, ◌+◌, ◌*◌, ◌^◌, ◌<◌, ◌≤◌, max, eqb, true, false, List, set, get_or, length, sym, refl, ◌∙◌, subst, ⊎_elim, arith, eq-eqb, ne_eqb, get_or-set_same, get_or-set_other, length-set, Some, None, if◌then◌else◌, Option, Bool, ltb}
 use mathlib.Core.Option.{some}
 use mathlib.Core.Logic.{dite}
 use native.Mathlib.Decide.{ℕ_discrete}
@@ -8,17 +8,18 @@ use Rattle.atomic_table.proofs.Lists.{at_set}
 use borrow.Author.Tests.{ltb-true}
 use Rattle.counter_table.specs.declared.view.Numbers.{Numbers}
 use Rattle.sdls_base.specs.Numbers.{times, total}
-use Rattle.counter_table.specs.Numbers.{is_armed, no_numbers, arming, drawing, spending, returning, peeking, raising, lifting}
+use Rattle.counter_table.specs.Numbers.{is_armed, no_numbers, arming, drawing, spending, returning, peeking, raising, lifting, ALL_SHARES}
 use Rattle.counter_table.specs.Rule.{most, next_at, limit_at, SeatFits, RowFits, IsSane, NumbersFit}
 use Rattle.counter_table.proofs.Sums.{total_set, total_at, total_less}
 use Rattle.counter_table.proofs.Rows.{Moves, Quiet, quiet_moves, row_step, once_below_one}
 use Rattle.counter_table.proofs.Moving.{arm_moves, draw_moves, raise_moves, lift_moves, return_moves, spend_moves, spend_sane, arm_quiet, draw_quiet, raise_quiet, lift_quiet, spend_quiet, return_quiet, arm_sane, raise_sane, lift_sane, return_sane, draw_sane}
+use Rattle.counter_table.specs.declared.drawing.TheConstants.{ROW_WORDS}
 
 abbrev pub armed_total : ℕ → List Numbers → ℕ
 armed_total row views = total (λ v. is_armed row v.armed) views
 
 -- no more workers are armed than there are shares
-pub armed_few : (row : ℕ) (views : List Numbers) → total (λ v. v.shares) views ≡ 1024 → ((i : ℕ) (v : Numbers) → get_elem? views i ≡ some v → IsSane v) → armed_total row views ≤ 1024
+pub armed_few : (row : ℕ) (views : List Numbers) → total (λ v. v.shares) views ≡ ALL_SHARES → ((i : ℕ) (v : Numbers) → get_elem? views i ≡ some v → IsSane v) → armed_total row views ≤ ALL_SHARES
 armed_few row views all sane =
     let few = total_less (λ v. is_armed row v.armed) (λ v. v.shares) views (λ i v e. one v (sane i v e).alive) in omega arith
   where
@@ -29,7 +30,7 @@ armed_few row views all sane =
     one : (v : Numbers) → (v ≡ no_numbers) ⊎ (0 < v.shares) → is_armed row v.armed ≤ v.shares
     one v h = ⊎_elim (λ e. subst (λ z. is_armed row z.armed ≤ z.shares) (sym e) (omega arith)) (λ k. let a = at_most v.armed in omega arith) h
 
-pub shares_set : (views : List Numbers) (id : ℕ) (v w : Numbers) → get_elem? views id ≡ some v → w.shares ≡ v.shares → total (λ u. u.shares) views ≡ 1024 → total (λ u. u.shares) (set views id w) ≡ 1024
+pub shares_set : (views : List Numbers) (id : ℕ) (v w : Numbers) → get_elem? views id ≡ some v → w.shares ≡ v.shares → total (λ u. u.shares) views ≡ ALL_SHARES → total (λ u. u.shares) (set views id w) ≡ ALL_SHARES
 shares_set views id v w at same all = let t = total_set (λ u. u.shares) views id v w at in omega arith
 
 pub sane_set : (views : List Numbers) (id : ℕ) (w : Numbers) → IsSane w → ((i : ℕ) (v : Numbers) → get_elem? views i ≡ some v → IsSane v) → (j : ℕ) (u : Numbers) → get_elem? (set views id w) j ≡ some u → IsSane u
@@ -75,7 +76,7 @@ module _ (count : ℕ) (words words' : List ℕ) (views : List Numbers) (id : �
         }
 
 -- the words after a step on one of them
-module _ (count : ℕ) (words : List ℕ) (size : length words ≡ 16 * count + 16) (row n : ℕ) (below : row < count) where
+module _ (count : ℕ) (words : List ℕ) (size : length words ≡ ROW_WORDS * count + ROW_WORDS) (row n : ℕ) (below : row < count) where
   pub next_set : get_or (set words (next_at row) n) (next_at row) 0 ≡ n
   next_set = let b : next_at row < length words = omega arith in rw get_or-set_same refl
 
@@ -123,7 +124,7 @@ module _ (count : ℕ) (words : List ℕ) (views : List Numbers) (id : ℕ) (v :
   sane : IsSane v
   sane = fits.sane id v at
 
-  few : (w : Numbers) → w.shares ≡ v.shares → IsSane w → armed_total row (set views id w) ≤ 1024
+  few : (w : Numbers) → w.shares ≡ v.shares → IsSane w → armed_total row (set views id w) ≤ ALL_SHARES
   few w same ok = armed_few row (set views id w) (shares_set views id v w at same fits.shares) (sane_set views id w ok fits.sane)
 
   old_room : n + armed_total row views ≤ most
@@ -132,12 +133,12 @@ module _ (count : ℕ) (words : List ℕ) (views : List Numbers) (id : ℕ) (v :
   armed_set : (w : Numbers) → armed_total row (set views id w) + is_armed row v.armed ≡ armed_total row views + is_armed row w.armed
   armed_set w = total_set (λ u. is_armed row u.armed) views id v w at
 
-  arm_room : (end : ℕ) → end ≤ 281474976710656 → (b : Bool) → ltb n end ≡ b → (w : Numbers) → w.shares ≡ v.shares → IsSane w → is_armed row w.armed ≡ is_armed row (if b then Some row else v.armed)
+  arm_room : (end : ℕ) → end ≤ 2 ^ 48 → (b : Bool) → ltb n end ≡ b → (w : Numbers) → w.shares ≡ v.shares → IsSane w → is_armed row w.armed ≡ is_armed row (if b then Some row else v.armed)
       → n + armed_total row (set views id w) ≤ most
   arm_room end low true is w same ok e = let lt : n < end = ltb-true n end is in let f = few w same ok in omega arith
   arm_room end low false is w same ok e = let o = old_room in let t = armed_set w in omega arith
 
-  pub arm_fits : (end : ℕ) → end ≤ 281474976710656 → NumbersFit count (set words (next_at row) n) (set views id (arming row end n v))
+  pub arm_fits : (end : ℕ) → end ≤ 2 ^ 48 → NumbersFit count (set words (next_at row) n) (set views id (arming row end n v))
   arm_fits end low =
       let w = arming row end n v in let ok = arm_sane v sane alive row end n in
       next_step n w refl ok (λ q e. arm_quiet q row v e end n) (arm_moves row n l v seat alive end) (arm_room end low (ltb n end) refl w refl ok refl)
@@ -148,7 +149,7 @@ module _ (count : ℕ) (words : List ℕ) (views : List Numbers) (id : ℕ) (v :
       next_step (n + 1) (drawing row n v) refl (draw_sane v sane alive row n) (λ q e. draw_quiet q row v e n) (draw_moves row n l v seat alive)
       (let o = old_room in let t = armed_set (drawing row n v) in omega arith)
 
-  pub raise_fits : (number : ℕ) → number ≤ 281474976710656 → NumbersFit count (set words (next_at row) (max n number)) (set views id (raising row number n v))
+  pub raise_fits : (number : ℕ) → number ≤ 2 ^ 48 → NumbersFit count (set words (next_at row) (max n number)) (set views id (raising row number n v))
   raise_fits number low =
       let w = raising row number n v in let ok = raise_sane v sane alive row number n in
       next_step (max n number) w refl ok (λ q e. raise_quiet q row v e number n) (raise_moves row n l v seat alive number)

@@ -14,7 +14,7 @@ use Rattle.counter_table.specs.declared.view.Numbers.{Numbers}
 use Rattle.counter_table.specs.declared.view.Turn.{Turn}
 use Rattle.counter_table.specs.declared.view.View.{View}
 use Rattle.counter_table.specs.Known.{known_mark, Earlier, IsSparing, MayGive, MayFill, unknown}
-use Rattle.counter_table.specs.Numbers.{keeper, newcomer, joined, no_numbers, lifting}
+use Rattle.counter_table.specs.Numbers.{keeper, newcomer, joined, no_numbers, lifting, ALL_SHARES}
 use Rattle.counter_table.specs.Turn.{beginner, merged, no_turn, taking, giving, filling, learning, seeing, turning}
 use Rattle.counter_table.specs.Rule.{next_at, limit_at, NumbersFit, TurnFits, IsKept}
 use Rattle.counter_table.specs.Play.{no_view, takes, IsAsKnown, IsCovered, gives, empties, fills, lifts, sees, turns, looks}
@@ -23,6 +23,7 @@ use Rattle.counter_table.proofs.Sharing.{cut_fits, met_fits}
 use Rattle.counter_table.proofs.Booking.{home_free, word_taken, holder_knows, see_fits, take_fits, give_fits, lift_fits, turn_fits, empty_fits, fill_fits, free_of, beginner_fits, united_fits}
 use Rattle.counter_table.proofs.Alone.{as_known, covers, alone, is_whole, look}
 use Rattle.counter_table.proofs.Keeping.{numbers_of, turns_of, words_fit, at_numbers, at_turn, both_parts}
+use Rattle.counter_table.specs.declared.drawing.TheConstants.{ROW_WORDS}
 
 map-snoc : {A C : Type 0} (f : A → C) (l : List A) (a : A) → map f (l ++ a ∷ []) ≡ map f l ++ f a ∷ []
 map-snoc f [] a = refl
@@ -68,7 +69,7 @@ module _ {B : Type 0} (told : B → Known) (count : ℕ) where
     pub once_each : (row : ℕ) → row < count → (x : ℕ) → Rattle.sdls_base.specs.Numbers.times row x v.numbers.drawn ≤ 1
     once_each row b x = drawn_once count s.words s.words (numbers_of s.views) id v.numbers v.numbers row (at_numbers told count s id v v at kept) kept.numbers b x
 
-  first_set : (words : List ℕ) (size : length words ≡ 16 * count + 16) (n : ℕ) → get_or (set words 0 n) 0 0 ≡ n
+  first_set : (words : List ℕ) (size : length words ≡ ROW_WORDS * count + ROW_WORDS) (n : ℕ) → get_or (set words 0 n) 0 0 ≡ n
   first_set words size n = let b : 0 < length words = omega arith in rw get_or-set_same refl
 
   abbrev first_slot : List (ℕ × Option B) → Option B
@@ -149,7 +150,7 @@ module _ {B : Type 0} (told : B → Known) (count : ℕ) where
           (λ c e. (refl, ap (λ z. let r : View = record v { turn = giving (told z) v.turn } in r) (same_slot b c e))),
         )
 
-    pub empty_allows : (v : View) → v.numbers.shares ≡ 1024 → v.turn.holds ≡ false → v.turn.filled ≡ false
+    pub empty_allows : (v : View) → v.numbers.shares ≡ ALL_SHARES → v.turn.holds ≡ false → v.turn.filled ≡ false
         → Allows (IsKept told count) slots id (v, []) 0 (λ _. 2) (empties told (v, []))
     empty_allows v all free blank s kept size at bound =
         let mine = turn_at s id v at kept in
@@ -165,7 +166,7 @@ module _ {B : Type 0} (told : B → Known) (count : ℕ) where
           (refl, refl),
         )
 
-    pub fill_allows : (v : View) (b : B) → v.numbers.shares ≡ 1024 → v.turn.holds ≡ true → v.turn.filled ≡ false → MayFill (told b)
+    pub fill_allows : (v : View) (b : B) → v.numbers.shares ≡ ALL_SHARES → v.turn.holds ≡ true → v.turn.filled ≡ false → MayFill (told b)
         → Allows (IsKept told count) slots id (v, (0, Some b) ∷ []) 0 (λ _. 0) (fills told (v, (0, Some b) ∷ []))
     fill_allows v b all holds blank may s kept size at bound =
         let mine = turn_at s id v at kept in
@@ -186,12 +187,12 @@ module _ {B : Type 0} (told : B → Known) (count : ℕ) where
     gives_at m v b e alive holds full may =
         subst (λ (z : Me (Option B) View). Allows (IsKept told count) slots id z 0 (λ _. 0) (gives told z)) (sym e) (give_allows v b alive holds full may)
 
-    pub empties_at : (m : Me (Option B) View) → m.1 ≡ [] → m.0.numbers.shares ≡ 1024 → m.0.turn.holds ≡ false → m.0.turn.filled ≡ false
+    pub empties_at : (m : Me (Option B) View) → m.1 ≡ [] → m.0.numbers.shares ≡ ALL_SHARES → m.0.turn.holds ≡ false → m.0.turn.filled ≡ false
         → Allows (IsKept told count) slots id m 0 (λ _. 2) (empties told m)
     empties_at m e all free blank =
         subst (λ (z : List (ℕ × Option B)). Allows (IsKept told count) slots id (m.0, z) 0 (λ _. 2) (empties told (m.0, z))) (sym e) (empty_allows m.0 all free blank)
 
-    pub fills_at : (m : Me (Option B) View) (v : View) (b : B) → m ≡ (v, (0, Some b) ∷ []) → v.numbers.shares ≡ 1024 → v.turn.holds ≡ true → v.turn.filled ≡ false → MayFill (told b)
+    pub fills_at : (m : Me (Option B) View) (v : View) (b : B) → m ≡ (v, (0, Some b) ∷ []) → v.numbers.shares ≡ ALL_SHARES → v.turn.holds ≡ true → v.turn.filled ≡ false → MayFill (told b)
         → Allows (IsKept told count) slots id m 0 (λ _. 0) (fills told m)
     fills_at m v b e all holds blank may =
         subst (λ (z : Me (Option B) View). Allows (IsKept told count) slots id z 0 (λ _. 0) (fills told z)) (sym e) (fill_allows v b all holds blank may)

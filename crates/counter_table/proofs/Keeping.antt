@@ -99,7 +99,7 @@ module _ {B : Type 0} (told : B → Known) (count : ℕ) where
         loaded i j = ap (λ z. get_or z j 0) (set-get_or s.words i 0)
 
   module _ (slots id : ℕ) (m : Me (Option B) View) (row : ℕ) (below : row < count) (alive : 0 < m.0.numbers.shares) where
-    pub arm_allows : (end : ℕ) → end ≤ 281474976710656 → Allows (IsKept told count) slots id m (next_at row) (λ n. n) (arms row end m)
+    pub arm_allows : (end : ℕ) → end ≤ 2 ^ 48 → Allows (IsKept told count) slots id m (next_at row) (λ n. n) (arms row end m)
     arm_allows end low s kept size at bound =
         let n = get_or s.words (next_at row) 0 in
         let numbers = at_numbers s id m.0 m.0 at kept in
@@ -141,7 +141,7 @@ module _ {B : Type 0} (told : B → Known) (count : ℕ) where
           ((refl, refl), (seat_fits count s.words s.words (numbers_of s.views) id m.0.numbers m.0.numbers row numbers kept.numbers below).limits),
         )
 
-    pub raise_allows : (number : ℕ) → number ≤ 281474976710656 → Allows (IsKept told count) slots id m (next_at row) (λ n. max n number) (raises row number m)
+    pub raise_allows : (number : ℕ) → number ≤ 2 ^ 48 → Allows (IsKept told count) slots id m (next_at row) (λ n. max n number) (raises row number m)
     raise_allows number low s kept size at bound =
         let n = get_or s.words (next_at row) 0 in
         let numbers = at_numbers s id m.0 m.0 at kept in

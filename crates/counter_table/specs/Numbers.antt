@@ -31,9 +31,13 @@ is_last row x (Some p) = if (p.0 == row) && (p.1 == x) then 1 else 0
 abbrev pub no_numbers : Numbers
 no_numbers = record { shares = 0; armed = None; last = None; peeked = false; drawn = []; spent = []; raised = []; added = []; nexts = []; limits = []; tickets = 0 }
 
+-- the shares of all workers together: as many can there be at one time
+abbrev pub ALL_SHARES : ℕ
+ALL_SHARES = 1024
+
 -- the first worker, which has all shares
 abbrev pub first_numbers : Numbers
-first_numbers = record no_numbers { shares = 1024 }
+first_numbers = record no_numbers { shares = ALL_SHARES }
 
 -- after n was found in the row's word `next`: armed where it is below the end
 abbrev pub arming : ℕ → ℕ → ℕ → Numbers → Numbers

@@ -7,7 +7,7 @@ use Rattle.counter_table.specs.declared.view.Turn.{Turn}
 use Rattle.counter_table.specs.declared.view.View.{View}
 use Rattle.counter_table.specs.Known.{Earlier, IsSparing, known_mark}
 use Rattle.sdls_base.specs.Numbers.{times, once_below}
-use Rattle.counter_table.specs.Numbers.{top, arming, drawing, peeking, raising, lifting, first_numbers, no_numbers}
+use Rattle.counter_table.specs.Numbers.{top, arming, drawing, peeking, raising, lifting, first_numbers, no_numbers, ALL_SHARES}
 use Rattle.counter_table.specs.Whole.{IsWhole, Look}
 use Rattle.counter_table.specs.Turn.{epoch_seen, taking, giving, filling, learning, seeing, turning, no_turn}
 
@@ -51,7 +51,7 @@ module _ {S : Type 0} where
   abbrev pub looks : ℕ → Me S View → ℕ → Me S View → Type 0
   looks count m n w =
       (w ≡ m) × ((row x : ℕ) → row < count → times row x m.0.numbers.drawn ≤ 1)
-      × (m.0.numbers.shares ≡ 1024 → IsWhole count m.0)
+      × (m.0.numbers.shares ≡ ALL_SHARES → IsWhole count m.0)
       × Look m.0.turn
 
 -- the book that was found follows what was known of it
@@ -78,7 +78,7 @@ module _ {B : Type 0} (told : B → Known) where
   Took count m w =
       (b : B) × (w.1 ≡ (0, Some b) ∷ m.1) × (w.0 ≡ record m.0 { turn = taking (told b) m.0.turn })
       × Follows m.0.turn (told b) × IsCovered count m.0.numbers (told b)
-      × (m.0.numbers.shares ≡ 1024 → IsAsKnown m.0.turn (told b))
+      × (m.0.numbers.shares ≡ ALL_SHARES → IsAsKnown m.0.turn (told b))
 
   -- the turn was taken with the book, where it was free
   abbrev pub takes : ℕ → Me (Option B) View → ℕ → Me (Option B) View → Type 0

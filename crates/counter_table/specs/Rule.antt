@@ -1,16 +1,18 @@
 -- Profile: the rule of the counters, which holds between any two steps of any workers.
--- The words are the turn (0 free, 2 taken), the epoch, and from word 16 on 16 words for each row, of which the first is `next` and the second `limit`.
-use Rattle.std.specs.Prelude.{◌≡◌, ◌⊎◌, ℕ, ◌+◌, ◌*◌, ◌<◌, ◌≤◌, max, Bool, true, false, List, [], ◌∷◌, length, map, slice_index, Some, None, Option}
+-- The words are the turn (0 free, 2 taken), the epoch, and from word ROW_WORDS on ROW_WORDS words for each row.
+-- The first of these is `next`, and the second `limit`.
+use Rattle.std.specs.Prelude.{◌≡◌, ◌⊎◌, ℕ, ◌+◌, ◌*◌, ◌^◌, ◌<◌, ◌≤◌, max, Bool, true, false, List, [], ◌∷◌, length, map, slice_index, Some, None, Option}
 use mathlib.Core.Option as slot
 use lib.ListN.{get_elem?}
 use Rattle.atomic_table.specs.Table.{State}
+use Rattle.counter_table.specs.declared.drawing.TheConstants.{ROW_WORDS}
 use Rattle.counter_table.specs.declared.view.Known.{Known}
 use Rattle.counter_table.specs.declared.view.Numbers.{Numbers}
 use Rattle.counter_table.specs.declared.view.Turn.{Turn}
 use Rattle.counter_table.specs.declared.view.View.{View}
 use Rattle.counter_table.specs.Known.{known_mark, Earlier, IsSparing, unknown}
 use Rattle.sdls_base.specs.Numbers.{one_if, times, total, once_below}
-use Rattle.counter_table.specs.Numbers.{count_of, amount, top, is_armed, is_last, no_numbers}
+use Rattle.counter_table.specs.Numbers.{ALL_SHARES, count_of, amount, top, is_armed, is_last, no_numbers}
 use Rattle.counter_table.specs.Turn.{stands, no_turn}
 
 -- the greatest over all workers
@@ -19,14 +21,14 @@ greatest f [] = 0
 greatest f (v ∷ vs) = max (f v) (greatest f vs)
 
 abbrev pub next_at : ℕ → ℕ
-next_at row = 16 * row + 16
+next_at row = ROW_WORDS * row + ROW_WORDS
 
 abbrev pub limit_at : ℕ → ℕ
-limit_at row = 16 * row + 17
+limit_at row = next_at row + 1
 
 -- the greatest end of a key, 2 ^ 48, and one for each share
 abbrev pub most : ℕ
-most = 281474976711680
+most = 2 ^ 48 + ALL_SHARES
 
 -- what a worker knows of a row with these words
 pub record SeatFits (row next limit : ℕ) (v : Numbers) : Type 0 where
@@ -56,9 +58,9 @@ pub record IsSane (v : Numbers) : Type 0 where
   pub alive : (v ≡ no_numbers) ⊎ (0 < v.shares)
 
 pub record NumbersFit (count : ℕ) (words : List ℕ) (views : List Numbers) : Type 0 where
-  pub size : length words ≡ 16 * count + 16
+  pub size : length words ≡ ROW_WORDS * count + ROW_WORDS
   pub rows : (row : ℕ) → row < count → RowFits row (slice_index words (next_at row)) (slice_index words (limit_at row)) views
-  pub shares : total (λ v. v.shares) views ≡ 1024
+  pub shares : total (λ v. v.shares) views ≡ ALL_SHARES
   pub sane : (id : ℕ) (v : Numbers) → get_elem? views id ≡ slot.some v → IsSane v
 
 -- what a worker knows of the book, where this is the book at home, or out as its holder knows it

@@ -1,6 +1,7 @@
 //! The counters, and what steps on them.
 ghost use Rattle.std.specs.Prelude.{◌≡◌, ◌+◌, ◌*◌, ◌<◌, ◌≤◌, true, [], vec_capacity};
 ghost use Rattle.counter_table.specs.Turn.{slots_fit};
+ghost use Rattle.counter_table.specs.declared.drawing.TheConstants.{ROW_WORDS};
 
 use crate::rule::{Counted, Rule};
 use crate::view::View;
@@ -13,7 +14,7 @@ pub struct Counters<B: Counted> {
     pub(crate) rows: u16,
     // Room for the words `next` at the end.
     pub(crate) room: Vec<u64>,
-    ghost sized: { (table.shared.table_id.words ≡ 16 * rows + 16) × (table.shared.table_id.slots ≡ 1) × (table.shared.key ≡ rows) × (0 < rows) },
+    ghost sized: { (table.shared.table_id.words ≡ ROW_WORDS * rows + ROW_WORDS) × (table.shared.table_id.slots ≡ 1) × (table.shared.key ≡ rows) × (0 < rows) },
     ghost roomy: { (room.items ≡ []) × (rows ≤ vec_capacity room) },
 }
 

@@ -9,16 +9,19 @@ use crate::rule::{Arms, Counted, Draws, Peeks, Told};
 use crate::ticket::{Arm, Armed, Funded, Ticket};
 use std::marker::Brand;
 
+// The words of each row, and those in front of the first row, so that no two rows share a cache line.
+pub(crate) const ROW_WORDS: usize = 16;
+
 pub(crate) fn next_word(row: u16) -> usize
     ensures { result ≡ next_at row }
 {
-    16 * usize::from(row) + 16
+    ROW_WORDS * usize::from(row) + ROW_WORDS
 }
 
 pub(crate) fn limit_word(row: u16) -> usize
     ensures { result ≡ limit_at row }
 {
-    16 * usize::from(row) + 17
+    next_word(row) + 1
 }
 
 impl<B: Counted> Counters<B> {

@@ -4,7 +4,7 @@ ghost use mathlib.Core.Option.{some};
 ghost use lib.ListN.{get_elem?};
 ghost use Rattle.std.specs.Mem.Slots.{slots_items, slots_len, IsFull};
 ghost use Rattle.sdls_base.specs.Numbers.{times};
-ghost use Rattle.counter_table.specs.Numbers.{joined, keeper, newcomer};
+ghost use Rattle.counter_table.specs.Numbers.{ALL_SHARES, joined, keeper, newcomer};
 ghost use Rattle.counter_table.specs.Turn.{beginner, merged};
 ghost use Rattle.counter_table.specs.Rule.{next_at};
 ghost use Rattle.counter_table.specs.Play.{first_view};
@@ -13,7 +13,7 @@ ghost use Rattle.counter_table.specs.Whole.{IsWhole, Look, Meet};
 ghost use Rattle.counter_table.specs.Worker.{view, rows_of, IsOf, IsSame};
 
 use crate::counters::{Counters, Worker};
-use crate::drawing::next_word;
+use crate::drawing::{ROW_WORDS, next_word};
 use crate::rule::{Counted, Looks, Shares, Told};
 use atomic_table::{Closed, Table};
 use sdls_base::NoMemory;
@@ -22,9 +22,9 @@ use std::marker::Brand;
 
 // The words at the start: turn and epoch are 0, and each row begins with 1.
 fn first_words(alloc: Global, rows: u16) -> Result<Vec<u64>, AllocError>
-    ensures { IfOk result (λ words. words.items ≡ slice_set (slice_set (replicate (16 * rows + 16) 1) 0 0) 1 0) }
+    ensures { IfOk result (λ words. words.items ≡ slice_set (slice_set (replicate (ROW_WORDS * rows + ROW_WORDS) 1) 0 0) 1 0) }
 {
-    let mut words = Vec::from_elem(alloc, 1, 16 * usize::from(rows) + 16)?;
+    let mut words = Vec::from_elem(alloc, 1, ROW_WORDS * usize::from(rows) + ROW_WORDS)?;
     words[0] = 0;
     words[1] = 0;
     Ok(words)
@@ -75,7 +75,7 @@ impl<B: Counted> Counters<B> {
             → Meet (view worker.old).turn (view other).turn }
 
         // Who has all shares did all.
-        ensures whole { (view worker.new).numbers.shares ≡ 1024 → IsWhole (rows_of self.now) (view worker.new) }
+        ensures whole { (view worker.new).numbers.shares ≡ ALL_SHARES → IsWhole (rows_of self.now) (view worker.new) }
     {
         let seat = other.into_seat();
         self.table
@@ -87,7 +87,7 @@ impl<B: Counted> Counters<B> {
     /// Ends the counters, and gives the book and each row's word `next`. All workers but this one were joined.
     pub fn close(self, worker: Worker<B>) -> (B, Vec<u64>)
         requires own { IsOf self worker }
-        requires all { (view worker).numbers.shares ≡ 1024 }
+        requires all { (view worker).numbers.shares ≡ ALL_SHARES }
         requires free { (view worker).turn.holds ≡ false }
         requires filled { (view worker).turn.filled ≡ true }
         ensures { ClosesCounters (rows_of self) (view worker) (B.told result.0) result.1.items }
@@ -108,7 +108,7 @@ impl<B: Counted> Counters<B> {
         ensures same { IsSame worker.old worker.new }
         ensures view { view worker.new ≡ view worker.old }
         ensures apart { (row x : ℕ) → row < rows → times row x (view worker.old).numbers.drawn ≤ 1 }
-        ensures whole { (view worker.old).numbers.shares ≡ 1024 → IsWhole rows (view worker.old) }
+        ensures whole { (view worker.old).numbers.shares ≡ ALL_SHARES → IsWhole rows (view worker.old) }
         ensures look { Look (view worker.old).turn }
     {
         let _rows = rows;
@@ -118,7 +118,7 @@ impl<B: Counted> Counters<B> {
 
 // The rows' words `next`, in the room that was kept for them.
 fn nexts_of<S>(closed: &Closed<S, Global>, rows: u16, mut room: Vec<u64>) -> Vec<u64>
-    requires size { slots_len closed.now.words ≡ 16 * rows + 16 }
+    requires size { slots_len closed.now.words ≡ ROW_WORDS * rows + ROW_WORDS }
     requires full { IsFull closed.now.words }
     requires room { (room.items ≡ []) × (rows ≤ vec_capacity room) }
     ensures rows { length result.items ≡ rows }

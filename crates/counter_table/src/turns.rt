@@ -1,7 +1,7 @@
 //! The turn, the book and the epoch. Of these calls `take` alone waits.
 ghost use Rattle.std.specs.Prelude.{◌≡◌, ◌+◌, ◌<◌, ◌≤◌, ◌^◌, ℕ, true, false, [], ◌∷◌, Some, None, max, slice_index_or};
 ghost use Rattle.counter_table.specs.Known.{known_mark, LowersNoMark, MayFill, MayGive};
-ghost use Rattle.counter_table.specs.Numbers.{lifting, raising, top};
+ghost use Rattle.counter_table.specs.Numbers.{lifting, raising, top, ALL_SHARES};
 ghost use Rattle.counter_table.specs.Turn.{epoch_seen, filling, giving, learning, seeing, taking, turning};
 ghost use Rattle.counter_table.specs.Play.{Follows, IsAsKnown, IsCovered, Took};
 ghost use Rattle.counter_table.specs.Worker.{view, rows_of, IsOf, IsSame, KeepsNumbers, KeepsTurn};
@@ -27,7 +27,7 @@ impl<B: Counted> Counters<B> {
     /// Puts the first book in its place. All workers but this one were joined.
     pub fn fill(&self, worker: &mut Worker<B>, book: B)
         requires own { IsOf self.now worker.old }
-        requires all { (view worker.old).numbers.shares ≡ 1024 }
+        requires all { (view worker.old).numbers.shares ≡ ALL_SHARES }
         requires free { (view worker.old).turn.holds ≡ false }
         requires first { (view worker.old).turn.filled ≡ false }
         requires book { MayFill (B.told book) }
@@ -53,7 +53,7 @@ impl<B: Counted> Counters<B> {
         ensures covered { IsCovered (rows_of self.now) (view worker.old).numbers (B.told result.book) }
 
         // Who has all shares finds the book as it was known.
-        ensures as_known { (view worker.old).numbers.shares ≡ 1024 → IsAsKnown (view worker.old).turn (B.told result.book) }
+        ensures as_known { (view worker.old).numbers.shares ≡ ALL_SHARES → IsAsKnown (view worker.old).turn (B.told result.book) }
     {
         self.seize::<Brand, R>(rt, &mut worker.seat, self.rows);
         let book = self.lift_out(&mut worker.seat);

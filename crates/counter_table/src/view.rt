@@ -8,7 +8,7 @@ use unit_state::State;
 
 /// What a worker knows of the rows' numbers. A pair is a row with a number, and of each list the newest is the last.
 pub struct Numbers {
-    /// Its part of the 1,024 shares.
+    /// Its part of all shares.
     pub shares: u64,
     /// The row that it is armed for.
     pub armed: Option<u64>,

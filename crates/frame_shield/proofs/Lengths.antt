@@ -26,6 +26,7 @@ use Rattle.frame_shield.specs.Body.{ocf_of}
 use Rattle.sdls_base.specs.Link.{has_fecf, IsInBounds}
 use Rattle.frame_shield.specs.Binding.{clear_layout, gain_of}
 use Rattle.frame_shield.specs.Shield.{most_of, prefix_for}
+use Rattle.frame_shield.specs.declared.protecting_frames.TheConstants.{FRAME_ROOM}
 use Rattle.std.proofs.lemmas.List.{length-drop}
 
 -- the octets of a frame before its error control field
@@ -142,7 +143,7 @@ gains suite (Aos layout) (tc p) clear bounds is = absurd is
 gains suite (Aos layout) (tm p) clear bounds is = absurd is
 gains suite (Aos layout) (aos p) clear bounds is = omega (arith, gain_most suite layout.fecf, ap length is.spelled, is.fits.whole, bounds.1)
 
-pub most_short : (layout : AnyLayout) → IsInBounds layout → most_of layout ≤ 2048
+pub most_short : (layout : AnyLayout) → IsInBounds layout → most_of layout ≤ FRAME_ROOM
 most_short (Tc layout) bounds = omega arith
 most_short (Tm layout) bounds = bounds.1
 most_short (Aos layout) bounds = bounds.2

@@ -16,5 +16,5 @@ mod sealing;
 pub use binding::Binding;
 pub use laws::{opens_once, protected_once, protected_opens};
 pub use opening_frames::{Opened, unshield};
-pub use protecting_frames::{ShieldFault, fits, shield};
+pub use protecting_frames::{FRAME_ROOM, ShieldFault, fits, shield};
 pub use sdls_base::{AnyLayout, Link, Mask};

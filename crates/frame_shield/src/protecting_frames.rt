@@ -18,6 +18,9 @@ use sdls_base::{AnyLayout, Suite, put, put_fecf, put_optional};
 use sdls_header::{SecurityHeader, Vector, mask_in_place, write_header};
 use thiserror::Error;
 
+/// The octets of room that each protected frame fits into.
+pub const FRAME_ROOM: usize = 2048;
+
 /// Why a frame is not protected.
 #[derive(Clone, Copy, Debug, PartialEq, Eq, Error)]
 pub enum ShieldFault {
@@ -100,7 +103,7 @@ fn put_header(out: &mut [u8], at: usize, header: &SecurityHeader) -> usize
 fn put_room(out: &mut [u8], at: usize, binding: &Binding, vector: Vector, field: &[u8]) -> usize
     requires vector { IsVectorOf binding.now.suite vector }
     requires front { at ≤ 70 }
-    requires field { length field.now ≤ 2048 }
+    requires field { length field.now ≤ FRAME_ROOM }
     requires room { at + overhead_of binding.now.suite + length field.now ≤ length out.old }
     ensures place { result ≡ at + overhead_of binding.now.suite + length field.now }
     ensures written { take result out.new ≡ take at out.old ++ room_behind binding.now vector (take at out.old) field.now }
@@ -131,7 +134,7 @@ fn put_secured(
     requires layout { IsInBounds binding.now.link.layout }
     requires count { (1 ≤ count) × (count ≤ most_of binding.now.link.layout) }
     requires prefix { (5 ≤ length prefix.now) × (length prefix.now ≤ 70) }
-    requires field { length field.now ≤ 2048 }
+    requires field { length field.now ≤ FRAME_ROOM }
     requires room { length prefix.now + overhead_of binding.now.suite + length field.now ≤ length out.old }
     ensures place { result ≡ length prefix.now + overhead_of binding.now.suite + length field.now }
     ensures written { let front = prefix_for binding.now.link.layout prefix.now count in
@@ -169,7 +172,7 @@ fn clear_body<'a>(binding: &Binding, clear: &'a [u8]) -> Body<'a>
         + length (unwrap_or (option_copied result.ocf) []) }
     ensures gain { length clear.now + gain_of binding.now.suite binding.now.link.layout
         ≤ most_of binding.now.link.layout }
-    ensures short { most_of binding.now.link.layout ≤ 2048 }
+    ensures short { most_of binding.now.link.layout ≤ FRAME_ROOM }
 {
     body_of(clear, &clear_layout(binding.suite, &binding.link.layout))
 }
@@ -181,7 +184,7 @@ pub fn shield(binding: &Binding, number: u64, clear: &[u8], out: &mut [u8]) -> u
     requires binding { IsBinding binding.now }
     requires fits { clear_fault binding.now clear.now ≡ None }
     requires number { (1 ≤ number) × (number < end_of binding.now.key) }
-    requires room { 2048 ≤ length out.old }
+    requires room { FRAME_ROOM ≤ length out.old }
     ensures count { result ≡ length clear.now + gain_of binding.now.suite binding.now.link.layout }
     ensures protected { Protects binding.now number clear.now (take result out.new) }
     ensures rest { drop result out.new ≡ drop result out.old }

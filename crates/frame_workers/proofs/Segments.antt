@@ -5,11 +5,13 @@ use Rattle.std.proofs.lemmas.Bool.{cases_eq}
 use Rattle.std.proofs.lemmas.Bool.Decides.{nat_tests}
 use Rattle.std.proofs.lemmas.List.{take_all, drop_all, length-take}
 use Rattle.std.proofs.lemmas.List.Elements.{All-contains}
+use Rattle.sdls_base.specs.declared.TheConstants.{MOST_KEYS}
 use Rattle.counter_table.specs.declared.counters.Worker.{Worker}
 use Rattle.counter_table.specs.declared.view.View.{View}
 use Rattle.counter_table.specs.Worker.{view}
 use Rattle.record_io.specs.declared.records.Record.{Record}
 use Rattle.record_io.specs.declared.answers.Answer.{Answer}
+use Rattle.record_io.specs.declared.kinds.TheConstants.{LANES}
 use Rattle.law_worker.specs.Begin.{Begin}
 use Rattle.law_worker.specs.Views.{KnowsMore, keeping, starting, meeting, Meets}
 use Rattle.law_worker.specs.Deeds.{deeds_of}
@@ -123,14 +125,14 @@ none_of (x ∷ xs) h = absurd (omega arith)
 
 module _ {B : Type 0} (ready : Worker B → Type 0) (told : Bool) (rs : List Record) (base : View) (old new : List (Lane B))
     (split : All (IsSplit ready rs base) old) (apart : AllPairs HaveOwnNumbers old)
-    (each : (n : ℕ) → n < 16 → list_any (is_of_lane n) rs ≡ true → IsThere n old) (many : length new ≡ length old)
+    (each : (n : ℕ) → n < LANES → list_any (is_of_lane n) rs ≡ true → IsThere n old) (many : length new ≡ length old)
     (ran : (k : ℕ) (d : Lane B) → k < length old → HasRun ready told rs (slice_index_or old k d) (slice_index_or new k d)) where
   pub new_apart : AllPairs HaveOwnNumbers new
   new_apart i j d lt low e =
       let one = ran i d (omega arith) in let two = ran j d (omega arith) in
       apart i j d lt (omega arith) (sym one.number ∙ (e ∙ two.number))
 
-  pub new_ready : All (λ (lane : Lane B). ready lane.worker × (lane.number < 16)) new
+  pub new_ready : All (λ (lane : Lane B). ready lane.worker × (lane.number < LANES)) new
   new_ready k d low =
       let run = ran k d (omega arith) in let is = split k d (omega arith) in let number = run.number in let below = is.below in
       (run.is_ready, omega arith)
@@ -166,7 +168,7 @@ module _ {B : Type 0} (ready : Worker B → Type 0) (told : Bool) (rs : List Rec
       (deeds_of s (of_lane n rs) (slice_index_or new k d).answers.items)) (sym run.number) g)
 
   module _ (now : View) (given : now ≡ giving_shares (length old) base) (few : length old < base.numbers.shares) (free : base.turn.holds ≡ false)
-      (filled : base.turn.filled ≡ true) (meet : MeetAll 512 now (parts_of new)) where
+      (filled : base.turn.filled ≡ true) (meet : MeetAll MOST_KEYS now (parts_of new)) where
     abbrev joined : View
     joined = meeting_all now (parts_of new)
 
@@ -195,7 +197,7 @@ module _ {B : Type 0} (ready : Worker B → Type 0) (told : Bool) (rs : List Rec
         lanes_grow begin now (parts_of new) now_free now_filled (λ k d low. same_opening k d low ∙ sym same)
         (subst (λ (n : ℕ). MeetAll n now (parts_of new)) (sym rows) meet)
 
-    module _ (two : 1 < base.numbers.shares) (back : Meets 512 (keeping joined) (starting joined)) where
+    module _ (two : 1 < base.numbers.shares) (back : Meets MOST_KEYS (keeping joined) (starting joined)) where
       abbrev last : View
       last = meeting (keeping joined) (starting joined)
 
@@ -228,10 +230,10 @@ module _ {B : Type 0} (ready : Worker B → Type 0) (told : Bool) (rs : List Rec
           let b = used_lane m.number lane rs all (of_them 1 l (omega arith)).used in
           absurd (differ 0 1 l (omega arith) (omega arith) (a ∙ sym b))
 
-      no_records : old ≡ [] → All (λ (t : Record). t.lane < 16) rs → (ts : List Record) → ts ≡ rs → ts ≡ []
+      no_records : old ≡ [] → All (λ (t : Record). t.lane < LANES) rs → (ts : List Record) → ts ≡ rs → ts ≡ []
       no_records none low [] is = refl
       no_records none low (t ∷ ts) is =
-          let below : t.lane < 16 = subst (All (λ (r : Record). r.lane < 16)) (sym is) low 0 t (omega arith) in
+          let below : t.lane < LANES = subst (All (λ (r : Record). r.lane < LANES)) (sym is) low 0 t (omega arith) in
           let there = each t.lane below (subst (λ (l : List Record). list_any (is_of_lane t.lane) l ≡ true) is (used (t ∷ ts) 0 t refl)) in
           absurd (nobody (subst (IsThere t.lane) none there))
         where
@@ -241,7 +243,7 @@ module _ {B : Type 0} (ready : Worker B → Type 0) (told : Bool) (rs : List Rec
       last_of : List (Lane B) → View
       last_of ns = looked (meeting_all now (parts_of ns))
 
-      pub all_exactly : (lane : ℕ) → All (λ (t : Record). t.lane ≡ lane) rs → All (λ (t : Record). t.lane < 16) rs → (begin : Begin) (s : ℕ)
+      pub all_exactly : (lane : ℕ) → All (λ (t : Record). t.lane ≡ lane) rs → All (λ (t : Record). t.lane < LANES) rs → (begin : Begin) (s : ℕ)
           → BeganWith told begin base.turn.known.opening → (answers rest : List Answer) → answers ++ rest ≡ answers_of lane (parts_of new)
           → (length answers ≡ length rs) ⊎ StopsAt rs (λ n. answers_of n (parts_of new)) (length answers)
           → ServedAlone begin base last (length rs) (deeds_of s rs answers)
@@ -312,12 +314,12 @@ module _ {B : Type 0} (ready : Worker B → Type 0) (told : Bool) (rs : List Rec
       starts = record { nexts = λ r. omega arith; earlier = (grows_itself base).earlier; opening = refl; epochs = omega arith }
 
       -- the first record without an answer is one for which the history is full
-      pub all_ends : (begin : Begin) → BeganWith told begin base.turn.known.opening → All (λ (t : Record). t.lane < 16) rs → (answers : List Answer)
+      pub all_ends : (begin : Begin) → BeganWith told begin base.turn.known.opening → All (λ (t : Record). t.lane < LANES) rs → (answers : List Answer)
           → StopsAt rs (λ n. answers_of n (parts_of new)) (length answers) → EndsSegment begin base last rs answers true
       all_ends begin b lanes answers stop =
           let r : Record = stop.task in
           let place = found rs (length answers) r stop.there in
-          let below : r.lane < 16 = subst (λ (t : Record). t.lane < 16) (sym place.1) (lanes (length answers) r place.0) in
+          let below : r.lane < LANES = subst (λ (t : Record). t.lane < LANES) (sym place.1) (lanes (length answers) r place.0) in
           let there = each r.lane below (used rs (length answers) r stop.there) in
           go stop place there
         where

@@ -6,6 +6,7 @@ use Rattle.counter_table.specs.declared.view.View.{View}
 use Rattle.counter_table.specs.Worker.{view}
 use Rattle.record_io.specs.declared.records.Record.{Record}
 use Rattle.record_io.specs.declared.answers.Answer.{Answer}
+use Rattle.record_io.specs.declared.kinds.TheConstants.{LANES}
 use Rattle.shared_unit.specs.Protecting.{IsTrueIfKept}
 use Rattle.law_worker.specs.Begin.{Begin}
 use Rattle.law_worker.specs.Views.{starting}
@@ -42,7 +43,7 @@ module _ {B : Type 0} (ready : Worker B → Type 0) where
 
   -- a lane of one of the records, that was split from a worker with this view, and may run
   pub record IsSplit (tasks : List Record) (base : View) (lane : Lane B) : Type 0 where
-    pub below : lane.number < 16
+    pub below : lane.number < LANES
     pub used : list_any (is_of_lane lane.number) tasks ≡ true
     pub can : CanRun tasks lane
     pub from : view lane.worker ≡ starting base

@@ -77,9 +77,12 @@ fn field_of(mut octets: Vec<u8>, from: usize, to: usize) -> Vec<u8>
     octets
 }
 
+/// The octets of the answer that tells a window.
+pub(crate) const WINDOW_OCTETS: usize = 16;
+
 /// The highest number accepted and the width of the window, 8 octets each.
 fn window_octets(mut room: Vec<u8>, high: u64, width: u64) -> Vec<u8>
-    requires { 16 ≤ vec_capacity room }
+    requires { WINDOW_OCTETS ≤ vec_capacity room }
     ensures { result.items ≡ to_be_bytes w64 high ++ to_be_bytes w64 width }
 {
     room.clear();
@@ -119,7 +122,7 @@ fn state_code(state: SaState) -> u8
 
 /// By the checks of a frame that was opened; `octets` are the frame's as the call left them.
 fn answer_opening(alloc: Global, reply: OpenReply, position: u64, octets: Vec<u8>) -> Answer
-    requires { 16 ≤ vec_capacity octets }
+    requires { WINDOW_OCTETS ≤ vec_capacity octets }
     ensures { result ≡ answering.answer_of (told.opened_told reply (field_in reply octets.items)) position }
 {
     match reply {
@@ -165,7 +168,7 @@ pub(crate) fn opened_answer(
     outcome: Result<(OpenReply, u64), (BookFault, u64)>,
     octets: Vec<u8>,
 ) -> Option<Answer>
-    requires { 16 ≤ vec_capacity octets }
+    requires { WINDOW_OCTETS ≤ vec_capacity octets }
     ensures { result ≡ answering.opened_answer outcome octets.items }
 {
     match outcome {

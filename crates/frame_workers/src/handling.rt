@@ -11,21 +11,21 @@ ghost use Rattle.law_worker.specs.Order.{Layout};
 ghost use Rattle.law_calls.specs.Answering.{Answered, AnsweredExactly};
 ghost use Rattle.law_calls.specs.Visiting.{BeganWith};
 
-use crate::answering::{answer_no_memory, commanded_answer, opened_answer, protected_answer};
+use crate::answering::{
+    WINDOW_OCTETS, answer_no_memory, commanded_answer, opened_answer, protected_answer,
+};
+use frame_shield::FRAME_ROOM;
 use record_io::{Answer, Record, RecordKind};
 use sdls_outside::Site;
 use shared_unit::{Permit, Unit, Worker};
 use std::alloc::{AllocError, Global};
 use std::sync::Wait;
 
-/// The octets of the longest protected frame.
-const ROOM: usize = 2_048;
-
 /// A room for a protected frame.
 fn take_room(alloc: Global) -> Result<Vec<u8>, AllocError>
-    ensures { IfOk result (λ room. length room.items ≡ 2048) }
+    ensures { IfOk result (λ room. length room.items ≡ FRAME_ROOM) }
 {
-    vec![in alloc; 0; ROOM]
+    vec![in alloc; 0; FRAME_ROOM]
 }
 
 /// Protects the record's frame.
@@ -56,12 +56,12 @@ fn protect<R: Wait, O: Site>(
     protected_answer(alloc, protected, out)
 }
 
-/// A copy of the octets, with room for 16 at least.
+/// A copy of the octets, with room for the answer that tells a window.
 fn copy_octets(alloc: Global, octets: &[u8]) -> Result<Vec<u8>, AllocError>
     ensures items { IfOk result (λ copy. copy.items ≡ octets.now) }
-    ensures room { IfOk result (λ copy. 16 ≤ vec_capacity copy) }
+    ensures room { IfOk result (λ copy. WINDOW_OCTETS ≤ vec_capacity copy) }
 {
-    let mut copy = Vec::with_capacity(alloc, octets.len().max(16))?;
+    let mut copy = Vec::with_capacity(alloc, octets.len().max(WINDOW_OCTETS))?;
     copy.extend_from_slice(octets)?;
     Ok(copy)
 }

@@ -1,6 +1,7 @@
 // The workers of lanes, split from one and joined to it again.
 ghost use Rattle.std.specs.Prelude.{◌≡◌, ◌≢◌, ◌<◌, ◌≤◌, ℕ, All, true, [], IfOk, length, slice_index_or, vec_capacity};
 ghost use Rattle.std.specs.List.{AllPairs, list_any};
+ghost use Rattle.sdls_base.specs.declared.TheConstants.{MOST_KEYS};
 ghost use Rattle.counter_table.specs.Worker.{view};
 ghost use Rattle.shared_unit.specs.Turn.{IsReady};
 ghost use Rattle.law_worker.specs.Lanes.{giving_shares, is_of_lane, MeetAll, meeting_all, Part};
@@ -34,8 +35,8 @@ fn room_for(alloc: Global, records: &[Record], number: u8) -> Result<Vec<Answer>
 
 /// Rooms for the answers of the lanes.
 pub(crate) fn rooms_for(alloc: Global, records: &[Record]) -> Result<Vec<Vec<Answer>>, NoMemory>
-    ensures many { IfOk result (λ rooms. length rooms.items ≡ 16) }
-    ensures rooms { IfOk result (λ rooms. (k : ℕ) (d : _) → k < 16 → IsRoom records.now k (slice_index_or rooms.items k d)) }
+    ensures many { IfOk result (λ rooms. length rooms.items ≡ LANES) }
+    ensures rooms { IfOk result (λ rooms. (k : ℕ) (d : _) → k < LANES → IsRoom records.now k (slice_index_or rooms.items k d)) }
 {
     let mut rooms = Vec::with_capacity(alloc, usize::from(LANES))?;
     for number in 0..LANES {
@@ -54,16 +55,16 @@ pub(crate) fn split_lanes<O: Site>(
     lanes: &mut Vec<Lane<Shelf<O>>>,
 )
     requires ready { IsReady unit.now.counters unit.now.plan worker.old }
-    requires shares { 17 ≤ (view worker.old).numbers.shares }
-    requires many { length rooms.items ≡ 16 }
-    requires rooms { (k : ℕ) (d : _) → k < 16 → IsRoom records.now k (slice_index_or rooms.items k d) }
-    requires room { (lanes.old.items ≡ []) × (16 ≤ vec_capacity lanes.old) }
+    requires shares { LANES < (view worker.old).numbers.shares }
+    requires many { length rooms.items ≡ LANES }
+    requires rooms { (k : ℕ) (d : _) → k < LANES → IsRoom records.now k (slice_index_or rooms.items k d) }
+    requires room { (lanes.old.items ≡ []) × (LANES ≤ vec_capacity lanes.old) }
     ensures ready { IsReady unit.now.counters unit.now.plan worker.new }
-    ensures many { length lanes.new.items ≤ 16 }
+    ensures many { length lanes.new.items ≤ LANES }
     ensures given { view worker.new ≡ giving_shares (length lanes.new.items) (view worker.old) }
     ensures split { All (IsSplit (IsReady unit.now.counters unit.now.plan) records.now (view worker.old)) lanes.new.items }
     ensures apart { AllPairs HaveOwnNumbers lanes.new.items }
-    ensures each { (number : ℕ) → number < 16 → list_any (is_of_lane number) records.now ≡ true → IsThere number lanes.new.items }
+    ensures each { (number : ℕ) → number < LANES → list_any (is_of_lane number) records.now ≡ true → IsThere number lanes.new.items }
 {
     'rooms: while let Some(answers) = rooms.pop() {
         let number = rooms.len() as u8;
@@ -89,14 +90,14 @@ pub(crate) fn join_lanes<O: Site>(
     parts: &mut [Vec<Answer>],
 )
     requires ready { IsReady unit.now.counters unit.now.plan worker.old }
-    requires lanes { All (λ lane. IsReady unit.now.counters unit.now.plan lane.worker × (lane.number < 16)) lanes.items }
+    requires lanes { All (λ lane. IsReady unit.now.counters unit.now.plan lane.worker × (lane.number < LANES)) lanes.items }
     requires apart { AllPairs HaveOwnNumbers lanes.items }
-    requires many { length parts.old ≡ 16 }
+    requires many { length parts.old ≡ LANES }
     requires empty { (number : ℕ) → left_at number parts.old ≡ [] }
     ensures ready { IsReady unit.now.counters unit.now.plan worker.new }
     ensures joined { view worker.new ≡ meeting_all (view worker.old) (parts_of lanes.items) }
-    ensures meet { MeetAll 512 (view worker.old) (parts_of lanes.items) }
-    ensures many { length parts.new ≡ 16 }
+    ensures meet { MeetAll MOST_KEYS (view worker.old) (parts_of lanes.items) }
+    ensures many { length parts.new ≡ LANES }
     ensures parts { (number : ℕ) → left_at number parts.new ≡ answers_of number (parts_of lanes.items) }
 {
     'lanes: while let Some(lane) = lanes.pop() {

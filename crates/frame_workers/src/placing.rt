@@ -2,6 +2,7 @@
 ghost use Rattle.std.specs.Prelude.{◌≡◌, ◌<◌, ◌≤◌, ◌++◌, ℕ, List, All, Contains, true, false, [], length, vec_capacity};
 ghost use Rattle.record_io.specs.declared.answers.Answer.{Answer};
 ghost use Rattle.record_io.specs.declared.records.Record.{Record};
+ghost use Rattle.record_io.specs.declared.kinds.TheConstants.{LANES};
 ghost use Rattle.law_worker.specs.Deeds.{Deed, deeds_of};
 ghost use Rattle.frame_workers.specs.Lanes.{AreAmong, left_at, StopsAt};
 
@@ -13,8 +14,8 @@ pub(crate) fn place_answers(
     parts: &mut [Vec<Answer>],
     answers: &mut Vec<Answer>,
 ) -> bool
-    requires many { length parts.old ≡ 16 }
-    requires lanes { All (λ (task : Record). task.lane < 16) records.now }
+    requires many { length parts.old ≡ LANES }
+    requires lanes { All (λ (task : Record). task.lane < LANES) records.now }
     requires room { (answers.old.items ≡ []) × (length records.now ≤ vec_capacity answers.old) }
     ensures placed { (deeds : List Deed) (segment : ℕ) → ((number : ℕ) → AreAmong deeds segment number records.now (left_at number parts.old))
         → All (Contains deeds) (deeds_of segment records.now answers.new.items) }

@@ -1,7 +1,9 @@
 // A segment.
 ghost use Rattle.std.specs.Prelude.{◌≡◌, ◌<◌, ◌≤◌, ℕ, All, [], IfOk, OnErr, length};
+ghost use Rattle.sdls_base.specs.declared.TheConstants.{MOST_KEYS};
 ghost use Rattle.counter_table.specs.Whole.{IsWhole};
 ghost use Rattle.counter_table.specs.Worker.{view};
+ghost use Rattle.counter_table.specs.Numbers.{ALL_SHARES};
 ghost use Rattle.record_io.specs.declared.records.Record.{Record};
 ghost use Rattle.shared_unit.specs.Turn.{IsReady};
 ghost use Rattle.law_worker.specs.Begin.{Begin};
@@ -39,7 +41,7 @@ pub struct Segment {
 
 /// Empty rooms for the answers of each lane.
 fn empty_rooms(alloc: Global) -> Result<Vec<Vec<Answer>>, NoMemory>
-    ensures many { IfOk result (λ rooms. length rooms.items ≡ 16) }
+    ensures many { IfOk result (λ rooms. length rooms.items ≡ LANES) }
     ensures empty { IfOk result (λ rooms. (number : ℕ) → left_at number rooms.items ≡ []) }
 {
     let mut rooms = Vec::with_capacity(alloc, usize::from(LANES))?;
@@ -55,8 +57,8 @@ fn look_back<O: Site>(unit: &Unit<O>, worker: &mut Worker<O>)
     requires two { 1 < (view worker.old).numbers.shares }
     ensures ready { IsReady unit.now.counters unit.now.plan worker.new }
     ensures joined { view worker.new ≡ meeting (keeping (view worker.old)) (starting (view worker.old)) }
-    ensures meets { Meets 512 (keeping (view worker.old)) (starting (view worker.old)) }
-    ensures whole { (view worker.new).numbers.shares ≡ 1024 → IsWhole 512 (view worker.new) }
+    ensures meets { Meets MOST_KEYS (keeping (view worker.old)) (starting (view worker.old)) }
+    ensures whole { (view worker.new).numbers.shares ≡ ALL_SHARES → IsWhole MOST_KEYS (view worker.new) }
 {
     let other = unit.split(worker);
     unit.join(worker, other);
@@ -73,7 +75,7 @@ pub fn run_segment<R: Threads + Wait + Sync, O: Site + Send, G: Gate + Sync>(
     gate: &G,
 ) -> Result<Segment, NoMemory>
     requires ready { IsReady unit.now.counters unit.now.plan worker.old }
-    requires shares { 17 ≤ (view worker.old).numbers.shares }
+    requires shares { LANES < (view worker.old).numbers.shares }
     requires lanes { All (λ (task : Record). task.lane < LANES) records.now }
     requires ascend { Ascend records.now }
     ensures ready { IsReady unit.now.counters unit.now.plan worker.new }
@@ -96,7 +98,7 @@ pub fn run_segment<R: Threads + Wait + Sync, O: Site + Send, G: Gate + Sync>(
         → ServedAlone begin (view worker.old) (view worker.new) (length records.now) (deeds_of number records.now segment.answers.items)) }
 
     // Who has all shares did all.
-    ensures whole { (view worker.old).numbers.shares ≡ 1024 → IfOk result (λ segment. IsWhole 512 (view worker.new)) }
+    ensures whole { (view worker.old).numbers.shares ≡ ALL_SHARES → IfOk result (λ segment. IsWhole MOST_KEYS (view worker.new)) }
 {
     let rooms = rooms_for(alloc, records)?;
     let mut lanes = Vec::with_capacity(alloc, usize::from(LANES))?;

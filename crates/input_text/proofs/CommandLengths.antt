@@ -2,6 +2,7 @@
 use Rattle.std.proofs.Common.{ℕ, ◌≤◌, ◌∷◌, ◌++◌, length, arith, IsTrue, length-append}
 use Rattle.std.specs.Int.{w64, to_be_bytes, is_in_range}
 use Rattle.std.proofs.lemmas.Bool.Decides.{nat_tests}
+use Rattle.record_io.specs.declared.kinds.TheConstants.{MOST_RECORD_OCTETS}
 use Rattle.ep_codec.specs.Command.{IsInBounds, HasTypes, command_octets}
 use Rattle.ep_codec.specs.declared.command.Command.{Command}
 use Rattle.ep_codec.specs.declared.command.Command.TheVariants.{Rekeying, Activate, Deactivate, Verify, Destroy, Inventory, Compose, ReadNumber, Create, Delete, SetWindow, Rekey, Expire, SetNumber, Start, Stop, Status}
@@ -10,7 +11,7 @@ use Rattle.ep_codec.proofs.Lengths.{keys_length}
 up_to : (least greatest n : ℕ) → IsTrue (is_in_range least greatest n) → n ≤ greatest
 up_to least greatest n is = grind (arith, nat_tests)
 
-pub command_short : (command : Command) → IsInBounds command → HasTypes command → length (command_octets command) ≤ 2048
+pub command_short : (command : Command) → IsInBounds command → HasTypes command → length (command_octets command) ≤ MOST_RECORD_OCTETS
 unfolding IsInBounds HasTypes command_octets
 command_short (Rekeying master vector sealed tag) bounds types =
     let few = up_to 19 280 (length sealed) bounds in

@@ -1,5 +1,6 @@
 -- What taking words from a line answers (profile).
 use Rattle.std.specs.Prelude.{◌≡◌, ⊤, ℕ, ◌≤◌, List, length, Result, Ok, Err}
+use Rattle.record_io.specs.declared.kinds.TheConstants.{MOST_RECORD_OCTETS}
 use Rattle.hex.specs.Hex.{IsBytes}
 use Rattle.input_text.specs.declared.fault.LineError.{LineError}
 use Rattle.input_text.specs.declared.fault.LineError.TheVariants.{Fault, NoMemory}
@@ -20,4 +21,4 @@ AnswersField (Err error) value = IsNoMemory error
 -- a record has such octets
 pub record AreRecorded (octets : List ℕ) : Type 0 where
   pub each : IsBytes octets
-  pub few : length octets ≤ 2048
+  pub few : length octets ≤ MOST_RECORD_OCTETS

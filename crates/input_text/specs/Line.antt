@@ -4,6 +4,7 @@ use Rattle.unit_plan.specs.Lines.{words_of}
 use Rattle.record_io.specs.Input.{Item}
 use Rattle.record_io.specs.declared.kinds.ItemKind.TheVariants as items
 use Rattle.record_io.specs.declared.kinds.RecordKind.TheVariants as records
+use Rattle.record_io.specs.declared.kinds.TheConstants.{LANES}
 use Rattle.ep_codec.specs.Command.{command_octets}
 use Rattle.input_text.specs.declared.line.Line.{Line}
 use Rattle.input_text.specs.declared.line.Line.TheVariants.{Fence, Protect, Open, Command, Message}
@@ -21,7 +22,7 @@ line_words (Message lane octets) = codes "command" ∷ decimal lane ∷ codes "o
 
 -- a record has such a lane
 abbrev pub IsLane : ℕ → Type 0
-IsLane lane = lane < 16
+IsLane lane = lane < LANES
 
 -- the values lie in their bounds
 unfoldable pub IsLine : Line → Type 0

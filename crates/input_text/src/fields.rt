@@ -9,6 +9,7 @@ ghost use Rattle.input_text.specs.Fields.{AnswersField, IsFault, IsNoMemory, Are
 use crate::fault::{Expected, LineError, LineFault};
 use hex::FromHexError;
 use itoa::Buffer;
+use record_io::MOST_RECORD_OCTETS;
 use sdls_base::{KeyId, Octets, Spi};
 use std::alloc::{AllocError, Global};
 use std::marker::Model;
@@ -82,7 +83,7 @@ fn record_of(alloc: Global, word: &[u8]) -> Result<Option<Octets>, AllocError>
     let Some(octets) = octets_of(alloc, word)? else {
         return Ok(None);
     };
-    if octets.is_empty() || octets.len() > 2048 {
+    if octets.is_empty() || octets.len() > usize::from(MOST_RECORD_OCTETS) {
         return Ok(None);
     }
     Ok(Some(Octets::new(octets)))

@@ -5,6 +5,7 @@ ghost use Rattle.std.specs.Prelude.{◌≡◌, ◌≤◌, ◌∷◌, ◌++◌, l
 ghost use Rattle.std.specs.Int.{w16, to_be_bytes};
 ghost use Rattle.ep_codec.specs.Command.{IsInBounds, HasTypes, command_octets};
 ghost use Rattle.record_io.specs.Input.{item_octets};
+ghost use Rattle.record_io.specs.declared.kinds.TheConstants.{MOST_RECORD_OCTETS};
 ghost use Rattle.input_text.specs.Line.{IsLine, line_item};
 
 use crate::line::Line;
@@ -14,7 +15,7 @@ use std::alloc::Global;
 
 /// Puts an item of this kind.
 fn put(out: &mut Vec<u8>, kind: u8, lane: u8, link: u8, octets: &[u8]) -> Result<(), NoMemory>
-    requires { length octets.now ≤ 2048 }
+    requires { length octets.now ≤ MOST_RECORD_OCTETS }
     ensures { OnOk result (out.new.items
         ≡ out.old.items ++ kind ∷ lane ∷ link ∷ 0 ∷ to_be_bytes w16 (length octets.now) ++ octets.now) }
 {
@@ -30,7 +31,7 @@ fn message(alloc: Global, command: &Command) -> Result<Octets, NoMemory>
     requires bounds { IsInBounds command.now }
     requires types { HasTypes command.now }
     ensures spelled { IfOk result (λ octets. octets ≡ command_octets command.now) }
-    ensures short { IfOk result (λ octets. length octets ≤ 2048) }
+    ensures short { IfOk result (λ octets. length octets ≤ MOST_RECORD_OCTETS) }
 {
     write_pdu(alloc, command)
 }

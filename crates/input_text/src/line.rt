@@ -14,6 +14,7 @@ use crate::fault::{Expected, LineError, LineFault};
 use crate::fields::Fields;
 use crate::names::named;
 use ep_codec::Command;
+use record_io::LANES;
 use sdls_base::Octets;
 use std::alloc::Global;
 
@@ -36,7 +37,7 @@ fn lane(fields: &mut Fields<'_>) -> Result<u8, LineError>
     ensures read { IfOk result (λ lane. (fields.old ≡ decimal lane ∷ fields.new) × IsLane lane) }
     ensures only { (lane : ℕ) (rest : List (List ℕ)) → IsLane lane → fields.old ≡ decimal lane ∷ rest → AnswersField result lane }
 {
-    let lane = fields.bounded(Expected::Lane, 0, 15)?;
+    let lane = fields.bounded(Expected::Lane, 0, u64::from(LANES) - 1)?;
     Ok(lane as u8)
 }
 

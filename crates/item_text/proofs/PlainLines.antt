@@ -2,6 +2,7 @@
 use Rattle.std.proofs.Common.{◌≡◌, ℕ, ◌^◌, ◌<◌, ◌≤◌, IsTrue, List, [], ◌∷◌, ◌++◌, map, codes, refl, sym, ap, ◌∙◌, arith}
 use Rattle.std.specs.Fmt.{decimal}
 use Rattle.std.proofs.lemmas.Bool.Decides.{nat_tests}
+use Rattle.record_io.specs.declared.kinds.TheConstants.{LANES}
 use Rattle.sdls_base.specs.declared.states.Direction.{Direction}
 use Rattle.sdls_base.specs.declared.states.Direction.TheVariants.{Send, Receive}
 use Rattle.sdls_base.specs.declared.states.Suite.{Suite}
@@ -98,7 +99,7 @@ command_plain (Start spi) bounds types = ((refl, refl), values_plain (Start spi)
 command_plain (Stop spi) bounds types = ((refl, refl), values_plain (Stop spi) bounds types)
 command_plain (Status spi) bounds types = ((refl, refl), values_plain (Status spi) bounds types)
 
-lane_plain : (lane : ℕ) → lane < 16 → IsPlain (decimal lane)
+lane_plain : (lane : ℕ) → lane < LANES → IsPlain (decimal lane)
 lane_plain lane few = decimal_plain lane (omega arith)
 
 link_plain : (link : ℕ) → link < 2 ^ 8 → IsPlain (decimal link)

@@ -18,6 +18,7 @@ use Rattle.key_book.specs.KeyBook.{place_of}
 use Rattle.record_io.specs.declared.kinds.RecordKind.{RecordKind}
 use Rattle.record_io.specs.declared.kinds.RecordKind.TheVariants.{Protect, Command}
 use Rattle.record_io.specs.declared.records.Record.{Record}
+use Rattle.record_io.specs.declared.code.TheConstants.{SITE_FAULT}
 use Rattle.unit_state.specs.declared.state.State.{State}
 use Rattle.unit_state.specs.State.{key_row}
 use Rattle.unit_state.specs.History.{after}
@@ -251,7 +252,7 @@ module _ {O : Type 0} (told : Bool) (trace : O → Trace) (faults puts : O → �
     used_here change (replies.Refused code value) position step key number (inl is, of_key, of_number) = absurd (omega arith)
     used_here change (replies.Refused code value) position step key number (inr (is, some), of_key, of_number) = absurd (omega arith)
 
-    plain : (reply : Reply) → (replied_told reply).code ≢ 0x31
+    plain : (reply : Reply) → (replied_told reply).code ≢ SITE_FAULT
     plain (replies.Done key n pdu) is = absurd (omega arith)
     plain (replies.Refused code value) is = absurd (omega arith)
 

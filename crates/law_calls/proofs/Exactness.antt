@@ -8,7 +8,7 @@ use Rattle.sdls_base.specs.declared.entry.Entry.{Entry}
 use Rattle.sdls_base.specs.declared.entry.Logged.{Logged}
 use Rattle.sdls_base.specs.declared.entry.Logged.TheVariants as lines
 use Rattle.record_io.specs.declared.answers.Answer.{Answer}
-use Rattle.record_io.specs.declared.code.TheConstants.{JOURNAL_FULL, SITE_FAULT, STOPPED, NO_MEMORY}
+use Rattle.record_io.specs.declared.code.TheConstants.{JOURNAL_FULL, SITE_FAULT, STOPPED, NO_MEMORY, CLEAR, DONE, REFUSED, LAYOUT, STATE}
 use Rattle.record_io.specs.declared.kinds.RecordKind.{RecordKind}
 use Rattle.record_io.specs.declared.kinds.RecordKind.TheVariants.{Protect, Open, Command}
 use Rattle.record_io.specs.declared.records.Record.{Record}
@@ -109,8 +109,8 @@ module _ (begin : Begin) (segment : ℕ) (task : Record) (v w : View) (move : Mo
     in_turn = unserved_turn begin v w log es turned segment task move spent passes;
   }
 
-  -- codes from 31 on tell nothing of the move, but that a frame that is opened makes none
-  late_tells : (kind : RecordKind) → (kind ≡ Open → move ≡ Kept) → (code n position : ℕ) → 0x30 < code
+  -- codes behind JOURNAL_FULL tell nothing of the move, but that a frame that is opened makes none
+  late_tells : (kind : RecordKind) → (kind ≡ Open → move ≡ Kept) → (code n position : ℕ) → JOURNAL_FULL < code
       → TellsKind begin.start (entries_in w) kind (deed_of segment task (answer_of (counting code 0 n) position)) move
   late_tells Protect kept code n position late = record {
     protected = λ is. absurd (omega arith);
@@ -118,16 +118,16 @@ module _ (begin : Begin) (segment : ℕ) (task : Record) (v w : View) (move : Mo
     unbound = λ is. absurd (by_code is);
     full = λ is. absurd (omega arith);
   } where
-    by_code : (code ≡ 2) ⊎ ((0x10 ≤ code) × (code ≤ 0x14)) → ⊥
+    by_code : (code ≡ CLEAR) ⊎ ((LAYOUT ≤ code) × (code ≤ STATE)) → ⊥
     by_code (inl is) = omega arith
     by_code (inr is) = omega arith
   late_tells Open kept code n position late = kept refl
   late_tells Command kept code n position late = record { entry = λ is. absurd (by_code is); full = λ is. absurd (omega arith) } where
-    by_code : (code ≡ 3) ⊎ (code ≡ 4) → ⊥
+    by_code : (code ≡ DONE) ⊎ (code ≡ REFUSED) → ⊥
     by_code (inl is) = omega arith
     by_code (inr is) = omega arith
 
-  late : (code n position : ℕ) → 0x30 < code → IsServed (answer_of (counting code 0 n) position)
+  late : (code n position : ℕ) → JOURNAL_FULL < code → IsServed (answer_of (counting code 0 n) position)
   late code n position low same clean level marks = inl low
 
   pub wanting_exactly : (task.kind ≡ Open → move ≡ Kept) → AnsweredExactly begin segment v w task (Some unserved_answer)

@@ -4,6 +4,7 @@ use Rattle.std.proofs.lemmas.List.{append_cancel_left, take-append-le, take_all}
 use Rattle.sdls_base.specs.Numbers.{one_if, times}
 use Rattle.sdls_base.specs.declared.entry.Entry.{Entry}
 use Rattle.sdls_base.specs.declared.entry.Logged.{Logged}
+use Rattle.sdls_base.specs.declared.TheConstants.{MOST_KEYS}
 use Rattle.sdls_outside.specs.Faults.{Rose}
 use Rattle.sdls_outside.specs.Moments.{Trace}
 use Rattle.disk_journal.specs.Image.{records, slot_count}
@@ -187,7 +188,7 @@ module _ {O : Type 0} (told : Bool) (trace : O → Trace) (faults puts : O → �
       let a = counts.slots in let b = counts.used in (omega arith, omega arith)
 
   -- a number that was spent before lies below its mark in the book that was found
-  pub taken_marked : IsCovered 512 v.numbers (known_of_book trace faults puts found) → found.log ≡ log_of v → IsClean w → (key row number : ℕ) → row < begin.rows
+  pub taken_marked : IsCovered MOST_KEYS v.numbers (known_of_book trace faults puts found) → found.log ≡ log_of v → IsClean w → (key row number : ℕ) → row < begin.rows
       → IsRow begin v key row → 0 < times row number v.numbers.spent → IsMarked begin v key number
   taken_marked covered same clean key row number low there in' =
       let rows = began.rows in
@@ -232,7 +233,7 @@ covers {O} told trace faults puts begin v x w began free known same numbers earl
     (log_is told trace faults puts begin h.found h.given x.turn w.turn began_x free h.visits ∙ h.visits.takes.earlier.log.1)
     (subst (MadeAllLines v w) made_here all) in
     taken_marked told trace faults puts begin h.found h.given x.turn v w began_x free h.visits
-    (subst (λ (k : Numbers). IsCovered 512 k (known_of_book trace faults puts h.found)) numbers h.covered) log clean
+    (subst (λ (k : Numbers). IsCovered MOST_KEYS k (known_of_book trace faults puts h.found)) numbers h.covered) log clean
 
 -- What is known of a book at a stage of a call, where the site did not fail: its state is that after its entries, and its slots are
 -- those of the image.

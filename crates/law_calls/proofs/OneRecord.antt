@@ -8,6 +8,7 @@ use Rattle.sdls_base.specs.declared.entry.Entry.{Entry}
 use Rattle.sdls_base.specs.declared.entry.Logged.{Logged}
 use Rattle.record_io.specs.declared.records.Record.{Record}
 use Rattle.record_io.specs.declared.answers.Answer.{Answer}
+use Rattle.record_io.specs.declared.code.TheConstants.{SITE_FAULT}
 use Rattle.unit_state.specs.History.{after}
 use Rattle.counter_table.specs.declared.view.Turn.{Turn}
 use Rattle.counter_table.specs.declared.view.View.{View}
@@ -149,7 +150,7 @@ module _ (begin : Begin) (task : Record) (v w : View) where
     -- the record was handled, and has this answer
     pub handled_answered : (answer : Answer) → Fits (IsBetween begin v w) (course_in begin w) task answer
         → StandsWithin begin v w (deed_of segment task answer) → IsSpent begin w gains (deed_of segment task answer)
-        → (answer.code ≡ 0x31 → MadeLast w gains) → Handled layout begin v w (task ∷ []) (deed_of segment task answer ∷ [])
+        → (answer.code ≡ SITE_FAULT → MadeLast w gains) → Handled layout begin v w (task ∷ []) (deed_of segment task answer ∷ [])
     handled_answered answer fits stands_there used failed = record {
       does = record {
         gains = gains;
@@ -166,7 +167,7 @@ module _ (begin : Begin) (task : Record) (v w : View) where
             order = λ less. absurd (omega arith);
           }));
           used = one_all (IsSpent begin w gains) (deed_of segment task answer) used;
-          failed = one_all (λ (d : Deed). d.answer.code ≡ 0x31 → MadeLast w gains) (deed_of segment task answer) failed;
+          failed = one_all (λ (d : Deed). d.answer.code ≡ SITE_FAULT → MadeLast w gains) (deed_of segment task answer) failed;
         };
       };
       lined = lined;

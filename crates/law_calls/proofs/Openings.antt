@@ -9,6 +9,7 @@ use Rattle.frame_checks.specs.OpeningFrames.{IsOpenReply}
 use Rattle.record_io.specs.declared.kinds.RecordKind.{RecordKind}
 use Rattle.record_io.specs.declared.kinds.RecordKind.TheVariants.{Protect, Open}
 use Rattle.record_io.specs.declared.records.Record.{Record}
+use Rattle.record_io.specs.declared.code.TheConstants.{PROTECTED, DONE, SITE_FAULT}
 use Rattle.unit_plan.specs.PlanLines.{PlanLines}
 use Rattle.unit_state.specs.declared.state.State.{State}
 use Rattle.unit_state.specs.History.{after}
@@ -42,7 +43,7 @@ use Rattle.law_calls.proofs.Visit.{plan_is, whole}
 use Rattle.law_calls.proofs.Stages.{Call, Added, stage_found, barred, unstored, made}
 
 -- no answer to an opening uses a number, or tells that the site failed
-opened_plain : (reply : OpenReply) (field : List ℕ) → let code : ℕ = (opened_told reply field).code in (code ≢ 0) × (code ≢ 3) × (code ≢ 0x31)
+opened_plain : (reply : OpenReply) (field : List ℕ) → let code : ℕ = (opened_told reply field).code in (code ≢ PROTECTED) × (code ≢ DONE) × (code ≢ SITE_FAULT)
 opened_plain (opens.Accepted spi key number from to) field = (λ is. absurd (omega arith), λ is. absurd (omega arith), λ is. absurd (omega arith))
 opened_plain opens.Clear field = (λ is. absurd (omega arith), λ is. absurd (omega arith), λ is. absurd (omega arith))
 opened_plain (opens.Layout number) field = (λ is. absurd (omega arith), λ is. absurd (omega arith), λ is. absurd (omega arith))

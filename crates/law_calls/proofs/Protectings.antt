@@ -1,5 +1,5 @@
 -- The answer to a frame that was protected, or refused.
-use Rattle.std.proofs.Common.{◌≡◌, ◌≢◌, ◌⊎◌, ℕ, ◌<◌, ◌≤◌, Bool, IsTrue, true, false, not, ◌&&◌, ◌||◌, nat_lt, List, [], ◌∷◌, take, Option, Some, None, Ok, Err, refl, sym, ◌∙◌, ap, subst, arith, inl, inr, append-nil, if◌then◌else◌, eqb, eq-eqb}
+use Rattle.std.proofs.Common.{◌≡◌, ◌≢◌, ◌⊎◌, ℕ, ◌<◌, ◌≤◌, Bool, IsTrue, true, false, not, ◌&&◌, ◌||◌, nat_le, List, [], ◌∷◌, take, Option, Some, None, Ok, Err, refl, sym, ◌∙◌, ap, subst, arith, inl, inr, append-nil, if◌then◌else◌, eqb, eq-eqb}
 use Rattle.sdls_base.specs.KeyId.{end_of}
 use Rattle.sdls_base.specs.Numbers.{times}
 use Rattle.sdls_base.specs.declared.entry.Entry.{Entry}
@@ -9,7 +9,7 @@ use Rattle.record_io.specs.declared.answers.Answer.{Answer}
 use Rattle.record_io.specs.declared.kinds.RecordKind.{RecordKind}
 use Rattle.record_io.specs.declared.kinds.RecordKind.TheVariants.{Protect, Open, Command}
 use Rattle.record_io.specs.declared.records.Record.{Record}
-use Rattle.record_io.specs.declared.code.TheConstants.{PROTECTED, CLEAR, EXHAUSTED}
+use Rattle.record_io.specs.declared.code.TheConstants.{PROTECTED, CLEAR, EXHAUSTED, ACCEPTED, DONE, NUMBER, SITE_FAULT}
 use Rattle.unit_plan.specs.PlanLines.{PlanLines, link_of}
 use Rattle.unit_state.specs.declared.state.State.{State}
 use Rattle.unit_state.specs.History.{after, at_epoch, epoch_after}
@@ -79,7 +79,7 @@ module _ {O : Type 0} (told : Bool) (trace : O → Trace) (faults puts : O → �
   abbrev Finishes : List (ℕ × ℕ) → Type 0
   Finishes spent = (answer : Answer) → Fits (IsBetween begin v w) (course_in begin w) task answer → StandsWithin begin v w (deed_of segment task answer)
       → ((key number : ℕ) → Uses answer key number → (row : ℕ) × (row < begin.rows) × IsRow begin w key row × (0 < times row number spent))
-      → answer.code ≢ 0x31 → Handled layout begin v w (task ∷ []) (deed_of segment task answer ∷ [])
+      → answer.code ≢ SITE_FAULT → Handled layout begin v w (task ∷ []) (deed_of segment task answer ∷ [])
 
   pub looked : Looks v.turn w.turn → Turned v.turn.known.log [] v.turn w.turn
   looked l = subst (λ (t : Turn). Turned v.turn.known.log [] v.turn t) (sym l.is) (record {
@@ -254,36 +254,36 @@ module _ {O : Type 0} (told : Bool) (trace : O → Trace) (faults puts : O → �
   kind_true = ap is_protected protects
 
   epoch_stands : (fields : Told) (epoch : ℕ) → epoch_seen v.turn ≤ epoch → epoch ≤ epoch_seen w.turn
-      → (fields.code ≡ 0 → (row : ℕ) × IsRow begin w fields.key row × (top row v.numbers.nexts ≤ fields.number) × (fields.number < top row w.numbers.nexts))
+      → (fields.code ≡ PROTECTED → (row : ℕ) × IsRow begin w fields.key row × (top row v.numbers.nexts ≤ fields.number) × (fields.number < top row w.numbers.nexts))
       → StandsWithin begin v w (deed_of segment task (answer_of fields epoch))
   epoch_stands fields epoch low high number =
       let told_is : epoch_told (entries_in w) (deed_of segment task (answer_of fields epoch)) ≡ epoch =
       ap (λ (b : Bool). if b then epoch else epoch_after (take epoch (entries_in w))) kind_true in
       record {
-        entry = λ t. absurd (protected_only task.kind (nat_lt 0 fields.code) (nat_lt fields.code 0x18) protects t);
-        stored = λ t. absurd (protected_only task.kind (nat_lt 0 fields.code) (nat_lt fields.code 0x18) protects t);
+        entry = λ t. absurd (protected_only task.kind (nat_le ACCEPTED fields.code) (nat_le fields.code NUMBER) protects t);
+        stored = λ t. absurd (protected_only task.kind (nat_le ACCEPTED fields.code) (nat_le fields.code NUMBER) protects t);
         epoch = λ _. (omega arith, omega arith);
         number = λ is _. number is;
       }
 
   -- no channel, and so no epoch
-  plain_stands : (fields : Told) → fields.code ≢ 0 → ((channel : ℕ) → channel_check begin.plan task.link task.octets ≡ Ok (Some channel) → ⊥)
+  plain_stands : (fields : Told) → fields.code ≢ PROTECTED → ((channel : ℕ) → channel_check begin.plan task.link task.octets ≡ Ok (Some channel) → ⊥)
       → StandsWithin begin v w (deed_of segment task (answer_of fields 0))
   plain_stands fields some none = record {
-    entry = λ t. absurd (protected_only task.kind (nat_lt 0 fields.code) (nat_lt fields.code 0x18) protects t);
-    stored = λ t. absurd (protected_only task.kind (nat_lt 0 fields.code) (nat_lt fields.code 0x18) protects t);
+    entry = λ t. absurd (protected_only task.kind (nat_le ACCEPTED fields.code) (nat_le fields.code NUMBER) protects t);
+    stored = λ t. absurd (protected_only task.kind (nat_le ACCEPTED fields.code) (nat_le fields.code NUMBER) protects t);
     epoch = λ o.
-        let there = channel_passed begin.plan task.link task.octets (ordered_channel task.kind (nat_lt 0 fields.code) (nat_lt fields.code 0x18)
-        (has_channel begin.plan task.link task.octets) (nat_lt fields.code 0x21) protects o) in
+        let there = channel_passed begin.plan task.link task.octets (ordered_channel task.kind (nat_le ACCEPTED fields.code) (nat_le fields.code NUMBER)
+        (has_channel begin.plan task.link task.octets) (nat_le fields.code EXHAUSTED) protects o) in
         absurd (none there.0 there.1);
     number = λ is _. absurd (some is);
   }
 
-  unused : (fields : Told) (position : ℕ) → fields.code ≢ 0 → fields.code ≢ 3 → (key number : ℕ) → Uses (answer_of fields position) key number → ⊥
+  unused : (fields : Told) (position : ℕ) → fields.code ≢ PROTECTED → fields.code ≢ DONE → (key number : ℕ) → Uses (answer_of fields position) key number → ⊥
   unused fields position a b key number (inl is, of_key, of_number) = a is
   unused fields position a b key number (inr (is, some), of_key, of_number) = b is
 
-  refusal_code : (fault : ShieldFault) → ((fault_told fault).code ≢ 0) × ((fault_told fault).code ≢ 3) × ((fault_told fault).code ≢ 0x31)
+  refusal_code : (fault : ShieldFault) → ((fault_told fault).code ≢ PROTECTED) × ((fault_told fault).code ≢ DONE) × ((fault_told fault).code ≢ SITE_FAULT)
   refusal_code (shield_faults.Layout number) = (λ is. absurd (omega arith), λ is. absurd (omega arith), λ is. absurd (omega arith))
   refusal_code shield_faults.Channel = (λ is. absurd (omega arith), λ is. absurd (omega arith), λ is. absurd (omega arith))
   refusal_code shield_faults.State = (λ is. absurd (omega arith), λ is. absurd (omega arith), λ is. absurd (omega arith))
@@ -296,7 +296,7 @@ module _ {O : Type 0} (told : Bool) (trace : O → Trace) (faults puts : O → �
 
   -- the plan was enough
   planned : (fields : Told) (position : ℕ) → position ≡ 0 → unbound_told (protect_reply begin.plan (at_epoch begin.start (entries_in w) 0) task.link task.octets) ≡ Some fields
-      → ((channel : ℕ) → channel_check begin.plan task.link task.octets ≡ Ok (Some channel) → ⊥) → (fields.code ≢ 0) × (fields.code ≢ 3) × (fields.code ≢ 0x31)
+      → ((channel : ℕ) → channel_check begin.plan task.link task.octets ≡ Ok (Some channel) → ⊥) → (fields.code ≢ PROTECTED) × (fields.code ≢ DONE) × (fields.code ≢ SITE_FAULT)
       → w.numbers ≡ v.numbers → w.turn ≡ v.turn
       → Handled layout begin v w (task ∷ []) (deed_of segment task (answer_of fields position) ∷ [])
   planned fields position zero_is reply none codes numbers turn =

@@ -136,12 +136,12 @@ module _ {O : Type 0} (told : Bool) (trace : O → Trace) (faults puts : O → �
   kept_tells : (fields : Told) (position : ℕ) → (fields.code ≡ CLEAR) ⊎ ((LAYOUT ≤ fields.code) × (fields.code ≤ STATE))
       → Tells begin.start (entries_in w) (deed_of segment task (answer_of fields position)) Kept
   kept_tells fields position which = by_protect (answer_of fields position) Kept (record {
-    protected = λ is. absurd (apart which 0 is (inl refl));
-    exhausted = λ is. absurd (apart which 0x20 is (inr (omega arith)));
+    protected = λ is. absurd (apart which PROTECTED is (inl refl));
+    exhausted = λ is. absurd (apart which EXHAUSTED is (inr (omega arith)));
     unbound = λ _. refl;
-    full = λ is. absurd (apart which 0x30 is (inr (omega arith)));
+    full = λ is. absurd (apart which JOURNAL_FULL is (inr (omega arith)));
   }) where
-    apart : (fields.code ≡ 2) ⊎ ((0x10 ≤ fields.code) × (fields.code ≤ 0x14)) → (code : ℕ) → fields.code ≡ code → (code ≡ 0) ⊎ (0x1f < code) → ⊥
+    apart : (fields.code ≡ CLEAR) ⊎ ((LAYOUT ≤ fields.code) × (fields.code ≤ STATE)) → (code : ℕ) → fields.code ≡ code → (code ≡ 0) ⊎ (EXHAUSTED ≤ code) → ⊥
     apart (inl a) code is (inl z) = omega arith
     apart (inl a) code is (inr z) = omega arith
     apart (inr a) code is (inl z) = omega arith
@@ -208,7 +208,7 @@ module _ {O : Type 0} (told : Bool) (trace : O → Trace) (faults puts : O → �
           unbound = λ code. absurd (not_kept code);
           full = λ code. absurd (omega arith);
         })) where
-          not_kept : (PROTECTED ≡ 2) ⊎ ((0x10 ≤ PROTECTED) × (PROTECTED ≤ 0x14)) → ⊥
+          not_kept : (PROTECTED ≡ CLEAR) ⊎ ((LAYOUT ≤ PROTECTED) × (PROTECTED ≤ STATE)) → ⊥
           not_kept (inl a) = omega arith
           not_kept (inr a) = omega arith
 
@@ -296,7 +296,7 @@ module _ {O : Type 0} (told : Bool) (trace : O → Trace) (faults puts : O → �
         unbound = λ code. absurd (not_kept code);
         full = λ code. absurd (omega arith);
       }) where
-        not_kept : (EXHAUSTED ≡ 2) ⊎ ((0x10 ≤ EXHAUSTED) × (EXHAUSTED ≤ 0x14)) → ⊥
+        not_kept : (EXHAUSTED ≡ CLEAR) ⊎ ((LAYOUT ≤ EXHAUSTED) × (EXHAUSTED ≤ STATE)) → ⊥
         not_kept (inl a) = omega arith
         not_kept (inr a) = omega arith
 
@@ -400,7 +400,7 @@ module _ {O : Type 0} (told : Bool) (trace : O → Trace) (faults puts : O → �
               ),
             );
           }) where
-            not_kept : (JOURNAL_FULL ≡ 2) ⊎ ((0x10 ≤ JOURNAL_FULL) × (JOURNAL_FULL ≤ 0x14)) → ⊥
+            not_kept : (JOURNAL_FULL ≡ CLEAR) ⊎ ((LAYOUT ≤ JOURNAL_FULL) × (JOURNAL_FULL ≤ STATE)) → ⊥
             not_kept (inl a) = omega arith
             not_kept (inr a) = omega arith
 

@@ -6,6 +6,7 @@ use Rattle.std.proofs.lemmas.Bool.Decides.{nat_tests}
 use Rattle.std.proofs.lemmas.List.{take-append-drop, take-append-le, take_all}
 use Rattle.sdls_base.specs.declared.entry.Logged.{Logged}
 use Rattle.sdls_base.specs.declared.entry.Logged.TheVariants as lines
+use Rattle.sdls_base.specs.declared.TheConstants.{MOST_KEYS}
 use Rattle.sdls_outside.specs.Moments.{Trace}
 use Rattle.key_book.specs.KeyBook.{place_of}
 use Rattle.record_io.specs.declared.records.Record.{Record}
@@ -145,7 +146,7 @@ module _ {O : Type 0} (told : Bool) (trace : O → Trace) (faults puts : O → �
         }
 
     -- what the put settles
-    pub settles : given.standing ≡ found.standing → IsCovered 512 v.numbers (known_of_book trace faults puts found)
+    pub settles : given.standing ≡ found.standing → IsCovered MOST_KEYS v.numbers (known_of_book trace faults puts found)
         → SettlesAt begin v w given.standing found.standing (length found.log)
     settles same covered =
         let kept = h.visits.found_kept in
@@ -191,6 +192,6 @@ module _ {O : Type 0} (told : Bool) (trace : O → Trace) (faults puts : O → �
   putting_works tasks octets result put = piece_works _ (ap (λ (b : BookView O). b.log) put.made) tasks
 
   pub putting_settles : (octets : List ℕ) (result : Result (Unit {0}) BookFault) → IsPut told trace faults puts octets result found given
-      → IsCovered 512 v.numbers (known_of_book trace faults puts found) → SettlesAt begin v w given.standing found.standing (length found.log)
+      → IsCovered MOST_KEYS v.numbers (known_of_book trace faults puts found) → SettlesAt begin v w given.standing found.standing (length found.log)
   putting_settles octets result put covered =
       settles _ (ap (λ (b : BookView O). b.log) put.made) (ap (λ (b : BookView O). b.standing) put.made) covered

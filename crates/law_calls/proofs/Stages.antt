@@ -1,5 +1,5 @@
 -- The book at a stage of a call that handles a record, and the answer where the call is refused there.
-use Rattle.std.proofs.Common.{◌≡◌, ◌≢◌, ◌⊎◌, ℕ, ◌+◌, ◌-◌, ◌<◌, ◌≤◌, min, ◌&&◌, ◌||◌, not, Bool, IsTrue, true, false, List, [], ◌∷◌, ◌++◌, length, take, Some, refl, sym, ◌∙◌, ap, subst, arith, inl, inr, ⊎_elim, nat_lt, ◌^◌, append-nil, length-append, if◌then◌else◌}
+use Rattle.std.proofs.Common.{◌≡◌, ◌≢◌, ◌⊎◌, ℕ, ◌+◌, ◌-◌, ◌<◌, ◌≤◌, min, ◌&&◌, ◌||◌, not, Bool, IsTrue, true, false, List, [], ◌∷◌, ◌++◌, length, take, Some, refl, sym, ◌∙◌, ap, subst, arith, inl, inr, ⊎_elim, nat_le, ◌^◌, append-nil, length-append, if◌then◌else◌}
 use Rattle.std.proofs.lemmas.Bool.{cases_lt}
 use Rattle.std.proofs.lemmas.List.{take_all}
 use Rattle.sdls_base.specs.Numbers.{times}
@@ -10,7 +10,7 @@ use Rattle.sdls_outside.specs.Faults.{Rose}
 use Rattle.sdls_outside.specs.Moments.{Trace}
 use Rattle.disk_journal.specs.Image.{records, slot_count}
 use Rattle.record_io.specs.declared.answers.Answer.{Answer}
-use Rattle.record_io.specs.declared.code.TheConstants.{JOURNAL_FULL, SITE_FAULT, STOPPED, NO_MEMORY}
+use Rattle.record_io.specs.declared.code.TheConstants.{JOURNAL_FULL, SITE_FAULT, STOPPED, NO_MEMORY, PROTECTED, ACCEPTED, DONE, NUMBER, EXHAUSTED}
 use Rattle.record_io.specs.declared.kinds.RecordKind.{RecordKind}
 use Rattle.record_io.specs.declared.kinds.RecordKind.TheVariants.{Protect, Open, Command}
 use Rattle.record_io.specs.declared.records.Record.{Record}
@@ -63,22 +63,22 @@ late_entry Open false told = let t : false ≡ true = told in cc
 late_entry Command true told = let t : false ≡ true = told in cc
 late_entry Command false told = let t : false ≡ true = told in cc
 
-pub late_stands : (begin : Begin) (segment : ℕ) (task : Record) (v w : View) (code n position : ℕ) → nat_lt code 0x18 ≡ false → nat_lt code 0x21 ≡ false
-    → code ≢ 0 → StandsWithin begin v w (deed_of segment task (answer_of (counting code 0 n) position))
+pub late_stands : (begin : Begin) (segment : ℕ) (task : Record) (v w : View) (code n position : ℕ) → nat_le code NUMBER ≡ false → nat_le code EXHAUSTED ≡ false
+    → code ≢ PROTECTED → StandsWithin begin v w (deed_of segment task (answer_of (counting code 0 n) position))
 late_stands begin segment task v w code n position p q some =
     let channel : Bool = has_channel begin.plan task.link task.octets in
     record {
-      entry = λ t. absurd (late_entry task.kind (nat_lt 0 code)
-          (subst (λ (b : Bool). IsTrue (not (is_protected task.kind) && (nat_lt 0 code && b))) p t));
-      stored = λ t. absurd (late_entry task.kind (nat_lt 0 code)
-          (subst (λ (b : Bool). IsTrue (not (is_protected task.kind) && (nat_lt 0 code && b))) p t));
-      epoch = λ t. absurd (late task.kind channel (nat_lt 0 code)
-          (subst (λ (b : Bool). IsTrue ((not (is_protected task.kind) && (nat_lt 0 code && b)) || (is_protected task.kind && (channel && false)))) p
-          (subst (λ (b : Bool). IsTrue ((not (is_protected task.kind) && (nat_lt 0 code && nat_lt code 0x18)) || (is_protected task.kind && (channel && b)))) q t)));
+      entry = λ t. absurd (late_entry task.kind (nat_le ACCEPTED code)
+          (subst (λ (b : Bool). IsTrue (not (is_protected task.kind) && (nat_le ACCEPTED code && b))) p t));
+      stored = λ t. absurd (late_entry task.kind (nat_le ACCEPTED code)
+          (subst (λ (b : Bool). IsTrue (not (is_protected task.kind) && (nat_le ACCEPTED code && b))) p t));
+      epoch = λ t. absurd (late task.kind channel (nat_le ACCEPTED code)
+          (subst (λ (b : Bool). IsTrue ((not (is_protected task.kind) && (nat_le ACCEPTED code && b)) || (is_protected task.kind && (channel && false)))) p
+          (subst (λ (b : Bool). IsTrue ((not (is_protected task.kind) && (nat_le ACCEPTED code && nat_le code NUMBER)) || (is_protected task.kind && (channel && b)))) q t)));
       number = λ is protected. absurd (some is);
     }
 
-pub unused_late : (code n position key number : ℕ) → code ≢ 0 → code ≢ 3 → Uses (answer_of (counting code 0 n) position) key number → ⊥
+pub unused_late : (code n position key number : ℕ) → code ≢ PROTECTED → code ≢ DONE → Uses (answer_of (counting code 0 n) position) key number → ⊥
 unused_late code n position key number a b (inl is, of_key, of_number) = a is
 unused_late code n position key number a b (inr (is, other), of_key, of_number) = b is
 
@@ -208,15 +208,15 @@ module _ {O : Type 0} (told : Bool) (trace : O → Trace) (faults puts : O → �
         passed numbers.counted legal one_among reserve_among few_among
 
     pub answered : (answer : Answer) → Fits near course task answer → StandsWithin begin v w (deed_of segment task answer)
-        → IsSpent begin w gains_are (deed_of segment task answer) → (answer.code ≡ 0x31 → MadeLast w gains_are)
+        → IsSpent begin w gains_are (deed_of segment task answer) → (answer.code ≡ SITE_FAULT → MadeLast w gains_are)
         → Handled layout begin v w (task ∷ []) (deed_of segment task answer ∷ [])
     answered answer fits within used failed =
         handled_answered begin task v w layout segment found.log (es ++ own) numbers.drawn numbers.spent numbers.raised numbers.added
         passed numbers.counted legal one_among reserve_among few_among answer fits within used failed
 
-    -- a code from 30 on, but for that of a failed entry
-    pub answered_late : (code n position : ℕ) → Fits near course task (answer_of (counting code 0 n) position) → nat_lt code 0x18 ≡ false
-        → nat_lt code 0x21 ≡ false → code ≢ 0 → code ≢ 3 → (code ≡ 0x31 → MadeLast w gains_are)
+    -- a code from JOURNAL_FULL on, but for that of a failed entry
+    pub answered_late : (code n position : ℕ) → Fits near course task (answer_of (counting code 0 n) position) → nat_le code NUMBER ≡ false
+        → nat_le code EXHAUSTED ≡ false → code ≢ PROTECTED → code ≢ DONE → (code ≡ SITE_FAULT → MadeLast w gains_are)
         → Handled layout begin v w (task ∷ []) (deed_of segment task (answer_of (counting code 0 n) position) ∷ [])
     answered_late code n position fits p q some other failed =
         answered (answer_of (counting code 0 n) position) fits (late_stands begin segment task v w code n position p q some)
@@ -236,8 +236,8 @@ module _ {O : Type 0} (told : Bool) (trace : O → Trace) (faults puts : O → �
     pub left_unanswered : Handled layout begin v w (task ∷ []) []
     left_unanswered = unanswered old es stage [] left numbers legal_left (λ index. omega arith) reserves_left (omega arith)
 
-    left_late : (code n position : ℕ) → Fits near course task (answer_of (counting code 0 n) position) → nat_lt code 0x18 ≡ false
-        → nat_lt code 0x21 ≡ false → code ≢ 0 → code ≢ 3 → code ≢ 0x31
+    left_late : (code n position : ℕ) → Fits near course task (answer_of (counting code 0 n) position) → nat_le code NUMBER ≡ false
+        → nat_le code EXHAUSTED ≡ false → code ≢ PROTECTED → code ≢ DONE → code ≢ SITE_FAULT
         → Handled layout begin v w (task ∷ []) (deed_of segment task (answer_of (counting code 0 n) position) ∷ [])
     left_late code n position fits p q some other plain =
         answered_late old es stage [] left numbers legal_left (λ index. omega arith) reserves_left (omega arith)
@@ -383,7 +383,7 @@ module _ {O : Type 0} (told : Bool) (trace : O → Trace) (faults puts : O → �
         → Fits near course task (answer_of fields position))
         → ((key number : ℕ) → Uses (answer_of fields position) key number
         → (row : ℕ) × (row < begin.rows) × IsRow begin w key row × (0 < times row number numbers.spent))
-        → fields.code ≢ 0x31 → Handled layout begin v w (task ∷ []) (deed_of segment task (answer_of fields position) ∷ [])
+        → fields.code ≢ SITE_FAULT → Handled layout begin v w (task ∷ []) (deed_of segment task (answer_of fields position) ∷ [])
     made fields position enters kind fits used plain =
         let added : given.log ≡ old.log ++ lines.Entry entry ∷ [] = ap (λ (b : BookView O). b.log) enters.is in
         let log_known : w.turn.known.log ≡ old.log ++ lines.Entry entry ∷ [] = log_is told trace faults puts begin found given u w.turn c.began c.free c.visits ∙ added in

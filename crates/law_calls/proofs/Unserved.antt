@@ -1,6 +1,7 @@
 -- A record for whose answer memory was wanting before its call.
 use Rattle.std.proofs.Common.{ℕ, [], Some, refl, sym, append-nil, arith}
 use Rattle.record_io.specs.declared.records.Record.{Record}
+use Rattle.record_io.specs.declared.code.TheConstants.{NO_MEMORY}
 use Rattle.counter_table.specs.declared.view.View.{View}
 use Rattle.law_worker.specs.Begin.{Begin}
 use Rattle.law_worker.specs.Views.{IsBetween}
@@ -41,8 +42,8 @@ pub unserved : (begin : Begin) (layout : Layout) (segment : ℕ) (v : View) (tas
 unserved begin layout segment v task =
     handled_answered begin task v v layout segment v.turn.known.log [] [] [] [] [] (same_turn v) (counted_none begin task v v refl) tt (λ index. omega arith) (omega arith) (omega arith) unserved_answer
     (wanting_fits (IsBetween begin v v) (course_in begin v) task)
-    (late_stands begin segment task v v 0x33 0 0 refl refl (λ is. absurd (omega arith)))
-    (λ key number uses. absurd (unused_late 0x33 0 0 key number (λ is. absurd (omega arith)) (λ is. absurd (omega arith)) uses))
+    (late_stands begin segment task v v NO_MEMORY 0 0 refl refl (λ is. absurd (omega arith)))
+    (λ key number uses. absurd (unused_late NO_MEMORY 0 0 key number (λ is. absurd (omega arith)) (λ is. absurd (omega arith)) uses))
     (λ is. absurd (omega arith))
 
 pub unserved_exactly : (begin : Begin) (segment : ℕ) (v : View) (task : Record) → AnsweredExactly begin segment v v task (Some unserved_answer)

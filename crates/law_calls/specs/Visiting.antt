@@ -1,5 +1,6 @@
 -- Calls that take the turn once (profile).
 use Rattle.std.specs.Prelude.{◌≡◌, ℕ, Bool, IsTrue, false, length}
+use Rattle.sdls_base.specs.declared.TheConstants.{MOST_KEYS}
 use Rattle.sdls_outside.specs.Moments.{Trace}
 use Rattle.disk_journal.specs.Image.{records, slot_count}
 use Rattle.counter_table.specs.declared.view.Opening.{Opening}
@@ -8,10 +9,10 @@ use Rattle.unit_book.specs.Book.{BookView}
 use Rattle.shared_unit.specs.Turn.{Visits}
 use Rattle.law_worker.specs.Begin.{Begin}
 
--- The run began with what the opening tells, on a table of 512 rows. The slots and those used are those of the image, as far
--- as the site tells what it holds.
+-- The run began with what the opening tells, on a table of MOST_KEYS rows. The slots and those used are those of the
+-- image, as far as the site tells what it holds.
 pub record BeganWith (told : Bool) (begin : Begin) (opening : Opening) : Type 0 where
-  pub rows : begin.rows ≡ 512
+  pub rows : begin.rows ≡ MOST_KEYS
   pub tells : begin.told ≡ told
   pub plan : opening.plan ≡ begin.plan
   pub start : opening.start ≡ begin.start

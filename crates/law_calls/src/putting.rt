@@ -1,5 +1,6 @@
 //! Laws of calls that take the turn once, draw no number and make no entry.
 ghost use Rattle.std.specs.Prelude.{◌≡◌, ℕ, List, Result, length};
+ghost use Rattle.sdls_base.specs.declared.TheConstants.{MOST_KEYS};
 ghost use Rattle.record_io.specs.declared.records.Record.{Record};
 ghost use Rattle.counter_table.specs.declared.view.View.{View};
 ghost use Rattle.counter_table.specs.Play.{IsCovered};
@@ -32,6 +33,6 @@ pub fn putting_settles<O: Site>()
     ensures { (begin : Begin) (v w : View) (found given : BookView O) (octets : List ℕ)
         (result : Result (Unit {0}) BookFault) → Visited O.told O.trace O.faults O.put_faults begin found given v w
         → IsPut O.told O.trace O.faults O.put_faults octets result found given
-        → IsCovered 512 v.numbers (known_of_book O.trace O.faults O.put_faults found)
+        → IsCovered MOST_KEYS v.numbers (known_of_book O.trace O.faults O.put_faults found)
         → SettlesAt begin v w given.standing found.standing (length found.log) }
 {}

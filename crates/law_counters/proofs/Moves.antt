@@ -66,7 +66,7 @@ module _ {B : Type 0} (told : B → Known) (count : ℕ) (s : Scene) (ruled : Is
       ⊎_elim (λ h. absurd (taken h.turn)) (λ k. ⊎_elim (λ h. absurd (taken h.turn)) (λ o. let f = o.held in omega arith) k) ruled.rule.turn.place
 
   -- a word below the rows is in no row
-  keys_apart : (at x : ℕ) → at < 16 → keys_from (set s.words at x) s.book 0 s.ids ≡ world.keys
+  keys_apart : (at x : ℕ) → at < next_at 0 → keys_from (set s.words at x) s.book 0 s.ids ≡ world.keys
   keys_apart at x low = keys_same s.words (set s.words at x) s.book s.book 0 s.ids (λ row id above.
       key_same s.words (set s.words at x) s.book s.book row id
       (get_or-set_other s.words at (next_at row) x 0 (λ e. omega arith)) (get_or-set_other s.words at (limit_at row) x 0 (λ e. omega arith)) refl)

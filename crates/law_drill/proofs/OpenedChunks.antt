@@ -5,6 +5,7 @@ use Rattle.std.specs.Str.{bytes_eq}
 use Rattle.std.proofs.lemmas.Bool.{and_from, and_left, eq-eqb}
 use Rattle.std.proofs.lemmas.List.{length-append}
 use Rattle.std.proofs.lemmas.List.Elements.{All-append, All-cons, All-contains, All-contains_itself, All-head, All-nil, All-tail, All-weaker, Contains-append_left, Contains-append_right}
+use Rattle.sdls_base.specs.declared.TheConstants.{MOST_KEYS}
 use Rattle.record_io.specs.declared.answers.Answer.{Answer}
 use Rattle.record_io.specs.declared.code.TheConstants as codes_of
 use Rattle.record_io.specs.declared.records.Record.{Record}
@@ -159,7 +160,7 @@ pub record TakenAll (begin : Begin) (first now : View) (total chunks : ℕ) (oct
   pub below_deeds : All (λ (deed : Deed). Below (257 * chunks) deed.task) deeds
   pub few : length tasks ≤ total + chunks
 
-pub none_taken : (begin : Begin) (first : View) (octets : ℕ → List ℕ) → IsJustOpened begin first → begin.rows ≡ 512 → IsWhole 512 first
+pub none_taken : (begin : Begin) (first : View) (octets : ℕ → List ℕ) → IsJustOpened begin first → begin.rows ≡ MOST_KEYS → IsWhole MOST_KEYS first
     → Starts begin receiver_lines (receiving (each 0) (each 0)) → TakenAll begin first first 0 0 octets
 none_taken begin first octets opened rows whole starts = record {
   tasks = [];

@@ -9,6 +9,7 @@ use Rattle.sdls_base.specs.declared.change.Change.TheVariants as changes
 use Rattle.sdls_base.specs.declared.entry.Entry.{Entry}
 use Rattle.sdls_base.specs.declared.entry.Seen.TheVariants as seens
 use Rattle.sdls_base.specs.declared.states.Direction.TheVariants.{Send}
+use Rattle.sdls_base.specs.declared.TheConstants.{MOST_KEYS}
 use Rattle.record_io.specs.declared.answers.Answer.{Answer}
 use Rattle.record_io.specs.declared.code.TheConstants as codes_of
 use Rattle.record_io.specs.declared.kinds.RecordKind.TheVariants.{Protect, Open, Command}
@@ -50,7 +51,7 @@ use Rattle.law_drill.proofs.Reserving.{Reserved, none_reserved, reserved_more, s
 -- the records that a unit handled since it was opened
 pub record Done (layout : Layout) (begin : Begin) (first now : View) (tasks : List Record) (deeds : List Deed) : Type 0 where
   pub opened : IsJustOpened begin first
-  pub rows : begin.rows ≡ 512
+  pub rows : begin.rows ≡ MOST_KEYS
   pub handled : Handled layout begin first now tasks deeds
   pub whole : IsWhole begin.rows now
   pub plan_is : IsPlan begin.plan

@@ -5,6 +5,7 @@ use Rattle.std.proofs.lemmas.Bool.{cases_lt, eq-eqb, or_parts}
 use Rattle.std.proofs.lemmas.List.{append-nil, append_assoc, get_or_append_left, get_or-append-add, length-append}
 use Rattle.std.proofs.lemmas.List.Elements.{All-map}
 use Rattle.std.proofs.lemmas.List.FromFn.{get_or-map-range_with_len, get_or-range_with_len, length-map-range_with_len, length-range_with_len, map-range_with_len_more}
+use Rattle.sdls_base.specs.declared.TheConstants.{MOST_KEYS}
 use Rattle.record_io.specs.declared.answers.Answer.{Answer}
 use Rattle.record_io.specs.declared.code.TheConstants as codes_of
 use Rattle.record_io.specs.declared.records.Record.{Record}
@@ -33,7 +34,7 @@ use Rattle.law_drill.proofs.Tasks.{drill_layout, drill_lies, protect_ascends, pr
 -- ---- what was done, and more
 
 pub done_more : (layout : Layout) (begin : Begin) (first now next : View) (tasks later : List Record) (deeds more : List Deed) (bound : ℕ)
-    → Done layout begin first now tasks deeds → Handled layout begin now next later more → IsWhole 512 next → Ascend tasks → Ascend later
+    → Done layout begin first now tasks deeds → Handled layout begin now next later more → IsWhole MOST_KEYS next → Ascend tasks → Ascend later
     → All (Below bound) tasks → All (From bound) later → All (λ (deed : Deed). Below bound deed.task) deeds → All (λ (deed : Deed). From bound deed.task) more
     → Done layout begin first next (tasks ++ later) (deeds ++ more)
 done_more layout begin first now next tasks later deeds more bound done handled whole up up_later below from below_deeds from_deeds = record {
@@ -126,7 +127,7 @@ deed_is m sent i d many low =
     deed_at 0 (protect_tasks 0 m) sent i d (protect_task 0) blank (omega arith) (omega arith)
     ∙ ap (λ (t : Record). deed_of 0 t (at sent i)) (get_or-map-range_with_len protect_task 0 m i i (protect_task 0) low (omega arith))
 
-pub none_sent : (begin : Begin) (first : View) → IsJustOpened begin first → begin.rows ≡ 512 → IsWhole 512 first → Starts begin sender_lines (sending (each 1))
+pub none_sent : (begin : Begin) (first : View) → IsJustOpened begin first → begin.rows ≡ MOST_KEYS → IsWhole MOST_KEYS first → Starts begin sender_lines (sending (each 1))
     → SentAll begin first first 0 []
 none_sent begin first opened rows whole starts = record {
   many = refl;

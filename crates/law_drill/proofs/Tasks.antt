@@ -6,6 +6,7 @@ use Rattle.std.proofs.lemmas.List.FromFn.{get_or-map-range_with_len, length-map-
 use Rattle.record_io.specs.declared.answers.Answer.{Answer}
 use Rattle.record_io.specs.declared.code.TheConstants.{PROTECTED}
 use Rattle.record_io.specs.declared.records.Record.{Record}
+use Rattle.record_io.specs.declared.kinds.TheConstants.{LANES}
 use Rattle.law_worker.specs.Deeds.{Ascend}
 use Rattle.law_worker.specs.Order.{Layout, LiesIn}
 use Rattle.drill_frames.specs.declared.records.TheConstants.{CHUNK}
@@ -14,8 +15,8 @@ use Rattle.drill_frames.specs.Frames.{open_task, open_tasks, protect_task, prote
 abbrev pub OnLane : ℕ → Record → Type 0
 OnLane ahead task = task.lane ≡ (task.index - ahead) % 4
 
-pub below_sixteen : (ahead : ℕ) (tasks : List Record) → All (OnLane ahead) tasks → All (λ (task : Record). task.lane < 16) tasks
-below_sixteen ahead tasks all = All-weaker (OnLane ahead) (λ (task : Record). task.lane < 16) (λ task is. omega arith) tasks all
+pub below_sixteen : (ahead : ℕ) (tasks : List Record) → All (OnLane ahead) tasks → All (λ (task : Record). task.lane < LANES) tasks
+below_sixteen ahead tasks all = All-weaker (OnLane ahead) (λ (task : Record). task.lane < LANES) (λ task is. omega arith) tasks all
 
 -- the records of one segment
 abbrev pub drill_layout : ℕ → Layout

@@ -1,6 +1,7 @@
 -- What the two units of a drill were handed, and what is counted of their answers (profile).
 use Rattle.std.specs.Prelude.{◌≡◌, ℕ, zero, suc, ◌+◌, ◌-◌, ◌*◌, ◌/◌, min, ◌==◌, ◌||◌, Bool, true, false, List, [], ◌++◌, Ok}
 use Rattle.std.specs.List.{list_any}
+use Rattle.sdls_base.specs.declared.TheConstants.{MOST_KEYS}
 use Rattle.disk_journal.specs.Image.{held}
 use Rattle.disk_journal.specs.Initial.{initial_image}
 use Rattle.record_io.specs.declared.answers.Answer.{Answer}
@@ -31,7 +32,7 @@ pub record UnitIsOpened (plan : List ℕ) (begin : Begin) (v : View) : Type 0 wh
   pub image : v.turn.known.opening.image ≡ initial_image plan slots
   pub says : plan_of (held (initial_image plan slots)).plan ≡ Ok begin.plan
   pub shows : Shows (initial_image plan slots) begin.start
-  pub whole : IsWhole 512 v
+  pub whole : IsWhole MOST_KEYS v
   pub opened : runs.IsJustOpened begin v
 
 -- the answer says that the site of its unit has failed, or that memory was wanting
@@ -48,7 +49,7 @@ pub record HandlesSegment (begin : Begin) (v w : View) (tasks : List Record) (an
   pub full : Bool
   pub ends : EndsSegment begin v w tasks answers full
   pub quiet : list_any tells_fault answers ≡ false
-  pub whole : IsWhole 512 w
+  pub whole : IsWhole MOST_KEYS w
 
 -- ---- chunks
 

@@ -12,6 +12,7 @@ use Rattle.counter_table.specs.Numbers.{count_of, top}
 use Rattle.counter_table.specs.Turn.{stands}
 use Rattle.counter_table.specs.Whole.{IsWhole}
 use Rattle.record_io.specs.declared.records.Record.{Record}
+use Rattle.record_io.specs.declared.code.TheConstants.{SITE_FAULT}
 use Rattle.sdls_base.specs.declared.states.KeyState.TheVariants.{PreActive}
 use Rattle.unit_state.specs.State.{KeepsRules}
 use Rattle.unit_state.specs.History.{after, after_first}
@@ -157,7 +158,7 @@ module _ (begin : Begin) (v w : View) (tasks : List Record) (deeds : List Deed) 
       let low = (d.works.drawn row n (omega arith)).0 in
       let o = (row_opened begin v w opened rows started kept k row is).nexts in omega arith
 
-  pub one_fault : AllPairs (λ (a b : Deed). a.task.index < b.task.index) deeds → AllPairs (λ (a b : Deed). a.answer.code ≡ 0x31 → b.answer.code ≢ 0x31) deeds
+  pub one_fault : AllPairs (λ (a b : Deed). a.task.index < b.task.index) deeds → AllPairs (λ (a b : Deed). a.answer.code ≡ SITE_FAULT → b.answer.code ≢ SITE_FAULT) deeds
   one_fault up i j e lt within = (d.answers.agree i e (omega arith) j e within).faults (λ same. let l = up i j e lt within in omega arith)
 
   pub order : AllPairs (λ (a b : Deed). a.task.index < b.task.index) deeds

@@ -10,7 +10,7 @@ use Rattle.sdls_base.specs.declared.entry.Entry.{Entry}
 use Rattle.sdls_outside.specs.Faults.{Rose}
 use Rattle.disk_journal.specs.Image.{held, records, slot_count}
 use Rattle.record_io.specs.declared.answers.Answer.{Answer}
-use Rattle.record_io.specs.declared.code.TheConstants.{NO_MEMORY}
+use Rattle.record_io.specs.declared.code.TheConstants.{NO_MEMORY, JOURNAL_FULL, SITE_FAULT, STOPPED}
 use Rattle.record_io.specs.declared.kinds.RecordKind.{RecordKind}
 use Rattle.record_io.specs.declared.kinds.RecordKind.TheVariants.{Protect, Open, Command}
 use Rattle.record_io.specs.Answers.{answer_octets, answers_octets}
@@ -93,8 +93,8 @@ are_served near course (place ∷ places) (answer ∷ answers) fit none wants =
       are_served near course places answers (λ k d small. fit (suc k) d (omega arith)) (λ k d small. none (suc k) d (omega arith)) (λ k d small. wants (suc k) d (omega arith)),
     )
   where
-    by_code : (code : ℕ) → code ≤ 0x33 → (code ≡ 0x33 → ⊥) → (code ≡ 0x31 → ⊥) → (code ≡ 0x32 → ⊥) → code ≤ 0x30
-    by_code code low a b c = elim (cases_lt 0x30 code) [
+    by_code : (code : ℕ) → code ≤ NO_MEMORY → (code ≡ NO_MEMORY → ⊥) → (code ≡ SITE_FAULT → ⊥) → (code ≡ STOPPED → ⊥) → code ≤ JOURNAL_FULL
+    by_code code low a b c = elim (cases_lt JOURNAL_FULL code) [
       | inl high ↦ absurd (grind arith)
       | inr small ↦ omega arith
     ]

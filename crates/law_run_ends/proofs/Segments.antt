@@ -8,6 +8,7 @@ use Rattle.record_io.specs.declared.kinds.ItemKind.TheVariants.{Fence, Recorded}
 use Rattle.record_io.specs.declared.kinds.TheConstants.{LANES}
 use Rattle.record_io.specs.Input.{Item, IsItem}
 use Rattle.record_io.specs.Places.{Place, Count, behind, counted, places_at, places_from}
+use Rattle.record_io.specs.declared.reader.TheConstants.{SEGMENT_RECORDS}
 use Rattle.law_run_ends.specs.Account.{of_first}
 
 -- behind a record
@@ -24,7 +25,7 @@ either_count P false x y p q = q
 behind_rises : (c : Count) (kind : ItemKind) → c.segment ≤ (behind c kind).segment
 behind_rises c Fence = omega arith
 behind_rises c (Recorded kind) =
-    either_count (λ (d : Count). c.segment ≤ d.segment) (eqb (c.inside + 1) 1024) (full_record c) (next_record c) (omega arith) (omega arith)
+    either_count (λ (d : Count). c.segment ≤ d.segment) (eqb (c.inside + 1) SEGMENT_RECORDS) (full_record c) (next_record c) (omega arith) (omega arith)
 
 -- the number of the segment never falls
 pub rises : (c : Count) (items : List Item) → c.segment ≤ (counted c items).segment
@@ -34,12 +35,12 @@ rises c (item ∷ items) = let a = behind_rises c item.kind in let b = rises (be
 behind_counts : (c : Count) (kind : ItemKind) → c.index ≤ (behind c kind).index
 behind_counts c Fence = omega arith
 behind_counts c (Recorded kind) =
-    either_count (λ (d : Count). c.index ≤ d.index) (eqb (c.inside + 1) 1024) (full_record c) (next_record c) (omega arith) (omega arith)
+    either_count (λ (d : Count). c.index ≤ d.index) (eqb (c.inside + 1) SEGMENT_RECORDS) (full_record c) (next_record c) (omega arith) (omega arith)
 
 -- behind a record its number is taken
 pub behind_record_counts : (c : Count) (kind : _) → c.index + 1 ≤ (behind c (Recorded kind)).index
 behind_record_counts c kind =
-    either_count (λ (d : Count). c.index + 1 ≤ d.index) (eqb (c.inside + 1) 1024) (full_record c) (next_record c) (omega arith) (omega arith)
+    either_count (λ (d : Count). c.index + 1 ≤ d.index) (eqb (c.inside + 1) SEGMENT_RECORDS) (full_record c) (next_record c) (omega arith) (omega arith)
 
 counts_on : (c : Count) (items : List Item) → c.index ≤ (counted c items).index
 counts_on c [] = omega arith
@@ -49,7 +50,7 @@ counts_on c (item ∷ items) = let a = behind_counts c item.kind in let b = coun
 behind_closes : (c : Count) (kind : ItemKind) → (0 < (behind c kind).inside) ⊎ (c.segment < (behind c kind).segment)
 behind_closes c Fence = inr (omega arith)
 behind_closes c (Recorded kind) =
-    either_count (λ (d : Count). (0 < d.inside) ⊎ (c.segment < d.segment)) (eqb (c.inside + 1) 1024) (full_record c) (next_record c)
+    either_count (λ (d : Count). (0 < d.inside) ⊎ (c.segment < d.segment)) (eqb (c.inside + 1) SEGMENT_RECORDS) (full_record c) (next_record c)
     (inr (omega arith)) (inl (omega arith))
 
 closes : (c : Count) (items : List Item) → 0 < c.inside → (counted c items).inside ≡ 0 → c.segment < (counted c items).segment
@@ -127,7 +128,7 @@ one_placed : (c high : Count) (item : Item) (kind : ItemKind) → (behind c kind
 one_placed c high item Fence index segment k d low = absurd (omega arith)
 one_placed c high item (Recorded kind) index segment zero d low =
     let more : c.index + 1 ≤ high.index =
-    either_count (λ (e : Count). e.index ≤ high.index → c.index + 1 ≤ high.index) (eqb (c.inside + 1) 1024) (full_record c) (next_record c)
+    either_count (λ (e : Count). e.index ≤ high.index → c.index + 1 ≤ high.index) (eqb (c.inside + 1) SEGMENT_RECORDS) (full_record c) (next_record c)
     (λ h. h) (λ h. h) index in
     let later = behind_rises c (Recorded kind) in
     record { index_low = omega arith; index_high = omega arith; segment_low = omega arith; segment_high = omega arith }

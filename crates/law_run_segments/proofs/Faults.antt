@@ -14,6 +14,7 @@ use Rattle.record_io.specs.declared.kinds.RecordKind.{RecordKind}
 use Rattle.record_io.specs.declared.kinds.RecordKind.TheVariants.{Protect, Open, Command}
 use Rattle.record_io.specs.declared.records.Record.{Record}
 use Rattle.record_io.specs.Places.{Place}
+use Rattle.record_io.specs.declared.code.TheConstants.{SITE_FAULT, STOPPED}
 use Rattle.law_history.specs.Answers.{Told, told_by, opened_told, replied_told, unbound_told}
 use Rattle.law_history.specs.ProtectingFrames.{protect_reply}
 use Rattle.law_history.specs.Fits.{Course, Fits, FitsAny, FitsKind, TellsRisenCount as TellsCount, state_in}
@@ -21,14 +22,14 @@ use Rattle.law_worker.specs.Deeds.{Deed}
 use Rattle.law_run_ends.specs.Account.{SaysSiteFailed, deeds_from}
 
 abbrev is_other : ℕ → Bool
-is_other code = nat_lt code 0x31 || nat_lt 0x32 code
+is_other code = nat_lt code SITE_FAULT || nat_lt STOPPED code
 
 not_fault : (answer : Answer) (told : Told) → told_by answer ≡ told → is_other told.code ≡ true → SaysSiteFailed answer → ⊥
 not_fault answer told is other (inl fault) =
-    let c : told.code ≡ 0x31 = sym (ap (λ (t : Told). t.code) is) ∙ fault in
+    let c : told.code ≡ SITE_FAULT = sym (ap (λ (t : Told). t.code) is) ∙ fault in
     let t : false ≡ true = sym (ap is_other c) ∙ other in absurd (let e = t in cc)
 not_fault answer told is other (inr fault) =
-    let c : told.code ≡ 0x32 = sym (ap (λ (t : Told). t.code) is) ∙ fault in
+    let c : told.code ≡ STOPPED = sym (ap (λ (t : Told). t.code) is) ∙ fault in
     let t : false ≡ true = sym (ap is_other c) ∙ other in absurd (let e = t in cc)
 
 unbound_not : (answer : Answer) (found : protecting.Answer) → unbound_told found ≡ Some (told_by answer) → SaysSiteFailed answer → ⊥

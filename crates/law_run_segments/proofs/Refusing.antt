@@ -67,16 +67,18 @@ row_found keys place held rules there =
     subst (λ (row : KeyRow). place_of keys row.id ≡ Some place) (get_or_from_slice_get keys place held held there) (row_placed keys place held rules low) in
     find_at (λ (row : KeyRow). nat_eq row.id held.id) keys ∙ (ap (slice_get keys) (place_at keys held.id place placed) ∙ there)
 
--- the marks of the keys from a place on, 1 where there is none
-abbrev marks_from : State → ℕ → ℕ → List ℕ
+-- the marks of the keys from a place on, 1 where there is none; opaque, as the count of all keys is a large numeral
+marks_from : State → ℕ → ℕ → List ℕ
 marks_from state place zero = []
 marks_from state place (suc count) = mark_at state place ∷ marks_from state (place + 1) count
 
 marks_counted : (state : State) (place count : ℕ) → length (marks_from state place count) ≡ count
+unfolding marks_from
 marks_counted state place zero = refl
 marks_counted state place (suc count) = ap suc (marks_counted state (place + 1) count)
 
 marks_found : (state : State) (place count k : ℕ) → k < count → slice_index (marks_from state place count) k ≡ mark_at state (place + k)
+unfolding marks_from
 marks_found state place zero k low = absurd (omega arith)
 marks_found state place (suc count) zero low = let same : place ≡ place + 0 = omega arith in ap (mark_at state) same
 marks_found state place (suc count) (suc k) low =
@@ -110,6 +112,7 @@ module _ (state : State) (rules : KeepsRules state) (left : restarted state ≡ 
           rw (a, b) refl
 
   none_due : (place count : ℕ) → releases state place (marks_from state place count) ≡ []
+  unfolding marks_from
   none_due place zero = refl
   none_due place (suc count) =
       ap (λ (o : Option Entry). option_map_or (λ (entry : Entry). entry ∷ releases (applied state entry.change) (place + 1) (marks_from state (place + 1) count)) o

@@ -1,6 +1,6 @@
 -- One segment more of a run: its records were handled, and its answers put.
 use Rattle.std.proofs.Common.{◌≡◌, ◌⊎◌, ℕ, suc, zero, ◌+◌, ◌-◌, ◌<◌, ◌≤◌, eqb, IsTrue, Bool, true, false, List, [], ◌∷◌, ◌++◌, length, Option, refl, sym, ◌∙◌, ap, subst, inl, inr, arith, cond, append-nil, length-append}
-use Rattle.std.specs.Prelude.{◌&&◌, not, nat_lt, map}
+use Rattle.std.specs.Prelude.{◌&&◌, not, nat_le, map}
 use Rattle.std.specs.List.{All, AllPairs, Contains, slice_index_or, slice_get}
 use Rattle.std.proofs.lemmas.Bool.Decides.{nat_tests}
 use Rattle.std.proofs.lemmas.List.Elements.{Contains-append_left, Contains-append_right}
@@ -17,6 +17,7 @@ use Rattle.record_io.specs.declared.kinds.RecordKind.TheVariants.{Protect, Open,
 use Rattle.record_io.specs.declared.records.Record.{Record}
 use Rattle.record_io.specs.Answers.{answers_octets}
 use Rattle.record_io.specs.Places.{Place, records_of}
+use Rattle.record_io.specs.declared.code.TheConstants.{ACCEPTED, NUMBER}
 use Rattle.unit_state.specs.History.{after_first}
 use Rattle.law_history.specs.Answers.{Accepts, IsCodeOf}
 use Rattle.law_history.specs.Counts.{count_at, drawers, is_of_record}
@@ -119,15 +120,15 @@ pub octets_of : (places : List Place) (answers : List Answer) → length answers
 octets_of places answers few = ap answers_octets (answers_of places answers few)
 
 -- a frame that is protected is not answered as accepted
-not_protected : (kind : RecordKind) → IsCodeOf kind 1 → IsTrue (not (is_protected kind))
+not_protected : (kind : RecordKind) → IsCodeOf kind ACCEPTED → IsTrue (not (is_protected kind))
 not_protected Protect h = absurd (let t : false ≡ true = h in cc)
 not_protected Open h = refl
 not_protected Command h = refl
 
-tells_accepted : (deed : Deed) → IsTrue (not (is_protected deed.task.kind)) → deed.answer.code ≡ 1 → IsTrue (tells_entry deed)
+tells_accepted : (deed : Deed) → IsTrue (not (is_protected deed.task.kind)) → deed.answer.code ≡ ACCEPTED → IsTrue (tells_entry deed)
 tells_accepted deed opened accepted =
-    ap (λ (b : Bool). b && (nat_lt 0 deed.answer.code && nat_lt deed.answer.code 0x18)) opened
-    ∙ ap (λ (c : ℕ). nat_lt 0 c && nat_lt c 0x18) accepted
+    ap (λ (b : Bool). b && (nat_le ACCEPTED deed.answer.code && nat_le deed.answer.code NUMBER)) opened
+    ∙ ap (λ (c : ℕ). nat_le ACCEPTED c && nat_le c NUMBER) accepted
 
 -- ---- the step
 

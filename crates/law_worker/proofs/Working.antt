@@ -14,6 +14,7 @@ use Rattle.counter_table.specs.Known.{HasRisen}
 use Rattle.counter_table.specs.Turn.{stands}
 use Rattle.record_io.specs.declared.records.Record.{Record}
 use Rattle.record_io.specs.declared.answers.Answer.{Answer}
+use Rattle.record_io.specs.declared.code.TheConstants.{SITE_FAULT}
 use Rattle.unit_state.specs.History.{after, after_first}
 use Rattle.unit_state.proofs.Histories.{after_more}
 use Rattle.law_history.specs.Log.{entries_of}
@@ -281,7 +282,7 @@ module _ (begin : Begin) (u z : View) where
     agree = each_two_both (Agree begin (entries_in z)) ds es a.agree b.agree cross back;
     used = All-append (IsSpent begin z (both_gains g h)) ds es
         (λ k d l. used_left g h (slice_index_or ds k d) (a.used k d l)) (λ k d l. used_right g h (slice_index_or es k d) (b.used k d l));
-    failed = All-append (λ (x : Deed). x.answer.code ≡ 0x31 → MadeLast z (both_gains g h)) ds es
+    failed = All-append (λ (x : Deed). x.answer.code ≡ SITE_FAULT → MadeLast z (both_gains g h)) ds es
         (λ k d l c. last_left g h (a.failed k d l c)) (λ k d l c. last_right g h (b.failed k d l c));
   }
 
@@ -293,5 +294,5 @@ reorder begin u z g ds es in' a = record {
   agree = λ i d l j e m. All-contains (Agree begin (entries_in z) (slice_index_or es i d)) ds _
       (All-contains (λ (x : Deed). All (Agree begin (entries_in z) x) ds) ds _ a.agree (in' i d l)) (in' j e m);
   used = λ k d l. All-contains (IsSpent begin z g) ds _ a.used (in' k d l);
-  failed = λ k d l. All-contains (λ (x : Deed). x.answer.code ≡ 0x31 → MadeLast z g) ds _ a.failed (in' k d l);
+  failed = λ k d l. All-contains (λ (x : Deed). x.answer.code ≡ SITE_FAULT → MadeLast z g) ds _ a.failed (in' k d l);
 }

@@ -1,5 +1,5 @@
 -- What a worker did, with the answers that it gave (profile).
-use Rattle.std.specs.Prelude.{◌≡◌, ◌≢◌, ◌⊎◌, ℕ, ◌+◌, ◌<◌, ◌≤◌, ◌&&◌, ◌||◌, not, nat_lt, Bool, IsTrue, true, false, if◌then◌else◌, List, [], ◌∷◌, length, take, is_some}
+use Rattle.std.specs.Prelude.{◌≡◌, ◌≢◌, ◌⊎◌, ℕ, ◌+◌, ◌<◌, ◌≤◌, ◌&&◌, ◌||◌, not, nat_le, Bool, IsTrue, true, false, if◌then◌else◌, List, [], ◌∷◌, length, take, is_some}
 use Rattle.std.specs.List.{All, AllPairs}
 use Rattle.std.specs.Option.{option_map_or}
 use Rattle.sdls_base.specs.Numbers.{times}
@@ -9,6 +9,7 @@ use Rattle.record_io.specs.declared.records.Record.{Record}
 use Rattle.record_io.specs.declared.answers.Answer.{Answer}
 use Rattle.record_io.specs.declared.kinds.RecordKind.{RecordKind}
 use Rattle.record_io.specs.declared.kinds.RecordKind.TheVariants.{Protect, Open, Command}
+use Rattle.record_io.specs.declared.code.TheConstants.{PROTECTED, ACCEPTED, NUMBER, EXHAUSTED, SITE_FAULT}
 use Rattle.unit_state.specs.History.{epoch_after}
 use Rattle.counter_table.specs.declared.view.View.{View}
 use Rattle.counter_table.specs.Known.{HasRisen, IsSparing}
@@ -54,14 +55,14 @@ is_protected Protect = true
 is_protected Open = false
 is_protected Command = false
 
--- the position is that of an entry: the answer is of an Open or a Command, with a code from 01 to 17
+-- the position is that of an entry: the answer is of an Open or a Command, with a code from ACCEPTED to NUMBER
 abbrev pub tells_entry : Deed → Bool
-tells_entry deed = not (is_protected deed.task.kind) && (nat_lt 0 deed.answer.code && nat_lt deed.answer.code 0x18)
+tells_entry deed = not (is_protected deed.task.kind) && (nat_le ACCEPTED deed.answer.code && nat_le deed.answer.code NUMBER)
 
--- the position is an epoch: the answer is of a Protect, comes from its checks behind the channel, and has a code up to 20
+-- the position is an epoch: the answer is of a Protect, comes from its checks behind the channel, and has a code up to EXHAUSTED
 abbrev pub tells_epoch : Begin → Deed → Bool
 tells_epoch begin deed =
-    is_protected deed.task.kind && (has_channel begin.plan deed.task.link deed.task.octets && nat_lt deed.answer.code 0x21)
+    is_protected deed.task.kind && (has_channel begin.plan deed.task.link deed.task.octets && nat_le deed.answer.code EXHAUSTED)
 
 -- the epoch that an ordered answer tells
 abbrev pub epoch_told : List Entry → Deed → ℕ
@@ -74,7 +75,7 @@ is_ordered begin deed = tells_entry deed || tells_epoch begin deed
 pub record StandsBehind (begin : Begin) (history : List Entry) (one other : Deed) : Type 0 where
   pub entries : IsTrue (tells_entry one) → IsTrue (tells_entry other) → one.answer.position < other.answer.position
   pub epochs : IsTrue (is_ordered begin one) → IsTrue (is_ordered begin other) → epoch_told history one ≤ epoch_told history other
-  pub numbers : (one.task.lane ≡ other.task.lane) → one.answer.code ≡ 0 → other.answer.code ≡ 0 → IsTrue (is_protected one.task.kind)
+  pub numbers : (one.task.lane ≡ other.task.lane) → one.answer.code ≡ PROTECTED → other.answer.code ≡ PROTECTED → IsTrue (is_protected one.task.kind)
       → IsTrue (is_protected other.task.kind) → one.answer.key ≡ other.answer.key → one.answer.number < other.answer.number
 
 -- two records are handled in their order: they are of one lane, or of different segments
@@ -87,7 +88,7 @@ pub record StandsWithin (begin : Begin) (old new : View) (deed : Deed) : Type 0 
   pub stored : IsTrue (tells_entry deed) → deed.answer.position ≤ new.turn.known.standing
   pub epoch : IsTrue (is_ordered begin deed) → (epoch_seen old.turn ≤ epoch_told (entries_in new) deed)
       × (epoch_told (entries_in new) deed ≤ epoch_seen new.turn)
-  pub number : deed.answer.code ≡ 0 → IsTrue (is_protected deed.task.kind) → (row : ℕ) × IsRow begin new deed.answer.key row
+  pub number : deed.answer.code ≡ PROTECTED → IsTrue (is_protected deed.task.kind) → (row : ℕ) × IsRow begin new deed.answer.key row
       × (top row old.numbers.nexts ≤ deed.answer.number) × (deed.answer.number < top row new.numbers.nexts)
 
 -- the last entry of the log stands at this place
@@ -100,7 +101,7 @@ pub record Agree (begin : Begin) (history : List Entry) (one other : Deed) : Typ
   -- no number is used twice under a key
   pub pairs : one.task.index ≢ other.task.index → (key number : ℕ) → Uses one.answer key number → ¬ Uses other.answer key number
   -- one alone can say that the site failed while an entry was stored
-  pub faults : one.task.index ≢ other.task.index → one.answer.code ≡ 0x31 → other.answer.code ≢ 0x31
+  pub faults : one.task.index ≢ other.task.index → one.answer.code ≡ SITE_FAULT → other.answer.code ≢ SITE_FAULT
   -- where they are handled in their order, so are their answers
   pub order : one.task.index < other.task.index → InTurn one other → StandsBehind begin history one other
 
@@ -129,7 +130,7 @@ pub record Answers (begin : Begin) (old new : View) (gains : Gains) (deeds : Lis
   pub agree : EachTwo (Agree begin (entries_in new)) deeds
   pub used : All (IsSpent begin new gains) deeds
   -- who answers that the site failed made the last entry
-  pub failed : All (λ deed. deed.answer.code ≡ 0x31 → MadeLast new gains) deeds
+  pub failed : All (λ deed. deed.answer.code ≡ SITE_FAULT → MadeLast new gains) deeds
 
 -- What a worker did from the old view to the new one with these records, and the answers that it gave. No more puts failed than
 -- pieces were put.

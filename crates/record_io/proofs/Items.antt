@@ -8,6 +8,7 @@ use Rattle.record_io.specs.declared.kinds.ItemKind.TheVariants.{Fence, Recorded}
 use Rattle.record_io.specs.declared.heads.Head.{Head}
 use Rattle.record_io.specs.Input.{Item, IsItem, most_octets, kind_octet, item_header, item_octets, items_octets, LacksItem, LacksBeginning, beginning}
 use Rattle.record_io.specs.Steps.{IsHead, IsNoHead}
+use Rattle.record_io.specs.declared.kinds.TheConstants.{MOST_RECORD_OCTETS}
 
 pub length-header : (item : Item) → length (item_header item) ≡ 6
 length-header item = refl
@@ -38,7 +39,7 @@ lacks_short octets few = λ item after is e.
 pub lacks_head : (header rest : List ℕ) → length header ≡ 6 → IsNoHead header → LacksItem (header ++ rest)
 lacks_head header rest six none = λ item after is e. none item is (header_in_front header rest after item six e)
 
-pub most_small : (kind : ItemKind) → most_octets kind ≤ 2048
+pub most_small : (kind : ItemKind) → most_octets kind ≤ MOST_RECORD_OCTETS
 most_small Fence = omega arith
 most_small (Recorded kind) = omega arith
 

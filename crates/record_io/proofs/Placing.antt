@@ -8,6 +8,7 @@ use Rattle.record_io.specs.declared.records.Record.{Record}
 use Rattle.record_io.specs.Input.{Item}
 use Rattle.record_io.specs.Places.{Place, Count, behind, behind_record, counted, places_at, places_from, records_of}
 use Rattle.record_io.specs.Steps.{items_of, AreNumbered, ClosesSegment}
+use Rattle.record_io.specs.declared.reader.TheConstants.{SEGMENT_RECORDS}
 
 pub counted-append : (c : Count) (xs ys : List Item) → counted c (xs ++ ys) ≡ counted (counted c xs) ys
 counted-append c [] ys = refl
@@ -20,15 +21,15 @@ places-append c (item ∷ xs) ys =
     ∙ sym (append_assoc (places_at c item item.kind) (places_from (behind c item.kind) xs) (places_from (counted (behind c item.kind) xs) ys))
 
 -- behind a record that is not the segment's last, and behind its last
-goes_on : (c : Count) → c.inside + 1 < 1024 → behind_record c ≡ record { index = c.index + 1; segment = c.segment; inside = c.inside + 1 }
+goes_on : (c : Count) → c.inside + 1 < SEGMENT_RECORDS → behind_record c ≡ record { index = c.index + 1; segment = c.segment; inside = c.inside + 1 }
 goes_on c few =
-    let test : (c.inside + 1 == 1024) ≡ false = grind (arith, nat_tests) in
+    let test : (c.inside + 1 == SEGMENT_RECORDS) ≡ false = grind (arith, nat_tests) in
     ap (λ (b : Bool). if b then record { index = c.index + 1; segment = c.segment + 1; inside = 0 }
     else record { index = c.index + 1; segment = c.segment; inside = c.inside + 1 }) test
 
-ends_at : (c : Count) → c.inside + 1 ≡ 1024 → behind_record c ≡ record { index = c.index + 1; segment = c.segment + 1; inside = 0 }
+ends_at : (c : Count) → c.inside + 1 ≡ SEGMENT_RECORDS → behind_record c ≡ record { index = c.index + 1; segment = c.segment + 1; inside = 0 }
 ends_at c full =
-    let test : (c.inside + 1 == 1024) ≡ true = grind (arith, nat_tests) in
+    let test : (c.inside + 1 == SEGMENT_RECORDS) ≡ true = grind (arith, nat_tests) in
     ap (λ (b : Bool). if b then record { index = c.index + 1; segment = c.segment + 1; inside = 0 }
     else record { index = c.index + 1; segment = c.segment; inside = c.inside + 1 }) test
 
@@ -37,7 +38,7 @@ either true c d n e f = e
 either false c d n e f = f
 
 next_index : (c : Count) → (behind_record c).index ≡ c.index + 1
-next_index c = either (c.inside + 1 == 1024) (record { index = c.index + 1; segment = c.segment + 1; inside = 0 })
+next_index c = either (c.inside + 1 == SEGMENT_RECORDS) (record { index = c.index + 1; segment = c.segment + 1; inside = 0 })
     (record { index = c.index + 1; segment = c.segment; inside = c.inside + 1 }) (c.index + 1) refl refl
 
 same_count : (c : Count) (i s n : ℕ) → c.index ≡ i → c.segment ≡ s → c.inside ≡ n → c ≡ record { index = i; segment = s; inside = n }
@@ -47,7 +48,7 @@ same_count c i s n e f g =
     ∙ ap (λ (k : ℕ). record { index = i; segment = s; inside = k }) g
 
 -- records that do not fill a segment
-pub counted_some : (records : List Record) (c : Count) → c.inside + length records < 1024
+pub counted_some : (records : List Record) (c : Count) → c.inside + length records < SEGMENT_RECORDS
     → counted c (items_of records) ≡ record { index = c.index + length records; segment = c.segment; inside = c.inside + length records }
 counted_some [] c few = same_count c (c.index + 0) c.segment (c.inside + 0) (omega arith) refl (omega arith)
 counted_some (r ∷ records) c few =
@@ -58,7 +59,7 @@ counted_some (r ∷ records) c few =
     (c.index + length (r ∷ records)) c.segment (c.inside + length (r ∷ records)) (omega arith) refl (omega arith)
 
 -- records that fill a segment
-pub counted_full : (records : List Record) (c : Count) → c.inside + length records ≡ 1024 → 0 < length records
+pub counted_full : (records : List Record) (c : Count) → c.inside + length records ≡ SEGMENT_RECORDS → 0 < length records
     → counted c (items_of records) ≡ record { index = c.index + length records; segment = c.segment + 1; inside = 0 }
 counted_full [] c full some = absurd (omega arith)
 counted_full (r ∷ []) c full some =

@@ -16,6 +16,7 @@ use Rattle.record_io.specs.declared.reader.Read.TheVariants as reads
 use Rattle.record_io.specs.Input.{Item, IsItem, most_octets, item_octets, items_octets, LacksItem, MOST_OCTETS}
 use Rattle.record_io.specs.Steps.{IsHead, IsNoHead, still_counted, TakesTooFew, Took, item_of, items_of, AreNumbered, ReadsOn, Breaks, EndsBehind, ReadsItem, Wants}
 use Rattle.record_io.proofs.Items.{items_octets-append, not_empty, lacks_short, lacks_head, lacks_octets, lacks_front, length-head, spelled_item, item_is}
+use Rattle.record_io.specs.declared.reader.TheConstants.{SEGMENT_RECORDS}
 
 -- nothing was taken
 pub took_none : (told : Bool) (old : ℕ) (left : List ℕ) → old ≤ MOST_OCTETS → Took told [] [] old left left
@@ -225,7 +226,7 @@ AreNumbered-push n (x ∷ records) r (here, numbered) index =
 
 -- what ends a segment, behind records that were read before
 pub ends_after : (told : Bool) (count : ℕ) (items : List Item) (old mid new : ℕ) (left_old left_mid left_new : List ℕ) (end : SegmentEnd)
-    → Took told items [] old left_old left_mid → mid ≡ old + length (items_octets items) → count < 1024
+    → Took told items [] old left_old left_mid → mid ≡ old + length (items_octets items) → count < SEGMENT_RECORDS
     → EndsBehind told 0 [] mid new left_mid left_new end → EndsBehind told count items old new left_old left_new end
 ends_after told count items old mid new left_old left_mid left_new More first counted few ends = record {
   close = ends.close;

@@ -14,6 +14,7 @@ use Rattle.record_io.specs.Steps.{still_counted, Moves, Took, items_of, AreNumbe
 use Rattle.record_io.proofs.Items.{items_octets-append, length-item, not_empty}
 use Rattle.record_io.proofs.Counting.{counts_more}
 use Rattle.record_io.proofs.Placing.{counted-append, counted_some, same_records, closing, no_more_records}
+use Rattle.record_io.specs.declared.reader.TheConstants.{SEGMENT_RECORDS}
 
 abbrev read_of : List Item → List ℕ
 read_of items = beginning ++ items_octets items
@@ -92,7 +93,7 @@ module _ (start mid now : SourceSeen) (standing : Standing) (items : List Item) 
       ∙ ap (λ n. read ++ take (MOST_OCTETS - n) (part ++ now.left)) place
       ∙ ap (λ l. read ++ l) (counts_more MOST_OCTETS (standing.taken + length (items_octets more)) part now.left (omega (arith, took.within)))
 
-  pub last : (records : List Record) (part : List ℕ) → AreNumbered standing.records records → length records < 1024
+  pub last : (records : List Record) (part : List ℕ) → AreNumbered standing.records records → length records < SEGMENT_RECORDS
       → Took mid.told (items_of records) part standing.taken mid.left now.left → ReadsLast start now items records
   last records part numbered few took =
       let c : Count = counted first_count items in

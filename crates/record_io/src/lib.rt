@@ -16,8 +16,8 @@ mod records;
 pub mod status;
 
 pub use answers::{ANSWER_HEADER, Answer, answer_header};
-pub use kinds::{ItemKind, RecordKind};
+pub use kinds::{ItemKind, LANES, MOST_RECORD_OCTETS, RecordKind};
 pub use laws::{answers_are_shown, answers_shown_once, begins_reading, input_reads_once};
 pub use outcome::Outcome;
-pub use reader::Reader;
+pub use reader::{Reader, SEGMENT_RECORDS};
 pub use records::{Record, SegmentEnd};

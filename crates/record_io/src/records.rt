@@ -7,11 +7,11 @@ pub struct Record {
     /// Its number among the records of the input, from 0; fences are not counted.
     pub index: u64,
     pub kind: RecordKind,
-    /// The lane that handles it, below 16.
+    /// The lane that handles it, below [`crate::LANES`].
     pub lane: u8,
     /// The link that the frame belongs to; of a command it is not looked at.
     pub link: u8,
-    /// At most 2,048 octets.
+    /// At most [`crate::MOST_RECORD_OCTETS`].
     pub octets: Octets,
 }
 

@@ -6,6 +6,7 @@ use native.Mathlib.Decide.{ℕ_discrete}
 use Rattle.sdls_outside.specs.Moments.{Trace}
 use Rattle.sdls_base.specs.Numbers.{one_if, once_below}
 use Rattle.sdls_base.specs.declared.entry.Logged.{Logged}
+use Rattle.sdls_base.specs.declared.TheConstants.{MOST_KEYS}
 use Rattle.unit_plan.specs.PlanLines.{PlanLines}
 use Rattle.unit_state.specs.declared.state.State.{State}
 use Rattle.unit_state.specs.History.{after_first}
@@ -17,7 +18,7 @@ use Rattle.counter_table.specs.declared.view.View.{View}
 use Rattle.counter_table.specs.declared.counters.Counters.{Counters}
 use Rattle.counter_table.specs.declared.counters.Worker.{Worker}
 use Rattle.counter_table.specs.Known.{known_mark, pieces}
-use Rattle.counter_table.specs.Numbers.{amount, count_of, top, raising, lifting, joined, keeper, newcomer, first_numbers}
+use Rattle.counter_table.specs.Numbers.{amount, count_of, top, raising, lifting, joined, keeper, newcomer, first_numbers, ALL_SHARES}
 use Rattle.counter_table.specs.Turn.{stands, places, no_turn, filling, learning, merged, beginner}
 use Rattle.counter_table.specs.Play.{IsAsKnown}
 use Rattle.counter_table.specs.Whole.{IsWhole}
@@ -168,9 +169,9 @@ module _ (k : Known) (t u : Turn) (is : u ≡ taking_once k k t) where
 module _ {O B : Type 0} (told : Bool) (trace : O → Trace) (faults puts : O → ℕ) (book found : BookView O) where
   pub begins : (counters : Counters B) (plan : PlanLines) (worker : Worker B) (t : Turn) (v w u : View)
       → t ≡ filling (known_of_book trace faults puts book) no_turn → book.log ≡ [] → TakesOnce (known_of_book trace faults puts found) (known_of_book trace faults puts found) t u.turn
-      → IsAsKnown t (known_of_book trace faults puts found) → IsKept told trace faults book → IsKept told trace faults found → v.numbers ≡ first_numbers → IsRaised (known_of_book trace faults puts found) 512 v w → u.numbers ≡ w.numbers
+      → IsAsKnown t (known_of_book trace faults puts found) → IsKept told trace faults book → IsKept told trace faults found → v.numbers ≡ first_numbers → IsRaised (known_of_book trace faults puts found) MOST_KEYS v w → u.numbers ≡ w.numbers
       → view worker ≡ record { numbers = joined (keeper u.numbers) (newcomer u.numbers); turn = merged u.turn (beginner u.turn) }
-      → IsReady counters plan worker → ((view worker).numbers.shares ≡ 1024 → IsWhole 512 (view worker))
+      → IsReady counters plan worker → ((view worker).numbers.shares ≡ ALL_SHARES → IsWhole MOST_KEYS (view worker))
       → Begins trace faults puts book counters plan worker
   begins counters plan worker t v w u filled first takes known_as begun kept numbers raised later is ready whole =
       record {
@@ -195,7 +196,7 @@ module _ {O B : Type 0} (told : Bool) (trace : O → Trace) (faults puts : O →
         k : Known
         k = known_of_book trace faults puts found
 
-        shares : (view worker).numbers.shares ≡ 1024
+        shares : (view worker).numbers.shares ≡ ALL_SHARES
         shares =
             let a = ap (λ (x : View). x.numbers.shares) is in
             let b = ap (λ (n : Numbers). n.shares) later in
@@ -251,7 +252,7 @@ module _ {O B : Type 0} (told : Bool) (trace : O → Trace) (faults puts : O →
         marked : (row : ℕ) → known_mark (known_of_book trace faults puts found) row ≡ mark_at book.start row
         marked row = ap (λ (s : State). mark_at s row) state
 
-        raised_low : (row : ℕ) → row < 512 → top row (view worker).numbers.raised ≤ mark_at book.start row
+        raised_low : (row : ℕ) → row < MOST_KEYS → top row (view worker).numbers.raised ≤ mark_at book.start row
         raised_low row h =
             let a = ap (λ (x : View). top row x.numbers.raised) is in
             let b = ap (λ (ps : List (ℕ × ℕ)). top row ps) (append-nil u.numbers.raised) in
@@ -265,7 +266,7 @@ module _ {O B : Type 0} (told : Bool) (trace : O → Trace) (faults puts : O →
             (ap (λ (x : View). x.numbers.drawn) is ∙ append-nil u.numbers.drawn ∙ ap (λ (n : Numbers). n.drawn) later ∙ raised.drawn
             ∙ ap (λ (n : Numbers). n.drawn) numbers)
 
-        words : (row : ℕ) → row < 512 → mark_at book.start row ≤ top row (view worker).numbers.nexts
+        words : (row : ℕ) → row < MOST_KEYS → mark_at book.start row ≤ top row (view worker).numbers.nexts
         words row h =
             let a : mark_at book.start row ≤ top row w.numbers.nexts =
             subst (λ (s : State). mark_at s row ≤ top row w.numbers.nexts) state (raised.raised row h) in
@@ -273,7 +274,7 @@ module _ {O B : Type 0} (told : Bool) (trace : O → Trace) (faults puts : O →
             let c = ap (λ (n : Numbers). top row n.nexts) later in
             let d = ap (λ (x : View). top row x.numbers.nexts) is in omega arith
 
-        exact : (row : ℕ) → row < 512 → (top row (view worker).numbers.nexts ≡ mark_at book.start row)
+        exact : (row : ℕ) → row < MOST_KEYS → (top row (view worker).numbers.nexts ≡ mark_at book.start row)
             × (top row (view worker).numbers.nexts ≡ 1 + amount row (view worker).numbers.added)
         exact row h =
             let (next, stands_at) = (whole shares).rows row h in

@@ -1,6 +1,7 @@
 -- The numbers spent before a take are below the marks of the book found, as it is seen from before what led to the take.
 use Rattle.std.proofs.Common.{◌≡◌, ◌⊎◌, inl, inr, ℕ, ◌≤◌, Bool, List, ap, subst, ◌∙◌, arith}
 use Rattle.sdls_base.specs.Numbers.{times, once_below}
+use Rattle.sdls_base.specs.declared.TheConstants.{MOST_KEYS}
 use Rattle.sdls_outside.specs.Moments.{Trace}
 use Rattle.counter_table.specs.declared.view.Known.{Known}
 use Rattle.counter_table.specs.declared.view.Numbers.{Numbers}
@@ -19,7 +20,7 @@ pub back_spent : (row end n : ℕ) (v w : Numbers) → ComesBack row end n v w �
 back_spent row end n v w back = ap (λ (k : Numbers). k.spent) back.is ∙ ap (λ (k : Numbers). k.spent) back.draws.is
 
 -- what covers the numbers covers them where none was spent since
-covers_before : (v u : Numbers) (book : Known) → u.spent ≡ v.spent → IsCovered 512 u book → IsCovered 512 v book
+covers_before : (v u : Numbers) (book : Known) → u.spent ≡ v.spent → IsCovered MOST_KEYS u book → IsCovered MOST_KEYS v book
 covers_before v u book same covered = λ row x there.
     subst (λ (spent : List (ℕ × ℕ)). times row x spent ≤ once_below x (known_mark book row)) same (covered row x there)
 

@@ -1,5 +1,6 @@
 -- What holds of each kept book, by the laws of the book.
 use Rattle.std.proofs.Common.{◌≡◌, ℕ, ◌<◌, ◌≤◌, Bool, List, Some, sym}
+use Rattle.sdls_base.specs.declared.TheConstants.{MOST_KEYS}
 use Rattle.sdls_outside.specs.Moments.{Trace}
 use Rattle.key_book.specs.KeyBook.{place_of}
 use Rattle.unit_state.specs.History.{epoch_after}
@@ -15,7 +16,7 @@ pub record IsLevel {O : Type 0} (book : BookView O) : Type 0 where
   pub reached : book.changes ≤ epoch_after (entries_of book.log)
   pub binds : (link : ℕ) (clear : List ℕ) → protect_check book.plan (epoch_state book) link clear ≡ protect_check book.plan book.state link clear
   pub rows : (key : ℕ) → place_of (epoch_state book).keys key ≡ place_of book.state.keys key
-  pub places : (key row : ℕ) → place_of book.state.keys key ≡ Some row → row < 512
+  pub places : (key row : ℕ) → place_of book.state.keys key ≡ Some row → row < MOST_KEYS
 
 pub level_of : {O : Type 0} (told : Bool) (trace : O → Trace) (faults : O → ℕ) (book : BookView O) → IsKept told trace faults book → IsLevel book
 level_of told trace faults book kept =

@@ -3,6 +3,7 @@
 use Rattle.std.specs.Prelude.{◌≡◌, ◌≢◌, ℕ, ◌<◌, ◌≤◌, List, take, Some, None, Ok, Err, ⊤}
 use Rattle.sdls_base.specs.KeyId.{end_of}
 use Rattle.sdls_base.specs.declared.layout.FrameFault.{FrameFault}
+use Rattle.sdls_base.specs.declared.TheConstants.{MOST_KEYS}
 use Rattle.key_book.specs.KeyBook.{place_of}
 use Rattle.unit_plan.specs.PlanLines.{PlanLines, link_of}
 use Rattle.unit_state.specs.History.{epoch_after}
@@ -38,7 +39,7 @@ pub record IsTrueFor (permit : Permit) (v : Turn) : Type 0 where
   pub line : link_of v.known.opening.plan.links permit.link ≡ Some permit.binding.link
   pub sender : binding_on v.known.opening.plan (state_at v.known permit.epoch) permit.binding.link permit.channel ≡ Some permit.binding
   pub row : place_of (state_at v.known permit.epoch).keys permit.binding.key ≡ Some permit.row
-  pub there : permit.row < 512
+  pub there : permit.row < MOST_KEYS
   pub binding : IsBinding permit.binding
 
 -- the clear frame passes the checks for which the plan is enough, on the permit's link, and has its channel

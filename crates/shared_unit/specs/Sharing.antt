@@ -1,5 +1,6 @@
 -- The words at the beginning of a run (profile).
 use Rattle.std.specs.Prelude.{◌≡◌, ℕ, ◌+◌, ◌<◌, ◌≤◌, max, Bool, IsTrue, List, [], slice_index_or, Ok}
+use Rattle.sdls_base.specs.declared.TheConstants.{MOST_KEYS}
 use Rattle.sdls_outside.specs.Moments.{Trace, EachMoment}
 use Rattle.disk_journal.specs.Image.{held}
 use Rattle.unit_plan.specs.Plan.{plan_of}
@@ -10,7 +11,7 @@ use Rattle.counter_table.specs.declared.view.Known.{Known}
 use Rattle.counter_table.specs.declared.view.Turn.{Turn}
 use Rattle.counter_table.specs.declared.view.View.{View}
 use Rattle.counter_table.specs.Known.{known_mark}
-use Rattle.counter_table.specs.Numbers.{amount, top}
+use Rattle.counter_table.specs.Numbers.{amount, top, ALL_SHARES}
 use Rattle.counter_table.specs.Whole.{IsWhole}
 use Rattle.counter_table.specs.Worker.{view}
 use Rattle.counter_table.specs.declared.counters.Counters.{Counters}
@@ -51,16 +52,16 @@ pub record BookIsOpened {O : Type 0} (told : Bool) (trace : O → Trace) (faults
 -- is no key.
 pub record Begins {O B : Type 0} (trace : O → Trace) (faults puts : O → ℕ) (book : BookView O) (counters : Counters B) (plan : PlanLines) (worker : Worker B) : Type 0 where
   pub ready : IsReady counters plan worker
-  pub shares : (view worker).numbers.shares ≡ 1024
+  pub shares : (view worker).numbers.shares ≡ ALL_SHARES
   pub drawn : (view worker).numbers.drawn ≡ []
   pub spent : (view worker).numbers.spent ≡ []
   pub made : (view worker).turn.made ≡ []
   pub log : (view worker).turn.known.log ≡ []
   pub opening : (view worker).turn.known.opening ≡ (known_of_book trace faults puts book).opening
-  pub whole : IsWhole 512 (view worker)
+  pub whole : IsWhole MOST_KEYS (view worker)
   pub standing : (view worker).turn.known.standing ≡ book.standing
   pub put_faults : (view worker).turn.known.put_faults ≡ puts book.site
   pub faults_same : (view worker).turn.known.faults ≡ faults book.site
-  pub words : (row : ℕ) → row < 512 → top row (view worker).numbers.nexts ≡ mark_at book.start row
-  pub raised : (row : ℕ) → row < 512 → top row (view worker).numbers.raised ≤ mark_at book.start row
-  pub added : (row : ℕ) → row < 512 → top row (view worker).numbers.nexts ≡ 1 + amount row (view worker).numbers.added
+  pub words : (row : ℕ) → row < MOST_KEYS → top row (view worker).numbers.nexts ≡ mark_at book.start row
+  pub raised : (row : ℕ) → row < MOST_KEYS → top row (view worker).numbers.raised ≤ mark_at book.start row
+  pub added : (row : ℕ) → row < MOST_KEYS → top row (view worker).numbers.nexts ≡ 1 + amount row (view worker).numbers.added

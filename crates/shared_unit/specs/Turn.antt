@@ -1,5 +1,6 @@
 -- What a call that takes the turn once makes of what the worker knows of the book (profile).
 use Rattle.std.specs.Prelude.{◌≡◌, ℕ, ◌+◌, ◌-◌, ◌≤◌, Bool, true, false, ◌++◌, length}
+use Rattle.sdls_base.specs.declared.TheConstants.{MOST_KEYS}
 use Rattle.sdls_outside.specs.Moments.{Trace}
 use Rattle.unit_plan.specs.PlanLines.{PlanLines}
 use Rattle.counter_table.specs.declared.view.Known.{Known}
@@ -49,7 +50,7 @@ pub record FindsCovered {O : Type 0} (told : Bool) (trace : O → Trace) (faults
   pub found : BookView O
   pub given : BookView O
   pub visits : Visits told trace faults puts found given v.turn w.turn
-  pub covered : IsCovered 512 v.numbers (known_of_book trace faults puts found)
+  pub covered : IsCovered MOST_KEYS v.numbers (known_of_book trace faults puts found)
 
 -- what a worker knows of the book only grows
 pub record KnowsMoreOfBook (v w : Turn) : Type 0 where

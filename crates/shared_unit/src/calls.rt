@@ -1,8 +1,10 @@
 //! The calls that take the turn once: opening frames, putting answers, and the count of entries.
 ghost use Rattle.std.specs.Prelude.{◌≡◌, ◌<◌, ◌≤◌, ℕ, MatchResult};
+ghost use Rattle.sdls_base.specs.declared.TheConstants.{MOST_KEYS};
 ghost use Rattle.frame_checks.specs.Accepting.{LeavesOctets, field_in};
 ghost use Rattle.counter_table.specs.Play.{IsAsKnown, IsCovered};
 ghost use Rattle.counter_table.specs.Worker.{view, KeepsNumbers};
+ghost use Rattle.counter_table.specs.Numbers.{ALL_SHARES};
 ghost use Rattle.unit_book.specs.Book.{BookView};
 ghost use Rattle.unit_book.specs.Records.{OpensWithEntry, RefusesFrame};
 ghost use Rattle.shared_unit.specs.Calls.{IsPut, WithPosition};
@@ -45,8 +47,8 @@ impl<O: Site> Unit<O> {
         // shares found the book as it was known.
         ensures put { (found given : BookView O) × Visits O.told O.trace O.faults O.put_faults found given (view worker.old).turn (view worker.new).turn
             × IsPut O.told O.trace O.faults O.put_faults octets.now result found given
-            × IsCovered 512 (view worker.old).numbers (known_of_book O.trace O.faults O.put_faults found)
-            × ((view worker.old).numbers.shares ≡ 1024 → IsAsKnown (view worker.old).turn (known_of_book O.trace O.faults O.put_faults found)) }
+            × IsCovered MOST_KEYS (view worker.old).numbers (known_of_book O.trace O.faults O.put_faults found)
+            × ((view worker.old).numbers.shares ≡ ALL_SHARES → IsAsKnown (view worker.old).turn (known_of_book O.trace O.faults O.put_faults found)) }
     {
         let mut held = self.counters.take(rt, worker);
         let result = held.book.put(octets);

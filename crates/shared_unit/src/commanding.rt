@@ -1,5 +1,6 @@
 //! Commands: the words are asked first, under the turn.
 ghost use Rattle.std.specs.Prelude.{◌≡◌, ◌⊎◌, ◌<◌, ◌+◌, ℕ, Some, true};
+ghost use Rattle.sdls_base.specs.declared.TheConstants.{MOST_KEYS};
 ghost use Rattle.key_book.specs.KeyBook.{place_of};
 ghost use Rattle.ep_core.specs.declared.need.Need.TheVariants as needs;
 ghost use Rattle.counter_table.specs.Known.{LowersNoMark};
@@ -27,7 +28,7 @@ impl<O: Site> Unit<O> {
     fn row_in(&self, held: &Held<Shelf<O>>, key: KeyId) -> u16
         requires there { (row : ℕ) × (place_of held.now.book.state.keys key ≡ Some row) }
         ensures row { place_of held.now.book.state.keys key ≡ Some result }
-        ensures below { result < 512 }
+        ensures below { result < MOST_KEYS }
     {
         held.book.look();
         let Some(row) = held.book.row_of(key) else {

@@ -1,8 +1,10 @@
 //! A number that was drawn at or above the limit: its block is reserved under the turn.
 ghost use Rattle.std.specs.Prelude.{◌≡◌, ◌<◌, ℕ, length, true, Some, None};
 ghost use Rattle.sdls_base.specs.KeyId.{end_of};
+ghost use Rattle.sdls_base.specs.declared.TheConstants.{MOST_KEYS};
 ghost use Rattle.key_book.specs.KeyBook.{place_of};
 ghost use Rattle.frame_shield.specs.Binding.{clear_fault};
+ghost use Rattle.frame_shield.specs.declared.protecting_frames.TheConstants.{FRAME_ROOM};
 ghost use Rattle.counter_table.specs.Known.{LowersNoMark};
 ghost use Rattle.counter_table.specs.Worker.{view, IsOf, IsSame};
 ghost use Rattle.unit_book.specs.Book.{IsKept};
@@ -36,7 +38,7 @@ impl<O: Site> Unit<O> {
         requires turn { (view worker.old).turn.holds ≡ true }
         requires filled { (view worker.old).turn.filled ≡ true }
         requires marks { LowersNoMark (view worker.old).turn.known (known_of_book O.trace O.faults O.put_faults held.old.book) }
-        requires row { row < 512 }
+        requires row { row < MOST_KEYS }
         requires place { place_of held.old.book.state.keys key ≡ Some row }
         requires ticket { (ticket.0 ≡ row) × (ticket.1 < end_of key) × ((view worker.old).numbers.last ≡ Some ticket) }
         ensures same { IsSame worker.old worker.new }
@@ -71,7 +73,7 @@ impl<O: Site> Unit<O> {
         requires ticket { (ticket.0 ≡ permit.now.row) × (ticket.1 < end_of permit.now.binding.key) × (0 < ticket.1)
             × ((view worker.old).numbers.last ≡ Some ticket) }
         requires epoch { (view worker.old).turn.epoch ≡ permit.now.epoch }
-        requires room { length out.old ≡ 2048 }
+        requires room { length out.old ≡ FRAME_ROOM }
         ensures ready { IsReady self.now.counters self.now.plan worker.new }
         ensures same { IsSame worker.old worker.new }
         ensures step { IsFundStep O.told O.trace O.faults O.put_faults permit.now ticket.1 clear.now out.new result (view worker.old) (view worker.new) }

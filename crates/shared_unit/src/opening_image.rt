@@ -13,7 +13,7 @@ ghost use Rattle.shared_unit.specs.Told.{known_of_book};
 use crate::shelf::Shelf;
 use crate::unit::{Unit, Worker};
 use counter_table::{Counted, Counters, Held};
-use sdls_base::NoMemory;
+use sdls_base::{MOST_KEYS, NoMemory};
 use sdls_outside::Site;
 use std::alloc::Global;
 use std::sync::Wait;
@@ -21,7 +21,7 @@ use unit_book::Book;
 use unit_image::OpenFault;
 
 // A row for each key that a book can have.
-const ROWS: u16 = 512;
+const ROWS: u16 = MOST_KEYS as u16;
 
 // The site of a book that is not needed any more.
 fn site_of<O: Site>(book: Book<O>) -> O
@@ -40,7 +40,7 @@ impl<O: Site> Unit<O> {
         requires known { (view worker.old).turn.known ≡ known_of_book O.trace O.faults O.put_faults held.now.book }
         requires marks { (row : ℕ) → known_mark (known_of_book O.trace O.faults O.put_faults held.now.book) row ≤ 2 ^ 48 }
         ensures own { IsOf self.now.counters worker.new }
-        ensures raised { IsRaised (known_of_book O.trace O.faults O.put_faults held.now.book) 512 (view worker.old) (view worker.new) }
+        ensures raised { IsRaised (known_of_book O.trace O.faults O.put_faults held.now.book) MOST_KEYS (view worker.old) (view worker.new) }
     {
         for row in 0..ROWS {
             let mark = held.book.mark(row);

@@ -1,5 +1,6 @@
 //! A frame is protected: with the kept permit where that still holds, and else under the turn.
 ghost use Rattle.std.specs.Prelude.{◌≡◌, ◌≤◌, ◌<◌, ◌+◌, ℕ, length, Some, Ok, IfSome};
+ghost use Rattle.frame_shield.specs.declared.protecting_frames.TheConstants.{FRAME_ROOM};
 ghost use Rattle.frame_checks.specs.ProtectingFrames.{channel_check};
 ghost use Rattle.counter_table.specs.Turn.{epoch_seen};
 ghost use Rattle.counter_table.specs.Worker.{view, IsSame};
@@ -29,7 +30,7 @@ impl<O: Site> Unit<O> {
         requires ready { IsReady self.now.counters self.now.plan worker.old }
         requires permit { IsTrueFor permit.now (view worker.old).turn }
         requires frame { IsOfPermit self.now.plan permit.now clear.now }
-        requires room { length out.old ≡ 2048 }
+        requires room { length out.old ≡ FRAME_ROOM }
         ensures ready { IsReady self.now.counters self.now.plan worker.new }
         ensures same { IsSame worker.old worker.new }
         ensures turn { TakesAtMostOnce O.told O.trace O.faults O.put_faults (view worker.old).turn (view worker.new).turn }
@@ -72,7 +73,7 @@ impl<O: Site> Unit<O> {
         requires ready { IsReady self.now.counters self.now.plan worker.old }
         requires kept { IsTrueIfKept kept.now (view worker.old).turn }
         requires channel { channel_check self.now.plan link clear.now ≡ Ok (Some channel) }
-        requires room { length out.old ≡ 2048 }
+        requires room { length out.old ≡ FRAME_ROOM }
         ensures ready { IsReady self.now.counters self.now.plan worker.new }
         ensures same { IsSame worker.old worker.new }
         ensures turn { TakesAtMostOnce O.told O.trace O.faults O.put_faults (view worker.old).turn (view worker.new).turn }
@@ -105,7 +106,7 @@ impl<O: Site> Unit<O> {
         requires ready { IsReady self.now.counters self.now.plan worker.old }
         requires kept { IsTrueIfKept kept.old (view worker.old).turn }
         requires channel { (channel : ℕ) × (channel_check self.now.plan link clear.now ≡ Ok (Some channel)) }
-        requires room { length out.old ≡ 2048 }
+        requires room { length out.old ≡ FRAME_ROOM }
         ensures ready { IsReady self.now.counters self.now.plan worker.new }
         ensures same { IsSame worker.old worker.new }
         ensures turn { TakesAtMostOnce O.told O.trace O.faults O.put_faults (view worker.old).turn (view worker.new).turn }
@@ -146,7 +147,7 @@ impl<O: Site> Unit<O> {
     ) -> Protected
         requires ready { IsReady self.now.counters self.now.plan worker.old }
         requires kept { IsTrueIfKept kept.old (view worker.old).turn }
-        requires room { length out.old ≡ 2048 }
+        requires room { length out.old ≡ FRAME_ROOM }
         ensures ready { IsReady self.now.counters self.now.plan worker.new }
         ensures same { IsSame worker.old worker.new }
         ensures shares { (view worker.new).numbers.shares ≡ (view worker.old).numbers.shares }

@@ -1,5 +1,7 @@
 //! The way of a frame: with a permit it makes steps on words alone.
 ghost use Rattle.std.specs.Prelude.{◌≡◌, ◌≤◌, ◌<◌, ◌^◌, ℕ, length};
+ghost use Rattle.frame_shield.specs.declared.protecting_frames.TheConstants.{FRAME_ROOM};
+ghost use Rattle.sdls_base.specs.declared.TheConstants.{MOST_KEYS};
 ghost use Rattle.counter_table.specs.Worker.{view, IsOf, IsSame, KeepsTurn};
 ghost use Rattle.shared_unit.specs.Numbers.{IsDrawAnswer};
 ghost use Rattle.shared_unit.specs.Permit.{IsOfPermit, IsReadyStep, IsTrueFor};
@@ -20,7 +22,7 @@ impl<O: Site> Unit<O> {
         end: u64,
     ) -> Result<Ticket, u64>
         requires own { IsOf self.now.counters worker.old }
-        requires row { row < 512 }
+        requires row { row < MOST_KEYS }
         requires end { end ≤ 2 ^ 48 }
         ensures same { KeepsTurn worker.old worker.new }
         ensures drawn { IsDrawAnswer row end result (view worker.old).numbers (view worker.new).numbers }
@@ -50,7 +52,7 @@ impl<O: Site> Unit<O> {
         requires ready { IsReady self.now.counters self.now.plan worker.old }
         requires permit { IsTrueFor permit.now (view worker.old).turn }
         requires frame { IsOfPermit self.now.plan permit.now clear.now }
-        requires room { length out.old ≡ 2048 }
+        requires room { length out.old ≡ FRAME_ROOM }
         ensures ready { IsReady self.now.counters self.now.plan worker.new }
         ensures same { IsSame worker.old worker.new }
         ensures step { IsReadyStep permit.now clear.now out.new result (view worker.old) (view worker.new) }

@@ -1,11 +1,12 @@
 //! The workers of a unit, and its end.
 ghost use Rattle.std.specs.Prelude.{◌≡◌, ◌+◌, ◌<◌, ◌≤◌, ℕ};
 ghost use Rattle.counter_table.specs.Close.{ClosesCounters};
-ghost use Rattle.counter_table.specs.Numbers.{joined, keeper, newcomer};
+ghost use Rattle.counter_table.specs.Numbers.{joined, keeper, newcomer, ALL_SHARES};
 ghost use Rattle.counter_table.specs.Turn.{beginner, merged};
 ghost use Rattle.counter_table.specs.Whole.{IsWhole, Meet};
 ghost use Rattle.counter_table.specs.Worker.{view, IsSame};
 ghost use Rattle.sdls_base.specs.Numbers.{times};
+ghost use Rattle.sdls_base.specs.declared.TheConstants.{MOST_KEYS};
 ghost use Rattle.unit_book.specs.Book.{IsKept};
 ghost use Rattle.shared_unit.specs.Told.{known_of_book};
 ghost use Rattle.shared_unit.specs.Turn.{IsReady};
@@ -40,12 +41,12 @@ impl<O: Site> Unit<O> {
         } }
 
         // No number of a row was drawn twice, and what both knew is of an earlier time.
-        ensures apart { (row x : ℕ) → row < 512
+        ensures apart { (row x : ℕ) → row < MOST_KEYS
             → times row x (view worker.old).numbers.drawn + times row x (view other).numbers.drawn ≤ 1 }
         ensures meet { Meet (view worker.old).turn (view other).turn }
 
         // Who has all shares did all.
-        ensures whole { (view worker.new).numbers.shares ≡ 1024 → IsWhole 512 (view worker.new) }
+        ensures whole { (view worker.new).numbers.shares ≡ ALL_SHARES → IsWhole MOST_KEYS (view worker.new) }
     {
         self.counters.join(worker, other);
     }
@@ -54,9 +55,9 @@ impl<O: Site> Unit<O> {
     /// joined.
     pub fn close(self, worker: Worker<O>) -> (Book<O>, Vec<u64>)
         requires ready { IsReady self.counters self.plan worker }
-        requires all { (view worker).numbers.shares ≡ 1024 }
+        requires all { (view worker).numbers.shares ≡ ALL_SHARES }
         ensures kept { IsKept O.told O.trace O.faults result.0 }
-        ensures closes { ClosesCounters 512 (view worker) (known_of_book O.trace O.faults O.put_faults result.0) result.1.items }
+        ensures closes { ClosesCounters MOST_KEYS (view worker) (known_of_book O.trace O.faults O.put_faults result.0) result.1.items }
     {
         let counters = self.into_counters();
         let (shelf, nexts) = counters.close(worker);

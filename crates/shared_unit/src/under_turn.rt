@@ -1,7 +1,9 @@
 //! A frame that is protected under the turn.
 ghost use Rattle.std.specs.Prelude.{◌≡◌, ◌<◌, length, true, Some};
+ghost use Rattle.sdls_base.specs.declared.TheConstants.{MOST_KEYS};
 ghost use Rattle.key_book.specs.KeyBook.{place_of};
 ghost use Rattle.frame_shield.specs.Binding.{IsBinding};
+ghost use Rattle.frame_shield.specs.declared.protecting_frames.TheConstants.{FRAME_ROOM};
 ghost use Rattle.counter_table.specs.Known.{LowersNoMark};
 ghost use Rattle.counter_table.specs.Worker.{view, IsOf, IsSame};
 ghost use Rattle.unit_book.specs.Book.{IsKept};
@@ -31,10 +33,10 @@ impl<O: Site> Unit<O> {
         requires filled { (view worker.old).turn.filled ≡ true }
         requires marks { LowersNoMark (view worker.old).turn.known (known_of_book O.trace O.faults O.put_faults held.old.book) }
         requires place { place_of held.old.book.state.keys permit.now.binding.key ≡ Some permit.now.row }
-        requires row { permit.now.row < 512 }
+        requires row { permit.now.row < MOST_KEYS }
         requires binding { IsBinding permit.now.binding }
         requires kept { IsKept O.told O.trace O.faults held.old.book }
-        requires room { length out.old ≡ 2048 }
+        requires room { length out.old ≡ FRAME_ROOM }
         ensures same { IsSame worker.old worker.new }
         ensures kept { IsKept O.told O.trace O.faults held.new.book }
         ensures goes_on { GoesUp O.faults O.put_faults held.old.book held.new.book }

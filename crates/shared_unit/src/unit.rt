@@ -1,4 +1,5 @@
 ghost use Rattle.std.specs.Prelude.{◌≡◌};
+ghost use Rattle.sdls_base.specs.declared.TheConstants.{MOST_KEYS};
 ghost use Rattle.frame_checks.specs.ProtectingFrames.{channel_check};
 
 use crate::shelf::Shelf;
@@ -12,7 +13,7 @@ use unit_plan::Plan;
 pub struct Unit<O: Site> {
     pub(crate) counters: Counters<Shelf<O>>,
     pub(crate) plan: Plan,
-    ghost rows: { counters.rows ≡ 512 },
+    ghost rows: { counters.rows ≡ MOST_KEYS },
 }
 
 impl<O: Site + Drop> Drop for Unit<O> {

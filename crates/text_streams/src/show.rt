@@ -2,13 +2,10 @@
 use crate::ends::End;
 use crate::putting::{put_full, put_rest};
 use item_text::{put_fence, put_record};
-use record_io::{Reader, Record, SegmentEnd};
+use record_io::{Reader, Record, SEGMENT_RECORDS, SegmentEnd};
 use sdls_base::NoMemory;
 use sdls_outside::{Failed, Site, Source};
 use std::alloc::Global;
-
-/// A segment of so many records ends without a fence.
-const SEGMENT_RECORDS: usize = 1024;
 
 /// Adds the lines of records, and puts the pieces that are full.
 fn show_records<O: Site>(

@@ -36,7 +36,7 @@ pub record ServesAlike (plan : PlanLines) (one other : State) : Type 0 where
   pub places : (key : ℕ) → place_of one.keys key ≡ place_of other.keys key
   pub needs : (octets : List ℕ) (need : Need) → IsNeedOf one octets need ↔ IsNeedOf other octets need
 
--- Keys have places below 512, and marks from 1 to 2 ^ 48; that of a key is the one at its place.
+-- Keys have places below MOST_KEYS, and marks from 1 to 2 ^ 48; that of a key is the one at its place.
 pub record HasBounds (state : State) : Type 0 where
   pub keys : length state.keys ≤ MOST_KEYS
   pub places : (key place : ℕ) → place_of state.keys key ≡ Some place → place < MOST_KEYS

@@ -49,7 +49,7 @@ pub fn marks_stand<O: Site>()
         → mark_of book.start key ≤ mark_of book.state key }
 {}
 
-/// Law: of a state that keeps the rules, each key's place is below 512, and each mark lies from 1 to 2^48.
+/// Law: of a state that keeps the rules, each key's place is below `MOST_KEYS`, and each mark lies from 1 to 2^48.
 pub fn states_have_bounds()
     ensures { (state : State) → KeepsRules state → HasBounds state }
 {}

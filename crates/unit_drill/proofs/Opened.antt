@@ -1,5 +1,6 @@
 -- A unit that was opened on a site in memory: for `DrillUnit::open`.
 use Rattle.std.proofs.Common.{◌≡◌, ℕ, true, List, length, refl, ◌∙◌, ap, subst, Ok}
+use Rattle.sdls_base.specs.declared.TheConstants.{MOST_KEYS}
 use Rattle.sdls_outside.specs.Moments.{Trace}
 use Rattle.sdls_outside.specs.Crash.{fresh}
 use Rattle.disk_journal.specs.Image.{held, records, slot_count}
@@ -27,7 +28,7 @@ module _ {O B : Type 0} (trace : O → Trace) (faults puts : O → ℕ) (site : 
 
   abbrev begin : Begin
   begin = record {
-    rows = 512;
+    rows = MOST_KEYS;
     told = true;
     plan = book.plan;
     start = book.start;

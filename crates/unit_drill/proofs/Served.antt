@@ -2,6 +2,7 @@
 use Rattle.std.proofs.Common.{◌≡◌, ℕ, ◌≤◌, true, false, Bool, List, length, refl, sym, subst, arith}
 use Rattle.std.specs.List.{All, list_any}
 use Rattle.std.proofs.lemmas.Option.{slice_get_within}
+use Rattle.sdls_base.specs.declared.TheConstants.{MOST_KEYS}
 use Rattle.counter_table.specs.declared.view.Opening.{Opening}
 use Rattle.counter_table.specs.declared.view.View.{View}
 use Rattle.counter_table.specs.Whole.{IsWhole}
@@ -20,7 +21,7 @@ pub served : (v w : View) (tasks : List Record) (answers : List Answer) (full : 
     → ((begin : Begin) (layout : Layout) (number : ℕ) → BeganWith true begin v.turn.known.opening → LiesIn layout number tasks
     → Handled layout begin v w tasks (deeds_of number tasks answers))
     → ((begin : Begin) → BeganWith true begin v.turn.known.opening → EndsSegment begin v w tasks answers full)
-    → list_any tells_fault answers ≡ false → IsWhole 512 w
+    → list_any tells_fault answers ≡ false → IsWhole MOST_KEYS w
     → (begin : Begin) → BeganWith true begin v.turn.known.opening
     → HandlesSegment begin v w tasks answers × BeganWith true begin w.turn.known.opening
 served v w tasks answers full ahead lanes handled ends quiet whole begin began = (
@@ -36,7 +37,7 @@ few begin v w tasks answers true ends = let low = slice_get_within tasks (length
 
 abbrev begin_with : Opening → Begin
 begin_with opening = record {
-  rows = 512;
+  rows = MOST_KEYS;
   told = true;
   plan = opening.plan;
   start = opening.start;

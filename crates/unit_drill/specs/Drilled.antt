@@ -7,6 +7,7 @@ use Rattle.unit_plan.specs.PlanLines.{PlanLines}
 use Rattle.counter_table.specs.declared.counters.Counters.{Counters}
 use Rattle.counter_table.specs.declared.counters.Worker.{Worker}
 use Rattle.counter_table.specs.Worker.{view}
+use Rattle.counter_table.specs.Numbers.{ALL_SHARES}
 use Rattle.shared_unit.specs.Turn.{IsReady}
 use Rattle.sdls_plain.specs.Answer.{Ends, line}
 use Rattle.drill_frames.specs.declared.counts.Counts.{Counts}
@@ -16,7 +17,7 @@ use Rattle.law_drill.specs.Drilled.{IsComplete, IsDrilled}
 -- the one worker of a unit, with all shares, may make calls on it
 pub record MayServe {B : Type 0} (counters : Counters B) (plan : PlanLines) (worker : Worker B) : Type 0 where
   pub ready : IsReady counters plan worker
-  pub shares : (view worker).numbers.shares ≡ 1024
+  pub shares : (view worker).numbers.shares ≡ ALL_SHARES
 
 -- These are the counts of a drill of so many frames: those of the answers of its units. Where no answer tells want of memory, all
 -- frames are protected and accepted, and the first of each chunk is rejected the second time.

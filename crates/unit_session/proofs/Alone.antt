@@ -7,6 +7,7 @@ use Rattle.std.proofs.lemmas.List.{take_at}
 use Rattle.sdls_base.specs.Numbers.{once_below}
 use Rattle.sdls_base.specs.declared.entry.Logged.{Logged}
 use Rattle.sdls_base.specs.declared.entry.Logged.TheVariants as lines
+use Rattle.sdls_base.specs.declared.TheConstants.{MOST_KEYS}
 use Rattle.sdls_outside.specs.Faults.{Rose}
 use Rattle.sdls_outside.specs.Moments.{Trace, Between}
 use Rattle.sdls_outside.specs.Site as sites
@@ -105,7 +106,7 @@ module _ {O : Type 0} (told : Bool) (trace : O → Trace) (faults puts : O → �
   opening_is = ap (λ (k : Known). k.opening) known_is ∙ visits.takes.opening ∙ visits.takes.follows.opening
 
   -- who has all shares did all
-  pub whole_after : IsWhole 512 v → IsWhole 512 w
+  pub whole_after : IsWhole MOST_KEYS v → IsWhole MOST_KEYS w
   whole_after whole = record {
     rows = λ row low. subst (λ (n : _). (next : ℕ) × RowStands row next n) (sym numbers) (whole.rows row low);
     made = λ x.

@@ -1,6 +1,7 @@
 -- A segment that was handled, and whose answers were put: for the clauses of `serve`.
 use Rattle.std.proofs.Common.{◌≡◌, ℕ, ◌+◌, ◌≤◌, Bool, true, false, IsTrue, List, length, Result, Ok, Err, refl, sym, ◌∙◌, ap, subst, arith}
 use Rattle.std.proofs.lemmas.Option.{slice_get_within}
+use Rattle.sdls_base.specs.declared.TheConstants.{MOST_KEYS}
 use Rattle.counter_table.specs.declared.view.Opening.{Opening}
 use Rattle.counter_table.specs.declared.view.View.{View}
 use Rattle.counter_table.specs.Whole.{IsWhole}
@@ -24,7 +25,7 @@ use Rattle.unit_session.proofs.Lying.{own_layout, own_lies}
 -- a run that began with this opening
 abbrev pub begin_with : Bool → Opening → Begin
 begin_with told opening = record {
-  rows = 512;
+  rows = MOST_KEYS;
   told = told;
   plan = opening.plan;
   start = opening.start;
@@ -64,11 +65,11 @@ module _ (told : Bool) (v mid w : View) (tasks : List Record) (up : Ascend tasks
   pub same_opening : w.turn.known.opening ≡ v.turn.known.opening
   same_opening = put.leaves.opening ∙ mid_opening
 
-  module _ (begin : Begin) (began : BeganWith told begin v.turn.known.opening) (whole_v : IsWhole 512 v) (whole_mid : IsWhole 512 mid) (whole_w : IsWhole 512 w) where
+  module _ (begin : Begin) (began : BeganWith told begin v.turn.known.opening) (whole_v : IsWhole MOST_KEYS v) (whole_mid : IsWhole MOST_KEYS mid) (whole_w : IsWhole MOST_KEYS w) where
     began_mid : BeganWith told begin mid.turn.known.opening
     began_mid = subst (BeganWith told begin) (sym mid_opening) began
 
-    whole_at : (u : View) → IsWhole 512 u → IsWhole begin.rows u
+    whole_at : (u : View) → IsWhole MOST_KEYS u → IsWhole begin.rows u
     whole_at u h = subst (λ (rows : ℕ). IsWhole rows u) (sym began.rows) h
 
     few_answers : (full : Bool) → EndsSegment begin v mid tasks answers full → length answers ≤ length tasks

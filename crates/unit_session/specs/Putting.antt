@@ -1,5 +1,6 @@
 -- What putting answers does (profile).
 use Rattle.std.specs.Prelude.{◌≡◌, ◌⊎◌, ◌≤◌, Bool, IsTrue, List, ◌++◌, length, Result, MatchResult, OnErr, ℕ}
+use Rattle.sdls_base.specs.declared.TheConstants.{MOST_KEYS}
 use Rattle.sdls_outside.specs.Faults.{Rose}
 use Rattle.sdls_outside.specs.Moments.{Between}
 use Rattle.sdls_outside.specs.Site.{after_put}
@@ -9,6 +10,7 @@ use Rattle.counter_table.specs.declared.counters.Counters.{Counters}
 use Rattle.counter_table.specs.declared.counters.Worker.{Worker}
 use Rattle.counter_table.specs.Whole.{IsWhole}
 use Rattle.counter_table.specs.Worker.{view}
+use Rattle.counter_table.specs.Numbers.{ALL_SHARES}
 use Rattle.shared_unit.specs.Turn.{IsReady}
 use Rattle.law_worker.specs.Begin.{Begin}
 use Rattle.law_worker.specs.Views.{log_of}
@@ -18,8 +20,8 @@ use Rattle.law_run_segments.specs.Doing.{PutsPieces, SettlesWork, octets_put}
 -- One worker of the unit, with all shares, which did all that was done.
 pub record IsAlone {B : Type 0} (counters : Counters B) (plan : PlanLines) (worker : Worker B) : Type 0 where
   pub ready : IsReady counters plan worker
-  pub shares : (view worker).numbers.shares ≡ 1024
-  pub whole : IsWhole 512 (view worker)
+  pub shares : (view worker).numbers.shares ≡ ALL_SHARES
+  pub whole : IsWhole MOST_KEYS (view worker)
 
 -- Ok: the octets were added to those put. Err: a front of them.
 abbrev pub Adds : {T E : Type 0} → List ℕ → Result T E → List ℕ → List ℕ → Type 0

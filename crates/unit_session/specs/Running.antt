@@ -1,6 +1,7 @@
 -- A unit that was opened, served and closed, or was not opened (profile).
 use Rattle.std.specs.Prelude.{◌≡◌, ℕ, Bool, IsTrue, List, Result, Ok, MatchResult}
 use Rattle.sdls_base.specs.declared.entry.Entry.{Entry}
+use Rattle.sdls_base.specs.declared.TheConstants.{MOST_KEYS}
 use Rattle.sdls_outside.specs.declared.source.Failed.{Failed}
 use Rattle.sdls_outside.specs.Faults.{HasCause}
 use Rattle.sdls_outside.specs.Moments.{Trace}
@@ -32,9 +33,9 @@ pub record RunsUnit {O : Type 0} (told : Bool) (trace : O → Trace) (faults put
   pub words : List ℕ
   pub comes : (begin : Begin) → BeganWith told begin first.turn.known.opening → Comes source source_after begin first now came
   pub opening : now.turn.known.opening ≡ first.turn.known.opening
-  pub whole : IsWhole 512 now
+  pub whole : IsWhole MOST_KEYS now
   pub kept : IsKept told trace faults book
-  pub closes : ClosesCounters 512 now (known_of_book trace faults puts book) words
+  pub closes : ClosesCounters MOST_KEYS now (known_of_book trace faults puts book) words
   pub finishes : Finishes told trace faults puts before words came book site entries status
 
 -- where a book was not opened: End was put, or a front of it; so many faults had been counted before the run

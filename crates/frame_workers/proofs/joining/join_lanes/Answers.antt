@@ -2,6 +2,8 @@ use Rattle.std.proofs.Common.{◌≡◌, ◌≢◌, ℕ, ◌<◌, List, length, 
 use Rattle.std.specs.Option.{IfSome}
 use Rattle.std.proofs.lemmas.List.{length-set, reverse-reverse}
 use Rattle.std.proofs.lemmas.List.Elements.{All-pop}
+use Rattle.record_io.specs.declared.kinds.TheConstants.{LANES}
+use Rattle.sdls_base.specs.declared.TheConstants.{MOST_KEYS}
 use Rattle.counter_table.specs.Worker.{view}
 use Rattle.shared_unit.specs.Turn.{IsReady}
 use Rattle.law_worker.specs.Lanes.{Part}
@@ -24,15 +26,15 @@ lanes-init g c = record {
 pub join-requires-clause-other : goal.join-requires-clause-other
 join-requires-clause-other g c =
     let inv = c.lanes.invariant in
-    let ready = (All-pop (λ lane. IsReady c.args.unit.now.counters c.args.unit.now.plan lane.worker × (lane.number < 16)) c.lanes.lanes.items c.pop.new.self.items c.pop.result c.pop.ensures.items inv.ready).1 in
-    let one = subst (λ o. IfSome o (λ lane. IsReady c.args.unit.now.counters c.args.unit.now.plan lane.worker × (lane.number < 16))) c.in-Some.is ready in
+    let ready = (All-pop (λ lane. IsReady c.args.unit.now.counters c.args.unit.now.plan lane.worker × (lane.number < LANES)) c.lanes.lanes.items c.pop.new.self.items c.pop.result c.pop.ensures.items inv.ready).1 in
+    let one = subst (λ o. IfSome o (λ lane. IsReady c.args.unit.now.counters c.args.unit.now.plan lane.worker × (lane.number < LANES))) c.in-Some.is ready in
     subst (λ worker. IsReady c.args.unit.now.counters c.args.unit.now.plan worker) (sym c.into_parts-other.ensures.worker) one.0
 
 pub bounds-parts-number : goal.bounds-parts-number
 bounds-parts-number g c =
     let inv = c.lanes.invariant in
-    let ready = (All-pop (λ lane. IsReady c.args.unit.now.counters c.args.unit.now.plan lane.worker × (lane.number < 16)) c.lanes.lanes.items c.pop.new.self.items c.pop.result c.pop.ensures.items inv.ready).1 in
-    let one = subst (λ o. IfSome o (λ lane. IsReady c.args.unit.now.counters c.args.unit.now.plan lane.worker × (lane.number < 16))) c.in-Some.is ready in
+    let ready = (All-pop (λ lane. IsReady c.args.unit.now.counters c.args.unit.now.plan lane.worker × (lane.number < LANES)) c.lanes.lanes.items c.pop.new.self.items c.pop.result c.pop.ensures.items inv.ready).1 in
+    let one = subst (λ o. IfSome o (λ lane. IsReady c.args.unit.now.counters c.args.unit.now.plan lane.worker × (lane.number < LANES))) c.in-Some.is ready in
     let number = c.from-number.ensures in let many = inv.many in let below = one.1 in omega arith
 
 pub lanes-preserved : goal.lanes-preserved
@@ -44,8 +46,8 @@ lanes-preserved g c =
     let is : parts_of c.lanes.lanes.items ≡ part_of lane ∷ parts_of left = ap parts_of items ∙ parts_push left lane in
     let other : view c.into_parts-other.result.0 ≡ view lane.worker = ap view c.into_parts-other.ensures.worker in
     let met = c.join.ensures.joined in
-    let ready = All-pop (λ lane. IsReady c.args.unit.now.counters c.args.unit.now.plan lane.worker × (lane.number < 16)) c.lanes.lanes.items left c.pop.result c.pop.ensures.items inv.ready in
-    let one = subst (λ o. IfSome o (λ lane. IsReady c.args.unit.now.counters c.args.unit.now.plan lane.worker × (lane.number < 16))) c.in-Some.is ready.1 in
+    let ready = All-pop (λ lane. IsReady c.args.unit.now.counters c.args.unit.now.plan lane.worker × (lane.number < LANES)) c.lanes.lanes.items left c.pop.result c.pop.ensures.items inv.ready in
+    let one = subst (λ o. IfSome o (λ lane. IsReady c.args.unit.now.counters c.args.unit.now.plan lane.worker × (lane.number < LANES))) c.in-Some.is ready.1 in
     let apart = pairs_pop HaveOwnNumbers c.lanes.lanes.items left lane items inv.apart in
     let number : c.from-number.result ≡ lane.number = c.from-number.ensures in
     let many = inv.many in let below = one.1 in
@@ -58,9 +60,9 @@ lanes-preserved g c =
       ready = ready.0;
       apart = apart.0;
       many = length-set c.lanes.parts c.from-number.result c.reverse.new.self ∙ inv.many;
-      joined = joined_next 512 (view c.lanes.worker) (view c.join.new.worker) (view c.into_parts-other.result.0) (parts_of c.lanes.lanes.items) (parts_of left)
+      joined = joined_next MOST_KEYS (view c.lanes.worker) (view c.join.new.worker) (view c.into_parts-other.result.0) (parts_of c.lanes.lanes.items) (parts_of left)
           (part_of lane) is met other ∙ inv.joined;
-      meet = λ all. inv.meet (meet_next 512 (view c.lanes.worker) (view c.join.new.worker) (view c.into_parts-other.result.0)
+      meet = λ all. inv.meet (meet_next MOST_KEYS (view c.lanes.worker) (view c.join.new.worker) (view c.into_parts-other.result.0)
           (parts_of c.lanes.lanes.items) (parts_of left) (part_of lane) is met other
           (record { earlier = c.join.ensures.meet.earlier; other_earlier = c.join.ensures.meet.other_earlier; drawn = λ row number few. c.join.ensures.apart row number few; made = c.join.ensures.meet.made }) all);
       parts = λ n. keeps_next (part_of lane) (parts_of left) (λ m. left_at m c.lanes.parts) (λ m. left_at m (slice_set c.lanes.parts c.from-number.result c.reverse.new.self))

@@ -1,5 +1,7 @@
 use Rattle.std.proofs.Common.{◌≡◌, ℕ, ◌<◌, length}
 use Rattle.std.specs.List.{All, AllPairs}
+use Rattle.record_io.specs.declared.kinds.TheConstants.{LANES}
+use Rattle.sdls_base.specs.declared.TheConstants.{MOST_KEYS}
 use Rattle.counter_table.specs.Worker.{view}
 use Rattle.shared_unit.specs.Turn.{IsReady}
 use Rattle.law_worker.specs.Lanes.{MeetAll, meeting_all}
@@ -10,11 +12,11 @@ use Rattle.frame_workers.proofs.joining.join_lanes.Given as goal
 abbrev pub invariant-lanes : goal.invariant-lanes
 invariant-lanes g l = record {
   is_ready : IsReady l.unit.counters l.unit.plan l.worker;
-  ready : All (λ lane. IsReady l.unit.counters l.unit.plan lane.worker × (lane.number < 16)) l.lanes.items;
+  ready : All (λ lane. IsReady l.unit.counters l.unit.plan lane.worker × (lane.number < LANES)) l.lanes.items;
   apart : AllPairs HaveOwnNumbers l.lanes.items;
-  many : length l.parts ≡ 16;
+  many : length l.parts ≡ LANES;
   joined : meeting_all (view l.worker) (parts_of l.lanes.items) ≡ meeting_all (view l.initial.worker) (parts_of l.initial.lanes.items);
-  meet : MeetAll 512 (view l.worker) (parts_of l.lanes.items) → MeetAll 512 (view l.initial.worker) (parts_of l.initial.lanes.items);
+  meet : MeetAll MOST_KEYS (view l.worker) (parts_of l.lanes.items) → MeetAll MOST_KEYS (view l.initial.worker) (parts_of l.initial.lanes.items);
   parts : (number : ℕ) → answers_or number (parts_of l.lanes.items) (left_at number l.parts) ≡ answers_of number (parts_of l.initial.lanes.items);
 }
 

@@ -1,5 +1,6 @@
 use Rattle.std.proofs.Common.{◌≡◌, ℕ, ◌<◌, ◌≤◌, ◌+◌, length, true, vec_capacity}
 use Rattle.std.specs.List.{All, AllPairs, list_any, slice_index_or}
+use Rattle.record_io.specs.declared.kinds.TheConstants.{LANES}
 use Rattle.counter_table.specs.Worker.{view}
 use Rattle.shared_unit.specs.Turn.{IsReady}
 use Rattle.law_worker.specs.Lanes.{giving_shares, is_of_lane}
@@ -10,14 +11,14 @@ abbrev pub invariant-rooms : goal.invariant-rooms
 invariant-rooms g l = record {
   is_ready : IsReady l.unit.counters l.unit.plan l.worker;
   given : view l.worker ≡ giving_shares (length l.lanes.items) (view l.initial.worker);
-  shares : 17 ≤ (view l.initial.worker).numbers.shares;
-  many : length l.lanes.items + length l.rooms.items ≤ 16;
+  shares : LANES < (view l.initial.worker).numbers.shares;
+  many : length l.lanes.items + length l.rooms.items ≤ LANES;
   rooms : (k : ℕ) (d : _) → k < length l.rooms.items → IsRoom l.records k (slice_index_or l.rooms.items k d);
-  room : 16 ≤ vec_capacity l.lanes;
+  room : LANES ≤ vec_capacity l.lanes;
   split : All (IsSplit (IsReady l.unit.counters l.unit.plan) l.records (view l.initial.worker)) l.lanes.items;
   above : All (λ lane. length l.rooms.items ≤ lane.number) l.lanes.items;
   apart : AllPairs HaveOwnNumbers l.lanes.items;
-  each : (number : ℕ) → length l.rooms.items ≤ number → number < 16 → list_any (is_of_lane number) l.records ≡ true → IsThere number l.lanes.items;
+  each : (number : ℕ) → length l.rooms.items ≤ number → number < LANES → list_any (is_of_lane number) l.records ≡ true → IsThere number l.lanes.items;
 }
 
 abbrev pub decreases-rooms : goal.decreases-rooms

@@ -3,6 +3,7 @@ use Rattle.std.specs.List.{All, Contains, slice_get}
 use Rattle.std.proofs.lemmas.List.{take_all, take-append-drop, length-take, length-set, length-reverse}
 use Rattle.record_io.specs.declared.records.Record.{Record}
 use Rattle.record_io.specs.declared.answers.Answer.{Answer}
+use Rattle.record_io.specs.declared.kinds.TheConstants.{LANES}
 use Rattle.law_worker.specs.Deeds.{deeds_of}
 use Rattle.law_worker.specs.Lanes.{of_lane}
 use Rattle.frame_workers.specs.Lanes.{AreAmong, left_at}
@@ -25,7 +26,7 @@ returns-in-None-clause-stops c is =
     let inv = c.loop-task.invariant in
     let rs : List Record = c.args.records.now in let k : ℕ = c.loop-task.task-index in let r : Record = c.task-item.result in
     let within = c.loop-task-test.true in
-    let fits : r.lane < 16 = subst (λ (t : Record). t.lane < 16) (sym c.task-item.is) (inv.lanes k r within) in
+    let fits : r.lane < LANES = subst (λ (t : Record). t.lane < LANES) (sym c.task-item.is) (inv.lanes k r within) in
     let lane : c.from.result ≡ r.lane = c.from.ensures in
     let many = inv.many in
     let low : c.from.result < length c.loop-task.parts = omega arith in
@@ -49,7 +50,7 @@ loop-task-preserved c =
     let a : Answer = c.in-Some.answer in
     let old = c.loop-task.parts in let new = slice_set c.loop-task.parts c.from.result c.pop.new.self in
     let within = c.loop-task-test.true in
-    let fits : r.lane < 16 = subst (λ (t : Record). t.lane < 16) (sym c.task-item.is) (inv.lanes k r within) in
+    let fits : r.lane < LANES = subst (λ (t : Record). t.lane < LANES) (sym c.task-item.is) (inv.lanes k r within) in
     let lane : c.from.result ≡ r.lane = c.from.ensures in
     let many = inv.many in
     let low : c.from.result < length old = omega arith in

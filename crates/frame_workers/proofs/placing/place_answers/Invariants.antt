@@ -1,6 +1,7 @@
 use Rattle.std.proofs.Common.{◌≡◌, ℕ, ◌<◌, ◌≤◌, ◌+◌, ◌++◌, List, length, take, drop, vec_capacity}
 use Rattle.std.specs.List.{All, Contains}
 use Rattle.record_io.specs.declared.records.Record.{Record}
+use Rattle.record_io.specs.declared.kinds.TheConstants.{LANES}
 use Rattle.law_worker.specs.Deeds.{Deed, deeds_of}
 use Rattle.law_worker.specs.Lanes.{of_lane}
 use Rattle.frame_workers.specs.Lanes.{AreAmong, left_at}
@@ -8,8 +9,8 @@ use Rattle.frame_workers.proofs.placing.place_answers.Given as goal
 
 abbrev pub invariant-loop-task : goal.invariant-loop-task
 invariant-loop-task l = record {
-  many : length l.parts ≡ 16;
-  lanes : All (λ (task : Record). task.lane < 16) l.records;
+  many : length l.parts ≡ LANES;
+  lanes : All (λ (task : Record). task.lane < LANES) l.records;
   room : length l.records ≤ vec_capacity l.answers;
   count : length l.answers.items ≡ l.task-index;
   left : (deeds : List Deed) (segment : ℕ) → ((number : ℕ) → AreAmong deeds segment number l.records (left_at number l.initial.parts))

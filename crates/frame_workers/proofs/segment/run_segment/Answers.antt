@@ -1,9 +1,11 @@
 use Rattle.std.proofs.Common.{◌≡◌, ℕ, ◌<◌, ◌++◌, List, true, length, take, drop, sym, ap, subst, ◌∙◌, arith, slice_index_or}
 use Rattle.std.specs.List.{All, AllPairs}
+use Rattle.sdls_base.specs.declared.TheConstants.{MOST_KEYS}
 use Rattle.counter_table.specs.declared.view.View.{View}
 use Rattle.counter_table.specs.Worker.{view}
 use Rattle.shared_unit.specs.Turn.{IsReady}
 use Rattle.record_io.specs.declared.records.Record.{Record}
+use Rattle.record_io.specs.declared.kinds.TheConstants.{LANES}
 use Rattle.law_worker.specs.Views.{keeping, meeting, Meets, starting}
 use Rattle.law_worker.specs.Deeds.{deeds_of}
 use Rattle.law_worker.specs.Order.{Handled}
@@ -23,7 +25,7 @@ join_lanes-requires-clause-lanes g c =
     let whole : take c.split_lanes.new.lanes.len (new ++ drop (length new) old) ≡ new = slice_whole c.split_lanes.new.lanes.len new old many c.split_lanes.new.lanes.ok.0 in
     let ran = subst (λ l. (k : ℕ) (d : _) → k < length l → HasRun (IsReady c.args.unit.now.counters c.args.unit.now.plan) g.O.Site.told rs (slice_index_or l k d) (slice_index_or new k d))
     c.as_mut_slice.ensures.value c.run_lanes.ensures.ran in
-    subst (λ l. All (λ lane. IsReady c.args.unit.now.counters c.args.unit.now.plan lane.worker × (lane.number < 16)) l) (sym whole)
+    subst (λ l. All (λ lane. IsReady c.args.unit.now.counters c.args.unit.now.plan lane.worker × (lane.number < LANES)) l) (sym whole)
     (new_ready (IsReady c.args.unit.now.counters c.args.unit.now.plan) g.O.Site.told rs base old new c.split_lanes.ensures.split c.split_lanes.ensures.apart c.split_lanes.ensures.each many ran)
 
 pub join_lanes-requires-clause-apart : goal.join_lanes-requires-clause-apart
@@ -48,7 +50,7 @@ look_back-requires-clause-two g c =
     let most = c.split_lanes.ensures.many in let enough = c.requires.shares in
     let few : length old < base.numbers.shares = omega arith in
     let two : 1 < base.numbers.shares = omega arith in
-    let meet : MeetAll 512 now (parts_of new) = subst (λ l. MeetAll 512 now (parts_of l)) whole c.join_lanes.ensures.meet in
+    let meet : MeetAll MOST_KEYS now (parts_of new) = subst (λ l. MeetAll MOST_KEYS now (parts_of l)) whole c.join_lanes.ensures.meet in
     let joined_is : view c.join_lanes.new.worker ≡ meeting_all now (parts_of new) = c.join_lanes.ensures.joined ∙ ap (λ l. meeting_all now (parts_of l)) whole in
     let shares = joined_shares (IsReady c.args.unit.now.counters c.args.unit.now.plan) g.O.Site.told rs base old new c.split_lanes.ensures.split c.split_lanes.ensures.apart c.split_lanes.ensures.each many ran now c.split_lanes.ensures.given few c.requires.ready.free c.requires.ready.filled meet in
     let same = ap (λ (v : View). v.numbers.shares) joined_is in omega arith
@@ -65,10 +67,10 @@ returns-clause-shares g c =
     let most = c.split_lanes.ensures.many in let enough = c.requires.shares in
     let few : length old < base.numbers.shares = omega arith in
     let two : 1 < base.numbers.shares = omega arith in
-    let meet : MeetAll 512 now (parts_of new) = subst (λ l. MeetAll 512 now (parts_of l)) whole c.join_lanes.ensures.meet in
+    let meet : MeetAll MOST_KEYS now (parts_of new) = subst (λ l. MeetAll MOST_KEYS now (parts_of l)) whole c.join_lanes.ensures.meet in
     let joined_is : view c.join_lanes.new.worker ≡ meeting_all now (parts_of new) = c.join_lanes.ensures.joined ∙ ap (λ l. meeting_all now (parts_of l)) whole in
-    let back : Meets 512 (keeping (meeting_all now (parts_of new))) (starting (meeting_all now (parts_of new))) =
-    subst (λ (v : View). Meets 512 (keeping v) (starting v)) joined_is c.look_back.ensures.meets in
+    let back : Meets MOST_KEYS (keeping (meeting_all now (parts_of new))) (starting (meeting_all now (parts_of new))) =
+    subst (λ (v : View). Meets MOST_KEYS (keeping v) (starting v)) joined_is c.look_back.ensures.meets in
     let last_is : view c.look_back.new.worker ≡ meeting (keeping (meeting_all now (parts_of new))) (starting (meeting_all now (parts_of new))) =
     c.look_back.ensures.joined ∙ ap (λ (v : View). meeting (keeping v) (starting v)) joined_is in
     let shares = joined_shares (IsReady c.args.unit.now.counters c.args.unit.now.plan) g.O.Site.told rs base old new c.split_lanes.ensures.split c.split_lanes.ensures.apart c.split_lanes.ensures.each many ran now c.split_lanes.ensures.given few c.requires.ready.free c.requires.ready.filled meet in
@@ -86,10 +88,10 @@ returns-clause-handled g c begin layout number b lies =
     let most = c.split_lanes.ensures.many in let enough = c.requires.shares in
     let few : length old < base.numbers.shares = omega arith in
     let two : 1 < base.numbers.shares = omega arith in
-    let meet : MeetAll 512 now (parts_of new) = subst (λ l. MeetAll 512 now (parts_of l)) whole c.join_lanes.ensures.meet in
+    let meet : MeetAll MOST_KEYS now (parts_of new) = subst (λ l. MeetAll MOST_KEYS now (parts_of l)) whole c.join_lanes.ensures.meet in
     let joined_is : view c.join_lanes.new.worker ≡ meeting_all now (parts_of new) = c.join_lanes.ensures.joined ∙ ap (λ l. meeting_all now (parts_of l)) whole in
-    let back : Meets 512 (keeping (meeting_all now (parts_of new))) (starting (meeting_all now (parts_of new))) =
-    subst (λ (v : View). Meets 512 (keeping v) (starting v)) joined_is c.look_back.ensures.meets in
+    let back : Meets MOST_KEYS (keeping (meeting_all now (parts_of new))) (starting (meeting_all now (parts_of new))) =
+    subst (λ (v : View). Meets MOST_KEYS (keeping v) (starting v)) joined_is c.look_back.ensures.meets in
     let last_is : view c.look_back.new.worker ≡ meeting (keeping (meeting_all now (parts_of new))) (starting (meeting_all now (parts_of new))) =
     c.look_back.ensures.joined ∙ ap (λ (v : View). meeting (keeping v) (starting v)) joined_is in
     let rooms : take c.in_ok-parts.parts.len (c.join_lanes.new.parts ++ drop (length c.join_lanes.new.parts) c.in_ok-parts.parts.items) ≡ c.join_lanes.new.parts =
@@ -113,10 +115,10 @@ returns-clause-full g c begin b =
     let most = c.split_lanes.ensures.many in let enough = c.requires.shares in
     let few : length old < base.numbers.shares = omega arith in
     let two : 1 < base.numbers.shares = omega arith in
-    let meet : MeetAll 512 now (parts_of new) = subst (λ l. MeetAll 512 now (parts_of l)) whole c.join_lanes.ensures.meet in
+    let meet : MeetAll MOST_KEYS now (parts_of new) = subst (λ l. MeetAll MOST_KEYS now (parts_of l)) whole c.join_lanes.ensures.meet in
     let joined_is : view c.join_lanes.new.worker ≡ meeting_all now (parts_of new) = c.join_lanes.ensures.joined ∙ ap (λ l. meeting_all now (parts_of l)) whole in
-    let back : Meets 512 (keeping (meeting_all now (parts_of new))) (starting (meeting_all now (parts_of new))) =
-    subst (λ (v : View). Meets 512 (keeping v) (starting v)) joined_is c.look_back.ensures.meets in
+    let back : Meets MOST_KEYS (keeping (meeting_all now (parts_of new))) (starting (meeting_all now (parts_of new))) =
+    subst (λ (v : View). Meets MOST_KEYS (keeping v) (starting v)) joined_is c.look_back.ensures.meets in
     let last_is : view c.look_back.new.worker ≡ meeting (keeping (meeting_all now (parts_of new))) (starting (meeting_all now (parts_of new))) =
     c.look_back.ensures.joined ∙ ap (λ (v : View). meeting (keeping v) (starting v)) joined_is in
     let rooms : take c.in_ok-parts.parts.len (c.join_lanes.new.parts ++ drop (length c.join_lanes.new.parts) c.in_ok-parts.parts.items) ≡ c.join_lanes.new.parts =
@@ -141,10 +143,10 @@ returns-clause-alone g c (lane, one) begin number b =
     let most = c.split_lanes.ensures.many in let enough = c.requires.shares in
     let few : length old < base.numbers.shares = omega arith in
     let two : 1 < base.numbers.shares = omega arith in
-    let meet : MeetAll 512 now (parts_of new) = subst (λ l. MeetAll 512 now (parts_of l)) whole c.join_lanes.ensures.meet in
+    let meet : MeetAll MOST_KEYS now (parts_of new) = subst (λ l. MeetAll MOST_KEYS now (parts_of l)) whole c.join_lanes.ensures.meet in
     let joined_is : view c.join_lanes.new.worker ≡ meeting_all now (parts_of new) = c.join_lanes.ensures.joined ∙ ap (λ l. meeting_all now (parts_of l)) whole in
-    let back : Meets 512 (keeping (meeting_all now (parts_of new))) (starting (meeting_all now (parts_of new))) =
-    subst (λ (v : View). Meets 512 (keeping v) (starting v)) joined_is c.look_back.ensures.meets in
+    let back : Meets MOST_KEYS (keeping (meeting_all now (parts_of new))) (starting (meeting_all now (parts_of new))) =
+    subst (λ (v : View). Meets MOST_KEYS (keeping v) (starting v)) joined_is c.look_back.ensures.meets in
     let last_is : view c.look_back.new.worker ≡ meeting (keeping (meeting_all now (parts_of new))) (starting (meeting_all now (parts_of new))) =
     c.look_back.ensures.joined ∙ ap (λ (v : View). meeting (keeping v) (starting v)) joined_is in
     let rooms : take c.in_ok-parts.parts.len (c.join_lanes.new.parts ++ drop (length c.join_lanes.new.parts) c.in_ok-parts.parts.items) ≡ c.join_lanes.new.parts =
@@ -171,10 +173,10 @@ returns-clause-whole g c all =
     let most = c.split_lanes.ensures.many in let enough = c.requires.shares in
     let few : length old < base.numbers.shares = omega arith in
     let two : 1 < base.numbers.shares = omega arith in
-    let meet : MeetAll 512 now (parts_of new) = subst (λ l. MeetAll 512 now (parts_of l)) whole c.join_lanes.ensures.meet in
+    let meet : MeetAll MOST_KEYS now (parts_of new) = subst (λ l. MeetAll MOST_KEYS now (parts_of l)) whole c.join_lanes.ensures.meet in
     let joined_is : view c.join_lanes.new.worker ≡ meeting_all now (parts_of new) = c.join_lanes.ensures.joined ∙ ap (λ l. meeting_all now (parts_of l)) whole in
-    let back : Meets 512 (keeping (meeting_all now (parts_of new))) (starting (meeting_all now (parts_of new))) =
-    subst (λ (v : View). Meets 512 (keeping v) (starting v)) joined_is c.look_back.ensures.meets in
+    let back : Meets MOST_KEYS (keeping (meeting_all now (parts_of new))) (starting (meeting_all now (parts_of new))) =
+    subst (λ (v : View). Meets MOST_KEYS (keeping v) (starting v)) joined_is c.look_back.ensures.meets in
     let last_is : view c.look_back.new.worker ≡ meeting (keeping (meeting_all now (parts_of new))) (starting (meeting_all now (parts_of new))) =
     c.look_back.ensures.joined ∙ ap (λ (v : View). meeting (keeping v) (starting v)) joined_is in
     let shares = joined_shares (IsReady c.args.unit.now.counters c.args.unit.now.plan) g.O.Site.told rs base old new c.split_lanes.ensures.split c.split_lanes.ensures.apart c.split_lanes.ensures.each many ran now c.split_lanes.ensures.given few c.requires.ready.free c.requires.ready.filled meet in

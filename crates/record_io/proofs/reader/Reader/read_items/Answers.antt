@@ -4,11 +4,12 @@ use Rattle.record_io.specs.Input.{items_octets}
 use Rattle.record_io.specs.Steps.{AreNumbered, Took, items_of}
 use Rattle.record_io.proofs.Takings.{took_none, AreNumbered-push, took_record, length-record, wants_after, ends_after, on_err}
 use Rattle.record_io.proofs.reader.Reader.read_items.Goals as goal
+use Rattle.record_io.specs.declared.reader.TheConstants.{SEGMENT_RECORDS}
 
 pub items-init : goal.items-init
 items-init g c =
     let left = g.S.Source.left c.args.source.now in
-    let P : List Record → Type 0 = λ (records : List Record). (length records ≤ 1024)
+    let P : List Record → Type 0 = λ (records : List Record). (length records ≤ SEGMENT_RECORDS)
     × AreNumbered c.args.self.now.records records
     × (c.args.self.now.records ≡ c.args.self.now.records + length records)
     × Took g.S.Source.told (items_of records) [] c.args.self.now.taken left left
