@@ -1,6 +1,6 @@
 //! Steps on an association book, and on a window. `known CHANNEL ..` says which channels the unit has, for the steps
 //! behind it.
-use crate::{associations, words};
+use crate::associations;
 use replay_window::{Verdict, Window};
 use sa_book::{SaBook, SaRefusal, SaRow};
 use sdls_base::ChannelId;
@@ -28,11 +28,11 @@ fn row_text(alloc: Global, row: &SaRow) -> anyhow::Result<String> {
 /// What a window says of a number: `HIGH WIDTH NUMBER END`.
 fn judge(alloc: Global, words: &mut SplitWhitespace<'_>) -> anyhow::Result<String> {
     let window = Window {
-        high: words::number(words).unwrap_or(0),
-        width: words::number(words).unwrap_or(1),
+        high: case_lines::number(words).unwrap_or(0),
+        width: case_lines::number(words).unwrap_or(1),
     };
-    let number = words::number(words).unwrap_or(0);
-    let end = words::number(words).unwrap_or(0);
+    let number = case_lines::number(words).unwrap_or(0);
+    let end = case_lines::number(words).unwrap_or(0);
     match window.judge(number, end) {
         Verdict::Fresh => Ok(format!(in alloc; "fresh")?),
         Verdict::Refused { high, width } => Ok(format!(in alloc; "refused {high} {width}")?),
@@ -54,10 +54,10 @@ impl AssociationTable {
         match words.next()? {
             "create" => associations::create(alloc, &mut self.book, &mut words, &self.known),
             "rekey" => associations::rekey(&mut self.book, &mut words),
-            "start" => Some(self.book.start(words::spi(&mut words)?)),
-            "stop" => Some(self.book.stop(words::spi(&mut words)?)),
-            "expire" => Some(self.book.expire(words::spi(&mut words)?)),
-            "delete" => Some(self.book.delete(words::spi(&mut words)?)),
+            "start" => Some(self.book.start(case_lines::spi(&mut words)?)),
+            "stop" => Some(self.book.stop(case_lines::spi(&mut words)?)),
+            "expire" => Some(self.book.expire(case_lines::spi(&mut words)?)),
+            "delete" => Some(self.book.delete(case_lines::spi(&mut words)?)),
             "number" => associations::set_number(&mut self.book, &mut words),
             "window" => associations::set_window(&mut self.book, &mut words),
             _ => None,
@@ -99,7 +99,7 @@ impl AssociationTable {
         alloc: Global,
         words: &mut SplitWhitespace<'_>,
     ) -> anyhow::Result<String> {
-        match words::channel(words).and_then(|channel| self.book.sender_on(channel)) {
+        match case_lines::channel(words).and_then(|channel| self.book.sender_on(channel)) {
             Some(row) => row_text(alloc, row),
             None => Ok(format!(in alloc; "none")?),
         }
@@ -110,7 +110,7 @@ impl AssociationTable {
         alloc: Global,
         words: &mut SplitWhitespace<'_>,
     ) -> anyhow::Result<String> {
-        match words::spi(words).map(|spi| self.book.status(spi)) {
+        match case_lines::spi(words).map(|spi| self.book.status(spi)) {
             Some(Ok(row)) => row_text(alloc, row),
             Some(Err(refusal)) => Ok(format!(in alloc; "{refusal}")?),
             None => Ok(format!(in alloc; "no index")?),

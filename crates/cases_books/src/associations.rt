@@ -1,6 +1,5 @@
 // Calls on an association book, with their conditions looked at. A call is none where its words are not there, or its
 // conditions do not hold.
-use crate::words;
 use replay_window::Verdict;
 use sa_book::{SaBook, SaRefusal, rows_may_follow};
 use sdls_base::{ChannelId, Direction, MOST_WINDOW, NewSa, NoMemory, Octets, SaState, Suite};
@@ -14,10 +13,10 @@ pub fn create(
     words: &mut SplitWhitespace<'_>,
     known: &[ChannelId],
 ) -> Option<Result<(), SaRefusal>> {
-    let spi = words::spi(words)?;
-    let direction = words::direction(words)?;
-    let low = words::channel(words)?.get();
-    let high = words::channel(words)?.get();
+    let spi = case_lines::spi(words)?;
+    let direction = case_lines::direction(words)?;
+    let low = case_lines::channel(words)?.get();
+    let high = case_lines::channel(words)?.get();
     let new = NewSa {
         spi,
         direction,
@@ -34,11 +33,11 @@ pub fn create(
 
 /// Gives a key: `SPI KEY STATE NUMBER FLOOR`.
 pub fn rekey(book: &mut SaBook, words: &mut SplitWhitespace<'_>) -> Option<Result<(), SaRefusal>> {
-    let spi = words::spi(words)?;
-    let key = words::key(words)?;
-    let state = words::key_state(words)?;
-    let number = words::number(words)?;
-    let floor = words::number(words)?;
+    let spi = case_lines::spi(words)?;
+    let key = case_lines::key(words)?;
+    let state = case_lines::key_state(words)?;
+    let number = case_lines::number(words)?;
+    let floor = case_lines::number(words)?;
     if floor < 1 {
         return None;
     }
@@ -50,9 +49,9 @@ pub fn set_number(
     book: &mut SaBook,
     words: &mut SplitWhitespace<'_>,
 ) -> Option<Result<(), SaRefusal>> {
-    let spi = words::spi(words)?;
-    let number = words::number(words)?;
-    let floor = words::number(words)?;
+    let spi = case_lines::spi(words)?;
+    let number = case_lines::number(words)?;
+    let floor = case_lines::number(words)?;
     if floor < 1 {
         return None;
     }
@@ -64,8 +63,8 @@ pub fn set_window(
     book: &mut SaBook,
     words: &mut SplitWhitespace<'_>,
 ) -> Option<Result<(), SaRefusal>> {
-    let spi = words::spi(words)?;
-    let width = words::number(words)?;
+    let spi = case_lines::spi(words)?;
+    let width = case_lines::number(words)?;
     if width < 1 || width > MOST_WINDOW {
         return None;
     }
@@ -74,8 +73,8 @@ pub fn set_window(
 
 /// Accepts a number where it is fresh on an operational receiving association: `SPI NUMBER`.
 pub fn accept(book: &mut SaBook, words: &mut SplitWhitespace<'_>) -> Option<()> {
-    let spi = words::spi(words)?;
-    let number = words::number(words)?;
+    let spi = case_lines::spi(words)?;
+    let number = case_lines::number(words)?;
     let row = book.status(spi).ok()?;
     let key = row.key?;
     let operational = row.state == SaState::Operational;
@@ -93,7 +92,7 @@ pub fn next_number(
     book: &SaBook,
     words: &mut SplitWhitespace<'_>,
 ) -> Option<Result<u64, SaRefusal>> {
-    let spi = words::spi(words)?;
+    let spi = case_lines::spi(words)?;
     if let Ok(row) = book.status(spi) {
         if row.direction == Direction::Send {
             return None;

@@ -1,5 +1,5 @@
 //! Steps on a key book. `held ID SPI ..` says which associations hold which keys, for the steps behind it.
-use crate::{keys, words};
+use crate::keys;
 use key_book::{Inventory, KeyBook, KeyRefusal, digest};
 use sdls_base::{KeyId, Spi};
 use std::alloc::Global;
@@ -50,7 +50,7 @@ impl KeyTable {
     fn hold(&mut self, words: &mut SplitWhitespace<'_>) -> anyhow::Result<()> {
         self.held.clear();
         for _ in 0..8 {
-            if let (Some(key), Some(spi)) = (words::key(words), words::spi(words)) {
+            if let (Some(key), Some(spi)) = (case_lines::key(words), case_lines::spi(words)) {
                 self.held.push((key, spi))?;
             }
         }
@@ -59,7 +59,7 @@ impl KeyTable {
 
     /// Mark and floor of a key.
     fn marks_text(&self, alloc: Global, words: &mut SplitWhitespace<'_>) -> anyhow::Result<String> {
-        let key = words::key(words);
+        let key = case_lines::key(words);
         let mark = key.and_then(|key| self.book.mark(key));
         let floor = key.and_then(|key| self.book.receive_floor(key));
         match (mark, floor) {
@@ -71,7 +71,7 @@ impl KeyTable {
 
     /// The row of a key and its place.
     fn find(&self, alloc: Global, words: &mut SplitWhitespace<'_>) -> anyhow::Result<String> {
-        let found = words::key(words).and_then(|key| self.book.find(key));
+        let found = case_lines::key(words).and_then(|key| self.book.find(key));
         let Some((place, row)) = found else {
             return Ok(format!(in alloc; "none")?);
         };
@@ -81,8 +81,8 @@ impl KeyTable {
     }
 
     fn inventory(&self, alloc: Global, words: &mut SplitWhitespace<'_>) -> anyhow::Result<String> {
-        let first = words::short(words).unwrap_or(0);
-        let last = words::short(words).unwrap_or(0);
+        let first = case_lines::short(words).unwrap_or(0);
+        let last = case_lines::short(words).unwrap_or(0);
         let inventory = self.book.inventory(first, last)?;
         inventory_text(alloc, &inventory)
     }
@@ -94,7 +94,11 @@ impl KeyTable {
         let answer = match words.next() {
             Some("load") => keys::load(alloc, &mut self.book, &mut words)?,
             Some("loads") => {
-                keys::fill(alloc, &mut self.book, words::short(&mut words).unwrap_or(0))?
+                keys::fill(
+                    alloc,
+                    &mut self.book,
+                    case_lines::short(&mut words).unwrap_or(0),
+                )?
             }
             Some("state") => {
                 match keys::set_state(alloc, &mut self.book, &mut words, &self.held)? {

@@ -1,7 +1,6 @@
 // Calls on a key book, with their conditions looked at.
 ghost use Rattle.std.specs.Prelude.{◌≡◌, IfOk, IfSome, All, length};
 
-use crate::words;
 use key_book::{KeyBook, KeyRefusal, rows_may_follow};
 use sdls_base::{KeyId, KeyItem, KeyList, NoMemory, Octets, Spi};
 use std::alloc::Global;
@@ -11,7 +10,7 @@ use std::str::SplitWhitespace;
 fn item(alloc: Global, words: &mut SplitWhitespace<'_>) -> Option<KeyItem>
     ensures { IfSome result (λ item. length item.bytes ≡ 16) }
 {
-    let id = words::key(words)?;
+    let id = case_lines::key(words)?;
     let front = hex::decode(alloc, words.next()?).ok()?;
     let mut octets = vec![in alloc; 0; 16].ok()?;
     for (octet, given) in octets.iter_mut().zip(front.iter()) {
@@ -68,7 +67,7 @@ pub fn set_state(
     words: &mut SplitWhitespace<'_>,
     in_use: &[(KeyId, Spi)],
 ) -> anyhow::Result<Option<Result<(), KeyRefusal>>> {
-    let Some(to) = words::key_state(words) else {
+    let Some(to) = case_lines::key_state(words) else {
         return Ok(None);
     };
     let mut ids = Vec::new(alloc);
@@ -82,9 +81,9 @@ pub fn set_state(
 
 /// Sets or raises mark and floor of a key, where the conditions hold: `ID MARK FLOOR`. Says whether they do.
 pub fn move_marks(book: &mut KeyBook, words: &mut SplitWhitespace<'_>, sets: bool) -> Option<()> {
-    let id = words::key(words)?;
-    let mark = words::number(words)?;
-    let floor = words::number(words)?;
+    let id = case_lines::key(words)?;
+    let mark = case_lines::number(words)?;
+    let floor = case_lines::number(words)?;
     if book.mark(id).is_none() || mark < 1 || mark > id.end() || floor >= id.end() {
         return None;
     }

@@ -4,7 +4,7 @@ use ep_codec::{PduError, read_pdu, read_reply, write_pdu, write_reply};
 use std::alloc::Global;
 
 /// What is read of a command, and whether its octets are written again, or the first fault.
-pub fn command(alloc: Global, text: &str) -> anyhow::Result<String> {
+fn command(alloc: Global, text: &str) -> anyhow::Result<String> {
     let octets = hex::decode(alloc, text)?;
     match read_pdu(alloc, octets.as_slice()) {
         Ok(command) => {
@@ -17,7 +17,7 @@ pub fn command(alloc: Global, text: &str) -> anyhow::Result<String> {
 }
 
 /// The same of a reply.
-pub fn reply(alloc: Global, text: &str) -> anyhow::Result<String> {
+fn reply(alloc: Global, text: &str) -> anyhow::Result<String> {
     let octets = hex::decode(alloc, text)?;
     match read_reply(alloc, octets.as_slice()) {
         Ok(reply) => {
@@ -30,7 +30,7 @@ pub fn reply(alloc: Global, text: &str) -> anyhow::Result<String> {
 }
 
 /// At how many octets a cut of the command is told to be its first fault.
-pub fn cuts(alloc: Global, text: &str) -> anyhow::Result<String> {
+fn cuts(alloc: Global, text: &str) -> anyhow::Result<String> {
     let octets = hex::decode(alloc, text)?;
     let mut told: u32 = 0;
     for (end, _) in octets.iter().enumerate() {
@@ -74,7 +74,7 @@ fn is_refused(alloc: Global, tag: u8, octets: &[u8]) -> bool {
 }
 
 /// The lengths up to a greatest one that messages of a tag may have: `TAG GREATEST`, the tag in hexadecimal.
-pub fn lengths(alloc: Global, text: &str) -> anyhow::Result<String> {
+fn lengths(alloc: Global, text: &str) -> anyhow::Result<String> {
     let (tag, greatest) = text.split_once(' ').unwrap_or((text, ""));
     let tag = hex::decode(alloc, tag)?.first().copied().unwrap_or(0);
     let greatest: u16 = greatest.parse().unwrap_or(0);
@@ -87,4 +87,15 @@ pub fn lengths(alloc: Global, text: &str) -> anyhow::Result<String> {
         }
     }
     Ok(allowed)
+}
+
+/// What a step on messages answers.
+pub fn answer(alloc: Global, word: &str, rest: &str) -> anyhow::Result<String> {
+    match word {
+        "command" => command(alloc, rest),
+        "reply" => reply(alloc, rest),
+        "cuts" => cuts(alloc, rest),
+        "lengths" => lengths(alloc, rest),
+        _ => Ok(format!(in alloc; "no step")?),
+    }
 }

@@ -5,9 +5,12 @@ ghost use Rattle.unit_state.specs.Restart.{IsLight};
 
 use crate::scenario::{Answer, Scenario};
 use crate::{codec, fields};
-use ep_core::{Need, Reply};
+use case_lines::{Answers, Gathered, piece};
+use case_units::reply_text;
+use ep_core::Need;
 use sdls_base::Change;
 use std::alloc::{AllocError, Global};
+use std::str::SplitWhitespace;
 
 /// Writes what was needed.
 fn need_text(alloc: Global, need: &Need) -> Result<String, AllocError> {
@@ -28,30 +31,18 @@ fn need_text(alloc: Global, need: &Need) -> Result<String, AllocError> {
     }
 }
 
-/// Writes a reply: key, number and message, or the detail in hexadecimal and the value.
-fn reply_text(alloc: Global, reply: &Reply) -> anyhow::Result<String> {
-    match reply {
-        Reply::Done { key, number, pdu } => {
-            let key = key.map_or(0, |key| key.get());
-            let pdu = hex::encode(alloc, pdu.as_slice())?;
-            Ok(format!(in alloc; "done {key} {number} {pdu}")?)
-        }
-        Reply::Refused { code, value } => Ok(format!(in alloc; "refused {code:02x} {value}")?),
-    }
-}
-
 fn answer_text(alloc: Global, answer: &Answer) -> anyhow::Result<String> {
     match answer {
         Answer::Unfit => Ok(format!(in alloc; "unfit")?),
         Answer::NotAllowed => Ok(format!(in alloc; "not allowed")?),
-        Answer::Told(reply) => reply_text(alloc, reply),
+        Answer::Told(reply) => Ok(reply_text(alloc, reply)?),
     }
 }
 
 /// The lines of a plan that were gathered, and the scenario that was begun.
 #[derive(Drop)]
 pub struct Table {
-    plan: String,
+    plan: Gathered,
     scenario: Option<Scenario>,
 }
 
@@ -59,15 +50,9 @@ impl Table {
     /// A table of which nothing was read.
     pub fn new(alloc: Global) -> Table {
         Table {
-            plan: String::new(alloc),
+            plan: Gathered::new(alloc),
             scenario: None,
         }
-    }
-
-    /// Gathers a line of a plan.
-    pub fn gather(&mut self, line: &str) -> Result<(), AllocError> {
-        self.plan.push_str(line)?;
-        self.plan.push_str("\n")
     }
 
     fn begin(&mut self, alloc: Global) -> anyhow::Result<String> {
@@ -101,32 +86,45 @@ impl Table {
         Ok(format!(in alloc; "not allowed")?)
     }
 
-    fn obey(&mut self, alloc: Global, text: &str) -> anyhow::Result<String> {
-        let (message, seen) = text.split_once(' ').unwrap_or((text, "-"));
+    fn obey(&mut self, alloc: Global, words: &mut SplitWhitespace<'_>) -> anyhow::Result<String> {
         let Some(scenario) = &mut self.scenario else {
             return Ok(format!(in alloc; "no scenario")?);
         };
-        let octets = hex::decode(alloc, message)?;
-        let (need, answer) = scenario.obey(alloc, octets.as_slice(), fields::seen(seen))?;
+        let octets = piece(alloc, words)?;
+        let (need, answer) = scenario.obey(alloc, octets.as_slice(), fields::seen(words))?;
         let need = need_text(alloc, &need)?;
         let answer = answer_text(alloc, &answer)?;
         Ok(format!(in alloc; "{need}: {answer}")?)
     }
 
-    /// What a step answers.
-    pub fn answer(&mut self, alloc: Global, line: &str) -> anyhow::Result<String> {
-        let (word, rest) = line.split_once(' ').unwrap_or((line, ""));
+    /// What a step of a scenario answers, none where the word names another.
+    fn of_scenario(
+        &mut self,
+        alloc: Global,
+        word: &str,
+        words: &mut SplitWhitespace<'_>,
+    ) -> Option<anyhow::Result<String>> {
         match word {
-            "begin" => self.begin(alloc),
-            "copy" => self.copy(alloc),
-            "marks" => self.move_numbers(alloc, fields::marks(rest)),
-            "accepted" => self.move_numbers(alloc, fields::accepted(rest)),
-            "do" => self.obey(alloc, rest),
-            "command" => codec::command(alloc, rest),
-            "reply" => codec::reply(alloc, rest),
-            "cuts" => codec::cuts(alloc, rest),
-            "lengths" => codec::lengths(alloc, rest),
-            _ => Ok(format!(in alloc; "{line}")?),
+            "begin" => Some(self.begin(alloc)),
+            "copy" => Some(self.copy(alloc)),
+            "marks" => Some(self.move_numbers(alloc, fields::marks(words))),
+            "accepted" => Some(self.move_numbers(alloc, fields::accepted(words))),
+            "do" => Some(self.obey(alloc, words)),
+            _ => None,
         }
+    }
+}
+
+impl Answers for Table {
+    fn answer(&mut self, alloc: Global, line: &str) -> anyhow::Result<Option<String>> {
+        let (word, rest) = line.split_once(' ').unwrap_or((line, ""));
+        if let Some(answer) = self.of_scenario(alloc, word, &mut rest.split_whitespace()) {
+            return Ok(Some(answer?));
+        }
+        if word == "plan" {
+            self.plan.push(rest)?;
+            return Ok(None);
+        }
+        Ok(Some(codec::answer(alloc, word, rest)?))
     }
 }

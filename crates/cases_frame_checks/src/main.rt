@@ -1,5 +1,5 @@
-//! Tables of frames, for the checks of `frame_checks`. A line of standard input is a step, and what it answers is printed;
-//! `plan` alone answers nothing, and `#` and a title is printed as it is.
+//! Tables of frames, for the checks of `frame_checks`. A line of standard input is a step, and what it answers is
+//! printed; `plan` alone answers nothing, and `#` and a title is printed as it is.
 //!
 //! `plan` and a line is gathered, and `begin` makes the unit of the lines that were gathered. `open LINK FRAME` opens a
 //! frame, and the state accepts its number. `protect LINK NUMBER FRAME` makes the checks of a clear frame, and prints
@@ -9,19 +9,9 @@
 mod table;
 mod unit;
 
+use case_lines::print_answers;
 use table::Table;
 
 fn main(rt: HostRuntime) -> anyhow::Result<()> {
-    let mut table = Table::new(rt.alloc());
-    for line in rt.lines(rt.alloc()) {
-        let line = line?;
-        match line.as_str().strip_prefix("plan ") {
-            Some(text) => table.gather(text)?,
-            None => {
-                let answer = table.answer(rt.alloc(), line.as_str())?;
-                println!(rt; "{answer}")?;
-            }
-        }
-    }
-    Ok(())
+    print_answers(&rt, &mut Table::new(rt.alloc()))
 }

@@ -1,7 +1,7 @@
 // Each bit of a header turned.
 ghost use Rattle.frame_shield.specs.Binding.{IsBinding};
 
-use crate::{shielding, words};
+use crate::shielding;
 use frame_shield::{Binding, Opened};
 use sdls_base::fecf;
 use std::alloc::Global;
@@ -50,6 +50,6 @@ pub fn answer(alloc: Global, words: &mut SplitWhitespace<'_>) -> anyhow::Result<
     let Some(binding) = shielding::binding(words, [0xD0, 0, 0, 1]) else {
         return Ok(format!(in alloc; "no binding")?);
     };
-    let clear = words::octets(alloc, words)?;
+    let clear = case_lines::octets(alloc, words)?;
     pattern(alloc, &binding, clear.as_slice())
 }

@@ -1,13 +1,12 @@
 // Security headers, rooms and masks.
-use crate::words;
-use sdls_base::Spi;
+use sdls_base::{Spi, Suite};
 use sdls_header::{SecurityHeader, Vector, masked, read_spi, split, write_header};
 use std::alloc::{AllocError, Global};
 use std::str::SplitWhitespace;
 
 /// The index at the front of a room.
 pub fn index(alloc: Global, words: &mut SplitWhitespace<'_>) -> anyhow::Result<String> {
-    let room = words::octets(alloc, words)?;
+    let room = case_lines::octets(alloc, words)?;
     match read_spi(room.as_slice()) {
         Some(spi) => Ok(format!(in alloc; "{spi}")?),
         None => Ok(format!(in alloc; "none")?),
@@ -26,8 +25,8 @@ fn vector_text(alloc: Global, vector: &Vector) -> Result<String, AllocError> {
 
 /// A room taken apart.
 pub fn room(alloc: Global, words: &mut SplitWhitespace<'_>) -> anyhow::Result<String> {
-    let suite = words::suite(words);
-    let room = words::octets(alloc, words)?;
+    let suite = case_lines::suite(words).unwrap_or(Suite::Cmac);
+    let room = case_lines::octets(alloc, words)?;
     let Some(pieces) = split(room.as_slice(), suite) else {
         return Ok(format!(in alloc; "none")?);
     };
@@ -41,10 +40,10 @@ pub fn room(alloc: Global, words: &mut SplitWhitespace<'_>) -> anyhow::Result<St
 /// A header of each suite as it is written into 15 octets of 55.
 pub fn header(alloc: Global, words: &mut SplitWhitespace<'_>) -> anyhow::Result<String> {
     let kind = words.next();
-    let Some(spi) = Spi::new(words::short(words)) else {
+    let Some(spi) = Spi::new(case_lines::short(words).unwrap_or(0)) else {
         return Ok(format!(in alloc; "no index")?);
     };
-    let number = words::number(words);
+    let number = case_lines::number(words).unwrap_or(0);
     let vector = match kind {
         Some("gcm") => Vector::Wide {
             device: [0xD0, 0, 0, 1],
@@ -60,8 +59,8 @@ pub fn header(alloc: Global, words: &mut SplitWhitespace<'_>) -> anyhow::Result<
 
 /// A prefix under a mask.
 pub fn under_mask(alloc: Global, words: &mut SplitWhitespace<'_>) -> anyhow::Result<String> {
-    let mask = words::piece(alloc, words)?;
-    let prefix = words::octets(alloc, words)?;
+    let mask = case_lines::piece(alloc, words)?;
+    let prefix = case_lines::octets(alloc, words)?;
     let mut out = vec![in alloc; 0x55; prefix.len()]?;
     masked(prefix.as_slice(), mask.as_slice(), out.as_mut_slice());
     Ok(hex::encode(alloc, out.as_slice())?)

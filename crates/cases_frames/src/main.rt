@@ -1,15 +1,17 @@
 //! Tables of transfer frames, for the readers and writers of the three kinds and for `frame_shield`. A line of standard
 //! input is a case, which is printed with what it answers; `#` and a title is printed as it is.
 //!
-//! `tc SEGMENT FECF MOST OCTETS`, `tm LENGTH FECF OCTETS` and `aos LENGTH INSERT OCF FECF OCTETS` read a frame of the layout
-//! and write it again. `protect SUITE SPI LINK NUMBER OCTETS` protects a clear frame, and `open SUITE SPI LINK OCTETS` opens one;
-//! LINK is `tc SEGMENT FECF`, `tm LENGTH FECF` or `aos LENGTH INSERT OCF FECF MASK`, where the mask is `usual` or `whole`.
-//! `bits SUITE SPI LINK OCTETS` protects a clear frame, turns each bit of the first six octets, makes the error control field
-//! anew, and prints what opening answers to each: `o` opened, `x` a bad MAC, `-` no frame of the link with the index.
+//! `tc SEGMENT FECF MOST OCTETS`, `tm LENGTH FECF OCTETS` and `aos LENGTH INSERT OCF FECF OCTETS` read a frame of the
+//! layout and write it again. `protect SUITE SPI LINK NUMBER OCTETS` protects a clear frame, and `open SUITE SPI LINK
+//! OCTETS` opens one; LINK is `tc SEGMENT FECF`, `tm LENGTH FECF` or `aos LENGTH INSERT OCF FECF MASK`, where the mask
+//! is `usual` or `whole`. `bits SUITE SPI LINK OCTETS` protects a clear frame, turns each bit of the first six octets,
+//! makes the error control field anew, and prints what opening answers to each: `o` opened, `x` a bad MAC, `-` no frame
+//! of the link with the index.
 //!
-//! `index OCTETS`, `room SUITE OCTETS`, `header SUITE SPI NUMBER` and `mask MASK OCTETS` are the calls of `sdls_header`;
-//! `spi N`, `channel N`, `key N`, `fecf OCTETS`, `same OCTETS OCTETS`, `printed KEY OCTETS`, `rows KEY` and `numbers` those of
-//! `sdls_base`. Octets are hexadecimal words; `x1016` before a word says how often it stands there, and `-` is none.
+//! `index OCTETS`, `room SUITE OCTETS`, `header SUITE SPI NUMBER` and `mask MASK OCTETS` are the calls of
+//! `sdls_header`; `spi N`, `channel N`, `key N`, `fecf OCTETS`, `same OCTETS OCTETS`, `printed KEY OCTETS`, `rows KEY`
+//! and `numbers` those of `sdls_base`. Octets are hexadecimal words; `x1016` before a word says how often it stands
+//! there, and `-` is none.
 #![tactic(auto)]
 
 mod bits;
@@ -18,8 +20,8 @@ mod names;
 mod reading;
 mod sealed;
 mod shielding;
-mod words;
 
+use case_lines::{Answers, print_answers};
 use sdls_base::{AosLayout, TcLayout, TmLayout};
 use std::alloc::Global;
 use std::str::SplitWhitespace;
@@ -27,21 +29,21 @@ use std::str::SplitWhitespace;
 /// What the case of a TC frame answers.
 fn tc(alloc: Global, words: &mut SplitWhitespace<'_>) -> anyhow::Result<String> {
     let layout = TcLayout {
-        segment: words::flag(words),
-        fecf: words::flag(words),
-        most: words::short(words),
+        segment: case_lines::flag(words),
+        fecf: case_lines::flag(words),
+        most: case_lines::short(words).unwrap_or(0),
     };
-    let frame = words::octets(alloc, words)?;
+    let frame = case_lines::octets(alloc, words)?;
     reading::tc(alloc, &layout, frame.as_slice())
 }
 
 /// What the case of a TM frame answers.
 fn tm(alloc: Global, words: &mut SplitWhitespace<'_>) -> anyhow::Result<String> {
     let layout = TmLayout {
-        length: words::short(words),
-        fecf: words::flag(words),
+        length: case_lines::short(words).unwrap_or(0),
+        fecf: case_lines::flag(words),
     };
-    let frame = words::octets(alloc, words)?;
+    let frame = case_lines::octets(alloc, words)?;
     if layout.length < 12 {
         return Ok(format!(in alloc; "no layout")?);
     }
@@ -51,12 +53,12 @@ fn tm(alloc: Global, words: &mut SplitWhitespace<'_>) -> anyhow::Result<String> 
 /// What the case of an AOS frame answers.
 fn aos(alloc: Global, words: &mut SplitWhitespace<'_>) -> anyhow::Result<String> {
     let layout = AosLayout {
-        length: words::short(words),
-        insert: words::octet(words),
-        ocf: words::flag(words),
-        fecf: words::flag(words),
+        length: case_lines::short(words).unwrap_or(0),
+        insert: case_lines::octet(words).unwrap_or(0),
+        ocf: case_lines::flag(words),
+        fecf: case_lines::flag(words),
     };
-    let frame = words::octets(alloc, words)?;
+    let frame = case_lines::octets(alloc, words)?;
     if layout.length < 12 + u16::from(layout.insert) {
         return Ok(format!(in alloc; "no layout")?);
     }
@@ -130,16 +132,17 @@ fn answer(alloc: Global, case: &str) -> anyhow::Result<String> {
     }
 }
 
-fn main(rt: HostRuntime) -> anyhow::Result<()> {
-    for line in rt.lines(rt.alloc()) {
-        let line = line?;
-        let case = line.as_str();
-        if case.starts_with("#") {
-            println!(rt; "{case}")?;
-        } else {
-            let answer = answer(rt.alloc(), case)?;
-            println!(rt; "{case}: {answer}")?;
-        }
+/// Cases, which do not depend on one another.
+#[derive(Drop)]
+struct Cases;
+
+impl Answers for Cases {
+    fn answer(&mut self, alloc: Global, line: &str) -> anyhow::Result<Option<String>> {
+        let answer = answer(alloc, line)?;
+        Ok(Some(format!(in alloc; "{line}: {answer}")?))
     }
-    Ok(())
+}
+
+fn main(rt: HostRuntime) -> anyhow::Result<()> {
+    print_answers(&rt, &mut Cases)
 }

@@ -1,5 +1,4 @@
 // Names, numbers and texts of the plain types.
-use crate::words;
 use sdls_base::{
     Change, ChannelId, Direction, FrameFault, KeyId, KeyItem, KeyItems, KeyRows, KeyState,
     NoMemory, Octets, SaState, Spi, Suite, fecf, same_octets,
@@ -8,14 +7,14 @@ use std::alloc::Global;
 use std::str::SplitWhitespace;
 
 pub fn spi(alloc: Global, words: &mut SplitWhitespace<'_>) -> anyhow::Result<String> {
-    match Spi::new(words::short(words)) {
+    match Spi::new(case_lines::short(words).unwrap_or(0)) {
         Some(spi) => Ok(format!(in alloc; "{}", spi.get())?),
         None => Ok(format!(in alloc; "none")?),
     }
 }
 
 pub fn channel(alloc: Global, words: &mut SplitWhitespace<'_>) -> anyhow::Result<String> {
-    match ChannelId::new(words::octet(words)) {
+    match ChannelId::new(case_lines::octet(words).unwrap_or(0)) {
         Some(channel) => Ok(format!(in alloc; "{}", channel.get())?),
         None => Ok(format!(in alloc; "none")?),
     }
@@ -23,7 +22,7 @@ pub fn channel(alloc: Global, words: &mut SplitWhitespace<'_>) -> anyhow::Result
 
 /// What a key serves for, and the first number that it does not.
 pub fn key(alloc: Global, words: &mut SplitWhitespace<'_>) -> anyhow::Result<String> {
-    match KeyId::new(words::short(words)) {
+    match KeyId::new(case_lines::short(words).unwrap_or(0)) {
         Some(key) => Ok(format!(in alloc; "{:?} below {}", key.class(), key.end())?),
         None => Ok(format!(in alloc; "none")?),
     }
@@ -31,24 +30,24 @@ pub fn key(alloc: Global, words: &mut SplitWhitespace<'_>) -> anyhow::Result<Str
 
 /// The frame error control field of octets.
 pub fn control(alloc: Global, words: &mut SplitWhitespace<'_>) -> anyhow::Result<String> {
-    let octets = words::octets(alloc, words)?;
+    let octets = case_lines::octets(alloc, words)?;
     Ok(format!(in alloc; "{:04x}", fecf(octets.as_slice()))?)
 }
 
 /// Whether two texts of octets are the same.
 pub fn same(alloc: Global, words: &mut SplitWhitespace<'_>) -> anyhow::Result<String> {
-    let left = words::piece(alloc, words)?;
-    let right = words::piece(alloc, words)?;
+    let left = case_lines::piece(alloc, words)?;
+    let right = case_lines::piece(alloc, words)?;
     let same = same_octets(left.as_slice(), right.as_slice());
     Ok(format!(in alloc; "{same}")?)
 }
 
 /// A key that is to be loaded, as it is printed.
 pub fn printed(alloc: Global, words: &mut SplitWhitespace<'_>) -> anyhow::Result<String> {
-    let Some(id) = KeyId::new(words::short(words)) else {
+    let Some(id) = KeyId::new(case_lines::short(words).unwrap_or(0)) else {
         return Ok(format!(in alloc; "none")?);
     };
-    let bytes = Octets::new(words::octets(alloc, words)?);
+    let bytes = Octets::new(case_lines::octets(alloc, words)?);
     let mut list = Vec::new(alloc);
     list.push(KeyItem { id, bytes })?;
     let items = KeyItems::new(list);
@@ -60,7 +59,7 @@ pub fn printed(alloc: Global, words: &mut SplitWhitespace<'_>) -> anyhow::Result
 
 /// A list of one row, its copy, and its items given back.
 pub fn rows(alloc: Global, words: &mut SplitWhitespace<'_>) -> anyhow::Result<String> {
-    let Some(id) = KeyId::new(words::short(words)) else {
+    let Some(id) = KeyId::new(case_lines::short(words).unwrap_or(0)) else {
         return Ok(format!(in alloc; "none")?);
     };
     let mut list = Vec::new(alloc);

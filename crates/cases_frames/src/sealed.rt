@@ -1,5 +1,5 @@
 // Frames protected, and opened.
-use crate::{shielding, words};
+use crate::shielding;
 use frame_shield::{Opened, fits};
 use std::alloc::Global;
 use std::str::SplitWhitespace;
@@ -9,8 +9,8 @@ pub fn protect(alloc: Global, words: &mut SplitWhitespace<'_>) -> anyhow::Result
     let Some(binding) = shielding::binding(words, [0xD0, 0, 0, 1]) else {
         return Ok(format!(in alloc; "no binding")?);
     };
-    let number = words::number(words);
-    let clear = words::octets(alloc, words)?;
+    let number = case_lines::number(words).unwrap_or(0);
+    let clear = case_lines::octets(alloc, words)?;
     if let Err(fault) = fits(&binding, clear.as_slice()) {
         return Ok(format!(in alloc; "{fault:?}")?);
     }
@@ -25,7 +25,7 @@ pub fn open(alloc: Global, words: &mut SplitWhitespace<'_>) -> anyhow::Result<St
     let Some(binding) = shielding::binding(words, [0; 4]) else {
         return Ok(format!(in alloc; "no binding")?);
     };
-    let mut frame = words::octets(alloc, words)?;
+    let mut frame = case_lines::octets(alloc, words)?;
     match shielding::opened(&binding, frame.as_mut_slice()) {
         Some(Opened::Field { number, from, to }) => {
             let field = hex::encode(alloc, frame.as_slice().get(from..to).unwrap_or(&[]))?;

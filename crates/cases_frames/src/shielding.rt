@@ -5,7 +5,6 @@ ghost use Rattle.sdls_base.specs.Link.{IsLink};
 ghost use Rattle.frame_shield.specs.Binding.{IsBinding};
 ghost use Rattle.frame_shield.specs.Opens.{CarriesIndex};
 
-use crate::words;
 use aes_block::Schedule;
 use frame_shield::{AnyLayout, Binding, Link, Mask, Opened, fits, shield, unshield};
 use sdls_base::{AosLayout, KeyId, Spi, Suite, TcLayout, TmLayout};
@@ -24,11 +23,11 @@ const UNTOUCHED: u8 = 0x55;
 fn tc_link(words: &mut SplitWhitespace<'_>) -> Link
     ensures { IsLink result }
 {
-    let segment = words::flag(words);
+    let segment = case_lines::flag(words);
     Link {
         layout: AnyLayout::Tc(TcLayout {
             segment,
-            fecf: words::flag(words),
+            fecf: case_lines::flag(words),
             most: 1024,
         }),
         mask: Mask::usual_tc(segment),
@@ -38,8 +37,8 @@ fn tc_link(words: &mut SplitWhitespace<'_>) -> Link
 fn tm_link(words: &mut SplitWhitespace<'_>) -> Option<Link>
     ensures { IfSome result IsLink }
 {
-    let length = words::short(words);
-    let fecf = words::flag(words);
+    let length = case_lines::short(words).unwrap_or(0);
+    let fecf = case_lines::flag(words);
     if length < 48 || length > 2048 {
         return None;
     }
@@ -66,10 +65,10 @@ fn aos_link(words: &mut SplitWhitespace<'_>) -> Option<Link>
     ensures { IfSome result IsLink }
 {
     let layout = AosLayout {
-        length: words::short(words),
-        insert: words::octet(words),
-        ocf: words::flag(words),
-        fecf: words::flag(words),
+        length: case_lines::short(words).unwrap_or(0),
+        insert: case_lines::octet(words).unwrap_or(0),
+        ocf: case_lines::flag(words),
+        fecf: case_lines::flag(words),
     };
     let mask = aos_mask(words.next());
     if layout.insert > 64 || layout.length > 2048 || layout.length < 48 + u16::from(layout.insert) {
@@ -97,8 +96,8 @@ fn link(words: &mut SplitWhitespace<'_>) -> Option<Link>
 pub fn binding(words: &mut SplitWhitespace<'_>, device: [u8; 4]) -> Option<Binding>
     ensures { IfSome result IsBinding }
 {
-    let suite = words::suite(words);
-    let spi = Spi::new(words::short(words))?;
+    let suite = case_lines::suite(words).unwrap_or(Suite::Cmac);
+    let spi = Spi::new(case_lines::short(words).unwrap_or(0))?;
     let link = link(words)?;
     let (key, octets) = match suite {
         Suite::Cmac => (32_769, CMAC_KEY),

@@ -1,5 +1,6 @@
 // What is read of a plan, a line for each of its lines.
 use crate::text::Text;
+use case_lines::{Gathered, octet, short};
 use sdls_base::{AnyLayout, Link};
 use std::alloc::{AllocError, Global};
 use unit_plan::{Plan, PlanKey, PlanSa};
@@ -23,85 +24,76 @@ fn layout_text(alloc: Global, layout: &AnyLayout) -> Result<String, AllocError> 
     }
 }
 
-fn print_link(rt: &HostRuntime, number: u8, link: &Link) -> anyhow::Result<()> {
-    let layout = layout_text(rt.alloc(), &link.layout)?;
-    let mask = hex::encode(rt.alloc(), link.mask.octets.as_slice())?;
+fn link_text(alloc: Global, number: u8, link: &Link) -> Result<String, AllocError> {
+    let layout = layout_text(alloc, &link.layout)?;
+    let mask = hex::encode(alloc, link.mask.octets.as_slice())?;
     let length = link.mask.length;
-    println!(rt; "link {number} {layout} mask {mask} of {length}")?;
-    Ok(())
+    format!(in alloc; "link {number} {layout} mask {mask} of {length}")
 }
 
-fn print_key(rt: &HostRuntime, key: &PlanKey) -> anyhow::Result<()> {
-    let octets = hex::encode(rt.alloc(), key.item.bytes.as_slice())?;
+fn key_text(alloc: Global, key: &PlanKey) -> Result<String, AllocError> {
+    let octets = hex::encode(alloc, key.item.bytes.as_slice())?;
     let (line, id, state) = (key.line, key.item.id.get(), key.state);
-    println!(rt; "line {line} key {id} {state:?} {octets}")?;
-    Ok(())
+    format!(in alloc; "line {line} key {id} {state:?} {octets}")
 }
 
-fn print_association(rt: &HostRuntime, known: &PlanSa) -> anyhow::Result<()> {
+fn association_text(alloc: Global, known: &PlanSa) -> Result<String, AllocError> {
     let (line, spi, key) = (known.line, known.sa.spi.get(), known.key.get());
     let (direction, suite) = (known.sa.direction, known.sa.suite);
     let (number, window) = (known.number, known.sa.window);
-    let channels = hex::encode(rt.alloc(), known.sa.channels.as_slice())?;
-    println!(rt;
+    let channels = hex::encode(alloc, known.sa.channels.as_slice())?;
+    format!(in alloc;
         "line {line} sa {spi} {direction:?} {suite:?} key {key} number {number} window {window} channels {channels}"
-    )?;
-    Ok(())
+    )
 }
 
-fn print_heads(rt: &HostRuntime, plan: &Plan) -> anyhow::Result<()> {
-    let device = hex::encode(rt.alloc(), plan.device().as_slice())?;
+fn heads_text(alloc: Global, plan: &Plan) -> Result<String, AllocError> {
+    let device = hex::encode(alloc, plan.device().as_slice())?;
     let (slots, block, accept) = (plan.slots(), plan.block(), plan.accept());
-    println!(rt; "device {device} slots {slots} block {block} accept {accept}")?;
-    Ok(())
+    format!(in alloc; "device {device} slots {slots} block {block} accept {accept}")
 }
 
-/// Prints all that is read of the text.
-pub fn print_plan(rt: &HostRuntime, text: &Text) -> anyhow::Result<()> {
-    let alloc: Global = rt.alloc();
-    let plan = Plan::read(alloc, text.with(alloc, "")?.as_slice())?;
-    print_heads(rt, &plan)?;
+/// Gathers the links of a plan, and its channels.
+fn push_places(alloc: Global, lines: &mut Gathered, plan: &Plan) -> Result<(), AllocError> {
     for number in 0..=u8::MAX {
         if let Some(link) = plan.link(number) {
-            print_link(rt, number, link)?;
+            lines.push(link_text(alloc, number, link)?.as_str())?;
         }
     }
     for channel in plan.channels() {
         let channel = channel.get();
-        println!(rt; "channel {channel}")?;
+        lines.push(format!(in alloc; "channel {channel}")?.as_str())?;
     }
+    Ok(())
+}
+
+/// All that is read of the text, a line for each of its lines.
+pub fn plan_text(alloc: Global, text: &Text) -> anyhow::Result<String> {
+    let plan = Plan::read(alloc, text.with(alloc, "")?.as_slice())?;
+    let mut lines = Gathered::new(alloc);
+    lines.push(heads_text(alloc, &plan)?.as_str())?;
+    push_places(alloc, &mut lines, &plan)?;
     for key in plan.keys() {
-        print_key(rt, key)?;
+        lines.push(key_text(alloc, key)?.as_str())?;
     }
     for known in plan.associations() {
-        print_association(rt, known)?;
+        lines.push(association_text(alloc, known)?.as_str())?;
     }
-    Ok(())
+    Ok(String::from_str(alloc, lines.as_str().trim_end())?)
 }
 
-/// Prints the channel of a place, which is given in words.
-pub fn print_channel(rt: &HostRuntime, text: &Text, place: &str) -> anyhow::Result<()> {
-    let alloc: Global = rt.alloc();
+/// The channel of a place, which is given in words.
+pub fn channel_text(alloc: Global, text: &Text, place: &str) -> anyhow::Result<String> {
     let plan = Plan::read(alloc, text.with(alloc, "")?.as_slice())?;
-    let mut words = place
-        .split_whitespace()
-        .map(|word| word.parse::<u16>().ok());
-    let link = words.next().flatten().unwrap_or(0);
-    let spacecraft = words.next().flatten().unwrap_or(0);
-    let channel = words.next().flatten().unwrap_or(0);
-    let map = words.next().flatten();
-    let found = plan.channel_of(octet(link), spacecraft, octet(channel), map.map(octet));
-    match found {
+    let mut words = place.split_whitespace();
+    let link = octet(&mut words).unwrap_or(0);
+    let spacecraft = short(&mut words).unwrap_or(0);
+    let channel = octet(&mut words).unwrap_or(0);
+    match plan.channel_of(link, spacecraft, channel, octet(&mut words)) {
         Some(channel) => {
             let channel = channel.get();
-            println!(rt; "{place}: channel {channel}")?;
+            Ok(format!(in alloc; "{place}: channel {channel}")?)
         }
-        None => println!(rt; "{place}: none")?,
+        None => Ok(format!(in alloc; "{place}: none")?),
     }
-    Ok(())
-}
-
-/// The number as an octet, the greatest where it is none.
-fn octet(number: u16) -> u8 {
-    u8::try_from(number).unwrap_or(u8::MAX)
 }

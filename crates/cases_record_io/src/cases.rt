@@ -1,4 +1,5 @@
 // One case: an input, and how its source gives it.
+use case_lines::{number, octets};
 use record_io::{Reader, Record, RecordKind, SegmentEnd};
 use sdls_outside::MemSource;
 use std::alloc::{AllocError, Global};
@@ -18,26 +19,10 @@ impl Case {
     /// Reads the words of a case.
     pub fn read(alloc: Global, text: &str) -> anyhow::Result<Case> {
         let mut words = text.split_whitespace();
-        let piece = words.next().and_then(|word| word.parse().ok()).unwrap_or(1);
-        let failing = words.next().and_then(|word| word.parse().ok());
-        let mut octets = Vec::new(alloc);
-        let mut times: u16 = 1;
-        for word in words {
-            match word.strip_prefix("x") {
-                Some(count) => times = count.parse().unwrap_or(1),
-                None => {
-                    let part = hex::decode(alloc, word)?;
-                    for _ in 0..times {
-                        octets.extend_from_slice(&part)?;
-                    }
-                    times = 1;
-                }
-            }
-        }
         Ok(Case {
-            piece,
-            failing,
-            octets,
+            piece: number(&mut words).unwrap_or(1).max(1) as usize,
+            failing: number(&mut words),
+            octets: octets(alloc, &mut words)?,
         })
     }
 
@@ -49,7 +34,7 @@ impl Case {
         if let Some(call) = self.failing {
             failing.push(call)?;
         }
-        Ok(MemSource::new(front, self.piece.max(1), failing))
+        Ok(MemSource::new(front, self.piece, failing))
     }
 }
 

@@ -1,15 +1,7 @@
 //! What a command put, as text.
 
+use case_lines::number_of;
 use std::alloc::Global;
-
-/// The number that these octets are, the first being the most significant.
-fn number_of(octets: &[u8]) -> u64 {
-    let mut number = 0u64;
-    for octet in octets {
-        number = number.wrapping_mul(256).wrapping_add(u64::from(*octet));
-    }
-    number
-}
 
 /// An answer by its fields, from the header and the body.
 fn answer_line(alloc: Global, header: &[u8], body: &[u8]) -> anyhow::Result<String> {

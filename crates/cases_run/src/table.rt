@@ -1,31 +1,15 @@
 //! The steps, and what they answer.
 
 use crate::answers::answers;
-use crate::words::{number_at, numbers, words};
-use sdls_outside::{Crash, MemSite, MemSource, Site};
-use sdls_run::{Gate, Outcome, run};
+use case_lines::{Gathered, number_at, numbers, part_of, set_part_of, word_at, words_of};
+use case_runs::{BEGINNING, Open};
+use case_units::crash_of;
+use sdls_outside::{MemSite, MemSource, Site};
+use sdls_run::{Outcome, run};
 use std::alloc::{AllocError, Global};
 use std::mem;
 use std::sync::Wait;
 use std::thread::Threads;
-
-/// A gate that does nothing.
-struct Open;
-
-impl Gate for Open {
-    fn pass(&self, _lane: u8, _index: u64) {}
-
-    fn done(&self, _lane: u8, _index: u64) {}
-}
-
-/// What the word says a crash leaves.
-fn crash_of(word: &str) -> Crash {
-    match word {
-        "kept" => Crash::Kept,
-        "lost" => Crash::Lost,
-        _ => Crash::Filled(word.parse().unwrap_or(0)),
-    }
-}
 
 /// The text that was put, behind a line feed and without its own last one.
 fn text_put(alloc: Global, sunk: &[u8]) -> anyhow::Result<String> {
@@ -37,11 +21,11 @@ fn text_put(alloc: Global, sunk: &[u8]) -> anyhow::Result<String> {
     Ok(format!(in alloc; "\n{text}")?)
 }
 
-/// What was gathered: a plan and an input, the calls that are to fail and the pieces of the source; the image as it lies, the one
-/// that was kept, and the last site.
+/// What was gathered: a plan and an input, the calls that are to fail and the pieces of the source; the image as it
+/// lies, the one that was kept, and the last site.
 #[derive(Drop)]
 pub struct Table {
-    plan: Vec<u8>,
+    plan: Gathered,
     input: Vec<u8>,
     pieces: usize,
     source: Vec<u64>,
@@ -56,7 +40,7 @@ impl Table {
     /// A table of which nothing was read.
     pub fn new(alloc: Global) -> Table {
         Table {
-            plan: Vec::new(alloc),
+            plan: Gathered::new(alloc),
             input: Vec::new(alloc),
             pieces: usize::MAX,
             source: Vec::new(alloc),
@@ -66,13 +50,6 @@ impl Table {
             kept: Vec::new(alloc),
             last: None,
         }
-    }
-
-    /// Gathers a line of a plan.
-    fn gather(&mut self, line: &str) -> Result<(), AllocError> {
-        self.plan.extend_from_slice(line.as_bytes())?;
-        self.plan.push(b'\n')?;
-        Ok(())
     }
 
     /// Gathers an item of the recorded input: kind, lane, link, zero, length, octets.
@@ -85,13 +62,13 @@ impl Table {
     }
 
     /// Gathers the record that the line says: a lane, for a frame a link, and the octets, if there are any.
-    fn record(&mut self, alloc: Global, word: &str, rest: &str) -> anyhow::Result<String> {
+    fn record(&mut self, alloc: Global, word: &str, rest: &str) -> anyhow::Result<()> {
         let (kind, place) = match word {
             "protect" => (1, 2),
             "open" => (2, 2),
             _ => (3, 1),
         };
-        let octets = hex::decode(alloc, rest.split_whitespace().nth(place).unwrap_or(""))?;
+        let octets = hex::decode(alloc, word_at(rest, place))?;
         let lane = (number_at(rest, 0) % 256) as u8;
         let link = if kind == 3 {
             0
@@ -99,13 +76,7 @@ impl Table {
             (number_at(rest, 1) % 256) as u8
         };
         self.item(kind, lane, link, octets.as_slice())?;
-        Ok(String::new(alloc))
-    }
-
-    fn octets(&mut self, alloc: Global, rest: &str) -> anyhow::Result<String> {
-        let octets = hex::decode(alloc, rest)?;
-        self.input.extend_from_slice(octets.as_slice())?;
-        Ok(String::new(alloc))
+        Ok(())
     }
 
     /// Runs the words on the image, with this input.
@@ -116,7 +87,7 @@ impl Table {
         line: &str,
         input: Vec<u8>,
     ) -> anyhow::Result<String> {
-        let words = words(alloc, line)?;
+        let words = words_of(alloc, line)?;
         let failing = mem::replace(&mut self.failing, Vec::new(alloc));
         let broken = mem::replace(&mut self.source, Vec::new(alloc));
         let image = mem::replace(&mut self.image, Vec::new(alloc));
@@ -138,7 +109,8 @@ impl Table {
     }
 
     fn init<R: Threads + Wait + Sync>(&mut self, rt: &R, alloc: Global) -> anyhow::Result<String> {
-        let plan = mem::replace(&mut self.plan, Vec::new(alloc));
+        let plan = Vec::from_slice(alloc, self.plan.as_str().as_bytes())?;
+        self.plan.clear();
         self.command(rt, alloc, "init", plan)
     }
 
@@ -160,24 +132,6 @@ impl Table {
         Ok(format!(in alloc; "crashed")?)
     }
 
-    fn set(&mut self, alloc: Global, rest: &str) -> anyhow::Result<String> {
-        let octets = hex::decode(alloc, rest.split_whitespace().nth(1).unwrap_or(""))?;
-        let at = usize::try_from(number_at(rest, 0)).unwrap_or(0);
-        for (i, octet) in octets.iter().enumerate() {
-            if let Some(place) = self.image.get_mut(at.saturating_add(i)) {
-                *place = *octet;
-            }
-        }
-        Ok(String::new(alloc))
-    }
-
-    /// Octets of the image.
-    fn show(&self, alloc: Global, rest: &str) -> anyhow::Result<String> {
-        let from = usize::try_from(number_at(rest, 0)).unwrap_or(0);
-        let to = from.saturating_add(usize::try_from(number_at(rest, 1)).unwrap_or(0));
-        Ok(hex::encode(alloc, self.image.as_slice().get(from..to).unwrap_or(&[]))?)
-    }
-
     /// The image's length, whether it is the kept one, or what the last site has sunk.
     fn told(&self, alloc: Global, word: &str) -> anyhow::Result<String> {
         match (word, &self.last) {
@@ -197,21 +151,37 @@ impl Table {
         }
     }
 
-    fn setting(&mut self, alloc: Global, word: &str, rest: &str) -> anyhow::Result<String> {
+    /// Takes a step on plan, input or source. Says whether the word names one.
+    fn gathers(&mut self, alloc: Global, word: &str, rest: &str) -> anyhow::Result<bool> {
         match word {
-            "plan" => self.gather(rest)?,
-            "records" => self.input = Vec::from_slice(alloc, b"SDLSREC1")?,
+            "plan" => self.plan.push(rest)?,
+            "records" => self.input = Vec::from_slice(alloc, BEGINNING)?,
             "fence" => self.item(0, 0, 0, &[])?,
+            "protect" | "open" | "command" => self.record(alloc, word, rest)?,
+            "octets" => {
+                let octets = hex::decode(alloc, rest)?;
+                self.input.extend_from_slice(octets.as_slice())?;
+            }
             "pieces" => self.pieces = usize::try_from(number_at(rest, 0)).unwrap_or(usize::MAX),
             "source" => self.source = numbers(alloc, rest)?,
+            _ => return Ok(false),
+        }
+        Ok(true)
+    }
+
+    /// The same of a step on the site or the image.
+    fn sets(&mut self, alloc: Global, word: &str, rest: &str) -> anyhow::Result<bool> {
+        match word {
             "failing" => self.failing = numbers(alloc, rest)?,
             "dead" => self.dead = Some(number_at(rest, 0)),
             "lay" => self.image = hex::decode(alloc, rest)?,
             "keep" => self.kept = Vec::from_slice(alloc, self.image.as_slice())?,
             "back" => self.image = Vec::from_slice(alloc, self.kept.as_slice())?,
-            _ => self.image.clear(),
+            "lose" => self.image.clear(),
+            "set" => set_part_of(alloc, self.image.as_mut_slice(), rest)?,
+            _ => return Ok(false),
         }
-        Ok(String::new(alloc))
+        Ok(true)
     }
 
     fn step<R: Threads + Wait + Sync>(
@@ -221,25 +191,13 @@ impl Table {
         line: &str,
     ) -> anyhow::Result<String> {
         let (word, rest) = line.split_once(' ').unwrap_or((line, ""));
+        if self.gathers(alloc, word, rest)? || self.sets(alloc, word, rest)? {
+            return Ok(String::new(alloc));
+        }
         match word {
-            "#" => Ok(format!(in alloc; "{line}")?),
-            "plan"
-            | "records"
-            | "fence"
-            | "pieces"
-            | "source"
-            | "failing"
-            | "dead"
-            | "lay"
-            | "keep"
-            | "back"
-            | "lose" => { self.setting(alloc, word, rest) }
-            "protect" | "open" | "command" => self.record(alloc, word, rest),
-            "octets" => self.octets(alloc, rest),
             "init" => self.init(rt, alloc),
             "crash" => self.crash(alloc, rest),
-            "set" => self.set(alloc, rest),
-            "show" => self.show(alloc, rest),
+            "show" => part_of(alloc, self.image.as_slice(), rest),
             "image" | "same" | "sunk" => self.told(alloc, word),
             _ => self.other(rt, alloc, line),
         }

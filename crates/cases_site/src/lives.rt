@@ -33,7 +33,7 @@ fn held(alloc: Global, site: &MemSite) -> Result<String, AllocError> {
 /// A site of which one call fails, and what it then holds.
 pub fn failing(alloc: Global, words: &mut SplitWhitespace<'_>) -> anyhow::Result<String> {
     let mut calls = Vec::new(alloc);
-    calls.push(words::number(words))?;
+    calls.push(case_lines::number(words).unwrap_or(0))?;
     let mut site = MemSite::new(alloc, b"ab".to_vec(alloc)?, calls, None);
     let done = pattern(alloc, &lived(&mut site))?;
     let held = held(alloc, &site)?;
@@ -42,7 +42,7 @@ pub fn failing(alloc: Global, words: &mut SplitWhitespace<'_>) -> anyhow::Result
 
 /// A site that is dead from a call on, and what it holds after a crash.
 pub fn dead(alloc: Global, words: &mut SplitWhitespace<'_>) -> anyhow::Result<String> {
-    let from = words::number(words);
+    let from = case_lines::number(words).unwrap_or(0);
     let mut site = MemSite::new(alloc, b"ab".to_vec(alloc)?, Vec::new(alloc), Some(from));
     let done = pattern(alloc, &lived(&mut site))?;
     let held = held(alloc, &site.crashed(Crash::Lost))?;

@@ -1,12 +1,14 @@
-//! Tables of the disk, the sink and the input, for the four implementations of `sdls_outside`. A line of standard input, which
-//! is itself read by a `StdSource`, is a case, and is printed with what it answers; `#` and a title is printed as it is.
+//! Tables of the disk, the sink and the input, for the four implementations of `sdls_outside`. A line of standard
+//! input, which is itself read by a `StdSource`, is a case, and is printed with what it answers; `#` and a title is
+//! printed as it is.
 //!
-//! `crash KIND IMAGE STEP..` does the steps on a site in memory that holds the image, and shows the image after a crash: `kept`,
-//! `lost`, or filled with the octet KIND. A step is `AT:OCTETS`, a write, or `sync`. `failing N` and `dead N` do five calls on a
-//! site of the image `ab` of which that one fails, or that one and each later one: begin, write `aXY` at 0, sync, put `sunk`,
-//! read. They print `o` for each that is Ok and `x` for each that is not, and what is then there. `source PIECE N OCTETS TAKE..`
-//! takes so many octets each time from a source in pieces whose call N fails, and `sure OCTETS TAKE..` from one that never does.
-//! `file` is a run of calls on a file. Octets are written as text, none as `-`.
+//! `crash KIND IMAGE STEP..` does the steps on a site in memory that holds the image, and shows the image after a
+//! crash: `kept`, `lost`, or filled with the octet KIND. A step is `AT:OCTETS`, a write, or `sync`. `failing N` and
+//! `dead N` do five calls on a site of the image `ab` of which that one fails, or that one and each later one: begin,
+//! write `aXY` at 0, sync, put `sunk`, read. They print `o` for each that is Ok and `x` for each that is not, and what
+//! is then there. `source PIECE N OCTETS TAKE..` takes so many octets each time from a source in pieces whose call N
+//! fails, and `sure OCTETS TAKE..` from one that never does. `file` is a run of calls on a file. Octets are written as
+//! text, none as `-`.
 #![tactic(auto)]
 
 mod crashes;

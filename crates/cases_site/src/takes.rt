@@ -28,9 +28,9 @@ fn taken<S: Source>(
 
 /// A source that gives a piece at most, and fails at one call.
 pub fn in_pieces(alloc: Global, words: &mut SplitWhitespace<'_>) -> anyhow::Result<String> {
-    let piece = usize::try_from(words::number(words)).unwrap_or(1);
+    let piece = usize::try_from(case_lines::number(words).unwrap_or(0)).unwrap_or(1);
     let mut failing = Vec::new(alloc);
-    failing.push(words::number(words))?;
+    failing.push(case_lines::number(words).unwrap_or(0))?;
     let octets = Vec::from_slice(alloc, words::octets(words.next()))?;
     if piece == 0 {
         return Ok(format!(in alloc; "no piece")?);

@@ -1,12 +1,6 @@
 // The words of a case.
 use std::alloc::{AllocError, Global};
 use std::str;
-use std::str::SplitWhitespace;
-
-/// The number of the next word, 0 where it is none.
-pub fn number(words: &mut SplitWhitespace<'_>) -> u64 {
-    words.next().and_then(|word| word.parse().ok()).unwrap_or(0)
-}
 
 /// The octets of a word, none of `-`.
 pub fn octets(word: Option<&str>) -> &[u8] {

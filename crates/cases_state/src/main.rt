@@ -5,127 +5,111 @@
 
 mod changes;
 
+use case_lines::{Answers, Gathered, direction_name, key_state_name, print_answers, sa_state_name};
 use key_book::KeyRow;
 use sa_book::SaRow;
-use sdls_base::{Direction, KeyState, SaState};
-use std::alloc::Global;
+use std::alloc::{AllocError, Global};
 use unit_plan::Plan;
 use unit_state::State;
 
-fn key_state(state: KeyState) -> &'static str {
-    match state {
-        KeyState::PreActive => "preactive",
-        KeyState::Active => "active",
-        KeyState::Deactivated => "deactivated",
-        KeyState::Destroyed => "destroyed",
-    }
+fn key_text(alloc: Global, row: &KeyRow) -> Result<String, AllocError> {
+    let state = key_state_name(row.state);
+    let (id, octets) = (row.id.get(), row.bytes.as_slice().len());
+    let (mark, floor) = (row.mark, row.floor);
+    format!(in alloc; "key {id} {state} octets {octets} mark {mark} floor {floor}")
 }
 
-fn sa_state(state: SaState) -> &'static str {
-    match state {
-        SaState::Unkeyed => "unkeyed",
-        SaState::Keyed => "keyed",
-        SaState::Operational => "operational",
-    }
-}
-
-fn direction(direction: Direction) -> &'static str {
-    match direction {
-        Direction::Send => "send",
-        Direction::Receive => "receive",
-    }
-}
-
-fn print_key(rt: &HostRuntime, row: &KeyRow) -> anyhow::Result<()> {
-    let id = row.id.get();
-    let state = key_state(row.state);
-    let octets = row.bytes.as_slice().len();
-    let mark = row.mark;
-    let floor = row.floor;
-    println!(rt; "key {id} {state} octets {octets} mark {mark} floor {floor}")?;
-    Ok(())
-}
-
-fn print_association(rt: &HostRuntime, row: &SaRow) -> anyhow::Result<()> {
-    let spi = row.spi.get();
-    let direction = direction(row.direction);
-    let state = sa_state(row.state);
+fn association_text(alloc: Global, row: &SaRow) -> Result<String, AllocError> {
+    let (direction, state) = (direction_name(row.direction), sa_state_name(row.state));
     let key = match row.key {
         Some(key) => key.get(),
         None => 0,
     };
-    let high = row.window.high;
-    let width = row.window.width;
-    println!(rt; "sa {spi} {direction} {state} key {key} high {high} window {width}")?;
-    Ok(())
+    let (spi, high, width) = (row.spi.get(), row.window.high, row.window.width);
+    format!(in alloc; "sa {spi} {direction} {state} key {key} high {high} window {width}")
 }
 
-fn print_state(rt: &HostRuntime, state: &State) -> anyhow::Result<()> {
+/// The rows of a state, a line each.
+fn state_text(alloc: Global, state: &State) -> Result<String, AllocError> {
+    let mut rows = Gathered::new(alloc);
     for row in state.keys.rows() {
-        print_key(rt, row)?;
+        rows.push(key_text(alloc, row)?.as_str())?;
     }
     for row in state.associations.rows() {
-        print_association(rt, row)?;
+        rows.push(association_text(alloc, row)?.as_str())?;
     }
-    Ok(())
-}
-
-/// Makes the state of a plan.
-fn make(rt: &HostRuntime, text: &[u8]) -> anyhow::Result<Option<State>> {
-    let plan = Plan::read(rt.alloc(), text)?;
-    match State::initial(rt.alloc(), &plan) {
-        Ok(state) => Ok(Some(state)),
-        Err(error) => {
-            println!(rt; "{error}")?;
-            Ok(None)
-        }
-    }
+    String::from_str(alloc, rows.as_str().trim_end())
 }
 
 /// Makes a change where the state allows it.
-fn change(rt: &HostRuntime, state: &mut State, words: &str) -> anyhow::Result<()> {
-    let alloc: Global = rt.alloc();
+fn change(alloc: Global, state: &mut State, words: &str) -> anyhow::Result<String> {
     let Some(change) = changes::read(alloc, words) else {
-        println!(rt; "{words}: no change")?;
-        return Ok(());
+        return Ok(format!(in alloc; "{words}: no change")?);
     };
-    if state.allows(&change) {
-        state.apply(&change)?;
-        println!(rt; "{words}: allowed")?;
-    } else {
-        println!(rt; "{words}: not allowed")?;
+    if !state.allows(&change) {
+        return Ok(format!(in alloc; "{words}: not allowed")?);
     }
-    Ok(())
+    state.apply(&change)?;
+    Ok(format!(in alloc; "{words}: allowed")?)
 }
 
-/// Takes a step from a state that is there.
-fn step(rt: &HostRuntime, state: Option<&mut State>, words: &str) -> anyhow::Result<()> {
-    match state {
-        None => println!(rt; "{words}: no state")?,
-        Some(state) if words == "show" => print_state(rt, state)?,
-        Some(state) if words == "restart" => state.restart(),
-        Some(state) => change(rt, state, words)?,
-    }
-    Ok(())
+/// The lines of a plan that were gathered, and the state that was made.
+#[derive(Drop)]
+struct Steps {
+    plan: Gathered,
+    state: Option<State>,
 }
 
-fn main(rt: HostRuntime) -> anyhow::Result<()> {
-    let alloc: Global = rt.alloc();
-    let mut plan = Vec::new(alloc);
-    let mut state = None;
-    for line in rt.lines(alloc) {
-        let line = line?;
-        match line.as_str().strip_prefix("> ") {
-            Some("make") => {
-                state = make(&rt, &plan)?;
-                plan.clear();
+impl Steps {
+    /// Makes the state of the plan, or tells the line that the books refuse.
+    fn make(&mut self, alloc: Global) -> anyhow::Result<Option<String>> {
+        let plan = Plan::read(alloc, self.plan.as_str().as_bytes())?;
+        self.plan.clear();
+        match State::initial(alloc, &plan) {
+            Ok(state) => {
+                self.state = Some(state);
+                Ok(None)
             }
-            Some(words) => step(&rt, state.as_mut(), words)?,
-            None => {
-                plan.extend_from_slice(line.as_str().as_bytes())?;
-                plan.push(b'\n')?;
+            Err(error) => {
+                self.state = None;
+                Ok(Some(format!(in alloc; "{error}")?))
             }
         }
     }
-    Ok(())
+
+    /// Takes a step from a state that is there.
+    fn step(&mut self, alloc: Global, words: &str) -> anyhow::Result<Option<String>> {
+        let Some(state) = &mut self.state else {
+            return Ok(Some(format!(in alloc; "{words}: no state")?));
+        };
+        match words {
+            "show" => Ok(Some(state_text(alloc, state)?)),
+            "restart" => {
+                state.restart();
+                Ok(None)
+            }
+            _ => Ok(Some(change(alloc, state, words)?)),
+        }
+    }
+}
+
+impl Answers for Steps {
+    fn answer(&mut self, alloc: Global, line: &str) -> anyhow::Result<Option<String>> {
+        match line.strip_prefix("> ") {
+            Some("make") => self.make(alloc),
+            Some(words) => self.step(alloc, words),
+            None => {
+                self.plan.push(line)?;
+                Ok(None)
+            }
+        }
+    }
+}
+
+fn main(rt: HostRuntime) -> anyhow::Result<()> {
+    let mut steps = Steps {
+        plan: Gathered::new(rt.alloc()),
+        state: None,
+    };
+    print_answers(&rt, &mut steps)
 }

@@ -1,27 +1,19 @@
 //! The steps, and what they answer.
 
+use crate::texts;
 use crate::unit::Unit;
-use crate::words::{link_of, number_at, numbers};
-use crate::{image, texts};
-use sdls_outside::{Crash, MemSite};
-use std::alloc::{AllocError, Global};
+use case_lines::{Answers, Gathered, number_at, numbers, part_of, set_part_of};
+use case_units::{crash_of, image_of};
+use sdls_outside::MemSite;
+use std::alloc::Global;
 use std::mem;
 
-/// What the next octet of a word says a crash leaves.
-fn crash_of(word: &str) -> Crash {
-    match word {
-        "kept" => Crash::Kept,
-        "lost" => Crash::Lost,
-        _ => Crash::Filled(word.parse().unwrap_or(0)),
-    }
-}
-
-/// The lines of a plan and of a life that were gathered, the image as it lies and the one that was kept, the calls that are to
-/// fail, and the unit that is open.
+/// The lines of a plan and of a life that were gathered, the image as it lies and the one that was kept, the calls that
+/// are to fail, and the unit that is open.
 #[derive(Drop)]
 pub struct Table {
-    plan: String,
-    life: String,
+    plan: Gathered,
+    life: Gathered,
     image: Vec<u8>,
     kept: Vec<u8>,
     failing: Vec<u64>,
@@ -32,8 +24,8 @@ impl Table {
     /// A table of which nothing was read.
     pub fn new(alloc: Global) -> Table {
         Table {
-            plan: String::new(alloc),
-            life: String::new(alloc),
+            plan: Gathered::new(alloc),
+            life: Gathered::new(alloc),
             image: Vec::new(alloc),
             kept: Vec::new(alloc),
             failing: Vec::new(alloc),
@@ -41,30 +33,19 @@ impl Table {
         }
     }
 
-    /// Gathers a line of a plan.
-    pub fn gather(&mut self, line: &str) -> Result<(), AllocError> {
-        self.plan.push_str(line)?;
-        self.plan.push_str("\n")
-    }
-
-    /// Gathers a step of a life.
-    pub fn gather_step(&mut self, line: &str) -> Result<(), AllocError> {
-        self.life.push_str(line)?;
-        self.life.push_str("\n")
-    }
-
     fn create(&mut self, alloc: Global, rest: &str) -> anyhow::Result<String> {
         let slots = u32::try_from(number_at(rest, 0)).unwrap_or(0);
-        self.image = image::made(alloc, self.plan.as_str().as_bytes(), slots)?;
+        self.image = match image_of(alloc, self.plan.as_str().as_bytes(), slots) {
+            Some(image) => image,
+            None => Vec::new(alloc),
+        };
         self.plan.clear();
         let length = self.image.len();
         Ok(format!(in alloc; "image of {length}")?)
     }
 
     fn set(&mut self, alloc: Global, rest: &str) -> anyhow::Result<String> {
-        let octets = hex::decode(alloc, rest.split_whitespace().nth(1).unwrap_or(""))?;
-        let at = usize::try_from(number_at(rest, 0)).unwrap_or(0);
-        image::set(self.image.as_mut_slice(), at, octets.as_slice());
+        set_part_of(alloc, self.image.as_mut_slice(), rest)?;
         Ok(format!(in alloc; "set")?)
     }
 
@@ -83,12 +64,6 @@ impl Table {
     fn back(&mut self, alloc: Global) -> anyhow::Result<String> {
         self.image = Vec::from_slice(alloc, self.kept.as_slice())?;
         Ok(format!(in alloc; "back")?)
-    }
-
-    fn octets(&self, alloc: Global, rest: &str) -> anyhow::Result<String> {
-        let from = usize::try_from(number_at(rest, 0)).unwrap_or(0);
-        let to = from.saturating_add(usize::try_from(number_at(rest, 1)).unwrap_or(0));
-        Ok(hex::encode(alloc, self.image.as_slice().get(from..to).unwrap_or(&[]))?)
     }
 
     fn open(&mut self, alloc: Global) -> anyhow::Result<String> {
@@ -135,16 +110,16 @@ impl Table {
         let Some(unit) = &mut self.unit else {
             return Ok(format!(in alloc; "no unit")?);
         };
-        let octets = rest.split_whitespace().last().unwrap_or("");
         match word {
             "release" => return Ok(unit.release(alloc)?),
             "tell" => return Ok(unit.tell(alloc)?),
             _ => {}
         }
-        let mut octets = hex::decode(alloc, octets)?;
+        let mut octets = hex::decode(alloc, rest.split_whitespace().last().unwrap_or(""))?;
+        let link = u8::try_from(number_at(rest, 0)).unwrap_or(255);
         match word {
-            "protect" => Ok(unit.protect(alloc, link_of(rest), octets.as_slice())?),
-            "accept" => Ok(unit.accept(alloc, link_of(rest), octets.as_mut_slice())?),
+            "protect" => Ok(unit.protect(alloc, link, octets.as_slice())?),
+            "accept" => Ok(unit.accept(alloc, link, octets.as_mut_slice())?),
             "do" => Ok(unit.command(alloc, octets.as_slice())?),
             _ => Ok(unit.put(alloc, octets.as_slice())?),
         }
@@ -163,7 +138,7 @@ impl Table {
             "cut" => Some(self.cut(alloc, rest)),
             "keep" => Some(self.keep(alloc)),
             "back" => Some(self.back(alloc)),
-            "octets" => Some(self.octets(alloc, rest)),
+            "octets" => Some(part_of(alloc, self.image.as_slice(), rest)),
             _ => None,
         }
     }
@@ -242,13 +217,22 @@ impl Table {
         }
         Ok(answers)
     }
+}
 
-    /// What a line answers.
-    pub fn answer(&mut self, alloc: Global, line: &str) -> anyhow::Result<String> {
+impl Answers for Table {
+    fn answer(&mut self, alloc: Global, line: &str) -> anyhow::Result<Option<String>> {
         match line.split_once(' ').unwrap_or((line, "")) {
-            ("times", rest) => self.repeated(alloc, rest),
-            ("live", _) => self.live(alloc),
-            _ => self.step(alloc, line),
+            ("plan", text) => {
+                self.plan.push(text)?;
+                Ok(None)
+            }
+            ("life", step) => {
+                self.life.push(step)?;
+                Ok(None)
+            }
+            ("times", rest) => Ok(Some(self.repeated(alloc, rest)?)),
+            ("live", _) => Ok(Some(self.live(alloc)?)),
+            _ => Ok(Some(self.step(alloc, line)?)),
         }
     }
 }

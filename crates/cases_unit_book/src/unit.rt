@@ -3,7 +3,8 @@
 ghost use Rattle.std.specs.Prelude.{◌≡◌, ◌≤◌, ℕ, ◌<◌, true, length, slice_index};
 ghost use Rattle.frame_shield.specs.Binding.{IsBinding};
 
-use crate::{needs, texts};
+use crate::texts;
+use case_units::{open_reply_text, reply_text, shield_fault_text};
 use ep_codec::{command_without_fault, one_command};
 use ep_core::Need;
 use frame_shield::{Binding, fits, shield};
@@ -143,7 +144,7 @@ impl<O: Site> Unit<O> {
         requires { IsBinding binding.now }
     {
         if let Err(fault) = fits(binding, clear) {
-            return texts::shield_fault(alloc, fault);
+            return shield_fault_text(alloc, fault);
         }
         let key = binding.key.get();
         match self.draw(binding.key) {
@@ -168,7 +169,7 @@ impl<O: Site> Unit<O> {
         match self.book.binding(link, clear) {
             Ok(Some(binding)) => self.shielded(alloc, &binding, clear),
             Ok(None) => format!(in alloc; "clear"),
-            Err(fault) => texts::shield_fault(alloc, fault),
+            Err(fault) => shield_fault_text(alloc, fault),
         }
     }
 
@@ -182,7 +183,7 @@ impl<O: Site> Unit<O> {
         let index = self.index();
         match self.book.accept(index, link, frame) {
             Ok((reply, position)) => {
-                let reply = texts::open_reply(alloc, reply, frame)?;
+                let reply = open_reply_text(alloc, reply, frame)?;
                 format!(in alloc; "{reply} at {position}")
             }
             Err(fault) => texts::book_fault(alloc, &fault),
@@ -224,14 +225,14 @@ impl<O: Site> Unit<O> {
         let Ok(need) = self.book.need(message) else {
             return format!(in alloc; "no memory");
         };
-        if !needs::fits(self.book.state(), &need, seen) {
+        if !case_units::fits(self.book.state(), &need, seen) {
             return format!(in alloc; "unfit");
         }
         one_command();
         command_without_fault();
         match self.book.command(index, message, seen) {
             Ok((reply, position)) => {
-                let reply = texts::reply(alloc, &reply)?;
+                let reply = reply_text(alloc, &reply)?;
                 format!(in alloc; "{reply} at {position}")
             }
             Err(fault) => texts::book_fault(alloc, &fault),

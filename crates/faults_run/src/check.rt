@@ -1,16 +1,17 @@
-use crate::support::{empty_site, words};
+use crate::support::empty_site;
+use case_lines::words_of;
 use sdls_outside::{Source, SureSource};
 use sdls_run::status::REFUSED;
 use sdls_run::{Outcome, run_plain};
 use std::test::Fail;
 
-/// The key of the examples of SP 800-38B, D.1.
-const KEY: &str = "2b7e151628aed2a6abf7158809cf4f3c";
+/// The words, with the key of the examples of SP 800-38B, D.1.
+const CHECK: &str = "check 2b7e151628aed2a6abf7158809cf4f3c";
 
 #[test]
 fn refuses_what_is_longer_than_any_frame(rt: HostRuntime) -> Result<(), Fail> {
     let alloc = rt.alloc();
-    let words = words(alloc, &["check", KEY])?;
+    let words = words_of(alloc, CHECK)?;
     let mut source = SureSource::new(vec![in alloc; 0x40; 3000]?);
     let Outcome {
         status,

@@ -1,7 +1,6 @@
 // A site that fails at each call.
 use crate::support::{
-    CALLS_OF_FIVE, NUMBERS, PLAN, failing_site, image_of, life_of_frames, push_bare, push_head,
-    whole,
+    CALLS_OF_FIVE, NUMBERS, failing_site, image, life_of_frames, push_bare, push_head, whole,
 };
 use sdls_outside::Crash;
 use sdls_run::status::{DONE, SITE_FAULT};
@@ -28,7 +27,7 @@ fn has_served(alloc: Global, sunk: &[u8], number: u32) -> Result<bool, AllocErro
 #[test]
 fn no_number_serves_twice_after_any_fault(rt: HostRuntime) -> Result<(), Fail> {
     let alloc = rt.alloc();
-    let image = image_of(alloc, PLAN, 168)?;
+    let image = image(alloc)?;
     let full = whole(alloc, &NUMBERS[..5], DONE, 3, 0)?;
     let (status, _, site) = life_of_frames(
         &rt,

@@ -1,7 +1,6 @@
 // The most frames of a segment, seen in what `run` answers.
-use crate::support::{
-    BEGINNING, CALL_AFTER_OPENING, dead_site, joined, life_of, push_bare, quiet_site,
-};
+use crate::support::{CALL_AFTER_OPENING, dead_site, life_of, push_bare, quiet_site};
+use case_runs::{BEGINNING, joined};
 use sdls_run::status::{DONE, SITE_FAULT};
 use std::alloc::Global;
 use std::test::Fail;

@@ -1,6 +1,9 @@
 // A site that fails at a call of a run, or from it on, each kind of crash, and what the next run goes on with.
-use crate::support::{CALL_AFTER_OPENING, image_of, joined, life};
-use sdls_outside::{Crash, MemSite, SureSource};
+use crate::support::CALL_AFTER_OPENING;
+use case_lines::number_of;
+use case_runs::{BEGINNING, Open, TELECOMMAND, joined, life};
+use case_units::{TWO_SENDERS, image_of, image_of_sender};
+use sdls_outside::{Crash, MemSite};
 use sdls_run::status::{DONE, SITE_FAULT};
 use std::alloc::{AllocError, Global};
 use std::process::Abort;
@@ -8,7 +11,7 @@ use std::sync::Wait;
 use std::test::Fail;
 use std::thread::Threads;
 
-/// A plan of one AOS channel that is received under CMAC, of 205 octets.
+/// A plan of one AOS channel that is received under CMAC.
 const RECEIVER: &[u8] = b"sdls 1
 device 00000001
 slots 16
@@ -32,25 +35,6 @@ const WRONG: &[u8] = b"\xff";
 /// The calls of a run on three such frames, of which the first is accepted: the opening, an append, and two puts.
 const CALLS_OF_RECEIVER: u64 = CALL_AFTER_OPENING + 4 + 2;
 
-/// A plan of a telecommand and a telemetry channel that are sent, of 279 octets.
-const SENDER: &[u8] = b"sdls 1
-device d0000001
-slots 16
-block 4
-accept 1
-link 0 tc seg nofecf -
-link 1 tm 64 fecf -
-channel 0 0 42 5 3
-channel 1 1 42 2 -
-key 32769 active 2b7e151628aed2a6abf7158809cf4f3c
-key 256 active 000102030405060708090a0b0c0d0e0f
-sa 7 send cmac 32769 1 1 0
-sa 9 send gcm 256 1 1 1
-";
-
-/// A frame to be protected on link 0.
-const PROTECT: &[u8] = b"\x01\x00\x00\x00\x00\x06\x00\x2a\x14\x05\x09\xc3";
-
 /// Commands to association 7: stop, expire, rekey with number 4, rekey with number 5, start.
 const STOP: &[u8] = b"\x03\x00\x00\x00\x00\x05\x1e\x00\x10\x00\x07";
 
@@ -64,21 +48,12 @@ const REKEY_AT_5: &[u8] =
 
 const START: &[u8] = b"\x03\x00\x00\x00\x00\x05\x1b\x00\x10\x00\x07";
 
-/// The calls of a run with four frames, a stop, an expiry and two rekeyings, of which the first is refused: the opening, four
-/// appends, and two puts.
+/// The calls of a run with four frames, a stop, an expiry and two rekeyings, of which the first is refused: the
+/// opening, four appends, and two puts.
 const CALLS_OF_SENDER: u64 = CALL_AFTER_OPENING + 4 * 4 + 2;
 
 /// The kinds of crash: what a read gives, what was synced, and torn octets.
 const CRASHES: [Crash; 4] = [Crash::Kept, Crash::Lost, Crash::Filled(1), Crash::Filled(7)];
-
-/// The number that these octets are, the first being the most significant.
-fn number_of(octets: &[u8]) -> u64 {
-    let mut number = 0u64;
-    for octet in octets {
-        number = number.wrapping_mul(256).wrapping_add(u64::from(*octet));
-    }
-    number
-}
 
 /// The numbers of the answers with this code.
 fn numbers_with(alloc: Global, code: u8, sunk: &[u8]) -> Result<Vec<u64>, AllocError> {
@@ -104,12 +79,11 @@ fn run_of<R: Threads + Wait + Sync>(
     records: &[&[u8]],
     site: MemSite,
 ) -> Result<(u8, MemSite), Fail> {
-    let mut input = joined(alloc, &[b"SDLSREC1"])?;
+    let mut input = joined(alloc, &[BEGINNING])?;
     for record in records {
         input.extend_from_slice(record)?;
     }
-    let mut source = SureSource::new(input);
-    let (status, _, site) = life(rt, alloc, &mut source, site)?;
+    let (status, _, site) = life(rt, alloc, input, site, &Open)?;
     Ok((status, site))
 }
 
@@ -127,8 +101,8 @@ fn faulty_site(
     Ok(MemSite::new(alloc, image, vec![in alloc; call]?, None))
 }
 
-/// Runs the first records on a site that fails at a call, and after a crash the others. Answers the numbers of the answers with this
-/// code, of both runs.
+/// Runs the first records on a site that fails at a call, and after a crash the others. Answers the numbers of the
+/// answers with this code, of both runs.
 fn two_runs<R: Threads + Wait + Sync + Abort>(
     rt: &R,
     alloc: Global,
@@ -149,7 +123,8 @@ fn two_runs<R: Threads + Wait + Sync + Abort>(
 /// The records of three frames to be opened, the last of which has a wrong MAC.
 const FRAMES: [&[u8]; 6] = [FRAME, RIGHT, FRAME, RIGHT, FRAME, WRONG];
 
-/// After a fault of this call, no frame is accepted twice; it is accepted by the next run where this one opened no book.
+/// After a fault of this call, no frame is accepted twice; it is accepted by the next run where this one opened no
+/// book.
 fn accepts_once<R: Threads + Wait + Sync + Abort>(
     rt: &R,
     alloc: Global,
@@ -171,7 +146,7 @@ fn accepts_once<R: Threads + Wait + Sync + Abort>(
 #[test]
 fn no_number_is_accepted_twice_after_any_fault(rt: HostRuntime) -> Result<(), Fail> {
     let alloc = rt.alloc();
-    let image = image_of(alloc, RECEIVER, 205)?;
+    let image = image_of(alloc, RECEIVER, 16).ok_or("no image")?;
     let site = faulty_site(alloc, &image, CALLS_OF_RECEIVER, true)?;
     let (status, site) = run_of(&rt, alloc, &FRAMES, site)?;
     assert_eq!(rt; status, DONE);
@@ -191,11 +166,24 @@ fn no_number_is_accepted_twice_after_any_fault(rt: HostRuntime) -> Result<(), Fa
 
 /// The records of four frames and of commands, and those of the run behind a crash.
 const ORDERS: [&[u8]; 8] = [
-    PROTECT, PROTECT, PROTECT, PROTECT, STOP, EXPIRE, REKEY_AT_4, REKEY_AT_5,
+    TELECOMMAND,
+    TELECOMMAND,
+    TELECOMMAND,
+    TELECOMMAND,
+    STOP,
+    EXPIRE,
+    REKEY_AT_4,
+    REKEY_AT_5,
 ];
 
 const LATER: [&[u8]; 7] = [
-    REKEY_AT_5, START, PROTECT, PROTECT, PROTECT, PROTECT, PROTECT,
+    REKEY_AT_5,
+    START,
+    TELECOMMAND,
+    TELECOMMAND,
+    TELECOMMAND,
+    TELECOMMAND,
+    TELECOMMAND,
 ];
 
 /// After a fault of this call, the next run protects five frames, under no number that was used.
@@ -220,7 +208,7 @@ fn serves_once<R: Threads + Wait + Sync + Abort>(
 #[test]
 fn no_number_serves_twice_after_any_fault_of_a_command(rt: HostRuntime) -> Result<(), Fail> {
     let alloc = rt.alloc();
-    let image = image_of(alloc, SENDER, 279)?;
+    let image = image_of_sender(alloc, 16, 4, TWO_SENDERS).ok_or("no image")?;
     let site = faulty_site(alloc, &image, CALLS_OF_SENDER, true)?;
     let (status, site) = run_of(&rt, alloc, &ORDERS, site)?;
     assert_eq!(rt; status, DONE);
@@ -236,7 +224,7 @@ fn no_number_serves_twice_after_any_fault_of_a_command(rt: HostRuntime) -> Resul
 #[test]
 fn no_number_serves_twice_after_a_disk_that_dies_at_a_command(rt: HostRuntime) -> Result<(), Fail> {
     let alloc = rt.alloc();
-    let image = image_of(alloc, SENDER, 279)?;
+    let image = image_of_sender(alloc, 16, 4, TWO_SENDERS).ok_or("no image")?;
     for call in CALL_AFTER_OPENING..CALLS_OF_SENDER {
         for crash in CRASHES {
             serves_once(&rt, alloc, &image, call, crash, true)?;

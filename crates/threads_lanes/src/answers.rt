@@ -1,4 +1,5 @@
 // The answers of a run, as they were put.
+use case_lines::number_of;
 use std::alloc::Global;
 use std::test::Fail;
 
@@ -11,13 +12,6 @@ pub(crate) struct Head {
     pub(crate) number: u64,
 }
 
-/// The number that stands in these octets.
-fn number_in(octets: &[u8]) -> u64 {
-    octets
-        .iter()
-        .fold(0, |number, octet| number << 8 | u64::from(*octet))
-}
-
 /// The head that stands in these octets, if there are so many.
 fn head_of(octets: &[u8]) -> Option<Head> {
     let code = octets.first()?;
@@ -26,9 +20,9 @@ fn head_of(octets: &[u8]) -> Option<Head> {
     let number = octets.get(16..24)?;
     Some(Head {
         code: *code,
-        length: number_in(length),
-        position: number_in(position),
-        number: number_in(number),
+        length: number_of(length),
+        position: number_of(position),
+        number: number_of(number),
     })
 }
 

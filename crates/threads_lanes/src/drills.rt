@@ -1,4 +1,5 @@
 // A drill, as its gate sees it.
+use case_lines::words_of;
 use sdls_outside::{MemSite, SureSource};
 use sdls_run::status::DONE;
 use sdls_run::{Gate, Outcome, run};
@@ -22,14 +23,12 @@ impl Gate for Counting {
     }
 }
 
-/// A thousand frames are protected and opened, and the first of each of four chunks is opened again: the gate is called before and
-/// after 2,004 records. So the line is not put from numbers that are known beforehand.
+/// A thousand frames are protected and opened, and the first of each of four chunks is opened again: the gate is called
+/// before and after 2,004 records. So the line is not put from numbers that are known beforehand.
 #[test]
 fn a_drill_handles_its_records(rt: HostRuntime) -> Result<(), Fail> {
     let alloc = rt.alloc();
-    let mut words = Vec::new(alloc);
-    words.push(String::from_str(alloc, "drill")?)?;
-    words.push(String::from_str(alloc, "1000")?)?;
+    let words = words_of(alloc, "drill 1000")?;
     let gate = Counting {
         passed: AtomicU64::new(0),
         done: AtomicU64::new(0),

@@ -1,24 +1,13 @@
 // A disk that fails under one of sixteen lanes.
 use crate::answers::{counted, heads, numbers_of};
-use crate::support::{BEGINNING, FENCE, Open, TELECOMMAND, image_of, life, push_frame};
+use case_runs::{BEGINNING, FENCE, Open, TELECOMMAND, life, push_frame};
+use case_units::{TELECOMMAND_SENDER, image_of_sender};
 use sdls_outside::MemSite;
 use sdls_run::status::SITE_FAULT;
 use std::test::Fail;
 
-/// A plan of a telecommand channel that is sent, of 168 octets, with blocks of 4.
-const PLAN: &[u8] = b"sdls 1
-device d0000001
-slots 16
-block 4
-accept 1
-link 0 tc seg nofecf -
-channel 0 0 42 5 3
-key 32769 active 2b7e151628aed2a6abf7158809cf4f3c
-sa 7 send cmac 32769 1 1 0
-";
-
-/// The site's call that syncs the gate of the second entry. Calls 0 to 21 open the image, 22 to 25 append the first entry, 26 puts the
-/// first answer, and 27 to 30 append the second entry.
+/// The site's call that syncs the gate of the second entry. Calls 0 to 21 open the image, 22 to 25 append the first
+/// entry, 26 puts the first answer, and 27 to 30 append the second entry.
 const SYNC_OF_THE_SECOND_GATE: u64 = 30;
 
 // The codes of answers.
@@ -28,8 +17,9 @@ const FAILED: u8 = 0x31;
 
 const STOPPED: u8 = 0x32;
 
-/// One frame is answered, so that numbers to 4 are reserved. Then sixteen lanes protect six frames each, and the site fails at the next
-/// reserve: that lane tells the fault, the three numbers that are left are used, and all other frames are refused.
+/// One frame is answered, so that numbers to 4 are reserved. Then sixteen lanes protect six frames each, and the site
+/// fails at the next reserve: that lane tells the fault, the three numbers that are left are used, and all other frames
+/// are refused.
 #[test]
 fn a_fault_under_one_lane_stops_the_others(rt: HostRuntime) -> Result<(), Fail> {
     let alloc = rt.alloc();
@@ -42,7 +32,8 @@ fn a_fault_under_one_lane_stops_the_others(rt: HostRuntime) -> Result<(), Fail> 
         }
     }
     let failing = vec![in alloc; SYNC_OF_THE_SECOND_GATE]?;
-    let site = MemSite::new(alloc, image_of(alloc, PLAN, 168)?, failing, None);
+    let image = image_of_sender(alloc, 16, 4, TELECOMMAND_SENDER).ok_or("no image")?;
+    let site = MemSite::new(alloc, image, failing, None);
     let (status, entries, site) = life(&rt, alloc, input, site, &Open)?;
     assert_eq!(rt; (status, entries), (SITE_FAULT, 2));
     let heads = heads(alloc, site.sunk(), 98)?;

@@ -3,9 +3,10 @@ ghost use Rattle.std.specs.Prelude.{true};
 ghost use Rattle.sdls_outside.specs.contracts.mem_site.MemSiteSite.TheImpl.Laws as mem_laws;
 
 use crate::answers::heads;
-use crate::meeting::{PLAN, STOP};
-use crate::support::{BEGINNING, TELECOMMAND, image_of, life};
+use crate::meeting::STOP;
 use crate::waits::Flag;
+use case_runs::{BEGINNING, TELECOMMAND, life};
+use case_units::{TWO_SENDERS, image_of_sender};
 use sdls_outside::{Failed, MemSite, Site};
 use sdls_run::Gate;
 use sdls_run::status::DONE;
@@ -108,8 +109,9 @@ impl<'a> Site for Watched<'a> {
     }
 }
 
-/// Lane 0 protects two frames, and lane 1 stops an association of another channel between them. While the stop is being stored, under
-/// the turn, the second frame is protected: it needs the permit of the first, since a new one would need the turn.
+/// Lane 0 protects two frames, and lane 1 stops an association of another channel between them. While the stop is being
+/// stored, under the turn, the second frame is protected: it needs the permit of the first, since a new one would need
+/// the turn.
 #[test]
 fn a_lane_with_a_permit_takes_no_turn(rt: HostRuntime) -> Result<(), Fail> {
     let alloc = rt.alloc();
@@ -117,9 +119,10 @@ fn a_lane_with_a_permit_takes_no_turn(rt: HostRuntime) -> Result<(), Fail> {
     for record in [TELECOMMAND, STOP, TELECOMMAND] {
         input.extend_from_slice(record)?;
     }
+    let image = image_of_sender(alloc, 16, 64, TWO_SENDERS).ok_or("no image")?;
     let watch = Watch::new();
     let site = Watched {
-        inside: MemSite::new(alloc, image_of(alloc, PLAN, 280)?, Vec::new(alloc), None),
+        inside: MemSite::new(alloc, image, Vec::new(alloc), None),
         watch: &watch,
     };
     let (status, entries, site) = life(&rt, alloc, input, site, &watch)?;

@@ -18,6 +18,4 @@ mod order;
 #[cfg(test)]
 mod stops;
 #[cfg(test)]
-mod support;
-#[cfg(test)]
 mod waits;

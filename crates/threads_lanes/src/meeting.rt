@@ -1,27 +1,12 @@
 // Lanes beside each other, seen by a gate that holds a lane until another was seen.
 use crate::answers::heads;
-use crate::support::{BEGINNING, TELECOMMAND, image_of, life};
 use crate::waits::Flag;
+use case_runs::{BEGINNING, TELECOMMAND, life};
+use case_units::{TWO_SENDERS, image_of_sender};
 use sdls_outside::MemSite;
 use sdls_run::Gate;
 use sdls_run::status::DONE;
 use std::test::Fail;
-
-/// A plan of a telecommand and a telemetry channel that are sent, of 280 octets, with blocks of 64.
-pub(crate) const PLAN: &[u8] = b"sdls 1
-device d0000001
-slots 16
-block 64
-accept 1
-link 0 tc seg nofecf -
-link 1 tm 64 fecf -
-channel 0 0 42 5 3
-channel 1 1 42 2 -
-key 32769 active 2b7e151628aed2a6abf7158809cf4f3c
-key 256 active 000102030405060708090a0b0c0d0e0f
-sa 7 send cmac 32769 1 1 0
-sa 9 send gcm 256 1 1 1
-";
 
 /// The stop of association 9, on lane 1.
 pub(crate) const STOP: &[u8] = b"\x03\x01\x00\x00\x00\x05\x1e\x00\x10\x00\x09";
@@ -56,8 +41,8 @@ impl Gate for Meeting {
     fn done(&self, _lane: u8, _index: u64) {}
 }
 
-/// The lanes of a segment run at the same time: one thread would wait for itself. A stop on one lane stops no frame on the other,
-/// and each frame behind it on its own.
+/// The lanes of a segment run at the same time: one thread would wait for itself. A stop on one lane stops no frame on
+/// the other, and each frame behind it on its own.
 #[test]
 fn two_lanes_run_beside_each_other(rt: HostRuntime) -> Result<(), Fail> {
     let alloc = rt.alloc();
@@ -73,7 +58,8 @@ fn two_lanes_run_beside_each_other(rt: HostRuntime) -> Result<(), Fail> {
         second: Flag::new(),
         missed: Flag::new(),
     };
-    let site = MemSite::new(alloc, image_of(alloc, PLAN, 280)?, Vec::new(alloc), None);
+    let image = image_of_sender(alloc, 16, 64, TWO_SENDERS).ok_or("no image")?;
+    let site = MemSite::new(alloc, image, Vec::new(alloc), None);
     let (status, entries, site) = life(&rt, alloc, input, site, &gate)?;
     assert!(rt; !gate.missed.is_set());
     // a reserve, the stop, and a release

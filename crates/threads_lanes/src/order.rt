@@ -1,21 +1,10 @@
 // Records of one lane alone.
 use crate::answers::heads;
-use crate::support::{BEGINNING, Open, image_of, life, push_frame};
+use case_runs::{BEGINNING, Open, life, push_frame};
+use case_units::{TELECOMMAND_SENDER, image_of_sender};
 use sdls_outside::MemSite;
 use sdls_run::status::DONE;
 use std::test::Fail;
-
-/// A plan of a telecommand channel that is sent, of 171 octets, with blocks of 1,024.
-const PLAN: &[u8] = b"sdls 1
-device d0000001
-slots 16
-block 1024
-accept 1
-link 0 tc seg nofecf -
-channel 0 0 42 5 3
-key 32769 active 2b7e151628aed2a6abf7158809cf4f3c
-sa 7 send cmac 32769 1 1 0
-";
 
 /// The most records of a segment, on one lane, are answered in order: number after number.
 #[test]
@@ -25,7 +14,8 @@ fn one_lane_answers_number_after_number(rt: HostRuntime) -> Result<(), Fail> {
     for _ in 0..1024 {
         push_frame(&mut input, 15)?;
     }
-    let site = MemSite::new(alloc, image_of(alloc, PLAN, 171)?, Vec::new(alloc), None);
+    let image = image_of_sender(alloc, 16, 1024, TELECOMMAND_SENDER).ok_or("no image")?;
+    let site = MemSite::new(alloc, image, Vec::new(alloc), None);
     let (status, entries, site) = life(&rt, alloc, input, site, &Open)?;
     // One reserve: its mark is the number that comes next, so that nothing is released.
     assert_eq!(rt; (status, entries), (DONE, 1));

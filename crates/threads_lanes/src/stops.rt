@@ -1,22 +1,11 @@
 // A stop on one of sixteen lanes.
 use crate::answers::{counted, heads, numbers_of};
-use crate::support::{BEGINNING, Open, image_of, life, push_frame};
+use case_runs::{BEGINNING, Open, life, push_frame};
+use case_units::{TELECOMMAND_SENDER, image_of_sender};
 use sdls_outside::MemSite;
 use sdls_run::status::DONE;
 use std::alloc::{AllocError, Global};
 use std::test::Fail;
-
-/// A plan of a telecommand channel that is sent, of 169 octets, with blocks of 64.
-const PLAN: &[u8] = b"sdls 1
-device d0000001
-slots 16
-block 64
-accept 1
-link 0 tc seg nofecf -
-channel 0 0 42 5 3
-key 32769 active 2b7e151628aed2a6abf7158809cf4f3c
-sa 7 send cmac 32769 1 1 0
-";
 
 /// The stop of association 7, on lane 5.
 const STOP: &[u8] = b"\x03\x05\x00\x00\x00\x05\x1e\x00\x10\x00\x07";
@@ -48,12 +37,13 @@ fn records(alloc: Global) -> Result<Vec<u8>, AllocError> {
     Ok(input)
 }
 
-/// Each frame is answered by the state of its own position: on the lane of the stop those before it are protected, and those
-/// behind it are not. On another lane a frame may come before the stop or behind it, and its position says which.
+/// Each frame is answered by the state of its own position: on the lane of the stop those before it are protected, and
+/// those behind it are not. On another lane a frame may come before the stop or behind it, and its position says which.
 #[test]
 fn each_frame_is_judged_at_its_position(rt: HostRuntime) -> Result<(), Fail> {
     let alloc = rt.alloc();
-    let site = MemSite::new(alloc, image_of(alloc, PLAN, 169)?, Vec::new(alloc), None);
+    let image = image_of_sender(alloc, 16, 64, TELECOMMAND_SENDER).ok_or("no image")?;
+    let site = MemSite::new(alloc, image, Vec::new(alloc), None);
     let (status, _, site) = life(&rt, alloc, records(alloc)?, site, &Open)?;
     assert_eq!(rt; status, DONE);
     let heads = heads(alloc, site.sunk(), RECORDS + 1)?;

@@ -3,7 +3,8 @@ ghost use Rattle.shared_unit.specs.Permit.{IsOfPermit, IsTrueFor};
 ghost use Rattle.shared_unit.specs.Turn.{IsReady};
 ghost use Rattle.counter_table.specs.Worker.{view};
 
-use crate::setting::{CLEAR, PLAN, opened};
+use crate::setting::{CLEAR, opened};
+use case_units::{TELECOMMAND_SENDER, image_of_sender};
 use sdls_outside::MemSite;
 use shared_unit::{Permit, PermitReply, Ready, Unit, Worker};
 use std::sync::Wait;
@@ -48,7 +49,8 @@ fn stale_epoch(unit: &Unit<MemSite>, mut worker: Worker<MemSite>, permit: &Permi
 #[test]
 fn a_stop_makes_the_other_threads_permit_stale(rt: HostRuntime) -> Result<(), Fail> {
     let alloc = rt.alloc();
-    let (unit, mut first) = opened(&rt, alloc, PLAN, 16, Vec::new(alloc)).ok_or("no unit")?;
+    let image = image_of_sender(alloc, 16, 4, TELECOMMAND_SENDER).ok_or("no image")?;
+    let (unit, mut first) = opened(&rt, alloc, image, Vec::new(alloc)).ok_or("no unit")?;
     let mut second = unit.split(&mut first);
     let PermitReply::Permit(permit) = unit.permit(&rt, &mut second, 0, &CLEAR) else {
         panic!(rt; "the association is operational")

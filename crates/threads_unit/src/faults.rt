@@ -1,6 +1,7 @@
 ghost use Rattle.shared_unit.specs.Turn.{IsReady};
 
-use crate::setting::{CLEAR, PLAN, opened};
+use crate::setting::{CLEAR, opened};
+use case_units::{TELECOMMAND_SENDER, image_of_sender};
 use sdls_outside::MemSite;
 use shared_unit::{Protected, Unit, Worker};
 use std::sync::Wait;
@@ -8,7 +9,8 @@ use std::test::Fail;
 use std::thread::{Threads, join};
 use unit_book::BookFault;
 
-/// The site's call that syncs the gate of the first entry: calls 0 to 21 open the image, and 22 to 25 append that entry.
+/// The site's call that syncs the gate of the first entry: calls 0 to 21 open the image, and 22 to 25 append that
+/// entry.
 const SYNC_OF_THE_GATE: u64 = 25;
 
 // Why a frame is not protected, and after how many entries.
@@ -42,7 +44,8 @@ fn fault_there<R: Threads + Wait + Sync>(
 fn a_fault_under_the_turn_stops_the_other_thread(rt: HostRuntime) -> Result<(), Fail> {
     let alloc = rt.alloc();
     let failing = vec![in alloc; SYNC_OF_THE_GATE]?;
-    let (unit, mut first) = opened(&rt, alloc, PLAN, 16, failing).ok_or("no unit")?;
+    let image = image_of_sender(alloc, 16, 4, TELECOMMAND_SENDER).ok_or("no image")?;
+    let (unit, mut first) = opened(&rt, alloc, image, failing).ok_or("no unit")?;
     let second = unit.split(&mut first);
     assert_eq!(rt;
         fault_there(&rt, &unit, first),

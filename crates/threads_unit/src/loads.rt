@@ -1,6 +1,7 @@
 ghost use Rattle.shared_unit.specs.Turn.{IsReady};
 
 use crate::setting::opened;
+use case_units::image_of;
 use ep_core::Reply;
 use sdls_outside::MemSite;
 use shared_unit::{Protected, Unit, Worker};
@@ -23,8 +24,8 @@ key 33000 active 44444444444444444444444444444444
 sa 1 receive cmac 33000 1 1000 0
 ";
 
-/// Loads keys 256 and 32769 under the master key, activates both, makes association 2 on the telemetry channel, keys it with key 256 from
-/// number 2 on, and starts it. The load was sealed by another program.
+/// Loads keys 256 and 32769 under the master key, activates both, makes association 2 on the telemetry channel, keys it
+/// with key 256 from number 2 on, and starts it. The load was sealed by another program.
 const MESSAGES: [&[u8]; 5] = [
     b"\x01\x02\xa0\x00\x01\x00\x00\x00\x00\x00\x00\x00\x00\x00\x00\x00\x01\xc6\x85\x49\xec\x28\x65\x2b\xb4\xd4\xa8\xb6\x92\x43\x46\x09\xad\
       \x5e\x78\xb0\xf8\x66\x75\x83\xaf\x4e\x90\x82\x0d\xea\xcd\x1b\x98\x7f\x16\xca\x31\x28\x8a\xd2\x45\x78\x36\x9d\x62\x24\x47\x3f\xd9\xb6\
@@ -82,7 +83,8 @@ fn protected<R: Wait>(
 #[test]
 fn loaded_keys_are_used_at_once(rt: HostRuntime) -> Result<(), Fail> {
     let alloc = rt.alloc();
-    let (unit, mut first) = opened(&rt, alloc, PLAN, 64, Vec::new(alloc)).ok_or("no unit")?;
+    let image = image_of(alloc, PLAN, 64).ok_or("no image")?;
+    let (unit, mut first) = opened(&rt, alloc, image, Vec::new(alloc)).ok_or("no unit")?;
     let second = unit.split(&mut first);
     assert!(rt; keyed_there(&rt, &unit, first));
     // The association was keyed with the number 2.

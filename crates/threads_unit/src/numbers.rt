@@ -1,7 +1,8 @@
 ghost use Rattle.std.specs.Prelude.{IfSome};
 ghost use Rattle.shared_unit.specs.Turn.{IsReady};
 
-use crate::setting::{CLEAR, WIDE, opened};
+use crate::setting::{CLEAR, opened};
+use case_units::{TELECOMMAND_SENDER, image_of_sender};
 use sdls_outside::MemSite;
 use shared_unit::{Protected, Unit, Worker};
 use std::alloc::Global;
@@ -58,7 +59,8 @@ fn protected_on_two<R: Threads + Wait + Sync>(
 #[test]
 fn two_threads_protect_under_one_key(rt: HostRuntime) -> Result<(), Fail> {
     let alloc = rt.alloc();
-    let (unit, mut first) = opened(&rt, alloc, WIDE, 512, Vec::new(alloc)).ok_or("no unit")?;
+    let image = image_of_sender(alloc, 512, 64, TELECOMMAND_SENDER).ok_or("no image")?;
+    let (unit, mut first) = opened(&rt, alloc, image, Vec::new(alloc)).ok_or("no unit")?;
     let second = unit.split(&mut first);
     let (mut worker, mut numbers, others) = protected_on_two(
         &rt, alloc, &unit, first, second,

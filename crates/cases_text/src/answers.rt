@@ -1,21 +1,9 @@
-//! Tables of answers, for the lines of `answer_text`. A line of standard input is a case: the octets of answers, in
-//! hexadecimal words. What is printed is the lines of the answers, and `|` where one ends, then why no line follows.
-#![tactic(auto)]
-
+// Answers, as lines.
 use answer_text::{AnswersEnd, Listing};
+use case_lines::octets;
 use sdls_outside::MemSource;
 use std::alloc::Global;
 use std::str;
-
-/// The octets that the words of a case spell.
-fn octets_of(alloc: Global, case: &str) -> anyhow::Result<Vec<u8>> {
-    let mut octets = Vec::new(alloc);
-    for word in case.split_whitespace() {
-        let part = hex::decode(alloc, word)?;
-        octets.extend_from_slice(&part)?;
-    }
-    Ok(octets)
-}
 
 /// Puts the lines of the octets, which come in pieces of 7, and answers why no line follows.
 fn put_lines(alloc: Global, text: &mut Vec<u8>, octets: Vec<u8>) -> AnswersEnd {
@@ -29,10 +17,14 @@ fn put_lines(alloc: Global, text: &mut Vec<u8>, octets: Vec<u8>) -> AnswersEnd {
     AnswersEnd::Whole
 }
 
-/// The lines of a case, one behind the other, and its end.
-fn answer(alloc: Global, case: &str) -> anyhow::Result<String> {
+/// The lines of a case, one behind the other with `|` where one ends, and its end.
+pub fn answer(alloc: Global, case: &str) -> anyhow::Result<String> {
     let mut text = Vec::new(alloc);
-    let end = put_lines(alloc, &mut text, octets_of(alloc, case)?);
+    let end = put_lines(
+        alloc,
+        &mut text,
+        octets(alloc, &mut case.split_whitespace())?,
+    );
     for octet in text.iter_mut() {
         if *octet == b'\n' {
             *octet = b'|';
@@ -46,13 +38,4 @@ fn answer(alloc: Global, case: &str) -> anyhow::Result<String> {
         AnswersEnd::SourceFault => Ok(format!(in alloc; "{lines} source fault")?),
         AnswersEnd::NoMemory => Ok(format!(in alloc; "{lines} no memory")?),
     }
-}
-
-fn main(rt: HostRuntime) -> anyhow::Result<()> {
-    for line in rt.lines(rt.alloc()) {
-        let line = line?;
-        let answer = answer(rt.alloc(), line.as_str())?;
-        println!(rt; "{answer}")?;
-    }
-    Ok(())
 }

@@ -1,17 +1,14 @@
-//! Tables of recorded input, for the lines of `item_text`. A line of standard input is a case: the octets of items behind
-//! the beginning, in hexadecimal digits. What is printed is the lines of these items, up to the end or the first octets
-//! that are none; then `/` and the offset of these in the input.
-#![tactic(auto)]
-
+// Items of recorded input, as lines.
 use item_text::{put_fence, put_record};
 use record_io::{Reader, SegmentEnd};
 use sdls_outside::SureSource;
 use std::alloc::Global;
+use std::str;
 
 /// The most segments that are read of a case.
 const MOST_SEGMENTS: u32 = 64;
 
-/// The recorded input of a case.
+/// The recorded input of a case, whose octets are the items behind the beginning.
 fn input_of(alloc: Global, case: &str) -> anyhow::Result<SureSource> {
     let mut octets = b"SDLSREC1".to_vec(alloc)?;
     let items = hex::decode(alloc, case.as_bytes())?;
@@ -19,8 +16,8 @@ fn input_of(alloc: Global, case: &str) -> anyhow::Result<SureSource> {
     Ok(SureSource::new(octets))
 }
 
-/// Puts the lines of the next segment, and answers how it ends. No case has so many records that a segment ends without a
-/// fence.
+/// Puts the lines of the next segment, and answers how it ends. No case has so many records that a segment ends without
+/// a fence.
 fn put_segment(
     alloc: Global,
     reader: &mut Reader,
@@ -37,9 +34,9 @@ fn put_segment(
     Ok(end)
 }
 
-/// Prints the lines of a case.
-fn print_case(rt: &HostRuntime, case: &str) -> anyhow::Result<()> {
-    let alloc = rt.alloc();
+/// The lines of the items of a case, up to the end or the first octets that are none; then `/` and the offset of these
+/// in the input.
+pub fn answer(alloc: Global, case: &str) -> anyhow::Result<Option<String>> {
     let mut input = input_of(alloc, case)?;
     let mut reader = Reader::new();
     let mut text = Vec::new(alloc);
@@ -50,17 +47,12 @@ fn print_case(rt: &HostRuntime, case: &str) -> anyhow::Result<()> {
         }
         end = put_segment(alloc, &mut reader, &mut input, &mut text)?;
     }
-    print!(rt; "{}", String::from_utf8(text)?)?;
+    let lines = str::from_utf8(&text)?;
     if let SegmentEnd::Malformed(offset) = end {
-        println!(rt; "/ {offset}")?;
+        return Ok(Some(format!(in alloc; "{lines}/ {offset}")?));
     }
-    Ok(())
-}
-
-fn main(rt: HostRuntime) -> anyhow::Result<()> {
-    for line in rt.lines(rt.alloc()) {
-        let line = line?;
-        print_case(&rt, line.as_str())?;
+    match lines.strip_suffix("\n") {
+        Some(lines) => Ok(Some(format!(in alloc; "{lines}")?)),
+        None => Ok(None),
     }
-    Ok(())
 }

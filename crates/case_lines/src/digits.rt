@@ -1,0 +1,59 @@
+//! Octets, in hexadecimal digits and as numbers.
+use crate::words::{number_at, word_at};
+use std::alloc::Global;
+use std::str::SplitWhitespace;
+
+/// The octets of the next word, none of `-` and where there is no word.
+pub fn piece(alloc: Global, words: &mut SplitWhitespace<'_>) -> anyhow::Result<Vec<u8>> {
+    match words.next() {
+        Some("-") | None => Ok(Vec::new(alloc)),
+        Some(word) => Ok(hex::decode(alloc, word)?),
+    }
+}
+
+/// The octets of the words that are left. Behind a word `xN` the next one stands N times.
+pub fn octets(alloc: Global, words: &mut SplitWhitespace<'_>) -> anyhow::Result<Vec<u8>> {
+    let mut octets = Vec::new(alloc);
+    let mut times: u32 = 1;
+    for word in words {
+        match word.strip_prefix("x") {
+            Some(count) => times = count.parse().unwrap_or(1),
+            None => {
+                let part = hex::decode(alloc, word)?;
+                for _ in 0..times {
+                    octets.extend_from_slice(&part)?;
+                }
+                times = 1;
+            }
+        }
+    }
+    Ok(octets)
+}
+
+/// Some of these octets, in digits: `OFFSET LENGTH`. None where they do not reach so far.
+pub fn part_of(alloc: Global, octets: &[u8], line: &str) -> anyhow::Result<String> {
+    let from = usize::try_from(number_at(line, 0)).unwrap_or(0);
+    let to = from.saturating_add(usize::try_from(number_at(line, 1)).unwrap_or(0));
+    Ok(hex::encode(alloc, octets.get(from..to).unwrap_or(&[]))?)
+}
+
+/// Puts octets over some of these, as far as these reach: `OFFSET OCTETS`.
+pub fn set_part_of(alloc: Global, octets: &mut [u8], line: &str) -> anyhow::Result<()> {
+    let at = usize::try_from(number_at(line, 0)).unwrap_or(usize::MAX);
+    let part = hex::decode(alloc, word_at(line, 1))?;
+    for (i, octet) in part.iter().enumerate() {
+        if let Some(place) = octets.get_mut(at.saturating_add(i)) {
+            *place = *octet;
+        }
+    }
+    Ok(())
+}
+
+/// The number that these octets are, the first being the most significant.
+pub fn number_of(octets: &[u8]) -> u64 {
+    let mut number = 0u64;
+    for octet in octets {
+        number = number.wrapping_mul(256).wrapping_add(u64::from(*octet));
+    }
+    number
+}

@@ -1,0 +1,21 @@
+//! What the programs of tables share: the loop over the lines of standard input, the words of a line, and how names and
+//! octets are printed. No part of the unit.
+//!
+//! `print_answers` is the loop, and `Answers` what a program says of its lines. The readers of words take a line's
+//! words one after the other, or a word at its place.
+#![tactic(auto)]
+
+mod answers;
+mod digits;
+mod gathered;
+mod names;
+mod words;
+
+pub use answers::{Answers, print_answers};
+pub use digits::{number_of, octets, part_of, piece, set_part_of};
+pub use gathered::Gathered;
+pub use names::{direction_name, key_state_name, sa_state_name, suite_name};
+pub use words::{
+    channel, direction, flag, key, key_state, number, number_at, numbers, octet, sa_state, short,
+    spi, suite, word_at, words_of,
+};

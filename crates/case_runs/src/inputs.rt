@@ -1,0 +1,31 @@
+//! Recorded inputs.
+use std::alloc::{AllocError, Global};
+
+/// What an input begins with.
+pub const BEGINNING: &[u8] = b"SDLSREC1";
+
+/// A fence.
+pub const FENCE: &[u8] = &[0; 6];
+
+/// A recorded telecommand frame of link 0 with an empty data field, on lane 0: the header of the record, then six
+/// octets.
+pub const TELECOMMAND: &[u8] = b"\x01\x00\x00\x00\x00\x06\x00\x2a\x14\x05\x09\xc3";
+
+/// The pieces, one behind the other.
+pub fn joined(alloc: Global, pieces: &[&[u8]]) -> Result<Vec<u8>, AllocError> {
+    let mut octets = Vec::new(alloc);
+    for piece in pieces {
+        octets.extend_from_slice(piece)?;
+    }
+    Ok(octets)
+}
+
+/// Appends a recorded telecommand frame on this lane.
+pub fn push_frame(input: &mut Vec<u8>, lane: u8) -> Result<(), AllocError> {
+    let at = input.len() + 1;
+    input.extend_from_slice(TELECOMMAND)?;
+    if let Some(octet) = input.get_mut(at) {
+        *octet = lane;
+    }
+    Ok(())
+}

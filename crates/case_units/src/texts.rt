@@ -1,0 +1,68 @@
+//! What answers look like.
+use case_lines::sa_state_name;
+use ep_core::Reply;
+use frame_checks::OpenReply;
+use frame_shield::ShieldFault;
+use std::alloc::{AllocError, Global};
+
+/// Why a frame is not protected.
+pub fn shield_fault_text(alloc: Global, fault: ShieldFault) -> Result<String, AllocError> {
+    match fault {
+        ShieldFault::Layout(check) => format!(in alloc; "layout {check}"),
+        ShieldFault::Channel => format!(in alloc; "channel"),
+        ShieldFault::State => format!(in alloc; "state"),
+    }
+}
+
+/// The reply to a frame, with the data field in the frame as it was left.
+pub fn open_reply_text(
+    alloc: Global,
+    reply: OpenReply,
+    frame: &[u8],
+) -> Result<String, AllocError> {
+    match reply {
+        OpenReply::Accepted {
+            spi,
+            key,
+            number,
+            from,
+            to,
+        } => {
+            let (spi, key) = (spi.get(), key.get());
+            let field = hex::encode(alloc, frame.get(from..to).unwrap_or(&[]))?;
+            format!(in alloc; "accepted {spi} {key} {number} {field}")
+        }
+        OpenReply::Clear => format!(in alloc; "clear"),
+        OpenReply::Layout(check) => format!(in alloc; "layout {check}"),
+        OpenReply::Channel => format!(in alloc; "channel"),
+        OpenReply::Spi => format!(in alloc; "spi"),
+        OpenReply::Direction => format!(in alloc; "direction"),
+        OpenReply::State(state) => {
+            let state = sa_state_name(state);
+            format!(in alloc; "state {state}")
+        }
+        OpenReply::Coverage => format!(in alloc; "coverage"),
+        OpenReply::Mac => format!(in alloc; "mac"),
+        OpenReply::Number {
+            key,
+            number,
+            high,
+            width,
+        } => {
+            let key = key.get();
+            format!(in alloc; "number {key} {number} high {high} width {width}")
+        }
+    }
+}
+
+/// The reply to a command: key, number and message, or the detail in hexadecimal and the value.
+pub fn reply_text(alloc: Global, reply: &Reply) -> Result<String, AllocError> {
+    match reply {
+        Reply::Done { key, number, pdu } => {
+            let key = key.map_or(0, |key| key.get());
+            let pdu = hex::encode(alloc, pdu.as_slice())?;
+            format!(in alloc; "done {key} {number} {pdu}")
+        }
+        Reply::Refused { code, value } => format!(in alloc; "refused {code:02x} {value}"),
+    }
+}
