@@ -6,11 +6,14 @@ use Rattle.std.specs.Int.{w16, w64, from_be_bytes, to_be_bytes}
 use Rattle.std.proofs.Math.Seq.{take-append_seam, drop-append_seam}
 use Rattle.std.specs.Str.{bytes_eq}
 use Rattle.std.proofs.lemmas.Slice.Eq.{bytes_eq-Decides}
-use Rattle.std.proofs.lemmas.Bool.{true≢false}
+use Rattle.std.proofs.lemmas.Bool.{true≢false, ne_eqb}
 use Rattle.std.proofs.lemmas.List.{drop-drop, get_or-drop}
 use Rattle.std.proofs.lemmas.List.Elements.{recursion_from_All, All-from_recursion}
 use Rattle.std.proofs.lemmas.Nat.{from_be_bytes-to_be_bytes_2, from_be_bytes-to_be_bytes_8}
-use Rattle.sdls_base.specs.Bounds.{AreChannels, IsKeyLength}
+use Rattle.sdls_base.specs.Bounds.{AreChannels, IsKeyLength, IsKeyCount}
+use Rattle.sdls_base.specs.Code.{key_state_code, new_state_code, direction_code, suite_code, key_state_of}
+use Rattle.sdls_base.specs.Spelling.{item_octets, association_octets}
+use Rattle.sdls_base.proofs.Codes.{key_state_again, new_state_again, direction_again, suite_again}
 use Rattle.sdls_base.specs.declared.change.Change.{Change}
 use Rattle.sdls_base.specs.declared.change.Change.TheVariants.{Marks, Load, KeyStates, Create, Rekey, SaTo, SetNumber, SetWindow, Accepted, Nothing}
 use Rattle.sdls_base.specs.declared.key_item.KeyItem.{KeyItem}
@@ -26,19 +29,12 @@ use Rattle.book_record.specs.declared.kind.Kind.{Kind}
 use Rattle.book_record.specs.declared.kind.Kind.TheVariants as kinds
 use Rattle.book_record.specs.declared.record_error.RecordError.{RecordError}
 use Rattle.book_record.specs.declared.record_error.RecordError.TheVariants.{Malformed, NoMemory}
-use Rattle.book_record.specs.Code.{key_state_code, sa_state_code, direction_code, suite_code}
 use Rattle.book_record.specs.Kind.{kind_of}
-use Rattle.book_record.specs.Record.{body_of, item_octets, association_octets, record_octets, HasRecord, HasTypes, IsRecord, IsCount, IsKey, IsSpi}
-use Rattle.book_record.specs.Reading.{HasCause, octet_at, word_at, number_at, IsWithin, key_state_of, sa_state_of, direction_of, suite_of, keys_in, AreKeys, item_at, behind_item, items_in, AreItems, channels_at, change_at, MayStand}
+use Rattle.book_record.specs.Record.{body_of, record_octets, HasRecord, HasTypes, IsRecord, IsKey, IsSpi}
+use Rattle.book_record.specs.Reading.{HasCause, octet_at, word_at, number_at, IsWithin, keys_in, AreKeys, item_at, behind_item, items_in, AreItems, channels_at, change_at, MayStand}
 use Rattle.book_record.proofs.Lists.{item_end, item_length}
 
 -- ---- codes
-
-key_state_again : (state : KeyState) → state ≢ PreActive → key_state_of (key_state_code state) ≡ state
-key_state_again PreActive not = absurd (not refl)
-key_state_again Active not = refl
-key_state_again Deactivated not = refl
-key_state_again Destroyed not = refl
 
 key_state_within : (state : KeyState) → state ≢ PreActive → IsWithin 2 4 (key_state_code state)
 key_state_within PreActive not = absurd (not refl)
@@ -46,29 +42,15 @@ key_state_within Active not = record { from = omega arith; to = omega arith }
 key_state_within Deactivated not = record { from = omega arith; to = omega arith }
 key_state_within Destroyed not = record { from = omega arith; to = omega arith }
 
-sa_state_again : (to : Option SaState) → sa_state_of (sa_state_code to) ≡ to
-sa_state_again None = refl
-sa_state_again (Some Unkeyed) = refl
-sa_state_again (Some Keyed) = refl
-sa_state_again (Some Operational) = refl
-
-sa_state_within : (to : Option SaState) → sa_state_code to ≤ 3
-sa_state_within None = omega arith
-sa_state_within (Some Unkeyed) = omega arith
-sa_state_within (Some Keyed) = omega arith
-sa_state_within (Some Operational) = omega arith
-
-direction_again : (direction : Direction) → direction_of (direction_code direction) ≡ direction
-direction_again Send = refl
-direction_again Receive = refl
+new_state_within : (to : Option SaState) → new_state_code to ≤ 3
+new_state_within None = omega arith
+new_state_within (Some Unkeyed) = omega arith
+new_state_within (Some Keyed) = omega arith
+new_state_within (Some Operational) = omega arith
 
 direction_within : (direction : Direction) → IsWithin 1 2 (direction_code direction)
 direction_within Send = record { from = omega arith; to = omega arith }
 direction_within Receive = record { from = omega arith; to = omega arith }
-
-suite_again : (suite : Suite) → suite_of (suite_code suite) ≡ suite
-suite_again Cmac = refl
-suite_again Gcm = refl
 
 suite_within : (suite : Suite) → IsWithin 1 2 (suite_code suite)
 suite_within Cmac = record { from = omega arith; to = omega arith }
@@ -160,7 +142,7 @@ again (KeyStates ids to) is bounds =
     let body = body_of 3 data_octets in
     let read = keys_again ids 5 body (replicate (511 - (3 + length data_octets)) 0) (recursion_from_All IsKey ids is) refl in
     let f = read.same in
-    let g = key_state_again to bounds.0 in
+    let g = key_state_again to in
     record { kind = kinds.KeyStates; found = refl; may = (key_state_within to bounds.0, bounds.1, read.may); value = λ i. KeyStates (f i) (g i) }
 again (Create new) is bounds =
     let data_octets = association_octets new in
@@ -185,8 +167,8 @@ again (Rekey spi key number) is bounds =
 again (SaTo spi to) is bounds =
     let body = record_octets (SaTo spi to) in
     let e : word_at 3 body ≡ spi = spi_again spi is in
-    let f = sa_state_again to in
-    record { kind = kinds.SaTo; found = refl; may = (subst IsSpi (sym e) is, sa_state_within to); value = λ i. SaTo (e i) (f i) }
+    let f = new_state_again to in
+    record { kind = kinds.SaTo; found = refl; may = (subst IsSpi (sym e) is, new_state_within to); value = λ i. SaTo (e i) (f i) }
 again (SetNumber spi number) is bounds =
     let body = record_octets (SetNumber spi number) in
     let e : word_at 3 body ≡ spi = spi_again spi is.0 in
@@ -257,21 +239,24 @@ items_lengths (suc n) at octets room are = (
   items_lengths n (behind_item at octets) octets (omega (arith, item_end at octets are.0)) are.1,
 )
 
-no_pre_active : (a b : Bool) → (if a then Active else (if b then Deactivated else Destroyed)) ≢ PreActive
-no_pre_active true b e = absurd cc
-no_pre_active false true e = absurd cc
-no_pre_active false false e = absurd cc
+no_pre_active : (n : ℕ) → 2 ≤ n → key_state_of n ≢ PreActive
+no_pre_active n least = later (n == 1) (n == 2) (n == 3) (ne_eqb n 1 (λ e. omega (arith, e, least))) where
+  later : (a b c : Bool) → a ≡ false → (if a then PreActive else (if b then Active else (if c then Deactivated else Destroyed))) ≢ PreActive
+  later true b c first e = absurd cc
+  later false true c first e = absurd cc
+  later false false true first e = absurd cc
+  later false false false first e = absurd cc
 
 pub has_record : (kind : Kind) (body : List ℕ) → length body ≡ 511 → MayStand kind body → HasRecord (change_at kind body)
 unfolding HasRecord MayStand change_at
 has_record kinds.Marks body n may = tt
 has_record kinds.Load body n may =
     let count = octet_at 3 body in (
-      subst IsCount (sym (items_count count 4 body)) may.0,
+      subst IsKeyCount (sym (items_count count 4 body)) may.0,
       All-from_recursion (λ item. IsKeyLength (length item.bytes)) (items_in count 4 body) (items_lengths count 4 body (omega (arith, may.0.most)) may.1),
     )
 has_record kinds.KeyStates body n may =
-    (no_pre_active (octet_at 3 body == 2) (octet_at 3 body == 3), subst IsCount (sym (keys_count (octet_at 4 body) 5 body)) may.1)
+    (no_pre_active (octet_at 3 body) may.0.from, subst IsKeyCount (sym (keys_count (octet_at 4 body) 5 body)) may.1)
 has_record kinds.Create body n may = may.3
 has_record kinds.Rekey body n may = tt
 has_record kinds.SaTo body n may = tt

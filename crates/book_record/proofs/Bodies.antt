@@ -2,7 +2,7 @@
 use Rattle.std.proofs.Common.{◌≡◌, ℕ, ◌+◌, ◌-◌, ◌≤◌, List, ◌∷◌, ◌++◌, length, take, drop, replicate, sym, ap, ◌∙◌, arith, append_assoc}
 use Rattle.std.specs.Int.{w16, to_be_bytes}
 use Rattle.std.proofs.lemmas.List.{drop-drop, drop-replicate, take-append-drop}
-use Rattle.book_record.specs.declared.layout.TheConstants.{BODY_LENGTH}
+use Rattle.sdls_base.specs.declared.TheConstants.{BODY_LENGTH}
 use Rattle.book_record.specs.Record.{body_of}
 
 -- octets that are the same from a place on are so from a later one on

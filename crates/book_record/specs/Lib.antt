@@ -1,4 +1,3 @@
-pub mod Code
 pub mod Kind
 pub mod Record
 pub mod Reading

@@ -1,25 +1,18 @@
 -- What stands at the places of a body, and when it may stand there (profile).
-use Rattle.std.specs.Prelude.{◌≡◌, ⊤, ℕ, zero, suc, ◌+◌, ◌==◌, ◌≤◌, if◌then◌else◌, List, [], ◌∷◌, take, drop, slice_index, Option, Some, None, Result, Ok, Err}
+use Rattle.std.specs.Prelude.{◌≡◌, ⊤, ℕ, zero, suc, ◌+◌, ◌≤◌, List, [], ◌∷◌, take, drop, slice_index, Option, Result, Ok, Err}
 use Rattle.std.specs.Option.{option_map}
 use Rattle.std.specs.Int.{w16, w64, from_be_bytes}
-use Rattle.sdls_base.specs.Bounds.{AreChannels, IsKeyLength}
+use Rattle.sdls_base.specs.Bounds.{AreChannels, IsKeyLength, IsKeyCount}
+use Rattle.sdls_base.specs.Code.{key_state_of, new_state_of, direction_of, suite_of}
 use Rattle.sdls_base.specs.declared.change.Change.{Change}
 use Rattle.sdls_base.specs.declared.change.Change.TheVariants.{Marks, Load, KeyStates, Create, Rekey, SaTo, SetNumber, SetWindow}
 use Rattle.sdls_base.specs.declared.key_item.KeyItem.{KeyItem}
-use Rattle.sdls_base.specs.declared.states.Direction.{Direction}
-use Rattle.sdls_base.specs.declared.states.Direction.TheVariants.{Send, Receive}
-use Rattle.sdls_base.specs.declared.states.Suite.{Suite}
-use Rattle.sdls_base.specs.declared.states.Suite.TheVariants.{Cmac, Gcm}
-use Rattle.sdls_base.specs.declared.states.KeyState.{KeyState}
-use Rattle.sdls_base.specs.declared.states.KeyState.TheVariants.{Active, Deactivated, Destroyed}
-use Rattle.sdls_base.specs.declared.states.SaState.{SaState}
-use Rattle.sdls_base.specs.declared.states.SaState.TheVariants.{Unkeyed, Keyed, Operational}
 use Rattle.book_record.specs.declared.kind.Kind.{Kind}
 use Rattle.book_record.specs.declared.kind.Kind.TheVariants as kinds
 use Rattle.book_record.specs.declared.record_error.RecordError.{RecordError}
 use Rattle.book_record.specs.declared.record_error.RecordError.TheVariants.{Malformed, NoMemory}
 use Rattle.book_record.specs.Kind.{kind_of}
-use Rattle.book_record.specs.Record.{IsCount, IsKey, IsSpi}
+use Rattle.book_record.specs.Record.{IsKey, IsSpi}
 
 -- ---- answers
 
@@ -49,24 +42,10 @@ word_at at octets = from_be_bytes w16 (take 2 (drop at octets))
 abbrev pub number_at : ℕ → List ℕ → ℕ
 number_at at octets = from_be_bytes w64 (take 8 (drop at octets))
 
--- ---- what a number that may stand there stands for
-
 -- a number from the least to the most
 pub record IsWithin (least most n : ℕ) : Type 0 where
   pub from : least ≤ n
   pub to : n ≤ most
-
-abbrev pub key_state_of : ℕ → KeyState
-key_state_of n = if n == 2 then Active else (if n == 3 then Deactivated else Destroyed)
-
-abbrev pub sa_state_of : ℕ → Option SaState
-sa_state_of n = if n == 0 then None else (if n == 1 then Some Unkeyed else (if n == 2 then Some Keyed else Some Operational))
-
-abbrev pub direction_of : ℕ → Direction
-direction_of n = if n == 1 then Send else Receive
-
-abbrev pub suite_of : ℕ → Suite
-suite_of n = if n == 1 then Cmac else Gcm
 
 -- ---- lists, from a place on
 
@@ -117,7 +96,7 @@ change_at kinds.Create octets = Create (record {
   channels = channels_at 15 octets;
 })
 change_at kinds.Rekey octets = Rekey (word_at 3 octets) (word_at 5 octets) (number_at 7 octets)
-change_at kinds.SaTo octets = SaTo (word_at 3 octets) (sa_state_of (octet_at 5 octets))
+change_at kinds.SaTo octets = SaTo (word_at 3 octets) (new_state_of (octet_at 5 octets))
 change_at kinds.SetNumber octets = SetNumber (word_at 3 octets) (number_at 5 octets)
 change_at kinds.SetWindow octets = SetWindow (word_at 3 octets) (number_at 5 octets)
 
@@ -128,9 +107,9 @@ change_of octets = option_map (λ kind. change_at kind octets) (kind_of (octet_a
 -- what stands at the places of the fields may stand there
 unfoldable pub MayStand : Kind → List ℕ → Type 0
 MayStand kinds.Marks octets = IsKey (word_at 3 octets)
-MayStand kinds.Load octets = IsCount (octet_at 3 octets) × AreItems (octet_at 3 octets) 4 octets
+MayStand kinds.Load octets = IsKeyCount (octet_at 3 octets) × AreItems (octet_at 3 octets) 4 octets
 MayStand kinds.KeyStates octets =
-    IsWithin 2 4 (octet_at 3 octets) × IsCount (octet_at 4 octets) × AreKeys (octet_at 4 octets) 5 octets
+    IsWithin 2 4 (octet_at 3 octets) × IsKeyCount (octet_at 4 octets) × AreKeys (octet_at 4 octets) 5 octets
 MayStand kinds.Create octets =
     IsSpi (word_at 3 octets) × IsWithin 1 2 (octet_at 5 octets) × IsWithin 1 2 (octet_at 6 octets) × AreChannels (channels_at 15 octets)
 MayStand kinds.Rekey octets = IsSpi (word_at 3 octets) × IsKey (word_at 5 octets)

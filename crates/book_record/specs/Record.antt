@@ -2,28 +2,18 @@
 use Rattle.std.specs.Prelude.{◌≡◌, ◌≢◌, ⊤, ℕ, ◌-◌, ◌+◌, ◌^◌, ◌<◌, ◌≤◌, List, [], ◌∷◌, ◌++◌, length, replicate}
 use Rattle.std.specs.List.{flat_map, All}
 use Rattle.std.specs.Int.{w16, w64, to_be_bytes}
-use Rattle.sdls_base.specs.Bounds.{AreChannels, IsKeyLength}
+use Rattle.sdls_base.specs.Bounds.{AreChannels, IsKeyLength, IsKeyCount}
 use Rattle.sdls_base.specs.declared.change.Change.{Change}
 use Rattle.sdls_base.specs.declared.change.Change.TheVariants.{Marks, Load, KeyStates, Create, Rekey, SaTo, SetNumber, SetWindow, Accepted, Nothing}
-use Rattle.sdls_base.specs.declared.change.NewSa.{NewSa}
-use Rattle.sdls_base.specs.declared.key_item.KeyItem.{KeyItem}
 use Rattle.sdls_base.specs.declared.states.KeyState.TheVariants.{PreActive}
-use Rattle.book_record.specs.declared.layout.TheConstants.{BODY_LENGTH}
-use Rattle.book_record.specs.Code.{key_state_code, sa_state_code, direction_code, suite_code}
+use Rattle.sdls_base.specs.declared.TheConstants.{BODY_LENGTH}
+use Rattle.sdls_base.specs.Code.{key_state_code, new_state_code}
+use Rattle.sdls_base.specs.Spelling.{item_octets, association_octets}
 
 -- a body: its kind, the length of its data in two octets, its data, zeros to the end
 abbrev pub body_of : ℕ → List ℕ → List ℕ
 body_of kind data_octets =
     kind ∷ (to_be_bytes w16 (length data_octets) ++ (data_octets ++ replicate (BODY_LENGTH - (3 + length data_octets)) 0))
-
--- a key to be loaded: its identifier, its length, its octets
-abbrev pub item_octets : KeyItem → List ℕ
-item_octets item = to_be_bytes w16 item.id ++ length item.bytes ∷ item.bytes
-
--- an association to be created, with the count of its channels before them
-abbrev pub association_octets : NewSa → List ℕ
-association_octets new = to_be_bytes w16 new.spi
-    ++ direction_code new.direction ∷ suite_code new.suite ∷ (to_be_bytes w64 new.window ++ length new.channels ∷ new.channels)
 
 -- the octets that tell the kind, and the data, of each change that is stored
 unfoldable pub record_octets : Change → List ℕ
@@ -32,23 +22,18 @@ record_octets (Load items) = body_of 2 (length items ∷ flat_map item_octets it
 record_octets (KeyStates ids to) = body_of 3 (key_state_code to ∷ length ids ∷ flat_map (to_be_bytes w16) ids)
 record_octets (Create new) = body_of 4 (association_octets new)
 record_octets (Rekey spi key number) = body_of 5 (to_be_bytes w16 spi ++ (to_be_bytes w16 key ++ to_be_bytes w64 number))
-record_octets (SaTo spi to) = body_of 6 (to_be_bytes w16 spi ++ sa_state_code to ∷ [])
+record_octets (SaTo spi to) = body_of 6 (to_be_bytes w16 spi ++ new_state_code to ∷ [])
 record_octets (SetNumber spi number) = body_of 7 (to_be_bytes w16 spi ++ to_be_bytes w64 number)
 record_octets (SetWindow spi window) = body_of 8 (to_be_bytes w16 spi ++ to_be_bytes w64 window)
 record_octets (Accepted spi key number floor) = []
 record_octets Nothing = []
 
--- a record names one to eight keys
-pub record IsCount (count : ℕ) : Type 0 where
-  pub least : 1 ≤ count
-  pub most : count ≤ 8
-
 -- The change is one that has a record: its counts, lengths, states and channels lie in their bounds. The width of a
 -- window is not bounded here.
 unfoldable pub HasRecord : Change → Type 0
 HasRecord (Marks key mark floor) = ⊤
-HasRecord (Load items) = IsCount (length items) × All (λ item. IsKeyLength (length item.bytes)) items
-HasRecord (KeyStates ids to) = (to ≢ PreActive) × IsCount (length ids)
+HasRecord (Load items) = IsKeyCount (length items) × All (λ item. IsKeyLength (length item.bytes)) items
+HasRecord (KeyStates ids to) = (to ≢ PreActive) × IsKeyCount (length ids)
 HasRecord (Create new) = AreChannels new.channels
 HasRecord (Rekey spi key number) = ⊤
 HasRecord (SaTo spi to) = ⊤

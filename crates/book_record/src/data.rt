@@ -3,8 +3,8 @@ ghost use Rattle.std.specs.Prelude.{◌≡◌, ◌+◌, ◌≤◌, [], ◌∷◌
 ghost use Rattle.std.specs.Int.{w16, w64, to_be_bytes};
 ghost use Rattle.book_record.specs.Record.{body_of};
 
-use crate::layout::{BODY_LENGTH, DATA_ROOM, HEADER};
-use sdls_base::put;
+use crate::layout::{DATA_ROOM, HEADER};
+use sdls_base::{BODY_LENGTH, put};
 use std::marker::Model;
 
 /// The data that was put so far.

@@ -1,12 +1,15 @@
 //! The fields of a body, read at their places.
 ghost use Rattle.std.specs.Prelude.{◌≡◌, ◌+◌, ◌<◌, ◌≤◌, ◌↔◌, IsTrue, length, take, drop};
 ghost use Rattle.std.specs.List.Sorted.{IsStrictlyIncreasing};
-ghost use Rattle.sdls_base.specs.Bounds.{AreChannels, IsKeyLength};
-ghost use Rattle.book_record.specs.Record.{IsCount, IsKey, IsSpi};
-ghost use Rattle.book_record.specs.Reading.{Judges, IsWithin, octet_at, word_at, number_at, key_state_of, sa_state_of, direction_of, suite_of};
+ghost use Rattle.sdls_base.specs.Bounds.{AreChannels, IsKeyLength, IsKeyCount};
+ghost use Rattle.sdls_base.specs.Code.{key_state_of, new_state_of, direction_of, suite_of};
+ghost use Rattle.book_record.specs.Record.{IsKey, IsSpi};
+ghost use Rattle.book_record.specs.Reading.{Judges, IsWithin, octet_at, word_at, number_at};
 
 use crate::record_error::RecordError;
-use sdls_base::{Direction, KeyId, KeyState, MOST_CHANNELS, SaState, Spi, Suite};
+use sdls_base::{
+    Direction, KeyId, KeyState, MOST_CHANNELS, MOST_KEYS_AT_ONCE, SaState, Spi, Suite,
+};
 
 /// So many octets from a place on.
 fn array<const N: usize>(body: &[u8], at: usize) -> [u8; N]
@@ -48,10 +51,10 @@ pub(crate) fn spi(body: &[u8], at: usize) -> Result<Spi, RecordError>
 
 /// A count of keys.
 pub(crate) fn count(number: u8) -> Result<usize, RecordError>
-    ensures { Judges result (IsCount number) number }
+    ensures { Judges result (IsKeyCount number) number }
 {
-    match number {
-        1..=8 => Ok(usize::from(number)),
+    match usize::from(number) {
+        count @ 1..=MOST_KEYS_AT_ONCE => Ok(count),
         _ => Err(RecordError::Malformed),
     }
 }
@@ -70,45 +73,34 @@ pub(crate) fn key_length(number: u8) -> Result<usize, RecordError>
 pub(crate) fn key_state(number: u8) -> Result<KeyState, RecordError>
     ensures { Judges result (IsWithin 2 4 number) (key_state_of number) }
 {
-    match number {
-        2 => Ok(KeyState::Active),
-        3 => Ok(KeyState::Deactivated),
-        4 => Ok(KeyState::Destroyed),
-        _ => Err(RecordError::Malformed),
+    match KeyState::from_code(number) {
+        Some(KeyState::PreActive) | None => Err(RecordError::Malformed),
+        Some(state) => Ok(state),
     }
 }
 
 /// The state that an association takes, `None` for its deletion.
 pub(crate) fn sa_state(number: u8) -> Result<Option<SaState>, RecordError>
-    ensures { Judges result (number ≤ 3) (sa_state_of number) }
+    ensures { Judges result (number ≤ 3) (new_state_of number) }
 {
     match number {
         0 => Ok(None),
-        1 => Ok(Some(SaState::Unkeyed)),
-        2 => Ok(Some(SaState::Keyed)),
-        3 => Ok(Some(SaState::Operational)),
-        _ => Err(RecordError::Malformed),
+        code => SaState::from_code(code)
+            .map(Some)
+            .ok_or(RecordError::Malformed),
     }
 }
 
 pub(crate) fn direction(number: u8) -> Result<Direction, RecordError>
     ensures { Judges result (IsWithin 1 2 number) (direction_of number) }
 {
-    match number {
-        1 => Ok(Direction::Send),
-        2 => Ok(Direction::Receive),
-        _ => Err(RecordError::Malformed),
-    }
+    Direction::from_code(number).ok_or(RecordError::Malformed)
 }
 
 pub(crate) fn suite(number: u8) -> Result<Suite, RecordError>
     ensures { Judges result (IsWithin 1 2 number) (suite_of number) }
 {
-    match number {
-        1 => Ok(Suite::Cmac),
-        2 => Ok(Suite::Gcm),
-        _ => Err(RecordError::Malformed),
-    }
+    Suite::from_code(number).ok_or(RecordError::Malformed)
 }
 
 fn ascend(numbers: &[u8]) -> bool

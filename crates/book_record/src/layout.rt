@@ -1,5 +1,4 @@
-/// The octets of a record's body.
-pub const BODY_LENGTH: usize = 511;
+use sdls_base::BODY_LENGTH;
 
 /// The octets before the data: the kind, and the length of the data.
 pub(crate) const HEADER: usize = 3;

@@ -15,7 +15,7 @@ mod record_error;
 mod writing;
 
 pub use laws::{change_of_its_kind, one_change};
-pub use layout::BODY_LENGTH;
 pub use reading::read_record;
 pub use record_error::RecordError;
+pub use sdls_base::BODY_LENGTH;
 pub use writing::write_record;

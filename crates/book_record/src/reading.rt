@@ -4,17 +4,18 @@
 ghost use Rattle.std.specs.Prelude.{◌≡◌, ◌+◌, ◌≤◌, length, IfOk};
 ghost use Rattle.sdls_base.specs.declared.change.Change.{Change};
 ghost use Rattle.book_record.specs.declared.kind.Kind.TheVariants.{Marks, Load, KeyStates, Create, Rekey, SaTo, SetNumber, SetWindow};
-ghost use Rattle.book_record.specs.Record.{IsCount, IsRecord};
+ghost use Rattle.book_record.specs.Record.{IsRecord};
 ghost use Rattle.book_record.specs.Reading.{Judges, IsReadUnlessNoMemory, octet_at, item_at, IsItem, items_in, AreItems, keys_in, AreKeys, change_at, MayStand};
 
 use crate::fields::{
     are_channels, count, direction, key, key_length, key_state, number, sa_state, spi, suite,
 };
 use crate::kind::Kind;
-use crate::layout::BODY_LENGTH;
 use crate::record_error::RecordError;
 use crate::writing::write_record;
-use sdls_base::{Change, KeyItem, KeyItems, KeyList, NewSa, Octets};
+use sdls_base::{
+    BODY_LENGTH, Change, KeyItem, KeyItems, KeyList, MOST_KEYS_AT_ONCE, NewSa, Octets,
+};
 use std::alloc::Global;
 
 /// A key to be loaded, at a place.
@@ -35,7 +36,7 @@ fn item(alloc: Global, body: &[u8], at: usize) -> Result<KeyItem, RecordError>
 /// So many keys to be loaded, from place 4 on.
 fn items(alloc: Global, body: &[u8], count: usize) -> Result<KeyItems, RecordError>
     requires room { length body.now ≡ BODY_LENGTH }
-    requires count { count ≤ 8 }
+    requires count { count ≤ MOST_KEYS_AT_ONCE }
     ensures { Judges result (AreItems count 4 body.now) (items_in count 4 body.now) }
 {
     let mut items = Vec::new(alloc);
@@ -51,7 +52,7 @@ fn items(alloc: Global, body: &[u8], count: usize) -> Result<KeyItems, RecordErr
 /// So many keys, from place 5 on.
 fn keys(alloc: Global, body: &[u8], count: usize) -> Result<KeyList, RecordError>
     requires room { length body.now ≡ BODY_LENGTH }
-    requires count { count ≤ 8 }
+    requires count { count ≤ MOST_KEYS_AT_ONCE }
     ensures { Judges result (AreKeys count 5 body.now) (keys_in count 5 body.now) }
 {
     let mut keys = Vec::new(alloc);

@@ -4,15 +4,18 @@
 ghost use Rattle.std.specs.Prelude.{◌≡◌, ◌≢◌, ◌+◌, ◌^◌, ◌<◌, ◌≤◌, [], ◌∷◌, ◌++◌, length};
 ghost use Rattle.std.specs.List.{flat_map, All};
 ghost use Rattle.std.specs.Int.{w16, w64, to_be_bytes};
-ghost use Rattle.sdls_base.specs.Bounds.{AreChannels, IsKeyLength};
+ghost use Rattle.sdls_base.specs.Bounds.{AreChannels, IsKeyLength, IsKeyCount};
 ghost use Rattle.sdls_base.specs.declared.change.Change.TheVariants.{Marks, Load, KeyStates, Create, Rekey, SaTo};
 ghost use Rattle.sdls_base.specs.declared.states.KeyState.TheVariants.{PreActive};
-ghost use Rattle.book_record.specs.Code.{sa_state_code};
-ghost use Rattle.book_record.specs.Record.{body_of, item_octets, record_octets, HasRecord, IsRecord, IsCount, IsKey, IsSpi};
+ghost use Rattle.sdls_base.specs.Code.{new_state_code};
+ghost use Rattle.sdls_base.specs.Spelling.{item_octets};
+ghost use Rattle.book_record.specs.Record.{body_of, record_octets, HasRecord, IsRecord, IsKey, IsSpi};
 
 use crate::data::Data;
-use crate::layout::{BODY_LENGTH, DATA_ROOM};
-use sdls_base::{Change, KeyId, KeyItem, KeyItems, KeyList, KeyState, NewSa, SaState, Spi};
+use crate::layout::DATA_ROOM;
+use sdls_base::{
+    BODY_LENGTH, Change, KeyId, KeyItem, KeyItems, KeyList, KeyState, NewSa, SaState, Spi,
+};
 
 fn put_item(data_octets: &mut Data, item: &KeyItem)
     requires length { IsKeyLength (length item.now.bytes) }
@@ -59,7 +62,7 @@ fn marks_record(key: KeyId, mark: u64, floor: u64) -> [u8; BODY_LENGTH]
 
 #[tactic(auto, using(crate::proofs::Lengths::items_length), unfolding(crate::specs::Record::record_octets, crate::specs::Record::HasRecord, crate::specs::Record::HasTypes))]
 fn load_record(items: &KeyItems) -> [u8; BODY_LENGTH]
-    requires count { IsCount (length items.now) }
+    requires count { IsKeyCount (length items.now) }
     requires lengths { All (λ item. IsKeyLength (length item.bytes)) items.now }
     ensures { IsRecord (Load items.now) result }
 {
@@ -72,7 +75,7 @@ fn load_record(items: &KeyItems) -> [u8; BODY_LENGTH]
 
 #[tactic(auto, using(crate::proofs::Lengths::keys_length), unfolding(crate::specs::Record::record_octets, crate::specs::Record::HasRecord, crate::specs::Record::HasTypes))]
 fn states_record(ids: &KeyList, to: KeyState) -> [u8; BODY_LENGTH]
-    requires count { IsCount (length ids.now) }
+    requires count { IsKeyCount (length ids.now) }
     requires state { to ≢ PreActive }
     ensures { IsRecord (KeyStates ids.now to) result }
 {
@@ -111,7 +114,7 @@ fn rekey_record(spi: Spi, key: KeyId, number: u64) -> [u8; BODY_LENGTH]
 
 /// The number of a state of an association, or of its deletion.
 fn state_code(to: Option<SaState>) -> u8
-    ensures { result ≡ sa_state_code to }
+    ensures { result ≡ new_state_code to }
 {
     match to {
         None => 0,

@@ -1,11 +1,13 @@
 -- What stays known of a book while it goes on, and the places of a log.
 use Rattle.std.proofs.Common.{◌≡◌, ◌⊎◌, ℕ, zero, suc, ◌+◌, ◌<◌, ◌≤◌, max, ltb, true, false, Bool, List, [], ◌∷◌, ◌++◌, length, sym, refl, ap, ◌∙◌, subst, inl, inr, ⊎_elim, le_trans, append_assoc, length-append, arith, if◌then◌else◌, ◌==◌}
+use Rattle.std.proofs.lemmas.Bool.{cases_lt}
 use Rattle.std.proofs.lemmas.Bool.Decides.{nat_tests}
 use Rattle.sdls_base.specs.declared.entry.Logged.{Logged}
 use Rattle.counter_table.specs.declared.view.Opening.{Opening}
 use Rattle.counter_table.specs.declared.view.Known.{Known}
 use Rattle.counter_table.specs.declared.view.Turn.{Turn}
-use Rattle.counter_table.specs.Known.{entries, is_entry, HasRisen, Earlier, IsSparing, pieces, unknown, longer, later}
+use Rattle.counter_table.specs.Known.{entries, is_entry, Earlier, IsSparing, pieces, unknown, longer, later}
+use Rattle.sdls_outside.specs.Faults.{Rose}
 use Rattle.counter_table.specs.Turn.{places, stands, no_turn, beginner}
 use Rattle.sdls_base.specs.Numbers.{once_below}
 use Rattle.counter_table.specs.Rule.{KnowsBook}
@@ -26,25 +28,21 @@ entries_shorter (x ∷ xs) (y ∷ ys) r s e h =
     let head : x ≡ y = cc in let tail : xs ++ r ≡ ys ++ s = cc in
     let t = entries_shorter xs ys r s tail (omega arith) in let i : (if is_entry x then 1 else 0) ≡ (if is_entry y then 1 else 0) = ap (λ z. if is_entry z then 1 else 0) head in let P : ℕ → Type 0 = λ k. k + entries xs ≤ (if is_entry y then 1 else 0) + entries ys in subst P (sym i) (omega arith)
 
-risen_more : (o m n : ℕ) → m ≤ n → HasRisen o m → HasRisen o n
-risen_more o m n h r = ⊎_elim (λ a. inl (omega arith)) (λ b. inr (omega arith)) r
+rose_later : (before mid now : ℕ) → mid ≤ now → Rose before mid → Rose before now
+rose_later before mid now later rose = omega arith
 
-risen_either : (o m n : ℕ) → HasRisen o (max m n) → HasRisen o m ⊎ HasRisen o n
-risen_either o m n r = ⊎_elim (λ a. elim_lt (ltb m n) refl a) (λ b. elim_le (ltb m n) refl b) r
-  where
-    elim_lt : (t : Bool) → ltb m n ≡ t → o < max m n → HasRisen o m ⊎ HasRisen o n
-    elim_lt true is a = let lt : m < n = grind (arith, nat_tests) in inr (inl (omega arith))
-    elim_lt false is a = let le : n ≤ m = grind (arith, nat_tests) in inl (inl (omega arith))
-
-    elim_le : (t : Bool) → ltb m n ≡ t → 18446744073709551615 ≤ max m n → HasRisen o m ⊎ HasRisen o n
-    elim_le true is b = let lt : m < n = grind (arith, nat_tests) in inr (inr (omega arith))
-    elim_le false is b = let le : n ≤ m = grind (arith, nat_tests) in inl (inr (omega arith))
+-- of two counts of which the higher rose, one rose
+rose_either : (before one other : ℕ) → Rose before (max one other) → Rose before one ⊎ Rose before other
+rose_either before one other rose = elim (cases_lt one other) [
+  | inl lt ↦ inr (omega arith)
+  | inr ge ↦ inl (omega arith)
+]
 
 pub earlier_itself : (k : Known) → Earlier k k
 earlier_itself k = record { log = ([], sym (append-nil k.log)); changes = omega arith; faults = omega arith; standing = omega arith; put_faults = omega arith; stopped = λ r. refl }
 
 pub earlier_unknown : (k : Known) → Earlier unknown k
-earlier_unknown k = record { log = (k.log, refl); changes = omega arith; faults = omega arith; standing = omega arith; put_faults = omega arith; stopped = λ r. absurd (⊎_elim (λ a. omega arith) (λ b. omega arith) r) }
+earlier_unknown k = record { log = (k.log, refl); changes = omega arith; faults = omega arith; standing = omega arith; put_faults = omega arith; stopped = λ r. absurd (omega arith) }
 
 pub earlier_further : (a b c : Known) → Earlier a b → Earlier b c → c.opening ≡ b.opening → Earlier a c
 earlier_further a b c ab bc same =
@@ -56,8 +54,8 @@ earlier_further a b c ab bc same =
       put_faults = le_trans ab.put_faults bc.put_faults;
       stopped = λ r.
           let o : c.opening.faults ≡ b.opening.faults = ap (λ z. z.faults) same in
-          let r' : HasRisen b.opening.faults a.faults = subst (λ z. HasRisen z a.faults) o r in
-          bc.stopped (risen_more c.opening.faults a.faults b.faults ab.faults r) ∙ ab.stopped r';
+          let r' : Rose b.opening.faults a.faults = subst (λ z. Rose z a.faults) o r in
+          bc.stopped (rose_later c.opening.faults a.faults b.faults ab.faults r) ∙ ab.stopped r';
     }
 
 -- no more puts failed than pieces were put
@@ -100,7 +98,7 @@ earlier_first a k h =
       faults = omega arith;
       standing = omega arith;
       put_faults = omega arith;
-      stopped = λ r. absurd (⊎_elim (λ x. omega arith) (λ x. omega arith) r);
+      stopped = λ r. absurd (omega arith);
     }
 
 -- of two earlier times the one that knows less is the earlier
@@ -115,7 +113,7 @@ earlier_between a b k ak bk same shorter fewer less low put =
       put_faults = put;
       stopped = λ r.
           let o : b.opening.faults ≡ k.opening.faults = ap (λ (z : Opening). z.faults) same in
-          let r' : HasRisen k.opening.faults a.faults = subst (λ (z : ℕ). HasRisen z a.faults) o r in
+          let r' : Rose k.opening.faults a.faults = subst (λ (z : ℕ). Rose z a.faults) o r in
           let e = ak.stopped r' in
           let low = entries_shorter a.log b.log ak.log.0 bk.log.0 (sym ak.log.1 ∙ bk.log.1) shorter in
           let whole : entries k.log ≡ entries b.log + entries bk.log.0 = ap entries bk.log.1 ∙ entries-append b.log bk.log.0 in omega arith;
@@ -147,7 +145,7 @@ earlier_later o a b k ak bk = go (ltb (length a.log) (length b.log)) refl
           put_faults = let x = ak.put_faults in let y = bk.put_faults in omega arith;
           stopped = λ r.
               let whole : entries k.log ≡ entries log + entries p.0 = ap entries p.1 ∙ entries-append log p.0 in
-              ⊎_elim (λ x. let s = ak.stopped x in omega arith) (λ y. let s = bk.stopped y in omega arith) (risen_either k.opening.faults a.faults b.faults r);
+              ⊎_elim (λ x. let s = ak.stopped x in omega arith) (λ y. let s = bk.stopped y in omega arith) (rose_either k.opening.faults a.faults b.faults r);
         }
 
     go : (t : Bool) → ltb (length a.log) (length b.log) ≡ t

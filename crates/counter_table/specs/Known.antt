@@ -1,7 +1,8 @@
 -- Profile: what a book tells, and how a later book follows an earlier one.
-use Rattle.std.specs.Prelude.{◌≡◌, ◌⊎◌, ℕ, ◌+◌, ◌<◌, ◌≤◌, max, nat_lt, Bool, true, false, List, [], ◌∷◌, ◌++◌, length, slice_index_or, if◌then◌else◌}
+use Rattle.std.specs.Prelude.{◌≡◌, ℕ, ◌+◌, ◌≤◌, max, nat_lt, Bool, true, false, List, [], ◌∷◌, ◌++◌, length, slice_index_or, if◌then◌else◌}
 use Rattle.sdls_base.specs.declared.entry.Logged.{Logged}
 use Rattle.sdls_base.specs.declared.entry.Logged.TheVariants.{Entry, Piece}
+use Rattle.sdls_outside.specs.Faults.{Rose}
 use Rattle.unit_plan.specs.PlanLines.{no_lines}
 use Rattle.unit_state.specs.Initial.{bare}
 use Rattle.counter_table.specs.declared.view.Opening.{Opening}
@@ -26,10 +27,6 @@ abbrev pub pieces : List Logged → ℕ
 pieces [] = 0
 pieces (line ∷ log) = (if is_entry line then 0 else 1) + pieces log
 
--- a count of faults rose: it is greater, or stands at its last value
-abbrev pub HasRisen : ℕ → ℕ → Type 0
-HasRisen before after = (before < after) ⊎ (18446744073709551615 ≤ after)
-
 -- the one is the other at an earlier time. Once the count of faults had risen since the opening, no entry was added
 pub record Earlier (one other : Known) : Type 0 where
   pub log : (rest : List Logged) × (other.log ≡ one.log ++ rest)
@@ -37,7 +34,7 @@ pub record Earlier (one other : Known) : Type 0 where
   pub faults : one.faults ≤ other.faults
   pub standing : one.standing ≤ other.standing
   pub put_faults : one.put_faults ≤ other.put_faults
-  pub stopped : HasRisen other.opening.faults one.faults → entries other.log ≡ entries one.log
+  pub stopped : Rose other.opening.faults one.faults → entries other.log ≡ entries one.log
 
 -- from the one to the other no more puts failed than pieces were put
 abbrev pub IsSparing : Known → Known → Type 0

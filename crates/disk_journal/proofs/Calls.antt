@@ -6,7 +6,8 @@ use Rattle.std.proofs.Math.Seq.{take-append_seam}
 use Rattle.sdls_outside.specs.Disk.{Leaves, IsSynced}
 use Rattle.sdls_outside.specs.Moments.{Trace}
 use Rattle.sdls_outside.specs.Site.{overwritten}
-use Rattle.disk_journal.specs.declared.layout.TheConstants.{HEADER_LENGTH, PLAN_ROOM, SLOT_LENGTH, BODY_LENGTH, OPEN}
+use Rattle.disk_journal.specs.declared.layout.TheConstants.{HEADER_LENGTH, PLAN_ROOM, SLOT_LENGTH, OPEN}
+use Rattle.sdls_base.specs.declared.TheConstants.{BODY_LENGTH}
 use Rattle.disk_journal.specs.Slots.{slot_at, body_at}
 use Rattle.disk_journal.specs.Image.{header_of, plan_length_in, slot_count_in, slot_count, plan_of, records, first_closed, IsHalfOpen, held, grown}
 use Rattle.disk_journal.specs.Changes.{EachImage, GrowsByRecord}

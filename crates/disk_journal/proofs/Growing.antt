@@ -4,7 +4,8 @@ use Rattle.std.specs.List.{slice_get}
 use Rattle.sdls_outside.specs.Disk.{IsSynced}
 use Rattle.sdls_outside.specs.Moments.{Trace}
 use Rattle.sdls_outside.specs.Site.{overwritten}
-use Rattle.disk_journal.specs.declared.layout.TheConstants.{SLOT_LENGTH, BODY_LENGTH, OPEN, CLOSED}
+use Rattle.disk_journal.specs.declared.layout.TheConstants.{SLOT_LENGTH, OPEN, CLOSED}
+use Rattle.sdls_base.specs.declared.TheConstants.{BODY_LENGTH}
 use Rattle.disk_journal.specs.Slots.{slot_at, gate_at, body_at}
 use Rattle.disk_journal.specs.Image.{header_of, slot_count, plan_of, records, first_closed, IsHalfOpen, IsAtRest, regated, opened_form, held, grown as more}
 use Rattle.disk_journal.specs.Fault.{image_fault}

@@ -5,7 +5,8 @@ use Rattle.std.specs.Str.{bytes_eq}
 use Rattle.std.proofs.lemmas.Bool.{cases_lt, cases_eq}
 use Rattle.std.proofs.lemmas.Bool.Decides.{nat_tests}
 use Rattle.std.proofs.lemmas.List.{get_or-set_same}
-use Rattle.disk_journal.specs.declared.layout.TheConstants.{HEADER_LENGTH, PLAN_ROOM, SLOTS_AT, SLOT_LENGTH, BODY_LENGTH, LEAST_SLOTS, MOST_SLOTS, MAGIC, MAGIC_AT, PLAN_LENGTH_AT, SLOT_COUNT_AT, ZEROS_AT, OPEN, CLOSED}
+use Rattle.disk_journal.specs.declared.layout.TheConstants.{HEADER_LENGTH, PLAN_ROOM, SLOTS_AT, SLOT_LENGTH, LEAST_SLOTS, MOST_SLOTS, MAGIC, MAGIC_AT, PLAN_LENGTH_AT, SLOT_COUNT_AT, ZEROS_AT, OPEN, CLOSED}
+use Rattle.sdls_base.specs.declared.TheConstants.{BODY_LENGTH}
 use Rattle.disk_journal.specs.Slots.{slot_at, gate_at, body_at}
 use Rattle.disk_journal.specs.Image.{header_of, plan_length_in, slot_count_in, slot_count, plan_of, records, first_closed}
 use Rattle.sdls_base.specs.FirstFailing.{Check, first_failing}

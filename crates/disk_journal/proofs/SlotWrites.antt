@@ -4,7 +4,8 @@ use Rattle.std.specs.Result.{OnOk}
 use Rattle.sdls_outside.specs.Disk.{IsSynced}
 use Rattle.sdls_outside.specs.Moments.{Trace}
 use Rattle.sdls_outside.specs.Site.{overwritten}
-use Rattle.disk_journal.specs.declared.layout.TheConstants.{BODY_LENGTH, CLOSED}
+use Rattle.disk_journal.specs.declared.layout.TheConstants.{CLOSED}
+use Rattle.sdls_base.specs.declared.TheConstants.{BODY_LENGTH}
 use Rattle.disk_journal.specs.Slots.{slot_at, gate_at}
 use Rattle.disk_journal.specs.Changes.{AllBut, ClosesGate, EachImage}
 use Rattle.disk_journal.proofs.Ranges.{overwritten_but, set_back}

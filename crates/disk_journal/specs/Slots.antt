@@ -1,6 +1,7 @@
 -- The slots of an image (profile): one gate octet each, then a body.
 use Rattle.std.specs.Prelude.{ℕ, zero, suc, ◌+◌, ◌*◌, ◌==◌, if◌then◌else◌, List, [], ◌∷◌, take, drop, slice_index}
-use Rattle.disk_journal.specs.declared.layout.TheConstants.{SLOTS_AT, SLOT_LENGTH, BODY_LENGTH, OPEN}
+use Rattle.disk_journal.specs.declared.layout.TheConstants.{SLOTS_AT, SLOT_LENGTH, OPEN}
+use Rattle.sdls_base.specs.declared.TheConstants.{BODY_LENGTH}
 
 -- where slot i begins
 abbrev pub slot_at : ℕ → ℕ

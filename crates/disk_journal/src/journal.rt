@@ -8,9 +8,10 @@ ghost use Rattle.disk_journal.specs.Changes.{EachImage, OnlySyncs, GrowsByRecord
 ghost use Rattle.disk_journal.specs.Forms.{Becomes, RestsHolding, Settles};
 
 use crate::fault::JournalFault;
-use crate::layout::{BODY_LENGTH, HEADER_LENGTH, MOST_SLOTS, PLAN_ROOM, slot_offset};
+use crate::layout::{HEADER_LENGTH, MOST_SLOTS, PLAN_ROOM, slot_offset};
 use crate::opening_image::inspect_synced;
 use crate::storing::{close_gate, store_record};
+use sdls_base::BODY_LENGTH;
 use sdls_outside::{Failed, Site};
 use std::marker::Model;
 

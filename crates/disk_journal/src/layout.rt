@@ -17,9 +17,6 @@ pub const SLOTS_AT: u64 = HEADER_LENGTH + PLAN_ROOM;
 /// The octets of a slot: its gate, then a record's body.
 pub const SLOT_LENGTH: u64 = 512;
 
-/// The octets of a record's body.
-pub const BODY_LENGTH: usize = 511;
-
 /// The fewest slots of an image.
 pub const LEAST_SLOTS: u32 = 16;
 
@@ -51,7 +48,7 @@ pub const OPEN: u8 = 1;
 pub const CLOSED: u8 = 0;
 
 /// Where slot `index` begins.
-pub fn slot_offset(index: u32) -> u64
+pub(crate) fn slot_offset(index: u32) -> u64
     ensures { result ≡ slot_at index }
 {
     SLOTS_AT + SLOT_LENGTH * index as u64

@@ -4,13 +4,14 @@
 //! An image has a header, a plan's text and slots. A slot is a gate octet and a body; the records are
 //! the bodies of the slots before the first closed one. [`create`] writes an image without records,
 //! [`Journal::open`] checks one and writes nothing, [`Journal::settle`] makes it ready to grow, and
-//! [`Journal::append`] adds a record. No call takes memory.
+//! [`Journal::append`] adds a record. [`image_of`] is the image without records in memory. No other call takes memory.
 #![tactic(auto)]
 
 mod creating;
 mod fault;
 mod gates;
 mod header;
+mod initial;
 mod journal;
 mod laws;
 mod layout;
@@ -19,10 +20,11 @@ mod storing;
 
 pub use creating::create;
 pub use fault::JournalFault;
+pub use initial::image_of;
 pub use journal::Journal;
 pub use laws::{initial_image_opens, opening_stays, regated_image_opens, slots_keep_plan};
 pub use layout::{
-    BODY_LENGTH, CLOSED, FIELD_LENGTH, HEADER_LENGTH, LEAST_SLOTS, MAGIC, MAGIC_AT, MOST_SLOTS,
-    OPEN, PLAN_AT, PLAN_LENGTH_AT, PLAN_ROOM, SLOT_COUNT_AT, SLOT_LENGTH, SLOTS_AT, ZEROS_AT,
-    slot_offset,
+    CLOSED, FIELD_LENGTH, HEADER_LENGTH, LEAST_SLOTS, MAGIC, MAGIC_AT, MOST_SLOTS, OPEN, PLAN_AT,
+    PLAN_LENGTH_AT, PLAN_ROOM, SLOT_COUNT_AT, SLOT_LENGTH, SLOTS_AT, ZEROS_AT,
 };
+pub use sdls_base::BODY_LENGTH;

@@ -7,7 +7,8 @@ ghost use Rattle.disk_journal.specs.Slots.{slot_at, gate_at};
 ghost use Rattle.disk_journal.specs.Changes.{AllBut, ClosesGate, EachImage};
 
 use crate::gates::gate;
-use crate::layout::{BODY_LENGTH, CLOSED, OPEN, SLOT_LENGTH, slot_offset};
+use crate::layout::{CLOSED, OPEN, SLOT_LENGTH, slot_offset};
+use sdls_base::BODY_LENGTH;
 use sdls_outside::{Failed, Site};
 
 /// Writes octets over the image from `at` on, and brings them to the disk.

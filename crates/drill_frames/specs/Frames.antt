@@ -5,7 +5,7 @@ use Rattle.record_io.specs.declared.answers.Answer.{Answer}
 use Rattle.record_io.specs.declared.code.TheConstants.{PROTECTED}
 use Rattle.record_io.specs.declared.kinds.RecordKind.TheVariants.{Protect, Open}
 use Rattle.record_io.specs.declared.records.Record.{Record}
-use Rattle.drill_frames.specs.declared.frames.TheConstants.{FIELD_LENGTH, LANES}
+use Rattle.drill_frames.specs.declared.frames.TheConstants.{FIELD_LENGTH, DRILL_LANES}
 use Rattle.drill_frames.specs.declared.records.TheConstants.{CHUNK}
 
 -- an octet of the data field of a frame
@@ -22,15 +22,15 @@ data_field number = field_octets number FIELD_LENGTH
 -- A TC transfer frame in clear (CCSDS 232.0-B-4): version and flags 0, spacecraft 1, the virtual channel, 36 as the
 -- length field, the sequence number, the data field.
 abbrev pub clear_frame : ℕ → List ℕ
-clear_frame number = 0 ∷ 1 ∷ 4 * (number % LANES) ∷ 36 ∷ (number % 256) ∷ data_field number
+clear_frame number = 0 ∷ 1 ∷ 4 * (number % DRILL_LANES) ∷ 36 ∷ (number % 256) ∷ data_field number
 
 -- a frame that is to be protected, on the lane of its virtual channel
 abbrev pub protect_task : ℕ → Record
-protect_task number = record { index = number; kind = Protect; lane = number % LANES; link = 0; octets = clear_frame number }
+protect_task number = record { index = number; kind = Protect; lane = number % DRILL_LANES; link = 0; octets = clear_frame number }
 
 -- a protected frame that is to be opened, on the same lane
 abbrev pub open_task : ℕ → ℕ → List ℕ → Record
-open_task index number octets = record { index = index; kind = Open; lane = number % LANES; link = 0; octets = octets }
+open_task index number octets = record { index = index; kind = Open; lane = number % DRILL_LANES; link = 0; octets = octets }
 
 abbrev pub protect_tasks : ℕ → ℕ → List Record
 protect_tasks first count = map protect_task (range_with_len first count)

@@ -6,7 +6,7 @@ use sdls_base::{NoMemory, Octets};
 use std::alloc::Global;
 
 /// The lanes, each with a virtual channel of its own.
-pub const LANES: u64 = 4;
+pub const DRILL_LANES: u64 = 4;
 
 /// The octets of a data field.
 pub const FIELD_LENGTH: usize = 32;
@@ -38,7 +38,7 @@ pub fn data_field(number: u64) -> [u8; FIELD_LENGTH]
 pub fn clear_frame(alloc: Global, number: u64) -> Result<Octets, NoMemory>
     ensures { IfOk result (λ frame. frame ≡ clear_frame number) }
 {
-    let channel = (number % LANES) as u8;
+    let channel = (number % DRILL_LANES) as u8;
     let sequence = (number % 256) as u8;
     let mut frame = Vec::with_capacity(alloc, HEADER_LENGTH + FIELD_LENGTH)?;
     frame.extend_from_slice(&[0, 1, 4 * channel, 36, sequence])?;

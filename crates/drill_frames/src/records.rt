@@ -2,7 +2,7 @@
 ghost use Rattle.std.specs.Prelude.{◌≡◌, ◌+◌, ◌-◌, ◌%◌, ◌<◌, ◌≤◌, ◌^◌, IfOk, length, vec_len};
 ghost use Rattle.drill_frames.specs.Frames.{open_task, open_tasks, protect_task, protect_tasks, replay_tasks};
 
-use crate::frames::{LANES, clear_frame};
+use crate::frames::{DRILL_LANES, clear_frame};
 use record_io::code::PROTECTED;
 use record_io::{Answer, Record, RecordKind};
 use sdls_base::{NoMemory, Octets};
@@ -12,9 +12,9 @@ use std::alloc::Global;
 pub const CHUNK: u64 = 256;
 
 fn lane_of(number: u64) -> u8
-    ensures { result ≡ number % LANES }
+    ensures { result ≡ number % DRILL_LANES }
 {
-    (number % LANES) as u8
+    (number % DRILL_LANES) as u8
 }
 
 /// A frame that is to be protected. Its record has the frame's number.

@@ -13,15 +13,19 @@ use Rattle.ep_codec.specs.declared.procedure.Procedure.TheVariants as procedures
 use Rattle.ep_codec.specs.declared.command.Command.{Command}
 use Rattle.ep_codec.specs.declared.command.Command.TheVariants.{Rekeying, Activate, Deactivate, Verify, Destroy, Inventory, Compose, ReadNumber, Create, Delete, SetWindow, Rekey, Expire, SetNumber, Start, Stop, Status}
 use Rattle.sdls_base.specs.FirstFailing.{Check, first_failing}
-use Rattle.ep_codec.specs.Command.{message, sealed_data, keys_data, association_data, command_octets, IsInBounds, HasTypes, IsCommandPdu}
+use Rattle.sdls_base.specs.Bounds.{IsKeyCount}
+use Rattle.sdls_base.specs.Spelling.{association_octets}
+use Rattle.ep_codec.specs.Command.{message, sealed_data, keys_data, command_octets, IsInBounds, HasTypes, IsCommandPdu}
 use Rattle.ep_codec.specs.CommandReading.{command_at, command_procedure}
-use Rattle.ep_codec.specs.Field.{octet_at, word_at, number_at, is_key, is_spi, is_window, direction_code, suite_code, key_check, spi_check, window_check, code_check, count_check}
+use Rattle.sdls_base.specs.Code.{direction_code, suite_code}
+use Rattle.ep_codec.specs.Field.{octet_at, word_at, number_at, is_key, is_spi, is_window, key_check, spi_check, window_check, code_check, count_check}
 use Rattle.ep_codec.specs.FieldList.{key_checks, channel_checks}
 use Rattle.ep_codec.specs.MessageFault.{command_checks}
 use Rattle.ep_codec.specs.Procedure.{tag_of, has_command_length}
 use Rattle.ep_codec.proofs.FieldFacts.{low_bound, high_bound, in_bounds, keeps}
 use Rattle.ep_codec.proofs.HeaderFacts.{Passes, header_again}
-use Rattle.ep_codec.proofs.CommandFacts.{direction_again, suite_again, direction_in, suite_in}
+use Rattle.sdls_base.proofs.Codes.{direction_again, suite_again}
+use Rattle.ep_codec.proofs.CommandFacts.{direction_in, suite_in}
 use Rattle.ep_codec.proofs.Lengths.{keys_length}
 use Rattle.ep_codec.proofs.ListFacts.{keys_read_again, keys_pass, channels_pass}
 
@@ -87,12 +91,12 @@ pub record ReadAgain (p : Procedure) (command : Command) (octets : List ℕ) : T
   pub fields : first_failing (command_checks p octets) ≡ None
   pub value : command_at p octets ≡ command
 
-keys_header : (p : Procedure) (keys : List ℕ) → ((n : ℕ) → has_command_length p n ≡ (is_in_range 2 16 n && n % 2 == 0)) → IsTrue (is_in_range 1 8 (length keys))
+keys_header : (p : Procedure) (keys : List ℕ) → ((n : ℕ) → has_command_length p n ≡ (is_in_range 2 16 n && n % 2 == 0)) → IsKeyCount (length keys)
     → Passes types.Command p (message (tag_of p) (keys_data keys))
 keys_header p keys fits count =
     let n = keys_length keys in
-    let low = low_bound 1 8 (length keys) count in
-    let high = high_bound 1 8 (length keys) count in
+    let low = count.least in
+    let high = count.most in
     let m = length (keys_data keys) in
     let even : m % 2 ≡ 0 = omega arith in
     header_again types.Command p (keys_data keys)
@@ -156,8 +160,8 @@ again (Compose master keys) is bounds =
     let body = to_be_bytes w16 master ++ keys_data keys in
     let octets = message 0x08 body in
     let n : length body ≡ 2 + 2 * length keys = omega (arith, keys_length keys) in
-    let low = low_bound 1 8 (length keys) bounds in
-    let high = high_bound 1 8 (length keys) bounds in
+    let low = bounds.least in
+    let high = bounds.most in
     let even : length body % 2 ≡ 0 = omega arith in
     let e : word_at 3 octets ≡ master = from_be_bytes-to_be_bytes_2 master (key_small master is.0) in
     let f = keys_read_again keys is.1 in
@@ -175,7 +179,7 @@ again (ReadNumber spi) is bounds =
       value = ap ReadNumber e;
     }
 again (Create sa) is bounds =
-    let body = association_data sa in
+    let body = association_octets sa in
     let octets = message 0x11 body in
     let channels = sa.channels in
     let low = bounds.1.one in

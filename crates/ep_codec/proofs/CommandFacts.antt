@@ -13,9 +13,12 @@ use Rattle.ep_codec.specs.declared.procedure.PduType.TheVariants as types
 use Rattle.ep_codec.specs.declared.procedure.Procedure.{Procedure}
 use Rattle.ep_codec.specs.declared.procedure.Procedure.TheVariants as procedures
 use Rattle.sdls_base.specs.FirstFailing.{Check, first_failing}
-use Rattle.ep_codec.specs.Command.{message, sealed_data, keys_data, association_data, command_octets, IsInBounds, HasTypes, IsCommandPdu}
+use Rattle.sdls_base.specs.Bounds.{IsKeyCount}
+use Rattle.sdls_base.specs.Spelling.{association_octets}
+use Rattle.ep_codec.specs.Command.{message, sealed_data, keys_data, command_octets, IsInBounds, HasTypes, IsCommandPdu}
 use Rattle.ep_codec.specs.CommandReading.{command_at}
-use Rattle.ep_codec.specs.Field.{octet_at, word_at, number_at, is_key, is_spi, is_window, direction_code, suite_code, direction_of, suite_of, key_check, spi_check, window_check, code_check, count_check}
+use Rattle.sdls_base.specs.Code.{direction_code, suite_code, direction_of, suite_of}
+use Rattle.ep_codec.specs.Field.{octet_at, word_at, number_at, is_key, is_spi, is_window, key_check, spi_check, window_check, code_check, count_check}
 use Rattle.ep_codec.specs.FieldList.{keys_in, key_checks, channel_checks}
 use Rattle.ep_codec.specs.MessageFault.{procedure_in, header_checks, command_checks}
 use Rattle.ep_codec.specs.Procedure.{tag_of}
@@ -67,7 +70,7 @@ sealed_length at octets low high =
 -- 1 to 8 keys to the end
 pub record KeysFound (keys octets : List ℕ) : Type 0 where
   pub are : AllByRecursion (λ key. IsTrue (is_key key)) keys
-  pub count : IsTrue (is_in_range 1 8 (length keys))
+  pub count : IsKeyCount (length keys)
   pub spelled : octets ≡ keys_data keys
 
 pub keys_found : (at : ℕ) (octets : List ℕ) → AreOctets octets → 2 ≤ length octets → length octets ≤ 16 → length octets % 2 ≡ 0
@@ -76,7 +79,7 @@ keys_found at octets are low high even none =
     let n = keys_count octets even in
     record {
       are = keys_are at octets none;
-      count = in_bounds 1 8 (length (keys_in octets)) (omega arith) (omega arith);
+      count = record { least = omega arith; most = omega arith };
       spelled = sym (keys_spelled octets are even);
     }
 
@@ -103,14 +106,6 @@ suite_spelled zero is = absurd (omega (arith, low_bound 1 2 0 is))
 suite_spelled (suc zero) is = refl
 suite_spelled (suc (suc zero)) is = refl
 suite_spelled (suc (suc (suc n))) is = absurd (omega (arith, high_bound 1 2 (suc (suc (suc n))) is))
-
-pub direction_again : (d : Direction) → direction_of (direction_code d) ≡ d
-direction_again Send = refl
-direction_again Receive = refl
-
-pub suite_again : (s : Suite) → suite_of (suite_code s) ≡ s
-suite_again Cmac = refl
-suite_again Gcm = refl
 
 pub direction_in : (d : Direction) → is_in_range 1 2 (direction_code d) ≡ true
 direction_in Send = refl
@@ -147,7 +142,7 @@ association_found octets are framed none =
     let f6 = octet_field 6 octets (omega arith) in
     let f7 = number_field 7 octets are (omega arith) in
     let f15 = octet_field 15 octets (omega arith) in
-    let body : drop 3 octets ≡ association_data (record { spi = word_at 3 octets; direction = direction_of (octet_at 5 octets); suite = suite_of (octet_at 6 octets); window = number_at 7 octets; channels = drop 16 octets }) =
+    let body : drop 3 octets ≡ association_octets (record { spi = word_at 3 octets; direction = direction_of (octet_at 5 octets); suite = suite_of (octet_at 6 octets); window = number_at 7 octets; channels = drop 16 octets }) =
     f3 ∙ ap (λ (l : List ℕ). to_be_bytes w16 (word_at 3 octets) ++ l) (f5 ∙ ap (λ (l : List ℕ). octet_at 5 octets ∷ l) (f6 ∙ ap (λ (l : List ℕ). octet_at 6 octets ∷ l) (f7
     ∙ ap (λ (l : List ℕ). to_be_bytes w64 (number_at 7 octets) ++ l) (f15 ∙ ap (λ (k : ℕ). k ∷ drop 16 octets) count))))
     ∙ ap (λ (k : ℕ). to_be_bytes w16 (word_at 3 octets) ++ k ∷ octet_at 6 octets ∷ (to_be_bytes w64 (number_at 7 octets) ++ length (drop 16 octets) ∷ drop 16 octets)) (sym d)

@@ -9,7 +9,9 @@ use Rattle.sdls_base.specs.declared.states.KeyState.{KeyState}
 use Rattle.sdls_base.specs.declared.states.KeyState.TheVariants.{PreActive, Active, Deactivated, Destroyed}
 use Rattle.sdls_base.specs.FirstFailing.{first_failing}
 use Rattle.ep_codec.specs.Command.{keys_data}
-use Rattle.ep_codec.specs.Field.{is_key, key_state_code, key_state_of}
+use Rattle.sdls_base.proofs.Codes.{key_state_again}
+use Rattle.sdls_base.specs.Code.{key_state_code, key_state_of}
+use Rattle.ep_codec.specs.Field.{is_key}
 use Rattle.ep_codec.specs.FieldList.{keys_in, key_checks, rows_in, row_checks, channel_checks}
 use Rattle.ep_codec.specs.ReplyPdu.{row_octets}
 use Rattle.ep_codec.proofs.Faults.{others_passed}
@@ -63,12 +65,6 @@ state_code (suc (suc (suc zero))) is = refl
 state_code (suc (suc (suc (suc zero)))) is = refl
 state_code (suc (suc (suc (suc (suc n))))) is = absurd (omega (arith, high_bound 1 4 (suc (suc (suc (suc (suc n))))) is))
 
-pub state_again : (state : KeyState) → key_state_of (key_state_code state) ≡ state
-state_again PreActive = refl
-state_again Active = refl
-state_again Deactivated = refl
-state_again Destroyed = refl
-
 pub state_in : (state : KeyState) → is_in_range 1 4 (key_state_code state) ≡ true
 state_in PreActive = refl
 state_in Active = refl
@@ -111,7 +107,7 @@ pub rows_read_again : (rows : List (ℕ × KeyState)) → AllByRecursion (λ row
 rows_read_again [] are = refl
 rows_read_again (row ∷ rows) are =
     let e : from_be_bytes w16 (to_be_bytes w16 row.0) ≡ row.0 = key_again row.0 are.0 in
-    let f = state_again row.1 in
+    let f = key_state_again row.1 in
     let g = rows_read_again rows are.1 in
     let first : (from_be_bytes w16 (to_be_bytes w16 row.0), key_state_of (key_state_code row.1)) ≡ row = λ i. (e i, f i) in
     cc

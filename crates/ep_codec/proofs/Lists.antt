@@ -5,7 +5,8 @@ use Rattle.std.specs.Int.{w16, from_be_bytes, is_in_range}
 use Rattle.std.proofs.lemmas.List.{take_all, append_assoc}
 use Rattle.sdls_base.specs.declared.states.KeyState.{KeyState}
 use Rattle.sdls_base.specs.FirstFailing.{first_failing}
-use Rattle.ep_codec.specs.Field.{is_key, key_state_of}
+use Rattle.sdls_base.specs.Code.{key_state_of}
+use Rattle.ep_codec.specs.Field.{is_key}
 use Rattle.ep_codec.specs.FieldList.{keys_in, key_checks, rows_in, row_checks}
 use Rattle.ep_codec.proofs.Faults.{passed}
 

@@ -15,24 +15,21 @@ use Rattle.ep_codec.specs.declared.procedure.Procedure.TheVariants as procedures
 use Rattle.ep_codec.specs.declared.reply_pdu.ReplyPdu.{ReplyPdu}
 use Rattle.ep_codec.specs.declared.reply_pdu.ReplyPdu.TheVariants.{Rekeying, Activate, Deactivate, Destroy, Create, Delete, SetWindow, Rekey, Expire, SetNumber, Start, Stop, VerifyGcm, VerifyCmac, Inventory, Compose, ReadNumber, Status}
 use Rattle.sdls_base.specs.FirstFailing.{Check, first_failing}
+use Rattle.sdls_base.proofs.Codes.{sa_state_again, direction_again, suite_again}
 use Rattle.ep_codec.specs.Command.{message, sealed_data}
 use Rattle.ep_codec.specs.ReplyPdu.{row_octets, reply_octets, IsInBounds, HasTypes, IsReplyPdu}
 use Rattle.ep_codec.specs.ReplyReading.{reply_at, reply_procedure}
-use Rattle.ep_codec.specs.Field.{octet_at, word_at, double_word_at, number_at, is_key, is_window, seals, sa_state_code, sa_state_of, direction_code, suite_code, optional_key, key_check, window_check, code_check, sealing_key_check, mac_key_check, inner_length_check}
+use Rattle.sdls_base.specs.Code.{sa_state_code, sa_state_of, direction_code, suite_code}
+use Rattle.ep_codec.specs.Field.{octet_at, word_at, double_word_at, number_at, is_key, is_window, seals, optional_key, key_check, window_check, code_check, sealing_key_check, mac_key_check, inner_length_check}
 use Rattle.ep_codec.specs.MessageFault.{reply_checks}
 use Rattle.ep_codec.specs.Procedure.{tag_of, has_reply_length}
 use Rattle.ep_codec.proofs.FieldFacts.{low_bound, high_bound, in_bounds, keeps}
 use Rattle.ep_codec.proofs.HeaderFacts.{Passes, header_again}
-use Rattle.ep_codec.proofs.CommandFacts.{direction_again, suite_again, direction_in, suite_in}
+use Rattle.ep_codec.proofs.CommandFacts.{direction_in, suite_in}
 use Rattle.ep_codec.proofs.CommandAgain.{range_at, sealed_again, spi_again, key_passes, spi_small, key_small, window_small, window_passes}
 use Rattle.ep_codec.proofs.Lengths.{rows_length}
 use Rattle.ep_codec.proofs.ListFacts.{rows_read_again, rows_pass}
 use Rattle.ep_codec.proofs.ReplyFacts.{optional_some}
-
-sa_state_again : (state : SaState) → sa_state_of (sa_state_code state) ≡ state
-sa_state_again Unkeyed = refl
-sa_state_again Keyed = refl
-sa_state_again Operational = refl
 
 sa_state_in : (state : SaState) → is_in_range 1 3 (sa_state_code state) ≡ true
 sa_state_in Unkeyed = refl

@@ -13,7 +13,8 @@ use Rattle.sdls_base.specs.FirstFailing.{first_failing}
 use Rattle.ep_codec.specs.Command.{message}
 use Rattle.ep_codec.specs.ReplyPdu.{reply_octets, IsInBounds, HasTypes, IsReplyPdu}
 use Rattle.ep_codec.specs.ReplyReading.{reply_at}
-use Rattle.ep_codec.specs.Field.{octet_at, word_at, double_word_at, number_at, is_key, is_spi, is_window, seals, sa_state_code, sa_state_of, direction_code, suite_code, direction_of, suite_of, optional_key, key_check, window_check, code_check, sealing_key_check, mac_key_check, inner_length_check}
+use Rattle.sdls_base.specs.Code.{sa_state_code, sa_state_of, direction_code, suite_code, direction_of, suite_of}
+use Rattle.ep_codec.specs.Field.{octet_at, word_at, double_word_at, number_at, is_key, is_spi, is_window, seals, optional_key, key_check, window_check, code_check, sealing_key_check, mac_key_check, inner_length_check}
 use Rattle.ep_codec.specs.MessageFault.{procedure_in, header_checks, reply_checks}
 use Rattle.ep_codec.specs.Procedure.{tag_of}
 use Rattle.ep_codec.proofs.Faults.{others_passed}

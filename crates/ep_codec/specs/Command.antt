@@ -3,11 +3,11 @@
 use Rattle.std.specs.Prelude.{◌≡◌, ⊤, ℕ, ◌*◌, ◌^◌, ◌<◌, ◌≤◌, IsTrue, List, ◌∷◌, ◌++◌, length}
 use Rattle.std.specs.List.{flat_map, AllByRecursion}
 use Rattle.std.specs.Int.{w16, w64, to_be_bytes, is_in_range}
-use Rattle.sdls_base.specs.Bounds.{AreChannels, IsWidth}
-use Rattle.sdls_base.specs.declared.change.NewSa.{NewSa}
+use Rattle.sdls_base.specs.Bounds.{AreChannels, IsKeyCount, IsWidth}
+use Rattle.sdls_base.specs.Spelling.{association_octets}
 use Rattle.ep_codec.specs.declared.command.Command.{Command}
 use Rattle.ep_codec.specs.declared.command.Command.TheVariants.{Rekeying, Activate, Deactivate, Verify, Destroy, Inventory, Compose, ReadNumber, Create, Delete, SetWindow, Rekey, Expire, SetNumber, Start, Stop, Status}
-use Rattle.ep_codec.specs.Field.{is_key, is_spi, direction_code, suite_code}
+use Rattle.ep_codec.specs.Field.{is_key, is_spi}
 
 -- a message: its tag, the length of its data in bits, and its data
 abbrev pub message : ℕ → List ℕ → List ℕ
@@ -21,11 +21,6 @@ sealed_data key vector sealed tag = to_be_bytes w16 key ++ (vector ++ (sealed ++
 abbrev pub keys_data : List ℕ → List ℕ
 keys_data keys = flat_map (to_be_bytes w16) keys
 
--- an association, with the count of its channels before them
-abbrev pub association_data : NewSa → List ℕ
-association_data sa = to_be_bytes w16 sa.spi
-    ++ direction_code sa.direction ∷ suite_code sa.suite ∷ (to_be_bytes w64 sa.window ++ length sa.channels ∷ sa.channels)
-
 -- the one spelling of each command
 unfoldable pub command_octets : Command → List ℕ
 command_octets (Rekeying master vector sealed tag) = message 0x01 (sealed_data master vector sealed tag)
@@ -36,7 +31,7 @@ command_octets (Destroy keys) = message 0x06 (keys_data keys)
 command_octets (Inventory first last) = message 0x07 (to_be_bytes w16 first ++ to_be_bytes w16 last)
 command_octets (Compose master keys) = message 0x08 (to_be_bytes w16 master ++ keys_data keys)
 command_octets (ReadNumber spi) = message 0x10 (to_be_bytes w16 spi)
-command_octets (Create sa) = message 0x11 (association_data sa)
+command_octets (Create sa) = message 0x11 (association_octets sa)
 command_octets (Delete spi) = message 0x14 (to_be_bytes w16 spi)
 command_octets (SetWindow spi window) = message 0x15 (to_be_bytes w16 spi ++ to_be_bytes w64 window)
 command_octets (Rekey spi key number) = message 0x16 (to_be_bytes w16 spi ++ (to_be_bytes w16 key ++ to_be_bytes w64 number))
@@ -46,10 +41,6 @@ command_octets (Start spi) = message 0x1b (to_be_bytes w16 spi)
 command_octets (Stop spi) = message 0x1e (to_be_bytes w16 spi)
 command_octets (Status spi) = message 0x1f (to_be_bytes w16 spi)
 
--- 1 to 8 keys
-abbrev pub IsKeyCount : List ℕ → Type 0
-IsKeyCount keys = IsTrue (is_in_range 1 8 (length keys))
-
 -- from one sealed item of 19 octets to eight of 35 each, and every length between
 abbrev pub IsSealedLength : List ℕ → Type 0
 IsSealedLength sealed = IsTrue (is_in_range 19 280 (length sealed))
@@ -57,12 +48,12 @@ IsSealedLength sealed = IsTrue (is_in_range 19 280 (length sealed))
 -- the values lie in the bounds of their fields, where their types leave that open
 unfoldable pub IsInBounds : Command → Type 0
 IsInBounds (Rekeying master vector sealed tag) = IsSealedLength sealed
-IsInBounds (Activate keys) = IsKeyCount keys
-IsInBounds (Deactivate keys) = IsKeyCount keys
+IsInBounds (Activate keys) = IsKeyCount (length keys)
+IsInBounds (Deactivate keys) = IsKeyCount (length keys)
 IsInBounds (Verify key challenge) = ⊤
-IsInBounds (Destroy keys) = IsKeyCount keys
+IsInBounds (Destroy keys) = IsKeyCount (length keys)
 IsInBounds (Inventory first last) = first ≤ last
-IsInBounds (Compose master keys) = IsKeyCount keys
+IsInBounds (Compose master keys) = IsKeyCount (length keys)
 IsInBounds (ReadNumber spi) = ⊤
 IsInBounds (Create sa) = IsWidth sa.window × AreChannels sa.channels × AllByRecursion (λ channel. channel ≤ 63) sa.channels
 IsInBounds (Delete spi) = ⊤

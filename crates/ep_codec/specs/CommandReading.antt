@@ -4,7 +4,8 @@ use Rattle.ep_codec.specs.declared.procedure.Procedure.{Procedure}
 use Rattle.ep_codec.specs.declared.procedure.Procedure.TheVariants as procedures
 use Rattle.ep_codec.specs.declared.command.Command.{Command}
 use Rattle.ep_codec.specs.declared.command.Command.TheVariants.{Rekeying, Activate, Deactivate, Verify, Destroy, Inventory, Compose, ReadNumber, Create, Delete, SetWindow, Rekey, Expire, SetNumber, Start, Stop, Status}
-use Rattle.ep_codec.specs.Field.{octet_at, word_at, number_at, direction_of, suite_of}
+use Rattle.sdls_base.specs.Code.{direction_of, suite_of}
+use Rattle.ep_codec.specs.Field.{octet_at, word_at, number_at}
 use Rattle.ep_codec.specs.FieldList.{keys_in}
 
 -- whose message the command is

@@ -4,14 +4,6 @@ use Rattle.std.specs.Int.{w16, w32, w64, from_be_bytes, is_in_range}
 use Rattle.sdls_base.specs.declared.TheConstants.{MOST_WINDOW}
 use Rattle.sdls_base.specs.declared.key_id.KeyClass.{KeyClass}
 use Rattle.sdls_base.specs.declared.key_id.KeyClass.TheVariants as classes
-use Rattle.sdls_base.specs.declared.states.Direction.{Direction}
-use Rattle.sdls_base.specs.declared.states.Direction.TheVariants.{Send, Receive}
-use Rattle.sdls_base.specs.declared.states.Suite.{Suite}
-use Rattle.sdls_base.specs.declared.states.Suite.TheVariants.{Cmac, Gcm}
-use Rattle.sdls_base.specs.declared.states.KeyState.{KeyState}
-use Rattle.sdls_base.specs.declared.states.KeyState.TheVariants as key_states
-use Rattle.sdls_base.specs.declared.states.SaState.{SaState}
-use Rattle.sdls_base.specs.declared.states.SaState.TheVariants.{Unkeyed, Keyed, Operational}
 use Rattle.sdls_base.specs.KeyId.{class_of}
 use Rattle.sdls_base.specs.FirstFailing.{Check}
 
@@ -34,41 +26,6 @@ abbrev pub seals : KeyClass → Bool
 seals classes.Master = true
 seals classes.Gcm = true
 seals classes.Cmac = false
-
--- ---- the numbers of states, directions and suites
-
-abbrev pub key_state_code : KeyState → ℕ
-key_state_code key_states.PreActive = 1
-key_state_code key_states.Active = 2
-key_state_code key_states.Deactivated = 3
-key_state_code key_states.Destroyed = 4
-
-abbrev pub sa_state_code : SaState → ℕ
-sa_state_code Unkeyed = 1
-sa_state_code Keyed = 2
-sa_state_code Operational = 3
-
-abbrev pub direction_code : Direction → ℕ
-direction_code Send = 1
-direction_code Receive = 2
-
-abbrev pub suite_code : Suite → ℕ
-suite_code Cmac = 1
-suite_code Gcm = 2
-
--- what a number that is in bounds stands for
-
-abbrev pub key_state_of : ℕ → KeyState
-key_state_of n = if n == 1 then key_states.PreActive else (if n == 2 then key_states.Active else (if n == 3 then key_states.Deactivated else key_states.Destroyed))
-
-abbrev pub sa_state_of : ℕ → SaState
-sa_state_of n = if n == 1 then Unkeyed else (if n == 2 then Keyed else Operational)
-
-abbrev pub direction_of : ℕ → Direction
-direction_of n = if n == 1 then Send else Receive
-
-abbrev pub suite_of : ℕ → Suite
-suite_of n = if n == 1 then Cmac else Gcm
 
 -- a key that may be absent: 0 names none
 abbrev pub optional_key : ℕ → Option ℕ

@@ -3,7 +3,8 @@ use Rattle.std.specs.Prelude.{ℕ, ◌+◌, not, List, [], ◌∷◌}
 use Rattle.std.specs.Int.{w16, from_be_bytes, is_in_range}
 use Rattle.sdls_base.specs.declared.states.KeyState.{KeyState}
 use Rattle.sdls_base.specs.FirstFailing.{Check}
-use Rattle.ep_codec.specs.Field.{is_key, key_state_of}
+use Rattle.sdls_base.specs.Code.{key_state_of}
+use Rattle.ep_codec.specs.Field.{is_key}
 
 -- the keys in pairs of octets
 abbrev pub keys_in : List ℕ → List ℕ

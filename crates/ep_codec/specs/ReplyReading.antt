@@ -4,7 +4,8 @@ use Rattle.ep_codec.specs.declared.procedure.Procedure.{Procedure}
 use Rattle.ep_codec.specs.declared.procedure.Procedure.TheVariants as procedures
 use Rattle.ep_codec.specs.declared.reply_pdu.ReplyPdu.{ReplyPdu}
 use Rattle.ep_codec.specs.declared.reply_pdu.ReplyPdu.TheVariants.{Rekeying, Activate, Deactivate, Destroy, Create, Delete, SetWindow, Rekey, Expire, SetNumber, Start, Stop, VerifyGcm, VerifyCmac, Inventory, Compose, ReadNumber, Status}
-use Rattle.ep_codec.specs.Field.{octet_at, word_at, double_word_at, number_at, sa_state_of, direction_of, suite_of, optional_key}
+use Rattle.sdls_base.specs.Code.{sa_state_of, direction_of, suite_of}
+use Rattle.ep_codec.specs.Field.{octet_at, word_at, double_word_at, number_at, optional_key}
 use Rattle.ep_codec.specs.FieldList.{rows_in}
 
 -- whose message the reply is

@@ -2,7 +2,9 @@
 ghost use Rattle.std.specs.Prelude.{◌≡◌, ◌*◌, ◌+◌, ◌^◌, ◌<◌, ◌≤◌, IsTrue, [], ◌∷◌, ◌++◌, length, OnOk, IfOk};
 ghost use Rattle.std.specs.Int.{w16, w64, to_be_bytes, is_in_range};
 ghost use Rattle.ep_codec.specs.Field.{is_key, is_spi};
-ghost use Rattle.ep_codec.specs.Command.{AreKeys, message, sealed_data, keys_data, association_data, command_octets, IsInBounds, HasTypes, IsCommandPdu};
+ghost use Rattle.sdls_base.specs.Bounds.{AreChannels, IsKeyCount};
+ghost use Rattle.sdls_base.specs.Spelling.{association_octets};
+ghost use Rattle.ep_codec.specs.Command.{AreKeys, message, sealed_data, keys_data, command_octets, IsInBounds, HasTypes, IsCommandPdu};
 
 use crate::command::Command;
 use crate::fields::SEALED_EXTRA;
@@ -49,7 +51,7 @@ fn put_keys(out: &mut Vec<u8>, keys: &KeyList) -> Result<(), NoMemory>
 
 #[tactic(auto, using(crate::proofs::Lengths::keys_length))]
 fn keys_message(alloc: Global, kind: u8, keys: &KeyList) -> Result<Vec<u8>, NoMemory>
-    requires { IsTrue (is_in_range 1 8 (length keys.now)) }
+    requires { IsKeyCount (length keys.now) }
     ensures octets { IfOk result (λ out. out.items ≡ message kind (keys_data keys.now)) }
     ensures types { OnOk result (AreKeys keys.now) }
 {
@@ -96,8 +98,8 @@ pub(crate) fn sealed_message(
 }
 
 fn create_message(alloc: Global, kind: u8, sa: &NewSa) -> Result<Vec<u8>, NoMemory>
-    requires { IsTrue (is_in_range 1 8 (length sa.now.channels)) }
-    ensures octets { IfOk result (λ out. out.items ≡ message kind (association_data sa.now)) }
+    requires { AreChannels sa.now.channels }
+    ensures octets { IfOk result (λ out. out.items ≡ message kind (association_octets sa.now)) }
     ensures types { OnOk result (IsTrue (is_spi sa.now.spi)) }
 {
     let channels = sa.channels.as_slice();
@@ -143,7 +145,7 @@ fn compose_message(
     master: KeyId,
     keys: &KeyList,
 ) -> Result<Vec<u8>, NoMemory>
-    requires { IsTrue (is_in_range 1 8 (length keys.now)) }
+    requires { IsKeyCount (length keys.now) }
     ensures octets { IfOk result (λ out. out.items
         ≡ message kind (to_be_bytes w16 master ++ keys_data keys.now)) }
     ensures types { OnOk result (IsTrue (is_key master) × AreKeys keys.now) }

@@ -2,7 +2,7 @@
 ghost use Rattle.std.specs.Prelude.{◌≡◌, ◌+◌, ◌^◌, ◌<◌, not, length, [], ◌∷◌};
 ghost use Rattle.std.specs.Int.{is_in_range};
 ghost use Rattle.ep_codec.specs.Check.{Judges};
-ghost use Rattle.ep_codec.specs.Field.{key_state_of};
+ghost use Rattle.sdls_base.specs.Code.{key_state_of};
 ghost use Rattle.ep_codec.specs.FieldList.{keys_in, key_checks, rows_in, row_checks, channel_checks};
 
 use crate::fields::key_of;
@@ -32,13 +32,7 @@ fn key_state(number: u8, at: usize) -> Result<KeyState, PduError>
     ensures { Judges result ((not (is_in_range 1 4 number), at) ∷ [])
         (λ state. state ≡ key_state_of number) }
 {
-    match number {
-        1 => Ok(KeyState::PreActive),
-        2 => Ok(KeyState::Active),
-        3 => Ok(KeyState::Deactivated),
-        4 => Ok(KeyState::Destroyed),
-        _ => Err(PduError::Fault(at as u32)),
-    }
+    KeyState::from_code(number).ok_or(PduError::Fault(at as u32))
 }
 
 /// The keys with their states from a place on, where a message has these octets to its end.

@@ -1,7 +1,8 @@
 //! The fields of a message, read at their places.
 ghost use Rattle.std.specs.Prelude.{◌≡◌, ◌+◌, ◌^◌, ◌<◌, ◌≤◌, not, length, slice_range, [], ◌∷◌};
 ghost use Rattle.ep_codec.specs.Check.{Judges};
-ghost use Rattle.ep_codec.specs.Field.{word_at, double_word_at, number_at, octet_at, is_key, key_check, spi_check, window_check, code_check, sa_state_of, direction_of, suite_of};
+ghost use Rattle.sdls_base.specs.Code.{sa_state_of, direction_of, suite_of};
+ghost use Rattle.ep_codec.specs.Field.{word_at, double_word_at, number_at, octet_at, is_key, key_check, spi_check, window_check, code_check};
 
 use crate::pdu_error::PduError;
 use sdls_base::{Direction, KeyId, MOST_WINDOW, SaState, Spi, Suite};
@@ -103,12 +104,7 @@ pub(crate) fn sa_state(octets: &[u8], at: usize) -> Result<SaState, PduError>
     ensures { Judges result (code_check 3 at octets.now ∷ [])
         (λ state. state ≡ sa_state_of (octet_at at octets.now)) }
 {
-    match octets[at] {
-        1 => Ok(SaState::Unkeyed),
-        2 => Ok(SaState::Keyed),
-        3 => Ok(SaState::Operational),
-        _ => Err(PduError::Fault(at as u32)),
-    }
+    SaState::from_code(octets[at]).ok_or(PduError::Fault(at as u32))
 }
 
 pub(crate) fn direction(octets: &[u8], at: usize) -> Result<Direction, PduError>
@@ -117,11 +113,7 @@ pub(crate) fn direction(octets: &[u8], at: usize) -> Result<Direction, PduError>
     ensures { Judges result (code_check 2 at octets.now ∷ [])
         (λ direction. direction ≡ direction_of (octet_at at octets.now)) }
 {
-    match octets[at] {
-        1 => Ok(Direction::Send),
-        2 => Ok(Direction::Receive),
-        _ => Err(PduError::Fault(at as u32)),
-    }
+    Direction::from_code(octets[at]).ok_or(PduError::Fault(at as u32))
 }
 
 pub(crate) fn suite(octets: &[u8], at: usize) -> Result<Suite, PduError>
@@ -130,9 +122,5 @@ pub(crate) fn suite(octets: &[u8], at: usize) -> Result<Suite, PduError>
     ensures { Judges result (code_check 2 at octets.now ∷ [])
         (λ suite. suite ≡ suite_of (octet_at at octets.now)) }
 {
-    match octets[at] {
-        1 => Ok(Suite::Cmac),
-        2 => Ok(Suite::Gcm),
-        _ => Err(PduError::Fault(at as u32)),
-    }
+    Suite::from_code(octets[at]).ok_or(PduError::Fault(at as u32))
 }

@@ -31,22 +31,24 @@ use Rattle.sa_book.specs.SaBook.{in_use}
 use Rattle.sa_book.specs.SaRefusal.{unless_unkeyed, if_unkeyed, number_refusal_of, set_number_refusal}
 use Rattle.unit_state.specs.declared.state.State.{State}
 use Rattle.unit_state.specs.State.{KeepsRules, HasKey, MayHold, key_row, association_row}
-use Rattle.unit_state.specs.Allows.{Allows, AllowsLoad, AllowsStates, AllowsRekey, AllowsNumber, IsSessionKey, least_number}
+use Rattle.unit_state.specs.Allows.{Allows, AllowsLoad, AllowsStates, AllowsRekey, AllowsNumber, IsSessionKey}
+use Rattle.unit_state.specs.Taking.{least_with, taking_refusal}
 use Rattle.unit_state.proofs.Found.{found}
 use Rattle.unit_state.proofs.RulesKept.{there, some_there, some_and}
 use Rattle.unit_state.proofs.SaRules.{judged}
-use Rattle.ep_codec.specs.Command.{IsInBounds, IsKeyCount}
+use Rattle.sdls_base.specs.Bounds.{IsKeyCount}
+use Rattle.ep_codec.specs.Command.{IsInBounds}
 use Rattle.ep_codec.specs.declared.command.Command.{Command}
 use Rattle.ep_codec.specs.declared.command.Command.TheVariants.{Rekeying, Activate, Deactivate, Verify, Destroy, Inventory, Compose, ReadNumber, Create, Delete, SetWindow, Rekey, Expire, SetNumber, Start, Stop, Status}
 use Rattle.ep_codec.specs.declared.reply_pdu.ReplyPdu.{ReplyPdu}
 use Rattle.ep_codec.specs.declared.reply_pdu.ReplyPdu.TheVariants as replies
-use Rattle.ep_codec.proofs.FieldFacts.{low_bound, high_bound}
+use Rattle.ep_codec.proofs.FieldFacts.{low_bound}
 use Rattle.ep_core.specs.declared.need.Need.TheVariants as needs
 use Rattle.ep_core.specs.declared.refusal.Refusal.{Refusal}
 use Rattle.ep_core.specs.declared.refusal.Refusal.TheVariants.{BadTag, BadItems}
 use Rattle.ep_core.specs.declared.reply.Reply.{Reply}
 use Rattle.ep_core.specs.Need.{sends, is_sending, sending_key, sending_key_of, need_of}
-use Rattle.ep_core.specs.Refusals.{from_keys, from_associations, refusal_of, opened, items_of, master_checks, text_checks, unless_free, unless_known, unless_takes, least_at, least_of, least_with, takes_key}
+use Rattle.ep_core.specs.Refusals.{from_keys, from_associations, refusal_of, opened, items_of, master_checks, text_checks, unless_free, unless_known, unless_takes, least_at, least_of}
 use Rattle.ep_core.specs.Sealed.{front, item_fault, item_at, items_fault, items_in}
 use Rattle.ep_core.specs.Seen.{MeetsNeed, IsWord, word_of}
 use Rattle.ep_core.specs.Step.{IsStep, IsDone, refused, done}
@@ -169,11 +171,11 @@ rekeying_allowed state master vector sealed tag long known none =
 
 -- ---- keys that take a state
 
-states_allowed : (state : State) (keys : List ℕ) (to : KeyState) → IsKeyCount keys
+states_allowed : (state : State) (keys : List ℕ) (to : KeyState) → IsKeyCount (length keys)
     → from_keys (moves_refusal state.keys keys to (in_use state.associations)) ≡ None → AllowsStates state keys to
 states_allowed state keys to count none =
     record {
-      count = record { least = low_bound 1 8 (length keys) count; most = high_bound 1 8 (length keys) count };
+      count = count;
       book = keys_free _ (told_moves state.keys keys to (in_use state.associations)) none;
     }
 
@@ -192,7 +194,7 @@ word_seen state command s key number (Some refusal) e fits none =
     absurd (let wrong : Some refusal ≡ None = sym e ∙ sym (ap (refusal_of state command) fits) ∙ none in cc)
 
 least_below : (direction : Direction) (held : KeyRow) (word : ℕ) → (direction ≡ Send → 1 ≤ word)
-    → least_number direction held ≤ least_with word direction held
+    → least_with 1 direction held ≤ least_with word direction held
 least_below Send held word seen = seen refl
 least_below Receive held word seen = omega arith
 
@@ -229,14 +231,14 @@ rekey_allowed state spi key number s fits none =
     let at = judged state.associations spi (λ (row : SaRow). unless_unkeyed row.state)
     (associations_free spi None (unless_free state spi) (tells_free None (association_row state spi)) one.0) in
     let t = some_there (key_row state key) (known_key key (key_row state key) known) in
-    let takes : takes_key state spi key number (word_of s) at.row t.row ≡ None =
+    let takes : taking_refusal state spi key number (word_of s) at.row t.row ≡ None =
     associations_free spi (Some key) _ (tells_rekey state.associations spi key t.row.state number (least_with (word_of s) at.row.direction t.row))
     (sym (rekey_told state spi key number (word_of s) at.row t.row at.there (unkeyed at.row.state at.free) t.is) ∙ none) in
     let least = least_below at.row.direction t.row (word_of s)
     (λ send. rekey_word state spi key number s (sends state spi) (sends_with state spi at.row at.there send) fits none) in
     some_and _ at.row _ at.there
     (some_and _ t.row _ t.is
-    (rekey_weaker state.associations spi key t.row.state number (least_number at.row.direction t.row) (least_with (word_of s) at.row.direction t.row) least takes))
+    (rekey_weaker state.associations spi key t.row.state number (least_with 1 at.row.direction t.row) (least_with (word_of s) at.row.direction t.row) least takes))
 
 -- ---- a number for an association
 
@@ -281,12 +283,12 @@ number_allowed state spi number s rules fits none =
     let below = least_below row.direction t.row (word_of s)
     (λ send. number_word state spi number s (sending_key state spi)
     (subst IsSome (sym (sends_key state spi k.row row at.there k.is send)) refl) fits none) in
-    let le : least_number row.direction t.row ≤ least =
+    let le : least_with 1 row.direction t.row ≤ least =
     omega (arith, below, least_is state spi k.row (word_of s) row t.row at.there k.is t.is) in
     some_and _ row _ at.there
     (some_and _ k.row _ k.is
     (some_and _ t.row _ t.is
-    (set_number_weaker state.associations spi number (least_number row.direction t.row) least le free)))
+    (set_number_weaker state.associations spi number (least_with 1 row.direction t.row) least le free)))
 
 -- ---- all commands
 

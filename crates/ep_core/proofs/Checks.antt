@@ -12,7 +12,8 @@ use Rattle.sa_book.specs.SaRefusal.{on_row, unless_unkeyed}
 use Rattle.unit_state.specs.declared.state.State.{State}
 use Rattle.unit_state.specs.State.{key_row, association_row}
 use Rattle.ep_core.specs.declared.refusal.Refusal.{Refusal}
-use Rattle.ep_core.specs.Refusals.{from_associations, unless_known, takes_key, rekey_checks, if_exhausted, master_checks, session_checks, compose_checks}
+use Rattle.ep_core.specs.Refusals.{from_associations, unless_known, rekey_checks, if_exhausted, master_checks, session_checks, compose_checks}
+use Rattle.unit_state.specs.Taking.{taking_refusal}
 
 -- one check alone
 pub one_told : {A : Type 0} (check : Option A) → first_told (check ∷ []) ≡ check
@@ -22,21 +23,21 @@ one_told (Some told) = refl
 -- an unkeyed association, and a key that is there
 pub rekey_told : (state : State) (spi key number word : ℕ) (row : SaRow) (held : KeyRow) → association_row state spi ≡ Some row
     → row.state ≡ Unkeyed → key_row state key ≡ Some held
-    → first_told (rekey_checks state spi key number word) ≡ from_associations spi (Some key) (takes_key state spi key number word row held)
+    → first_told (rekey_checks state spi key number word) ≡ from_associations spi (Some key) (taking_refusal state spi key number word row held)
 rekey_told state spi key number word row held p q r =
     ap (λ (a : Option SaRow). first_told (from_associations spi None (on_row a (λ row. unless_unkeyed row.state))
     ∷ unless_known key (key_row state key)
-    ∷ from_associations spi (Some key) (option_and_then (λ row. option_and_then (takes_key state spi key number word row) (key_row state key)) a)
+    ∷ from_associations spi (Some key) (option_and_then (λ row. option_and_then (taking_refusal state spi key number word row) (key_row state key)) a)
     ∷ [])) p
     ∙ ap (λ (h : Option KeyRow). first_told (from_associations spi None (unless_unkeyed row.state)
     ∷ unless_known key h
-    ∷ from_associations spi (Some key) (option_and_then (takes_key state spi key number word row) h)
+    ∷ from_associations spi (Some key) (option_and_then (taking_refusal state spi key number word row) h)
     ∷ [])) r
     ∙ ap (λ (s : SaState). first_told (from_associations spi None (unless_unkeyed s)
     ∷ None
-    ∷ from_associations spi (Some key) (takes_key state spi key number word row held)
+    ∷ from_associations spi (Some key) (taking_refusal state spi key number word row held)
     ∷ [])) q
-    ∙ one_told (from_associations spi (Some key) (takes_key state spi key number word row held))
+    ∙ one_told (from_associations spi (Some key) (taking_refusal state spi key number word row held))
 
 -- checks behind others
 pub told_append : {A : Type 0} (front back : List (Option A)) → first_told (front ++ back) ≡ option_or (first_told front) (first_told back)

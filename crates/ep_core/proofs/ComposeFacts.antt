@@ -14,7 +14,7 @@ use Rattle.unit_state.specs.State.{KeepsRules, key_row}
 use Rattle.unit_state.proofs.Found.{held_rules}
 use Rattle.ep_core.specs.declared.refusal.Refusal.TheVariants.{NotMaster, NotSession}
 use Rattle.ep_core.specs.Refusals.{by_state, unless_active, if_destroyed, unless_known, is_master, master_checks, session_checks}
-use Rattle.ep_core.specs.Sealed.{item_octets}
+use Rattle.sdls_base.specs.Spelling.{item_octets}
 use Rattle.ep_core.specs.Step.{octets_of, clear_text}
 use Rattle.ep_core.proofs.Checks.{told_append}
 use Rattle.ep_core.proofs.SealedFacts.{passed_both}

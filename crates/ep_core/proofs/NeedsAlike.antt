@@ -27,7 +27,8 @@ use Rattle.ep_core.specs.declared.refusal.Refusal.{Refusal}
 use Rattle.ep_core.specs.declared.refusal.Refusal.TheVariants.{NotMaster, NotSession}
 use Rattle.ep_core.specs.Need.{is_sending, sending_key_of, need_of}
 use Rattle.ep_core.specs.Refusals as refusals
-use Rattle.ep_core.specs.Refusals.{from_associations, unless_known, by_state, unless_usable, master_checks, session_checks, compose_checks, rekey_checks, least_with, least_at, least_of, held_row}
+use Rattle.ep_core.specs.Refusals.{from_associations, unless_known, by_state, unless_usable, master_checks, session_checks, compose_checks, least_of, held_row}
+use Rattle.unit_state.specs.Taking.{least_with}
 
 -- ---- rows
 

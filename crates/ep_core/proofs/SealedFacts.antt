@@ -1,7 +1,6 @@
 -- What is sealed, octet by octet, and the octets and numbers of keys that seal.
-use Rattle.std.proofs.Common.{◌≡◌, ℕ, ◌<◌, List, [], ◌∷◌, ◌++◌, length, get_or, Option, Some, None, refl, sym, ap, ◌∙◌, subst, arith}
+use Rattle.std.proofs.Common.{◌≡◌, ℕ, ◌<◌, List, [], ◌∷◌, length, Option, Some, None, refl, sym, ap, ◌∙◌, subst, arith}
 use Rattle.std.specs.Prelude.{IsSomeAnd, nat_eq}
-use Rattle.std.specs.Int.{w64, to_be_bytes}
 use Rattle.std.proofs.lemmas.Bool.{eqb-true}
 use Rattle.sdls_base.specs.Bounds.{IsKeyLength}
 use Rattle.sdls_base.specs.FirstFailing.{first_told}
@@ -18,31 +17,6 @@ use Rattle.unit_state.specs.State.{KeepsRules, key_row}
 use Rattle.unit_state.proofs.Found.{held_rules, found_passes}
 use Rattle.ep_core.specs.Refusals.{by_state, unless_usable, verify_checks, unless_known, if_exhausted}
 use Rattle.ep_core.specs.Seen.{IsNumberSeen, number_of}
-
--- ---- the vector
-
-four : (d : List ℕ) → length d ≡ 4 → get_or d 0 0 ∷ get_or d 1 0 ∷ get_or d 2 0 ∷ get_or d 3 0 ∷ [] ≡ d
-four [] h = absurd (omega arith)
-four (a ∷ []) h = absurd (omega arith)
-four (a ∷ b ∷ []) h = absurd (omega arith)
-four (a ∷ b ∷ c ∷ []) h = absurd (omega arith)
-four (a ∷ b ∷ c ∷ e ∷ []) h = refl
-four (a ∷ b ∷ c ∷ e ∷ f ∷ rest) h = absurd (omega arith)
-
-pub vector_is : (device word : List ℕ) (n : ℕ) → length device ≡ 4 → word ≡ to_be_bytes w64 n
-    → ◌≡◌ {A = List ℕ}
-    (get_or device 0 0 ∷ get_or device 1 0 ∷ get_or device 2 0 ∷ get_or device 3 0
-    ∷ get_or word 0 0 ∷ get_or word 1 0 ∷ get_or word 2 0 ∷ get_or word 3 0
-    ∷ get_or word 4 0 ∷ get_or word 5 0 ∷ get_or word 6 0 ∷ get_or word 7 0 ∷ [])
-    (device ++ to_be_bytes w64 n)
-vector_is device word n long is =
-    subst
-    (λ (w : List ℕ). ◌≡◌ {A = List ℕ}
-    (get_or device 0 0 ∷ get_or device 1 0 ∷ get_or device 2 0 ∷ get_or device 3 0
-    ∷ get_or w 0 0 ∷ get_or w 1 0 ∷ get_or w 2 0 ∷ get_or w 3 0 ∷ get_or w 4 0 ∷ get_or w 5 0 ∷ get_or w 6 0 ∷ get_or w 7 0 ∷ [])
-    (device ++ to_be_bytes w64 n))
-    (sym is)
-    (ap (λ (d : List ℕ). d ++ to_be_bytes w64 n) (four device long))
 
 -- ---- checks that are passed
 

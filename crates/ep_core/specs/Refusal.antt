@@ -6,7 +6,7 @@ use Rattle.key_book.specs.declared.key_refusal.KeyRefusal.{KeyRefusal}
 use Rattle.key_book.specs.declared.key_refusal.KeyRefusal.TheVariants as key_book
 use Rattle.sa_book.specs.declared.sa_refusal.SaRefusal.{SaRefusal}
 use Rattle.sa_book.specs.declared.sa_refusal.SaRefusal.TheVariants as sa_book
-use Rattle.ep_codec.specs.Field.{key_state_code, sa_state_code}
+use Rattle.sdls_base.specs.Code.{key_state_code, sa_state_code}
 use Rattle.ep_core.specs.declared.refusal.Refusal.{Refusal}
 use Rattle.ep_core.specs.declared.refusal.Refusal.TheVariants.{AlreadyLoaded, DuplicateKey, BookFull, KeyInState, KeyInUse, UnknownKey, UnknownSpi, SpiTaken, SaInState, ChannelTaken, KeyNotActive, BelowFloor, TableFull, WrongSuite, PastEnd, UnknownChannel, KeyTaken, BadTag, BadItems, Exhausted, PduFault, NotMaster, NotSession}
 

@@ -1,8 +1,9 @@
 -- The refusals of each command, in their order; the first that applies is told (CCSDS 355.1-B-1; order profile).
-use Rattle.std.specs.Prelude.{ℕ, ◌+◌, Bool, true, false, not, List, [], ◌∷◌, ◌++◌, length, Option, Some, None, is_none}
+use Rattle.std.specs.Prelude.{ℕ, Bool, true, false, not, List, [], ◌∷◌, ◌++◌, length, Option, Some, None, is_none}
 use Rattle.std.specs.List.{flat_map}
 use Rattle.std.specs.Option.{option_map, option_map_or, option_and_then}
 use Rattle.gcm.specs.Gcm.{gcm_open}
+use Rattle.sdls_base.specs.declared.TheConstants.{MOST_KEYS_AT_ONCE}
 use Rattle.sdls_base.specs.FirstFailing.{fails_if, first_told}
 use Rattle.sdls_base.specs.KeyId.{class_of}
 use Rattle.sdls_base.specs.declared.entry.Seen.{Seen}
@@ -10,8 +11,6 @@ use Rattle.sdls_base.specs.declared.entry.Seen.TheVariants as seen
 use Rattle.sdls_base.specs.declared.key_item.KeyItem.{KeyItem}
 use Rattle.sdls_base.specs.declared.key_id.KeyClass.{KeyClass}
 use Rattle.sdls_base.specs.declared.key_id.KeyClass.TheVariants.{Master, Gcm, Cmac}
-use Rattle.sdls_base.specs.declared.states.Direction.{Direction}
-use Rattle.sdls_base.specs.declared.states.Direction.TheVariants.{Send, Receive}
 use Rattle.sdls_base.specs.declared.states.KeyState.{KeyState}
 use Rattle.sdls_base.specs.declared.states.KeyState.TheVariants.{PreActive, Active, Deactivated, Destroyed}
 use Rattle.key_book.specs.declared.key_refusal.KeyRefusal.{KeyRefusal}
@@ -21,9 +20,10 @@ use Rattle.key_book.specs.Moves.{moves_refusal}
 use Rattle.sa_book.specs.declared.sa_refusal.SaRefusal.{SaRefusal}
 use Rattle.sa_book.specs.declared.sa_row.SaRow.{SaRow}
 use Rattle.sa_book.specs.SaBook.{in_use}
-use Rattle.sa_book.specs.SaRefusal.{on_row, unless_unkeyed, create_refusal, delete_refusal, expire_refusal, read_number_refusal, rekey_refusal, set_number_refusal, set_window_refusal, start_refusal, stop_refusal}
+use Rattle.sa_book.specs.SaRefusal.{on_row, unless_unkeyed, create_refusal, delete_refusal, expire_refusal, read_number_refusal, set_number_refusal, set_window_refusal, start_refusal, stop_refusal}
 use Rattle.unit_state.specs.declared.state.State.{State}
 use Rattle.unit_state.specs.State.{key_row, association_row}
+use Rattle.unit_state.specs.Taking.{least_with, taking_refusal}
 use Rattle.ep_codec.specs.declared.command.Command.{Command}
 use Rattle.ep_codec.specs.declared.command.Command.TheVariants.{Rekeying, Activate, Deactivate, Verify, Destroy, Inventory, Compose, ReadNumber, Create, Delete, SetWindow, Rekey, Expire, SetNumber, Start, Stop, Status}
 use Rattle.ep_core.specs.declared.refusal.Refusal.{Refusal}
@@ -42,17 +42,11 @@ from_associations spi key refusal = option_and_then (of_association spi key) ref
 
 -- ---- associations
 
--- the least lawful number of an association with a key: the word that was seen of a sending one, and for a receiving one
--- the number above the key's floor
-abbrev pub least_with : ℕ → Direction → KeyRow → ℕ
-least_with word Send held = word
-least_with word Receive held = held.floor + 1
-
 -- the row of the key that an association holds
 abbrev pub held_row : State → SaRow → Option KeyRow
 held_row state row = option_and_then (key_row state) row.key
 
--- the least lawful number of an association as it stands
+-- the least lawful number of an association as it stands, by the word that was seen of it
 abbrev pub least_of : State → ℕ → SaRow → ℕ
 least_of state word row = option_map_or (least_with word row.direction) (held_row state row) word
 
@@ -67,14 +61,9 @@ abbrev pub unless_known : ℕ → Option KeyRow → Option Refusal
 unless_known key None = Some (UnknownKey key)
 unless_known key (Some held) = None
 
--- what the association's book says of a key that is there
-abbrev pub takes_key : State → ℕ → ℕ → ℕ → ℕ → SaRow → KeyRow → Option SaRefusal
-takes_key state spi key number word row held =
-    rekey_refusal state.associations spi key held.state number (least_with word row.direction held)
-
 abbrev pub unless_takes : State → ℕ → ℕ → ℕ → ℕ → Option SaRefusal
 unless_takes state spi key number word = option_and_then
-    (λ row. option_and_then (takes_key state spi key number word row) (key_row state key)) (association_row state spi)
+    (λ row. option_and_then (taking_refusal state spi key number word row) (key_row state key)) (association_row state spi)
 
 abbrev pub rekey_checks : State → ℕ → ℕ → ℕ → ℕ → List (Option Refusal)
 rekey_checks state spi key number word =
@@ -150,12 +139,12 @@ opened state master vector sealed tag =
 
 -- the keys of a clear text
 abbrev pub items_of : Option (List ℕ) → List KeyItem
-items_of text = option_map_or (items_in 8) text []
+items_of text = option_map_or (items_in MOST_KEYS_AT_ONCE) text []
 
 abbrev pub text_checks : State → Option (List ℕ) → List (Option Refusal)
 text_checks state text =
     fails_if (is_none text) BadTag
-    ∷ option_map BadItems (option_and_then (items_fault 8 0) text)
+    ∷ option_map BadItems (option_and_then (items_fault MOST_KEYS_AT_ONCE 0) text)
     ∷ from_keys (load_refusal state.keys (items_of text))
     ∷ []
 

@@ -1,14 +1,10 @@
 -- What a unit seals for the link and opens again: keys to be loaded, and challenges (GCM is that of SP 800-38D, MACs that of
 -- SP 800-38B; what they cover is profile).
 use Rattle.std.specs.Prelude.{ℕ, zero, suc, ◌+◌, ◌*◌, ◌==◌, ◌||◌, not, nat_lt, List, [], ◌∷◌, ◌++◌, length, take, drop, slice_index, Option, Some, None}
-use Rattle.std.specs.Int.{w16, w32, w64, to_be_bytes, from_be_bytes}
+use Rattle.std.specs.Int.{w16, w32, to_be_bytes, from_be_bytes}
 use Rattle.std.specs.Option.{option_or}
 use Rattle.sdls_base.specs.FirstFailing.{first_failing}
 use Rattle.sdls_base.specs.declared.key_item.KeyItem.{KeyItem}
-
--- the vector of a unit for a number
-abbrev pub vector_for : List ℕ → ℕ → List ℕ
-vector_for device number = device ++ to_be_bytes w64 number
 
 -- the first five octets of a Rekeying message, by its master key and how many octets are sealed: its tag, the length of its
 -- data in bits, and the key
@@ -16,10 +12,6 @@ abbrev pub front : ℕ → ℕ → List ℕ
 front master sealed = 0x01 ∷ to_be_bytes w16 (8 * (2 + 12 + 16 + sealed)) ++ to_be_bytes w16 master
 
 -- ---- keys to be loaded
-
--- an item: a key's identifier, how many octets it has, and these
-abbrev pub item_octets : KeyItem → List ℕ
-item_octets item = to_be_bytes w16 item.id ++ length item.bytes ∷ item.bytes
 
 -- the item at the front of a text
 abbrev pub item_at : List ℕ → KeyItem

@@ -31,7 +31,10 @@ use Rattle.ep_core.specs.declared.reply.Reply.{Reply}
 use Rattle.ep_core.specs.declared.reply.Reply.TheVariants.{Done, Refused}
 use Rattle.ep_core.specs.Refusal.{code_of, value_of}
 use Rattle.ep_core.specs.Refusals.{refusal_of, opened, items_of, text_checks}
-use Rattle.ep_core.specs.Sealed.{vector_for, front, item_octets, challenge_data, challenge_text}
+use Rattle.sdls_base.specs.Spelling.{item_octets}
+use Rattle.sdls_header.specs.declared.pieces.Vector.TheVariants.{Wide}
+use Rattle.sdls_header.specs.SecurityHeader.{vector_octets}
+use Rattle.ep_core.specs.Sealed.{front, challenge_data, challenge_text}
 use Rattle.ep_core.specs.Seen.{word_of, number_of}
 
 -- a change with its reply, for which no number was used
@@ -58,7 +61,7 @@ next_of word row Receive = row.window.high + 1
 -- a challenge under a key: sealed with the unit's vector for the number (SP 800-38D), or with a MAC (SP 800-38B)
 abbrev pub sealed_challenge : List ℕ → ℕ → KeyRow → ℕ → List ℕ → ReplyPdu
 sealed_challenge device key held number challenge =
-    let vector = vector_for device number in
+    let vector = vector_octets (Wide device number) in
     let sealed = gcm_seal held.bytes vector (challenge_data key) challenge in
     replies.VerifyGcm key vector sealed.0 sealed.1
 
@@ -79,7 +82,7 @@ clear_text state keys = flat_map (λ key. item_octets (record { id = key; bytes 
 -- a Rekeying message for these keys, sealed under a master key with the unit's vector for the number
 abbrev pub composed : List ℕ → ℕ → KeyRow → ℕ → List ℕ → ReplyPdu
 composed device master held number clear =
-    let vector = vector_for device number in
+    let vector = vector_octets (Wide device number) in
     let sealed = gcm_seal held.bytes vector (front master (length clear)) clear in
     replies.Compose master vector sealed.0 sealed.1
 

@@ -2,16 +2,15 @@
 
 ghost use Rattle.std.specs.Prelude.{◌≡◌, ◌+◌, ◌^◌, ◌<◌, ◌≤◌, All, None, Some};
 ghost use Rattle.sdls_base.specs.FirstFailing.{first_told};
-ghost use Rattle.sdls_base.specs.KeyId.{end_of};
 ghost use Rattle.sa_book.specs.SaRefusal.{create_refusal, delete_refusal, expire_refusal, read_number_refusal, set_number_refusal, set_window_refusal, start_refusal, stop_refusal};
 ghost use Rattle.unit_state.specs.State.{KeepsRules};
-ghost use Rattle.ep_core.specs.Refusals.{from_associations, least_with, least_of, least_at, rekey_checks};
+ghost use Rattle.ep_core.specs.Refusals.{from_associations, least_of, least_at, rekey_checks};
+ghost use Rattle.unit_state.specs.Taking.{least_with};
 
 use crate::refusal::Refusal;
-use key_book::KeyRow;
 use sa_book::{SaRefusal, SaRow};
-use sdls_base::{Direction, KeyId, NewSa, SaState, Spi};
-use unit_state::State;
+use sdls_base::{KeyId, NewSa, SaState, Spi};
+use unit_state::{State, least_with};
 
 /// What the book refuses of an association, and of a key where the command names one, as a reply tells it.
 fn as_refusal(spi: Spi, key: Option<KeyId>, refusal: Option<SaRefusal>) -> Option<Refusal>
@@ -67,17 +66,6 @@ pub(crate) fn refuse_read_number(state: &State, spi: Spi) -> Option<Refusal>
         Err(_) => Some(Refusal::UnknownSpi(spi)),
         Ok(row) if row.state == SaState::Unkeyed => Some(Refusal::SaInState(SaState::Unkeyed)),
         Ok(_) => None,
-    }
-}
-
-/// The least lawful number with a key, where `word` was seen.
-fn least_with(word: u64, direction: Direction, held: &KeyRow) -> u64
-    requires { held.now.floor < end_of held.now.id }
-    ensures { result ≡ least_with word direction held.now }
-{
-    match direction {
-        Direction::Send => word,
-        Direction::Receive => held.floor + 1,
     }
 }
 

@@ -3,22 +3,23 @@
 ghost use Rattle.std.specs.Prelude.{◌≡◌, ◌≤◌, ◌∷◌, ◌++◌, IfOk, OnOk, length, None};
 ghost use Rattle.sdls_base.specs.Bounds.{IsKeyLength};
 ghost use Rattle.ep_codec.specs.declared.command.Command.TheVariants.{Compose};
-ghost use Rattle.ep_codec.specs.Command.{IsKeyCount};
+ghost use Rattle.sdls_base.specs.Bounds.{IsKeyCount};
 ghost use Rattle.ep_codec.specs.ReplyPdu.{IsInBounds};
 ghost use Rattle.unit_state.specs.State.{KeepsRules};
 ghost use Rattle.ep_core.specs.Refusals.{refusal_of};
-ghost use Rattle.ep_core.specs.Sealed.{item_octets};
+ghost use Rattle.sdls_base.specs.Spelling.{item_octets};
 ghost use Rattle.ep_core.specs.Seen.{number_of};
 ghost use Rattle.ep_core.specs.Step.{IsDone, IsStep, octets_of, clear_text, composed};
 
 use crate::reply::Reply;
-use crate::sealed::{front, schedule, vector_for};
+use crate::sealed::{front, schedule};
 use crate::sealing::{compose_refusal, number_of};
 use crate::step::{refused, using_number};
 use ep_codec::ReplyPdu;
 use gcm::seal_in_place;
 use key_book::KeyRow;
 use sdls_base::{Change, KeyId, KeyList, NoMemory, Octets, Seen};
+use sdls_header::wide_octets;
 use std::alloc::Global;
 use unit_state::State;
 
@@ -76,7 +77,7 @@ fn seal_reply(
     ensures bounds { IfOk result IsInBounds }
 {
     let mut sealed = clear_text(alloc, state, keys)?;
-    let vector = vector_for(&state.device, number);
+    let vector = wide_octets(state.device, number);
     let front = front(master, sealed.len());
     let tag = seal_in_place(&schedule(held), &vector, &front, &mut sealed);
     Ok(ReplyPdu::Compose {
@@ -96,7 +97,7 @@ fn seal_keys(
     seen: &Seen,
 ) -> Result<(Change, Reply), NoMemory>
     requires rules { KeepsRules state.now }
-    requires count { IsKeyCount keys.now }
+    requires count { IsKeyCount (length keys.now) }
     requires free { refusal_of state.now (Compose master keys.now) seen.now ≡ None }
     ensures { IfOk result (IsDone state.now (Compose master keys.now) seen.now) }
 {
@@ -115,7 +116,7 @@ pub(crate) fn compose(
     seen: &Seen,
 ) -> Result<(Change, Reply), NoMemory>
     requires rules { KeepsRules state.now }
-    requires count { IsKeyCount keys.now }
+    requires count { IsKeyCount (length keys.now) }
     ensures { IfOk result (IsStep state.now (Compose master keys.now) seen.now) }
 {
     match compose_refusal(state, master, keys, seen) {

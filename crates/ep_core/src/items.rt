@@ -3,11 +3,8 @@
 ghost use Rattle.std.specs.Prelude.{◌≡◌, ◌≢◌, ◌≤◌, ◌<◌, ◌+◌, ◌^◌, IfOk, length, slice_index, None};
 ghost use Rattle.ep_core.specs.Sealed.{item_fault, item_at, items_fault, items_in};
 
-use sdls_base::{KeyId, KeyItem, KeyItems, NoMemory, Octets};
+use sdls_base::{KeyId, KeyItem, KeyItems, MOST_KEYS_AT_ONCE, NoMemory, Octets};
 use std::alloc::Global;
-
-/// The most keys of a text.
-const MOST: usize = 8;
 
 /// The octets of an item before those of its key: the key's identifier, and how many octets it has.
 const HEADER: usize = 3;
@@ -35,9 +32,9 @@ fn item_fault(at: usize, octets: &[u8]) -> Option<u32>
 /// The offset of the first octet that cannot stand there.
 pub(crate) fn items_fault(text: &[u8]) -> Option<u32>
     requires { length text.now ≤ 280 }
-    ensures { result ≡ items_fault 8 0 text.now }
+    ensures { result ≡ items_fault MOST_KEYS_AT_ONCE 0 text.now }
 {
-    let mut left = MOST;
+    let mut left = MOST_KEYS_AT_ONCE;
     let mut at = 0;
     while at < text.len() {
         if left == 0 {
@@ -67,8 +64,8 @@ fn item(alloc: Global, octets: &[u8]) -> Result<KeyItem, NoMemory>
 /// The keys of a text without a fault.
 pub(crate) fn items(alloc: Global, text: &[u8]) -> Result<KeyItems, NoMemory>
     requires most { length text.now ≤ 280 }
-    requires right { items_fault 8 0 text.now ≡ None }
-    ensures { IfOk result (λ items. items ≡ items_in 8 text.now) }
+    requires right { items_fault MOST_KEYS_AT_ONCE 0 text.now ≡ None }
+    ensures { IfOk result (λ items. items ≡ items_in MOST_KEYS_AT_ONCE text.now) }
 {
     let mut items = Vec::new(alloc);
     let mut at = 0;

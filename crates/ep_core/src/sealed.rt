@@ -2,7 +2,7 @@
 
 ghost use Rattle.std.specs.Prelude.{◌≡◌, ◌≤◌, length};
 ghost use Rattle.sdls_base.specs.Bounds.{IsKeyLength};
-ghost use Rattle.ep_core.specs.Sealed.{vector_for, front, challenge_data};
+ghost use Rattle.ep_core.specs.Sealed.{front, challenge_data};
 
 use aes_block::Schedule;
 use key_book::KeyRow;
@@ -14,15 +14,6 @@ pub(crate) fn schedule(held: &KeyRow) -> Schedule
     ensures { result ≡ held.now.bytes }
 {
     Schedule::new(held.bytes.as_slice()).unwrap()
-}
-
-/// The vector of a unit for a number: its device field, and the number in 8 octets.
-pub(crate) fn vector_for(device: &[u8; 4], number: u64) -> [u8; 12]
-    ensures { result ≡ vector_for device.now number }
-{
-    let [a, b, c, d] = *device;
-    let [e, f, g, h, i, j, k, l] = number.to_be_bytes();
-    [a, b, c, d, e, f, g, h, i, j, k, l]
 }
 
 /// The tag of a Rekeying message.

@@ -9,7 +9,7 @@ ghost use Rattle.ep_codec.specs.declared.command.Command.TheVariants.{Verify, Co
 ghost use Rattle.ep_codec.specs.Command as commands;
 ghost use Rattle.unit_state.specs.State.{KeepsRules, key_row};
 ghost use Rattle.ep_core.specs.Refusals.{unless_known, by_state, unless_active, unless_usable, if_destroyed, if_exhausted, is_master, master_checks, session_checks, verify_checks, compose_checks, refusal_of};
-ghost use Rattle.ep_core.specs.Sealed.{vector_for, front, challenge_data, challenge_text, no_frame};
+ghost use Rattle.ep_core.specs.Sealed.{front, challenge_data, challenge_text, no_frame};
 ghost use Rattle.ep_core.specs.Seen.{number_of};
 ghost use Rattle.ep_core.specs.Step.{IsDone};
 

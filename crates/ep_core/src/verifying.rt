@@ -17,7 +17,7 @@ ghost use Rattle.ep_core.specs.Seen.{MeetsNeed, IsNumberSeen, number_of};
 ghost use Rattle.ep_core.specs.Step.{IsDone, IsStep, sealed_challenge, verified};
 
 use crate::reply::Reply;
-use crate::sealed::{challenge_data, schedule, vector_for};
+use crate::sealed::{challenge_data, schedule};
 use crate::sealing::{number_of, verify_refusal};
 use crate::step::{refused, using_number};
 use cmac::mac;
@@ -25,6 +25,7 @@ use ep_codec::ReplyPdu;
 use gcm::seal_in_place;
 use key_book::KeyRow;
 use sdls_base::{Change, KeyClass, KeyId, NoMemory, Seen};
+use sdls_header::wide_octets;
 use std::alloc::{AllocError, Global};
 use unit_state::State;
 
@@ -52,7 +53,7 @@ fn seal_challenge(
     ensures reply { result ≡ sealed_challenge device.now key held.now number challenge.now }
     ensures bounds { IsInBounds result }
 {
-    let vector = vector_for(device, number);
+    let vector = wide_octets(*device, number);
     let mut sealed = *challenge;
     let tag = seal_in_place(&schedule(held), &vector, &challenge_data(key), &mut sealed);
     ReplyPdu::VerifyGcm {

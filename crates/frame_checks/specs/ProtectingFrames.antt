@@ -1,6 +1,6 @@
 -- The checks of a frame that is to be protected, before the clear frame's layout (CCSDS 355.0-B-2, ApplySecurity; order
 -- profile).
-use Rattle.std.specs.Prelude.{◌≡◌, true, false, IsSomeAnd, ℕ, List, [], ◌∷◌, Option, None, is_none, unwrap_or, Result, Ok, Err}
+use Rattle.std.specs.Prelude.{◌≡◌, Bool, true, false, IsSomeAnd, ℕ, List, [], ◌∷◌, ◌++◌, Option, Some, None, is_none, unwrap_or, Result, Ok, Err}
 use Rattle.std.specs.Option.{option_and_then, option_map_or}
 use Rattle.sdls_base.specs.FirstFailing.{Check, first_failing}
 use Rattle.sdls_base.specs.declared.link.Link.{Link}
@@ -23,13 +23,17 @@ abbrev pub sender_of : PlanLines → State → ℕ → Link → List ℕ → Opt
 sender_of plan state link line clear =
     option_and_then (sender_on state.associations) (channel_of plan link line.layout clear)
 
--- on a link that has a line, each check with the answer where it fails
-abbrev pub protect_checks : PlanLines → State → ℕ → Link → List ℕ → List (Check Answer)
-protect_checks plan state link line clear =
+-- on a link that has a line, the checks for which the plan is enough, each with the answer where it fails
+abbrev pub channel_checks : {A : Type 0} → PlanLines → ℕ → Link → List ℕ → List (Check (Result (Option A) ShieldFault))
+channel_checks plan link line clear =
     (lacks_header line.layout clear, Err (Layout 1))
     ∷ (is_clear line.layout clear, Ok None)
-    ∷ (is_none (channel_of plan link line.layout clear), Err Channel)
-    ∷ (is_none (sender_of plan state link line clear), Err NoSender) ∷ []
+    ∷ (is_none (channel_of plan link line.layout clear), Err Channel) ∷ []
+
+-- all checks: those, and then that of the sender
+abbrev pub protect_checks : PlanLines → State → ℕ → Link → List ℕ → List (Check Answer)
+protect_checks plan state link line clear =
+    channel_checks plan link line clear ++ (is_none (sender_of plan state link line clear), Err NoSender) ∷ []
 
 -- the answer of the first check that fails, or else the sender's binding
 abbrev pub answer_on : PlanLines → State → ℕ → List ℕ → Link → Answer
@@ -41,19 +45,22 @@ abbrev pub protect_check : PlanLines → State → ℕ → List ℕ → Answer
 protect_check plan state link clear =
     option_map_or (answer_on plan state link clear) (link_of plan.links link) (Err (Layout 0))
 
--- The checks for which the plan is enough: those above but the last, and then the channel.
-abbrev pub channel_checks : PlanLines → ℕ → Link → List ℕ → List (Check (Result (Option ℕ) ShieldFault))
-channel_checks plan link line clear =
-    (lacks_header line.layout clear, Err (Layout 1))
-    ∷ (is_clear line.layout clear, Ok None)
-    ∷ (is_none (channel_of plan link line.layout clear), Err Channel) ∷ []
-
+-- the answer of the first check that fails of those for which the plan is enough, or else the channel
 abbrev pub channel_on : PlanLines → ℕ → List ℕ → Link → Result (Option ℕ) ShieldFault
 channel_on plan link clear line = unwrap_or (first_failing (channel_checks plan link line clear))
     (Ok (channel_of plan link line.layout clear))
 
 abbrev pub channel_check : PlanLines → ℕ → List ℕ → Result (Option ℕ) ShieldFault
 channel_check plan link clear = option_map_or (channel_on plan link clear) (link_of plan.links link) (Err (Layout 0))
+
+abbrev pub tells_channel : Result (Option ℕ) ShieldFault → Bool
+tells_channel (Ok (Some channel)) = true
+tells_channel (Ok None) = false
+tells_channel (Err fault) = false
+
+-- the frame passes the checks for which the plan is enough, and carries security
+abbrev pub has_channel : PlanLines → ℕ → List ℕ → Bool
+has_channel plan link clear = tells_channel (channel_check plan link clear)
 
 -- the link has a line, and the frame its header, which says that it carries no security
 abbrev pub IsSentClear : PlanLines → ℕ → List ℕ → Type 0

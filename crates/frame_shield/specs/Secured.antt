@@ -1,6 +1,5 @@
 -- The room of a protected frame: security header, text, MAC (CCSDS 355.0-B-2, Security Header and Security Trailer).
 use Rattle.std.specs.Prelude.{◌≡◌, ℕ, ◌++◌, List}
-use Rattle.std.specs.Int.{w64, to_be_bytes}
 use Rattle.cmac.specs.Cmac.{mac}
 use Rattle.gcm.specs.Gcm.{gcm_seal}
 use Rattle.sdls_base.specs.declared.states.Suite.{Suite}
@@ -8,7 +7,7 @@ use Rattle.sdls_base.specs.declared.states.Suite.TheVariants.{Cmac, Gcm}
 use Rattle.sdls_header.specs.declared.pieces.Vector.{Vector}
 use Rattle.sdls_header.specs.declared.pieces.Vector.TheVariants.{Sequence, Wide}
 use Rattle.sdls_header.specs.declared.pieces.SecurityHeader.{SecurityHeader}
-use Rattle.sdls_header.specs.SecurityHeader.{Pieces, SplitsInto, header_octets}
+use Rattle.sdls_header.specs.SecurityHeader.{Pieces, SplitsInto, header_octets, vector_octets}
 use Rattle.sdls_header.specs.Authenticated.{authenticated}
 use Rattle.frame_shield.specs.declared.binding.Binding.{Binding}
 use Rattle.sdls_base.specs.Link.{mask_octets}
@@ -28,7 +27,7 @@ number_of (Wide device n) = n
 -- data field, with the covered text as additional data (SP 800-38D).
 abbrev pub sealed : List ℕ → Vector → List ℕ → List ℕ → List ℕ × List ℕ
 sealed key (Sequence n) covered field = (field, mac key (covered ++ field))
-sealed key (Wide device n) covered field = gcm_seal key (device ++ to_be_bytes w64 n) covered field
+sealed key (Wide device n) covered field = gcm_seal key (vector_octets (Wide device n)) covered field
 
 -- a header of the binding
 abbrev pub header_of : Binding → Vector → SecurityHeader

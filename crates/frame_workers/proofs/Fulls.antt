@@ -2,7 +2,7 @@
 use Rattle.std.proofs.Common.{◌≡◌, ◌+◌, ◌<◌, List, [], ◌++◌, length, sym, ◌∙◌, ap, subst, inl, inr, ⊎_elim, arith, append-nil, length-append, true, false}
 use Rattle.counter_table.specs.declared.view.Opening.{Opening}
 use Rattle.counter_table.specs.declared.view.View.{View}
-use Rattle.counter_table.specs.Known.{HasRisen}
+use Rattle.sdls_outside.specs.Faults.{Rose}
 use Rattle.record_io.specs.declared.records.Record.{Record}
 use Rattle.unit_book.specs.declared.limits.TheConstants.{MOST_ENTRIES}
 use Rattle.law_worker.specs.Begin.{Begin}
@@ -19,7 +19,7 @@ full_stays begin u v w z task low high is = record {
       let few = is.full in omega arith);
   not_failed = λ risen. is.not_failed (
       let f = low.earlier.faults in
-      subst (λ (o : Opening). HasRisen o.faults v.turn.known.faults) (sym low.opening) (⊎_elim (λ a. inl (omega arith)) (λ b. inr (omega arith)) risen));
+      subst (λ (o : Opening). Rose o.faults v.turn.known.faults) (sym low.opening) (omega arith));
   due = ⊎_elim inl (λ may. inr (may_later begin u v w z low high task MOST_ENTRIES is.full may)) is.due;
 }
 

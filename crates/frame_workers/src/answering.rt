@@ -1,7 +1,7 @@
 // The answers to records, by what the calls on the unit answered.
 ghost use Rattle.std.specs.Prelude.{◌≡◌, ◌≤◌, ◌++◌, vec_capacity, slice_range, take};
 ghost use Rattle.std.specs.Int.{w64, to_be_bytes};
-ghost use Rattle.ep_codec.specs.Field.{sa_state_code};
+ghost use Rattle.sdls_base.specs.Code.{sa_state_code};
 ghost use Rattle.frame_checks.specs.Accepting.{field_in};
 ghost use Rattle.record_io.specs.declared.code.TheConstants.{PROTECTED};
 ghost use Rattle.law_history.specs.Answers as told;

@@ -8,8 +8,7 @@ ghost use Rattle.law_worker.specs.Lanes.{giving_shares, is_of_lane, MeetAll, mee
 ghost use Rattle.frame_workers.specs.Lanes.{answers_of, HaveOwnNumbers, IsRoom, IsSplit, IsThere, left_at, parts_of};
 
 use crate::lane::Lane;
-use crate::segment::LANES;
-use record_io::{Answer, Record};
+use record_io::{Answer, LANES, Record};
 use sdls_base::NoMemory;
 use sdls_outside::Site;
 use shared_unit::{Shelf, Unit, Worker};

@@ -14,4 +14,4 @@ mod placing;
 mod segment;
 
 pub use gate::Gate;
-pub use segment::{LANES, Segment, run_segment};
+pub use segment::{Segment, run_segment};

@@ -19,16 +19,13 @@ use crate::gate::Gate;
 use crate::joining::{join_lanes, rooms_for, split_lanes};
 use crate::lane::run_lanes;
 use crate::placing::place_answers;
-use record_io::{Answer, Record};
+use record_io::{Answer, LANES, Record};
 use sdls_base::NoMemory;
 use sdls_outside::Site;
 use shared_unit::{Unit, Worker};
 use std::alloc::Global;
 use std::sync::Wait;
 use std::thread::Threads;
-
-/// The lanes of the input are those below this number.
-pub const LANES: u8 = 16;
 
 /// What a segment was answered.
 #[derive(Drop)]

@@ -1,6 +1,5 @@
 -- Lists of channels in bounds pass the test of a plan's channels.
-use Rattle.std.proofs.Common.{◌≡◌, ℕ, suc, ◌+◌, ◌<◌, ◌≤◌, true, List, [], ◌∷◌, length, get_or, IsTrue, refl, arith, add-one}
-use Rattle.std.specs.Int.{is_in_range}
+use Rattle.std.proofs.Common.{◌≡◌, ℕ, suc, ◌+◌, ◌<◌, ◌≤◌, true, List, [], ◌∷◌, length, get_or, refl, arith, add-one}
 use Rattle.std.specs.List.{AllByRecursion}
 use Rattle.std.specs.List.Sorted.{IsStrictlyIncreasing}
 use Rattle.std.proofs.lemmas.Bool.Decides.{nat_tests}
@@ -28,6 +27,3 @@ channels_pass ns are small =
     let most = are.most in
     let from = from_least 0 ns are.ascending small (λ some. omega arith) in
     grind (arith, nat_tests)
-
-pub in_count : (n : ℕ) → 1 ≤ n → n ≤ 8 → IsTrue (is_in_range 1 8 n)
-in_count n one most = grind (arith, nat_tests)

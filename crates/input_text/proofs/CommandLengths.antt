@@ -20,12 +20,12 @@ command_short (Rekeying master vector sealed tag) bounds types =
     let inner = length-append sealed tag in
     let outer = length-append vector (sealed ++ tag) in
     omega (arith, inner, outer)
-command_short (Activate keys) bounds types = let few = up_to 1 8 (length keys) bounds in omega (arith, keys_length keys)
-command_short (Deactivate keys) bounds types = let few = up_to 1 8 (length keys) bounds in omega (arith, keys_length keys)
+command_short (Activate keys) bounds types = let few = bounds.most in omega (arith, keys_length keys)
+command_short (Deactivate keys) bounds types = let few = bounds.most in omega (arith, keys_length keys)
 command_short (Verify key challenge) bounds types = let sixteen = types.1 in omega arith
-command_short (Destroy keys) bounds types = let few = up_to 1 8 (length keys) bounds in omega (arith, keys_length keys)
+command_short (Destroy keys) bounds types = let few = bounds.most in omega (arith, keys_length keys)
 command_short (Inventory first last) bounds types = omega arith
-command_short (Compose master keys) bounds types = let few = up_to 1 8 (length keys) bounds in omega (arith, keys_length keys)
+command_short (Compose master keys) bounds types = let few = bounds.most in omega (arith, keys_length keys)
 command_short (ReadNumber spi) bounds types = omega arith
 command_short (Create sa) bounds types =
     let few = bounds.1.most in

@@ -1,8 +1,6 @@
 -- Numbers taken from words one after the other, for the lists at the end of a line.
-use Rattle.std.proofs.Common.{◌≡◌, ℕ, ◌+◌, ◌<◌, ◌≤◌, List, [], ◌∷◌, ◌++◌, map, length, IsTrue, refl, sym, ap, ◌∙◌, arith, length-append}
-use Rattle.std.specs.Int.{is_in_range}
+use Rattle.std.proofs.Common.{◌≡◌, ℕ, ◌+◌, ◌<◌, List, [], ◌∷◌, ◌++◌, map, length, refl, sym, ap, ◌∙◌, arith, length-append}
 use Rattle.std.specs.List.{AllByRecursion}
-use Rattle.std.proofs.lemmas.Bool.Decides.{nat_tests}
 use Rattle.std.specs.Fmt.{decimal}
 use Rattle.std.proofs.lemmas.List.{map-append, append-nil}
 
@@ -117,6 +115,3 @@ pub one_wanted : (P : ℕ → Type 0) (all before left : List (List ℕ)) (taken
     → (ns : List ℕ) → AllByRecursion P ns → all ≡ map decimal ns → Wants P word taken ns
 one_wanted P all before left taken word was is ns each spelled =
     let r = was.rest ns each spelled in wanted P word left taken ns r.more r.split (sym is ∙ r.left_is) r.each
-
-pub count_is : (n : ℕ) → IsTrue (is_in_range 1 8 n) → (0 < n) × (n ≤ 8)
-count_is n is = (grind (arith, nat_tests), grind (arith, nat_tests))

@@ -1,29 +1,25 @@
 //! Lists, which stand at the end of a line.
-ghost use Rattle.std.specs.Prelude.{◌≡◌, ◌≤◌, ℕ, List, map, length, decimal, IfOk, IsTrue};
+ghost use Rattle.std.specs.Prelude.{◌≡◌, ◌≤◌, ℕ, List, map, length, decimal, IfOk};
 ghost use Rattle.std.specs.List.{AllByRecursion};
-ghost use Rattle.std.specs.Int.{is_in_range};
-ghost use Rattle.sdls_base.specs.Bounds.{AreChannels};
-ghost use Rattle.ep_codec.specs.Command.{AreKeys, IsKeyCount};
+ghost use Rattle.sdls_base.specs.Bounds.{AreChannels, IsKeyCount};
+ghost use Rattle.ep_codec.specs.Command.{AreKeys};
 ghost use Rattle.input_text.specs.Fields.{AnswersField};
 
 use crate::fault::{Expected, LineError};
 use crate::fields::Fields;
-use sdls_base::{KeyId, KeyList, Octets};
+use sdls_base::{KeyId, KeyList, MOST_CHANNELS, MOST_KEYS_AT_ONCE, Octets};
 use std::alloc::Global;
 use unit_plan::are_channels;
 
-/// The most numbers of a list.
-const MOST: usize = 8;
-
 /// Takes the keys that are left, 1 to 8.
 pub(crate) fn keys(alloc: Global, fields: &mut Fields<'_>) -> Result<KeyList, LineError>
-    ensures read { IfOk result (λ keys. (fields.old ≡ map decimal keys) × AreKeys keys × IsKeyCount keys) }
-    ensures only { (keys : List ℕ) → AreKeys keys → IsKeyCount keys → fields.old ≡ map decimal keys → AnswersField result keys }
+    ensures read { IfOk result (λ keys. (fields.old ≡ map decimal keys) × AreKeys keys × IsKeyCount (length keys)) }
+    ensures only { (keys : List ℕ) → AreKeys keys → IsKeyCount (length keys) → fields.old ≡ map decimal keys → AnswersField result keys }
 {
     let mut keys: Vec<KeyId> = Vec::new(alloc);
     let first = fields.key()?;
     keys.push(first)?;
-    'words: while keys.len() < MOST {
+    'words: while keys.len() < MOST_KEYS_AT_ONCE {
         let Some(word) = fields.next() else {
             return Ok(KeyList::new(keys));
         };
@@ -38,12 +34,12 @@ pub(crate) fn keys(alloc: Global, fields: &mut Fields<'_>) -> Result<KeyList, Li
 fn channel_numbers(alloc: Global, fields: &mut Fields<'_>) -> Result<Octets, LineError>
     ensures read { IfOk result (λ numbers. fields.old ≡ map decimal numbers) }
     ensures only { (numbers : List ℕ) → AllByRecursion (λ channel. channel ≤ 63) numbers
-        → IsTrue (is_in_range 1 8 (length numbers)) → fields.old ≡ map decimal numbers → AnswersField result numbers }
+        → 1 ≤ length numbers → length numbers ≤ MOST_CHANNELS → fields.old ≡ map decimal numbers → AnswersField result numbers }
 {
     let mut numbers: Vec<u8> = Vec::new(alloc);
     let first = fields.channel()?;
     numbers.push(first)?;
-    'words: while numbers.len() < MOST {
+    'words: while numbers.len() < MOST_CHANNELS {
         let Some(word) = fields.next() else {
             return Ok(Octets::new(numbers));
         };

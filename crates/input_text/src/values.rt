@@ -3,10 +3,10 @@
 
 ghost use Rattle.std.specs.Prelude.{◌≡◌, ◌≤◌, ◌^◌, ◌<◌, ℕ, List, length, IfOk, IsTrue, [], ◌∷◌, map, decimal};
 ghost use Rattle.std.specs.List.{AllByRecursion};
-ghost use Rattle.sdls_base.specs.Bounds.{AreChannels, IsWidth};
+ghost use Rattle.sdls_base.specs.Bounds.{AreChannels, IsKeyCount, IsWidth};
 ghost use Rattle.hex.specs.Hex.{encode_lower, IsBytes};
 ghost use Rattle.ep_codec.specs.Field.{is_key, is_spi};
-ghost use Rattle.ep_codec.specs.Command.{AreKeys, IsKeyCount, IsSealedLength};
+ghost use Rattle.ep_codec.specs.Command.{AreKeys, IsSealedLength};
 ghost use Rattle.ep_codec.specs.declared.command.Command.TheVariants as commands;
 ghost use Rattle.ep_codec.specs.CommandReading.{command_procedure};
 ghost use Rattle.ep_codec.specs.declared.procedure.Procedure.TheVariants as procedures;
@@ -141,7 +141,7 @@ pub(crate) fn set_window(fields: &mut Fields<'_>) -> Result<Command, LineError>
 
 pub(crate) fn compose(alloc: Global, fields: &mut Fields<'_>) -> Result<Command, LineError>
     ensures read { IfOk result (λ command. (fields.old ≡ value_words command) × IsCommand command × (command_procedure command ≡ procedures.Compose)) }
-    ensures only { (master : ℕ) (listed : List ℕ) → IsTrue (is_key master) → AreKeys listed → IsKeyCount listed
+    ensures only { (master : ℕ) (listed : List ℕ) → IsTrue (is_key master) → AreKeys listed → IsKeyCount (length listed)
         → fields.old ≡ value_words (commands.Compose master listed) → AnswersField result (commands.Compose master listed) }
 {
     let master = fields.key()?;

@@ -42,7 +42,7 @@ use Rattle.law_calls.specs.Answering.{answer_of}
 use Rattle.law_calls.specs.Visiting.{BeganWith}
 use Rattle.law_calls.proofs.Behind.{lines_of, lines_entries, places_within}
 use Rattle.law_calls.proofs.OneRecord.{Turned}
-use Rattle.law_calls.proofs.Visit.{below_mark, risen_of, began_faults, faults_are, changes_are, log_is, log_low, start_is, whole}
+use Rattle.law_calls.proofs.Visit.{below_mark, began_faults, faults_are, changes_are, log_is, log_low, start_is, whole}
 
 -- fronts of one length are one
 front_one : (a b c d : List Logged) → a ++ c ≡ b ++ d → length a ≡ length b → a ≡ b
@@ -146,7 +146,7 @@ module _ {O : Type 0} (told : Bool) (trace : O → Trace) (faults puts : O → �
       let first : w.turn.known.opening.faults ≡ faults found.opened = began_faults told trace faults puts begin found given u w.turn began free visits in
       let now : w.turn.known.faults ≡ faults given.site = faults_are told trace faults puts begin found given u w.turn began free visits in
       let same : faults given.opened ≡ faults found.opened = ap (λ (o : Opening). o.faults) visits.takes.opening in
-      clean (risen_of w.turn.known.opening.faults w.turn.known.faults
+      clean (
       (subst (λ (n : ℕ). Rose n w.turn.known.faults) (same ∙ sym first) (subst (λ (n : ℕ). Rose (faults given.opened) n) (sym now) rose)))
 
   pub not_found : IsClean w → ¬ Rose (faults found.opened) (faults found.site)

@@ -1,6 +1,6 @@
 -- What a permit that is true says of the history as it is known: the frame is bound in the state of its epoch, and its key keeps
 -- its row since.
-use Rattle.std.proofs.Common.{◌≡◌, ℕ, ◌≤◌, Bool, IsTrue, true, false, List, [], ◌∷◌, length, take, drop, Option, Some, None, is_some, Result, Ok, Err, refl, sym, ◌∙◌, ap, arith, not, ◌&&◌, unwrap_or, is_none}
+use Rattle.std.proofs.Common.{◌≡◌, ℕ, ◌≤◌, Bool, IsTrue, true, false, List, [], ◌∷◌, length, take, drop, Option, Some, None, Result, Ok, Err, refl, sym, ◌∙◌, ap, arith, unwrap_or, is_none}
 use Rattle.std.specs.Option.{option_map_or, option_and_then}
 use Rattle.std.proofs.lemmas.List.{length-take, take-take, take-append-drop}
 use Rattle.sdls_base.specs.FirstFailing.{first_failing}
@@ -21,10 +21,9 @@ use Rattle.frame_shield.specs.Binding.{clear_fault}
 use Rattle.frame_shield.specs.ShieldFault.{fault_number}
 use Rattle.frame_checks.specs.Header.{lacks_header, is_clear, channel_of}
 use Rattle.frame_checks.specs.Binding.{binding_of}
-use Rattle.frame_checks.specs.ProtectingFrames.{Answer, answer_on, channel_check, channel_on, protect_check}
+use Rattle.frame_checks.specs.ProtectingFrames.{Answer, answer_on, channel_check, channel_on, protect_check, has_channel, tells_channel}
 use Rattle.law_history.specs.ProtectingFrames.{layout_check, protect_reply}
 use Rattle.law_history.proofs.Epochs.{begins}
-use Rattle.law_worker.specs.Deeds.{has_channel}
 use Rattle.law_worker.proofs.Histories.{row_kept_first}
 
 -- a binding with its layout is the answer of all checks
@@ -78,19 +77,12 @@ clear_reply plan state link clear h = ap (layout_check clear) (by_line (link_of 
 -- a frame that passes these checks has a channel
 pub channel_passed : (plan : PlanLines) (link : ℕ) (clear : List ℕ) → IsTrue (has_channel plan link clear)
     → (channel : ℕ) × (channel_check plan link clear ≡ Ok (Some channel))
-channel_passed plan link clear h = by_line (link_of plan.links link) h where
-  by_checks : (lacks clear_ : Bool) (channel : Option ℕ) → IsTrue (not lacks && (not clear_ && is_some channel))
-      → (c : ℕ) × (planned lacks clear_ channel ≡ Ok (Some c))
-  by_checks true clear_ channel q = absurd (let t : false ≡ true = q in cc)
-  by_checks false true channel q = absurd (let t : false ≡ true = q in cc)
-  by_checks false false None q = absurd (let t : false ≡ true = q in cc)
-  by_checks false false (Some c) q = (c, refl)
-
-  by_line : (o : Option Link) → IsTrue (option_map_or (λ (line : Link). not (lacks_header line.layout clear)
-      && (not (is_clear line.layout clear) && is_some (channel_of plan link line.layout clear))) o false)
-      → (channel : ℕ) × (option_map_or (channel_on plan link clear) o (Err (Layout 0)) ≡ Ok (Some channel))
-  by_line None q = absurd (let t : false ≡ true = q in cc)
-  by_line (Some line) q = by_checks (lacks_header line.layout clear) (is_clear line.layout clear) (channel_of plan link line.layout clear) q
+channel_passed plan link clear h = by_check (channel_check plan link clear) refl h where
+  by_check : (check : Result (Option ℕ) ShieldFault) → channel_check plan link clear ≡ check → IsTrue (tells_channel check)
+      → (channel : ℕ) × (channel_check plan link clear ≡ Ok (Some channel))
+  by_check (Ok (Some channel)) e t = (channel, e)
+  by_check (Ok None) e t = absurd (let f : false ≡ true = t in cc)
+  by_check (Err fault) e t = absurd (let f : false ≡ true = t in cc)
 
 -- An epoch that the first n entries have reached began at one of their places.
 pub record Began (start : State) (all : List Entry) (n epoch : ℕ) : Type 0 where

@@ -16,7 +16,7 @@ use Rattle.unit_state.specs.History.{after, at_epoch, epoch_after}
 use Rattle.frame_shield.specs.declared.protecting_frames.ShieldFault.{ShieldFault}
 use Rattle.frame_shield.specs.declared.protecting_frames.ShieldFault.TheVariants as shield_faults
 use Rattle.frame_shield.specs.Binding.{clear_fault}
-use Rattle.frame_checks.specs.ProtectingFrames.{channel_check}
+use Rattle.frame_checks.specs.ProtectingFrames.{channel_check, has_channel}
 use Rattle.counter_table.specs.declared.view.Opening.{Opening}
 use Rattle.counter_table.specs.declared.view.Turn.{Turn}
 use Rattle.counter_table.specs.declared.view.View.{View}
@@ -42,7 +42,7 @@ use Rattle.shared_unit.proofs.Checks.{bound_check}
 use Rattle.shared_unit.proofs.Passing.{reserves_changes}
 use Rattle.law_worker.specs.Begin.{Begin}
 use Rattle.law_worker.specs.Views.{IsBetween, IsRow, entries_in}
-use Rattle.law_worker.specs.Deeds.{deed_of, course_in, has_channel, is_protected, epoch_told, StandsWithin}
+use Rattle.law_worker.specs.Deeds.{deed_of, course_in, is_protected, epoch_told, StandsWithin}
 use Rattle.law_worker.specs.Order.{Layout, Handled}
 use Rattle.law_calls.specs.Visiting.{BeganWith}
 use Rattle.law_calls.specs.Answering.{Answered, answer_of, fault_answer, protected_answer}

@@ -20,7 +20,6 @@ use Rattle.counter_table.specs.declared.view.Known.{Known}
 use Rattle.counter_table.specs.declared.view.Opening.{Opening}
 use Rattle.counter_table.specs.declared.view.Turn.{Turn}
 use Rattle.counter_table.specs.declared.view.View.{View}
-use Rattle.counter_table.specs.Known.{HasRisen}
 use Rattle.counter_table.specs.Turn.{epoch_seen, places}
 use Rattle.law_history.specs.Answers.{Told, counting, plain, Uses}
 use Rattle.law_history.specs.Counts.{is_of_record, is_of_none, drawers}
@@ -37,14 +36,15 @@ use Rattle.shared_unit.specs.Turn.{Visits}
 use Rattle.law_worker.specs.Begin.{Begin}
 use Rattle.law_worker.specs.Views.{Gains, IsBetween, IsRow, entries_in}
 use Rattle.law_worker.specs.Work.{indexed}
-use Rattle.law_worker.specs.Deeds.{deed_of, course_in, has_channel, is_protected, epoch_told, StandsWithin, IsLastAt, IsSpent, MadeLast}
+use Rattle.law_worker.specs.Deeds.{deed_of, course_in, is_protected, epoch_told, StandsWithin, IsLastAt, IsSpent, MadeLast}
+use Rattle.frame_checks.specs.ProtectingFrames.{has_channel}
 use Rattle.law_worker.specs.Order.{Layout, Handled}
 use Rattle.law_calls.specs.Visiting.{BeganWith}
 use Rattle.law_calls.specs.Answering.{answer_of, unserved_answer, fault_answer, Answered}
 use Rattle.law_calls.proofs.Behind.{lines_of, tested, lines_length, lines_entries, lines_more, tested_more, tested_few, LegalInTurn, legal_then, after_both, places_stand, last_behind}
 use Rattle.law_calls.proofs.OneRecord.{Turned, Counted, handled_answered, handled_unanswered}
 use Rattle.law_calls.proofs.Fitted.{after_front, wanting_fits, full_fits, faulted_fits, stopped_fits}
-use Rattle.law_calls.proofs.Visit.{risen_of, entries_low, epoch_low, epoch_high, log_is, faults_are, began_faults, risen_found, known_entries, turned, whole}
+use Rattle.law_calls.proofs.Visit.{entries_low, epoch_low, epoch_high, log_is, faults_are, began_faults, risen_found, known_entries, turned, whole}
 
 -- what a code from 30 on tells is neither an entry nor an epoch
 late : (kind : RecordKind) (channel above : Bool)
@@ -275,7 +275,7 @@ module _ {O : Type 0} (told : Bool) (trace : O → Trace) (faults puts : O → �
           record {
             full = omega arith;
             not_failed = λ risen. stage.clean not (risen_found told trace faults puts begin found given u w.turn c.began c.free c.visits
-                (subst (λ (k : Known). HasRisen k.opening.faults k.faults) (sym c.known) risen));
+                (subst (λ (k : Known). Rose k.opening.faults k.faults) (sym c.known) risen));
             due = ⊎_elim inl (λ may. inr (subst (λ (p : ℕ). MayAppend near course p task) (full_stand not full) may)) due;
           },
         ) where
@@ -360,7 +360,7 @@ module _ {O : Type 0} (told : Bool) (trace : O → Trace) (faults puts : O → �
               let m = length-append es (entry ∷ []) in
               places_stand (length found.log) (length (es ++ entry ∷ [])) (length old.log) (omega arith) (omega arith);
           last = subst (λ (l : List Logged). IsLastAt l (length old.log)) (sym log_known) (last_behind old.log entry);
-          risen = risen_of w.turn.known.opening.faults w.turn.known.faults (subst (λ (n : ℕ). Rose course.faults_before n) (count_is ∙ sym now) risen);
+          risen = subst (λ (n : ℕ). Rose course.faults_before n) (count_is ∙ sym now) risen;
         })
 
     pub unstored : (fault : BookFault) (position : ℕ) → position ≡ entry_count (known_of_book trace faults puts given) → IsUnstored faults entry old given fault

@@ -14,7 +14,7 @@ use Rattle.unit_state.specs.declared.state.State.{State}
 use Rattle.unit_state.specs.History.{after, after_first, epoch_after}
 use Rattle.counter_table.specs.declared.view.Opening.{Opening}
 use Rattle.counter_table.specs.declared.view.Turn.{Turn}
-use Rattle.counter_table.specs.Known.{Earlier, HasRisen, IsSparing}
+use Rattle.counter_table.specs.Known.{Earlier, IsSparing}
 use Rattle.counter_table.specs.Turn.{epoch_seen, places}
 use Rattle.law_history.specs.Log.{entries_of}
 use Rattle.unit_book.specs.Book.{BookView}
@@ -27,13 +27,6 @@ use Rattle.law_worker.proofs.Histories.{row_kept_first, entries_both as both}
 use Rattle.law_calls.specs.Visiting.{BeganWith}
 use Rattle.law_calls.proofs.Behind.{lines_of, lines_entries, lines_length}
 use Rattle.law_calls.proofs.OneRecord.{Turned}
-
-pub risen_of : (before now : ℕ) → Rose before now → HasRisen before now
-risen_of before now h = grind arith
-
-pub rose_of : (before now : ℕ) → HasRisen before now → Rose before now
-rose_of before now (inl h) = omega arith
-rose_of before now (inr h) = omega arith
 
 -- a number that is counted below a mark is below it
 pub below_mark : (number mark : ℕ) → 0 < once_below number mark → number < mark
@@ -83,14 +76,11 @@ module _ {O : Type 0} (told : Bool) (trace : O → Trace) (faults puts : O → �
   before_faults = ap (λ (o : Opening). o.faults) (sym found_opening)
 
   -- what had failed before had failed when the book was found
-  pub risen_found : HasRisen v.known.opening.faults v.known.faults → Rose (faults found.opened) (faults found.site)
+  pub risen_found : Rose v.known.opening.faults v.known.faults → Rose (faults found.opened) (faults found.site)
   risen_found risen =
       let low = visits.takes.follows.earlier.faults in
-      let at : HasRisen (faults found.opened) v.known.faults = subst (λ (n : ℕ). HasRisen n v.known.faults) before_faults risen in
-      later at low where
-        later : HasRisen (faults found.opened) v.known.faults → v.known.faults ≤ faults found.site → Rose (faults found.opened) (faults found.site)
-        later (inl h) low = omega arith
-        later (inr h) low = omega arith
+      let at : Rose (faults found.opened) v.known.faults = subst (λ (n : ℕ). Rose n v.known.faults) before_faults risen in
+      omega arith
 
   pub log_low : length v.known.log ≤ length found.log
   log_low =

@@ -9,7 +9,7 @@ use Rattle.record_io.specs.declared.code.TheConstants.{PROTECTED, CLEAR, EXHAUST
 use Rattle.record_io.specs.declared.kinds.RecordKind.TheVariants.{Protect}
 use Rattle.record_io.specs.declared.records.Record.{Record}
 use Rattle.counter_table.specs.declared.view.View.{View}
-use Rattle.counter_table.specs.Known.{HasRisen}
+use Rattle.sdls_outside.specs.Faults.{Rose}
 use Rattle.law_history.specs.Answers.{Told, counting, plain, numbered, opened_told, replied_told, fault_told}
 use Rattle.law_history.specs.Fits.{MayAppend}
 use Rattle.unit_book.specs.declared.fault.BookFault.{BookFault}
@@ -76,7 +76,7 @@ protected_answer (protecteds.Fault fault position) out = fault_answer fault posi
 -- always makes one, or may need one
 pub record IsFullFor (begin : Begin) (old new : View) (task : Record) : Type 0 where
   pub full : MOST_ENTRIES ≤ length (entries_in new)
-  pub not_failed : ¬ HasRisen old.turn.known.opening.faults old.turn.known.faults
+  pub not_failed : ¬ Rose old.turn.known.opening.faults old.turn.known.faults
   pub due : (task.kind ≢ Protect) ⊎ MayAppend (IsBetween begin old new) (course_in begin new) MOST_ENTRIES task
 
 -- the record was handled and has this answer; or it has none, since the history is full

@@ -28,7 +28,8 @@ use Rattle.sa_book.specs.Numbers.{with_high}
 use Rattle.unit_state.specs.declared.state.State.{State}
 use Rattle.unit_state.specs.State.{KeepsRules, key_row, association_row}
 use Rattle.unit_state.specs.Applied.{applied, in_state}
-use Rattle.unit_state.specs.Allows.{Allows, AllowsRekey, AllowsNumber, AllowsAccepted, least_number}
+use Rattle.unit_state.specs.Allows.{Allows, AllowsRekey, AllowsNumber, AllowsAccepted}
+use Rattle.unit_state.specs.Taking.{least_with}
 use Rattle.unit_state.specs.Laws.{IsNoMarks, FallsOnlyTo}
 use Rattle.unit_state.proofs.Found.{found}
 use Rattle.unit_state.proofs.KeyRules.{equal_number, number_test}
@@ -134,7 +135,7 @@ key_least rows row key state number least free =
     (taken_key row.direction (receiver_with rows key)) (number_refusal key number least) free)
 
 -- a number above the key's floor follows those that are taken
-follows_by : (direction : Direction) (asked number : ℕ) (held : KeyRow) (row : SaRow) → number ≤ held.floor → least_number direction held ≤ asked
+follows_by : (direction : Direction) (asked number : ℕ) (held : KeyRow) (row : SaRow) → number ≤ held.floor → least_with 1 direction held ≤ asked
     → direction ≡ Receive → number ≤ (following direction asked row.window).high
 follows_by Receive asked number held row low least receives = omega arith
 follows_by Send asked number held row low least receives = absurd cc
@@ -146,8 +147,8 @@ up_rekeyed : (state : State) (key number spi own asked : ℕ) → KeepsRules sta
 up_rekeyed state key number spi own asked rules allowed taken =
     let at = there (association_row state spi) _ allowed in
     let t = there (key_row state own) _ at.holds in
-    let judge = judged state.associations spi (λ row. key_refusal state.associations row own t.row.state asked (least_number at.row.direction t.row)) t.holds in
-    let least = key_least state.associations judge.row own t.row.state asked (least_number at.row.direction t.row) judge.free in
+    let judge = judged state.associations spi (λ row. key_refusal state.associations row own t.row.state asked (least_with 1 at.row.direction t.row)) t.holds in
+    let least = key_least state.associations judge.row own t.row.state asked (least_with 1 at.row.direction t.row) judge.free in
     up_row key number state spi (with_key own asked) at.row rules at.is taken.highs
     (λ up test.
     let is = receiver key (with_key own asked at.row) test in
@@ -161,7 +162,7 @@ up_numbered state key number spi asked rules allowed taken =
     let at = there (association_row state spi) _ allowed in
     let own = there at.row.key _ at.holds in
     let t = there (key_row state own.row) _ own.holds in
-    let least_is : ℕ = least_number at.row.direction t.row in
+    let least_is : ℕ = least_with 1 at.row.direction t.row in
     let judge = judged state.associations spi _ t.holds in
     let here : judge.row ≡ at.row = same_Some _ _ (sym judge.there ∙ at.is) in
     let free : number_refusal own.row asked least_is ≡ None =

@@ -13,7 +13,7 @@ use Rattle.unit_plan.specs.PlanLines.{PlanLines}
 use Rattle.unit_state.specs.declared.state.State.{State}
 use Rattle.unit_state.specs.State.{KeepsRules, key_row}
 use Rattle.unit_state.specs.Applied.{applied}
-use Rattle.unit_state.specs.Laws.{HasRisen, Rises, FallsOnlyTo}
+use Rattle.unit_state.specs.Laws.{RowRises, Rises, FallsOnlyTo}
 use Rattle.unit_state.proofs.Found.{found_passes, held_rules}
 use Rattle.unit_state.proofs.KeyRules.{equal_number}
 use Rattle.unit_state.proofs.StateLaws.{rises, fall_only_to}
@@ -44,13 +44,13 @@ from_one_by state key (Some held) rules is = (held_rules state key held rules is
 pub mark_from_one : (state : State) (key : ℕ) → KeepsRules state → 1 ≤ mark_of state key
 mark_from_one state key rules = from_one_by state key (key_row state key) rules refl
 
-mark_up : (o p : Option KeyRow) → IfSome o (λ held. IsSomeAnd p (HasRisen held)) → 1 ≤ option_map_or (λ (row : KeyRow). row.mark) p 1
+mark_up : (o p : Option KeyRow) → IfSome o (λ held. IsSomeAnd p (RowRises held)) → 1 ≤ option_map_or (λ (row : KeyRow). row.mark) p 1
     → option_map_or (λ (row : KeyRow). row.mark) o 1 ≤ option_map_or (λ (row : KeyRow). row.mark) p 1
 mark_up None p up low = low
 mark_up (Some held) None up low = absurd up
 mark_up (Some held) (Some new) up low = up.mark
 
-floor_up : (o p : Option KeyRow) → IfSome o (λ held. IsSomeAnd p (HasRisen held))
+floor_up : (o p : Option KeyRow) → IfSome o (λ held. IsSomeAnd p (RowRises held))
     → option_map_or (λ (row : KeyRow). row.floor) o 0 ≤ option_map_or (λ (row : KeyRow). row.floor) p 0
 floor_up None p up = omega arith
 floor_up (Some held) None up = absurd up
@@ -72,7 +72,7 @@ not_fallen old new up = ⊎_elim up (λ (high : old ≤ new). high) (cases_lt ne
 
 marks_up_by : (state : State) (key id mark floor : ℕ) (o p : Option KeyRow) → KeepsRules state → key_row state id ≡ o
     → mark_of state key ≤ mark → floor_of state key ≤ floor
-    → IfSome o (λ held. IsSomeAnd p (FallsOnlyTo key mark floor held)) → IfSome o (λ held. IsSomeAnd p (HasRisen held))
+    → IfSome o (λ held. IsSomeAnd p (FallsOnlyTo key mark floor held)) → IfSome o (λ held. IsSomeAnd p (RowRises held))
 marks_up_by state key id mark floor None p rules is high_mark high_floor falls = tt
 marks_up_by state key id mark floor (Some held) None rules is high_mark high_floor falls = absurd falls
 marks_up_by state key id mark floor (Some held) (Some new) rules is high_mark high_floor falls =

@@ -7,7 +7,7 @@ use Rattle.frame_shield.specs.declared.protecting_frames.ShieldFault.TheVariants
 use Rattle.frame_checks.specs.declared.open_reply.OpenReply.{OpenReply}
 use Rattle.frame_checks.specs.declared.open_reply.OpenReply.TheVariants as opens
 use Rattle.frame_checks.specs.ProtectingFrames as protecting
-use Rattle.ep_codec.specs.Field.{sa_state_code}
+use Rattle.sdls_base.specs.Code.{sa_state_code}
 use Rattle.ep_core.specs.declared.reply.Reply.{Reply}
 use Rattle.ep_core.specs.declared.reply.Reply.TheVariants as replies
 use Rattle.record_io.specs.declared.answers.Answer.{Answer}

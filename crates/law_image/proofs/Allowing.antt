@@ -1,6 +1,7 @@
 -- Whether a state allows a change that has a record, for `refused_exactly`.
 use Rattle.std.proofs.Common.{◌≡◌, inl, inr, ℕ, ◌≤◌, ◌^◌, List, length, refl}
-use Rattle.sdls_base.specs.Bounds.{IsKeyLength}
+use Rattle.sdls_base.specs.declared.TheConstants.{MOST_KEYS_AT_ONCE}
+use Rattle.sdls_base.specs.Bounds.{IsKeyCount, IsKeyLength}
 use Rattle.sdls_base.specs.KeyId.{class_of, end_of}
 use Rattle.sdls_base.specs.declared.key_id.KeyClass.{KeyClass}
 use Rattle.sdls_base.specs.declared.key_id.KeyClass.TheVariants.{Master, Gcm, Cmac}
@@ -18,9 +19,8 @@ use Rattle.sa_book.specs.SaBook.{in_use}
 use Rattle.sa_book.specs.SaRefusal.{create_refusal, rekey_refusal, set_number_refusal, set_window_refusal}
 use Rattle.unit_state.specs.State.{key_row, association_row}
 use Rattle.unit_state.specs.declared.state.State.{State}
-use Rattle.unit_state.specs.Allows as allowing
-use Rattle.unit_state.specs.Allows.{Allows, AllowsMarks, AllowsLoad, AllowsStates, AllowsCreate, AllowsRekey, AllowsNumber, AllowsWindow, IsSessionKey, least_number}
-use Rattle.book_record.specs.Record as records
+use Rattle.unit_state.specs.Allows.{Allows, AllowsMarks, AllowsLoad, AllowsStates, AllowsCreate, AllowsRekey, AllowsNumber, AllowsWindow, IsSessionKey}
+use Rattle.unit_state.specs.Taking.{least_with}
 use Rattle.book_record.specs.Record.{HasRecord, HasTypes, IsKey, IsSpi}
 use Rattle.law_image.proofs.Deciding.{Decided, decided_and, decided_three, decided_four, decided_as, decided_not, decided_lt, decided_le, decided_none, decided_some, decided_some_and, decided_all, decided_channels, decided_width, decided_key_length}
 
@@ -35,11 +35,8 @@ pre_active Active = inr (λ is. cc)
 pre_active Deactivated = inr (λ is. cc)
 pre_active Destroyed = inr (λ is. cc)
 
-count_allowed : (n : ℕ) → Decided (allowing.IsCount n)
-count_allowed n = decided_as (decided_and (decided_le 1 n) (decided_le n 8)) (λ both. record { least = both.0; most = both.1 }) (λ is. (is.least, is.most))
-
-count_recorded : (n : ℕ) → Decided (records.IsCount n)
-count_recorded n = decided_as (decided_and (decided_le 1 n) (decided_le n 8)) (λ both. record { least = both.0; most = both.1 }) (λ is. (is.least, is.most))
+key_count : (n : ℕ) → Decided (IsKeyCount n)
+key_count n = decided_as (decided_and (decided_le 1 n) (decided_le n MOST_KEYS_AT_ONCE)) (λ both. record { least = both.0; most = both.1 }) (λ is. (is.least, is.most))
 
 session_key : (item : KeyItem) → Decided (IsSessionKey item)
 session_key item = decided_as (decided_and (decided_not (master (class_of item.id))) (decided_key_length (length item.bytes)))
@@ -54,12 +51,12 @@ module _ (state : State) where
 
   load : (items : List KeyItem) → Decided (AllowsLoad state items)
   load items = decided_as
-      (decided_three (count_allowed (length items)) (decided_all IsSessionKey session_key items) (decided_none (load_refusal state.keys items)))
+      (decided_three (key_count (length items)) (decided_all IsSessionKey session_key items) (decided_none (load_refusal state.keys items)))
       (λ all. record { count = all.0; each = all.1; book = all.2 }) (λ is. (is.count, is.each, is.book))
 
   states : (ids : List ℕ) (to : KeyState) → Decided (AllowsStates state ids to)
   states ids to = decided_as
-      (decided_and (count_allowed (length ids)) (decided_none (moves_refusal state.keys ids to (in_use state.associations))))
+      (decided_and (key_count (length ids)) (decided_none (moves_refusal state.keys ids to (in_use state.associations))))
       (λ all. record { count = all.0; book = all.1 }) (λ is. (is.count, is.book))
 
   create : (new : NewSa) → Decided (AllowsCreate state new)
@@ -78,13 +75,13 @@ module _ (state : State) where
   rekey : (spi key number : ℕ) → Decided (AllowsRekey state spi key number)
   rekey spi key number = decided_some_and _
       (λ (row : SaRow). decided_some_and _ (λ (held : KeyRow).
-      decided_none (rekey_refusal state.associations spi key held.state number (least_number row.direction held))) (key_row state key))
+      decided_none (rekey_refusal state.associations spi key held.state number (least_with 1 row.direction held))) (key_row state key))
       (association_row state spi)
 
   number_is : (spi number : ℕ) → Decided (AllowsNumber state spi number)
   number_is spi number = decided_some_and _
       (λ (row : SaRow). decided_some_and _ (λ (key : ℕ). decided_some_and _ (λ (held : KeyRow).
-      decided_none (set_number_refusal state.associations spi number (least_number row.direction held))) (key_row state key)) row.key)
+      decided_none (set_number_refusal state.associations spi number (least_with 1 row.direction held))) (key_row state key)) row.key)
       (association_row state spi)
 
   -- whether it allows a change that is stored
@@ -123,9 +120,9 @@ has_types Nothing = inr (λ is. is)
 pub has_record : (change : Change) → Decided (HasRecord change)
 unfolding HasRecord
 has_record (Marks id mark floor) = inl tt
-has_record (Load items) = decided_and (count_recorded (length items))
+has_record (Load items) = decided_and (key_count (length items))
     (decided_all (λ item. IsKeyLength (length item.bytes)) (λ item. decided_key_length (length item.bytes)) items)
-has_record (KeyStates ids to) = decided_and (decided_not (pre_active to)) (count_recorded (length ids))
+has_record (KeyStates ids to) = decided_and (decided_not (pre_active to)) (key_count (length ids))
 has_record (Create new) = decided_channels new.channels
 has_record (Rekey spi id number) = inl tt
 has_record (SaTo spi to) = inl tt

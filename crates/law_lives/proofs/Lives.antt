@@ -33,7 +33,7 @@ use Rattle.law_history.proofs.Accepting.{taken_kept, kept_taken, taken_restarted
 use Rattle.law_history.proofs.Along.{OfRun, rules_along, kept_along, below_along, of_places}
 use Rattle.law_history.proofs.Loaded.{loaded_along, octets_loaded, one_key}
 use Rattle.law_history.proofs.Marks.{release_entry}
-use Rattle.std.specs.Prelude.{unwrap_or, is_some, is_none, not, ◌&&◌, min, Ok, Err}
+use Rattle.std.specs.Prelude.{unwrap_or, is_none, min, Ok, Err}
 use Rattle.std.specs.Option.{option_map_or}
 use Rattle.std.proofs.lemmas.List.{length-take, take-take}
 use Rattle.std.proofs.lemmas.Option.{none-some, same_Some}
@@ -44,7 +44,7 @@ use Rattle.sdls_base.specs.declared.entry.Seen.TheVariants as seens
 use Rattle.frame_shield.specs.declared.binding.Binding.{Binding}
 use Rattle.frame_shield.specs.declared.protecting_frames.ShieldFault.TheVariants as faults
 use Rattle.frame_checks.specs.Header.{lacks_header, is_clear, channel_of}
-use Rattle.frame_checks.specs.ProtectingFrames.{protect_check, answer_on, sender_of}
+use Rattle.frame_checks.specs.ProtectingFrames.{protect_check, answer_on, channel_on, sender_of, has_channel, tells_channel}
 use Rattle.frame_checks.specs.ProtectingFrames as protecting
 use Rattle.record_io.specs.declared.code.TheConstants.{PROTECTED, DONE}
 use Rattle.unit_plan.specs.PlanLines.{PlanLines, link_of}
@@ -53,7 +53,7 @@ use Rattle.law_history.specs.Answers.{Told, told_by, unbound_told, IsCodeOf}
 use Rattle.law_history.specs.Fits.{FitsKind, state_in}
 use Rattle.law_history.specs.Numbers.{released_floor}
 use Rattle.law_worker.specs.Begin.{Begin}
-use Rattle.law_worker.specs.Deeds.{has_channel, is_protected}
+use Rattle.law_worker.specs.Deeds.{is_protected}
 use Rattle.law_worker.specs.Deeds.{Deed, is_ordered}
 use Rattle.law_lives.specs.Sound.{Differ, EachBegun, IsCoveredBy}
 use Rattle.law_lives.specs.Life.{LifeRun, IsRun, FollowFrom, IsLife, left_by, IsShown, Given, answers_begun, given_of, given_in, state_told, UsesOctets, AreApart, OnceInLife, Knows}
@@ -206,20 +206,20 @@ bound_channel plan state link clear binding is = by_line (link_of plan.links lin
     told false false true d last (x, e) = absurd (let k : ◌≡◌ {A = protecting.Answer} (Err faults.Channel) (Ok (Some x)) = e in cc)
     told false false false d last h = (refl, refl, refl)
 
-    some_channel : {X : Type 0} (o : Option X) → is_none o ≡ false → is_some o ≡ true
-    some_channel None e = absurd (let k : true ≡ false = e in cc)
-    some_channel (Some x) e = refl
-
-    both : (a b c : Bool) → a ≡ false → b ≡ false → c ≡ true → (not a && (not b && c)) ≡ true
-    both a b c p q r = rw p (rw q r)
+    found : (a b : Bool) (channel : Option ℕ) → a ≡ false → b ≡ false → is_none channel ≡ false
+        → tells_channel (unwrap_or (first_failing ((a, Err (faults.Layout 1)) ∷ (b, Ok None) ∷ (is_none channel, Err faults.Channel) ∷ [])) (Ok channel)) ≡ true
+    found true b channel p q r = absurd cc
+    found false true channel p q r = absurd cc
+    found false false None p q r = absurd (let k : true ≡ false = r in cc)
+    found false false (Some channel) p q r = refl
 
     by_line : (o : Option Link) → Bound (option_map_or (answer_on plan state link clear) o (Err (faults.Layout 0)))
-        → option_map_or (λ line. not (lacks_header line.layout clear) && (not (is_clear line.layout clear) && is_some (channel_of plan link line.layout clear))) o false ≡ true
+        → tells_channel (option_map_or (channel_on plan link clear) o (Err (faults.Layout 0))) ≡ true
     by_line None (x, e) = absurd (let k : ◌≡◌ {A = protecting.Answer} (Err (faults.Layout 0)) (Ok (Some x)) = e in cc)
     by_line (Some line) h =
         let t = told (lacks_header line.layout clear) (is_clear line.layout clear) (is_none (channel_of plan link line.layout clear))
         (is_none (sender_of plan state link line clear)) _ h in
-        both _ _ _ t.0 t.1 (some_channel (channel_of plan link line.layout clear) t.2)
+        found _ _ (channel_of plan link line.layout clear) t.0 t.1 t.2
 
 module _ (near : ℕ → ℕ → Type 0) (begin : Begin) (course : Course) (same : begin.plan ≡ course.plan) where
   -- a protected frame tells its epoch

@@ -5,7 +5,7 @@ use Rattle.sdls_base.specs.declared.entry.Logged.{Logged}
 use Rattle.record_io.specs.declared.records.Record.{Record}
 use Rattle.record_io.specs.Answers.{answer_octets}
 use Rattle.counter_table.specs.declared.view.View.{View}
-use Rattle.counter_table.specs.Known.{HasRisen}
+use Rattle.sdls_outside.specs.Faults.{Rose}
 use Rattle.counter_table.specs.Turn.{epoch_seen}
 use Rattle.unit_state.specs.History.{after_first, epoch_after}
 use Rattle.law_history.specs.Log.{entries_of, pieces_of}
@@ -44,7 +44,7 @@ pub record SettlesAt (begin : Begin) (old new : View) (stored entries lines : �
   pub marks : (key row number : ℕ) → row < begin.rows → IsRow begin new key row → 0 < times row number old.numbers.spent
       → number < mark_of (after_first begin.start (entries_in new) entries) key
   -- where the site did not fail, all entries stood
-  pub stood : ¬ HasRisen new.turn.known.opening.faults new.turn.known.faults → entries ≡ length (entries_in new)
+  pub stood : ¬ Rose new.turn.known.opening.faults new.turn.known.faults → entries ≡ length (entries_in new)
 
 -- A run under way: what the first worker did since the opening, that the answers were put, and that each was settled before.
 pub record UnderWay (begin : Begin) (first now : View) (stored : ℕ) (records : List Record) (deeds : List Deed) : Type 0 where

@@ -4,7 +4,7 @@ use Rattle.sdls_base.specs.Numbers.{times}
 use Rattle.sdls_base.specs.declared.entry.Entry.{Entry}
 use Rattle.counter_table.specs.declared.view.Opening.{Opening}
 use Rattle.counter_table.specs.declared.view.View.{View}
-use Rattle.counter_table.specs.Known.{HasRisen}
+use Rattle.sdls_outside.specs.Faults.{Rose}
 use Rattle.counter_table.specs.Turn.{stands}
 use Rattle.unit_state.specs.History.{after}
 use Rattle.unit_state.proofs.Histories.{after_more}
@@ -28,13 +28,12 @@ log_low v w grows =
     let t = length-append (log_of v) grows.earlier.log.0 in omega arith
 
 -- what has risen had risen since
-risen_on : (before now later : ℕ) → now ≤ later → HasRisen before now → HasRisen before later
-risen_on before now later low (inl h) = inl (omega arith)
-risen_on before now later low (inr h) = inr (omega arith)
+risen_on : (before now later : ℕ) → now ≤ later → Rose before now → Rose before later
+risen_on before now later low rose = omega arith
 
 pub clean_before : (v w : View) → KnowsMore v w → IsClean w → IsClean v
 clean_before v w grows clean risen =
-    clean (subst (λ (o : Opening). HasRisen o.faults w.turn.known.faults) (sym grows.opening)
+    clean (subst (λ (o : Opening). Rose o.faults w.turn.known.faults) (sym grows.opening)
     (risen_on v.turn.known.opening.faults v.turn.known.faults w.turn.known.faults grows.earlier.faults risen))
 
 pub row_on : (begin : Begin) (v w : View) → KnowsMore v w → (key row : ℕ) → IsRow begin v key row → IsRow begin w key row

@@ -3,7 +3,7 @@ use Rattle.std.specs.Prelude.{◌≡◌, ℕ, ◌<◌, ◌≤◌, List, [], ◌+
 use Rattle.sdls_base.specs.Numbers.{times}
 use Rattle.sdls_base.specs.declared.entry.Entry.{Entry}
 use Rattle.counter_table.specs.declared.view.View.{View}
-use Rattle.counter_table.specs.Known.{HasRisen}
+use Rattle.sdls_outside.specs.Faults.{Rose}
 use Rattle.counter_table.specs.Turn.{stands, epoch_seen}
 use Rattle.unit_state.specs.History.{after, epoch_after}
 use Rattle.law_history.specs.Numbers.{mark_of}
@@ -19,7 +19,7 @@ MadeAllLines old new made = (place : ℕ) → length (log_of old) ≤ place → 
 
 -- the site had not failed since the opening, as far as the view knows
 abbrev pub IsClean : View → Type 0
-IsClean view = ¬ HasRisen view.turn.known.opening.faults view.turn.known.faults
+IsClean view = ¬ Rose view.turn.known.opening.faults view.turn.known.faults
 
 -- the epoch that the view has seen is no less than that of the log that it knows
 abbrev pub IsLevel : View → Type 0

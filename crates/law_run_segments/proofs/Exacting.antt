@@ -9,7 +9,7 @@ use Rattle.sdls_base.specs.declared.entry.Entry.{Entry}
 use Rattle.counter_table.specs.declared.view.Numbers.{Numbers}
 use Rattle.counter_table.specs.declared.view.View.{View}
 use Rattle.counter_table.specs.Numbers.{amount, top}
-use Rattle.counter_table.specs.Known.{HasRisen}
+use Rattle.sdls_outside.specs.Faults.{Rose}
 use Rattle.counter_table.specs.Turn.{stands}
 use Rattle.key_book.specs.KeyBook.{place_of}
 use Rattle.unit_plan.specs.PlanLines.{PlanLines}
@@ -18,7 +18,6 @@ use Rattle.unit_state.specs.History.{after, after_first, epoch_after}
 use Rattle.law_history.specs.Log.{entries_of}
 use Rattle.law_history.specs.Numbers.{mark_of}
 use Rattle.sdls_base.specs.Numbers.{times}
-use Rattle.sdls_outside.specs.Faults.{Rose}
 use Rattle.counter_table.specs.Whole.{IsWhole, RowStands}
 use Rattle.record_io.specs.declared.answers.Answer.{Answer}
 use Rattle.record_io.specs.declared.records.Record.{Record}
@@ -273,10 +272,6 @@ alone_nothing begin first = record {
 
 -- ---- the end of a run
 
-rose_of : (before now : ℕ) → HasRisen before now → Rose before now
-rose_of before now (inl h) = omega arith
-rose_of before now (inr h) = omega arith
-
 pub exact_call : (call : CallSeen) (account : Account) (plan : PlanLines) (begin : Begin) (first now : View) (words : List ℕ) (releases : List Entry)
     → begin ≡ begin_of call plan begin.start → IsJustOpened begin first → IsWhole begin.rows now
     → ((row : ℕ) → row < MOST_KEYS → RowStands row (slice_index words row) now.numbers)
@@ -307,7 +302,7 @@ exact_call call account plan begin first now words releases begins opened whole 
   served = λ all quiet.
       let none : alone_run.moved.last ≡ [] = alone_run.moved.each (deeds_length account.handled account.answers all) in
       let clean : IsClean now = (λ risen. quiet (subst (λ (n : ℕ). Rose n account.last) faults_before
-      (subst (λ (n : ℕ). Rose now.turn.known.opening.faults n) faults_last (rose_of now.turn.known.opening.faults now.turn.known.faults risen)))) in
+      (subst (λ (n : ℕ). Rose now.turn.known.opening.faults n) faults_last risen))) in
       let empty : entries_in first ≡ [] = ap entries_of opened.no_log in
       let level : IsLevel first = (let counted = ap epoch_after empty in omega arith) in
       let (own, own_is, served) = alone_run.served none (λ place low high. all_made place high) clean level in

@@ -1,5 +1,5 @@
 -- What one worker did after another, and what two workers did at once.
-use Rattle.std.proofs.Common.{◌≡◌, ℕ, ◌+◌, ◌<◌, ◌≤◌, List, [], ◌∷◌, ◌++◌, length, take, Some, Bool, false, true, refl, sym, ◌∙◌, ap, subst, inl, inr, ⊎_elim, arith, le_trans, append_assoc, append-nil, if◌then◌else◌, ◌||◌, max}
+use Rattle.std.proofs.Common.{◌≡◌, ℕ, ◌+◌, ◌<◌, ◌≤◌, List, [], ◌∷◌, ◌++◌, length, take, Some, Bool, false, true, refl, sym, ◌∙◌, ap, subst, inl, inr, arith, le_trans, append_assoc, append-nil, if◌then◌else◌, ◌||◌, max}
 use Rattle.std.specs.List.{slice_index_or}
 use Rattle.std.proofs.lemmas.List.{take-append-le}
 use Rattle.sdls_base.specs.Numbers.{times}
@@ -7,7 +7,8 @@ use Rattle.sdls_base.specs.declared.entry.Logged.{Logged}
 use Rattle.counter_table.specs.declared.view.Opening.{Opening}
 use Rattle.counter_table.specs.declared.view.Known.{Known}
 use Rattle.counter_table.specs.declared.view.View.{View}
-use Rattle.counter_table.specs.Known.{HasRisen, Earlier, IsSparing, pieces, later}
+use Rattle.counter_table.specs.Known.{Earlier, IsSparing, pieces, later}
+use Rattle.sdls_outside.specs.Faults.{Rose}
 use Rattle.counter_table.specs.Numbers.{top}
 use Rattle.counter_table.specs.Turn.{stands}
 use Rattle.record_io.specs.declared.records.Record.{Record}
@@ -38,8 +39,8 @@ earlier_further a b c ab bc same =
       stopped = λ r.
           let o : c.opening.faults ≡ b.opening.faults = ap (λ (z : Opening). z.faults) same in
           let f = ab.faults in
-          let r' : HasRisen b.opening.faults a.faults = subst (λ (z : ℕ). HasRisen z a.faults) o r in
-          bc.stopped (⊎_elim (λ x. inl (omega arith)) (λ x. inr (omega arith)) r) ∙ ab.stopped r';
+          let r' : Rose b.opening.faults a.faults = subst (λ (z : ℕ). Rose z a.faults) o r in
+          bc.stopped (omega arith) ∙ ab.stopped r';
     }
 
 -- a front of a log has no more pieces

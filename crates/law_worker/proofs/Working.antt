@@ -3,14 +3,12 @@ use Rattle.std.proofs.Common.{◌≡◌, ◌⊎◌, ℕ, zero, suc, ◌+◌, ◌
 use Rattle.std.specs.List.{Contains, All, slice_index_or}
 use Rattle.std.proofs.lemmas.List.{take-append-le}
 use Rattle.std.proofs.lemmas.List.Elements.{All-append, All-contains, Contains-append_left, Contains-append_right}
-use Rattle.std.proofs.lemmas.Bool.{cases_lt}
 use Rattle.sdls_base.specs.Numbers.{times}
 use Rattle.sdls_outside.specs.Faults.{Rose}
 use Rattle.sdls_base.specs.declared.entry.Entry.{Entry}
 use Rattle.sdls_base.specs.declared.entry.Logged.{Logged}
 use Rattle.counter_table.specs.declared.view.Opening.{Opening}
 use Rattle.counter_table.specs.declared.view.View.{View}
-use Rattle.counter_table.specs.Known.{HasRisen}
 use Rattle.counter_table.specs.Turn.{stands}
 use Rattle.record_io.specs.declared.records.Record.{Record}
 use Rattle.record_io.specs.declared.answers.Answer.{Answer}
@@ -28,13 +26,6 @@ use Rattle.law_worker.specs.Deeds.{Deed, course_in, is_ordered, epoch_told, Stan
 use Rattle.law_worker.proofs.Histories.{entries_both, entries_counted, row_kept}
 use Rattle.law_worker.proofs.Fitting.{can_append, fits_more}
 use Rattle.law_worker.proofs.Logs.{stands_both, times_both, count_of_both, last_kept, drawers_both, indexed_both, count_at_both, count_kept, legal_more, legal_wider, told_kept}
-
--- a count that rose has risen: the two layers say it in two ways
-risen_of : (before now : ℕ) → Rose before now → HasRisen before now
-risen_of before now rose = elim (cases_lt before now) [
-  | inl lt ↦ inl lt
-  | inr ge ↦ inr (omega arith)
-]
 
 -- the entries of the later view
 pub grown_entries : (v w : View) → KnowsMore v w → (rest : List Entry) × (entries_in w ≡ entries_in v ++ rest)
@@ -77,7 +68,7 @@ module _ (begin : Begin) (u v w z : View) (low : KnowsMore u v) (high : KnowsMor
       let r : List Entry = (grown_entries w z high).0 in
       let near : ℕ → ℕ → Type 0 = IsBetween begin u z in
       let closed : Rose w.turn.known.opening.faults w.turn.known.faults → length (entries_in w ++ r) ≡ length (entries_in w) =
-      λ rose. let s = high.earlier.stopped (subst (λ (o : Opening). HasRisen o.faults w.turn.known.faults) (sym high.opening) (risen_of _ _ rose)) in
+      λ rose. let s = high.earlier.stopped (subst (λ (o : Opening). Rose o.faults w.turn.known.faults) (sym high.opening) rose) in
       ap length (sym grown) ∙ (sym (entries_counted (log_of z)) ∙ (s ∙ entries_counted (log_of w))) in
       let there : Fits near (course_with (entries_in w ++ r) w.turn.known.opening.faults) t x =
       fits_more (IsBetween begin v w) near between begin.plan begin.start begin.slots begin.used begin.told
@@ -93,7 +84,7 @@ module _ (begin : Begin) (u v w z : View) (low : KnowsMore u v) (high : KnowsMor
       let r : List Entry = (grown_entries w z high).0 in
       let near : ℕ → ℕ → Type 0 = IsBetween begin u z in
       let closed : Rose w.turn.known.opening.faults w.turn.known.faults → length (entries_in w ++ r) ≡ length (entries_in w) =
-      λ rose. let s = high.earlier.stopped (subst (λ (o : Opening). HasRisen o.faults w.turn.known.faults) (sym high.opening) (risen_of _ _ rose)) in
+      λ rose. let s = high.earlier.stopped (subst (λ (o : Opening). Rose o.faults w.turn.known.faults) (sym high.opening) rose) in
       ap length (sym grown) ∙ (sym (entries_counted (log_of z)) ∙ (s ∙ entries_counted (log_of w))) in
       let there : MayAppend near (course_with (entries_in w ++ r) w.turn.known.opening.faults) p t =
       can_append (IsBetween begin v w) near between begin.plan begin.start begin.slots begin.used begin.told
@@ -149,15 +140,15 @@ module _ (begin : Begin) (u v w z : View) (low : KnowsMore u v) (high : KnowsMor
     order = λ lt turn. behind_later d e s t (h.order lt turn);
   }
 
-  risen_later : HasRisen w.turn.known.opening.faults w.turn.known.faults → HasRisen z.turn.known.opening.faults z.turn.known.faults
+  risen_later : Rose w.turn.known.opening.faults w.turn.known.faults → Rose z.turn.known.opening.faults z.turn.known.faults
   risen_later h =
       let f = high.earlier.faults in
-      subst (λ (o : Opening). HasRisen o.faults z.turn.known.faults) (sym high.opening) (⊎_elim (λ a. inl (omega arith)) (λ b. inr (omega arith)) h)
+      subst (λ (o : Opening). Rose o.faults z.turn.known.faults) (sym high.opening) (omega arith)
 
   -- once the count of faults had risen, no entry was added
-  pub closed : HasRisen w.turn.known.opening.faults w.turn.known.faults → length (entries_in z) ≡ length (entries_in w)
+  pub closed : Rose w.turn.known.opening.faults w.turn.known.faults → length (entries_in z) ≡ length (entries_in w)
   closed risen =
-      let s = high.earlier.stopped (subst (λ (o : Opening). HasRisen o.faults w.turn.known.faults) (sym high.opening) risen) in
+      let s = high.earlier.stopped (subst (λ (o : Opening). Rose o.faults w.turn.known.faults) (sym high.opening) risen) in
       sym (entries_counted (log_of z)) ∙ (s ∙ entries_counted (log_of w))
 
   last_later : (gains : Gains) → ((x : ℕ) → 0 < stands x gains.made → x < length (log_of w)) → MadeLast w gains → MadeLast z gains

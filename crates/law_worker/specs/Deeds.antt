@@ -1,7 +1,6 @@
 -- What a worker did, with the answers that it gave (profile).
-use Rattle.std.specs.Prelude.{◌≡◌, ◌≢◌, ◌⊎◌, ℕ, ◌+◌, ◌<◌, ◌≤◌, ◌&&◌, ◌||◌, not, nat_le, Bool, IsTrue, true, false, if◌then◌else◌, List, [], ◌∷◌, length, take, is_some}
+use Rattle.std.specs.Prelude.{◌≡◌, ◌≢◌, ◌⊎◌, ℕ, ◌+◌, ◌<◌, ◌≤◌, ◌&&◌, ◌||◌, not, nat_le, Bool, IsTrue, true, false, if◌then◌else◌, List, [], ◌∷◌, length, take}
 use Rattle.std.specs.List.{All, AllPairs}
-use Rattle.std.specs.Option.{option_map_or}
 use Rattle.sdls_base.specs.Numbers.{times}
 use Rattle.sdls_base.specs.declared.entry.Entry.{Entry}
 use Rattle.sdls_base.specs.declared.entry.Logged.{Logged}
@@ -12,12 +11,12 @@ use Rattle.record_io.specs.declared.kinds.RecordKind.TheVariants.{Protect, Open,
 use Rattle.record_io.specs.declared.code.TheConstants.{PROTECTED, ACCEPTED, NUMBER, EXHAUSTED, SITE_FAULT}
 use Rattle.unit_state.specs.History.{epoch_after}
 use Rattle.counter_table.specs.declared.view.View.{View}
-use Rattle.counter_table.specs.Known.{HasRisen, IsSparing}
+use Rattle.counter_table.specs.Known.{IsSparing}
+use Rattle.sdls_outside.specs.Faults.{Rose}
 use Rattle.counter_table.specs.Numbers.{top}
 use Rattle.counter_table.specs.Turn.{stands, epoch_seen}
 use Rattle.law_history.specs.Log.{entries_of}
-use Rattle.frame_checks.specs.Header.{lacks_header, is_clear, channel_of}
-use Rattle.unit_plan.specs.PlanLines.{PlanLines, link_of}
+use Rattle.frame_checks.specs.ProtectingFrames.{has_channel}
 use Rattle.law_history.specs.Answers.{Uses}
 use Rattle.law_history.specs.Fits.{Course, Fits}
 use Rattle.law_worker.specs.Begin.{Begin}
@@ -42,13 +41,6 @@ course_in begin view = record {
   faults = view.turn.known.faults;
   entries = entries_in view;
 }
-
--- the frame passes the checks of protecting that need no association: its link has a line, its header is there, it carries
--- security, and it is of a channel of the plan
-abbrev pub has_channel : PlanLines → ℕ → List ℕ → Bool
-has_channel plan link clear = option_map_or
-    (λ line. not (lacks_header line.layout clear) && (not (is_clear line.layout clear) && is_some (channel_of plan link line.layout clear)))
-    (link_of plan.links link) false
 
 abbrev pub is_protected : RecordKind → Bool
 is_protected Protect = true
@@ -114,7 +106,7 @@ pub record MadeLast (new : View) (gains : Gains) : Type 0 where
   pub place : ℕ
   pub is_made : 0 < stands place gains.made
   pub last : IsLastAt (log_of new) place
-  pub risen : HasRisen new.turn.known.opening.faults new.turn.known.faults
+  pub risen : Rose new.turn.known.opening.faults new.turn.known.faults
 
 -- each number that the answer uses was spent here, under the row of its key
 abbrev pub IsSpent : Begin → View → Gains → Deed → Type 0

@@ -3,3 +3,4 @@ pub mod Places
 pub mod Reading
 pub mod Steps
 pub mod Answers
+pub mod Outcome

@@ -1,4 +1,5 @@
 pub mod Checks
+pub mod Codes
 pub mod ControlFields
 pub mod Endings
 pub mod FieldLemmas
@@ -7,3 +8,4 @@ pub mod Pieces
 pub mod Remainders
 pub mod Differences
 pub mod OctetSteps
+pub mod Words

@@ -1,5 +1,7 @@
 pub mod KeyId
 pub mod Suite
+pub mod Code
+pub mod Spelling
 pub mod ErrorControl
 pub mod Fields
 pub mod FirstFailing

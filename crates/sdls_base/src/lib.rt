@@ -48,5 +48,11 @@ pub const MOST_ASSOCIATIONS: usize = 64;
 /// The most channels that a security association covers (profile). The least is 1.
 pub const MOST_CHANNELS: usize = 8;
 
+/// The most keys that a command or a record names (profile). The least is 1.
+pub const MOST_KEYS_AT_ONCE: usize = 8;
+
 /// The widest anti-replay window (profile). The narrowest is 1.
 pub const MOST_WINDOW: u64 = 1 << 32;
+
+/// The octets of the body of a record, as it stands in a slot behind the gate (profile).
+pub const BODY_LENGTH: usize = 511;

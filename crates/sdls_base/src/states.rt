@@ -1,4 +1,6 @@
-ghost use Rattle.std.specs.Prelude.{◌≡◌};
+ghost use Rattle.std.specs.Prelude.{◌≡◌, ◌≤◌};
+ghost use Rattle.std.specs.Option.{SomeIff};
+ghost use Rattle.sdls_base.specs.Code.{key_state_of, sa_state_of, direction_of, suite_of};
 ghost use Rattle.sdls_base.specs.Suite.{overhead_of, class_of_suite};
 
 use crate::key_id::KeyClass;
@@ -12,6 +14,21 @@ pub enum KeyState {
     Destroyed = 4,
 }
 
+impl KeyState {
+    /// The state with this number.
+    pub fn from_code(code: u8) -> Option<KeyState>
+        ensures { SomeIff result ((1 ≤ code) × (code ≤ 4)) (key_state_of code) }
+    {
+        match code {
+            1 => Some(KeyState::PreActive),
+            2 => Some(KeyState::Active),
+            3 => Some(KeyState::Deactivated),
+            4 => Some(KeyState::Destroyed),
+            _ => None,
+        }
+    }
+}
+
 /// The state of a security association (CCSDS 355.1-B-1). `as u8` gives its number in the formats.
 #[derive(Clone, Copy, Debug, PartialEq, Eq)]
 pub enum SaState {
@@ -20,11 +37,38 @@ pub enum SaState {
     Operational = 3,
 }
 
+impl SaState {
+    /// The state with this number.
+    pub fn from_code(code: u8) -> Option<SaState>
+        ensures { SomeIff result ((1 ≤ code) × (code ≤ 3)) (sa_state_of code) }
+    {
+        match code {
+            1 => Some(SaState::Unkeyed),
+            2 => Some(SaState::Keyed),
+            3 => Some(SaState::Operational),
+            _ => None,
+        }
+    }
+}
+
 /// Whether a security association protects frames or opens them. `as u8` gives its number in the formats.
 #[derive(Clone, Copy, Debug, PartialEq, Eq)]
 pub enum Direction {
     Send = 1,
     Receive = 2,
+}
+
+impl Direction {
+    /// The direction with this number.
+    pub fn from_code(code: u8) -> Option<Direction>
+        ensures { SomeIff result ((1 ≤ code) × (code ≤ 2)) (direction_of code) }
+    {
+        match code {
+            1 => Some(Direction::Send),
+            2 => Some(Direction::Receive),
+            _ => None,
+        }
+    }
 }
 
 /// The cipher suite of a security association (profile). `as u8` gives its number in the formats.
@@ -37,6 +81,17 @@ pub enum Suite {
 }
 
 impl Suite {
+    /// The suite with this number.
+    pub fn from_code(code: u8) -> Option<Suite>
+        ensures { SomeIff result ((1 ≤ code) × (code ≤ 2)) (suite_of code) }
+    {
+        match code {
+            1 => Some(Suite::Cmac),
+            2 => Some(Suite::Gcm),
+            _ => None,
+        }
+    }
+
     /// The octets that security header and trailer add to a frame.
     pub fn overhead(&self) -> usize
         ensures { result ≡ overhead_of self.now }

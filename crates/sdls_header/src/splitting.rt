@@ -1,6 +1,7 @@
 ghost use Rattle.std.specs.Prelude.{◌≡◌, ◌+◌, ◌<◌, ◌≤◌, ◌↔◌, ◌++◌, length, take, drop, IsNone, IfSome, IsSomeAnd};
 ghost use Rattle.std.specs.Int.{w16, w64, to_be_bytes};
 ghost use Rattle.sdls_base.specs.Suite.{overhead_of};
+ghost use Rattle.sdls_header.specs.declared.pieces.Vector.TheVariants.{Wide};
 ghost use Rattle.sdls_header.specs.SecurityHeader.{Pieces, SplitsInto, IsVectorOf, view, header_octets, vector_octets};
 
 use crate::pieces::{SecurityHeader, Split, Vector};
@@ -69,7 +70,7 @@ pub fn split<'a>(room: &'a [u8], suite: Suite) -> Option<Split<'a>>
 
 /// The octets of the GCM suite's vector.
 pub fn wide_octets(device: [u8; 4], number: u64) -> [u8; 12]
-    ensures { result ≡ device ++ to_be_bytes w64 number }
+    ensures { result ≡ vector_octets (Wide device number) }
 {
     let [a, b, c, d] = device;
     let [e, f, g, h, i, j, k, l] = number.to_be_bytes();

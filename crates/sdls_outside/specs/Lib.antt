@@ -2,6 +2,7 @@ pub mod Faults
 pub mod Disk
 pub mod Moments
 pub mod Site
+pub mod Output
 pub mod PutFaults
 pub mod Source
 pub mod Calls

@@ -4,22 +4,6 @@ use Rattle.std.proofs.lemmas.Slice.Eq.{bytes_eq-Decides}
 use Rattle.std.specs.declared.alloc.Global.{Global}
 use Rattle.sdls_plain.specs.Words.{IsCheck, IsInit, IsKey}
 
--- a list of two, by its items
-two_items : {X : Type 0} (xs : List X) (a b : X) → 2 ≤ length xs → length xs < 3 → a ≡ get_or xs 0 a → b ≡ get_or xs 1 b
-    → xs ≡ a ∷ b ∷ []
-two_items [] a b least below first second = absurd (omega arith)
-two_items (x ∷ []) a b least below first second = absurd (omega arith)
-two_items (x ∷ y ∷ []) a b least below first second = cc
-two_items (x ∷ y ∷ z ∷ rest) a b least below first second = absurd (omega arith)
-
--- two words, by their octets
-pub two_words : (words : List (String Global)) (a b : String Global) (first second : List ℕ)
-    → 2 ≤ length words → length words < 3 → a ≡ get_or words 0 a → b ≡ get_or words 1 b
-    → string_bytes a ≡ first → second ≡ string_bytes b
-    → map string_bytes words ≡ first ∷ second ∷ []
-two_words words a b first second least below at_first at_second is_first is_second =
-    ap (map string_bytes) (two_items words a b least below at_first at_second) ∙ cc
-
 other_words : (words : List (String Global)) (digits : List ℕ) → map string_bytes words ≡ codes "check" ∷ digits ∷ []
     → (key : List ℕ) → IsCheck words key → IsKey digits key
 other_words words digits are key is =

@@ -1,5 +1,4 @@
 pub mod CheckWords
-pub mod Delivering
 pub mod Rooms
 pub mod Judging
 pub mod Making

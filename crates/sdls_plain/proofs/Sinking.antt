@@ -4,7 +4,7 @@ use Rattle.std.proofs.lemmas.List.{drop_at, drop_all, length-append}
 use Rattle.sdls_outside.specs.Disk.{Disk, Leaves, Outside}
 use Rattle.sdls_outside.specs.Moments.{Trace, clock, Moments, MomentSince, EachMoment, Continues}
 use Rattle.sdls_outside.proofs.Moments.{moment_split}
-use Rattle.sdls_plain.specs.Output.{states, SameDisk, AllSameDisk, OnlySinks}
+use Rattle.sdls_outside.specs.Output.{states, SameDisk, AllSameDisk, OnlySinks}
 
 leaves_back : (old new : Disk) → SameDisk old new → (image : List ℕ) → Leaves new image → Leaves old image
 leaves_back old new same image leaves = record {

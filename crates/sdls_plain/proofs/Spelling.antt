@@ -2,8 +2,8 @@ use Rattle.std.proofs.Common.{◌≡◌, ℕ, List, [], ◌∷◌, ◌++◌, tak
 use Rattle.std.proofs.lemmas.List.{take-append-drop}
 use Rattle.hex.specs.Hex.{encode_with, encode_lower, lower_digits}
 use Rattle.sdls_outside.specs.Moments.{Trace}
-use Rattle.sdls_plain.specs.Output.{Sinks, SinksFront}
-use Rattle.sdls_plain.proofs.Delivering.{sinks_then, front_then, front_cut}
+use Rattle.sdls_outside.specs.Output.{Sinks, SinksFront}
+use Rattle.sdls_outside.proofs.Delivering.{sinks_then, front_then, front_cut}
 
 encode_with-append : (t xs ys : List ℕ) → encode_with t (xs ++ ys) ≡ encode_with t xs ++ encode_with t ys
 unfolding encode_with

@@ -21,8 +21,8 @@ use Rattle.unit_image.specs.Shows.{Shows, ShowsNone}
 use Rattle.unit_book.specs.Book.{BookView, IsKept, Serves, with_put}
 use Rattle.sdls_plain.specs.declared.stat.StatEnd.{StatEnd}
 use Rattle.sdls_plain.specs.declared.stat.StatEnd.TheVariants.{Told, SiteFault, NoMemory, NoState}
-use Rattle.sdls_plain.specs.Output.{OnlySinks, SinksFront}
-use Rattle.sdls_plain.specs.Answer.{Ends}
+use Rattle.sdls_outside.specs.Output.{OnlySinks, SinksFront}
+use Rattle.record_io.specs.Outcome.{Ends}
 use Rattle.sdls_plain.specs.Stat.{PutsText, ShowsAlone, StatMoment, StatDue, TellsBook, end_of_open, fault_text}
 use Rattle.sdls_plain.proofs.Sinking.{sinks_leave}
 

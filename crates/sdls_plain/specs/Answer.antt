@@ -1,16 +1,13 @@
 -- The texts that are put, and how a run ends (profile).
-use Rattle.std.specs.Prelude.{◌≡◌, ℕ, ◌⊎◌, Bool, IsTrue, List, [], ◌∷◌, ◌++◌, codes, Result, IfOk}
+use Rattle.std.specs.Prelude.{◌≡◌, ℕ, ◌⊎◌, Bool, IsTrue, List, ◌++◌, codes, Result, IfOk}
 use Rattle.hex.specs.Hex.{encode_lower}
 use Rattle.sdls_outside.specs.Moments.{Trace}
 use Rattle.sdls_plain.specs.declared.refusal.Refusal.{Refusal}
 use Rattle.sdls_plain.specs.declared.refusal.Refusal.TheVariants.{Short, Long, Version, Spare, Spi, Mac}
-use Rattle.record_io.specs.declared.status.TheConstants.{DONE, REFUSED, SOURCE_FAULT, SITE_FAULT}
+use Rattle.record_io.specs.declared.status.TheConstants.{DONE, REFUSED, SOURCE_FAULT}
+use Rattle.record_io.specs.Outcome.{Ends, line}
 use Rattle.sdls_plain.specs.Check.{PassesChecks, IsFirstFault, data_field}
-use Rattle.sdls_plain.specs.Output.{Sinks, SinksFront, Delivers}
-
--- a text and a line feed
-abbrev pub line : List ℕ → List ℕ
-line text = text ++ 10 ∷ []
+use Rattle.sdls_outside.specs.Output.{Delivers}
 
 abbrev pub usage_text : List ℕ
 usage_text = line (codes "usage: sdls check KEY, init, run, stat, drill N")
@@ -50,13 +47,6 @@ abbrev pub CheckDue : List ℕ → (List ℕ → Type 0) → Type 0 → List ℕ
 CheckDue key IsInput source_rose text status =
     ((input : List ℕ) × IsInput input × CheckOutput key input text status)
     ⊎ (source_rose × (text ≡ source_fault_text) × (status ≡ SOURCE_FAULT))
-
--- The text that is due was put whole, and the status is the one that is due; or the site failed, the
--- status says so, and a front of the text was put. Nothing else was done.
-abbrev pub Ends : Bool → Trace → Trace → Type 0 → List ℕ → ℕ → ℕ → Type 0
-Ends told old new site_rose text due status =
-    ((status ≡ due) × (IsTrue told → Sinks text old new))
-    ⊎ ((status ≡ SITE_FAULT) × site_rose × (IsTrue told → SinksFront text old new))
 
 -- How `check KEY` ends: with the text that is due for its input.
 abbrev pub EndsCheck : List ℕ → (List ℕ → Type 0) → Type 0 → Bool → Trace → Trace → Type 0 → ℕ → Type 0

@@ -1,4 +1,3 @@
-pub mod Output
 pub mod Check
 pub mod Answer
 pub mod Init

@@ -16,7 +16,7 @@ use Rattle.status_text.specs.Text.{status_text}
 use Rattle.record_io.specs.declared.status.TheConstants as statuses
 use Rattle.sdls_plain.specs.declared.stat.StatEnd.{StatEnd}
 use Rattle.sdls_plain.specs.declared.stat.StatEnd.TheVariants.{Told, SiteFault, NoMemory, NoState}
-use Rattle.sdls_plain.specs.Answer.{line}
+use Rattle.record_io.specs.Outcome.{line}
 
 abbrev pub stat_status : StatEnd → ℕ
 stat_status Told = statuses.DONE

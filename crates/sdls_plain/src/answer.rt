@@ -1,7 +1,7 @@
 ghost use Rattle.std.specs.Prelude.{◌≡◌, IsTrue, MatchResult, IfOk};
 ghost use Rattle.sdls_outside.specs.Faults.{HasCause};
 ghost use Rattle.sdls_plain.specs.Answer.{DeliversText, accepted_text, refused_text};
-ghost use Rattle.sdls_plain.specs.Output.{Delivers};
+ghost use Rattle.sdls_outside.specs.Output.{Delivers};
 
 use crate::output::{put_hexadecimal, put_text};
 use crate::refusal::Refusal;

@@ -2,7 +2,7 @@ ghost use Rattle.std.specs.Prelude.{◌≡◌, ◌+◌, ◌≤◌, [], length, v
 ghost use Rattle.sdls_outside.specs.Faults.{HasCause, Rose};
 ghost use Rattle.sdls_plain.specs.Init.{EndsInit, InitEnds, JudgesPlan, cause_text, cause_word, init_status, init_text, plan_fault_text};
 ghost use Rattle.sdls_outside.specs.Intake.{TakesAtMost};
-ghost use Rattle.sdls_plain.specs.Output.{Delivers};
+ghost use Rattle.sdls_outside.specs.Output.{Delivers};
 
 use crate::output::put_text;
 use crate::status::{DONE, MALFORMED, NO_MEMORY, NO_STATE, SITE_FAULT, SOURCE_FAULT};

@@ -1,7 +1,7 @@
 ghost use Rattle.std.specs.Prelude.{◌≤◌, length, IsTrue};
 ghost use Rattle.hex.specs.Hex.{encode_lower};
 ghost use Rattle.sdls_outside.specs.Faults.{HasCause};
-ghost use Rattle.sdls_plain.specs.Output.{Delivers};
+ghost use Rattle.sdls_outside.specs.Output.{Delivers};
 
 use sdls_outside::{Failed, Site};
 

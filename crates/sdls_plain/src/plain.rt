@@ -2,7 +2,8 @@
 ghost use Rattle.std.specs.Prelude.{◌≡◌, ℕ, ◌+◌, List, [], IsTrue};
 ghost use Rattle.sdls_outside.specs.Faults.{Rose};
 ghost use Rattle.sdls_outside.specs.Intake.{TakesAtMost};
-ghost use Rattle.sdls_plain.specs.Answer.{Ends, EndsCheck, usage_text};
+ghost use Rattle.sdls_plain.specs.Answer.{EndsCheck, usage_text};
+ghost use Rattle.record_io.specs.Outcome.{Ends};
 ghost use Rattle.sdls_plain.specs.Init.{EndsInit};
 ghost use Rattle.sdls_plain.specs.Stat.{EndsStat};
 ghost use Rattle.sdls_plain.specs.Taking.{TakesFew};

@@ -4,8 +4,8 @@ ghost use Rattle.sdls_outside.specs.Faults.{HasCause, Rose};
 ghost use Rattle.sdls_outside.specs.Moments.{EachMoment};
 ghost use Rattle.unit_book.specs.Book.{IsKept, with_put};
 ghost use Rattle.unit_book.specs.Log.{sunk_between};
-ghost use Rattle.sdls_plain.specs.Answer.{Ends};
-ghost use Rattle.sdls_plain.specs.Output.{Delivers};
+ghost use Rattle.record_io.specs.Outcome.{Ends};
+ghost use Rattle.sdls_outside.specs.Output.{Delivers};
 ghost use Rattle.sdls_plain.specs.Stat.{EndsStat, PutsText, ShowsAlone, TellsBook, end_of_open, fault_text, image_text, stat_status};
 
 use crate::output::put_text;

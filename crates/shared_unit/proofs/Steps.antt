@@ -1,5 +1,5 @@
 -- A book that goes on may be given back, and the worker then took the turn once.
-use Rattle.std.proofs.Common.{◌≡◌, inl, inr, ℕ, ◌+◌, ◌≤◌, Bool, List, [], ◌∷◌, ◌++◌, length, Result, Ok, Err, sym, ap, subst, ◌∙◌, append-nil, append_assoc, arith}
+use Rattle.std.proofs.Common.{◌≡◌, ℕ, ◌+◌, ◌≤◌, Bool, List, [], ◌∷◌, ◌++◌, length, Result, Ok, Err, sym, ap, subst, ◌∙◌, append-nil, append_assoc, arith}
 use Rattle.sdls_base.specs.declared.entry.Entry.{Entry}
 use Rattle.sdls_base.specs.declared.entry.Logged.{Logged}
 use Rattle.sdls_base.specs.declared.entry.Logged.TheVariants as logged
@@ -11,7 +11,7 @@ use Rattle.unit_state.specs.declared.state.State.{State}
 use Rattle.counter_table.specs.declared.view.Known.{Known}
 use Rattle.counter_table.specs.declared.view.Opening.{Opening}
 use Rattle.counter_table.specs.declared.view.Turn.{Turn}
-use Rattle.counter_table.specs.Known.{Earlier, IsSparing, LowersNoMark, MayGive, HasRisen, pieces}
+use Rattle.counter_table.specs.Known.{Earlier, IsSparing, LowersNoMark, MayGive, pieces}
 use Rattle.counter_table.specs.Turn.{taking, giving, learning}
 use Rattle.counter_table.specs.Play.{Follows}
 use Rattle.law_history.specs.Log.{entries_of}
@@ -31,13 +31,8 @@ pub record Continues (found given : Known) : Type 0 where
   pub sparing : IsSparing found given
   pub opening : given.opening ≡ found.opening
 
-rose_of : (before now : ℕ) → HasRisen before now → Rose before now
-rose_of before now (inl h) = omega arith
-rose_of before now (inr h) = omega arith
-
-pub later_risen : (o a b : ℕ) → a ≤ b → HasRisen o a → HasRisen o b
-later_risen o a b h (inl p) = inl (omega arith)
-later_risen o a b h (inr p) = inr (omega arith)
+pub later_risen : (o a b : ℕ) → a ≤ b → Rose o a → Rose o b
+later_risen o a b h p = omega arith
 
 pub earlier_again : (a b c : Known) → Earlier a b → Earlier b c → c.opening ≡ b.opening → Earlier a c
 earlier_again a b c one two opening = record {
@@ -47,7 +42,7 @@ earlier_again a b c one two opening = record {
   standing = (let p = one.standing in let q = two.standing in omega arith);
   put_faults = (let p = one.put_faults in let q = two.put_faults in omega arith);
   stopped = λ r. two.stopped (later_risen _ a.faults b.faults one.faults r)
-      ∙ one.stopped (subst (λ (o : Opening). HasRisen o.faults a.faults) opening r);
+      ∙ one.stopped (subst (λ (o : Opening). Rose o.faults a.faults) opening r);
 }
 
 pub pieces-append : (xs ys : List Logged) → pieces (xs ++ ys) ≡ pieces xs + pieces ys
@@ -106,7 +101,7 @@ module _ {O : Type 0} (trace : O → Trace) (faults puts : O → ℕ) where
           put_faults = up.puts_later;
           stopped = λ risen.
               let none : entries_of g.added ≡ [] =
-              g.stopped (subst (λ (z : O). Rose (faults z) (faults old.site)) g.opened (rose_of (faults new.opened) (faults old.site) risen)) in
+              g.stopped (subst (λ (z : O). Rose (faults z) (faults old.site)) g.opened risen) in
               entries_counted new.log
               ∙ ap length (ap entries_of g.log ∙ entries_of-append old.log g.added ∙ ap (λ (es : List Entry). entries_of old.log ++ es) none
               ∙ append-nil (entries_of old.log))

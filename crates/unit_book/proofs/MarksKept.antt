@@ -20,7 +20,7 @@ use Rattle.unit_state.specs.declared.state.State.{State}
 use Rattle.unit_state.specs.State.{KeepsRules, key_row, association_row}
 use Rattle.unit_state.specs.Applied.{applied}
 use Rattle.unit_state.specs.Allows.{Allows}
-use Rattle.unit_state.specs.Laws.{HasRisen, FallsOnlyTo, IsNoMarks}
+use Rattle.unit_state.specs.Laws.{RowRises, FallsOnlyTo, IsNoMarks}
 use Rattle.unit_state.proofs.Found.{found_passes}
 use Rattle.unit_state.proofs.KeyRules.{equal_number}
 use Rattle.unit_state.proofs.RulesKept.{rules_kept}
@@ -54,7 +54,7 @@ no_release_last entries entry none =
 
 -- ---- from state to state
 
-kept_by : (one other : Option KeyRow) → IfSome one (λ held. IsSomeAnd other (HasRisen held))
+kept_by : (one other : Option KeyRow) → IfSome one (λ held. IsSomeAnd other (RowRises held))
     → IfSome one (λ held. IsSomeAnd other (λ now. held.mark ≤ now.mark))
 kept_by None other risen = tt
 kept_by (Some held) None risen = risen

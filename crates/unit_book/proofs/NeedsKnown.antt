@@ -28,7 +28,8 @@ use Rattle.ep_core.specs.declared.refusal.Refusal.{Refusal}
 use Rattle.ep_core.specs.declared.refusal.Refusal.TheVariants.{NotMaster}
 use Rattle.ep_core.specs.Need.{is_sending, sends, sending_key, sending_key_of, need_of}
 use Rattle.ep_core.specs.Refusals as refusals
-use Rattle.ep_core.specs.Refusals.{refusal_of, from_associations, unless_known, unless_free, takes_key, by_state, unless_usable, unless_takes, session_checks, least_with, least_at}
+use Rattle.ep_core.specs.Refusals.{refusal_of, from_associations, unless_known, unless_free, by_state, unless_usable, unless_takes, session_checks, least_at}
+use Rattle.unit_state.specs.Taking.{taking_refusal, least_with}
 use Rattle.ep_core.proofs.Checks.{rekey_told}
 use Rattle.ep_core.proofs.Free.{associations_free, tells_free, tells_rekey, tells_set_number}
 use Rattle.ep_core.proofs.SealedFacts.{passed_both}
@@ -104,7 +105,7 @@ rekey_names state spi key number none =
     let at = judged state.associations spi (λ (row : SaRow). unless_unkeyed row.state)
     (associations_free spi None (unless_free state spi) (tells_free None (association_row state spi)) one.0) in
     let least = least_with 0 at.row.direction held in
-    let takes : takes_key state spi key number 0 at.row held ≡ None =
+    let takes : taking_refusal state spi key number 0 at.row held ≡ None =
     associations_free spi (Some key) _ (tells_rekey state.associations spi key held.state number least)
     (sym (rekey_told state spi key number 0 at.row held at.there (unkeyed at.row.state at.free) is) ∙ none) in
     let own = judged state.associations spi (λ (row : SaRow). key_refusal state.associations row key held.state number least) takes in

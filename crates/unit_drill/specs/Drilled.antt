@@ -9,7 +9,7 @@ use Rattle.counter_table.specs.declared.counters.Worker.{Worker}
 use Rattle.counter_table.specs.Worker.{view}
 use Rattle.counter_table.specs.Numbers.{ALL_SHARES}
 use Rattle.shared_unit.specs.Turn.{IsReady}
-use Rattle.sdls_plain.specs.Answer.{Ends, line}
+use Rattle.record_io.specs.Outcome.{Ends, line}
 use Rattle.drill_frames.specs.declared.counts.Counts.{Counts}
 use Rattle.drill_frames.specs.Line.{drill_text}
 use Rattle.law_drill.specs.Drilled.{IsComplete, IsDrilled}

@@ -1,13 +1,11 @@
 //! The images of the two units.
-ghost use Rattle.std.specs.Prelude.{◌≡◌, ◌≤◌, ◌++◌, IfOk, OnOk, length, None, []};
-ghost use Rattle.byteorder.specs.Endian.{big_bytes};
-ghost use Rattle.disk_journal.specs.Initial.{initial_image, zeros};
+ghost use Rattle.std.specs.Prelude.{◌≡◌, ◌≤◌, IfOk, length};
+ghost use Rattle.disk_journal.specs.Initial.{initial_image};
 ghost use Rattle.sdls_outside.specs.Crash.{fresh};
 ghost use Rattle.sdls_outside.specs.MemSite.{site_trace};
 ghost use Rattle.law_drill.specs.Plans.{receiver_plan, sender_plan};
 
-use byteorder::{BigEndian, ByteOrder};
-use disk_journal::{FIELD_LENGTH, HEADER_LENGTH, MAGIC, OPEN, PLAN_ROOM, ZEROS_AT, slot_offset};
+use disk_journal::{PLAN_ROOM, image_of};
 use sdls_base::NoMemory;
 use sdls_outside::MemSite;
 use std::alloc::Global;
@@ -73,52 +71,11 @@ pub(crate) fn receiver_plan() -> &'static [u8]
     RECEIVER
 }
 
-fn add_octets(image: &mut Vec<u8>, octets: &[u8]) -> Result<(), NoMemory>
-    ensures { OnOk result (image.new.items ≡ image.old.items ++ octets.now) }
-{
-    image.extend_from_slice(octets)?;
-    Ok(())
-}
-
-fn add_number(image: &mut Vec<u8>, number: u32) -> Result<(), NoMemory>
-    ensures { OnOk result (image.new.items ≡ image.old.items ++ big_bytes FIELD_LENGTH number) }
-{
-    let mut field = [0; FIELD_LENGTH];
-    BigEndian::write_u32(&mut field, number);
-    add_octets(image, &field)
-}
-
-#[tactic(auto, unfolding(disk_journal::specs::Initial::zeros))]
-fn add_zeros(alloc: Global, image: &mut Vec<u8>, count: usize) -> Result<(), NoMemory>
-    ensures { OnOk result (image.new.items ≡ image.old.items ++ zeros count) }
-{
-    let octets = vec![in alloc; 0; count]?;
-    add_octets(image, &octets)
-}
-
-/// The image of a plan, without records.
-#[tactic(auto, unfolding(disk_journal::specs::Initial::empty_image))]
-fn image_of(alloc: Global, plan: &[u8]) -> Result<Vec<u8>, NoMemory>
-    requires { length plan.now ≤ PLAN_ROOM }
-    ensures { IfOk result (λ image. image.items ≡ initial_image plan.now SLOTS) }
-{
-    let mut image = Vec::new(alloc);
-    add_octets(&mut image, &[OPEN])?;
-    add_octets(&mut image, &MAGIC)?;
-    add_number(&mut image, plan.len() as u32)?;
-    add_number(&mut image, SLOTS)?;
-    add_zeros(alloc, &mut image, (HEADER_LENGTH - ZEROS_AT) as usize)?;
-    add_octets(&mut image, plan)?;
-    let rest = slot_offset(SLOTS) as usize - (HEADER_LENGTH as usize + plan.len());
-    add_zeros(alloc, &mut image, rest)?;
-    Ok(image)
-}
-
 /// A site in memory that holds the image of a plan.
 pub(crate) fn site_of(alloc: Global, plan: &[u8]) -> Result<MemSite, NoMemory>
     requires { length plan.now ≤ PLAN_ROOM }
     ensures { IfOk result (λ site. site_trace site ≡ fresh (initial_image plan.now SLOTS)) }
 {
-    let image = image_of(alloc, plan)?;
+    let image = image_of(alloc, plan, SLOTS)?;
     Ok(MemSite::new(alloc, image, Vec::new(alloc), None))
 }

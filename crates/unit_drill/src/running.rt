@@ -1,7 +1,7 @@
 //! The drill.
 ghost use Rattle.std.specs.Prelude.{◌≡◌, ◌+◌, ◌*◌, ◌≤◌, min, List, [], ◌++◌, IfOk};
 ghost use Rattle.sdls_outside.specs.Faults.{Rose};
-ghost use Rattle.sdls_plain.specs.Answer.{Ends};
+ghost use Rattle.record_io.specs.Outcome.{Ends};
 ghost use Rattle.drill_frames.specs.declared.counts.Counts.{Counts};
 ghost use Rattle.drill_frames.specs.Line.{drill_text};
 ghost use Rattle.record_io.specs.declared.answers.Answer.{Answer};
@@ -15,10 +15,10 @@ use crate::words::MOST_FRAMES;
 use drill_frames::{CHUNK, Counts, drill_line};
 use frame_workers::Gate;
 use law_drill::drill_is_complete;
+use record_io::Outcome;
 use record_io::status::{DONE, NO_MEMORY, SITE_FAULT};
 use sdls_base::NoMemory;
 use sdls_outside::{Failed, Site};
-use sdls_plain::Outcome;
 use std::alloc::Global;
 use std::sync::Wait;
 use std::thread::Threads;

@@ -28,7 +28,8 @@ use Rattle.sa_book.specs.SaRefusal.{on_row, first_unknown, create_refusal, unles
 use Rattle.sdls_base.specs.Suite.{class_of_suite}
 use Rattle.unit_state.specs.declared.state.State.{State}
 use Rattle.unit_state.specs.State.{key_row}
-use Rattle.unit_state.specs.Allows.{Allows, least_number, state_refusal, AllowsRekey, AllowsNumber}
+use Rattle.unit_state.specs.Allows.{Allows, state_refusal, AllowsRekey, AllowsNumber}
+use Rattle.unit_state.specs.Taking.{least_with}
 use Rattle.unit_state.specs.Restart.{restarted_row, AreAlike, IsStorable, still_association}
 
 -- the associations with highest numbers at 0
@@ -140,12 +141,12 @@ rekey_alike one other spi key number keys rows allowed =
     allowed
   where
     Takes : List SaRow → SaRow → KeyRow → Type 0
-    Takes rows row held = rekey_refusal rows spi key held.state number (least_number row.direction held) ≡ None
+    Takes rows row held = rekey_refusal rows spi key held.state number (least_with 1 row.direction held) ≡ None
 
     takes : (row more : SaRow) → still_association row ≡ still_association more → (held : KeyRow) → Takes one.associations row held → Takes other.associations more held
     takes row more e held free =
-        ap (λ (r : SaRow). rekey_refusal other.associations spi key held.state number (least_number r.direction held)) (sym e)
-        ∙ same_said (λ rs. rekey_refusal rs spi key held.state number (least_number row.direction held)) (λ rs. rekey_still rs spi key held.state number (least_number row.direction held)) one.associations other.associations rows
+        ap (λ (r : SaRow). rekey_refusal other.associations spi key held.state number (least_with 1 r.direction held)) (sym e)
+        ∙ same_said (λ rs. rekey_refusal rs spi key held.state number (least_with 1 row.direction held)) (λ rs. rekey_still rs spi key held.state number (least_with 1 row.direction held)) one.associations other.associations rows
         ∙ free
 
 number_alike : (one other : State) (spi number : ℕ) → one.keys ≡ other.keys → still one.associations ≡ still other.associations → AllowsNumber one spi number → AllowsNumber other spi number
@@ -159,15 +160,15 @@ number_alike one other spi number keys rows allowed =
     allowed
   where
     Takes : List SaRow → SaRow → KeyRow → Type 0
-    Takes rows row held = set_number_refusal rows spi number (least_number row.direction held) ≡ None
+    Takes rows row held = set_number_refusal rows spi number (least_with 1 row.direction held) ≡ None
 
     Keyed : List KeyRow → List SaRow → SaRow → ℕ → Type 0
     Keyed keys rows row key = IsSomeAnd (key_rows.row_of keys key) (Takes rows row)
 
     takes : (row more : SaRow) → still_association row ≡ still_association more → (held : KeyRow) → Takes one.associations row held → Takes other.associations more held
     takes row more e held free =
-        ap (λ (r : SaRow). set_number_refusal other.associations spi number (least_number r.direction held)) (sym e)
-        ∙ same_said (λ rs. set_number_refusal rs spi number (least_number row.direction held)) (λ rs. number_still rs spi number (least_number row.direction held)) one.associations other.associations rows
+        ap (λ (r : SaRow). set_number_refusal other.associations spi number (least_with 1 r.direction held)) (sym e)
+        ∙ same_said (λ rs. set_number_refusal rs spi number (least_with 1 row.direction held)) (λ rs. number_still rs spi number (least_with 1 row.direction held)) one.associations other.associations rows
         ∙ free
 
     keyed : (row more : SaRow) → still_association row ≡ still_association more → (key : ℕ) → Keyed one.keys one.associations row key → Keyed other.keys other.associations more key

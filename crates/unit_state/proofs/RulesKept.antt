@@ -40,7 +40,8 @@ use Rattle.sa_book.proofs.Changes.{IsSaBook-create}
 use Rattle.unit_state.specs.declared.state.State.{State}
 use Rattle.unit_state.specs.State.{KeepsRules, MayHold, HasKey, key_row as held_row, association_row}
 use Rattle.unit_state.specs.Applied.{applied, numbered, direction_of, key_held, in_state}
-use Rattle.unit_state.specs.Allows.{Allows, AllowsMarks, AllowsLoad, AllowsStates, AllowsCreate, AllowsRekey, AllowsNumber, AllowsWindow, AllowsAccepted, state_refusal, least_number}
+use Rattle.unit_state.specs.Allows.{Allows, AllowsMarks, AllowsLoad, AllowsStates, AllowsCreate, AllowsRekey, AllowsNumber, AllowsWindow, AllowsAccepted, state_refusal}
+use Rattle.unit_state.specs.Taking.{least_with}
 use Rattle.unit_state.proofs.Found.{found, found_passes}
 use Rattle.unit_state.proofs.Moves.{is_held}
 use Rattle.unit_state.proofs.Held.{Grow, StaysHeld, all_still, grow_loaded, grow_changed, row_of_changed, all_changed}
@@ -287,7 +288,7 @@ rekey_kept : (state : State) (spi key number : ℕ) → KeepsRules state → All
 rekey_kept state spi key number ok allowed =
     let at = there (association_row state spi) _ allowed in
     let t = there (held_row state key) _ at.holds in
-    keyed_kept state spi key number (least_number at.row.direction t.row) at.row t.row ok at.is t.is t.holds
+    keyed_kept state spi key number (least_with 1 at.row.direction t.row) at.row t.row ok at.is t.is t.holds
 
 number_kept : (state : State) (spi number : ℕ) → KeepsRules state → AllowsNumber state spi number → KeepsRules (applied state (SetNumber spi number))
 number_kept state spi number ok allowed =
@@ -299,13 +300,13 @@ number_kept state spi number ok allowed =
     let held : KeyRow = t.row in
     let judge = judged state.associations spi _ t.holds in
     let here : judge.row ≡ row = same_Some _ _ (sym judge.there ∙ at.is) in
-    let free : number_refusal key number (least_number row.direction held) ≡ None = ap (λ (o : Option ℕ). number_refusal_of o number (least_number row.direction held)) (sym own.is ∙ ap (λ (r : SaRow). r.key) (sym here)) ∙ two_parts _ _ judge.free in
+    let free : number_refusal key number (least_with 1 row.direction held) ≡ None = ap (λ (o : Option ℕ). number_refusal_of o number (least_with 1 row.direction held)) (sym own.is ∙ ap (λ (r : SaRow). r.key) (sym here)) ∙ two_parts _ _ judge.free in
     let keys : List KeyRow = key_rows.changed state.keys key (raised row.direction number) in
     let same : numbered state.keys (direction_of state spi) (key_held state spi) number ≡ keys = ap (λ (o : Option SaRow). numbered state.keys (option_map (λ (row : SaRow). row.direction) o) (option_and_then (λ (row : SaRow). row.key) o) number) at.is ∙ ap (λ (k : Option ℕ). numbered state.keys (Some row.direction) k number) own.is ∙ raised_all row.direction state.keys key number in
     let holds : MayHold row held = subst (λ (o : Option KeyRow). IsSomeAnd o (MayHold row)) t.is (subst (λ (o : Option ℕ). IfSome o (λ key. IsSomeAnd (key_rows.row_of state.keys key) (MayHold row))) own.is (found (HasKey state.keys) _ state.associations row at.is ok.held)) in
     record {
-      keys = subst key_rows.IsKeyBook (sym same) (rules_raised row.direction state.keys key number held ok.keys t.is (number_free key number (least_number row.direction held) free));
-      associations = rules_numbered state.associations spi number (least_number row.direction held) ok.associations t.holds;
+      keys = subst key_rows.IsKeyBook (sym same) (rules_raised row.direction state.keys key number held ok.keys t.is (number_free key number (least_with 1 row.direction held) free));
+      associations = rules_numbered state.associations spi number (least_with 1 row.direction held) ok.associations t.holds;
       held = subst (λ keys. All (HasKey keys) (association_rows.changed state.associations spi (λ row. record row { window = following row.direction number row.window }))) (sym same)
           (all_changed keys state.associations spi (λ row. record row { window = following row.direction number row.window })
           (all_still state.keys keys state.associations (grow_raised row.direction state.keys key number) ok.held)

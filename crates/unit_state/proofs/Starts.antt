@@ -25,7 +25,8 @@ use Rattle.unit_plan.specs.PlanRules.{IsAssociation}
 use Rattle.unit_state.specs.declared.state.State.{State}
 use Rattle.unit_state.specs.State.{KeepsRules, key_row, association_row}
 use Rattle.unit_state.specs.Applied.{applied}
-use Rattle.unit_state.specs.Initial.{bare, loaded, activated, activated_if, key_made, keys_made, least_first, line_refusal, takes_key, created, keyed, started, association_made, count_before, lines_made, initial}
+use Rattle.unit_state.specs.Initial.{bare, loaded, activated, activated_if, key_made, keys_made, line_refusal, takes_key, created, keyed, started, association_made, count_before, lines_made, initial}
+use Rattle.unit_state.specs.Taking.{least_with}
 use Rattle.unit_state.proofs.Moves.{moves_any}
 use Rattle.unit_state.proofs.RulesKept.{loaded_kept, states_kept, create_kept, keyed_kept, state_kept}
 
@@ -114,7 +115,7 @@ keyed_at : (state : State) (found : PlanSa) (o : Option SaRow) (p : Option KeyRo
 keyed_at state found None p ok e f h = absurd (false≢true h)
 keyed_at state found (Some row) None ok e f h = absurd (false≢true h)
 keyed_at state found (Some row) (Some held) ok e f h =
-    keyed_kept state found.sa.spi found.key found.number (least_first row.direction held) row held ok e f (none_of _ h)
+    keyed_kept state found.sa.spi found.key found.number (least_with held.mark row.direction held) row held ok e f (none_of _ h)
 
 keyed_rules : (state next : State) (found : PlanSa) → KeepsRules state → keyed state found ≡ Ok next → KeepsRules next
 keyed_rules state next found ok h =

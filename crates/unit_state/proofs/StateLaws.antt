@@ -25,7 +25,7 @@ use Rattle.unit_state.specs.Applied.{applied, numbered, direction_of, key_held}
 use Rattle.sa_book.specs.SaBook.{covers}
 use Rattle.sa_book.specs.SaRefusal.{receives_with}
 use Rattle.unit_state.specs.Restart.{restarted_high, restarted_row, restarted, IsLight, still_key, still_association, still}
-use Rattle.unit_state.specs.Laws.{HasRisen, Rises, FallsOnlyTo, FallOnlyTo, IsNoMarks, KeepsPlaces, HaveOwnBytes, ServeAlike}
+use Rattle.unit_state.specs.Laws.{RowRises, Rises, FallsOnlyTo, FallOnlyTo, IsNoMarks, KeepsPlaces, HaveOwnBytes, ServeAlike}
 use Rattle.unit_state.proofs.Held.{row_of_changed}
 use Rattle.unit_state.proofs.KeyRules.{equal_number, row_of_moved}
 
@@ -55,29 +55,29 @@ restarted_twice state = ap (λ rows. record state { associations = rows }) (rows
 
 -- numbers that do not fall
 
-risen : (o p : Option KeyRow) (f : KeyRow → KeyRow) → p ≡ option_map f o → ((row : KeyRow) → HasRisen row (f row)) → IfSome o (λ held. IsSomeAnd p (HasRisen held))
+risen : (o p : Option KeyRow) (f : KeyRow → KeyRow) → p ≡ option_map f o → ((row : KeyRow) → RowRises row (f row)) → IfSome o (λ held. IsSomeAnd p (RowRises held))
 risen None p f e up = tt
-risen (Some row) p f e up = subst (λ o. IsSomeAnd o (HasRisen row)) (sym e) (up row)
+risen (Some row) p f e up = subst (λ o. IsSomeAnd o (RowRises row)) (sym e) (up row)
 
-risen_same : (o p : Option KeyRow) → p ≡ o → IfSome o (λ held. IsSomeAnd p (HasRisen held))
+risen_same : (o p : Option KeyRow) → p ≡ o → IfSome o (λ held. IsSomeAnd p (RowRises held))
 risen_same None p e = tt
 risen_same (Some row) p e =
-    subst (λ o. IsSomeAnd o (HasRisen row)) (sym e) (record { mark = omega arith; floor = omega arith })
+    subst (λ o. IsSomeAnd o (RowRises row)) (sym e) (record { mark = omega arith; floor = omega arith })
 
-risen_or : (o p : Option KeyRow) (more : Option KeyRow) → p ≡ option_or o more → IfSome o (λ held. IsSomeAnd p (HasRisen held))
+risen_or : (o p : Option KeyRow) (more : Option KeyRow) → p ≡ option_or o more → IfSome o (λ held. IsSomeAnd p (RowRises held))
 risen_or None p more e = tt
 risen_or (Some row) p more e =
-    subst (λ o. IsSomeAnd o (HasRisen row)) (sym e) (record { mark = omega arith; floor = omega arith })
+    subst (λ o. IsSomeAnd o (RowRises row)) (sym e) (record { mark = omega arith; floor = omega arith })
 
-up_if : (f : KeyRow → KeyRow) (b : Bool) (row : KeyRow) → HasRisen row (f row) → HasRisen row (cond b (f row) row)
+up_if : (f : KeyRow → KeyRow) (b : Bool) (row : KeyRow) → RowRises row (f row) → RowRises row (cond b (f row) row)
 up_if f true row up = up
 up_if f false row up = record { mark = omega arith; floor = omega arith }
 
-changed_up : (keys : List KeyRow) (id key : ℕ) (f : KeyRow → KeyRow) → ((row : KeyRow) → (f row).id ≡ row.id) → ((row : KeyRow) → HasRisen row (f row)) → IfSome (row_of keys id) (λ held. IsSomeAnd (row_of (changed keys key f) id) (HasRisen held))
+changed_up : (keys : List KeyRow) (id key : ℕ) (f : KeyRow → KeyRow) → ((row : KeyRow) → (f row).id ≡ row.id) → ((row : KeyRow) → RowRises row (f row)) → IfSome (row_of keys id) (λ held. IsSomeAnd (row_of (changed keys key f) id) (RowRises held))
 changed_up keys id key f same up =
     risen _ _ (λ (row : KeyRow). cond (nat_eq row.id key) (f row) row) (row_of_changed keys key id f same) (λ row. up_if f (nat_eq row.id key) row (up row))
 
-numbered_up : (keys : List KeyRow) (id : ℕ) (direction : Option Direction) (key : Option ℕ) (number : ℕ) → IfSome (row_of keys id) (λ held. IsSomeAnd (row_of (numbered keys direction key number) id) (HasRisen held))
+numbered_up : (keys : List KeyRow) (id : ℕ) (direction : Option Direction) (key : Option ℕ) (number : ℕ) → IfSome (row_of keys id) (λ held. IsSomeAnd (row_of (numbered keys direction key number) id) (RowRises held))
 numbered_up keys id (Some Send) (Some key) number =
     changed_up keys id key (λ (row : KeyRow). record row { mark = max row.mark number }) (λ _. refl) (λ row. record { mark = omega arith; floor = omega arith })
 numbered_up keys id (Some Receive) (Some key) number =

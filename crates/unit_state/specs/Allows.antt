@@ -1,6 +1,6 @@
 -- The changes that a state allows: those that a command, a frame or a reserve may make there (profile).
 use Rattle.std.specs.Prelude.{◌≡◌, ◌≢◌, ⊤, ℕ, ◌+◌, ◌<◌, ◌≤◌, List, length, Option, Some, None, IsSome, IsSomeAnd, All}
-use Rattle.sdls_base.specs.Bounds.{AreChannels, IsKeyLength, IsWidth}
+use Rattle.sdls_base.specs.Bounds.{AreChannels, IsKeyCount, IsKeyLength, IsWidth}
 use Rattle.sdls_base.specs.KeyId.{class_of, end_of}
 use Rattle.sdls_base.specs.declared.key_id.KeyClass.TheVariants.{Master}
 use Rattle.sdls_base.specs.declared.key_item.KeyItem.{KeyItem}
@@ -19,14 +19,10 @@ use Rattle.sa_book.specs.declared.sa_refusal.SaRefusal.{SaRefusal}
 use Rattle.sa_book.specs.declared.sa_row.SaRow.{SaRow}
 use Rattle.sa_book.specs.SaRow.{MayAccept}
 use Rattle.sa_book.specs.SaBook.{in_use}
-use Rattle.sa_book.specs.SaRefusal.{create_refusal, rekey_refusal, start_refusal, stop_refusal, expire_refusal, delete_refusal, set_number_refusal, set_window_refusal}
+use Rattle.sa_book.specs.SaRefusal.{create_refusal, start_refusal, stop_refusal, expire_refusal, delete_refusal, set_number_refusal, set_window_refusal}
 use Rattle.unit_state.specs.declared.state.State.{State}
 use Rattle.unit_state.specs.State.{key_row, association_row}
-
--- a command names one to eight keys
-pub record IsCount (count : ℕ) : Type 0 where
-  pub least : 1 ≤ count
-  pub most : count ≤ 8
+use Rattle.unit_state.specs.Taking.{least_with, taking_refusal}
 
 -- A mark and a floor lie in their bounds; they may move down.
 pub record AllowsMarks (state : State) (key mark floor : ℕ) : Type 0 where
@@ -42,13 +38,13 @@ pub record IsSessionKey (item : KeyItem) : Type 0 where
 
 -- one to eight session keys that the key book takes
 pub record AllowsLoad (state : State) (items : List KeyItem) : Type 0 where
-  pub count : IsCount (length items)
+  pub count : IsKeyCount (length items)
   pub each : All IsSessionKey items
   pub book : load_refusal state.keys items ≡ None
 
 -- one to eight keys that take the state, each after the earlier ones
 pub record AllowsStates (state : State) (ids : List ℕ) (to : KeyState) : Type 0 where
-  pub count : IsCount (length ids)
+  pub count : IsKeyCount (length ids)
   pub book : moves_refusal state.keys ids to (in_use state.associations) ≡ None
 
 -- an association that the book takes, with its window and channels in their bounds
@@ -58,15 +54,10 @@ pub record AllowsCreate (state : State) (new : NewSa) : Type 0 where
   pub numbers : All (λ channel. channel ≤ 63) new.channels
   pub book : create_refusal state.associations new state.channels ≡ None
 
--- The least number that an association may be given: whatever word was seen for a sending one, it was at least 1.
-abbrev pub least_number : Direction → KeyRow → ℕ
-least_number Send held = 1
-least_number Receive held = held.floor + 1
-
--- the association takes the key as it stands, with the number
+-- The association takes the key as it stands, with the number. Whatever word was seen of a sending one, it was at least 1.
 abbrev pub AllowsRekey : State → ℕ → ℕ → ℕ → Type 0
-AllowsRekey state spi key number = IsSomeAnd (association_row state spi) (λ row. IsSomeAnd (key_row state key)
-    (λ held. rekey_refusal state.associations spi key held.state number (least_number row.direction held) ≡ None))
+AllowsRekey state spi key number = IsSomeAnd (association_row state spi)
+    (λ row. IsSomeAnd (key_row state key) (λ held. taking_refusal state spi key number 1 row held ≡ None))
 
 -- the association takes the state, or may be deleted
 abbrev pub state_refusal : List SaRow → ℕ → Option SaState → Option SaRefusal
@@ -79,7 +70,7 @@ state_refusal rows spi (Some Operational) = start_refusal rows spi
 abbrev pub AllowsNumber : State → ℕ → ℕ → Type 0
 AllowsNumber state spi number = IsSomeAnd (association_row state spi) (λ row. IsSomeAnd row.key
     (λ key. IsSomeAnd (key_row state key)
-    (λ held. set_number_refusal state.associations spi number (least_number row.direction held) ≡ None)))
+    (λ held. set_number_refusal state.associations spi number (least_with 1 row.direction held) ≡ None)))
 
 -- a window in its bounds
 pub record AllowsWindow (state : State) (spi window : ℕ) : Type 0 where

@@ -3,8 +3,6 @@ use Rattle.std.specs.Prelude.{◌≡◌, ⊤, ℕ, ◌+◌, Bool, false, nat_le,
 use Rattle.std.specs.List.{position_or_len}
 use Rattle.std.specs.Option.{option_map_or}
 use Rattle.sdls_base.specs.declared.change.Change.TheVariants.{Load, KeyStates, Create, Rekey, SaTo}
-use Rattle.sdls_base.specs.declared.states.Direction.{Direction}
-use Rattle.sdls_base.specs.declared.states.Direction.TheVariants.{Send, Receive}
 use Rattle.sdls_base.specs.declared.states.KeyState.{KeyState}
 use Rattle.sdls_base.specs.declared.states.KeyState.TheVariants.{PreActive, Active, Deactivated, Destroyed}
 use Rattle.sdls_base.specs.declared.states.SaState.TheVariants.{Operational}
@@ -13,7 +11,7 @@ use Rattle.key_book.specs.KeyRefusal.{load_refusal}
 use Rattle.key_book.specs.Moves.{moves_refusal}
 use Rattle.sa_book.specs.declared.sa_row.SaRow.{SaRow}
 use Rattle.sa_book.specs.declared.sa_refusal.SaRefusal.{SaRefusal}
-use Rattle.sa_book.specs.SaRefusal.{create_refusal, rekey_refusal, start_refusal}
+use Rattle.sa_book.specs.SaRefusal.{create_refusal, start_refusal}
 use Rattle.unit_plan.specs.declared.plan.PlanKey.{PlanKey}
 use Rattle.unit_plan.specs.declared.plan.PlanSa.{PlanSa}
 use Rattle.unit_plan.specs.declared.plan_error.PlanCause.TheVariants.{Refused}
@@ -25,6 +23,7 @@ use Rattle.unit_plan.specs.PlanLines.{PlanLines}
 use Rattle.unit_state.specs.declared.state.State.{State}
 use Rattle.unit_state.specs.State.{key_row, association_row}
 use Rattle.unit_state.specs.Applied.{applied}
+use Rattle.unit_state.specs.Taking.{taking_refusal}
 
 -- before its keys and associations
 abbrev pub bare : PlanLines → State
@@ -54,15 +53,9 @@ abbrev pub keys_made : State → List PlanKey → Result State PlanFault
 keys_made state [] = Ok state
 keys_made state (key ∷ keys) = key_made state key >>= λ next. keys_made next keys
 
--- the least number that an `sa` line may give: none below the key's mark or up to its floor
-abbrev pub least_first : Direction → KeyRow → ℕ
-least_first Send held = held.mark
-least_first Receive held = held.floor + 1
-
--- what decides on a key for an association
+-- what decides on a key for an association: a number below the key's mark or up to its floor is too low
 abbrev pub line_refusal : State → PlanSa → SaRow → KeyRow → Option SaRefusal
-line_refusal state found row held = rekey_refusal state.associations found.sa.spi found.key held.state found.number
-    (least_first row.direction held)
+line_refusal state found row held = taking_refusal state found.sa.spi found.key found.number held.mark row held
 
 abbrev pub takes_key : State → PlanSa → Bool
 takes_key state found = option_map_or

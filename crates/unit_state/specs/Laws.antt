@@ -13,13 +13,13 @@ use Rattle.unit_state.specs.Allows.{Allows}
 use Rattle.unit_state.specs.Restart.{AreAlike, IsStorable, still_key, still_association}
 
 -- numbers of a key that did not fall
-pub record HasRisen (old new : KeyRow) : Type 0 where
+pub record RowRises (old new : KeyRow) : Type 0 where
   pub mark : old.mark ≤ new.mark
   pub floor : old.floor ≤ new.floor
 
 -- each key that is there is there again, with numbers that did not fall
 abbrev pub Rises : State → State → Type 0
-Rises old new = (id : ℕ) → IfSome (key_row old id) (λ held. IsSomeAnd (key_row new id) (HasRisen held))
+Rises old new = (id : ℕ) → IfSome (key_row old id) (λ held. IsSomeAnd (key_row new id) (RowRises held))
 
 -- Numbers of a key that fall only where those of a change of its marks are below them, and then to these.
 pub record FallsOnlyTo (key to_mark to_floor : ℕ) (old new : KeyRow) : Type 0 where

@@ -1,5 +1,6 @@
 pub mod State
 pub mod Applied
+pub mod Taking
 pub mod Allows
 pub mod Restart
 pub mod History

@@ -3,7 +3,7 @@
 ghost use Rattle.std.specs.Prelude.{◌≡◌, ◌↔◌, ◌<◌, ◌≤◌, true, [], Some, None, IfSome, All};
 ghost use Rattle.std.specs.List.{list_any};
 ghost use Rattle.std.specs.Option.{option_map};
-ghost use Rattle.sdls_base.specs.Bounds.{AreChannels, IsWidth};
+ghost use Rattle.sdls_base.specs.Bounds.{AreChannels, IsKeyCount, IsWidth};
 ghost use Rattle.key_book.specs.KeyRow.{IsKeyRow};
 ghost use Rattle.sdls_base.specs.declared.states.KeyState.TheVariants.{Deactivated};
 ghost use Rattle.key_book.specs.Moves.{moves_refusal};
@@ -11,22 +11,22 @@ ghost use Rattle.sa_book.specs.SaBook.{in_use};
 ghost use Rattle.sa_book.specs.SaRefusal.{is_key};
 ghost use Rattle.sa_book.specs.SaRow.{MayAccept};
 ghost use Rattle.unit_state.specs.State.{key_row};
-ghost use Rattle.unit_state.specs.Allows.{Allows, IsCount, IsSessionKey, AllowsMarks, AllowsLoad, AllowsStates, AllowsCreate, AllowsRekey, AllowsNumber, AllowsWindow, AllowsAccepted, state_refusal};
+ghost use Rattle.unit_state.specs.Allows.{Allows, IsSessionKey, AllowsMarks, AllowsLoad, AllowsStates, AllowsCreate, AllowsRekey, AllowsNumber, AllowsWindow, AllowsAccepted, state_refusal};
 
-use crate::changing::least_number;
 use crate::state::State;
+use crate::taking::least_with;
 use key_book::KeyRow;
 use replay_window::Verdict;
 use sa_book::SaRow;
 use sdls_base::{
-    Change, Direction, KeyClass, KeyId, KeyItem, KeyItems, KeyList, KeyState, MOST_WINDOW, NewSa,
-    SaState, Spi,
+    Change, Direction, KeyClass, KeyId, KeyItem, KeyItems, KeyList, KeyState, MOST_KEYS_AT_ONCE,
+    MOST_WINDOW, NewSa, SaState, Spi,
 };
 
 fn is_count(count: usize) -> bool
-    ensures { (result ≡ true) ↔ IsCount count }
+    ensures { (result ≡ true) ↔ IsKeyCount count }
 {
-    1 <= count && count <= 8
+    1 <= count && count <= MOST_KEYS_AT_ONCE
 }
 
 fn is_session_key(item: &KeyItem) -> bool
@@ -183,7 +183,7 @@ impl State {
         let Some(held) = self.key(key) else {
             return false;
         };
-        let least = least_number(row.direction, held);
+        let least = least_with(1, row.direction, held);
         self.associations
             .rekey_refusal(spi, key, held.state, number, least)
             .is_none()
@@ -201,7 +201,7 @@ impl State {
         let Some(held) = self.key(key) else {
             return false;
         };
-        let least = least_number(row.direction, held);
+        let least = least_with(1, row.direction, held);
         self.associations
             .set_number_refusal(spi, number, least)
             .is_none()

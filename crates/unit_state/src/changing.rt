@@ -6,22 +6,12 @@ ghost use Rattle.key_book.specs.KeyRow.{IsKeyRow};
 ghost use Rattle.sdls_base.specs.declared.change.Change.TheVariants.{Marks, Load, KeyStates, Create, Rekey, SaTo, SetNumber, SetWindow, Accepted};
 ghost use Rattle.unit_state.specs.State.{key_row, association_row};
 ghost use Rattle.unit_state.specs.Applied.{applied, numbered, direction_of, key_held};
-ghost use Rattle.unit_state.specs.Allows.{AllowsMarks, AllowsLoad, AllowsStates, AllowsCreate, AllowsRekey, AllowsNumber, AllowsWindow, AllowsAccepted, state_refusal, least_number};
+ghost use Rattle.unit_state.specs.Allows.{AllowsMarks, AllowsLoad, AllowsStates, AllowsCreate, AllowsRekey, AllowsNumber, AllowsWindow, AllowsAccepted, state_refusal};
 
 use crate::state::State;
+use crate::taking::least_with;
 use key_book::KeyRow;
 use sdls_base::{Direction, KeyId, KeyItems, KeyList, KeyState, NewSa, NoMemory, SaState, Spi};
-
-/// The least number that an association may be given with a key.
-pub(crate) fn least_number(direction: Direction, held: &KeyRow) -> u64
-    requires { IsKeyRow held.now }
-    ensures { result ≡ least_number direction held.now }
-{
-    match direction {
-        Direction::Send => 1,
-        Direction::Receive => held.floor + 1,
-    }
-}
 
 impl State {
     /// The row of a key that is there.
@@ -98,7 +88,7 @@ impl State {
     {
         let direction = self.direction(spi);
         let held = self.held(key);
-        let least = least_number(direction, held);
+        let least = least_with(1, direction, held);
         let state = held.state;
         self.associations
             .rekey(spi, key, state, number, least)
@@ -132,7 +122,7 @@ impl State {
     {
         let direction = self.direction(spi);
         let key = self.key_of(spi);
-        let least = least_number(direction, self.held(key));
+        let least = least_with(1, direction, self.held(key));
         self.associations.set_number(spi, number, least).unwrap();
         self.raise(direction, key, number);
     }

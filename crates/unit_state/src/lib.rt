@@ -11,6 +11,7 @@ mod counting;
 mod laws;
 mod starting;
 mod state;
+mod taking;
 
 pub use counting::counts;
 pub use laws::{
@@ -19,3 +20,4 @@ pub use laws::{
     stored_well, unstored_stays,
 };
 pub use state::State;
+pub use taking::least_with;

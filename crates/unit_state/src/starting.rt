@@ -1,19 +1,19 @@
 //! The state that a plan's lines make.
 
 ghost use Rattle.std.specs.Prelude.{◌≡◌, nat_le, length, position, IfOk, All};
-ghost use Rattle.key_book.specs.KeyRow.{IsKeyRow};
 ghost use Rattle.unit_plan.specs.declared.plan_error.PlanError.TheVariants as errors;
 ghost use Rattle.unit_plan.specs.declared.plan_error.PlanCause.TheVariants as causes;
 ghost use Rattle.unit_plan.specs.PlanError.{Gives};
 ghost use Rattle.sdls_base.specs.Bounds.{IsKeyLength};
 ghost use Rattle.unit_plan.specs.PlanRules.{IsAssociation};
 ghost use Rattle.unit_state.specs.State.{KeepsRules};
-ghost use Rattle.unit_state.specs.Initial.{MakesLines, bare, loaded, activated, activated_if, key_made, keys_made, least_first, created, keyed, started, association_made, count_before, lines_made, initial};
+ghost use Rattle.unit_state.specs.Initial.{MakesLines, bare, loaded, activated, activated_if, key_made, keys_made, created, keyed, started, association_made, count_before, lines_made, initial};
 
 use crate::state::State;
-use key_book::{KeyBook, KeyRefusal, KeyRow};
+use crate::taking::least_with;
+use key_book::{KeyBook, KeyRefusal};
 use sa_book::{SaBook, SaRefusal};
-use sdls_base::{ChannelList, Direction, KeyList, KeyState};
+use sdls_base::{ChannelList, KeyList, KeyState};
 use std::alloc::{AllocError, Global};
 use unit_plan::{Plan, PlanCause, PlanError, PlanFault, PlanKey, PlanSa};
 
@@ -24,17 +24,6 @@ fn refused(line: u32) -> PlanError
         line,
         cause: PlanCause::Refused,
     })
-}
-
-/// The least number that an `sa` line may give.
-fn least_first(direction: Direction, held: &KeyRow) -> u64
-    requires { IsKeyRow held.now }
-    ensures { result ≡ least_first direction held.now }
-{
-    match direction {
-        Direction::Send => held.mark,
-        Direction::Receive => held.floor + 1,
-    }
 }
 
 fn first_behind(line: u32, keys: &[PlanKey]) -> Option<usize>
@@ -120,7 +109,7 @@ impl State {
         let Some(held) = self.key(found.key) else {
             return Err(refused(found.line));
         };
-        let least = least_first(direction, held);
+        let least = least_with(held.mark, direction, held);
         let state = held.state;
         let taken = self
             .associations

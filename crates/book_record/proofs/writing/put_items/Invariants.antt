@@ -1,6 +1,7 @@
 use Rattle.std.proofs.Common.{◌≡◌, ◌++◌, take}
 use Rattle.std.specs.List.{flat_map, All}
-use Rattle.book_record.specs.Record.{item_octets, IsKey}
+use Rattle.sdls_base.specs.Spelling.{item_octets}
+use Rattle.book_record.specs.Record.{IsKey}
 use Rattle.book_record.proofs.writing.put_items.Given as goal
 
 abbrev pub invariant-loop-item : goal.invariant-loop-item

@@ -1,5 +1,5 @@
 use Rattle.std.proofs.Common.{◌≡◌, ◌++◌, ◌∷◌, [], get_or, arith, ◌∙◌, ap}
-use Rattle.ep_codec.specs.Field.{key_state_of}
+use Rattle.sdls_base.specs.Code.{key_state_of}
 use Rattle.ep_codec.specs.FieldList.{rows_in}
 use Rattle.ep_codec.proofs.Lists.{behind, word_of, behind_three, rows_faults, rows_read}
 use Rattle.ep_codec.proofs.field_lists.rows.Goals as goal

@@ -1,8 +1,6 @@
 use Rattle.std.proofs.Common.{◌≡◌, ◌++◌, ◌∷◌, [], Some, sym, arith}
 use Rattle.std.specs.List.{flat_map}
 use Rattle.unit_state.specs.State.{key_row}
-use Rattle.ep_codec.proofs.FieldFacts.{low_bound, high_bound}
-use Rattle.std.proofs.Common.{length}
 use Rattle.ep_core.specs.Refusals.{master_checks, session_checks, if_exhausted}
 use Rattle.ep_core.proofs.ComposeFacts.{none_append, master_length, clear_length}
 use Rattle.ep_core.proofs.composing.seal_keys.Goals as goal
@@ -22,7 +20,7 @@ seal_reply-requires-clause-least c =
     (flat_map (session_checks state) c.args.keys.now ++ if_exhausted c.args.seen.now ∷ []) c.requires.free in
     let sessions = none_append (flat_map (session_checks state) c.args.keys.now) (if_exhausted c.args.seen.now ∷ []) free.1 in
     let long = clear_length state c.args.keys.now c.requires.rules sessions.0 in
-    omega (arith, long.least, low_bound 1 8 (length c.args.keys.now) c.requires.count)
+    omega (arith, long.least, c.requires.count.least)
 
 pub seal_reply-requires-clause-most : goal.seal_reply-requires-clause-most
 seal_reply-requires-clause-most c =
@@ -31,4 +29,4 @@ seal_reply-requires-clause-most c =
     (flat_map (session_checks state) c.args.keys.now ++ if_exhausted c.args.seen.now ∷ []) c.requires.free in
     let sessions = none_append (flat_map (session_checks state) c.args.keys.now) (if_exhausted c.args.seen.now ∷ []) free.1 in
     let long = clear_length state c.args.keys.now c.requires.rules sessions.0 in
-    omega (arith, long.most, high_bound 1 8 (length c.args.keys.now) c.requires.count)
+    omega (arith, long.most, c.requires.count.most)

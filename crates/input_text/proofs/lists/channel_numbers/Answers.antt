@@ -1,11 +1,11 @@
-use Rattle.std.proofs.Common.{◌≡◌, ◌≤◌, ◌∷◌, [], ◌++◌, map, length, ap, ◌∙◌, arith, rules, length-append}
+use Rattle.std.proofs.Common.{◌≡◌, ◌≤◌, ◌∷◌, [], ◌++◌, map, ap, ◌∙◌, arith, rules, length-append}
 use Rattle.std.specs.Fmt.{decimal}
-use Rattle.input_text.proofs.NumberLists.{taken_first, taken_next, first_of, only_taken, one_wanted, count_is}
+use Rattle.input_text.proofs.NumberLists.{taken_first, taken_next, first_of, only_taken, one_wanted}
 use Rattle.input_text.proofs.lists.channel_numbers.Goals as goal
 
 pub returns-in_err-first-clause-only : goal.returns-in_err-first-clause-only
-returns-in_err-first-clause-only c listed each count spelled =
-    let first = first_of (λ channel. channel ≤ 63) listed (count_is (length listed) count).0 each in
+returns-in_err-first-clause-only c listed each least most spelled =
+    let first = first_of (λ channel. channel ≤ 63) listed (omega (arith, least)) each in
     let memory = c.in_err-first.ensures.only first.0 (map decimal first.1) first.2 (spelled ∙ ap (map decimal) first.3) in
     search rules
 
@@ -32,15 +32,15 @@ words-preserved c =
     )
 
 pub returns-in_default-clause-only : goal.returns-in_default-clause-only
-returns-in_default-clause-only c listed each count spelled =
+returns-in_default-clause-only c listed each least most spelled =
     c.new.ensures ∙ only_taken (λ channel. channel ≤ 63) _ _ _ c.words.invariant.0 c.in_default.ensures.0 listed each spelled
 
 pub returns-in_err-number-clause-only : goal.returns-in_err-number-clause-only
-returns-in_err-number-clause-only c listed each count spelled =
+returns-in_err-number-clause-only c listed each least most spelled =
     let wanted = one_wanted (λ channel. channel ≤ 63) _ _ _ _ _ c.words.invariant.0 c.in-Some.ensures listed each spelled in
     let memory = c.in_err-number.ensures.only wanted.number wanted.holds wanted.spelled in
     search rules
 
 pub returns-clause-only : goal.returns-clause-only
-returns-clause-only c listed each count spelled =
+returns-clause-only c listed each least most spelled =
     c.new-2.ensures ∙ only_taken (λ channel. channel ≤ 63) _ _ _ c.words.invariant.0 c.in_ok-end.ensures.read listed each spelled

@@ -1,12 +1,12 @@
-use Rattle.std.proofs.Common.{◌≡◌, ◌∷◌, [], ◌++◌, map, length, IsTrue, ap, ◌∙◌, arith, rules, length-append}
+use Rattle.std.proofs.Common.{◌≡◌, ◌∷◌, [], ◌++◌, map, IsTrue, ap, ◌∙◌, arith, rules, length-append}
 use Rattle.std.specs.Fmt.{decimal}
 use Rattle.ep_codec.specs.Field.{is_key}
-use Rattle.input_text.proofs.NumberLists.{taken_first, taken_next, first_of, only_taken, one_wanted, count_is}
+use Rattle.input_text.proofs.NumberLists.{taken_first, taken_next, first_of, only_taken, one_wanted}
 use Rattle.input_text.proofs.lists.keys.Goals as goal
 
 pub returns-in_err-first-clause-only : goal.returns-in_err-first-clause-only
 returns-in_err-first-clause-only c listed each count spelled =
-    let first = first_of (λ key. IsTrue (is_key key)) listed (count_is (length listed) count).0 each in
+    let first = first_of (λ key. IsTrue (is_key key)) listed (omega (arith, count.least)) each in
     let memory = c.in_err-first.ensures.only first.0 (map decimal first.1) first.2 (spelled ∙ ap (map decimal) first.3) in
     search rules
 

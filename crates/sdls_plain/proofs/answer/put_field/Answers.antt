@@ -1,7 +1,7 @@
 use Rattle.std.proofs.Common.{[], ◌∷◌, ◌++◌, codes}
 use Rattle.std.proofs.lemmas.Result.{err_from_is_err_and}
 use Rattle.hex.specs.Hex.{encode_lower}
-use Rattle.sdls_plain.proofs.Delivering.{front_cut, front_middle, delivers_then}
+use Rattle.sdls_outside.proofs.Delivering.{front_cut, front_middle, delivers_then}
 use Rattle.sdls_plain.proofs.answer.put_field.Goals as goal
 
 pub returns-in_err-put_text-clause-delivered : goal.returns-in_err-put_text-clause-delivered

@@ -1,7 +1,7 @@
 use Rattle.std.proofs.Common.{◌++◌, codes, decimal}
 use Rattle.std.proofs.lemmas.Result.{err_from_is_err_and}
 use Rattle.sdls_plain.specs.Init.{cause_text}
-use Rattle.sdls_plain.proofs.Delivering.{front_cut, front_middle, delivers_then}
+use Rattle.sdls_outside.proofs.Delivering.{front_cut, front_middle, delivers_then}
 use Rattle.sdls_plain.proofs.init.put_plan_fault.Goals as goal
 
 pub returns-in_err-put_text-clause-delivered : goal.returns-in_err-put_text-clause-delivered

@@ -1,7 +1,7 @@
 use Rattle.std.proofs.Common.{[], ◌++◌, ◌∙◌, refl}
 use Rattle.std.proofs.lemmas.Result.{err_from_is_err_and}
 use Rattle.hex.specs.Hex.{encode_with}
-use Rattle.sdls_plain.proofs.Delivering.{sinks_none}
+use Rattle.sdls_outside.proofs.Delivering.{sinks_none}
 use Rattle.sdls_plain.proofs.Spelling.{parts_of, spelled_more, spelled_cut}
 use Rattle.sdls_plain.proofs.output.put_hexadecimal.Goals as goal
 

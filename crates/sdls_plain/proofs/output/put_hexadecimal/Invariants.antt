@@ -1,6 +1,6 @@
 use Rattle.std.proofs.Common.{◌≡◌, ℕ, List, ◌++◌, length, IsTrue}
 use Rattle.hex.specs.Hex.{encode_lower}
-use Rattle.sdls_plain.specs.Output.{Sinks}
+use Rattle.sdls_outside.specs.Output.{Sinks}
 use Rattle.sdls_plain.proofs.output.put_hexadecimal.Given as goal
 
 abbrev pub invariant-loop-rest : goal.invariant-loop-rest

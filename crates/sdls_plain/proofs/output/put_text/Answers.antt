@@ -1,4 +1,4 @@
-use Rattle.sdls_plain.proofs.Delivering.{delivers_put}
+use Rattle.sdls_outside.proofs.Delivering.{delivers_put}
 use Rattle.sdls_plain.proofs.output.put_text.Goals as goal
 
 pub returns-clause-delivered : goal.returns-clause-delivered

@@ -1,5 +1,6 @@
 use Rattle.std.proofs.Common.{◌≡◌, codes, string_bytes, rules}
-use Rattle.sdls_plain.proofs.CheckWords.{two_words, check_from_key}
+use Rattle.sdls_plain.proofs.CheckWords.{check_from_key}
+use Rattle.sdls_base.proofs.Words.{two_words}
 use Rattle.sdls_plain.proofs.words.check_key.Goals as goal
 
 pub returns-in-len2 : goal.returns-in-len2

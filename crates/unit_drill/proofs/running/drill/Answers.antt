@@ -1,6 +1,6 @@
 use Rattle.std.proofs.Common.{ℕ, codes, inl, inr, refl, sym, ◌∙◌, subst}
 use Rattle.sdls_outside.specs.Faults.{Rose}
-use Rattle.sdls_plain.specs.Answer.{Ends, line}
+use Rattle.record_io.specs.Outcome.{Ends, line}
 use Rattle.unit_drill.proofs.running.drill.Goals as goal
 use Rattle.unit_drill.proofs.running.drill.Goals.{in-Ok, in-Err}
 

@@ -1,6 +1,6 @@
 use Rattle.std.proofs.Common.{inl, inr, refl, Ok, Err}
 use Rattle.sdls_outside.specs.declared.source.Failed.{Failed}
-use Rattle.sdls_plain.proofs.Delivering.{delivers_put}
+use Rattle.sdls_outside.proofs.Delivering.{delivers_put}
 use Rattle.unit_drill.proofs.running.put_text.Goals as goal
 
 pub returns-in-Ok : goal.returns-in-Ok

@@ -1,5 +1,5 @@
 use Rattle.std.proofs.Common.{◌≡◌, codes, string_bytes, rules}
-use Rattle.sdls_plain.proofs.CheckWords.{two_words}
+use Rattle.sdls_base.proofs.Words.{two_words}
 use Rattle.unit_drill.proofs.DrillWords.{drill_from_number}
 use Rattle.unit_drill.proofs.words.drill_number.Goals as goal
 

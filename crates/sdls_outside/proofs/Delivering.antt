@@ -1,10 +1,11 @@
+-- What puts deliver, one after the other. For the crates above, whose texts are put in pieces.
 use Rattle.std.proofs.Common.{◌≡◌, ℕ, ◌+◌, ◌-◌, List, [], ◌∷◌, ◌++◌, length, take, drop, Result, Ok, Err, inl, inr, refl, ap, sym, ◌∙◌, subst, arith, append_assoc, append-nil}
 use Rattle.std.proofs.Math.Seq.{take-append-add}
 use Rattle.std.proofs.lemmas.List.{take-append-drop}
 use Rattle.sdls_outside.specs.Disk.{Disk}
 use Rattle.sdls_outside.specs.Moments.{Trace, Between}
 use Rattle.sdls_outside.specs.Site.{Sank, Puts}
-use Rattle.sdls_plain.specs.Output.{states, SameDisk, AllSameDisk, OnlySinks, Sinks, SinksFront, Delivers}
+use Rattle.sdls_outside.specs.Output.{states, SameDisk, AllSameDisk, OnlySinks, Sinks, SinksFront, Delivers}
 
 same_refl : (d : Disk) → SameDisk d d
 same_refl d = record { image = refl; synced = refl; ranges = refl }
