@@ -1,0 +1,430 @@
+# What the launchers `sdls` and `sdls_text` share: bash reads this file. In a clone they prove and build the program
+# first if a source of it has changed. In a folder that `./install` made they need no kit.
+#
+# Standard input, standard output and the exit status are the program's. On standard error a launcher prints how far
+# building is, and a sentence for people if `sdls` ends with a status from 3 to 8. Its own statuses are 70 (the program
+# could not be built), 71 (the folder or the image could not be locked) and 75 (another unit holds one of them).
+set -u
+parts=$(cd "$(dirname "${BASH_SOURCE[0]}")" && pwd)
+name=
+program=
+status=0
+
+# Prints a line for people.
+say() {
+    echo "$name: $*" >&2
+}
+
+# Prints why nothing is started, and ends with this status.
+give_up() {
+    say "$2"
+    exit "$1"
+}
+
+# The two launchers call this with their name, `sdls` or `sdls_text`, and their words.
+launch() {
+    name=$1
+    shift
+    case "$# ${1-}" in
+    "1 --help") print_help && exit 0 ;;
+    "1 --version") print_version && exit 0 ;;
+    esac
+    find_program
+    # the lock is taken when the program is there: a build may take long, and needs none
+    case "$name $# ${1-}" in
+    "sdls 1 init" | "sdls 1 run" | "sdls 1 stat") keep_others_out ;;
+    esac
+    run_through exec "$program" "$@"
+    [ "$name" = sdls ] && explain "${1-}"
+    end_alike
+}
+
+# Sets `program`. In a clone it is built first if needed.
+find_program() {
+    local crate=$name
+    [ "$name" = sdls ] && crate=sdls_program
+    if [ -f "$parts/crates.txt" ]; then
+        program=$parts/crates/$crate/out/$crate
+        bring_up_to_date "$crate"
+    else
+        program=$parts/$crate
+    fi
+}
+
+# -- running --------------------------------------------------------------------------------------------------------
+
+# The signals that are handed on.
+signals="HUP INT QUIT TERM USR1 USR2"
+
+# Runs a command with the caller's streams, hands signals on to it, and waits until it has ended. Sets `status`.
+run_through() {
+    local signal now
+    child= caught=
+    for signal in $signals; do
+        trap "hand_on $signal" "$signal"
+    done
+    # bash has a command in the background ignore SIGINT and SIGQUIT, and read nothing, unless it is given the opposite
+    if { true <&0; } 2>/dev/null; then
+        (trap - $signals && "$@") <&0 &
+    else
+        (trap - $signals && "$@") <&- &
+    fi
+    child=$!
+    [ -z "$caught" ] || hand_on "$caught"
+    while true; do
+        caught=
+        wait "$child" 2>/dev/null
+        now=$?
+        # 127: the wait that a signal ended had its status already
+        [ "$now" = 127 ] && [ "$status" != 0 ] || status=$now
+        [ -n "$caught" ] || break
+    done
+    trap - $signals
+}
+
+# Notes a signal, and sends it to the command that runs.
+hand_on() {
+    caught=$1
+    [ -z "$child" ] || kill -s "$1" "$child" 2>/dev/null
+}
+
+# Ends as the command ended: by the same signal, or with its status.
+end_alike() {
+    local signal
+    if [ "$status" -gt 128 ] && signal=$(kill -l $((status - 128)) 2>/dev/null); then
+        case " $signals " in
+        *" $signal "*) kill -s "$signal" $$ ;;
+        esac
+    fi
+    exit "$status"
+}
+
+# Takes the locks of a unit without waiting: on the folder, and on the image if there is one, which may have a name in
+# another folder too. Two units on one image would use a number twice. The program inherits both files, so they stay
+# locked until it has ended, even if this script is killed before.
+keep_others_out() {
+    command -v flock >/dev/null || give_up 71 "nothing was started, for there is no command flock to lock the folder"
+    { exec 9<.; } 2>/dev/null || give_up 71 "nothing was started, for this folder could not be opened to lock it"
+    take_lock 9 "this folder"
+    # who may not read the image cannot run a unit on it: the program will fail to open it
+    if [ -f unit.img ] && [ -r unit.img ]; then
+        { exec 8<unit.img; } 2>/dev/null || give_up 71 "nothing was started, for unit.img could not be opened to lock it"
+        take_lock 8 "this image, by a name in another folder"
+    fi
+    had_image=
+    [ -s unit.img ] && had_image=1
+}
+
+# Locks the open file with this number.
+take_lock() {
+    flock -n "$1"
+    case $? in
+    0) ;;
+    1) give_up 75 "nothing was started, for another unit holds $2: call again when it has ended" ;;
+    *) give_up 71 "nothing was started, for $2 could not be locked" ;;
+    esac
+}
+
+# -- words for people -----------------------------------------------------------------------------------------------
+
+# Says in one sentence what happened and what to do, by the word, the status and a look at the folder.
+explain() {
+    case "$1 $status" in
+    "init 3") say "standard input is no plan, and no image was made: mend the line that standard output names" ;;
+    "run 3") say "$(unread_input)" ;;
+    "init 4") say "standard input could not be read, and no image was made: call init again" ;;
+    "run 4") say "standard input could not be read to its end: give the records without an answer to a further run" ;;
+    *" 4") say "standard input could not be read: call again" ;;
+    "init 5" | "run 5" | "stat 5") say "$(site_fault "$1")" ;;
+    *" 5") say "standard output could not be written: what was printed is incomplete" ;;
+    "init 6") say "memory ran out, and no image was made: call init again with more memory" ;;
+    "run 6") say "memory ran out: give the records without an answer to a further run with more memory" ;;
+    *" 6") say "memory ran out, and nothing was changed: call again with more memory" ;;
+    "init 7") say "this folder has an image already, which was left as it is: make another unit in another folder," \
+        "from a plan with other keys" ;;
+    "run 7" | "stat 7") say "$(refused_image "$1")" ;;
+    "run 8") say "the run had its 1,048,576 entries, the most of one run: give the records without an answer to a" \
+        "further run, and know that some of them may have been done" ;;
+    esac
+}
+
+# Why `run` ended with status 3.
+unread_input() {
+    local front
+    # a file is looked at again from its beginning; of a pipe nothing is known here
+    if [ -f /dev/stdin ] && [ -r /dev/stdin ] && front=$(head -c 8 /dev/stdin | tr -d '\0') && [ "$front" != SDLSREC1 ]
+    then
+        echo "standard input is not a recorded input, which begins with SDLSREC1: make one from text by" \
+            "\`sdls_text records\`"
+    else
+        echo "standard input is not a recorded input from the offset on that End gives: mend it there, and give the" \
+            "records without an answer to a further run"
+    fi
+}
+
+# Why a word that uses the image ended with status 5.
+site_fault() {
+    if [ -L unit.img ] && [ ! -e unit.img ]; then
+        echo "unit.img is a link to a file that is not there: restore that file or remove the link"
+    elif [ -e unit.img ] && [ ! -f unit.img ]; then
+        echo "unit.img is no plain file: call again in the folder of a unit"
+    elif [ -e unit.img ] && [ ! -r unit.img ]; then
+        echo "you may not read unit.img: call again as its owner"
+    elif [ -e unit.img ] && [ ! -w unit.img ]; then
+        echo "you may not write unit.img: call again as its owner, on a file system that can be written"
+    elif [ "$1" = init ] && [ ! -e unit.img ] && [ ! -w . ]; then
+        echo "you may not write in this folder: call init again in a folder of your own"
+    elif [ "$1" = init ] && [ -n "$had_image" ]; then
+        echo "the disk or standard output failed, and the image that was here before was left as it is: do not" \
+            "remove it"
+    elif [ "$1" = init ]; then
+        echo "the disk or standard output failed, and no image was here before: remove unit.img if it is here now," \
+            "and call init again"
+    elif [ "$1" = run ]; then
+        echo "the disk or standard output failed: mend that, look at the state by \`sdls stat\`, and know that" \
+            "records without an answer may have been done"
+    else
+        echo "the disk or standard output failed: mend that, and call stat again"
+    fi
+}
+
+# Why `run` or `stat` ended with status 7.
+refused_image() {
+    if [ ! -e unit.img ]; then
+        echo "there is no unit.img in this folder: call again in the folder of a unit, or make one by" \
+            "\`sdls init < PLAN\`"
+    elif [ "$1" = stat ]; then
+        echo "unit.img is no valid image and was left as it is: standard output has the offset of the failed check," \
+            "and a new unit needs a plan with new keys"
+    else
+        echo "unit.img is no valid image and was left as it is: End has the offset of the failed check, and a new unit" \
+            "needs a plan with new keys"
+    fi
+}
+
+# Prints the program's name, and the commit and the kit that it is built from.
+print_version() {
+    echo "$name $(read_version)"
+}
+
+# What `print_version` prints behind the name; `./install` has kept it.
+read_version() {
+    local commit kit
+    [ -f "$parts/version" ] && cat "$parts/version" && return
+    commit=$(git -C "$parts" describe --always --dirty --abbrev=12 --exclude='*' 2>/dev/null) || commit=unknown
+    kit=$(rt version 2>/dev/null) || kit="no kit on the path"
+    echo "commit $commit, $kit"
+}
+
+# Prints what each word reads and writes, and an example.
+print_help() {
+    if [ "$name" = sdls_text ]; then
+        cat <<'HELP'
+usage: sdls_text records < TEXT > INPUT
+       sdls_text show < INPUT > TEXT
+       sdls_text answers < ANSWERS > TEXT
+Recorded input and answers of `sdls run`, as text.
+
+  records      reads lines of text, and writes the recorded input that they say
+  show         reads recorded input, and prints its lines
+  answers      reads answers, and prints a line for each
+  --help       prints this page
+  --version    prints the commit and the kit that the program is built from
+
+Lines of text: fence; protect LANE LINK OCTETS; open LANE LINK OCTETS; command LANE octets OCTETS;
+command LANE PROCEDURE VALUE.. Empty lines and lines that begin with # are skipped.
+
+Status: 0 done; 1 a line, an item or an answer is at fault; 2 other words; 4 standard input could not be read;
+5 standard output could not be written; 6 out of memory. Of the launcher: 70 the program could not be built.
+
+Example:
+  echo 'protect 0 0 002a140509c3' | sdls_text records > input.bin
+  sdls run < input.bin > answers.bin
+  sdls_text answers < answers.bin
+HELP
+    else
+        cat <<'HELP'
+usage: sdls check KEY | init | stat | run | drill N
+A space link security unit (CCSDS 355.0-B-2 and 355.1-B-1). It works on the file unit.img in the current folder.
+
+  check KEY    reads one AOS transfer frame, and prints its data field or the first check that failed;
+               KEY has 32 or 64 hexadecimal digits
+  init         reads a plan, and makes unit.img, the image of a unit
+  stat         prints the state in unit.img; a slot that a crash tore is repaired
+  run          reads recorded input, serves it with unit.img, and writes an answer for each record;
+               both are octets, which `sdls_text` makes from text and prints as text
+  drill N      protects and opens N generated frames with two units in memory, and prints the counts
+  --help       prints this page
+  --version    prints the commit and the kit that the program is built from
+
+Status: 0 done; 1 the frame is refused; 2 other words; 3 the input is at fault; 4 standard input could not be read;
+5 the disk or standard output failed; 6 out of memory; 7 the image is there already, or is none; 8 the run has its
+most entries. Of the launcher: 70 the program could not be built; 71 the folder or the image could not be locked;
+75 another unit holds one of them.
+
+Example:
+  sdls init < examples/plan-two-links.txt
+  sdls run < examples/protect-one.bin > answers.bin
+  sdls_text answers < answers.bin
+HELP
+    fi
+}
+
+# -- building, in a clone -------------------------------------------------------------------------------------------
+
+# Proves and builds the program of this crate, unless that was done and no source of it has changed since.
+bring_up_to_date() {
+    folder=$parts/crates/$1
+    stamp=$folder/out/launched
+    stack=$(crates_below "$1")
+    is_fresh && return
+    command -v rt >/dev/null ||
+        give_up 70 "the program has to be built, and the kit's command rt is not on the path"
+    # one build at a time; who waited for another finds the program there
+    exec 7<"$parts/crates.txt"
+    if ! flock -n 7; then
+        say "waiting for another build to end"
+        run_through flock 7
+        [ "$status" = 0 ] || end_alike
+    fi
+    if ! is_fresh; then
+        build "$1"
+    fi
+    exec 7<&-
+}
+
+# The lines of crates.txt of this crate and of all that it stands on, highest first.
+crates_below() {
+    awk -v top="$1" '
+        { sub(/#.*/, "") }
+        split($0, halves, ":") == 2 {
+            split(halves[1], words, " ")
+            names[++count] = words[1]
+            libraries[count] = halves[2]
+            known[words[1]] = 1
+        }
+        END {
+            wanted[top] = 1
+            for (i = count; i > 0; i--) {
+                if (!(names[i] in wanted)) continue
+                print names[i] ":" libraries[i]
+                for (j = split(libraries[i], words, " "); j > 0; j--)
+                    if (words[j] in known) wanted[words[j]] = 1
+            }
+        }' "$parts/crates.txt"
+}
+
+# Finds the sources of the program; the words say what is printed of each.
+find_sources() {
+    local crate
+    cd "$parts" && for crate in $(sed 's/:.*//' <<<"$stack"); do
+        find "crates/$crate/src" "crates/$crate/specs" "crates/$crate/proofs" -type f "$@" 2>/dev/null
+    done
+}
+
+# A sum of the sources' names, lengths and times.
+sum_of_times() {
+    (echo "$stack" && find_sources -printf '%p %s %T@\n' | LC_ALL=C sort) | sha256sum
+}
+
+# A sum of the sources' names and octets.
+sum_of_octets() {
+    (echo "$stack" && find_sources -print0 | LC_ALL=C sort -z | (cd "$parts" && xargs -0 sha256sum)) | sha256sum
+}
+
+# Whether the program is the one that was built from these sources. A source that was added, removed, changed or given
+# another name changes both sums; one that has its old octets and another time, the first alone.
+is_fresh() {
+    local times octets built
+    [ -x "$program" ] && [ -f "$stamp" ] || return 1
+    { read -r times && read -r octets && read -r built; } <"$stamp" || return 1
+    [ "$built" = "$(sha256sum <"$program")" ] || return 1
+    [ "$times" = "$(sum_of_times)" ] && return
+    times=$(sum_of_times)
+    [ "$octets" = "$(sum_of_octets)" ] && printf '%s\n' "$times" "$octets" "$built" >"$stamp"
+}
+
+# How many crates are proved at once: as many as there are processors, and 3 GB of memory for each.
+at_once() {
+    local processors memory
+    processors=$(nproc)
+    memory=$(awk '/^MemAvailable:/ { print int($2 / 3000000) }' /proc/meminfo)
+    [ "${memory:-1}" -lt "$processors" ] && processors=$memory
+    echo $((processors > 0 ? processors : 1))
+}
+
+# Proves the crates, several at once, and builds the program and tries it on its stored input. What is proved is kept,
+# so after an interrupt the next call goes on from there.
+build() {
+    local times octets jobs teller count
+    jobs=$(at_once)
+    count=$(wc -l <<<"$stack")
+    say "proves and builds the program first: $count crates, $jobs at once; from nothing this takes long, and what is" \
+        "proved is kept"
+    mkdir -p "$folder/out"
+    scratch=$(mktemp -d) && mkfifo "$scratch/said" || give_up 70 "there is no place for what building prints"
+    trap 'rm -rf "$scratch"' EXIT
+    times=$(sum_of_times)
+    octets=$(sum_of_octets)
+    tell_progress "$count" <"$scratch/said" &
+    teller=$!
+    run_through prove_all "$jobs" </dev/null >"$scratch/said" 2>&1
+    wait "$teller"
+    if [ "$status" -gt 128 ]; then
+        say "building was interrupted; the next call goes on from there"
+        rm -rf "$scratch"
+        end_alike
+    elif [ "$status" != 0 ] || [ ! -x "$program" ]; then
+        cat "$scratch/faults" >&2
+        give_up 70 "the program could not be built; all that rt printed is in $folder/out/build.log"
+    fi
+    # sources that changed while the program was built differ from these sums
+    printf '%s\n' "$times" "$octets" "$(sha256sum <"$program")" >"$stamp"
+    rm -rf "$scratch"
+    trap - EXIT
+}
+
+# Becomes rt, which proves this crate and all that it stands on, and runs the program as the gate does.
+prove_all() {
+    cd "$folder" && exec rt all test --jobs "$1"
+}
+
+# Reads what rt prints: first what a quick pass over all sources finds, then of each crate its name and what was said of
+# it, which is nothing if it was proved before, and a summary. Says how many crates are proved. Keeps all that was
+# printed, and apart from the rest what is said of crates that were not proved.
+tell_progress() {
+    local line crate= block= has_lines= is_proved= proved=0
+    : >"$scratch/faults"
+    while IFS= read -r line; do
+        echo "$line" >&3
+        case $line in
+        "== "*)
+            end_crate
+            crate=${line#== }
+            block= has_lines= is_proved=
+            continue
+            ;;
+        "rt: waiting for another rt"*) say "${line#rt: }" ;;
+        "logic=proved "*)
+            if [ -n "$crate" ] && [ -z "$is_proved" ]; then
+                is_proved=1
+                proved=$((proved + 1))
+                say "$proved of $1 proved, $crate"
+            fi
+            ;;
+        *": proved" | *": ok" | "statements "* | "library "* | "logic "*) ;;
+        *) block+=$line$'\n' ;;
+        esac
+        has_lines=1
+    done 3>"$folder/out/build.log"
+    [ -n "$is_proved" ] || printf '%s' "$block" >>"$scratch/faults"
+}
+
+# Takes what was said of a crate, when the next one's name has come.
+end_crate() {
+    if [ -n "$crate" ] && [ -z "$has_lines" ]; then
+        proved=$((proved + 1))
+    elif [ -n "$crate" ] && [ -z "$is_proved" ]; then
+        printf '%s' "$block" >>"$scratch/faults"
+    fi
+}
