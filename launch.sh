@@ -108,7 +108,8 @@ keep_others_out() {
     take_lock 9 "this folder"
     # who may not read the image cannot run a unit on it: the program will fail to open it
     if [ -f unit.img ] && [ -r unit.img ]; then
-        { exec 8<unit.img; } 2>/dev/null || give_up 71 "nothing was started, for unit.img could not be opened to lock it"
+        { exec 8<unit.img; } 2>/dev/null ||
+            give_up 71 "nothing was started, for unit.img could not be opened to lock it"
         take_lock 8 "this image, by a name in another folder"
     fi
     had_image=
@@ -197,8 +198,8 @@ refused_image() {
         echo "unit.img is no valid image and was left as it is: standard output has the offset of the failed check," \
             "and a new unit needs a plan with new keys"
     else
-        echo "unit.img is no valid image and was left as it is: End has the offset of the failed check, and a new unit" \
-            "needs a plan with new keys"
+        echo "unit.img is no valid image and was left as it is: End has the offset of the failed check, and a new" \
+            "unit needs a plan with new keys"
     fi
 }
 
@@ -354,7 +355,7 @@ at_once() {
 }
 
 # Proves the crates, several at once, and builds the program and tries it on its stored input. What is proved is kept,
-# so after an interrupt the next call goes on from there.
+# so after an interrupt the next call continues.
 build() {
     local times octets jobs teller count
     jobs=$(at_once)
@@ -366,12 +367,12 @@ build() {
     trap 'rm -rf "$scratch"' EXIT
     times=$(sum_of_times)
     octets=$(sum_of_octets)
-    tell_progress "$count" <"$scratch/said" &
+    print_progress "$count" <"$scratch/said" &
     teller=$!
     run_through prove_all "$jobs" </dev/null >"$scratch/said" 2>&1
     wait "$teller"
     if [ "$status" -gt 128 ]; then
-        say "building was interrupted; the next call goes on from there"
+        say "building was interrupted; the next call continues it"
         rm -rf "$scratch"
         end_alike
     elif [ "$status" != 0 ] || [ ! -x "$program" ]; then
@@ -392,7 +393,7 @@ prove_all() {
 # Reads what rt prints: first what a quick pass over all sources finds, then of each crate its name and what was said of
 # it, which is nothing if it was proved before, and a summary. Says how many crates are proved. Keeps all that was
 # printed, and apart from the rest what is said of crates that were not proved.
-tell_progress() {
+print_progress() {
     local line crate= block= has_lines= is_proved= proved=0
     : >"$scratch/faults"
     while IFS= read -r line; do
