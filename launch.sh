@@ -294,7 +294,7 @@ bring_up_to_date() {
     exec 7<&-
 }
 
-# The lines of crates.txt of this crate and of all that it stands on, highest first.
+# The lines of crates.txt of this crate and of all that it stands on.
 crates_below() {
     awk -v top="$1" '
         { sub(/#.*/, "") }
@@ -306,12 +306,16 @@ crates_below() {
         }
         END {
             wanted[top] = 1
-            for (i = count; i > 0; i--) {
-                if (!(names[i] in wanted)) continue
-                print names[i] ":" libraries[i]
-                for (j = split(libraries[i], words, " "); j > 0; j--)
-                    if (words[j] in known) wanted[words[j]] = 1
-            }
+            do {
+                found = 0
+                for (i = count; i > 0; i--) {
+                    if (!(names[i] in wanted) || i in printed) continue
+                    print names[i] ":" libraries[i]
+                    printed[i] = found = 1
+                    for (j = split(libraries[i], words, " "); j > 0; j--)
+                        if (words[j] in known) wanted[words[j]] = 1
+                }
+            } while (found)
         }' "$parts/crates.txt"
 }
 
