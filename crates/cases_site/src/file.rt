@@ -2,8 +2,9 @@
 use crate::words;
 use sdls_outside::{Failed, FileSite, MemSite, Site};
 use std::alloc::{AllocError, Global};
-use std::fs;
+use std::fs::Permissions;
 use std::os::unix::fs::PermissionsExt;
+use std::{fs, io};
 
 const PATH: &str = "written.img";
 
@@ -17,6 +18,31 @@ fn told(alloc: Global, answer: Result<(), Failed>) -> Result<String, AllocError>
 /// Holds for what may be handed to another thread.
 fn is_send<T: Send>(_site: &T) -> bool {
     true
+}
+
+/// Holds if the owner may read and write the file, and nobody else.
+fn is_owners_alone(rt: HostRuntime) -> io::Result<bool> {
+    Ok(fs::metadata(&rt, PATH)?.permissions().mode() & 0o777 == 0o600)
+}
+
+/// What each call answers, on an empty file that all may read before the first write, and what the file then is.
+pub fn fill_empty(rt: HostRuntime) -> anyhow::Result<String> {
+    let alloc = rt.alloc();
+    fs::write(&rt, PATH, b"")?;
+    fs::set_permissions(&rt, PATH, Permissions::from_mode(0o644))?;
+    let mut site = FileSite::at(rt, PATH);
+    let begun = site.begin().unwrap_or(u64::MAX);
+    let was_private = is_owners_alone(rt)?;
+    let first = told(alloc, site.write_at(0, b"abc"))?;
+    let is_private = is_owners_alone(rt)?;
+    fs::set_permissions(&rt, PATH, Permissions::from_mode(0o640))?;
+    let second = told(alloc, site.write_at(2, b"XYZ"))?;
+    let stays_private = is_owners_alone(rt)?;
+    let file = words::text(alloc, fs::read(&rt, PATH)?.as_slice())?;
+    fs::remove_file(&rt, PATH)?;
+    Ok(format!(in alloc;
+        "length {begun} mode 600 {was_private}, {first} mode 600 {is_private}, {second} mode 600 {stays_private}, {file}"
+    )?)
 }
 
 /// What each call answers, on a file that is not there before the first write, and what the file then is.
@@ -39,7 +65,7 @@ pub fn answer(rt: HostRuntime) -> anyhow::Result<String> {
     let after = site.faults();
     let memory = MemSite::new(alloc, Vec::new(alloc), Vec::new(alloc), None);
     let send = is_send(&site) && is_send(&memory);
-    let is_private = fs::metadata(&rt, PATH)?.permissions().mode() & 0o777 == 0o600;
+    let is_private = is_owners_alone(rt)?;
     let file = words::text(alloc, fs::read(&rt, PATH)?.as_slice())?;
     fs::remove_file(&rt, PATH)?;
     Ok(format!(in alloc;

@@ -7,8 +7,8 @@
 //! `dead N` do five calls on a site of the image `ab` of which that one fails, or that one and each later one: begin,
 //! write `aXY` at 0, sync, put `sunk`, read. They print `o` for each that is Ok and `x` for each that is not, and what
 //! is then there. `source PIECE N OCTETS TAKE..` takes so many octets each time from a source in pieces whose call N
-//! fails, and `sure OCTETS TAKE..` from one that never does. `file` is a run of calls on a file. Octets are written as
-//! text, none as `-`.
+//! fails, and `sure OCTETS TAKE..` from one that never does. `file` is a run of calls on a file, and `empty` one on an
+//! empty file that is there. Octets are written as text, none as `-`.
 #![tactic(auto)]
 
 mod crashes;
@@ -56,6 +56,9 @@ fn main(rt: HostRuntime) -> anyhow::Result<()> {
             println!(rt; "{case}")?;
         } else if case == "file" {
             let answer = file::answer(rt)?;
+            println!(rt; "{case}: {answer}")?;
+        } else if case == "empty" {
+            let answer = file::fill_empty(rt)?;
             println!(rt; "{case}: {answer}")?;
         } else {
             let answer = answer(rt.alloc(), &mut case.split_whitespace())?;

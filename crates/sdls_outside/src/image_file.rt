@@ -13,6 +13,8 @@ const OWNER_ALONE: u32 = 0o600;
 #[derive(Drop)]
 pub struct ImageFile {
     file: Option<File>,
+    // nothing was written to it yet, and its mode may be any
+    is_empty: bool,
     is_new: bool,
     is_suspect: bool,
 }
@@ -21,6 +23,7 @@ impl ImageFile {
     pub fn new() -> Self {
         ImageFile {
             file: None,
+            is_empty: false,
             is_new: false,
             is_suspect: false,
         }
@@ -36,7 +39,11 @@ impl ImageFile {
             }
         }
         match &self.file {
-            Some(file) => Ok(file.metadata()?.len()),
+            Some(file) => {
+                let length = file.metadata()?.len();
+                self.is_empty = length == 0;
+                Ok(length)
+            }
             None => Ok(0),
         }
     }
@@ -49,6 +56,8 @@ impl ImageFile {
         }
     }
 
+    // Makes the file if there is none. Before the first write to an empty file, one that was there
+    // too, its mode becomes the owner's alone, whatever it was and whatever the umask takes.
     pub fn write_at(
         &mut self,
         files: &HostRuntime,
@@ -57,13 +66,18 @@ impl ImageFile {
         octets: &[u8],
     ) -> io::Result<()> {
         if self.file.is_none() {
-            let file = beside_the_streams(make(files, path)?)?;
-            file.set_permissions(Permissions::from_mode(OWNER_ALONE))?;
-            self.file = Some(file);
+            self.file = Some(beside_the_streams(make(files, path)?)?);
             self.is_new = true;
+            self.is_empty = true;
         }
         match &self.file {
-            Some(file) => file.write_all_at(octets, at),
+            Some(file) => {
+                if self.is_empty {
+                    file.set_permissions(Permissions::from_mode(OWNER_ALONE))?;
+                    self.is_empty = false;
+                }
+                file.write_all_at(octets, at)
+            }
             None => Ok(()),
         }
     }
@@ -88,8 +102,7 @@ impl ImageFile {
     }
 }
 
-// Makes the file, for its owner alone from its first moment: keys stand in it in clear. What the umask takes
-// from the owner is set later.
+// Makes the file, for its owner alone from its first moment: keys stand in it in clear.
 fn make(files: &HostRuntime, path: &str) -> io::Result<File> {
     File::options()
         .read(true)
