@@ -2,10 +2,10 @@
 
 use crate::answers::answers;
 use case_lines::{Gathered, number_at, numbers, part_of, set_part_of, word_at, words_of};
-use case_runs::{BEGINNING, Open};
+use case_runs::BEGINNING;
 use case_units::crash_of;
 use sdls_outside::{MemSite, MemSource, Site};
-use sdls_run::{Outcome, run};
+use sdls_run::{OpenGate, Outcome, run};
 use std::alloc::{AllocError, Global};
 use std::mem;
 use std::sync::Wait;
@@ -97,7 +97,7 @@ impl Table {
             status,
             site,
             entries,
-        } = run(rt, alloc, words.as_slice(), &mut source, site, &Open);
+        } = run(rt, alloc, words.as_slice(), &mut source, site, &OpenGate);
         let count = entries.len();
         let text = match line {
             "run" => answers(alloc, site.sunk())?,

@@ -1,9 +1,10 @@
 // A site that fails at a call of a run, or from it on, each kind of crash, and what the next run goes on with.
-use crate::support::CALL_AFTER_OPENING;
+use crate::support::{CALL_AFTER_OPENING, life};
 use case_lines::number_of;
-use case_runs::{BEGINNING, Open, TELECOMMAND, joined, life};
+use case_runs::{BEGINNING, TELECOMMAND, joined};
 use case_units::{TWO_SENDERS, image_of, image_of_sender};
 use sdls_outside::{Crash, MemSite};
+use sdls_run::OpenGate;
 use sdls_run::status::{DONE, SITE_FAULT};
 use std::alloc::{AllocError, Global};
 use std::process::Abort;
@@ -83,7 +84,7 @@ fn run_of<R: Threads + Wait + Sync>(
     for record in records {
         input.extend_from_slice(record)?;
     }
-    let (status, _, site) = life(rt, alloc, input, site, &Open)?;
+    let (status, _, site) = life(rt, alloc, input, site, &OpenGate)?;
     Ok((status, site))
 }
 

@@ -1,8 +1,10 @@
 // What the tests share: images, runs, and the answers that are due. The octets are written by hand from the formats;
 // the MACs come from an AES-CMAC of another hand, tried on the vectors of RFC 4493.
-use case_runs::{BEGINNING, FENCE, Open, TELECOMMAND, joined, life};
+use case_lines::words_of;
+use case_runs::{BEGINNING, FENCE, TELECOMMAND, joined};
 use case_units::{TELECOMMAND_SENDER, image_of_sender};
-use sdls_outside::MemSite;
+use sdls_outside::{MemSite, Site, SureSource};
+use sdls_run::{Gate, OpenGate, Outcome, run};
 use std::alloc::{AllocError, Global};
 use std::sync::Wait;
 use std::test::Fail;
@@ -50,6 +52,24 @@ pub(crate) fn dead_site(alloc: Global, call: u64) -> Result<MemSite, Fail> {
     Ok(MemSite::new(alloc, image(alloc)?, Vec::new(alloc), Some(call)))
 }
 
+/// A run over an input: its status, the count of its entries, and the site.
+pub(crate) fn life<R: Threads + Wait + Sync, O: Site + Send + Drop, G: Gate + Sync>(
+    rt: &R,
+    alloc: Global,
+    input: Vec<u8>,
+    site: O,
+    gate: &G,
+) -> Result<(u8, usize, O), AllocError> {
+    let words = words_of(alloc, "run")?;
+    let mut source = SureSource::new(input);
+    let Outcome {
+        status,
+        site,
+        entries,
+    } = run(rt, alloc, words.as_slice(), &mut source, site, gate);
+    Ok((status, entries.len(), site))
+}
+
 /// A run over an input in one piece.
 pub(crate) fn life_of<R: Threads + Wait + Sync>(
     rt: &R,
@@ -57,7 +77,7 @@ pub(crate) fn life_of<R: Threads + Wait + Sync>(
     pieces: &[&[u8]],
     site: MemSite,
 ) -> Result<(u8, usize, MemSite), AllocError> {
-    life(rt, alloc, joined(alloc, pieces)?, site, &Open)
+    life(rt, alloc, joined(alloc, pieces)?, site, &OpenGate)
 }
 
 /// A run over this many recorded frames of six octets, each with a fence behind it.
@@ -72,7 +92,7 @@ pub(crate) fn life_of_frames<R: Threads + Wait + Sync>(
         input.extend_from_slice(TELECOMMAND)?;
         input.extend_from_slice(FENCE)?;
     }
-    life(rt, alloc, input, site, &Open)
+    life(rt, alloc, input, site, &OpenGate)
 }
 
 /// The first 24 octets of the answer to that frame under a number.

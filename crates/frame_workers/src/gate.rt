@@ -8,3 +8,12 @@ pub trait Gate {
     /// Called after the record was handled.
     fn done(&self, lane: u8, index: u64);
 }
+
+/// A gate that holds nobody.
+pub struct OpenGate;
+
+impl Gate for OpenGate {
+    fn pass(&self, _lane: u8, _index: u64) {}
+
+    fn done(&self, _lane: u8, _index: u64) {}
+}

@@ -13,5 +13,5 @@ mod lane;
 mod placing;
 mod segment;
 
-pub use gate::Gate;
+pub use gate::{Gate, OpenGate};
 pub use segment::{Segment, run_segment};

@@ -3,20 +3,11 @@
 #![tactic(auto)]
 
 use sdls_outside::{FileSite, StdSource};
-use sdls_run::{Gate, Outcome, run, status};
+use sdls_run::{OpenGate, Outcome, run, status};
 use std::alloc::AllocError;
 use std::process::ExitCode;
 use std::rt::Env;
 use std::{env, io};
-
-/// A gate that does nothing.
-struct Open;
-
-impl Gate for Open {
-    fn pass(&self, _lane: u8, _index: u64) {}
-
-    fn done(&self, _lane: u8, _index: u64) {}
-}
 
 /// The words after the program's name. Words that are not text are no command, so they are read as
 /// no words.
@@ -38,6 +29,13 @@ fn main(rt: HostRuntime) -> ExitCode {
         status,
         site: _,
         entries: _,
-    } = run(&rt, rt.alloc(), words.as_slice(), &mut source, site, &Open);
+    } = run(
+        &rt,
+        rt.alloc(),
+        words.as_slice(),
+        &mut source,
+        site,
+        &OpenGate,
+    );
     ExitCode::from(status)
 }

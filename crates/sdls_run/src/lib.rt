@@ -13,7 +13,7 @@
 mod laws;
 mod top;
 
-pub use frame_workers::Gate;
+pub use frame_workers::{Gate, OpenGate};
 pub use record_io::{Outcome, status};
 pub use sdls_plain::{InitEnd, Refusal, check_frame, run_plain};
 pub use top::run;

@@ -1,8 +1,10 @@
 // A disk that fails under one of sixteen lanes.
 use crate::answers::{counted, heads, numbers_of};
-use case_runs::{BEGINNING, FENCE, Open, TELECOMMAND, life, push_frame};
+use crate::support::life;
+use case_runs::{BEGINNING, FENCE, TELECOMMAND, push_frame};
 use case_units::{TELECOMMAND_SENDER, image_of_sender};
 use sdls_outside::MemSite;
+use sdls_run::OpenGate;
 use sdls_run::status::SITE_FAULT;
 use std::test::Fail;
 
@@ -34,7 +36,7 @@ fn a_fault_under_one_lane_stops_the_others(rt: HostRuntime) -> Result<(), Fail> 
     let failing = vec![in alloc; SYNC_OF_THE_SECOND_GATE]?;
     let image = image_of_sender(alloc, 16, 4, TELECOMMAND_SENDER).ok_or("no image")?;
     let site = MemSite::new(alloc, image, failing, None);
-    let (status, entries, site) = life(&rt, alloc, input, site, &Open)?;
+    let (status, entries, site) = life(&rt, alloc, input, site, &OpenGate)?;
     assert_eq!(rt; (status, entries), (SITE_FAULT, 2));
     let heads = heads(alloc, site.sunk(), 98)?;
     let numbers = numbers_of(alloc, heads.as_slice(), PROTECTED)?;

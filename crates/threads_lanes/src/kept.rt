@@ -4,8 +4,9 @@ ghost use Rattle.sdls_outside.specs.contracts.mem_site.MemSiteSite.TheImpl.Laws 
 
 use crate::answers::heads;
 use crate::meeting::STOP;
+use crate::support::life;
 use crate::waits::Flag;
-use case_runs::{BEGINNING, TELECOMMAND, life};
+use case_runs::{BEGINNING, TELECOMMAND};
 use case_units::{TWO_SENDERS, image_of_sender};
 use sdls_outside::{Failed, MemSite, Site};
 use sdls_run::Gate;

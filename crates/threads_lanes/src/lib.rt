@@ -18,4 +18,6 @@ mod order;
 #[cfg(test)]
 mod stops;
 #[cfg(test)]
+mod support;
+#[cfg(test)]
 mod waits;

@@ -1,7 +1,8 @@
 // Lanes beside each other, seen by a gate that holds a lane until another was seen.
 use crate::answers::heads;
+use crate::support::life;
 use crate::waits::Flag;
-use case_runs::{BEGINNING, TELECOMMAND, life};
+use case_runs::{BEGINNING, TELECOMMAND};
 use case_units::{TWO_SENDERS, image_of_sender};
 use sdls_outside::MemSite;
 use sdls_run::Gate;

@@ -1,8 +1,10 @@
 // Records of one lane alone.
 use crate::answers::heads;
-use case_runs::{BEGINNING, Open, life, push_frame};
+use crate::support::life;
+use case_runs::{BEGINNING, push_frame};
 use case_units::{TELECOMMAND_SENDER, image_of_sender};
 use sdls_outside::MemSite;
+use sdls_run::OpenGate;
 use sdls_run::status::DONE;
 use std::test::Fail;
 
@@ -16,7 +18,7 @@ fn one_lane_answers_number_after_number(rt: HostRuntime) -> Result<(), Fail> {
     }
     let image = image_of_sender(alloc, 16, 1024, TELECOMMAND_SENDER).ok_or("no image")?;
     let site = MemSite::new(alloc, image, Vec::new(alloc), None);
-    let (status, entries, site) = life(&rt, alloc, input, site, &Open)?;
+    let (status, entries, site) = life(&rt, alloc, input, site, &OpenGate)?;
     // One reserve: its mark is the number that comes next, so that nothing is released.
     assert_eq!(rt; (status, entries), (DONE, 1));
     let heads = heads(alloc, site.sunk(), 1025)?;

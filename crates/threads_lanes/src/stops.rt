@@ -1,8 +1,10 @@
 // A stop on one of sixteen lanes.
 use crate::answers::{counted, heads, numbers_of};
-use case_runs::{BEGINNING, Open, life, push_frame};
+use crate::support::life;
+use case_runs::{BEGINNING, push_frame};
 use case_units::{TELECOMMAND_SENDER, image_of_sender};
 use sdls_outside::MemSite;
+use sdls_run::OpenGate;
 use sdls_run::status::DONE;
 use std::alloc::{AllocError, Global};
 use std::test::Fail;
@@ -44,7 +46,7 @@ fn each_frame_is_judged_at_its_position(rt: HostRuntime) -> Result<(), Fail> {
     let alloc = rt.alloc();
     let image = image_of_sender(alloc, 16, 64, TELECOMMAND_SENDER).ok_or("no image")?;
     let site = MemSite::new(alloc, image, Vec::new(alloc), None);
-    let (status, _, site) = life(&rt, alloc, records(alloc)?, site, &Open)?;
+    let (status, _, site) = life(&rt, alloc, records(alloc)?, site, &OpenGate)?;
     assert_eq!(rt; status, DONE);
     let heads = heads(alloc, site.sunk(), RECORDS + 1)?;
     for (index, head) in (0..=RECORDS).zip(heads.iter()) {

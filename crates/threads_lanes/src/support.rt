@@ -1,4 +1,4 @@
-//! Runs.
+// What the tests share.
 use case_lines::words_of;
 use sdls_outside::{Site, SureSource};
 use sdls_run::{Gate, Outcome, run};
@@ -6,17 +6,8 @@ use std::alloc::{AllocError, Global};
 use std::sync::Wait;
 use std::thread::Threads;
 
-/// A gate that lets all lanes through.
-pub struct Open;
-
-impl Gate for Open {
-    fn pass(&self, _lane: u8, _index: u64) {}
-
-    fn done(&self, _lane: u8, _index: u64) {}
-}
-
 /// A run over an input: its status, the count of its entries, and the site.
-pub fn life<R: Threads + Wait + Sync, O: Site + Send + Drop, G: Gate + Sync>(
+pub(crate) fn life<R: Threads + Wait + Sync, O: Site + Send + Drop, G: Gate + Sync>(
     rt: &R,
     alloc: Global,
     input: Vec<u8>,
