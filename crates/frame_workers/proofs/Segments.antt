@@ -23,8 +23,8 @@ use Rattle.law_worker.proofs.Lanes.{lanes_handled, lanes_grow}
 use Rattle.frame_workers.specs.declared.lane.Lane.{Lane}
 use Rattle.law_one_lane.specs.Alone.{MovedInTurn, ServedAlone}
 use Rattle.law_calls.specs.Answering.{IsFullFor}
-use Rattle.law_calls.specs.Visiting.{BeganWith}
-use Rattle.frame_workers.specs.Ends.{EndsSegment}
+use Rattle.law_worker.specs.Began.{BeganWith}
+use Rattle.law_calls.specs.Ends.{EndsSegment}
 use Rattle.frame_workers.specs.Lanes.{HasRun, IsSplit, part_of, parts_of, answers_of, HaveOwnNumbers, IsThere, StopsAt}
 use Rattle.frame_workers.proofs.Keeping.{begun_at, began_at}
 use Rattle.frame_workers.proofs.Steps.{lane_next, lane_whole}

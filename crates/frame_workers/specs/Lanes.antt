@@ -14,9 +14,9 @@ use Rattle.law_worker.specs.Deeds.{Deed, deeds_of}
 use Rattle.law_worker.specs.Order.{Layout, Handled}
 use Rattle.law_worker.specs.Lanes.{is_of_lane, of_lane, Part}
 use Rattle.law_one_lane.specs.Alone.{MovedInTurn}
-use Rattle.law_calls.specs.Visiting.{BeganWith}
+use Rattle.law_worker.specs.Began.{BeganWith}
 use Rattle.frame_workers.specs.declared.lane.Lane.{Lane}
-use Rattle.frame_workers.specs.Ends.{EndsSegment}
+use Rattle.law_calls.specs.Ends.{EndsSegment}
 
 module _ {B : Type 0} (ready : Worker B → Type 0) where
   -- the lane may run: its worker is ready, what it keeps is true, and it has room for the answers

@@ -10,9 +10,9 @@ ghost use Rattle.law_worker.specs.Begin.{Begin};
 ghost use Rattle.law_worker.specs.Deeds.{Ascend, deeds_of};
 ghost use Rattle.law_worker.specs.Order.{Handled, Layout, LiesIn};
 ghost use Rattle.law_one_lane.specs.Alone.{OneLane, ServedAlone};
-ghost use Rattle.law_calls.specs.Visiting.{BeganWith};
+ghost use Rattle.law_worker.specs.Began.{BeganWith};
 ghost use Rattle.law_worker.specs.Views.{keeping, meeting, Meets, starting};
-ghost use Rattle.frame_workers.specs.Ends.{EndsSegment};
+ghost use Rattle.law_calls.specs.Ends.{EndsSegment};
 ghost use Rattle.frame_workers.specs.Lanes.{left_at};
 
 use crate::gate::Gate;

@@ -50,7 +50,7 @@ use Rattle.law_worker.specs.Views.{IsBetween, IsRow, entries_in}
 use Rattle.law_worker.specs.Work.{IsAsked}
 use Rattle.law_worker.specs.Deeds.{course_in}
 use Rattle.law_worker.specs.Order.{Layout}
-use Rattle.law_calls.specs.Visiting.{BeganWith}
+use Rattle.law_worker.specs.Began.{BeganWith}
 use Rattle.law_calls.specs.Answering.{Answered, answer_of, fault_answer, commanded_answer}
 use Rattle.law_calls.proofs.Counting.{Shows, counted_none, raise_shows, draws_shows, uses_shows, out_shows}
 use Rattle.law_calls.proofs.Fitted.{commanded_fits}

@@ -54,7 +54,7 @@ use Rattle.law_one_lane.specs.Machine.{Move, Kept, Found, Drew, Raised, Overdrew
 use Rattle.law_one_lane.specs.Serving as machine
 use Rattle.law_one_lane.specs.InTurn.{IsClean}
 use Rattle.law_one_lane.specs.Exact.{TellsSeen, TellsCommand, TellsKind, Tells, IsOfMoves}
-use Rattle.law_calls.specs.Visiting.{BeganWith}
+use Rattle.law_worker.specs.Began.{BeganWith}
 use Rattle.law_calls.specs.Answering.{answer_of, fault_answer, commanded_answer, AnsweredExactly}
 use Rattle.law_calls.proofs.Behind.{lines_of, lines_more, lines_entries}
 use Rattle.law_calls.proofs.Counting.{Shows, found_shows, draws_shows, uses_shows}

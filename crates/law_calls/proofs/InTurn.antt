@@ -39,7 +39,7 @@ use Rattle.law_one_lane.specs.Machine.{Move}
 use Rattle.law_one_lane.specs.Serving.{HasSlot, SaysFull, AloneServes}
 use Rattle.law_one_lane.specs.InTurn.{MadeAllLines, IsClean, IsLevel, IsMarked, AreMarked, ServedInTurn}
 use Rattle.law_calls.specs.Answering.{answer_of}
-use Rattle.law_calls.specs.Visiting.{BeganWith}
+use Rattle.law_worker.specs.Began.{BeganWith}
 use Rattle.law_calls.proofs.Behind.{lines_of, lines_entries, places_within}
 use Rattle.law_calls.proofs.OneRecord.{Turned}
 use Rattle.law_calls.proofs.Visit.{below_mark, began_faults, faults_are, changes_are, log_is, log_low, start_is, whole}

@@ -34,7 +34,7 @@ use Rattle.law_worker.specs.Views.{IsBetween}
 use Rattle.law_worker.specs.Work.{indexed}
 use Rattle.law_worker.specs.Deeds.{course_in}
 use Rattle.law_worker.specs.Order.{Layout}
-use Rattle.law_calls.specs.Visiting.{BeganWith}
+use Rattle.law_worker.specs.Began.{BeganWith}
 use Rattle.law_calls.specs.Answering.{Answered, answer_of, opened_answer}
 use Rattle.law_calls.proofs.Behind.{tested}
 use Rattle.law_calls.proofs.Counting.{counted_none}

@@ -32,7 +32,7 @@ use Rattle.law_one_lane.specs.Machine.{Kept}
 use Rattle.law_one_lane.specs.Serving.{now, HasSlot, SaysFull, AloneOpened, AloneUnopened, ServesKind, AloneServes}
 use Rattle.law_one_lane.specs.InTurn.{IsClean}
 use Rattle.law_one_lane.specs.Exact.{Tells, TellsKind}
-use Rattle.law_calls.specs.Visiting.{BeganWith}
+use Rattle.law_worker.specs.Began.{BeganWith}
 use Rattle.law_calls.specs.Answering.{answer_of, fault_answer, opened_answer, AnsweredExactly}
 use Rattle.law_calls.proofs.Behind.{lines_of, lines_entries}
 use Rattle.law_calls.proofs.OneRecord.{Turned}

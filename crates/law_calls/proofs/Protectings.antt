@@ -44,7 +44,7 @@ use Rattle.law_worker.specs.Begin.{Begin}
 use Rattle.law_worker.specs.Views.{IsBetween, IsRow, entries_in}
 use Rattle.law_worker.specs.Deeds.{deed_of, course_in, is_protected, epoch_told, StandsWithin}
 use Rattle.law_worker.specs.Order.{Layout, Handled}
-use Rattle.law_calls.specs.Visiting.{BeganWith}
+use Rattle.law_worker.specs.Began.{BeganWith}
 use Rattle.law_calls.specs.Answering.{Answered, answer_of, fault_answer, protected_answer}
 use Rattle.law_calls.proofs.Behind.{LegalInTurn}
 use Rattle.law_calls.proofs.OneRecord.{Turned, Counted, handled_answered}

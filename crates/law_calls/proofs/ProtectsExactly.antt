@@ -53,7 +53,7 @@ use Rattle.law_one_lane.specs.Machine.{Move, Kept, Found, Drew, Overdrew}
 use Rattle.law_one_lane.specs.Serving as machine
 use Rattle.law_one_lane.specs.InTurn.{IsClean, IsLevel, AreMarked}
 use Rattle.law_one_lane.specs.Exact.{TellsProtect, TellsKind, Tells}
-use Rattle.law_calls.specs.Visiting.{BeganWith}
+use Rattle.law_worker.specs.Began.{BeganWith}
 use Rattle.law_calls.specs.Answering.{answer_of, fault_answer, protected_answer, AnsweredExactly}
 use Rattle.law_calls.proofs.Behind.{lines_of}
 use Rattle.law_calls.proofs.Counting.{Shows, found_shows, draws_shows, back_shows, uses_shows}

@@ -39,7 +39,7 @@ use Rattle.law_worker.specs.Work.{indexed}
 use Rattle.law_worker.specs.Deeds.{deed_of, course_in, is_protected, epoch_told, StandsWithin, IsLastAt, IsSpent, MadeLast}
 use Rattle.frame_checks.specs.ProtectingFrames.{has_channel}
 use Rattle.law_worker.specs.Order.{Layout, Handled}
-use Rattle.law_calls.specs.Visiting.{BeganWith}
+use Rattle.law_worker.specs.Began.{BeganWith}
 use Rattle.law_calls.specs.Answering.{answer_of, unserved_answer, fault_answer, Answered}
 use Rattle.law_calls.proofs.Behind.{lines_of, tested, lines_length, lines_entries, lines_more, tested_more, tested_few, LegalInTurn, legal_then, after_both, places_stand, last_behind}
 use Rattle.law_calls.proofs.OneRecord.{Turned, Counted, handled_answered, handled_unanswered}

@@ -24,7 +24,7 @@ use Rattle.shared_unit.specs.Turn.{taking_once, Visits}
 use Rattle.shared_unit.proofs.Steps.{earlier_again}
 use Rattle.law_worker.specs.Begin.{Begin}
 use Rattle.law_worker.proofs.Histories.{row_kept_first, entries_both as both}
-use Rattle.law_calls.specs.Visiting.{BeganWith}
+use Rattle.law_worker.specs.Began.{BeganWith}
 use Rattle.law_calls.proofs.Behind.{lines_of, lines_entries, lines_length}
 use Rattle.law_calls.proofs.OneRecord.{Turned}
 

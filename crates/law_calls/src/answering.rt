@@ -12,7 +12,7 @@ ghost use Rattle.shared_unit.specs.declared.permit.Protected.{Protected};
 ghost use Rattle.shared_unit.specs.Protecting.{IsProtectStep};
 ghost use Rattle.law_worker.specs.Begin.{Begin};
 ghost use Rattle.law_worker.specs.Order.{Layout};
-ghost use Rattle.law_calls.specs.Visiting.{BeganWith};
+ghost use Rattle.law_worker.specs.Began.{BeganWith};
 ghost use Rattle.law_calls.specs.Answering.{Answered, commanded_answer, CommandsRecord, opened_answer, OpensRecord, protected_answer, unserved_answer};
 
 use sdls_outside::Site;

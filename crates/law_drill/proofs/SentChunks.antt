@@ -19,7 +19,7 @@ use Rattle.law_worker.specs.Views.{entries_in}
 use Rattle.law_worker.proofs.Handling.{handled_then}
 use Rattle.law_worker.proofs.Handling as handling
 use Rattle.law_lives.specs.Opened.{IsJustOpened}
-use Rattle.frame_workers.specs.Ends.{EndsSegment}
+use Rattle.law_calls.specs.Ends.{EndsSegment}
 use Rattle.drill_frames.specs.Frames.{protect_task, protect_tasks}
 use Rattle.law_drill.specs.Drilled.{HandlesSegment, tells_fault, tells_want}
 use Rattle.law_drill.specs.Plans.{sender_lines}

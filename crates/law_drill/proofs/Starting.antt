@@ -22,20 +22,7 @@ use Rattle.unit_state.specs.Applied.{applied}
 use Rattle.unit_state.specs.Initial.{activated_if, association_made, bare, count_before, created, initial, key_made, keyed, keys_made, lines_made, loaded, started}
 use Rattle.unit_state.specs.Restart.{restarted}
 use Rattle.law_drill.specs.Plans.{key_of, receiver_lines, sender_lines}
-
-abbrev ok_of : {A : Type 0} → A → Result A PlanFault
-ok_of x = Ok x
-
-same_ok : {A : Type 0} (x y : A) → ok_of x ≡ Ok y → x ≡ y
-same_ok {A} x y h = ap (λ (r : Result A PlanFault). result_unwrap_or r x) h
-
-no_fault : {A : Type 0} (fault : PlanFault) (x : A) → ◌≡◌ {A = Result A PlanFault} (Err fault) (Ok x) → ⊥
-no_fault fault x h = cc h
-
--- a step behind another
-behind : {A B : Type 0} (r : Result A PlanFault) (f : A → Result B PlanFault) (y : B) → (r >>= f) ≡ Ok y → (x : A) × (r ≡ Ok x) × (f x ≡ Ok y)
-behind (Ok x) f y h = (x, refl, h)
-behind (Err fault) f y h = absurd (no_fault fault y h)
+use Rattle.law_image.proofs.Planned.{behind, no_fault, ok_of, same_ok}
 
 -- behind a check
 checked : (line : ℕ) (cause : PlanCause) (b : Bool) (x y : State) → (check line cause b >>= λ taken. Ok x) ≡ ok_of y → x ≡ y

@@ -15,8 +15,8 @@ use Rattle.law_worker.specs.Begin.{Begin}
 use Rattle.law_worker.specs.Deeds.{deeds_of}
 use Rattle.law_worker.specs.Order.{Layout, LiesIn, Handled}
 use Rattle.law_lives.specs.Opened as runs
-use Rattle.law_calls.specs.Visiting.{BeganWith}
-use Rattle.frame_workers.specs.Ends.{EndsSegment}
+use Rattle.law_worker.specs.Began.{BeganWith}
+use Rattle.law_calls.specs.Ends.{EndsSegment}
 use Rattle.drill_frames.specs.declared.counts.Counts.{Counts}
 use Rattle.drill_frames.specs.declared.records.TheConstants.{CHUNK}
 use Rattle.drill_frames.specs.Counting.{count_accepted, count_code, count_fields, no_counts, sum_of}

@@ -24,17 +24,17 @@ use Rattle.unit_plan.specs.PlanLines.{PlanLines, has_key, has_link, no_lines}
 use Rattle.unit_plan.specs.PlanRules.{IsAssociation, IsPlan}
 use Rattle.law_image.proofs.Said.{association_within, bounded_within, key_long, layout_within, link_low}
 
-abbrev ok_of : {A : Type 0} → A → Result A PlanFault
+abbrev pub ok_of : {A : Type 0} → A → Result A PlanFault
 ok_of x = Ok x
 
-same_ok : {A : Type 0} (x y : A) → ok_of x ≡ Ok y → x ≡ y
+pub same_ok : {A : Type 0} (x y : A) → ok_of x ≡ Ok y → x ≡ y
 same_ok {A} x y h = ap (λ (r : Result A PlanFault). result_unwrap_or r x) h
 
-no_fault : {A : Type 0} (fault : PlanFault) (x : A) → ◌≡◌ {A = Result A PlanFault} (Err fault) (Ok x) → ⊥
+pub no_fault : {A : Type 0} (fault : PlanFault) (x : A) → ◌≡◌ {A = Result A PlanFault} (Err fault) (Ok x) → ⊥
 no_fault fault x h = cc h
 
 -- a step behind another
-behind : {A B : Type 0} (r : Result A PlanFault) (f : A → Result B PlanFault) (y : B) → (r >>= f) ≡ Ok y → (x : A) × (r ≡ Ok x) × (f x ≡ Ok y)
+pub behind : {A B : Type 0} (r : Result A PlanFault) (f : A → Result B PlanFault) (y : B) → (r >>= f) ≡ Ok y → (x : A) × (r ≡ Ok x) × (f x ≡ Ok y)
 behind (Ok x) f y h = (x, refl, h)
 behind (Err fault) f y h = absurd (no_fault fault y h)
 

@@ -1,4 +1,5 @@
 pub mod Begin
+pub mod Began
 pub mod Views
 pub mod Work
 pub mod Deeds

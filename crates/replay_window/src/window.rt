@@ -6,7 +6,7 @@ ghost use Rattle.replay_window.specs.Window.{IsFresh, AcceptsInTurn, IsAscending
 pub struct Window {
     /// The highest number accepted, 0 where there is none.
     pub high: u64,
-    /// How far above `high` a number may lie, 1 to [`sdls_base::MOST_WINDOW`].
+    /// How far above `high` a number may lie, 1 to 2^32.
     pub width: u64,
 }
 

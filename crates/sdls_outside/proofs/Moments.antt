@@ -204,7 +204,7 @@ each_syncs (Ok value) old new P synced before after = each_passes old new P sync
 each_syncs (Err error) old new P same before after = each_unchanged old new P same before
 
 -- a disk with the same image, sync and ranges leaves the same
-leaves_same : (old new : Disk) → new.image ≡ old.image → new.synced ≡ old.synced → new.ranges ≡ old.ranges
+pub leaves_same : (old new : Disk) → new.image ≡ old.image → new.synced ≡ old.synced → new.ranges ≡ old.ranges
     → (image : List ℕ) → Leaves new image → Leaves old image
 leaves_same old new same_image same_synced same_ranges image leaves = record {
   no_shorter = subst (λ (synced : List ℕ). length synced ≤ length image) same_synced leaves.no_shorter;

@@ -7,7 +7,7 @@ use Rattle.sdls_base.specs.declared.entry.Logged.TheVariants as logged
 use Rattle.sdls_outside.specs.Disk.{Disk, Leaves, Outside}
 use Rattle.sdls_outside.specs.Moments.{Trace, clock, Between, EachMoment}
 use Rattle.sdls_outside.specs.Site.{Sank, Puts}
-use Rattle.sdls_outside.proofs.Moments.{each_then, each_weaker, each_passes, moment_now, sank_synced, synced_leaves}
+use Rattle.sdls_outside.proofs.Moments.{each_then, each_weaker, each_passes, moment_now, sank_synced, synced_leaves, leaves_same}
 use Rattle.disk_journal.specs.Image.{held, grown, IsAtRest}
 use Rattle.disk_journal.specs.Journal.{JournalView, IsJournalOf, IsSettled}
 use Rattle.disk_journal.specs.Changes.{EachImage}
@@ -66,18 +66,6 @@ serves_last start log line next before image sunk old_sunk new_sunk old_is new_i
           (subst (λ (octets : List ℕ). Between old_sunk octets sunk) new_is between)));
       shows = subst (λ (lines : List Logged). ShowsFrom start (entries_of (log ++ line ∷ [])) (min (length (entries_of lines)) next) image) (sym front) shows;
     }
-
--- a disk that differs in what is sunk alone leaves the same
-leaves_same : (old new : Disk) → new.image ≡ old.image → new.synced ≡ old.synced → new.ranges ≡ old.ranges
-    → (image : List ℕ) → Leaves new image → Leaves old image
-leaves_same old new same_image same_synced same_ranges image leaves = record {
-  no_shorter = subst (λ (synced : List ℕ). length synced ≤ length image) same_synced leaves.no_shorter;
-  no_longer = subst (λ (reads : List ℕ). length image ≤ length reads) same_image leaves.no_longer;
-  outside = λ i below away.
-      leaves.outside i (subst (λ (synced : List ℕ). i < length synced) (sym same_synced) below)
-      (subst (λ (ranges : List (ℕ × ℕ)). Outside ranges i) (sym same_ranges) away)
-      ∙ ap (λ (synced : List ℕ). get_or synced i 0) same_synced;
-}
 
 -- what was sunk is a front of what is sunk
 front_of : (old octets new : List ℕ) → Between old (old ++ octets) new → take (length old) new ≡ old

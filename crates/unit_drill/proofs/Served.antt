@@ -11,9 +11,9 @@ use Rattle.record_io.specs.declared.records.Record.{Record}
 use Rattle.law_worker.specs.Begin.{Begin}
 use Rattle.law_worker.specs.Deeds.{deeds_of}
 use Rattle.law_worker.specs.Order.{Handled, Layout, LiesIn}
-use Rattle.law_calls.specs.Visiting.{BeganWith}
+use Rattle.law_worker.specs.Began.{BeganWith}
 use Rattle.disk_journal.specs.Image.{records, slot_count}
-use Rattle.frame_workers.specs.Ends.{EndsSegment}
+use Rattle.law_calls.specs.Ends.{EndsSegment}
 use Rattle.law_drill.specs.Drilled.{HandlesSegment, tells_fault}
 use Rattle.law_drill.proofs.Tasks.{OnLane, drill_layout, drill_lies}
 

@@ -2,7 +2,7 @@
 ghost use Rattle.std.specs.Prelude.{◌≡◌, ◌*◌, ◌+◌, ◌≤◌, true, IfOk};
 ghost use Rattle.counter_table.specs.Worker.{view};
 ghost use Rattle.law_worker.specs.Begin.{Begin};
-ghost use Rattle.law_calls.specs.Visiting.{BeganWith};
+ghost use Rattle.law_worker.specs.Began.{BeganWith};
 ghost use Rattle.law_drill.specs.Drilled.{IsChunk};
 ghost use Rattle.unit_drill.specs.Drilled.{MayServe};
 

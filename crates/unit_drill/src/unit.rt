@@ -5,7 +5,7 @@ ghost use Rattle.counter_table.specs.Worker.{view};
 ghost use Rattle.record_io.specs.declared.records.Record.{Record};
 ghost use Rattle.law_worker.specs.Begin.{Begin};
 ghost use Rattle.law_worker.specs.Deeds.{Ascend};
-ghost use Rattle.law_calls.specs.Visiting.{BeganWith};
+ghost use Rattle.law_worker.specs.Began.{BeganWith};
 ghost use Rattle.law_drill.specs.Drilled.{UnitIsOpened, HandlesSegment, tells_fault};
 ghost use Rattle.unit_drill.specs.Drilled.{MayServe};
 

@@ -34,7 +34,8 @@ use Rattle.law_worker.proofs.Joining.{does_unanswered}
 use Rattle.law_worker.proofs.Logs.{stands_both}
 use Rattle.law_lives.specs.Settled.{SettlesAt}
 use Rattle.law_lives.proofs.Counting.{pieces_both}
-use Rattle.law_calls.specs.Visiting.{BeganWith, Visited}
+use Rattle.law_worker.specs.Began.{BeganWith}
+use Rattle.law_calls.specs.Visiting.{Visited}
 use Rattle.law_run_segments.specs.Doing.{PutsPieces, octets_put}
 use Rattle.unit_session.specs.Putting.{Adds, PutsOctets, SettlesAll}
 use Rattle.unit_session.proofs.Octets.{puts_adds}

@@ -24,7 +24,7 @@ use Rattle.unit_book.specs.Book.{BookView}
 use Rattle.unit_book.specs.Marks.{mark_at}
 use Rattle.shared_unit.specs.Sharing.{Begins, BookIsOpened}
 use Rattle.shared_unit.specs.Told.{known_of_book}
-use Rattle.law_calls.specs.Visiting.{BeganWith}
+use Rattle.law_worker.specs.Began.{BeganWith}
 use Rattle.law_run_segments.specs.Coming.{HasCome}
 use Rattle.law_run_segments.specs.Ending.{PutsEnd}
 use Rattle.law_run_segments.specs.Ran.{CountsSlots, Ran, begin_by}

@@ -16,7 +16,7 @@ use Rattle.law_worker.specs.Begin.{Begin}
 use Rattle.law_worker.specs.Views.{log_of}
 use Rattle.law_worker.proofs.Joining.{does_then, does_nothing}
 use Rattle.law_worker.proofs.Logs.{times_both}
-use Rattle.law_calls.specs.Visiting.{BeganWith}
+use Rattle.law_worker.specs.Began.{BeganWith}
 use Rattle.law_run_segments.specs.Doing.{PutsPieces, octets_put}
 use Rattle.law_one_lane.proofs.Turns.{clean_before}
 use Rattle.unit_session.specs.Putting.{Begun, PutLeaves, OfRun, PutsOctets, SettlesAll, TakesOctets, TakesSoFar}

@@ -15,9 +15,9 @@ use Rattle.law_worker.specs.Deeds.{Ascend, Deed, deeds_of}
 use Rattle.law_worker.specs.Order.{Handled, Layout, LiesIn}
 use Rattle.law_lives.proofs.Counting.{none_failed}
 use Rattle.law_one_lane.specs.Alone.{OneLane, ServedAlone}
-use Rattle.law_calls.specs.Visiting.{BeganWith}
+use Rattle.law_worker.specs.Began.{BeganWith}
 use Rattle.law_run_segments.specs.Segment.{HandlesAndPuts, PutsWell}
-use Rattle.frame_workers.specs.Ends.{EndsSegment}
+use Rattle.law_calls.specs.Ends.{EndsSegment}
 use Rattle.unit_session.specs.Putting.{PutsOctets}
 use Rattle.unit_session.specs.Serving.{ServesSegment, served_as}
 use Rattle.unit_session.proofs.Lying.{own_layout, own_lies}

@@ -14,7 +14,7 @@ use Rattle.counter_table.specs.Numbers.{ALL_SHARES}
 use Rattle.shared_unit.specs.Turn.{IsReady}
 use Rattle.law_worker.specs.Begin.{Begin}
 use Rattle.law_worker.specs.Views.{log_of}
-use Rattle.law_calls.specs.Visiting.{BeganWith}
+use Rattle.law_worker.specs.Began.{BeganWith}
 use Rattle.law_run_segments.specs.Doing.{PutsPieces, SettlesWork, octets_put}
 
 -- One worker of the unit, with all shares, which did all that was done.

@@ -16,7 +16,7 @@ use Rattle.unit_image.specs.declared.fault.OpenFault.{OpenFault}
 use Rattle.unit_book.specs.Book.{BookView, IsKept}
 use Rattle.shared_unit.specs.Told.{known_of_book}
 use Rattle.law_worker.specs.Begin.{Begin}
-use Rattle.law_calls.specs.Visiting.{BeganWith}
+use Rattle.law_worker.specs.Began.{BeganWith}
 use Rattle.law_run_ends.specs.declared.end.RunEnd.{RunEnd}
 use Rattle.law_run_ends.specs.Account.{end_answer, end_status}
 use Rattle.law_run_segments.specs.Ending.{Finishes, IsToldEnd}

@@ -9,7 +9,7 @@ ghost use Rattle.counter_table.specs.Worker.{view};
 ghost use Rattle.counter_table.specs.declared.view.View.{View};
 ghost use Rattle.law_worker.specs.Begin.{Begin};
 ghost use Rattle.law_worker.specs.Deeds.{Ascend};
-ghost use Rattle.law_calls.specs.Visiting.{BeganWith};
+ghost use Rattle.law_worker.specs.Began.{BeganWith};
 ghost use Rattle.unit_session.specs.Putting.{IsAlone, OfRun};
 ghost use Rattle.unit_session.specs.Serving.{Comes, end_after, end_of_stop, Goes, Leads, served_as, ServesSegment};
 

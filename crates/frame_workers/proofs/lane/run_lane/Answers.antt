@@ -14,8 +14,8 @@ use Rattle.law_worker.proofs.Handling.{handled_nothing}
 use Rattle.law_one_lane.specs.Alone.{MovedInTurn}
 use Rattle.law_one_lane.proofs.Alone.{turns_nothing}
 use Rattle.law_calls.specs.Answering.{Answered, AnsweredExactly}
-use Rattle.law_calls.specs.Visiting.{BeganWith}
-use Rattle.frame_workers.specs.Ends.{EndsSegment}
+use Rattle.law_worker.specs.Began.{BeganWith}
+use Rattle.law_calls.specs.Ends.{EndsSegment}
 use Rattle.frame_workers.proofs.Steps.{lane_own, lane_other, lane_short, lane_whole, lane_next, lane_step, lane_stop}
 use Rattle.frame_workers.proofs.Exactly.{next_exactly, stop_exactly}
 use Rattle.frame_workers.proofs.Fulls.{full_stays}

@@ -7,7 +7,7 @@ use Rattle.law_worker.specs.Deeds.{Ascend, deeds_of}
 use Rattle.law_worker.specs.Order.{Layout, Handled}
 use Rattle.law_worker.specs.Lanes.{of_lane}
 use Rattle.law_one_lane.specs.Alone.{MovedInTurn}
-use Rattle.law_calls.specs.Visiting.{BeganWith}
+use Rattle.law_worker.specs.Began.{BeganWith}
 use Rattle.frame_workers.proofs.lane.run_lane.Given as goal
 
 abbrev pub invariant-loop-task : goal.invariant-loop-task

@@ -11,7 +11,7 @@ use Rattle.law_worker.specs.Deeds.{deeds_of}
 use Rattle.law_worker.specs.Order.{Handled}
 use Rattle.law_worker.specs.Lanes.{MeetAll, meeting_all, parts_deeds}
 use Rattle.law_one_lane.specs.Alone.{ServedAlone}
-use Rattle.frame_workers.specs.Ends.{EndsSegment}
+use Rattle.law_calls.specs.Ends.{EndsSegment}
 use Rattle.frame_workers.specs.Lanes.{AreAmong, HaveOwnNumbers, HasRun, answers_of, left_at, parts_of}
 use Rattle.frame_workers.proofs.Joins.{each_among}
 use Rattle.frame_workers.proofs.Segments.{slice_whole, by_flag, by_end, stops_same, new_apart, new_ready, joined_shares, all_handled, all_exactly, all_ends}

@@ -1,7 +1,7 @@
 use Rattle.std.proofs.Common.{refl, sym, ◌∙◌, subst, arith}
 use Rattle.record_io.specs.Reading.{SourceSeen, Standing}
 use Rattle.counter_table.specs.Worker.{view}
-use Rattle.law_calls.specs.Visiting.{BeganWith}
+use Rattle.law_worker.specs.Began.{BeganWith}
 use Rattle.law_run_segments.proofs.Looping.{begins_way}
 use Rattle.unit_session.specs.Serving.{Goes}
 use Rattle.unit_session.proofs.Served.{began_with, begin_with}
