@@ -1,7 +1,8 @@
 -- The block cipher AES (FIPS 197, 2023), with keys of 128 and 256 bits. An octet is an element of GF(2^8):
 -- a number whose bit i is the coefficient of x^i. A word is four octets, the first highest. The state
 -- is a list of 16 octets, column by column.
-use Rattle.std.specs.Prelude.{ℕ, zero, suc, ◌+◌, ◌-◌, ◌*◌, ◌/◌, ◌%◌, ◌^◌, ◌==◌, ◌&&◌, if◌then◌else◌, List, [], ◌∷◌, ◌++◌, map, length, slice_index, bit_xor}
+use Rattle.std.specs.Prelude.{ℕ, zero, suc, ◌+◌, ◌-◌, ◌*◌, ◌/◌, ◌%◌, ◌^◌, ◌==◌, ◌&&◌, if◌then◌else◌, List, [], ◌∷◌}
+use Rattle.std.specs.Prelude.{◌++◌, map, length, slice_index, bit_xor}
 use Rattle.std.specs.List.{range_with_len}
 use Rattle.std.specs.Int.{w32, bit_at, rotate_left, to_be_bytes, from_be_bytes}
 

@@ -80,7 +80,8 @@ pub fn first_columns(block: [u8; 16], words: &[u32; 60]) -> [u32; 4]
 // A whole round: `SubBytes`, `ShiftRows`, `MixColumns`, `AddRoundKey`.
 pub fn next_columns(words: &[u32; 60], round: usize, state: [u32; 4]) -> [u32; 4]
     requires { round < 15 }
-    ensures { columns result ≡ add_round_key (mix_columns (shift_rows (sub_bytes (columns state)))) (round_key words.now round) }
+    ensures { columns result ≡ add_round_key (mix_columns (shift_rows (sub_bytes (columns state))))
+        (round_key words.now round) }
 {
     let [a0, a1, a2, a3] = state[0].to_be_bytes();
     let [b0, b1, b2, b3] = state[1].to_be_bytes();

@@ -1,10 +1,14 @@
 -- The codes of answers, and what their details name (profile).
 use Rattle.std.specs.Prelude.{ℕ, ◌==◌, codes, List, [], ◌∷◌, Option, find}
-use Rattle.record_io.specs.declared.code.TheConstants.{ACCEPTED, CHANNEL, CLEAR, COVERAGE, DIRECTION, DONE, END, EXHAUSTED, JOURNAL_FULL, LAYOUT, MAC, NO_MEMORY, NUMBER, PROTECTED, REFUSED, SITE_FAULT, SPI, STATE, STOPPED}
+use Rattle.record_io.specs.declared.code.TheConstants.{ACCEPTED, CHANNEL, CLEAR, COVERAGE, DIRECTION, DONE, END}
+use Rattle.record_io.specs.declared.code.TheConstants.{EXHAUSTED, JOURNAL_FULL, LAYOUT, MAC, NO_MEMORY, NUMBER}
+use Rattle.record_io.specs.declared.code.TheConstants.{PROTECTED, REFUSED, SITE_FAULT, SPI, STATE, STOPPED}
 use Rattle.record_io.specs.declared.status.TheConstants.{MALFORMED, NO_STATE, SOURCE_FAULT}
 use Rattle.record_io.specs.declared.status.TheConstants as statuses
 use Rattle.answer_text.specs.declared.codes.Code.{Code}
-use Rattle.answer_text.specs.declared.codes.Code.TheVariants.{Protected, Accepted, Clear, Done, Refused, Layout, Channel, Spi, Direction, State, Coverage, Mac, Number, Exhausted, JournalFull, SiteFault, Stopped, NoMemory, End}
+use Rattle.answer_text.specs.declared.codes.Code.TheVariants.{Protected, Accepted, Clear, Done, Refused, Layout}
+use Rattle.answer_text.specs.declared.codes.Code.TheVariants.{Channel, Spi, Direction, State, Coverage, Mac, Number}
+use Rattle.answer_text.specs.declared.codes.Code.TheVariants.{Exhausted, JournalFull, SiteFault, Stopped, NoMemory, End}
 
 abbrev pub code_octet : Code → ℕ
 code_octet Protected = PROTECTED
@@ -71,7 +75,8 @@ abbrev pub refusal_details : List (ℕ × List ℕ)
 refusal_details =
     (0x11, codes "AlreadyLoaded") ∷ (0x12, codes "DuplicateKey") ∷ (0x13, codes "BookFull") ∷ (0x14, codes "KeyInState")
     ∷ (0x15, codes "KeyInUse") ∷ (0x16, codes "UnknownKey") ∷ (0x21, codes "UnknownSpi") ∷ (0x22, codes "SpiTaken")
-    ∷ (0x23, codes "SaInState") ∷ (0x24, codes "ChannelTaken") ∷ (0x25, codes "KeyNotActive") ∷ (0x26, codes "BelowFloor")
+    ∷ (0x23, codes "SaInState") ∷ (0x24, codes "ChannelTaken") ∷ (0x25, codes "KeyNotActive")
+    ∷ (0x26, codes "BelowFloor")
     ∷ (0x27, codes "TableFull") ∷ (0x28, codes "WrongSuite") ∷ (0x29, codes "PastEnd") ∷ (0x2a, codes "UnknownChannel")
     ∷ (0x2b, codes "KeyTaken") ∷ (0x31, codes "BadTag") ∷ (0x32, codes "BadItems") ∷ (0x33, codes "Exhausted")
     ∷ (0x34, codes "PduFault") ∷ (0x35, codes "NotMaster") ∷ (0x36, codes "NotSession") ∷ []
@@ -79,4 +84,5 @@ refusal_details =
 -- what the number of End is, by its status; where it is nothing the number is 0
 abbrev pub end_numbers : List (ℕ × List ℕ)
 end_numbers =
-    (MALFORMED, codes "offset") ∷ (SOURCE_FAULT, codes "faults") ∷ (statuses.SITE_FAULT, codes "faults") ∷ (NO_STATE, codes "offset") ∷ []
+    (MALFORMED, codes "offset") ∷ (SOURCE_FAULT, codes "faults") ∷ (statuses.SITE_FAULT, codes "faults")
+    ∷ (NO_STATE, codes "offset") ∷ []

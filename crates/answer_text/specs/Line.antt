@@ -1,12 +1,15 @@
 -- Answers as text, a line an answer (profile).
-use Rattle.std.specs.Prelude.{◌≡◌, ⊤, ℕ, ◌≤◌, ◌==◌, if◌then◌else◌, codes, decimal, List, [], ◌∷◌, ◌++◌, length, IsSomeAnd, MatchOption}
+use Rattle.std.specs.Prelude.{◌≡◌, ⊤, ℕ, ◌≤◌, ◌==◌, if◌then◌else◌, codes, decimal, List, [], ◌∷◌, ◌++◌, length}
+use Rattle.std.specs.Prelude.{IsSomeAnd, MatchOption}
 use Rattle.record_io.specs.declared.answers.Answer.{Answer}
 use Rattle.ep_codec.specs.declared.reply_pdu.ReplyPdu.{ReplyPdu}
 use Rattle.ep_codec.specs.ReplyPdu.{IsReplyPdu}
 use Rattle.ep_codec.specs.Field.{number_at}
 use Rattle.record_io.specs.declared.status.TheConstants.{SESSION_FULL}
 use Rattle.answer_text.specs.declared.codes.Code.{Code}
-use Rattle.answer_text.specs.declared.codes.Code.TheVariants.{Protected, Accepted, Clear, Done, Refused, Layout, Channel, Spi, Direction, State, Coverage, Mac, Number, Exhausted, JournalFull, SiteFault, Stopped, NoMemory, End}
+use Rattle.answer_text.specs.declared.codes.Code.TheVariants.{Protected, Accepted, Clear, Done, Refused, Layout}
+use Rattle.answer_text.specs.declared.codes.Code.TheVariants.{Channel, Spi, Direction, State, Coverage, Mac, Number}
+use Rattle.answer_text.specs.declared.codes.Code.TheVariants.{Exhausted, JournalFull, SiteFault, Stopped, NoMemory, End}
 use Rattle.answer_text.specs.declared.error.TextError.{TextError}
 use Rattle.answer_text.specs.declared.error.TextError.TheVariants as errors
 use Rattle.answer_text.specs.Code.{code_at, code_word, layout_details, state_details, refusal_details, end_numbers}
@@ -16,7 +19,8 @@ use Rattle.answer_text.specs.Words.{named, word_of}
 
 -- a number of a key, and the position by its name
 abbrev pub numbered : Answer → List ℕ → List (List ℕ)
-numbered answer position = named (codes "key") answer.key ++ (named (codes "number") answer.number ++ named position answer.position)
+numbered answer position = named (codes "key") answer.key
+    ++ (named (codes "number") answer.number ++ named position answer.position)
 
 -- there is neither a key nor a body
 pub record IsBare (answer : Answer) : Type 0 where
@@ -39,7 +43,8 @@ window_words body = named (codes "high") (number_at 0 body) ++ named (codes "wid
 
 -- of a command that was done: the reply, and between its name and its values the position and what was drawn
 abbrev pub done_words : Answer → ReplyPdu → List (List ℕ)
-done_words answer reply = reply_name reply ++ (named (codes "entry") answer.position ++ (drawn answer ++ reply_values reply))
+done_words answer reply = reply_name reply ++ (named (codes "entry") answer.position
+    ++ (drawn answer ++ reply_values reply))
 
 -- there is nothing but a number and a position
 pub record IsCounting (answer : Answer) : Type 0 where
@@ -80,7 +85,8 @@ HasValues Stopped answer P = IsCounting answer × P (counting_words answer (code
 HasValues NoMemory answer P = IsPlain answer × (answer.position ≡ 0) × P []
 HasValues End answer P = IsBare answer × (answer.detail ≤ SESSION_FULL)
     × (let words = named (codes "status") answer.detail ++ named (codes "entries") answer.position in
-    MatchOption (word_of end_numbers answer.detail) ((answer.number ≡ 0) × P words) (λ name. P (words ++ named name answer.number)))
+    MatchOption (word_of end_numbers answer.detail) ((answer.number ≡ 0) × P words)
+    (λ name. P (words ++ named name answer.number)))
 
 -- the first words: the number of the record and the code, and of End the code alone
 abbrev pub first_words : ℕ → Code → List (List ℕ)
@@ -89,7 +95,8 @@ first_words index code = decimal index ∷ code_word code ∷ []
 
 -- The answer is one of the formats, and P holds of the words of its line.
 abbrev pub HasLine : ℕ → Answer → (List (List ℕ) → Type 0) → Type 0
-HasLine index answer P = MatchOption (code_at answer.code) ⊥ (λ code. HasValues code answer (λ values. P (first_words index code ++ values)))
+HasLine index answer P = MatchOption (code_at answer.code) ⊥
+    (λ code. HasValues code answer (λ values. P (first_words index code ++ values)))
 
 -- what is answered is want of memory, or that the fact does not hold
 abbrev pub LacksUnlessNoMemory : Type 0 → TextError → Type 0

@@ -1,5 +1,6 @@
 -- The lines of the answers of a source, one after the other (profile).
-use Rattle.std.specs.Prelude.{◌≡◌, ◌≢◌, ⊤, ℕ, ◌+◌, ◌-◌, ◌^◌, ◌==◌, ◌⊎◌, if◌then◌else◌, min, List, [], ◌++◌, length, Option}
+use Rattle.std.specs.Prelude.{◌≡◌, ◌≢◌, ⊤, ℕ, ◌+◌, ◌-◌, ◌^◌, ◌==◌, ◌⊎◌, if◌then◌else◌, min, List, [], ◌++◌, length}
+use Rattle.std.specs.Prelude.{Option}
 use Rattle.record_io.specs.declared.answers.Answer.{Answer}
 use Rattle.record_io.specs.declared.answers.TheConstants.{ANSWER_HEADER}
 use Rattle.record_io.specs.declared.code.TheConstants.{END}

@@ -3,7 +3,10 @@ use Rattle.std.specs.Prelude.{ℕ, codes, decimal, List, [], ◌∷◌, ◌++◌
 use Rattle.std.specs.List.{flat_map}
 use Rattle.sdls_base.specs.declared.states.KeyState.{KeyState}
 use Rattle.ep_codec.specs.declared.reply_pdu.ReplyPdu.{ReplyPdu}
-use Rattle.ep_codec.specs.declared.reply_pdu.ReplyPdu.TheVariants.{Rekeying, Activate, Deactivate, Destroy, Create, Delete, SetWindow, Rekey, Expire, SetNumber, Start, Stop, VerifyGcm, VerifyCmac, Inventory, Compose, ReadNumber, Status}
+use Rattle.ep_codec.specs.declared.reply_pdu.ReplyPdu.TheVariants.{Rekeying, Activate, Deactivate, Destroy, Create}
+use Rattle.ep_codec.specs.declared.reply_pdu.ReplyPdu.TheVariants.{Delete, SetWindow, Rekey, Expire, SetNumber, Start}
+use Rattle.ep_codec.specs.declared.reply_pdu.ReplyPdu.TheVariants.{Stop, VerifyGcm, VerifyCmac, Inventory, Compose}
+use Rattle.ep_codec.specs.declared.reply_pdu.ReplyPdu.TheVariants.{ReadNumber, Status}
 use Rattle.text_words.specs.Words.{octets_word, key_state_word, sa_state_word, direction_word, suite_word}
 use Rattle.answer_text.specs.Words.{named}
 

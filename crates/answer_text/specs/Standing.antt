@@ -24,11 +24,12 @@ StandsBehind header old new nexts.Cut = length old < header.octets
 StandsBehind header old new nexts.Long = ⊥
 StandsBehind header old new nexts.SourceFault = ⊤
 
--- What stood at the front: a whole answer, which was taken; nothing; what is left of answers behind their whole ones, where
--- it is not nothing; or a header that says too many octets.
+-- What stood at the front: a whole answer, which was taken; nothing; what is left of answers behind their whole ones,
+-- where it is not nothing; or a header that says too many octets.
 unfoldable pub Stands : List ℕ → List ℕ → NextAnswer → Type 0
 Stands old new (nexts.Answer answer) = (old ≡ answer_octets answer ++ new) × (length answer.body ≤ MOST_BODY)
 Stands old new nexts.End = old ≡ []
 Stands old new nexts.Cut = (old ≢ []) × ((last : Option Cut) × EndsWith old last)
-Stands old new nexts.Long = (header : Header) × (rest : List ℕ) × (old ≡ header_octets header ++ rest) × (MOST_BODY < header.octets)
+Stands old new nexts.Long = (header : Header) × (rest : List ℕ) × (old ≡ header_octets header ++ rest)
+    × (MOST_BODY < header.octets)
 Stands old new nexts.SourceFault = ⊤

@@ -26,8 +26,8 @@ fn put_first(text: &mut Vec<u8>, index: u64, code: Code) -> Result<(), NoMemory>
     }
 }
 
-/// Puts the line of the answer to the record with this number behind what there is. After an error a front of it may have
-/// been put.
+/// Puts the line of the answer to the record with this number behind what there is. After an error a front of it may
+/// have been put.
 pub fn put_answer(
     alloc: Global,
     text: &mut Vec<u8>,
@@ -35,7 +35,8 @@ pub fn put_answer(
     answer: &Answer,
 ) -> Result<(), TextError>
     // What is put is the line of the answer's words.
-    ensures put { OnOk result (HasLine index answer.now (λ words. text.new.items ≡ text.old.items ++ line_octets words)) }
+    ensures put { OnOk result (HasLine index answer.now
+        (λ words. text.new.items ≡ text.old.items ++ line_octets words)) }
     // Only an answer that is none of the formats has no line, but for want of memory.
     ensures lacks { IfErr result (LacksLine index answer.now) }
 {

@@ -48,7 +48,8 @@ fn put_whole(
     index: u64,
     answer: &Answer,
 ) -> Result<(), TextError>
-    ensures put { OnOk result (HasLine index answer.now (λ words. text.new.items ≡ text.old.items ++ line_octets words)) }
+    ensures put { OnOk result (HasLine index answer.now
+        (λ words. text.new.items ≡ text.old.items ++ line_octets words)) }
     ensures lacks { IfErr result (LacksLine index answer.now) }
     ensures kept { OnErr result (text.new.items ≡ text.old.items) }
 {
@@ -91,7 +92,8 @@ impl Listing {
         text: &mut Vec<u8>,
     ) -> Option<AnswersEnd>
         ensures adds { IsTrue S.told
-            → IfNone result (AddsLine self.old self.new (S.left source.old) (S.left source.new) text.old.items text.new.items) }
+            → IfNone result (AddsLine self.old self.new (S.left source.old) (S.left source.new) text.old.items
+            text.new.items) }
         ensures ends { IsTrue S.told
             → IfSome result (EndsAt self.old.offset (S.left source.old) (S.left source.new)) }
         ensures kept { IfSome result (λ _. text.new.items ≡ text.old.items) }

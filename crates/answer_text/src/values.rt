@@ -4,7 +4,8 @@
 ghost use Rattle.std.specs.Prelude.{◌≡◌, ◌++◌, ◌↔◌, IsTrue, OnOk, IfErr, length};
 ghost use Rattle.answer_text.specs.declared.codes.Code.TheVariants as codes;
 ghost use Rattle.answer_text.specs.Words.{named, spaced};
-ghost use Rattle.answer_text.specs.Line.{HasValues, IsBare, IsCounting, IsPlain, LacksUnlessNoMemory, LacksValues, counting_words, done_words, drawn, numbered, window_words};
+ghost use Rattle.answer_text.specs.Line.{HasValues, IsBare, IsCounting, IsPlain, LacksUnlessNoMemory, LacksValues};
+ghost use Rattle.answer_text.specs.Line.{counting_words, done_words, drawn, numbered, window_words};
 
 use crate::codes::Code;
 use crate::details::{end_number, layout_detail, refusal_detail, state_detail};
@@ -39,7 +40,8 @@ fn put_numbered(text: &mut Vec<u8>, answer: &Answer, position: &[u8]) -> Result<
 }
 
 fn protected(alloc: Global, text: &mut Vec<u8>, answer: &Answer) -> Result<(), TextError>
-    ensures put { OnOk result (HasValues codes.Protected answer.now (λ values. text.new.items ≡ text.old.items ++ spaced values)) }
+    ensures put { OnOk result (HasValues codes.Protected answer.now
+        (λ values. text.new.items ≡ text.old.items ++ spaced values)) }
     ensures lacks { IfErr result (LacksValues codes.Protected answer.now) }
 {
     if answer.detail != 0 {
@@ -51,7 +53,8 @@ fn protected(alloc: Global, text: &mut Vec<u8>, answer: &Answer) -> Result<(), T
 }
 
 fn accepted(alloc: Global, text: &mut Vec<u8>, answer: &Answer) -> Result<(), TextError>
-    ensures put { OnOk result (HasValues codes.Accepted answer.now (λ values. text.new.items ≡ text.old.items ++ spaced values)) }
+    ensures put { OnOk result (HasValues codes.Accepted answer.now
+        (λ values. text.new.items ≡ text.old.items ++ spaced values)) }
     ensures lacks { IfErr result (LacksValues codes.Accepted answer.now) }
 {
     if answer.detail != 0 {
@@ -64,7 +67,8 @@ fn accepted(alloc: Global, text: &mut Vec<u8>, answer: &Answer) -> Result<(), Te
 
 /// Puts the position of an answer that has nothing else, by its name.
 fn plain(text: &mut Vec<u8>, answer: &Answer, position: &[u8]) -> Result<(), TextError>
-    ensures put { OnOk result (IsPlain answer.now × (text.new.items ≡ text.old.items ++ spaced (named position.now answer.now.position))) }
+    ensures put { OnOk result (IsPlain answer.now ×
+        (text.new.items ≡ text.old.items ++ spaced (named position.now answer.now.position))) }
     ensures lacks { IfErr result (LacksUnlessNoMemory (IsPlain answer.now)) }
 {
     if !is_plain(answer) {
@@ -103,7 +107,8 @@ fn put_done(
 }
 
 fn done(alloc: Global, text: &mut Vec<u8>, answer: &Answer) -> Result<(), TextError>
-    ensures put { OnOk result (HasValues codes.Done answer.now (λ values. text.new.items ≡ text.old.items ++ spaced values)) }
+    ensures put { OnOk result (HasValues codes.Done answer.now
+        (λ values. text.new.items ≡ text.old.items ++ spaced values)) }
     ensures lacks { IfErr result (LacksValues codes.Done answer.now) }
 {
     if answer.detail != 0 || answer.key == 0 && answer.number != 0 {
@@ -120,7 +125,8 @@ fn done(alloc: Global, text: &mut Vec<u8>, answer: &Answer) -> Result<(), TextEr
 }
 
 fn refused(text: &mut Vec<u8>, answer: &Answer) -> Result<(), TextError>
-    ensures put { OnOk result (HasValues codes.Refused answer.now (λ values. text.new.items ≡ text.old.items ++ spaced values)) }
+    ensures put { OnOk result (HasValues codes.Refused answer.now
+        (λ values. text.new.items ≡ text.old.items ++ spaced values)) }
     ensures lacks { IfErr result (LacksValues codes.Refused answer.now) }
 {
     if !is_bare(answer) {
@@ -135,7 +141,8 @@ fn refused(text: &mut Vec<u8>, answer: &Answer) -> Result<(), TextError>
 }
 
 fn layout(text: &mut Vec<u8>, answer: &Answer) -> Result<(), TextError>
-    ensures put { OnOk result (HasValues codes.Layout answer.now (λ values. text.new.items ≡ text.old.items ++ spaced values)) }
+    ensures put { OnOk result (HasValues codes.Layout answer.now
+        (λ values. text.new.items ≡ text.old.items ++ spaced values)) }
     ensures lacks { IfErr result (LacksValues codes.Layout answer.now) }
 {
     if !is_bare(answer) || answer.number != 0 {
@@ -150,7 +157,8 @@ fn layout(text: &mut Vec<u8>, answer: &Answer) -> Result<(), TextError>
 }
 
 fn state(text: &mut Vec<u8>, answer: &Answer) -> Result<(), TextError>
-    ensures put { OnOk result (HasValues codes.State answer.now (λ values. text.new.items ≡ text.old.items ++ spaced values)) }
+    ensures put { OnOk result (HasValues codes.State answer.now
+        (λ values. text.new.items ≡ text.old.items ++ spaced values)) }
     ensures lacks { IfErr result (LacksValues codes.State answer.now) }
 {
     if !is_bare(answer) || answer.number != 0 {
@@ -177,7 +185,8 @@ fn put_window(text: &mut Vec<u8>, body: &[u8]) -> Result<(), NoMemory>
 }
 
 fn number(text: &mut Vec<u8>, answer: &Answer) -> Result<(), TextError>
-    ensures put { OnOk result (HasValues codes.Number answer.now (λ values. text.new.items ≡ text.old.items ++ spaced values)) }
+    ensures put { OnOk result (HasValues codes.Number answer.now
+        (λ values. text.new.items ≡ text.old.items ++ spaced values)) }
     ensures lacks { IfErr result (LacksValues codes.Number answer.now) }
 {
     let body = answer.body.as_slice();
@@ -190,7 +199,8 @@ fn number(text: &mut Vec<u8>, answer: &Answer) -> Result<(), TextError>
 }
 
 fn exhausted(text: &mut Vec<u8>, answer: &Answer) -> Result<(), TextError>
-    ensures put { OnOk result (HasValues codes.Exhausted answer.now (λ values. text.new.items ≡ text.old.items ++ spaced values)) }
+    ensures put { OnOk result (HasValues codes.Exhausted answer.now
+        (λ values. text.new.items ≡ text.old.items ++ spaced values)) }
     ensures lacks { IfErr result (LacksValues codes.Exhausted answer.now) }
 {
     if answer.detail != 0 || !answer.body.as_slice().is_empty() {
@@ -202,7 +212,8 @@ fn exhausted(text: &mut Vec<u8>, answer: &Answer) -> Result<(), TextError>
 
 /// Puts the number by its name, and the count of entries.
 fn counting(text: &mut Vec<u8>, answer: &Answer, name: &[u8]) -> Result<(), TextError>
-    ensures put { OnOk result (IsCounting answer.now × (text.new.items ≡ text.old.items ++ spaced (counting_words answer.now name.now))) }
+    ensures put { OnOk result (IsCounting answer.now
+        × (text.new.items ≡ text.old.items ++ spaced (counting_words answer.now name.now))) }
     ensures lacks { IfErr result (LacksUnlessNoMemory (IsCounting answer.now)) }
 {
     if answer.detail != 0 || !is_bare(answer) {
@@ -225,7 +236,8 @@ fn no_memory(answer: &Answer) -> Result<(), TextError>
 }
 
 fn end(text: &mut Vec<u8>, answer: &Answer) -> Result<(), TextError>
-    ensures put { OnOk result (HasValues codes.End answer.now (λ values. text.new.items ≡ text.old.items ++ spaced values)) }
+    ensures put { OnOk result (HasValues codes.End answer.now
+        (λ values. text.new.items ≡ text.old.items ++ spaced values)) }
     ensures lacks { IfErr result (LacksValues codes.End answer.now) }
 {
     if !is_bare(answer) || answer.detail > SESSION_FULL {

@@ -1,5 +1,6 @@
 -- AOS Transfer Frame (CCSDS 732.0-B-4).
-use Rattle.std.specs.Prelude.{◌≡◌, ℕ, ◌+◌, ◌^◌, ◌<◌, ◌≤◌, Bool, List, [], ◌∷◌, ◌++◌, length, Option, option_copied, unwrap_or}
+use Rattle.std.specs.Prelude.{◌≡◌, ℕ, ◌+◌, ◌^◌, ◌<◌, ◌≤◌, Bool, List, [], ◌∷◌, ◌++◌, length, Option, option_copied}
+use Rattle.std.specs.Prelude.{unwrap_or}
 use Rattle.sdls_base.specs.declared.layout.AosLayout.{AosLayout}
 use Rattle.sdls_base.specs.ControlField.{IsControlField}
 use Rattle.sdls_base.specs.Fields.{Field, bit, packed}

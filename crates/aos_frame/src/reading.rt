@@ -1,4 +1,5 @@
-ghost use Rattle.std.specs.Prelude.{◌≡◌, ◌+◌, ◌≤◌, [], ◌++◌, length, take, Some, None, IfOk, IsOkAnd, MatchResult, unwrap_or, option_copied};
+ghost use Rattle.std.specs.Prelude.{◌≡◌, ◌+◌, ◌≤◌, [], ◌++◌, length, take, Some, None, IfOk, IsOkAnd, MatchResult};
+ghost use Rattle.std.specs.Prelude.{unwrap_or, option_copied};
 ghost use Rattle.sdls_base.specs.ErrorControl.{with_error_control};
 ghost use Rattle.aos_frame.specs.AosFrame.{AosParts, AosFrame, IsLayout, view, prefix_of};
 ghost use Rattle.aos_frame.specs.FirstFault.{first_fault};
@@ -10,7 +11,8 @@ use sdls_base::{AosLayout, FrameFault, before_fecf, cut_ocf, fecf_fails, flag};
 /// The octets of the primary header.
 const HEADER: usize = 6;
 
-/// The first check of a frame of the layout that fails: `Short`, `Long`, `Version`, `Spare`, `Fecf`. None where the octets are such a frame.
+/// The first check of a frame of the layout that fails: `Short`, `Long`, `Version`, `Spare`, `Fecf`. None where the
+/// octets are such a frame.
 pub fn fault_of(frame: &[u8], layout: &AosLayout) -> Option<FrameFault>
     requires { IsLayout layout.now }
     ensures { result ≡ first_fault layout.now frame.now }

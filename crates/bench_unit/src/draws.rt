@@ -17,7 +17,15 @@ const END: u64 = 1 << 40;
 pub struct NoBook;
 
 impl Counted for NoBook {
-    ghost told = { λ _. record { marks = 1 ∷ []; log = []; changes = 0; faults = 0; standing = 0; put_faults = 0; opening = unopened } };
+    ghost told = { λ _. record {
+      marks = 1 ∷ [];
+      log = [];
+      changes = 0;
+      faults = 0;
+      standing = 0;
+      put_faults = 0;
+      opening = unopened;
+    } };
 
     fn mark(&self, _row: u16) -> u64 {
         1

@@ -1,11 +1,13 @@
 -- What stands at the places of a body, and when it may stand there (profile).
-use Rattle.std.specs.Prelude.{◌≡◌, ⊤, ℕ, zero, suc, ◌+◌, ◌≤◌, List, [], ◌∷◌, take, drop, slice_index, Option, Result, Ok, Err}
+use Rattle.std.specs.Prelude.{◌≡◌, ⊤, ℕ, zero, suc, ◌+◌, ◌≤◌, List, [], ◌∷◌, take, drop, slice_index, Option, Result}
+use Rattle.std.specs.Prelude.{Ok, Err}
 use Rattle.std.specs.Option.{option_map}
 use Rattle.std.specs.Int.{w16, w64, from_be_bytes}
 use Rattle.sdls_base.specs.Bounds.{AreChannels, IsKeyLength, IsKeyCount}
 use Rattle.sdls_base.specs.Code.{key_state_of, new_state_of, direction_of, suite_of}
 use Rattle.sdls_base.specs.declared.change.Change.{Change}
-use Rattle.sdls_base.specs.declared.change.Change.TheVariants.{Marks, Load, KeyStates, Create, Rekey, SaTo, SetNumber, SetWindow}
+use Rattle.sdls_base.specs.declared.change.Change.TheVariants.{Marks, Load, KeyStates, Create, Rekey, SaTo, SetNumber}
+use Rattle.sdls_base.specs.declared.change.Change.TheVariants.{SetWindow}
 use Rattle.sdls_base.specs.declared.key_item.KeyItem.{KeyItem}
 use Rattle.book_record.specs.declared.kind.Kind.{Kind}
 use Rattle.book_record.specs.declared.kind.Kind.TheVariants as kinds
@@ -111,7 +113,8 @@ MayStand kinds.Load octets = IsKeyCount (octet_at 3 octets) × AreItems (octet_a
 MayStand kinds.KeyStates octets =
     IsWithin 2 4 (octet_at 3 octets) × IsKeyCount (octet_at 4 octets) × AreKeys (octet_at 4 octets) 5 octets
 MayStand kinds.Create octets =
-    IsSpi (word_at 3 octets) × IsWithin 1 2 (octet_at 5 octets) × IsWithin 1 2 (octet_at 6 octets) × AreChannels (channels_at 15 octets)
+    IsSpi (word_at 3 octets) × IsWithin 1 2 (octet_at 5 octets) × IsWithin 1 2 (octet_at 6 octets)
+    × AreChannels (channels_at 15 octets)
 MayStand kinds.Rekey octets = IsSpi (word_at 3 octets) × IsKey (word_at 5 octets)
 MayStand kinds.SaTo octets = IsSpi (word_at 3 octets) × (octet_at 5 octets ≤ 3)
 MayStand kinds.SetNumber octets = IsSpi (word_at 3 octets)

@@ -4,7 +4,8 @@ use Rattle.std.specs.List.{flat_map, All}
 use Rattle.std.specs.Int.{w16, w64, to_be_bytes}
 use Rattle.sdls_base.specs.Bounds.{AreChannels, IsKeyLength, IsKeyCount}
 use Rattle.sdls_base.specs.declared.change.Change.{Change}
-use Rattle.sdls_base.specs.declared.change.Change.TheVariants.{Marks, Load, KeyStates, Create, Rekey, SaTo, SetNumber, SetWindow, Accepted, Nothing}
+use Rattle.sdls_base.specs.declared.change.Change.TheVariants.{Marks, Load, KeyStates, Create, Rekey, SaTo, SetNumber}
+use Rattle.sdls_base.specs.declared.change.Change.TheVariants.{SetWindow, Accepted, Nothing}
 use Rattle.sdls_base.specs.declared.states.KeyState.TheVariants.{PreActive}
 use Rattle.sdls_base.specs.declared.TheConstants.{BODY_LENGTH}
 use Rattle.sdls_base.specs.Code.{key_state_code, new_state_code}
@@ -13,15 +14,18 @@ use Rattle.sdls_base.specs.Spelling.{item_octets, association_octets}
 -- a body: its kind, the length of its data in two octets, its data, zeros to the end
 abbrev pub body_of : ℕ → List ℕ → List ℕ
 body_of kind data_octets =
-    kind ∷ (to_be_bytes w16 (length data_octets) ++ (data_octets ++ replicate (BODY_LENGTH - (3 + length data_octets)) 0))
+    kind ∷ (to_be_bytes w16 (length data_octets) ++
+    (data_octets ++ replicate (BODY_LENGTH - (3 + length data_octets)) 0))
 
 -- the octets that tell the kind, and the data, of each change that is stored
 unfoldable pub record_octets : Change → List ℕ
-record_octets (Marks key mark floor) = body_of 1 (to_be_bytes w16 key ++ (to_be_bytes w64 mark ++ to_be_bytes w64 floor))
+record_octets (Marks key mark floor) = body_of 1
+    (to_be_bytes w16 key ++ (to_be_bytes w64 mark ++ to_be_bytes w64 floor))
 record_octets (Load items) = body_of 2 (length items ∷ flat_map item_octets items)
 record_octets (KeyStates ids to) = body_of 3 (key_state_code to ∷ length ids ∷ flat_map (to_be_bytes w16) ids)
 record_octets (Create new) = body_of 4 (association_octets new)
-record_octets (Rekey spi key number) = body_of 5 (to_be_bytes w16 spi ++ (to_be_bytes w16 key ++ to_be_bytes w64 number))
+record_octets (Rekey spi key number) = body_of 5
+    (to_be_bytes w16 spi ++ (to_be_bytes w16 key ++ to_be_bytes w64 number))
 record_octets (SaTo spi to) = body_of 6 (to_be_bytes w16 spi ++ new_state_code to ∷ [])
 record_octets (SetNumber spi number) = body_of 7 (to_be_bytes w16 spi ++ to_be_bytes w64 number)
 record_octets (SetWindow spi window) = body_of 8 (to_be_bytes w16 spi ++ to_be_bytes w64 window)

@@ -3,9 +3,11 @@
 
 ghost use Rattle.std.specs.Prelude.{◌≡◌, ◌+◌, ◌≤◌, length, IfOk};
 ghost use Rattle.sdls_base.specs.declared.change.Change.{Change};
-ghost use Rattle.book_record.specs.declared.kind.Kind.TheVariants.{Marks, Load, KeyStates, Create, Rekey, SaTo, SetNumber, SetWindow};
+ghost use Rattle.book_record.specs.declared.kind.Kind.TheVariants.{Marks, Load, KeyStates, Create, Rekey, SaTo};
+ghost use Rattle.book_record.specs.declared.kind.Kind.TheVariants.{SetNumber, SetWindow};
 ghost use Rattle.book_record.specs.Record.{IsRecord};
-ghost use Rattle.book_record.specs.Reading.{Judges, IsReadUnlessNoMemory, octet_at, item_at, IsItem, items_in, AreItems, keys_in, AreKeys, change_at, MayStand};
+ghost use Rattle.book_record.specs.Reading.{Judges, IsReadUnlessNoMemory, octet_at, item_at, IsItem, items_in};
+ghost use Rattle.book_record.specs.Reading.{AreItems, keys_in, AreKeys, change_at, MayStand};
 
 use crate::fields::{
     are_channels, count, direction, key, key_length, key_state, number, sa_state, spi, suite,

@@ -1,5 +1,6 @@
 -- The mode CMAC over AES (SP 800-38B), with MACs of 128 bits.
-use Rattle.std.specs.Prelude.{ℕ, zero, suc, ◌-◌, ◌*◌, ◌/◌, ◌%◌, ◌^◌, ◌==◌, if◌then◌else◌, List, ◌∷◌, ◌++◌, length, take, drop, replicate, bit_xor}
+use Rattle.std.specs.Prelude.{ℕ, zero, suc, ◌-◌, ◌*◌, ◌/◌, ◌%◌, ◌^◌, ◌==◌, if◌then◌else◌, List, ◌∷◌, ◌++◌, length, take}
+use Rattle.std.specs.Prelude.{drop, replicate, bit_xor}
 use Rattle.std.specs.Int.{w128, to_be_bytes, from_be_bytes}
 use lib.Lanes.{zip2}
 use Rattle.aes_block.specs.Aes.{encrypted}

@@ -1,5 +1,7 @@
--- Profile: the numbers of the rows, as one worker knows them. A pair is a row with a number, and of a list of pairs the newest is the last.
-use Rattle.std.specs.Prelude.{ℕ, ◌+◌, ◌-◌, ◌==◌, ◌&&◌, max, false, true, nat_lt, List, [], ◌∷◌, ◌++◌, Option, Some, None, if◌then◌else◌}
+-- Profile: the numbers of the rows, as one worker knows them. A pair is a row with a number, and of a list of pairs the
+-- newest is the last.
+use Rattle.std.specs.Prelude.{ℕ, ◌+◌, ◌-◌, ◌==◌, ◌&&◌, max, false, true, nat_lt, List, [], ◌∷◌, ◌++◌, Option, Some}
+use Rattle.std.specs.Prelude.{None, if◌then◌else◌}
 use Rattle.counter_table.specs.declared.view.Numbers.{Numbers}
 
 -- how many pairs are of the row
@@ -29,7 +31,19 @@ is_last row x (Some p) = if (p.0 == row) && (p.1 == x) then 1 else 0
 
 -- a worker that ended, or was never there
 abbrev pub no_numbers : Numbers
-no_numbers = record { shares = 0; armed = None; last = None; peeked = false; drawn = []; spent = []; raised = []; added = []; nexts = []; limits = []; tickets = 0 }
+no_numbers = record {
+  shares = 0;
+  armed = None;
+  last = None;
+  peeked = false;
+  drawn = [];
+  spent = [];
+  raised = [];
+  added = [];
+  nexts = [];
+  limits = [];
+  tickets = 0;
+}
 
 -- the shares of all workers together: as many can there be at one time
 abbrev pub ALL_SHARES : ℕ

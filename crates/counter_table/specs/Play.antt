@@ -1,4 +1,5 @@
--- What each step tells the worker that makes it: of its view and slots before, the word found, and its view and slots after.
+-- What each step tells the worker that makes it: of its view and slots before, the word found, and its view and slots
+-- after.
 use Rattle.std.specs.Prelude.{◌≡◌, ◌≢◌, ℕ, ◌<◌, ◌≤◌, true, List, [], ◌∷◌, Some, None, Option}
 use Rattle.atomic_table.specs.Table.{Me}
 use Rattle.counter_table.specs.declared.view.Known.{Known}
@@ -7,7 +8,8 @@ use Rattle.counter_table.specs.declared.view.Turn.{Turn}
 use Rattle.counter_table.specs.declared.view.View.{View}
 use Rattle.counter_table.specs.Known.{Earlier, IsSparing, known_mark}
 use Rattle.sdls_base.specs.Numbers.{times, once_below}
-use Rattle.counter_table.specs.Numbers.{top, arming, drawing, peeking, raising, lifting, first_numbers, no_numbers, ALL_SHARES}
+use Rattle.counter_table.specs.Numbers.{top, arming, drawing, peeking, raising, lifting, first_numbers, no_numbers}
+use Rattle.counter_table.specs.Numbers.{ALL_SHARES}
 use Rattle.counter_table.specs.Whole.{IsWhole, Look}
 use Rattle.counter_table.specs.Turn.{epoch_seen, taking, giving, filling, learning, seeing, turning, no_turn}
 
@@ -39,10 +41,12 @@ module _ {S : Type 0} where
   raises row number m n w = MovesNumbers m (raising row number n) w × (top row m.0.numbers.nexts ≤ n) × (0 < n)
 
   abbrev pub lifts : ℕ → ℕ → List ℕ → Me S View → ℕ → Me S View → Type 0
-  lifts row mark marks m n w = (w.1 ≡ m.1) × (w.0 ≡ record { numbers = lifting row mark m.0.numbers; turn = learning marks m.0.turn })
+  lifts row mark marks m n w = (w.1 ≡ m.1) × (w.0
+      ≡ record { numbers = lifting row mark m.0.numbers; turn = learning marks m.0.turn })
 
   abbrev pub sees : Me S View → ℕ → Me S View → Type 0
-  sees m n w = MovesTurn m (seeing n) w × (epoch_seen m.0.turn ≤ n) × (m.0.turn.holds ≡ true → n ≡ m.0.turn.known.changes)
+  sees m n w = MovesTurn m (seeing n) w × (epoch_seen m.0.turn ≤ n)
+      × (m.0.turn.holds ≡ true → n ≡ m.0.turn.known.changes)
 
   abbrev pub turns : Me S View → ℕ → Me S View → Type 0
   turns m n w = MovesTurn m turning w × (n ≡ m.0.turn.known.changes)

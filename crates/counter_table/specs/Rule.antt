@@ -1,7 +1,8 @@
 -- Profile: the rule of the counters, which holds between any two steps of any workers.
 -- The words are the turn (0 free, 2 taken), the epoch, and from word ROW_WORDS on ROW_WORDS words for each row.
 -- The first of these is `next`, and the second `limit`.
-use Rattle.std.specs.Prelude.{◌≡◌, ◌⊎◌, ℕ, ◌+◌, ◌*◌, ◌^◌, ◌<◌, ◌≤◌, max, Bool, true, false, List, [], ◌∷◌, length, map, slice_index, Some, None, Option}
+use Rattle.std.specs.Prelude.{◌≡◌, ◌⊎◌, ℕ, ◌+◌, ◌*◌, ◌^◌, ◌<◌, ◌≤◌, max, Bool, true, false, List, [], ◌∷◌, length, map}
+use Rattle.std.specs.Prelude.{slice_index, Some, None, Option}
 use mathlib.Core.Option as slot
 use lib.ListN.{get_elem?}
 use Rattle.atomic_table.specs.Table.{State}
@@ -49,7 +50,8 @@ pub record RowFits (row next limit : ℕ) (views : List Numbers) : Type 0 where
   pub bound : next ≤ max 1 (greatest (λ v. top row v.raised) views) + total (λ v. count_of row v.drawn) views
   pub each : (id : ℕ) (v : Numbers) → get_elem? views id ≡ slot.some v → SeatFits row next limit v
   -- a word that moved is the last one that some worker with a share knows
-  pub last : (next ≡ 1) ⊎ ((id : ℕ) × (v : Numbers) × (get_elem? views id ≡ slot.some v) × (0 < v.shares) × (top row v.nexts ≡ next))
+  pub last : (next ≡ 1) ⊎ ((id : ℕ) × (v : Numbers) × (get_elem? views id ≡ slot.some v) × (0 < v.shares)
+      × (top row v.nexts ≡ next))
 
 -- what a worker knows of its own numbers
 pub record IsSane (v : Numbers) : Type 0 where
@@ -59,7 +61,8 @@ pub record IsSane (v : Numbers) : Type 0 where
 
 pub record NumbersFit (count : ℕ) (words : List ℕ) (views : List Numbers) : Type 0 where
   pub size : length words ≡ ROW_WORDS * count + ROW_WORDS
-  pub rows : (row : ℕ) → row < count → RowFits row (slice_index words (next_at row)) (slice_index words (limit_at row)) views
+  pub rows : (row : ℕ) → row < count → RowFits row (slice_index words (next_at row)) (slice_index words (limit_at row))
+      views
   pub shares : total (λ v. v.shares) views ≡ ALL_SHARES
   pub sane : (id : ℕ) (v : Numbers) → get_elem? views id ≡ slot.some v → IsSane v
 
@@ -83,20 +86,23 @@ pub record IsReached (book : Known) (views : List Turn) : Type 0 where
 
 module _ {B : Type 0} (told : B → Known) where
   -- where the book is
-  pub record IsAtHome (word : ℕ) (homes : List (slot.Option (Option B))) (views : List Turn) (known : Known) (full : Bool) : Type 0 where
+  pub record IsAtHome (word : ℕ) (homes : List (slot.Option (Option B))) (views : List Turn) (known : Known)
+      (full : Bool) : Type 0 where
     pub turn : word ≡ 0
     pub book : (b : B) × (homes ≡ slot.some (Some b) ∷ []) × (told b ≡ known)
     pub free : total (λ v. one_if v.holds) views ≡ 0
     pub filled : full ≡ true
 
-  pub record IsUnfilled (word : ℕ) (homes : List (slot.Option (Option B))) (views : List Turn) (known : Known) (full : Bool) : Type 0 where
+  pub record IsUnfilled (word : ℕ) (homes : List (slot.Option (Option B))) (views : List Turn) (known : Known)
+      (full : Bool) : Type 0 where
     pub turn : word ≡ 0
     pub none : homes ≡ slot.some None ∷ []
     pub free : total (λ v. one_if v.holds) views ≡ 0
     pub filled : full ≡ false
     pub book : known ≡ unknown
 
-  pub record IsOut (word : ℕ) (homes : List (slot.Option (Option B))) (views : List Turn) (known : Known) (full : Bool) : Type 0 where
+  pub record IsOut (word : ℕ) (homes : List (slot.Option (Option B))) (views : List Turn) (known : Known)
+      (full : Bool) : Type 0 where
     pub turn : word ≡ 2
     pub out : homes ≡ slot.none ∷ []
     pub held : total (λ v. one_if v.holds) views ≡ 1
@@ -104,9 +110,11 @@ module _ {B : Type 0} (told : B → Known) where
     pub book : full ≡ false → known ≡ unknown
 
   -- the turn, the epoch and the limits fit the book and what each worker knows of it
-  pub record TurnFits (count : ℕ) (words : List ℕ) (homes : List (slot.Option (Option B))) (views : List Turn) (book : Known) (filled : Bool) : Type 0 where
+  pub record TurnFits (count : ℕ) (words : List ℕ) (homes : List (slot.Option (Option B))) (views : List Turn)
+      (book : Known) (filled : Bool) : Type 0 where
     pub place : IsAtHome (slice_index words 0) homes views book filled
-        ⊎ (IsUnfilled (slice_index words 0) homes views book filled ⊎ IsOut (slice_index words 0) homes views book filled)
+        ⊎ (IsUnfilled (slice_index words 0) homes views book filled
+        ⊎ IsOut (slice_index words 0) homes views book filled)
     pub epoch : slice_index words 1 ≡ book.changes
     pub limits : (row : ℕ) → row < count → slice_index words (limit_at row) ≤ known_mark book row
     -- all places of the log, each made once

@@ -1,5 +1,6 @@
 -- Profile: the book and the turn, as one worker knows them.
-use Rattle.std.specs.Prelude.{ℕ, zero, suc, ◌+◌, ◌-◌, ◌==◌, ◌&&◌, ◌||◌, max, Bool, true, false, List, [], ◌∷◌, ◌++◌, Option, is_none, length, if◌then◌else◌}
+use Rattle.std.specs.Prelude.{ℕ, zero, suc, ◌+◌, ◌-◌, ◌==◌, ◌&&◌, ◌||◌, max, Bool, true, false, List, [], ◌∷◌, ◌++◌}
+use Rattle.std.specs.Prelude.{Option, is_none, length, if◌then◌else◌}
 use Rattle.counter_table.specs.declared.view.Known.{Known}
 use Rattle.counter_table.specs.declared.view.Turn.{Turn}
 use Rattle.counter_table.specs.Known.{unknown, later}
@@ -19,7 +20,16 @@ abbrev pub epoch_seen : Turn → ℕ
 epoch_seen v = max v.epoch v.known.changes
 
 abbrev pub no_turn : Turn
-no_turn = record { holds = false; filled = false; turns = 0; epoch = 0; known = unknown; made = []; one = unknown; other = unknown }
+no_turn = record {
+  holds = false;
+  filled = false;
+  turns = 0;
+  epoch = 0;
+  known = unknown;
+  made = [];
+  one = unknown;
+  other = unknown;
+}
 
 -- after the first book was filled in
 abbrev pub filling : Known → Turn → Turn
@@ -32,7 +42,12 @@ taking book v = record v { holds = true; turns = v.turns + 1; known = book }
 -- after this book was given back. The places that were added to its log since the take are this worker's
 abbrev pub giving : Known → Turn → Turn
 giving book v =
-    record v { holds = false; known = book; made = v.made ++ places (length v.known.log) (length book.log - length v.known.log) }
+    record v {
+      holds = false;
+      known = book;
+      made = v.made
+          ++ places (length v.known.log) (length book.log - length v.known.log);
+    }
 
 -- after a limit was lifted, to the mark of a held book with these marks
 abbrev pub learning : List ℕ → Turn → Turn
@@ -60,7 +75,8 @@ merged v w =
       made = v.made ++ w.made;
       one = v.known;
       other = w.known;
-      known = if v.holds then v.known else later (if v.filled then v.known.opening else w.known.opening) v.known w.known;
+      known = if v.holds then v.known else later (if v.filled then v.known.opening else w.known.opening) v.known
+          w.known;
     }
 
 -- the slots of a worker: the book's place, empty, while it holds the turn

@@ -8,13 +8,15 @@ use crate::view::View;
 use atomic_table::{Seat, Table};
 use std::alloc::Global;
 
-/// For each row a word `next` and a word `limit`, each row on cache lines of its own, the word `epoch`, the turn, and a book.
+/// For each row a word `next` and a word `limit`, each row on cache lines of its own, the word `epoch`, the turn, and a
+/// book.
 pub struct Counters<B: Counted> {
     pub(crate) table: Table<Option<B>, View, u16, Rule, Global>,
     pub(crate) rows: u16,
     // Room for the words `next` at the end.
     pub(crate) room: Vec<u64>,
-    ghost sized: { (table.shared.table_id.words ≡ ROW_WORDS * rows + ROW_WORDS) × (table.shared.table_id.slots ≡ 1) × (table.shared.key ≡ rows) × (0 < rows) },
+    ghost sized: { (table.shared.table_id.words ≡ ROW_WORDS * rows + ROW_WORDS) × (table.shared.table_id.slots ≡ 1)
+        × (table.shared.key ≡ rows) × (0 < rows) },
     ghost roomy: { (room.items ≡ []) × (rows ≤ vec_capacity room) },
 }
 

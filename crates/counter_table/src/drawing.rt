@@ -1,4 +1,5 @@
-//! The way of a number: a row is armed, the number is drawn, and it is spent below the limit. Each call is one step on one word.
+//! The way of a number: a row is armed, the number is drawn, and it is spent below the limit. Each call is one step on
+//! one word.
 ghost use Rattle.std.specs.Prelude.{◌≡◌, ◌+◌, ◌*◌, ◌<◌, ◌≤◌, ◌^◌, ℕ, Some, MatchResult};
 ghost use Rattle.counter_table.specs.Numbers.{arming, drawing, peeking, spending, returning, top};
 ghost use Rattle.counter_table.specs.Rule.{next_at, limit_at};
@@ -71,7 +72,8 @@ impl<B: Counted> Counters<B> {
         // Of the limit n that was found, which is no less than any that the worker saw before.
         ensures found { (n : ℕ) × (top ticket.0 (view worker.old).numbers.limits ≤ n)
             × ((view worker.new).numbers ≡ peeking ticket.0 ticket.1 n (view worker.old).numbers)
-            × MatchResult result (λ funded. (funded ≡ ticket) × (ticket.1 < n)) (λ back. (back ≡ ticket) × (n ≤ ticket.1)) }
+            × MatchResult result (λ funded. (funded ≡ ticket) × (ticket.1 < n))
+            (λ back. (back ≡ ticket) × (n ≤ ticket.1)) }
     {
         let Ticket { row, number } = ticket;
         let limit = self.load_to_peek::<Brand>(worker, row, number);

@@ -7,7 +7,8 @@ ghost use Rattle.counter_table.specs.Known.{known_mark};
 ghost use Rattle.counter_table.specs.Numbers.{newcomer, keeper, joined};
 ghost use Rattle.counter_table.specs.Turn.{beginner, merged};
 ghost use Rattle.counter_table.specs.Rule.{IsKept};
-ghost use Rattle.counter_table.specs.Play.{first_view, no_view, arms, draws, peeks, raises, lifts, sees, turns, looks, takes, gives, empties, fills};
+ghost use Rattle.counter_table.specs.Play.{first_view, no_view, arms, draws, peeks, raises, lifts, sees, turns, looks};
+ghost use Rattle.counter_table.specs.Play.{takes, gives, empties, fills};
 
 use crate::view::View;
 use atomic_table::{Join, Play, Split, TableRule};

@@ -1,5 +1,6 @@
 //! The beginning and the end of the counters, and the shares of their workers.
-ghost use Rattle.std.specs.Prelude.{◌≡◌, ◌+◌, ◌*◌, ◌<◌, ◌≤◌, ℕ, false, true, Some, IfOk, replicate, slice_set, slice_index, length, vec_capacity, []};
+ghost use Rattle.std.specs.Prelude.{◌≡◌, ◌+◌, ◌*◌, ◌<◌, ◌≤◌, ℕ, false, true, Some, IfOk, replicate, slice_set};
+ghost use Rattle.std.specs.Prelude.{slice_index, length, vec_capacity, []};
 ghost use mathlib.Core.Option.{some};
 ghost use lib.ListN.{get_elem?};
 ghost use Rattle.std.specs.Mem.Slots.{slots_items, slots_len, IsFull};
@@ -22,7 +23,8 @@ use std::marker::Brand;
 
 // The words at the start: turn and epoch are 0, and each row begins with 1.
 fn first_words(alloc: Global, rows: u16) -> Result<Vec<u64>, AllocError>
-    ensures { IfOk result (λ words. words.items ≡ slice_set (slice_set (replicate (ROW_WORDS * rows + ROW_WORDS) 1) 0 0) 1 0) }
+    ensures { IfOk result (λ words. words.items ≡ slice_set (slice_set (replicate (ROW_WORDS * rows + ROW_WORDS) 1) 0 0)
+        1 0) }
 {
     let mut words = Vec::from_elem(alloc, 1, ROW_WORDS * usize::from(rows) + ROW_WORDS)?;
     words[0] = 0;
@@ -31,7 +33,8 @@ fn first_words(alloc: Global, rows: u16) -> Result<Vec<u64>, AllocError>
 }
 
 impl<B: Counted> Counters<B> {
-    /// Counters of so many rows, each with `next` and `limit` 1, with no book yet, and the first worker, which has all shares.
+    /// Counters of so many rows, each with `next` and `limit` 1, with no book yet, and the first worker, which has all
+    /// shares.
     pub fn new(alloc: Global, rows: u16) -> Result<(Counters<B>, Worker<B>), NoMemory>
         requires { 0 < rows }
         ensures { IfOk result (λ made. (rows_of made.0 ≡ rows) × IsOf made.0 made.1 × (view made.1 ≡ first_view)) }
@@ -47,9 +50,17 @@ impl<B: Counted> Counters<B> {
         requires own { IsOf self.now worker.old }
         requires two { 1 < (view worker.old).numbers.shares }
         ensures same { IsSame worker.old worker.new }
-        ensures keeper { view worker.new ≡ record { numbers = keeper (view worker.old).numbers; turn = (view worker.old).turn } }
+        ensures keeper { view worker.new ≡ record {
+          numbers = keeper (view worker.old).numbers;
+          turn =
+              (view worker.old).turn;
+        } }
         ensures own { IsOf self.now result }
-        ensures newcomer { view result ≡ record { numbers = newcomer (view worker.old).numbers; turn = beginner (view worker.old).turn } }
+        ensures newcomer { view result ≡ record {
+          numbers = newcomer (view worker.old).numbers;
+          turn = beginner
+              (view worker.old).turn;
+        } }
     {
         let seat = self.table.shared.split_seat::<Shares>(&mut worker.seat);
         Worker { seat }
@@ -122,7 +133,8 @@ fn nexts_of<S>(closed: &Closed<S, Global>, rows: u16, mut room: Vec<u64>) -> Vec
     requires full { IsFull closed.now.words }
     requires room { (room.items ≡ []) × (rows ≤ vec_capacity room) }
     ensures rows { length result.items ≡ rows }
-    ensures nexts { (row : ℕ) → row < rows → slice_index result.items row ≡ slice_index (slots_items closed.now.words) (next_at row) }
+    ensures nexts { (row : ℕ) → row < rows → slice_index result.items row
+        ≡ slice_index (slots_items closed.now.words) (next_at row) }
 {
     for row in 0..rows {
         room.push_reserved(closed.word(next_word(row)));

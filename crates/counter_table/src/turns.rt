@@ -53,7 +53,8 @@ impl<B: Counted> Counters<B> {
         ensures covered { IsCovered (rows_of self.now) (view worker.old).numbers (B.told result.book) }
 
         // Who has all shares finds the book as it was known.
-        ensures as_known { (view worker.old).numbers.shares ≡ ALL_SHARES → IsAsKnown (view worker.old).turn (B.told result.book) }
+        ensures as_known { (view worker.old).numbers.shares ≡ ALL_SHARES
+            → IsAsKnown (view worker.old).turn (B.told result.book) }
     {
         self.seize::<Brand, R>(rt, &mut worker.seat, self.rows);
         let book = self.lift_out(&mut worker.seat);
@@ -84,7 +85,8 @@ impl<B: Counted> Counters<B> {
         requires filled { (view worker.old).turn.filled ≡ true }
         requires marks { LowersNoMark (view worker.old).turn.known (B.told held.now.book) }
         ensures same { IsSame worker.old worker.new }
-        ensures numbers { (view worker.new).numbers ≡ lifting row (known_mark (B.told held.now.book) row) (view worker.old).numbers }
+        ensures numbers { (view worker.new).numbers ≡ lifting row (known_mark (B.told held.now.book) row)
+            (view worker.old).numbers }
         ensures turn { (view worker.new).turn ≡ learning (B.told held.now.book).marks (view worker.old).turn }
     {
         let mark = held.book.mark(row);

@@ -46,8 +46,8 @@ impl Model for Trail {
     ghost view = { λ _. no_trace };
 }
 
-/// What a run began with: the image as it was read, the plan that it holds and the state that it shows; and of the site, as
-/// the opening left it, what it held until then and the count of faults.
+/// What a run began with: the image as it was read, the plan that it holds and the state that it shows; and of the
+/// site, as the opening left it, what it held until then and the count of faults.
 pub struct Opening {
     pub image: LinkedList<u8>,
     pub plan: Plan,

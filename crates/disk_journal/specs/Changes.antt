@@ -1,5 +1,6 @@
 -- What a crash at a moment of a call may leave of an image (profile).
-use Rattle.std.specs.Prelude.{◌≡◌, ◌≢◌, ℕ, ◌+◌, ◌<◌, ◌≤◌, ◌⊎◌, List, [], ◌∷◌, ◌++◌, length, None, slice_index, slice_set}
+use Rattle.std.specs.Prelude.{◌≡◌, ◌≢◌, ℕ, ◌+◌, ◌<◌, ◌≤◌, ◌⊎◌, List, [], ◌∷◌, ◌++◌, length, None, slice_index}
+use Rattle.std.specs.Prelude.{slice_set}
 use Rattle.sdls_outside.specs.Moments.{Trace, EachMoment}
 use Rattle.sdls_outside.specs.Site.{Synced}
 use Rattle.disk_journal.specs.declared.layout.TheConstants.{SLOT_LENGTH, CLOSED}

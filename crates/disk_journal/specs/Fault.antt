@@ -1,9 +1,12 @@
 -- The checks that opening makes of an image, in their order, each with the offset that a refusal names (profile).
-use Rattle.std.specs.Prelude.{ℕ, zero, suc, ◌+◌, ◌-◌, ◌==◌, ◌||◌, not, nat_lt, List, [], ◌∷◌, ◌++◌, length, drop, slice_index, slice_range, Option}
+use Rattle.std.specs.Prelude.{ℕ, zero, suc, ◌+◌, ◌-◌, ◌==◌, ◌||◌, not, nat_lt, List, [], ◌∷◌, ◌++◌, length, drop}
+use Rattle.std.specs.Prelude.{slice_index, slice_range, Option}
 use Rattle.std.specs.List.{list_any}
 use Rattle.std.specs.Str.{bytes_eq}
 use Rattle.sdls_base.specs.FirstFailing.{Check, first_failing}
-use Rattle.disk_journal.specs.declared.layout.TheConstants.{HEADER_LENGTH, PLAN_ROOM, LEAST_SLOTS, MOST_SLOTS, MAGIC, MAGIC_AT, PLAN_LENGTH_AT, SLOT_COUNT_AT, ZEROS_AT, OPEN, CLOSED}
+use Rattle.disk_journal.specs.declared.layout.TheConstants.{HEADER_LENGTH, PLAN_ROOM, LEAST_SLOTS, MOST_SLOTS, MAGIC}
+use Rattle.disk_journal.specs.declared.layout.TheConstants.{MAGIC_AT, PLAN_LENGTH_AT, SLOT_COUNT_AT, ZEROS_AT, OPEN}
+use Rattle.disk_journal.specs.declared.layout.TheConstants.{CLOSED}
 use Rattle.disk_journal.specs.Slots.{slot_at, gate_at}
 use Rattle.disk_journal.specs.Image.{header_of, plan_length_in, slot_count_in, slot_count, first_closed}
 

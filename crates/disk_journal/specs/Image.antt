@@ -1,7 +1,8 @@
 -- What an image says (profile): the fields of its header, its plan and its records.
 use Rattle.std.specs.Prelude.{◌≡◌, ◌≢◌, ℕ, ◌<◌, List, [], ◌∷◌, ◌++◌, length, take, drop, slice_index, slice_set}
 use Rattle.byteorder.specs.Endian.{big_number}
-use Rattle.disk_journal.specs.declared.layout.TheConstants.{HEADER_LENGTH, PLAN_LENGTH_AT, SLOT_COUNT_AT, FIELD_LENGTH, OPEN, CLOSED}
+use Rattle.disk_journal.specs.declared.layout.TheConstants.{HEADER_LENGTH, PLAN_LENGTH_AT, SLOT_COUNT_AT, FIELD_LENGTH}
+use Rattle.disk_journal.specs.declared.layout.TheConstants.{OPEN, CLOSED}
 use Rattle.disk_journal.specs.Slots.{slot_at, gate_at, body_at, gated}
 
 abbrev pub header_of : List ℕ → List ℕ
@@ -47,11 +48,13 @@ record_at image index = slot_at index
 
 -- A closed gate that is not 0 stands here: that of the first closed slot, where a slot is closed.
 abbrev pub IsClosedGate : List ℕ → ℕ → Type 0
-IsClosedGate image at = (slice_index image at ≢ CLOSED) × (first_closed image < slot_count image) × (at ≡ slot_at (first_closed image))
+IsClosedGate image at = (slice_index image at ≢ CLOSED) × (first_closed image < slot_count image)
+    × (at ≡ slot_at (first_closed image))
 
 -- the image with one closed gate opened
 abbrev pub IsOpenedForm : List ℕ → List ℕ → Type 0
-IsOpenedForm image form = (at : ℕ) × IsClosedGate image at × (slice_index image at ≢ OPEN) × (form ≡ slice_set image at OPEN)
+IsOpenedForm image form = (at : ℕ) × IsClosedGate image at × (slice_index image at ≢ OPEN)
+    × (form ≡ slice_set image at OPEN)
 
 -- no closed gate is other than 0
 abbrev pub IsAtRest : List ℕ → Type 0

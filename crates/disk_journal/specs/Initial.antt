@@ -10,10 +10,12 @@ use Rattle.disk_journal.specs.Changes.{AllBut, EachImage}
 unfoldable pub zeros : ℕ → List ℕ
 zeros n = replicate n 0
 
--- the gate, the magic, the length of the plan, the slots, and zeros to the header's end; the plan; zeros to the image's end
+-- the gate, the magic, the length of the plan, the slots, and zeros to the header's end; the plan; zeros to the image's
+-- end
 unfoldable pub empty_image : ℕ → List ℕ → ℕ → List ℕ
 empty_image gate plan slots =
-    ((gate ∷ MAGIC) ++ big_bytes FIELD_LENGTH (length plan) ++ big_bytes FIELD_LENGTH slots ++ zeros (HEADER_LENGTH - ZEROS_AT))
+    ((gate ∷ MAGIC) ++ big_bytes FIELD_LENGTH (length plan) ++ big_bytes FIELD_LENGTH slots
+    ++ zeros (HEADER_LENGTH - ZEROS_AT))
     ++ plan ++ zeros (slot_at slots - (HEADER_LENGTH + length plan))
 
 -- the image that a journal begins with

@@ -47,7 +47,8 @@ Stands before now (Err (Full slots)) = now ≡ before
 Stands before now (Err (Image offset)) = now ≡ before
 
 -- the count of faults never falls, and stands but after a fault of the site; a fault that is answered has its cause
-pub record HasFault {T : Type 0} (before now : ℕ) (full image : ℕ → Type 0) (result : Result T JournalFault) : Type 0 where
+pub record HasFault {T : Type 0} (before now : ℕ) (full image : ℕ → Type 0)
+    (result : Result T JournalFault) : Type 0 where
   pub later : before ≤ now
   pub stood : Stands before now result
   pub cause : IfErr result (IsCause before now full image)

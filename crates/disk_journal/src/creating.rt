@@ -53,7 +53,8 @@ fn fill_fields(fields: &mut [u8], plan_length: u32, slots: u32)
 /// Writes the header from its magic to its last number.
 fn write_fields<O: Site>(site: &mut O, plan_length: u32, slots: u32) -> Result<(), Failed>
     requires { IsTrue O.told → MAGIC_AT ≤ length (O.trace site.old).now.image }
-    ensures written { IsTrue O.told → Writes MAGIC_AT (MAGIC ++ big_bytes FIELD_LENGTH plan_length ++ big_bytes FIELD_LENGTH slots)
+    ensures written { IsTrue O.told → Writes MAGIC_AT
+        (MAGIC ++ big_bytes FIELD_LENGTH plan_length ++ big_bytes FIELD_LENGTH slots)
         result (O.trace site.old) (O.trace site.new) }
     ensures cause { HasCause (O.faults site.old) (O.faults site.new) result }
     ensures puts { O.put_faults site.new ≡ O.put_faults site.old }
@@ -88,7 +89,8 @@ fn write_image<O: Site>(site: &mut O, plan: &[u8], slots: u32) -> Result<(), Fai
     requires most { slots ≤ MOST_SLOTS }
     ensures created { IsTrue O.told → OnOk result (IsSynced (O.trace site.new).now
         × ((O.trace site.new).now.image ≡ initial_image plan.now slots)) }
-    ensures any_moment { IsTrue O.told → ((mid : Trace) × IsLaid plan.now slots (O.trace site.old) mid (O.trace site.new)) }
+    ensures any_moment { IsTrue O.told → ((mid : Trace)
+        × IsLaid plan.now slots (O.trace site.old) mid (O.trace site.new)) }
     ensures cause { HasCause (O.faults site.old) (O.faults site.new) result }
     ensures puts { O.put_faults site.new ≡ O.put_faults site.old }
 {
@@ -107,7 +109,8 @@ pub fn create<O: Site>(site: &mut O, plan: &[u8], slots: u32) -> Result<(), Jour
         × ((O.trace site.new).now.image ≡ initial_image plan.now slots)) }
 
     // The gate of the header is written once all else is on the disk.
-    ensures any_moment { IsTrue O.told → ((mid : Trace) × IsLaid plan.now slots (O.trace site.old) mid (O.trace site.new)) }
+    ensures any_moment { IsTrue O.told → ((mid : Trace)
+        × IsLaid plan.now slots (O.trace site.old) mid (O.trace site.new)) }
     ensures fault { HasSiteFault (O.faults site.old) (O.faults site.new) result }
     ensures puts { O.put_faults site.new ≡ O.put_faults site.old }
 {

@@ -67,7 +67,8 @@ pub(crate) fn read_header(header: &[u8], image_length: u64) -> Result<Header, u6
     ensures checked { MatchResult result (λ _. first_failing (header_checks header.now image_length) ≡ None)
         (λ offset. first_failing (header_checks header.now image_length) ≡ Some offset) }
     ensures found { MatchResult result (λ found. (found.plan_length ≡ plan_length_in header.now)
-        × (found.slots ≡ slot_count_in header.now) × (found.plan_length ≤ PLAN_ROOM) × (found.slots ≤ MOST_SLOTS)) (λ _. Unit {0}) }
+        × (found.slots ≡ slot_count_in header.now) × (found.plan_length ≤ PLAN_ROOM) × (found.slots ≤ MOST_SLOTS))
+        (λ _. Unit {0}) }
 {
     match header_fault(header, image_length) {
         Some(offset) => Err(offset),

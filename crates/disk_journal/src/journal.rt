@@ -1,5 +1,6 @@
 // The journal.
-ghost use Rattle.std.specs.Prelude.{◌≡◌, ℕ, ◌+◌, ◌<◌, ◌≤◌, ◌↔◌, IsTrue, IfOk, OnOk, OnErr, slice_get, List, length, take, [], ◌∷◌, ◌++◌};
+ghost use Rattle.std.specs.Prelude.{◌≡◌, ℕ, ◌+◌, ◌<◌, ◌≤◌, ◌↔◌, IsTrue, IfOk, OnOk, OnErr, slice_get, List, length};
+ghost use Rattle.std.specs.Prelude.{take, [], ◌∷◌, ◌++◌};
 ghost use Rattle.sdls_outside.specs.Disk.{Leaves};
 ghost use Rattle.disk_journal.specs.Image.{records, plan_of, record_at, held, grown};
 ghost use Rattle.disk_journal.specs.Fault.{image_fault};
@@ -31,9 +32,15 @@ impl Model for Journal {
 
     ghost Value = { JournalView };
 
-    ghost view = { λ journal. record { plan_length = journal.plan_length; slots = journal.slots; used = journal.used } };
+    ghost view = { λ journal. record {
+      plan_length = journal.plan_length;
+      slots = journal.slots;
+      used =
+          journal.used;
+    } };
 
-    ghost invariant = { λ journal. (journal.plan_length ≤ PLAN_ROOM) × (journal.used ≤ journal.slots) × (journal.slots ≤ MOST_SLOTS) };
+    ghost invariant = { λ journal. (journal.plan_length ≤ PLAN_ROOM) × (journal.used ≤ journal.slots)
+        × (journal.slots ≤ MOST_SLOTS) };
 }
 
 impl Journal {
@@ -50,7 +57,8 @@ impl Journal {
 
         // Whatever the answer, nothing is written and nothing is sunk.
         ensures unchanged { IsTrue O.told → OnlySyncs (O.trace site.old) (O.trace site.new) }
-        ensures any_moment { IsTrue O.told → EachImage (O.trace site.old) (O.trace site.new) (Leaves (O.trace site.old).now) }
+        ensures any_moment { IsTrue O.told → EachImage (O.trace site.old) (O.trace site.new)
+            (Leaves (O.trace site.old).now) }
         ensures puts { O.put_faults site.new ≡ O.put_faults site.old }
     {
         match inspect_synced(site) {
@@ -65,11 +73,14 @@ impl Journal {
     pub fn settle<O: Site>(&self, site: &mut O) -> Result<(), JournalFault>
         requires { IsTrue O.told → IsOpen (O.trace site.old) self.now }
         ensures settled { IsTrue O.told → OnOk result (IsSettled (O.trace site.new) self.now) }
-        ensures holds { IsTrue O.told → OnOk result (held (O.trace site.new).now.image ≡ held (O.trace site.old).now.image) }
-        ensures records { IsTrue O.told → OnOk result (records (O.trace site.new).now.image ≡ records (O.trace site.old).now.image) }
+        ensures holds { IsTrue O.told → OnOk result (held (O.trace site.new).now.image
+            ≡ held (O.trace site.old).now.image) }
+        ensures records { IsTrue O.told → OnOk result
+            (records (O.trace site.new).now.image ≡ records (O.trace site.old).now.image) }
 
         // A crash at any moment leaves the image but for its closed gate, if that is not 0.
-        ensures any_moment { IsTrue O.told → EachImage (O.trace site.old) (O.trace site.new) (Settles (O.trace site.old).now.image) }
+        ensures any_moment { IsTrue O.told → EachImage (O.trace site.old) (O.trace site.new)
+            (Settles (O.trace site.old).now.image) }
         ensures fault { HasSiteFault (O.faults site.old) (O.faults site.new) result }
         ensures puts { O.put_faults site.new ≡ O.put_faults site.old }
     {
@@ -84,7 +95,8 @@ impl Journal {
     pub fn plan_text<O: Site>(&self, site: &mut O, out: &mut [u8]) -> Result<usize, JournalFault>
         requires room { length out.old ≡ PLAN_ROOM }
         requires opened { IsTrue O.told → IsOpen (O.trace site.old) self.now }
-        ensures text { IsTrue O.told → IfOk result (λ count. take count out.new ≡ plan_of (O.trace site.old).now.image) }
+        ensures text { IsTrue O.told → IfOk result (λ count. take count out.new
+            ≡ plan_of (O.trace site.old).now.image) }
         ensures within { IfOk result (λ count. count ≤ PLAN_ROOM) }
         ensures same { IsTrue O.told → O.trace site.new ≡ O.trace site.old }
         ensures fault { HasSiteFault (O.faults site.old) (O.faults site.new) result }
@@ -101,7 +113,8 @@ impl Journal {
     pub fn body<O: Site>(&self, site: &mut O, index: u32) -> Result<[u8; BODY_LENGTH], JournalFault>
         requires below { index < self.now.used }
         requires opened { IsTrue O.told → IsOpen (O.trace site.old) self.now }
-        ensures body { IsTrue O.told → IfOk result (λ body. slice_get (records (O.trace site.old).now.image) index ≡ Some body) }
+        ensures body { IsTrue O.told → IfOk result (λ body. slice_get (records (O.trace site.old).now.image) index
+            ≡ Some body) }
         ensures same { IsTrue O.told → O.trace site.new ≡ O.trace site.old }
         ensures fault { HasSiteFault (O.faults site.old) (O.faults site.new) result }
         ensures puts { O.put_faults site.new ≡ O.put_faults site.old }

@@ -1,6 +1,7 @@
 // Laws of images: each function is a statement about the definitions, and does nothing.
 ghost use Rattle.std.specs.Prelude.{◌≡◌, ◌≢◌, ℕ, ◌+◌, ◌<◌, ◌≤◌, List, length, None};
-ghost use Rattle.disk_journal.specs.Image.{plan_of, slot_count, records, first_closed, IsHalfOpen, IsAtRest, regated, opened_form};
+ghost use Rattle.disk_journal.specs.Image.{plan_of, slot_count, records, first_closed, IsHalfOpen, IsAtRest, regated};
+ghost use Rattle.disk_journal.specs.Image.{opened_form};
 ghost use Rattle.disk_journal.specs.Fault.{image_fault};
 ghost use Rattle.disk_journal.specs.Slots.{slot_at};
 ghost use Rattle.disk_journal.specs.Changes.{AllBut};
@@ -30,7 +31,8 @@ pub fn regated_image_opens()
         → (plan_of (regated image octet) ≡ plan_of image) × (slot_count (regated image octet) ≡ slot_count image) }
 {}
 
-/// Law: two images of which one opens, and that differ in a slot alone, have the same plan and the same number of slots.
+/// Law: two images of which one opens, and that differ in a slot alone, have the same plan and the same number of
+/// slots.
 pub fn slots_keep_plan()
     ensures { (old new : List ℕ) (i : ℕ) → image_fault old ≡ None → AllBut (slot_at i) SLOT_LENGTH old new
         → (plan_of new ≡ plan_of old) × (slot_count new ≡ slot_count old) }

@@ -38,7 +38,8 @@ pub(crate) fn store_record<O: Site>(
     requires synced { IsTrue O.told → IsSynced (O.trace site.old).now }
     requires within { IsTrue O.told → at + SLOT_LENGTH ≤ length (O.trace site.old).now.image }
     ensures stored { IsTrue O.told → OnOk result (IsSynced (O.trace site.new).now
-        × ((O.trace site.new).now.image ≡ overwritten (overwritten (O.trace site.old).now.image (at + 1) body.now) at (OPEN ∷ []))) }
+        × ((O.trace site.new).now.image ≡ overwritten (overwritten (O.trace site.old).now.image (at + 1) body.now) at
+        (OPEN ∷ []))) }
     ensures any_moment { IsTrue O.told → EachImage (O.trace site.old) (O.trace site.new) (λ image.
         AllBut (at + 1) BODY_LENGTH (O.trace site.old).now.image image
         ⊎ AllBut at 1 (overwritten (O.trace site.old).now.image (at + 1) body.now) image) }
@@ -58,7 +59,8 @@ pub(crate) fn close_gate<O: Site>(site: &mut O, index: u32, slots: u32) -> Resul
         × (index < slots → gate_at (O.trace site.new).now.image index ≡ CLOSED)) }
     ensures any_moment { IsTrue O.told → EachImage (O.trace site.old) (O.trace site.new)
         (ClosesGate (O.trace site.old).now.image index slots) }
-    ensures ends { IsTrue O.told → OnOk result (ClosesGate (O.trace site.old).now.image index slots (O.trace site.new).now.image) }
+    ensures ends { IsTrue O.told → OnOk result (ClosesGate (O.trace site.old).now.image index slots
+        (O.trace site.new).now.image) }
     ensures cause { HasCause (O.faults site.old) (O.faults site.new) result }
     ensures puts { O.put_faults site.new ≡ O.put_faults site.old }
 {

@@ -18,7 +18,8 @@ gives_field number answer = (answer.code == ACCEPTED) && bytes_eq answer.body (d
 abbrev pub count_fields : ℕ → List Answer → ℕ
 count_fields number answers = count_by (gives_field number) answers
 
--- the answers that give the data fields of their frames, whose records run ahead of the numbers of the frames by so many
+-- the answers that give the data fields of their frames, whose records run ahead of the numbers of the frames by so
+-- many
 abbrev pub count_accepted : ℕ → List Record → List Answer → ℕ
 count_accepted ahead tasks answers =
     count_by (λ (p : Record × Answer). gives_field (p.0.index - ahead) p.1) (zip tasks answers)

@@ -26,21 +26,36 @@ clear_frame number = 0 ∷ 1 ∷ 4 * (number % DRILL_LANES) ∷ 36 ∷ (number %
 
 -- a frame that is to be protected, on the lane of its virtual channel
 abbrev pub protect_task : ℕ → Record
-protect_task number = record { index = number; kind = Protect; lane = number % DRILL_LANES; link = 0; octets = clear_frame number }
+protect_task number = record {
+  index = number;
+  kind = Protect;
+  lane = number % DRILL_LANES;
+  link = 0;
+  octets =
+      clear_frame number;
+}
 
 -- a protected frame that is to be opened, on the same lane
 abbrev pub open_task : ℕ → ℕ → List ℕ → Record
-open_task index number octets = record { index = index; kind = Open; lane = number % DRILL_LANES; link = 0; octets = octets }
+open_task index number octets = record {
+  index = index;
+  kind = Open;
+  lane = number % DRILL_LANES;
+  link = 0;
+  octets =
+      octets;
+}
 
 abbrev pub protect_tasks : ℕ → ℕ → List Record
 protect_tasks first count = map protect_task (range_with_len first count)
 
--- The frames that were protected, of those from a number on with these answers. The second unit's numbers of records run ahead by
--- so many.
+-- The frames that were protected, of those from a number on with these answers. The second unit's numbers of records
+-- run ahead by so many.
 abbrev pub open_tasks : ℕ → ℕ → List Answer → List Record
 open_tasks ahead number [] = []
 open_tasks ahead number (answer ∷ answers) =
-    if answer.code == PROTECTED then open_task (number + ahead) number answer.body ∷ open_tasks ahead (number + 1) answers
+    if answer.code == PROTECTED then open_task (number + ahead) number answer.body
+    ∷ open_tasks ahead (number + 1) answers
     else open_tasks ahead (number + 1) answers
 
 -- the first of them again, where it was protected

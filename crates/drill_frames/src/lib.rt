@@ -1,5 +1,5 @@
-//! The frames of a drill, which are made from their numbers alone, the records that two units are handed of them, and what is
-//! counted of their answers (profile).
+//! The frames of a drill, which are made from their numbers alone, the records that two units are handed of them, and
+//! what is counted of their answers (profile).
 //!
 //! Read `specs/Frames.antt` first. [`drill_line`] writes the line that a drill puts.
 #![tactic(auto)]

@@ -57,8 +57,8 @@ fn open_task(index: u64, number: u64, octets: Octets) -> Record
     }
 }
 
-/// The frames that were protected, of those from a number on with these answers, to be opened. The records of the second unit run
-/// ahead of the numbers of the frames by so many.
+/// The frames that were protected, of those from a number on with these answers, to be opened. The records of the
+/// second unit run ahead of the numbers of the frames by so many.
 #[tactic(auto, using(crate::proofs::Tasks::open_more, crate::proofs::Tasks::open_skips))]
 pub fn open_tasks(
     alloc: Global,

@@ -6,7 +6,10 @@ use Rattle.std.specs.Int.{w16, w64, to_be_bytes, is_in_range}
 use Rattle.sdls_base.specs.Bounds.{AreChannels, IsKeyCount, IsWidth}
 use Rattle.sdls_base.specs.Spelling.{association_octets}
 use Rattle.ep_codec.specs.declared.command.Command.{Command}
-use Rattle.ep_codec.specs.declared.command.Command.TheVariants.{Rekeying, Activate, Deactivate, Verify, Destroy, Inventory, Compose, ReadNumber, Create, Delete, SetWindow, Rekey, Expire, SetNumber, Start, Stop, Status}
+use Rattle.ep_codec.specs.declared.command.Command.TheVariants.{Rekeying, Activate, Deactivate, Verify, Destroy}
+use Rattle.ep_codec.specs.declared.command.Command.TheVariants.{Inventory, Compose, ReadNumber, Create, Delete}
+use Rattle.ep_codec.specs.declared.command.Command.TheVariants.{SetWindow, Rekey, Expire, SetNumber, Start, Stop}
+use Rattle.ep_codec.specs.declared.command.Command.TheVariants.{Status}
 use Rattle.ep_codec.specs.Field.{is_key, is_spi}
 
 -- a message: its tag, the length of its data in bits, and its data
@@ -34,7 +37,8 @@ command_octets (ReadNumber spi) = message 0x10 (to_be_bytes w16 spi)
 command_octets (Create sa) = message 0x11 (association_octets sa)
 command_octets (Delete spi) = message 0x14 (to_be_bytes w16 spi)
 command_octets (SetWindow spi window) = message 0x15 (to_be_bytes w16 spi ++ to_be_bytes w64 window)
-command_octets (Rekey spi key number) = message 0x16 (to_be_bytes w16 spi ++ (to_be_bytes w16 key ++ to_be_bytes w64 number))
+command_octets (Rekey spi key number) = message 0x16
+    (to_be_bytes w16 spi ++ (to_be_bytes w16 key ++ to_be_bytes w64 number))
 command_octets (Expire spi) = message 0x19 (to_be_bytes w16 spi)
 command_octets (SetNumber spi number) = message 0x1a (to_be_bytes w16 spi ++ to_be_bytes w64 number)
 command_octets (Start spi) = message 0x1b (to_be_bytes w16 spi)
@@ -55,7 +59,8 @@ IsInBounds (Destroy keys) = IsKeyCount (length keys)
 IsInBounds (Inventory first last) = first ≤ last
 IsInBounds (Compose master keys) = IsKeyCount (length keys)
 IsInBounds (ReadNumber spi) = ⊤
-IsInBounds (Create sa) = IsWidth sa.window × AreChannels sa.channels × AllByRecursion (λ channel. channel ≤ 63) sa.channels
+IsInBounds (Create sa) = IsWidth sa.window × AreChannels sa.channels
+    × AllByRecursion (λ channel. channel ≤ 63) sa.channels
 IsInBounds (Delete spi) = ⊤
 IsInBounds (SetWindow spi window) = IsWidth window
 IsInBounds (Rekey spi key number) = ⊤

@@ -3,7 +3,10 @@ use Rattle.std.specs.Prelude.{ℕ, ◌-◌, List, length, drop, slice_range}
 use Rattle.ep_codec.specs.declared.procedure.Procedure.{Procedure}
 use Rattle.ep_codec.specs.declared.procedure.Procedure.TheVariants as procedures
 use Rattle.ep_codec.specs.declared.command.Command.{Command}
-use Rattle.ep_codec.specs.declared.command.Command.TheVariants.{Rekeying, Activate, Deactivate, Verify, Destroy, Inventory, Compose, ReadNumber, Create, Delete, SetWindow, Rekey, Expire, SetNumber, Start, Stop, Status}
+use Rattle.ep_codec.specs.declared.command.Command.TheVariants.{Rekeying, Activate, Deactivate, Verify, Destroy}
+use Rattle.ep_codec.specs.declared.command.Command.TheVariants.{Inventory, Compose, ReadNumber, Create, Delete}
+use Rattle.ep_codec.specs.declared.command.Command.TheVariants.{SetWindow, Rekey, Expire, SetNumber, Start, Stop}
+use Rattle.ep_codec.specs.declared.command.Command.TheVariants.{Status}
 use Rattle.sdls_base.specs.Code.{direction_of, suite_of}
 use Rattle.ep_codec.specs.Field.{octet_at, word_at, number_at}
 use Rattle.ep_codec.specs.FieldList.{keys_in}

@@ -1,5 +1,6 @@
 -- The fields of a procedure message: numbers in whole octets, the most significant first, and their bounds (profile).
-use Rattle.std.specs.Prelude.{ℕ, ◌+◌, ◌*◌, ◌-◌, ◌==◌, ◌&&◌, not, Bool, true, false, if◌then◌else◌, List, [], ◌∷◌, length, slice_index, Option, Some, None}
+use Rattle.std.specs.Prelude.{ℕ, ◌+◌, ◌*◌, ◌-◌, ◌==◌, ◌&&◌, not, Bool, true, false, if◌then◌else◌, List, [], ◌∷◌}
+use Rattle.std.specs.Prelude.{length, slice_index, Option, Some, None}
 use Rattle.std.specs.Int.{w16, w32, w64, from_be_bytes, is_in_range}
 use Rattle.sdls_base.specs.declared.TheConstants.{MOST_WINDOW}
 use Rattle.sdls_base.specs.declared.key_id.KeyClass.{KeyClass}
@@ -41,12 +42,14 @@ word_at at octets = from_be_bytes w16 (slice_index octets at ∷ slice_index oct
 
 abbrev pub double_word_at : ℕ → List ℕ → ℕ
 double_word_at at octets = from_be_bytes w32
-    (slice_index octets at ∷ slice_index octets (at + 1) ∷ slice_index octets (at + 2) ∷ slice_index octets (at + 3) ∷ [])
+    (slice_index octets at ∷ slice_index octets (at + 1) ∷ slice_index octets (at + 2) ∷ slice_index octets (at + 3)
+    ∷ [])
 
 abbrev pub number_at : ℕ → List ℕ → ℕ
 number_at at octets = from_be_bytes w64
     (slice_index octets at ∷ slice_index octets (at + 1) ∷ slice_index octets (at + 2) ∷ slice_index octets (at + 3)
-    ∷ slice_index octets (at + 4) ∷ slice_index octets (at + 5) ∷ slice_index octets (at + 6) ∷ slice_index octets (at + 7) ∷ [])
+    ∷ slice_index octets (at + 4) ∷ slice_index octets (at + 5) ∷ slice_index octets (at + 6)
+    ∷ slice_index octets (at + 7) ∷ [])
 
 -- ---- the tests of the field at a place: a value outside of its bounds is a fault there
 

@@ -16,7 +16,8 @@ keys_in (high ∷ low ∷ octets) = from_be_bytes w16 (high ∷ low ∷ []) ∷ 
 abbrev pub key_checks : ℕ → List ℕ → List (Check ℕ)
 key_checks at [] = []
 key_checks at (high ∷ []) = []
-key_checks at (high ∷ low ∷ octets) = (not (is_key (from_be_bytes w16 (high ∷ low ∷ []))), at) ∷ key_checks (at + 2) octets
+key_checks at (high ∷ low ∷ octets) = (not (is_key (from_be_bytes w16 (high ∷ low ∷ []))), at)
+    ∷ key_checks (at + 2) octets
 
 -- the keys with their states, three octets each
 abbrev pub rows_in : List ℕ → List (ℕ × KeyState)
@@ -31,7 +32,8 @@ row_checks at [] = []
 row_checks at (high ∷ []) = []
 row_checks at (high ∷ low ∷ []) = []
 row_checks at (high ∷ low ∷ state ∷ octets) =
-    (not (is_key (from_be_bytes w16 (high ∷ low ∷ []))), at) ∷ (not (is_in_range 1 4 state), at + 2) ∷ row_checks (at + 3) octets
+    (not (is_key (from_be_bytes w16 (high ∷ low ∷ []))), at) ∷ (not (is_in_range 1 4 state), at + 2)
+    ∷ row_checks (at + 3) octets
 
 -- from a place on, each octet is a channel, at most 63 and above the one before it; the first is at or above the least
 abbrev pub channel_checks : ℕ → ℕ → List ℕ → List (Check ℕ)

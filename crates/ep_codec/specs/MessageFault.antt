@@ -1,12 +1,17 @@
 -- The first fault of octets that should be a procedure message (profile). Its tests in their order: that there are
 -- three octets; the tag; the length of the data; too few octets; too many; and the fields, from the first to the last.
-use Rattle.std.specs.Prelude.{ℕ, ◌+◌, ◌/◌, ◌%◌, ◌==◌, ◌&&◌, nat_lt, not, is_none, Bool, false, if◌then◌else◌, List, [], ◌∷◌, ◌++◌, length, drop, slice_index, Option, Some, None}
+use Rattle.std.specs.Prelude.{ℕ, ◌+◌, ◌/◌, ◌%◌, ◌==◌, ◌&&◌, nat_lt, not, is_none, Bool, false, if◌then◌else◌, List, []}
+use Rattle.std.specs.Prelude.{◌∷◌, ◌++◌, length, drop, slice_index, Option, Some, None}
 use Rattle.ep_codec.specs.declared.procedure.PduType.{PduType}
 use Rattle.ep_codec.specs.declared.procedure.PduType.TheVariants.{Command, Reply}
 use Rattle.ep_codec.specs.declared.procedure.Procedure.{Procedure}
-use Rattle.ep_codec.specs.declared.procedure.Procedure.TheVariants.{Rekeying, Activate, Deactivate, Verify, Destroy, Inventory, Compose, ReadNumber, Create, Delete, SetWindow, Rekey, Expire, SetNumber, Start, Stop, Status}
+use Rattle.ep_codec.specs.declared.procedure.Procedure.TheVariants.{Rekeying, Activate, Deactivate, Verify, Destroy}
+use Rattle.ep_codec.specs.declared.procedure.Procedure.TheVariants.{Inventory, Compose, ReadNumber, Create, Delete}
+use Rattle.ep_codec.specs.declared.procedure.Procedure.TheVariants.{SetWindow, Rekey, Expire, SetNumber, Start, Stop}
+use Rattle.ep_codec.specs.declared.procedure.Procedure.TheVariants.{Status}
 use Rattle.sdls_base.specs.FirstFailing.{Check, first_failing}
-use Rattle.ep_codec.specs.Field.{word_at, key_check, spi_check, window_check, code_check, sealing_key_check, mac_key_check, last_check, count_check, inner_tag_check, inner_length_check}
+use Rattle.ep_codec.specs.Field.{word_at, key_check, spi_check, window_check, code_check, sealing_key_check}
+use Rattle.ep_codec.specs.Field.{mac_key_check, last_check, count_check, inner_tag_check, inner_length_check}
 use Rattle.ep_codec.specs.FieldList.{key_checks, row_checks, channel_checks}
 use Rattle.ep_codec.specs.Procedure.{procedure_tagged, has_length}
 
@@ -73,7 +78,8 @@ reply_checks SetNumber octets = []
 reply_checks Start octets = []
 reply_checks Stop octets = []
 reply_checks Status octets =
-    spi_check 3 octets ∷ code_check 3 5 octets ∷ code_check 2 6 octets ∷ code_check 2 7 octets ∷ window_check 10 octets ∷ []
+    spi_check 3 octets ∷ code_check 3 5 octets ∷ code_check 2 6 octets ∷ code_check 2 7 octets ∷ window_check 10 octets
+    ∷ []
 
 -- the tests of the fields, by the type of the message
 abbrev pub field_checks : PduType → Option Procedure → List ℕ → List (Check ℕ)

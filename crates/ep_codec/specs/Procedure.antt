@@ -1,11 +1,15 @@
 -- The procedures of the key and association management (the procedures are those of CCSDS 355.1-B-1; tags, layouts and
 -- lengths are profile).
-use Rattle.std.specs.Prelude.{ℕ, ◌-◌, ◌%◌, ◌==◌, ◌&&◌, ◌||◌, nat_lt, if◌then◌else◌, Bool, List, [], ◌∷◌, Option, None, find}
+use Rattle.std.specs.Prelude.{ℕ, ◌-◌, ◌%◌, ◌==◌, ◌&&◌, ◌||◌, nat_lt, if◌then◌else◌, Bool, List, [], ◌∷◌, Option, None}
+use Rattle.std.specs.Prelude.{find}
 use Rattle.std.specs.Int.{is_in_range}
 use Rattle.ep_codec.specs.declared.procedure.PduType.{PduType}
 use Rattle.ep_codec.specs.declared.procedure.PduType.TheVariants.{Command, Reply}
 use Rattle.ep_codec.specs.declared.procedure.Procedure.{Procedure}
-use Rattle.ep_codec.specs.declared.procedure.Procedure.TheVariants.{Rekeying, Activate, Deactivate, Verify, Destroy, Inventory, Compose, ReadNumber, Create, Delete, SetWindow, Rekey, Expire, SetNumber, Start, Stop, Status}
+use Rattle.ep_codec.specs.declared.procedure.Procedure.TheVariants.{Rekeying, Activate, Deactivate, Verify, Destroy}
+use Rattle.ep_codec.specs.declared.procedure.Procedure.TheVariants.{Inventory, Compose, ReadNumber, Create, Delete}
+use Rattle.ep_codec.specs.declared.procedure.Procedure.TheVariants.{SetWindow, Rekey, Expire, SetNumber, Start, Stop}
+use Rattle.ep_codec.specs.declared.procedure.Procedure.TheVariants.{Status}
 
 -- the tag of a procedure's command; that of its reply is 128 more
 abbrev pub tag_of : Procedure → ℕ

@@ -7,7 +7,10 @@ use Rattle.sdls_base.specs.declared.states.KeyState.{KeyState}
 use Rattle.sdls_base.specs.Bounds.{IsWidth}
 use Rattle.sdls_base.specs.KeyId.{class_of}
 use Rattle.ep_codec.specs.declared.reply_pdu.ReplyPdu.{ReplyPdu}
-use Rattle.ep_codec.specs.declared.reply_pdu.ReplyPdu.TheVariants.{Rekeying, Activate, Deactivate, Destroy, Create, Delete, SetWindow, Rekey, Expire, SetNumber, Start, Stop, VerifyGcm, VerifyCmac, Inventory, Compose, ReadNumber, Status}
+use Rattle.ep_codec.specs.declared.reply_pdu.ReplyPdu.TheVariants.{Rekeying, Activate, Deactivate, Destroy, Create}
+use Rattle.ep_codec.specs.declared.reply_pdu.ReplyPdu.TheVariants.{Delete, SetWindow, Rekey, Expire, SetNumber, Start}
+use Rattle.ep_codec.specs.declared.reply_pdu.ReplyPdu.TheVariants.{Stop, VerifyGcm, VerifyCmac, Inventory, Compose}
+use Rattle.ep_codec.specs.declared.reply_pdu.ReplyPdu.TheVariants.{ReadNumber, Status}
 use Rattle.sdls_base.specs.Code.{key_state_code, sa_state_code, direction_code, suite_code}
 use Rattle.ep_codec.specs.Field.{is_key, is_spi, seals}
 use Rattle.ep_codec.specs.Command.{message, sealed_data, IsSealedLength}

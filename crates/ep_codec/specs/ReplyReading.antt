@@ -3,7 +3,10 @@ use Rattle.std.specs.Prelude.{ℕ, ◌-◌, ◌==◌, if◌then◌else◌, List,
 use Rattle.ep_codec.specs.declared.procedure.Procedure.{Procedure}
 use Rattle.ep_codec.specs.declared.procedure.Procedure.TheVariants as procedures
 use Rattle.ep_codec.specs.declared.reply_pdu.ReplyPdu.{ReplyPdu}
-use Rattle.ep_codec.specs.declared.reply_pdu.ReplyPdu.TheVariants.{Rekeying, Activate, Deactivate, Destroy, Create, Delete, SetWindow, Rekey, Expire, SetNumber, Start, Stop, VerifyGcm, VerifyCmac, Inventory, Compose, ReadNumber, Status}
+use Rattle.ep_codec.specs.declared.reply_pdu.ReplyPdu.TheVariants.{Rekeying, Activate, Deactivate, Destroy, Create}
+use Rattle.ep_codec.specs.declared.reply_pdu.ReplyPdu.TheVariants.{Delete, SetWindow, Rekey, Expire, SetNumber, Start}
+use Rattle.ep_codec.specs.declared.reply_pdu.ReplyPdu.TheVariants.{Stop, VerifyGcm, VerifyCmac, Inventory, Compose}
+use Rattle.ep_codec.specs.declared.reply_pdu.ReplyPdu.TheVariants.{ReadNumber, Status}
 use Rattle.sdls_base.specs.Code.{sa_state_of, direction_of, suite_of}
 use Rattle.ep_codec.specs.Field.{octet_at, word_at, double_word_at, number_at, optional_key}
 use Rattle.ep_codec.specs.FieldList.{rows_in}
@@ -50,5 +53,6 @@ reply_at procedures.Expire octets = Expire
 reply_at procedures.SetNumber octets = SetNumber
 reply_at procedures.Start octets = Start
 reply_at procedures.Stop octets = Stop
-reply_at procedures.Status octets = Status (word_at 3 octets) (sa_state_of (octet_at 5 octets)) (direction_of (octet_at 6 octets))
+reply_at procedures.Status octets = Status (word_at 3 octets) (sa_state_of (octet_at 5 octets))
+    (direction_of (octet_at 6 octets))
     (suite_of (octet_at 7 octets)) (optional_key (word_at 8 octets)) (number_at 10 octets)

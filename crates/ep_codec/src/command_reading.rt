@@ -2,7 +2,8 @@
 #![tactic(auto, unfolding(crate::specs::MessageFault::command_checks, crate::specs::CommandReading::command_at))]
 
 ghost use Rattle.std.specs.Prelude.{◌≡◌, ◌-◌, ◌+◌, ◌^◌, ◌<◌, ◌≤◌, IsTrue, length, slice_range, [], ◌∷◌};
-ghost use Rattle.ep_codec.specs.declared.procedure.Procedure.TheVariants.{Rekeying, Verify, Inventory, Compose, Create, SetWindow, Rekey, SetNumber};
+ghost use Rattle.ep_codec.specs.declared.procedure.Procedure.TheVariants.{Rekeying, Verify, Inventory, Compose, Create};
+ghost use Rattle.ep_codec.specs.declared.procedure.Procedure.TheVariants.{SetWindow, Rekey, SetNumber};
 ghost use Rattle.ep_codec.specs.Check.{Judges};
 ghost use Rattle.ep_codec.specs.MessageFault.{command_checks};
 ghost use Rattle.ep_codec.specs.CommandReading.{command_at};

@@ -4,7 +4,8 @@ ghost use Rattle.std.specs.Int.{w16, w64, to_be_bytes, is_in_range};
 ghost use Rattle.ep_codec.specs.Field.{is_key, is_spi};
 ghost use Rattle.sdls_base.specs.Bounds.{AreChannels, IsKeyCount};
 ghost use Rattle.sdls_base.specs.Spelling.{association_octets};
-ghost use Rattle.ep_codec.specs.Command.{AreKeys, message, sealed_data, keys_data, command_octets, IsInBounds, HasTypes, IsCommandPdu};
+ghost use Rattle.ep_codec.specs.Command.{AreKeys, message, sealed_data, keys_data, command_octets, IsInBounds};
+ghost use Rattle.ep_codec.specs.Command.{HasTypes, IsCommandPdu};
 
 use crate::command::Command;
 use crate::fields::SEALED_EXTRA;

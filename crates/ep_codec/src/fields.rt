@@ -2,7 +2,8 @@
 ghost use Rattle.std.specs.Prelude.{◌≡◌, ◌+◌, ◌^◌, ◌<◌, ◌≤◌, not, length, slice_range, [], ◌∷◌};
 ghost use Rattle.ep_codec.specs.Check.{Judges};
 ghost use Rattle.sdls_base.specs.Code.{sa_state_of, direction_of, suite_of};
-ghost use Rattle.ep_codec.specs.Field.{word_at, double_word_at, number_at, octet_at, is_key, key_check, spi_check, window_check, code_check};
+ghost use Rattle.ep_codec.specs.Field.{word_at, double_word_at, number_at, octet_at, is_key, key_check, spi_check};
+ghost use Rattle.ep_codec.specs.Field.{window_check, code_check};
 
 use crate::pdu_error::PduError;
 use sdls_base::{Direction, KeyId, MOST_WINDOW, SaState, Spi, Suite};

@@ -1,5 +1,6 @@
 ghost use Rattle.std.specs.Prelude.{◌≡◌};
-ghost use Rattle.ep_codec.specs.Procedure.{procedure_of, tag_of, has_command_length, has_reply_length, procedure_tagged, has_length};
+ghost use Rattle.ep_codec.specs.Procedure.{procedure_of, tag_of, has_command_length, has_reply_length};
+ghost use Rattle.ep_codec.specs.Procedure.{procedure_tagged, has_length};
 
 /// One of the seventeen procedures of the key and association management (CCSDS 355.1-B-1 by purpose): the seven of
 /// keys, then the ten of associations. A command and the reply to it are messages of one procedure.

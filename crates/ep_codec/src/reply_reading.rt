@@ -2,7 +2,8 @@
 #![tactic(auto, unfolding(crate::specs::MessageFault::reply_checks, crate::specs::ReplyReading::reply_at))]
 
 ghost use Rattle.std.specs.Prelude.{◌≡◌, ◌-◌, ◌+◌, ◌*◌, ◌^◌, ◌<◌, ◌≤◌, IsTrue, length, [], ◌∷◌};
-ghost use Rattle.ep_codec.specs.declared.procedure.Procedure.TheVariants.{Verify, Inventory, Compose, ReadNumber, Status};
+ghost use Rattle.ep_codec.specs.declared.procedure.Procedure.TheVariants.{Verify, Inventory, Compose, ReadNumber};
+ghost use Rattle.ep_codec.specs.declared.procedure.Procedure.TheVariants.{Status};
 ghost use Rattle.ep_codec.specs.Check.{Judges};
 ghost use Rattle.ep_codec.specs.MessageFault.{reply_checks};
 ghost use Rattle.ep_codec.specs.ReplyReading.{reply_at};

@@ -8,7 +8,11 @@ use Rattle.sa_book.specs.declared.sa_refusal.SaRefusal.{SaRefusal}
 use Rattle.sa_book.specs.declared.sa_refusal.SaRefusal.TheVariants as sa_book
 use Rattle.sdls_base.specs.Code.{key_state_code, sa_state_code}
 use Rattle.ep_core.specs.declared.refusal.Refusal.{Refusal}
-use Rattle.ep_core.specs.declared.refusal.Refusal.TheVariants.{AlreadyLoaded, DuplicateKey, BookFull, KeyInState, KeyInUse, UnknownKey, UnknownSpi, SpiTaken, SaInState, ChannelTaken, KeyNotActive, BelowFloor, TableFull, WrongSuite, PastEnd, UnknownChannel, KeyTaken, BadTag, BadItems, Exhausted, PduFault, NotMaster, NotSession}
+use Rattle.ep_core.specs.declared.refusal.Refusal.TheVariants.{AlreadyLoaded, DuplicateKey, BookFull, KeyInState}
+use Rattle.ep_core.specs.declared.refusal.Refusal.TheVariants.{KeyInUse, UnknownKey, UnknownSpi, SpiTaken, SaInState}
+use Rattle.ep_core.specs.declared.refusal.Refusal.TheVariants.{ChannelTaken, KeyNotActive, BelowFloor, TableFull}
+use Rattle.ep_core.specs.declared.refusal.Refusal.TheVariants.{WrongSuite, PastEnd, UnknownChannel, KeyTaken, BadTag}
+use Rattle.ep_core.specs.declared.refusal.Refusal.TheVariants.{BadItems, Exhausted, PduFault, NotMaster, NotSession}
 
 abbrev pub code_of : Refusal → ℕ
 code_of (AlreadyLoaded key) = 0x11

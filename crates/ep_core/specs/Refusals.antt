@@ -20,14 +20,20 @@ use Rattle.key_book.specs.Moves.{moves_refusal}
 use Rattle.sa_book.specs.declared.sa_refusal.SaRefusal.{SaRefusal}
 use Rattle.sa_book.specs.declared.sa_row.SaRow.{SaRow}
 use Rattle.sa_book.specs.SaBook.{in_use}
-use Rattle.sa_book.specs.SaRefusal.{on_row, unless_unkeyed, create_refusal, delete_refusal, expire_refusal, read_number_refusal, set_number_refusal, set_window_refusal, start_refusal, stop_refusal}
+use Rattle.sa_book.specs.SaRefusal.{on_row, unless_unkeyed, create_refusal, delete_refusal, expire_refusal}
+use Rattle.sa_book.specs.SaRefusal.{read_number_refusal, set_number_refusal, set_window_refusal, start_refusal}
+use Rattle.sa_book.specs.SaRefusal.{stop_refusal}
 use Rattle.unit_state.specs.declared.state.State.{State}
 use Rattle.unit_state.specs.State.{key_row, association_row}
 use Rattle.unit_state.specs.Taking.{least_with, taking_refusal}
 use Rattle.ep_codec.specs.declared.command.Command.{Command}
-use Rattle.ep_codec.specs.declared.command.Command.TheVariants.{Rekeying, Activate, Deactivate, Verify, Destroy, Inventory, Compose, ReadNumber, Create, Delete, SetWindow, Rekey, Expire, SetNumber, Start, Stop, Status}
+use Rattle.ep_codec.specs.declared.command.Command.TheVariants.{Rekeying, Activate, Deactivate, Verify, Destroy}
+use Rattle.ep_codec.specs.declared.command.Command.TheVariants.{Inventory, Compose, ReadNumber, Create, Delete}
+use Rattle.ep_codec.specs.declared.command.Command.TheVariants.{SetWindow, Rekey, Expire, SetNumber, Start, Stop}
+use Rattle.ep_codec.specs.declared.command.Command.TheVariants.{Status}
 use Rattle.ep_core.specs.declared.refusal.Refusal.{Refusal}
-use Rattle.ep_core.specs.declared.refusal.Refusal.TheVariants.{UnknownKey, KeyInState, BadTag, BadItems, Exhausted, NotMaster, NotSession}
+use Rattle.ep_core.specs.declared.refusal.Refusal.TheVariants.{UnknownKey, KeyInState, BadTag, BadItems, Exhausted}
+use Rattle.ep_core.specs.declared.refusal.Refusal.TheVariants.{NotMaster, NotSession}
 use Rattle.ep_core.specs.Refusal.{of_keys, of_association}
 use Rattle.ep_core.specs.Seen.{word_of}
 use Rattle.ep_core.specs.Sealed.{front, items_in, items_fault}
@@ -63,7 +69,8 @@ unless_known key (Some held) = None
 
 abbrev pub unless_takes : State → ℕ → ℕ → ℕ → ℕ → Option SaRefusal
 unless_takes state spi key number word = option_and_then
-    (λ row. option_and_then (taking_refusal state spi key number word row) (key_row state key)) (association_row state spi)
+    (λ row. option_and_then (taking_refusal state spi key number word row) (key_row state key))
+    (association_row state spi)
 
 abbrev pub rekey_checks : State → ℕ → ℕ → ℕ → ℕ → List (Option Refusal)
 rekey_checks state spi key number word =
@@ -135,7 +142,8 @@ compose_checks state master keys seen =
 -- what was sealed under a master key, if the tag is right
 abbrev pub opened : State → ℕ → List ℕ → List ℕ → List ℕ → Option (List ℕ)
 opened state master vector sealed tag =
-    option_and_then (λ held. gcm_open held.bytes vector (front master (length sealed)) sealed tag) (key_row state master)
+    option_and_then (λ held. gcm_open held.bytes vector (front master (length sealed)) sealed tag)
+    (key_row state master)
 
 -- the keys of a clear text
 abbrev pub items_of : Option (List ℕ) → List KeyItem
@@ -158,13 +166,15 @@ abbrev pub refusal_of : State → Command → Seen → Option Refusal
 refusal_of state (Rekeying master vector sealed tag) seen =
     first_told (rekeying_checks state master (opened state master vector sealed tag))
 refusal_of state (Activate keys) seen = from_keys (moves_refusal state.keys keys Active (in_use state.associations))
-refusal_of state (Deactivate keys) seen = from_keys (moves_refusal state.keys keys Deactivated (in_use state.associations))
+refusal_of state (Deactivate keys) seen = from_keys
+    (moves_refusal state.keys keys Deactivated (in_use state.associations))
 refusal_of state (Verify key challenge) seen = first_told (verify_checks state key seen)
 refusal_of state (Destroy keys) seen = from_keys (moves_refusal state.keys keys Destroyed (in_use state.associations))
 refusal_of state (Inventory first last) seen = None
 refusal_of state (Compose master keys) seen = first_told (compose_checks state master keys seen)
 refusal_of state (ReadNumber spi) seen = from_associations spi None (read_number_refusal state.associations spi)
-refusal_of state (Create new) seen = from_associations new.spi None (create_refusal state.associations new state.channels)
+refusal_of state (Create new) seen = from_associations new.spi None
+    (create_refusal state.associations new state.channels)
 refusal_of state (Delete spi) seen = from_associations spi None (delete_refusal state.associations spi)
 refusal_of state (SetWindow spi window) seen = from_associations spi None (set_window_refusal state.associations spi)
 refusal_of state (Rekey spi key number) seen = first_told (rekey_checks state spi key number (word_of seen))

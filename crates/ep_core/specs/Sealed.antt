@@ -1,13 +1,14 @@
--- What a unit seals for the link and opens again: keys to be loaded, and challenges (GCM is that of SP 800-38D, MACs that of
--- SP 800-38B; what they cover is profile).
-use Rattle.std.specs.Prelude.{ℕ, zero, suc, ◌+◌, ◌*◌, ◌==◌, ◌||◌, not, nat_lt, List, [], ◌∷◌, ◌++◌, length, take, drop, slice_index, Option, Some, None}
+-- What a unit seals for the link and opens again: keys to be loaded, and challenges (GCM is that of SP 800-38D, MACs
+-- that of SP 800-38B; what they cover is profile).
+use Rattle.std.specs.Prelude.{ℕ, zero, suc, ◌+◌, ◌*◌, ◌==◌, ◌||◌, not, nat_lt, List, [], ◌∷◌, ◌++◌, length, take, drop}
+use Rattle.std.specs.Prelude.{slice_index, Option, Some, None}
 use Rattle.std.specs.Int.{w16, w32, to_be_bytes, from_be_bytes}
 use Rattle.std.specs.Option.{option_or}
 use Rattle.sdls_base.specs.FirstFailing.{first_failing}
 use Rattle.sdls_base.specs.declared.key_item.KeyItem.{KeyItem}
 
--- the first five octets of a Rekeying message, by its master key and how many octets are sealed: its tag, the length of its
--- data in bits, and the key
+-- the first five octets of a Rekeying message, by its master key and how many octets are sealed: its tag, the length of
+-- its data in bits, and the key
 abbrev pub front : ℕ → ℕ → List ℕ
 front master sealed = 0x01 ∷ to_be_bytes w16 (8 * (2 + 12 + 16 + sealed)) ++ to_be_bytes w16 master
 
@@ -39,8 +40,8 @@ item_fault at text = first_failing
     ∷ (nat_lt (length text) (3 + slice_index text 2), at)
     ∷ [])
 
--- The offset of the first octet that cannot stand there, in a text of at most so many items from an offset on. A further
--- item is at fault as a whole.
+-- The offset of the first octet that cannot stand there, in a text of at most so many items from an offset on. A
+-- further item is at fault as a whole.
 abbrev pub items_fault : ℕ → ℕ → List ℕ → Option ℕ
 items_fault left at [] = None
 items_fault zero at (octet ∷ text) = Some at
@@ -49,7 +50,8 @@ items_fault (suc left) at (octet ∷ text) = option_or (item_fault at (octet ∷
 
 -- ---- challenges
 
--- What stands before a number or a key, where a frame would begin: the first two bits of no frame are both 1, under any mask.
+-- What stands before a number or a key, where a frame would begin: the first two bits of no frame are both 1, under any
+-- mask.
 abbrev pub no_frame : List ℕ
 no_frame = 0xff ∷ 0xff ∷ 0xff ∷ 0xff ∷ []
 

@@ -22,7 +22,10 @@ use Rattle.sa_book.specs.declared.sa_row.SaRow.{SaRow}
 use Rattle.unit_state.specs.declared.state.State.{State}
 use Rattle.unit_state.specs.State.{key_row, association_row}
 use Rattle.ep_codec.specs.declared.command.Command.{Command}
-use Rattle.ep_codec.specs.declared.command.Command.TheVariants.{Rekeying, Activate, Deactivate, Verify, Destroy, Inventory, Compose, ReadNumber, Create, Delete, SetWindow, Rekey, Expire, SetNumber, Start, Stop, Status}
+use Rattle.ep_codec.specs.declared.command.Command.TheVariants.{Rekeying, Activate, Deactivate, Verify, Destroy}
+use Rattle.ep_codec.specs.declared.command.Command.TheVariants.{Inventory, Compose, ReadNumber, Create, Delete}
+use Rattle.ep_codec.specs.declared.command.Command.TheVariants.{SetWindow, Rekey, Expire, SetNumber, Start, Stop}
+use Rattle.ep_codec.specs.declared.command.Command.TheVariants.{Status}
 use Rattle.ep_codec.specs.declared.reply_pdu.ReplyPdu.{ReplyPdu}
 use Rattle.ep_codec.specs.declared.reply_pdu.ReplyPdu.TheVariants as replies
 use Rattle.ep_codec.specs.ReplyPdu.{reply_octets}
@@ -98,7 +101,8 @@ IsDone state (Rekeying master vector sealed tag) seen step =
 IsDone state (Activate keys) seen step = step ≡ done (changes.KeyStates keys Active) replies.Activate
 IsDone state (Deactivate keys) seen step = step ≡ done (changes.KeyStates keys Deactivated) replies.Deactivate
 IsDone state (Verify key challenge) seen step = IsSomeAnd (key_row state key)
-    (λ held. step ≡ using_number key (number_of seen) (verified (class_of key) state.device key held (number_of seen) challenge))
+    (λ held. step ≡ using_number key (number_of seen)
+    (verified (class_of key) state.device key held (number_of seen) challenge))
 IsDone state (Destroy keys) seen step = step ≡ done (changes.KeyStates keys Destroyed) replies.Destroy
 IsDone state (Inventory first last) seen step = IsInventoryOf state first last step
 IsDone state (Compose master keys) seen step = IsSomeAnd (key_row state master) (λ held. step

@@ -2,7 +2,8 @@
 
 ghost use Rattle.std.specs.Prelude.{◌≡◌, ◌+◌, ◌^◌, ◌<◌, ◌≤◌, All, None, Some};
 ghost use Rattle.sdls_base.specs.FirstFailing.{first_told};
-ghost use Rattle.sa_book.specs.SaRefusal.{create_refusal, delete_refusal, expire_refusal, read_number_refusal, set_number_refusal, set_window_refusal, start_refusal, stop_refusal};
+ghost use Rattle.sa_book.specs.SaRefusal.{create_refusal, delete_refusal, expire_refusal, read_number_refusal};
+ghost use Rattle.sa_book.specs.SaRefusal.{set_number_refusal, set_window_refusal, start_refusal, stop_refusal};
 ghost use Rattle.unit_state.specs.State.{KeepsRules};
 ghost use Rattle.ep_core.specs.Refusals.{from_associations, least_of, least_at, rekey_checks};
 ghost use Rattle.unit_state.specs.Taking.{least_with};

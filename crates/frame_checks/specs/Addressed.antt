@@ -12,13 +12,15 @@ use Rattle.frame_checks.specs.Header.{HasRoom, channel_of}
 use Rattle.frame_checks.specs.OpeningFrames.{association_in, frame_checks}
 
 -- a check of the frame, before those of its association, tells the reply
-pub record IsRefusedBefore (plan : PlanLines) (state : State) (link : ℕ) (line : Link) (frame : List ℕ) (reply : OpenReply) : Type 0 where
+pub record IsRefusedBefore (plan : PlanLines) (state : State) (link : ℕ) (line : Link) (frame : List ℕ)
+    (reply : OpenReply) : Type 0 where
   pub room : List ℕ
   pub has_room : first_fault line.layout frame ≡ None → HasRoom line.layout frame room
   pub told : first_failing (frame_checks plan state link line frame room) ≡ Some reply
 
 -- no such check fails: the frame is of this channel, and names this association
-pub record IsAddressed (plan : PlanLines) (state : State) (link : ℕ) (line : Link) (frame : List ℕ) (channel : ℕ) (row : SaRow) : Type 0 where
+pub record IsAddressed (plan : PlanLines) (state : State) (link : ℕ) (line : Link) (frame : List ℕ) (channel : ℕ)
+    (row : SaRow) : Type 0 where
   pub room : List ℕ
   pub has_room : HasRoom line.layout frame room
   pub passed : first_failing (frame_checks plan state link line frame room) ≡ None

@@ -1,6 +1,7 @@
 -- What a frame's header says of where it belongs (CCSDS 232.0-B-4, 132.0-B-3 and 732.0-B-4, Transfer Frame Primary
 -- Header).
-use Rattle.std.specs.Prelude.{◌≡◌, ℕ, ◌+◌, ◌*◌, ◌/◌, ◌%◌, ◌^◌, ◌==◌, nat_lt, Bool, false, if◌then◌else◌, List, length, slice_index, Option, Some, None}
+use Rattle.std.specs.Prelude.{◌≡◌, ℕ, ◌+◌, ◌*◌, ◌/◌, ◌%◌, ◌^◌, ◌==◌, nat_lt, Bool, false, if◌then◌else◌, List, length}
+use Rattle.std.specs.Prelude.{slice_index, Option, Some, None}
 use Rattle.sdls_base.specs.declared.link.AnyLayout.{AnyLayout}
 use Rattle.sdls_base.specs.declared.link.AnyLayout.TheVariants.{Tc, Tm, Aos}
 use Rattle.tc_frame.specs.TcFrame.{has_segment}

@@ -1,5 +1,6 @@
 -- The checks of a frame that is to be opened (CCSDS 355.0-B-2, ProcessSecurity; order profile).
-use Rattle.std.specs.Prelude.{◌≡◌, ℕ, ◌==◌, ◌||◌, nat_lt, not, if◌then◌else◌, List, [], ◌∷◌, length, take, Option, Some, None, is_some, is_none, MatchOption}
+use Rattle.std.specs.Prelude.{◌≡◌, ℕ, ◌==◌, ◌||◌, nat_lt, not, if◌then◌else◌, List, [], ◌∷◌, length, take, Option, Some}
+use Rattle.std.specs.Prelude.{None, is_some, is_none, MatchOption}
 use Rattle.std.specs.List.{list_any}
 use Rattle.std.specs.Int.{w16, from_be_bytes}
 use Rattle.std.specs.Option.{option_map_or, option_and_then}
@@ -19,7 +20,9 @@ use Rattle.frame_shield.specs.Opens.{Opens}
 use Rattle.frame_shield.specs.ShieldFault.{fault_number}
 use Rattle.frame_shield.specs.declared.binding.Binding.{Binding}
 use Rattle.frame_checks.specs.declared.open_reply.OpenReply.{OpenReply}
-use Rattle.frame_checks.specs.declared.open_reply.OpenReply.TheVariants.{Accepted, Clear, Layout, Channel, Spi, Direction, State as NotOperational, Coverage, Mac, Number}
+use Rattle.frame_checks.specs.declared.open_reply.OpenReply.TheVariants.{Accepted, Clear, Layout, Channel, Spi}
+use Rattle.frame_checks.specs.declared.open_reply.OpenReply.TheVariants.{Direction, State as NotOperational, Coverage}
+use Rattle.frame_checks.specs.declared.open_reply.OpenReply.TheVariants.{Mac, Number}
 use Rattle.frame_checks.specs.Header.{HasRoom, is_clear, channel_of}
 use Rattle.frame_checks.specs.Binding.{binding_of}
 
@@ -55,7 +58,8 @@ association_checks row channel =
     ∷ (not (list_any (λ own. own == channel) row.channels), Coverage) ∷ []
 
 -- the MAC is right and the number fresh: the frame opens to number and data field
-pub record IsAccepted (row : SaRow) (binding : Binding) (frame : List ℕ) (spi key number : ℕ) (field : List ℕ) : Type 0 where
+pub record IsAccepted (row : SaRow) (binding : Binding) (frame : List ℕ) (spi key number : ℕ)
+    (field : List ℕ) : Type 0 where
   pub index : spi ≡ binding.spi
   pub held : key ≡ binding.key
   pub opens : Opens binding frame number field
@@ -89,26 +93,32 @@ IsToldOr (Some told) reply later = reply ≡ told
 IsToldOr None reply later = later
 
 -- what the association binds the frame to, and the last two checks
-pub record IsOpenedUnder (plan : PlanLines) (state : State) (line : Link) (row : SaRow) (frame : List ℕ) (reply : OpenReply) (field : List ℕ) : Type 0 where
+pub record IsOpenedUnder (plan : PlanLines) (state : State) (line : Link) (row : SaRow) (frame : List ℕ)
+    (reply : OpenReply) (field : List ℕ) : Type 0 where
   pub binding : Binding
   pub bound : binding_of plan state line row ≡ Some binding
   pub judged : IsJudged row binding frame reply field
 
 -- the frame's channel, and the association that it names
-pub record IsReplyUnder (plan : PlanLines) (state : State) (link : ℕ) (line : Link) (frame room : List ℕ) (reply : OpenReply) (field : List ℕ) : Type 0 where
+pub record IsReplyUnder (plan : PlanLines) (state : State) (link : ℕ) (line : Link) (frame room : List ℕ)
+    (reply : OpenReply) (field : List ℕ) : Type 0 where
   pub channel : ℕ
   pub row : SaRow
   pub on : channel_of plan link line.layout frame ≡ Some channel
   pub named : association_in state room ≡ Some row
-  pub told : IsToldOr (first_failing (association_checks row channel)) reply (IsOpenedUnder plan state line row frame reply field)
+  pub told : IsToldOr (first_failing (association_checks row channel)) reply
+      (IsOpenedUnder plan state line row frame reply field)
 
 -- the frame's room, where the frame has the link's layout
-pub record IsReplyOn (plan : PlanLines) (state : State) (link : ℕ) (frame : List ℕ) (reply : OpenReply) (field : List ℕ) (line : Link) : Type 0 where
+pub record IsReplyOn (plan : PlanLines) (state : State) (link : ℕ) (frame : List ℕ) (reply : OpenReply) (field : List ℕ)
+    (line : Link) : Type 0 where
   pub room : List ℕ
   pub has_room : first_fault line.layout frame ≡ None → HasRoom line.layout frame room
-  pub told : IsToldOr (first_failing (frame_checks plan state link line frame room)) reply (IsReplyUnder plan state link line frame room reply field)
+  pub told : IsToldOr (first_failing (frame_checks plan state link line frame room)) reply
+      (IsReplyUnder plan state link line frame room reply field)
 
--- The reply to a frame: that of the first check that fails, beginning with the link's line, or Accepted, with the data field.
+-- The reply to a frame: that of the first check that fails, beginning with the link's line, or Accepted, with the data
+-- field.
 abbrev pub IsOpenReply : PlanLines → State → ℕ → List ℕ → OpenReply → List ℕ → Type 0
 IsOpenReply plan state link frame reply field =
     MatchOption (link_of plan.links link) (reply ≡ Layout 0) (IsReplyOn plan state link frame reply field)

@@ -1,6 +1,7 @@
 -- The checks of a frame that is to be protected, before the clear frame's layout (CCSDS 355.0-B-2, ApplySecurity; order
 -- profile).
-use Rattle.std.specs.Prelude.{◌≡◌, Bool, true, false, IsSomeAnd, ℕ, List, [], ◌∷◌, ◌++◌, Option, Some, None, is_none, unwrap_or, Result, Ok, Err}
+use Rattle.std.specs.Prelude.{◌≡◌, Bool, true, false, IsSomeAnd, ℕ, List, [], ◌∷◌, ◌++◌, Option, Some, None, is_none}
+use Rattle.std.specs.Prelude.{unwrap_or, Result, Ok, Err}
 use Rattle.std.specs.Option.{option_and_then, option_map_or}
 use Rattle.sdls_base.specs.FirstFailing.{Check, first_failing}
 use Rattle.sdls_base.specs.declared.link.Link.{Link}

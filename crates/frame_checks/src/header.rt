@@ -4,7 +4,8 @@ ghost use Rattle.std.specs.Prelude.{◌≡◌, ◌↔◌, ◌≤◌, length, Som
 ghost use Rattle.sdls_base.specs.Link.{IsInBounds};
 ghost use Rattle.tc_frame.specs.FirstFault.{segment_length};
 ghost use Rattle.frame_shield.specs.AnyFrame.{first_fault};
-ghost use Rattle.frame_checks.specs.Header.{HasRoom, header_length, lacks_header, first_bits, map_of, is_clear, channel_of};
+ghost use Rattle.frame_checks.specs.Header.{HasRoom, header_length, lacks_header, first_bits, map_of, is_clear};
+ghost use Rattle.frame_checks.specs.Header.{channel_of};
 
 use sdls_base::{AnyLayout, AosLayout, ChannelId, FrameFault, TcLayout, TmLayout, flag};
 use unit_plan::Plan;

@@ -1,10 +1,10 @@
 //! What a unit's state says of one frame (CCSDS 355.0-B-2, ApplySecurity and ProcessSecurity; the order of the checks
 //! is profile).
 //!
-//! `binding` makes the checks of a frame that is to be protected, up to the association that sends it, and `channel` those
-//! of them for which the plan is enough. `open_frame`
-//! makes those of a frame that was received, in their order, and opens it in place. Neither changes the state: what an
-//! acceptance leaves is the caller's to make and to store. No call takes memory.
+//! `binding` makes the checks of a frame that is to be protected, up to the association that sends it, and `channel`
+//! those of them for which the plan is enough. `open_frame` makes those of a frame that was received, in their order,
+//! and opens it in place. Neither changes the state: what an acceptance leaves is the caller's to make and to store. No
+//! call takes memory.
 #![tactic(auto)]
 
 mod header;

@@ -8,7 +8,8 @@ ghost use Rattle.frame_shield.specs.Opens.{CarriesIndex};
 ghost use Rattle.unit_state.specs.State.{KeepsRules};
 ghost use Rattle.frame_checks.specs.Accepting.{LeavesOctets, MayBeAccepted, OnAccepted, field_in};
 ghost use Rattle.frame_checks.specs.Addressed.{IsAddressed, IsRefusedBefore};
-ghost use Rattle.frame_checks.specs.OpeningFrames.{IsJudged, IsOpenReply, IsReplyOn, association_checks, association_in};
+ghost use Rattle.frame_checks.specs.OpeningFrames.{IsJudged, IsOpenReply, IsReplyOn, association_checks};
+ghost use Rattle.frame_checks.specs.OpeningFrames.{association_in};
 
 use crate::header::{channel_of, is_clear, room_of};
 use crate::open_reply::OpenReply;

@@ -37,9 +37,9 @@ pub(crate) fn binding_of(plan: &Plan, state: &State, line: &Link, row: &SaRow) -
     }
 }
 
-/// Makes the checks of a frame in clear that is to be protected for which the plan is enough, in their order, and answers
-/// its channel. `None` is a TC control command or an AOS idle frame, which the caller sends as it stands. The refusals are
-/// the first three of [`binding`]. Takes no memory.
+/// Makes the checks of a frame in clear that is to be protected for which the plan is enough, in their order, and
+/// answers its channel. `None` is a TC control command or an AOS idle frame, which the caller sends as it stands. The
+/// refusals are the first three of [`binding`]. Takes no memory.
 pub fn channel(plan: &Plan, link: u8, clear: &[u8]) -> Result<Option<ChannelId>, ShieldFault>
     ensures { result ≡ channel_check plan.now link clear.now }
 {

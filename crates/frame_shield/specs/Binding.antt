@@ -24,7 +24,11 @@ gain_of suite layout = overhead_of suite + error_control_length (has_fecf layout
 abbrev pub clear_layout : Suite → AnyLayout → AnyLayout
 clear_layout suite (Tc layout) = Tc (record layout { fecf = false; most = layout.most - gain_of suite (Tc layout) })
 clear_layout suite (Tm layout) = Tm (record layout { fecf = false; length = layout.length - gain_of suite (Tm layout) })
-clear_layout suite (Aos layout) = Aos (record layout { fecf = false; length = layout.length - gain_of suite (Aos layout) })
+clear_layout suite (Aos layout) = Aos (record layout {
+  fecf = false;
+  length = layout.length - gain_of suite
+      (Aos layout);
+})
 
 -- the first check of a clear frame that fails
 abbrev pub clear_fault : Binding → List ℕ → Option FrameFault

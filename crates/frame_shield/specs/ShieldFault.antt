@@ -1,7 +1,8 @@
 -- Profile: the numbers of the checks of a frame.
 use Rattle.std.specs.Prelude.{ℕ}
 use Rattle.sdls_base.specs.declared.layout.FrameFault.{FrameFault}
-use Rattle.sdls_base.specs.declared.layout.FrameFault.TheVariants.{Short, Long, LengthField, Version, Spare, SecondaryHeader, Fecf}
+use Rattle.sdls_base.specs.declared.layout.FrameFault.TheVariants.{Short, Long, LengthField, Version, Spare}
+use Rattle.sdls_base.specs.declared.layout.FrameFault.TheVariants.{SecondaryHeader, Fecf}
 
 abbrev pub fault_number : FrameFault → ℕ
 fault_number Short = 1

@@ -1,4 +1,5 @@
-ghost use Rattle.std.specs.Prelude.{◌≡◌, ◌+◌, ◌^◌, ◌<◌, ◌≤◌, [], ◌++◌, unwrap_or, option_copied, None, Some, length, take, drop, MatchResult};
+ghost use Rattle.std.specs.Prelude.{◌≡◌, ◌+◌, ◌^◌, ◌<◌, ◌≤◌, [], ◌++◌, unwrap_or, option_copied, None, Some, length};
+ghost use Rattle.std.specs.Prelude.{take, drop, MatchResult};
 ghost use Rattle.sdls_base.specs.declared.layout.FrameFault.{FrameFault};
 ghost use Rattle.sdls_base.specs.KeyId.{end_of};
 ghost use Rattle.sdls_base.specs.Suite.{overhead_of};
@@ -99,14 +100,16 @@ fn put_header(out: &mut [u8], at: usize, header: &SecurityHeader) -> usize
     put(out, at, &octets[..count])
 }
 
-/// Writes security header, text and MAC of a data field into `out` from `at` on. The MAC covers what stands before `at`.
+/// Writes security header, text and MAC of a data field into `out` from `at` on. The MAC covers what stands before
+/// `at`.
 fn put_room(out: &mut [u8], at: usize, binding: &Binding, vector: Vector, field: &[u8]) -> usize
     requires vector { IsVectorOf binding.now.suite vector }
     requires front { at ≤ 70 }
     requires field { length field.now ≤ FRAME_ROOM }
     requires room { at + overhead_of binding.now.suite + length field.now ≤ length out.old }
     ensures place { result ≡ at + overhead_of binding.now.suite + length field.now }
-    ensures written { take result out.new ≡ take at out.old ++ room_behind binding.now vector (take at out.old) field.now }
+    ensures written { take result out.new ≡ take at out.old
+        ++ room_behind binding.now vector (take at out.old) field.now }
     ensures rest { drop result out.new ≡ drop result out.old }
 {
     let header = SecurityHeader {

@@ -29,7 +29,8 @@ pub fn number_of(vector: Vector) -> u64
     }
 }
 
-/// Makes the text of a data field where it lies, from `start` on, and gives its MAC, which covers what stands before it.
+/// Makes the text of a data field where it lies, from `start` on, and gives its MAC, which covers what stands before
+/// it.
 pub fn seal(key: &Schedule, vector: Vector, octets: &mut [u8], start: usize) -> [u8; 16]
     requires start { start ≤ length octets.old }
     requires most { length octets.old ≤ 65536 }

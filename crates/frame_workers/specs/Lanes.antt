@@ -1,5 +1,6 @@
 -- The lanes of a segment, as they run (profile).
-use Rattle.std.specs.Prelude.{◌≡◌, ◌≢◌, ℕ, zero, suc, ◌<◌, ◌≤◌, ◌==◌, Bool, true, false, List, [], ◌∷◌, ◌++◌, if◌then◌else◌, length, reverse, take, slice_get, Some, Vec, vec_capacity}
+use Rattle.std.specs.Prelude.{◌≡◌, ◌≢◌, ℕ, zero, suc, ◌<◌, ◌≤◌, ◌==◌, Bool, true, false, List, [], ◌∷◌, ◌++◌}
+use Rattle.std.specs.Prelude.{if◌then◌else◌, length, reverse, take, slice_get, Some, Vec, vec_capacity}
 use Rattle.std.specs.List.{All, Contains, list_any}
 use Rattle.counter_table.specs.declared.counters.Worker.{Worker}
 use Rattle.counter_table.specs.declared.view.View.{View}
@@ -32,7 +33,8 @@ module _ {B : Type 0} (ready : Worker B → Type 0) where
     pub number : new.number ≡ old.number
     pub is_ready : ready new.worker
     pub shares : (view new.worker).numbers.shares ≡ (view old.worker).numbers.shares
-    pub handled : (begin : Begin) (layout : Layout) (segment : ℕ) → BeganWith told begin (view old.worker).turn.known.opening
+    pub handled : (begin : Begin) (layout : Layout) (segment : ℕ)
+        → BeganWith told begin (view old.worker).turn.known.opening
         → Handled layout begin (view old.worker) (view new.worker) (of_lane old.number tasks)
         (deeds_of segment (of_lane old.number tasks) new.answers.items)
     pub ends : (begin : Begin) → BeganWith told begin (view old.worker).turn.known.opening

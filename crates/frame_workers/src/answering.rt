@@ -212,7 +212,8 @@ pub(crate) fn commanded_answer(
 
 /// A frame that was protected into the front of the room.
 fn answer_done(done: Done, mut room: Vec<u8>) -> Answer
-    ensures { result ≡ answering.answer_of (told.numbered PROTECTED done.key done.number (take done.length room.items)) done.epoch }
+    ensures { result ≡ answering.answer_of (told.numbered PROTECTED done.key done.number (take done.length room.items))
+        done.epoch }
 {
     room.truncate(done.length);
     answer_under_key(code::PROTECTED, done.key, done.number, done.epoch, room)

@@ -43,7 +43,8 @@ fn protect<R: Wait, O: Site>(
     ensures ready { IsReady unit.now.counters unit.now.plan worker.new }
     ensures kept { IsTrueIfKept kept.new (view worker.new).turn }
     ensures shares { (view worker.new).numbers.shares ≡ (view worker.old).numbers.shares }
-    ensures answered { (layout : Layout) (begin : Begin) (segment : ℕ) → BeganWith O.told begin (view worker.old).turn.known.opening
+    ensures answered { (layout : Layout) (begin : Begin) (segment : ℕ)
+        → BeganWith O.told begin (view worker.old).turn.known.opening
         → Answered layout begin segment (view worker.old) (view worker.new) task.now result }
     ensures exactly { (begin : Begin) (segment : ℕ) → BeganWith O.told begin (view worker.old).turn.known.opening
         → AnsweredExactly begin segment (view worker.old) (view worker.new) task.now result }
@@ -77,9 +78,11 @@ fn open<R: Wait, O: Site>(
     requires kind { task.now.kind ≡ kinds.Open }
     requires ready { IsReady unit.now.counters unit.now.plan worker.old }
     ensures ready { IsReady unit.now.counters unit.now.plan worker.new }
-    ensures keeps { (permit : Permit) → IsTrueFor permit (view worker.old).turn → IsTrueFor permit (view worker.new).turn }
+    ensures keeps { (permit : Permit) → IsTrueFor permit (view worker.old).turn
+        → IsTrueFor permit (view worker.new).turn }
     ensures shares { (view worker.new).numbers.shares ≡ (view worker.old).numbers.shares }
-    ensures answered { (layout : Layout) (begin : Begin) (segment : ℕ) → BeganWith O.told begin (view worker.old).turn.known.opening
+    ensures answered { (layout : Layout) (begin : Begin) (segment : ℕ)
+        → BeganWith O.told begin (view worker.old).turn.known.opening
         → Answered layout begin segment (view worker.old) (view worker.new) task.now result }
     ensures exactly { (begin : Begin) (segment : ℕ) → BeganWith O.told begin (view worker.old).turn.known.opening
         → AnsweredExactly begin segment (view worker.old) (view worker.new) task.now result }
@@ -102,9 +105,11 @@ fn command<R: Wait, O: Site>(
     requires kind { task.now.kind ≡ kinds.Command }
     requires ready { IsReady unit.now.counters unit.now.plan worker.old }
     ensures ready { IsReady unit.now.counters unit.now.plan worker.new }
-    ensures keeps { (permit : Permit) → IsTrueFor permit (view worker.old).turn → IsTrueFor permit (view worker.new).turn }
+    ensures keeps { (permit : Permit) → IsTrueFor permit (view worker.old).turn
+        → IsTrueFor permit (view worker.new).turn }
     ensures shares { (view worker.new).numbers.shares ≡ (view worker.old).numbers.shares }
-    ensures answered { (layout : Layout) (begin : Begin) (segment : ℕ) → BeganWith O.told begin (view worker.old).turn.known.opening
+    ensures answered { (layout : Layout) (begin : Begin) (segment : ℕ)
+        → BeganWith O.told begin (view worker.old).turn.known.opening
         → Answered layout begin segment (view worker.old) (view worker.new) task.now result }
     ensures exactly { (begin : Begin) (segment : ℕ) → BeganWith O.told begin (view worker.old).turn.known.opening
         → AnsweredExactly begin segment (view worker.old) (view worker.new) task.now result }
@@ -127,7 +132,8 @@ pub(crate) fn handle<R: Wait, O: Site>(
     ensures ready { IsReady unit.now.counters unit.now.plan worker.new }
     ensures kept { IsTrueIfKept kept.new (view worker.new).turn }
     ensures shares { (view worker.new).numbers.shares ≡ (view worker.old).numbers.shares }
-    ensures answered { (layout : Layout) (begin : Begin) (segment : ℕ) → BeganWith O.told begin (view worker.old).turn.known.opening
+    ensures answered { (layout : Layout) (begin : Begin) (segment : ℕ)
+        → BeganWith O.told begin (view worker.old).turn.known.opening
         → Answered layout begin segment (view worker.old) (view worker.new) task.now result }
     ensures exactly { (begin : Begin) (segment : ℕ) → BeganWith O.told begin (view worker.old).turn.known.opening
         → AnsweredExactly begin segment (view worker.old) (view worker.new) task.now result }

@@ -35,7 +35,8 @@ fn room_for(alloc: Global, records: &[Record], number: u8) -> Result<Vec<Answer>
 /// Rooms for the answers of the lanes.
 pub(crate) fn rooms_for(alloc: Global, records: &[Record]) -> Result<Vec<Vec<Answer>>, NoMemory>
     ensures many { IfOk result (λ rooms. length rooms.items ≡ LANES) }
-    ensures rooms { IfOk result (λ rooms. (k : ℕ) (d : _) → k < LANES → IsRoom records.now k (slice_index_or rooms.items k d)) }
+    ensures rooms { IfOk result (λ rooms. (k : ℕ) (d : _) → k < LANES
+        → IsRoom records.now k (slice_index_or rooms.items k d)) }
 {
     let mut rooms = Vec::with_capacity(alloc, usize::from(LANES))?;
     for number in 0..LANES {
@@ -61,9 +62,11 @@ pub(crate) fn split_lanes<O: Site>(
     ensures ready { IsReady unit.now.counters unit.now.plan worker.new }
     ensures many { length lanes.new.items ≤ LANES }
     ensures given { view worker.new ≡ giving_shares (length lanes.new.items) (view worker.old) }
-    ensures split { All (IsSplit (IsReady unit.now.counters unit.now.plan) records.now (view worker.old)) lanes.new.items }
+    ensures split { All (IsSplit (IsReady unit.now.counters unit.now.plan) records.now (view worker.old))
+        lanes.new.items }
     ensures apart { AllPairs HaveOwnNumbers lanes.new.items }
-    ensures each { (number : ℕ) → number < LANES → list_any (is_of_lane number) records.now ≡ true → IsThere number lanes.new.items }
+    ensures each { (number : ℕ) → number < LANES → list_any (is_of_lane number) records.now ≡ true
+        → IsThere number lanes.new.items }
 {
     'rooms: while let Some(answers) = rooms.pop() {
         let number = rooms.len() as u8;
@@ -89,7 +92,8 @@ pub(crate) fn join_lanes<O: Site>(
     parts: &mut [Vec<Answer>],
 )
     requires ready { IsReady unit.now.counters unit.now.plan worker.old }
-    requires lanes { All (λ lane. IsReady unit.now.counters unit.now.plan lane.worker × (lane.number < LANES)) lanes.items }
+    requires lanes { All (λ lane. IsReady unit.now.counters unit.now.plan lane.worker × (lane.number < LANES))
+        lanes.items }
     requires apart { AllPairs HaveOwnNumbers lanes.items }
     requires many { length parts.old ≡ LANES }
     requires empty { (number : ℕ) → left_at number parts.old ≡ [] }

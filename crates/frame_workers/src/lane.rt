@@ -14,8 +14,8 @@ use std::sync::Wait;
 use std::thread;
 use std::thread::Threads;
 
-/// A lane of a segment: its number, its worker with what the worker protects frames under, and the answers to its records, up
-/// to one for which the history was full.
+/// A lane of a segment: its number, its worker with what the worker protects frames under, and the answers to its
+/// records, up to one for which the history was full.
 pub(crate) struct Lane<B> {
     pub(crate) number: u8,
     pub(crate) worker: counter_table::Worker<B>,
@@ -93,7 +93,8 @@ pub(crate) fn run_lanes<R: Threads + Wait + Sync, O: Site + Send, G: Gate + Sync
 )
     requires ascend { Ascend records.now }
     requires can { All (CanRun (IsReady unit.now.counters unit.now.plan) records.now) lanes.old }
-    ensures ran { (k : ℕ) (d : _) → k < length lanes.old → HasRun (IsReady unit.now.counters unit.now.plan) O.told records.now
+    ensures ran { (k : ℕ) (d : _) → k < length lanes.old
+        → HasRun (IsReady unit.now.counters unit.now.plan) O.told records.now
         (slice_index_or lanes.old k d) (slice_index_or lanes.new k d) }
     ensures many { length lanes.new ≡ length lanes.old }
 {

@@ -1,8 +1,8 @@
-//! The records of a segment, handled by workers of the unit that lanes share (profile): the lanes at once, the records of each
-//! lane in their order.
+//! The records of a segment, handled by workers of the unit that lanes share (profile): the lanes at once, the records
+//! of each lane in their order.
 //!
-//! [`run_segment`] answers the records in the order of the input. How a lane waits for another at the turn, and when, is seen
-//! by the caller's [`Gate`] alone.
+//! [`run_segment`] answers the records in the order of the input. How a lane waits for another at the turn, and when,
+//! is seen by the caller's [`Gate`] alone.
 #![tactic(auto)]
 
 mod answering;

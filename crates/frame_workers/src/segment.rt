@@ -61,8 +61,8 @@ fn look_back<O: Site>(unit: &Unit<O>, worker: &mut Worker<O>)
     unit.join(worker, other);
 }
 
-/// Handles the records of a segment, the lanes at the same time, each by a worker of its own, and the records of a lane one
-/// after the other. The answers stand in the order of the records. Where memory is wanting, no record was handled.
+/// Handles the records of a segment, the lanes at the same time, each by a worker of its own, and the records of a lane
+/// one after the other. The answers stand in the order of the records. Where memory is wanting, no record was handled.
 pub fn run_segment<R: Threads + Wait + Sync, O: Site + Send, G: Gate + Sync>(
     rt: &R,
     alloc: Global,
@@ -82,20 +82,23 @@ pub fn run_segment<R: Threads + Wait + Sync, O: Site + Send, G: Gate + Sync>(
     // Each answer fits its record; entries of one lane stand in input order, and nothing was put.
     ensures handled { IfOk result (λ segment. (begin : Begin) (layout : Layout) (number : ℕ)
         → BeganWith O.told begin (view worker.old).turn.known.opening → LiesIn layout number records.now
-        → Handled layout begin (view worker.old) (view worker.new) records.now (deeds_of number records.now segment.answers.items)) }
+        → Handled layout begin (view worker.old) (view worker.new) records.now
+        (deeds_of number records.now segment.answers.items)) }
 
     // All records are answered, or those before the first for which the history was full.
     ensures full { IfOk result (λ segment. (begin : Begin) → BeganWith O.told begin (view worker.old).turn.known.opening
         → EndsSegment begin (view worker.old) (view worker.new) records.now segment.answers.items segment.full) }
 
-    // Where all records are of one lane, they were served in turn, each in the history that those before it left, if nobody else made
-    // a line or moved a word meanwhile.
+    // Where all records are of one lane, they were served in turn, each in the history that those before it left, if
+    // nobody else made a line or moved a word meanwhile.
     ensures alone { OneLane records.now → IfOk result (λ segment. (begin : Begin) (number : ℕ)
         → BeganWith O.told begin (view worker.old).turn.known.opening
-        → ServedAlone begin (view worker.old) (view worker.new) (length records.now) (deeds_of number records.now segment.answers.items)) }
+        → ServedAlone begin (view worker.old) (view worker.new) (length records.now)
+        (deeds_of number records.now segment.answers.items)) }
 
     // Who has all shares did all.
-    ensures whole { (view worker.old).numbers.shares ≡ ALL_SHARES → IfOk result (λ segment. IsWhole MOST_KEYS (view worker.new)) }
+    ensures whole { (view worker.old).numbers.shares ≡ ALL_SHARES
+        → IfOk result (λ segment. IsWhole MOST_KEYS (view worker.new)) }
 {
     let rooms = rooms_for(alloc, records)?;
     let mut lanes = Vec::with_capacity(alloc, usize::from(LANES))?;

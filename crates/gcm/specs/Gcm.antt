@@ -1,5 +1,6 @@
 -- The mode GCM over AES (SP 800-38D), with initialization vectors of 96 bits and tags of 128.
-use Rattle.std.specs.Prelude.{ℕ, ◌+◌, ◌-◌, ◌*◌, ◌/◌, ◌%◌, ◌^◌, List, ◌++◌, map, length, take, drop, replicate, slice_index, bit_xor, Option, Some, None, if◌then◌else◌}
+use Rattle.std.specs.Prelude.{ℕ, ◌+◌, ◌-◌, ◌*◌, ◌/◌, ◌%◌, ◌^◌, List, ◌++◌, map, length, take, drop, replicate}
+use Rattle.std.specs.Prelude.{slice_index, bit_xor, Option, Some, None, if◌then◌else◌}
 use Rattle.std.specs.List.{range_with_len}
 use Rattle.std.specs.Int.{w32, w64, w128, to_be_bytes, from_be_bytes}
 use Rattle.std.specs.Str.{bytes_eq}
@@ -34,7 +35,8 @@ hash_subkey key = from_be_bytes w128 (encrypted key (replicate 16 0))
 
 -- ---- counter mode
 
--- the block J0 (i = 0; 7.1, step 2) and those after it: the vector, then inc32 applied i times to 31 zero bits and a 1 (6.2)
+-- the block J0 (i = 0; 7.1, step 2) and those after it: the vector, then inc32 applied i times to 31 zero bits and a 1
+-- (6.2)
 abbrev pub counter_block : List ℕ → ℕ → List ℕ
 counter_block iv i = iv ++ to_be_bytes w32 ((1 + i) % 2 ^ 32)
 

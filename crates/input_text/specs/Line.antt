@@ -45,7 +45,30 @@ is_skipped (octet ∷ octets) = octet == 35
 -- the item of a line; what is not looked at is 0
 unfoldable pub line_item : Line → Item
 line_item Fence = record { kind = items.Fence; lane = 0; link = 0; octets = [] }
-line_item (Protect lane link octets) = record { kind = items.Recorded records.Protect; lane = lane; link = link; octets = octets }
-line_item (Open lane link octets) = record { kind = items.Recorded records.Open; lane = lane; link = link; octets = octets }
-line_item (Command lane command) = record { kind = items.Recorded records.Command; lane = lane; link = 0; octets = command_octets command }
-line_item (Message lane octets) = record { kind = items.Recorded records.Command; lane = lane; link = 0; octets = octets }
+line_item (Protect lane link octets) = record {
+  kind = items.Recorded records.Protect;
+  lane = lane;
+  link = link;
+  octets = octets;
+}
+line_item (Open lane link octets) = record {
+  kind = items.Recorded records.Open;
+  lane = lane;
+  link = link;
+  octets =
+      octets;
+}
+line_item (Command lane command) = record {
+  kind = items.Recorded records.Command;
+  lane = lane;
+  link = 0;
+  octets =
+      command_octets command;
+}
+line_item (Message lane octets) = record {
+  kind = items.Recorded records.Command;
+  lane = lane;
+  link = 0;
+  octets =
+      octets;
+}

@@ -3,7 +3,10 @@ use Rattle.std.specs.Prelude.{ℕ, codes, List, [], ◌∷◌, Option, Some, Non
 use Rattle.std.specs.Option.{option_or}
 use Rattle.std.specs.Str.{bytes_eq}
 use Rattle.ep_codec.specs.declared.procedure.Procedure.{Procedure}
-use Rattle.ep_codec.specs.declared.procedure.Procedure.TheVariants.{Rekeying, Activate, Deactivate, Verify, Destroy, Inventory, Compose, ReadNumber, Create, Delete, SetWindow, Rekey, Expire, SetNumber, Start, Stop, Status}
+use Rattle.ep_codec.specs.declared.procedure.Procedure.TheVariants.{Rekeying, Activate, Deactivate, Verify, Destroy}
+use Rattle.ep_codec.specs.declared.procedure.Procedure.TheVariants.{Inventory, Compose, ReadNumber, Create, Delete}
+use Rattle.ep_codec.specs.declared.procedure.Procedure.TheVariants.{SetWindow, Rekey, Expire, SetNumber, Start, Stop}
+use Rattle.ep_codec.specs.declared.procedure.Procedure.TheVariants.{Status}
 
 abbrev pub name_word : Procedure → List ℕ
 name_word Rekeying = codes "rekeying"
@@ -27,7 +30,8 @@ name_word Status = codes "status"
 -- the procedure that has this word, among these
 abbrev pub named_in : List Procedure → List ℕ → Option Procedure
 named_in [] word = None
-named_in (procedure ∷ procedures) word = if bytes_eq word (name_word procedure) then Some procedure else named_in procedures word
+named_in (procedure ∷ procedures) word = if bytes_eq word (name_word procedure) then Some procedure else named_in
+    procedures word
 
 -- those that manage keys
 abbrev pub key_procedures : List Procedure
@@ -35,7 +39,8 @@ key_procedures = Rekeying ∷ Activate ∷ Deactivate ∷ Verify ∷ Destroy ∷
 
 -- those that manage associations
 abbrev pub association_procedures : List Procedure
-association_procedures = ReadNumber ∷ Create ∷ Delete ∷ SetWindow ∷ Rekey ∷ Expire ∷ SetNumber ∷ Start ∷ Stop ∷ Status ∷ []
+association_procedures = ReadNumber ∷ Create ∷ Delete ∷ SetWindow ∷ Rekey ∷ Expire ∷ SetNumber ∷ Start ∷ Stop ∷ Status
+    ∷ []
 
 abbrev pub named : List ℕ → Option Procedure
 named word = option_or (named_in key_procedures word) (named_in association_procedures word)

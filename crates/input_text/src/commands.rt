@@ -20,8 +20,10 @@ pub(crate) fn command_named(
     procedure: Procedure,
     fields: &mut Fields<'_>,
 ) -> Result<Command, LineError>
-    ensures read { IfOk result (λ command. (command_procedure command ≡ procedure) × (fields.old ≡ value_words command) × IsCommand command) }
-    ensures only { ByProcedure (λ command. IsCommand command → fields.old ≡ value_words command → AnswersField result command) procedure }
+    ensures read { IfOk result (λ command. (command_procedure command ≡ procedure) × (fields.old ≡ value_words command)
+        × IsCommand command) }
+    ensures only { ByProcedure (λ command. IsCommand command → fields.old ≡ value_words command
+        → AnswersField result command) procedure }
 {
     match procedure {
         Procedure::Rekeying => rekeying(alloc, fields),

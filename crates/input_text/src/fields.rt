@@ -1,5 +1,6 @@
 //! The words of a line, taken from left to right.
-ghost use Rattle.std.specs.Prelude.{◌≡◌, ◌≢◌, ◌^◌, ◌<◌, ◌≤◌, ℕ, List, [], ◌∷◌, decimal, length, IsOk, IfOk, IfSome, Some, MatchOption, MatchResult, IsTrue};
+ghost use Rattle.std.specs.Prelude.{◌≡◌, ◌≢◌, ◌^◌, ◌<◌, ◌≤◌, ℕ, List, [], ◌∷◌, decimal, length, IsOk, IfOk, IfSome};
+ghost use Rattle.std.specs.Prelude.{Some, MatchOption, MatchResult, IsTrue};
 ghost use Rattle.hex.specs.Hex.{encode_lower, IsBytes};
 ghost use Rattle.ep_codec.specs.Field.{is_key, is_spi};
 ghost use Rattle.unit_plan.specs.Lines.{words_of};
@@ -51,7 +52,8 @@ fn number_of(word: &[u8]) -> Option<u64>
 
 /// The octets that the word spells in hexadecimal digits.
 fn octets_of(alloc: Global, word: &[u8]) -> Result<Option<Vec<u8>>, AllocError>
-    ensures read { IfOk result (λ read. IfSome read (λ octets. (word.now ≡ encode_lower octets.items) × IsBytes octets.items)) }
+    ensures read { IfOk result (λ read. IfSome read
+        (λ octets. (word.now ≡ encode_lower octets.items) × IsBytes octets.items)) }
     ensures only { (octets : List ℕ) → IsBytes octets → word.now ≡ encode_lower octets
         → IfOk result (λ read. MatchOption read ⊥ (λ found. found.items ≡ octets)) }
 {
@@ -120,7 +122,8 @@ impl<'a> Fields<'a> {
     /// Takes a number.
     pub fn number(&mut self, expected: Expected) -> Result<u64, LineError>
         ensures read { IfOk result (λ n. self.old ≡ decimal n ∷ self.new) }
-        ensures only { (n : ℕ) (rest : List (List ℕ)) → n < 2 ^ 64 → self.old ≡ decimal n ∷ rest → AnswersField result n }
+        ensures only { (n : ℕ) (rest : List (List ℕ)) → n < 2 ^ 64 → self.old ≡ decimal n ∷ rest
+            → AnswersField result n }
     {
         let Some(word) = self.next() else {
             return Err(self.fault(expected));
@@ -134,7 +137,8 @@ impl<'a> Fields<'a> {
     /// Takes a number within these bounds.
     pub fn bounded(&mut self, expected: Expected, least: u64, most: u64) -> Result<u64, LineError>
         ensures read { IfOk result (λ n. (self.old ≡ decimal n ∷ self.new) × (least ≤ n) × (n ≤ most)) }
-        ensures only { (n : ℕ) (rest : List (List ℕ)) → least ≤ n → n ≤ most → self.old ≡ decimal n ∷ rest → AnswersField result n }
+        ensures only { (n : ℕ) (rest : List (List ℕ)) → least ≤ n → n ≤ most → self.old ≡ decimal n ∷ rest
+            → AnswersField result n }
     {
         let n = self.number(expected)?;
         if n < least || most < n {
@@ -182,7 +186,8 @@ impl<'a> Fields<'a> {
     /// Takes a key's identifier.
     pub fn key(&mut self) -> Result<KeyId, LineError>
         ensures read { IfOk result (λ n. (self.old ≡ decimal n ∷ self.new) × IsTrue (is_key n)) }
-        ensures only { (n : ℕ) (rest : List (List ℕ)) → IsTrue (is_key n) → self.old ≡ decimal n ∷ rest → AnswersField result n }
+        ensures only { (n : ℕ) (rest : List (List ℕ)) → IsTrue (is_key n) → self.old ≡ decimal n ∷ rest
+            → AnswersField result n }
     {
         match self.next() {
             Some(word) => self.key_of(word),
@@ -193,7 +198,8 @@ impl<'a> Fields<'a> {
     /// Takes the index of an association.
     pub fn spi(&mut self) -> Result<Spi, LineError>
         ensures read { IfOk result (λ n. (self.old ≡ decimal n ∷ self.new) × IsTrue (is_spi n)) }
-        ensures only { (n : ℕ) (rest : List (List ℕ)) → IsTrue (is_spi n) → self.old ≡ decimal n ∷ rest → AnswersField result n }
+        ensures only { (n : ℕ) (rest : List (List ℕ)) → IsTrue (is_spi n) → self.old ≡ decimal n ∷ rest
+            → AnswersField result n }
     {
         let n = self.bounded(Expected::Spi, 1, 65_534)?;
         match Spi::new(n as u16) {

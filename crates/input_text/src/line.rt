@@ -1,7 +1,8 @@
 //! A line of recorded input.
 #![tactic(auto, unfolding(crate::specs::Line::line_words, crate::specs::Line::IsLine))]
 
-ghost use Rattle.std.specs.Prelude.{◌≡◌, ◌≤◌, ◌<◌, ◌^◌, ℕ, List, [], ◌∷◌, length, codes, decimal, Some, None, Ok, IfOk, MatchOption, IsTrue};
+ghost use Rattle.std.specs.Prelude.{◌≡◌, ◌≤◌, ◌<◌, ◌^◌, ℕ, List, [], ◌∷◌, length, codes, decimal, Some, None, Ok, IfOk};
+ghost use Rattle.std.specs.Prelude.{MatchOption, IsTrue};
 ghost use Rattle.ep_codec.specs.declared.command.Command.{Command};
 ghost use Rattle.input_text.specs.declared.line.Line.TheVariants as lines;
 ghost use Rattle.text_words.specs.Words.{octets_word};
@@ -35,7 +36,8 @@ pub enum Line {
 
 fn lane(fields: &mut Fields<'_>) -> Result<u8, LineError>
     ensures read { IfOk result (λ lane. (fields.old ≡ decimal lane ∷ fields.new) × IsLane lane) }
-    ensures only { (lane : ℕ) (rest : List (List ℕ)) → IsLane lane → fields.old ≡ decimal lane ∷ rest → AnswersField result lane }
+    ensures only { (lane : ℕ) (rest : List (List ℕ)) → IsLane lane → fields.old ≡ decimal lane ∷ rest
+        → AnswersField result lane }
 {
     let lane = fields.bounded(Expected::Lane, 0, u64::from(LANES) - 1)?;
     Ok(lane as u8)
@@ -57,7 +59,8 @@ fn frame(alloc: Global, fields: &mut Fields<'_>) -> Result<(u8, u8, Octets), Lin
     ensures read { IfOk result (λ read. (fields.old ≡ decimal read.0 ∷ decimal read.1 ∷ octets_word read.2 ∷ [])
         × IsLane read.0 × AreRecorded read.2) }
     ensures only { (lane link : ℕ) (octets : List ℕ) → IsLane lane → link < 2 ^ 8 → AreRecorded octets
-        → fields.old ≡ decimal lane ∷ decimal link ∷ octets_word octets ∷ [] → AnswersField result (lane, link, octets) }
+        → fields.old ≡ decimal lane ∷ decimal link ∷ octets_word octets ∷ []
+        → AnswersField result (lane, link, octets) }
 {
     let lane = lane(fields)?;
     let (link, octets) = link_and_octets(alloc, fields)?;
@@ -115,7 +118,8 @@ fn said(alloc: Global, fields: &mut Fields<'_>) -> Result<Line, LineError>
     ensures read { IfOk result (λ line. (fields.old ≡ line_words line) × IsLine line) }
     ensures fence { fields.old ≡ line_words lines.Fence → AnswersField result lines.Fence }
     ensures protect { (lane link : ℕ) (octets : List ℕ) → IsLane lane → link < 2 ^ 8 → AreRecorded octets
-        → fields.old ≡ line_words (lines.Protect lane link octets) → AnswersField result (lines.Protect lane link octets) }
+        → fields.old ≡ line_words (lines.Protect lane link octets)
+        → AnswersField result (lines.Protect lane link octets) }
     ensures open_frame { (lane link : ℕ) (octets : List ℕ) → IsLane lane → link < 2 ^ 8 → AreRecorded octets
         → fields.old ≡ line_words (lines.Open lane link octets) → AnswersField result (lines.Open lane link octets) }
     ensures command { (lane : ℕ) (command : Command) → IsLane lane → IsCommand command
@@ -163,11 +167,13 @@ fn name_line_feed(text: &[u8], fault: LineFault) -> LineFault {
 
 /// What the line says, without its line feed: an item, or nothing where it is empty or begins with `#`.
 ///
-/// A `Fault` tells the first word with which the line says nothing any more, counted from 1, and what was expected there.
+/// A `Fault` tells the first word with which the line says nothing any more, counted from 1, and what was expected
+/// there.
 pub fn read_line(alloc: Global, text: &[u8]) -> Result<Option<Line>, LineError>
     // What is read is what the line says, and nothing is read where it is skipped.
     ensures read { IfOk result (λ read. MatchOption read (IsTrue (is_skipped text.now)) (Says text.now)) }
-    // What a line says is read, unless memory runs out: so it says one thing at most, and a fault comes where it says nothing.
+    // What a line says is read, unless memory runs out: so it says one thing at most, and a fault comes where it says
+    // nothing.
     ensures only { (line : Line) → Says text.now line → AnswersField result (Some line) }
     ensures skipped { IsTrue (is_skipped text.now) → result ≡ Ok None }
 {

@@ -14,7 +14,8 @@ use unit_plan::are_channels;
 /// Takes the keys that are left, 1 to 8.
 pub(crate) fn keys(alloc: Global, fields: &mut Fields<'_>) -> Result<KeyList, LineError>
     ensures read { IfOk result (λ keys. (fields.old ≡ map decimal keys) × AreKeys keys × IsKeyCount (length keys)) }
-    ensures only { (keys : List ℕ) → AreKeys keys → IsKeyCount (length keys) → fields.old ≡ map decimal keys → AnswersField result keys }
+    ensures only { (keys : List ℕ) → AreKeys keys → IsKeyCount (length keys) → fields.old ≡ map decimal keys
+        → AnswersField result keys }
 {
     let mut keys: Vec<KeyId> = Vec::new(alloc);
     let first = fields.key()?;
@@ -34,7 +35,8 @@ pub(crate) fn keys(alloc: Global, fields: &mut Fields<'_>) -> Result<KeyList, Li
 fn channel_numbers(alloc: Global, fields: &mut Fields<'_>) -> Result<Octets, LineError>
     ensures read { IfOk result (λ numbers. fields.old ≡ map decimal numbers) }
     ensures only { (numbers : List ℕ) → AllByRecursion (λ channel. channel ≤ 63) numbers
-        → 1 ≤ length numbers → length numbers ≤ MOST_CHANNELS → fields.old ≡ map decimal numbers → AnswersField result numbers }
+        → 1 ≤ length numbers → length numbers ≤ MOST_CHANNELS → fields.old ≡ map decimal numbers
+        → AnswersField result numbers }
 {
     let mut numbers: Vec<u8> = Vec::new(alloc);
     let first = fields.channel()?;

@@ -33,9 +33,11 @@ fn key_and_number(fields: &mut Fields<'_>) -> Result<(KeyId, u64), LineError>
 }
 
 pub(crate) fn rekey(fields: &mut Fields<'_>) -> Result<Command, LineError>
-    ensures read { IfOk result (λ command. (fields.old ≡ value_words command) × IsCommand command × (command_procedure command ≡ procedures.Rekey)) }
+    ensures read { IfOk result (λ command. (fields.old ≡ value_words command) × IsCommand command
+        × (command_procedure command ≡ procedures.Rekey)) }
     ensures only { (spi key number : ℕ) → IsTrue (is_spi spi) → IsTrue (is_key key) → number < 2 ^ 64
-        → fields.old ≡ value_words (commands.Rekey spi key number) → AnswersField result (commands.Rekey spi key number) }
+        → fields.old ≡ value_words (commands.Rekey spi key number)
+        → AnswersField result (commands.Rekey spi key number) }
 {
     let spi = fields.spi()?;
     let (key, number) = key_and_number(fields)?;
@@ -43,9 +45,11 @@ pub(crate) fn rekey(fields: &mut Fields<'_>) -> Result<Command, LineError>
 }
 
 pub(crate) fn verify(alloc: Global, fields: &mut Fields<'_>) -> Result<Command, LineError>
-    ensures read { IfOk result (λ command. (fields.old ≡ value_words command) × IsCommand command × (command_procedure command ≡ procedures.Verify)) }
+    ensures read { IfOk result (λ command. (fields.old ≡ value_words command) × IsCommand command
+        × (command_procedure command ≡ procedures.Verify)) }
     ensures only { (key : ℕ) (challenge : List ℕ) → IsTrue (is_key key) → IsBytes challenge → length challenge ≡ 16
-        → fields.old ≡ value_words (commands.Verify key challenge) → AnswersField result (commands.Verify key challenge) }
+        → fields.old ≡ value_words (commands.Verify key challenge)
+        → AnswersField result (commands.Verify key challenge) }
 {
     let key = fields.key()?;
     let challenge = fields.last_block(alloc)?;
@@ -53,9 +57,11 @@ pub(crate) fn verify(alloc: Global, fields: &mut Fields<'_>) -> Result<Command, 
 }
 
 pub(crate) fn inventory(fields: &mut Fields<'_>) -> Result<Command, LineError>
-    ensures read { IfOk result (λ command. (fields.old ≡ value_words command) × IsCommand command × (command_procedure command ≡ procedures.Inventory)) }
+    ensures read { IfOk result (λ command. (fields.old ≡ value_words command) × IsCommand command
+        × (command_procedure command ≡ procedures.Inventory)) }
     ensures only { (first last : ℕ) → first ≤ last → last < 2 ^ 16
-        → fields.old ≡ value_words (commands.Inventory first last) → AnswersField result (commands.Inventory first last) }
+        → fields.old ≡ value_words (commands.Inventory first last)
+        → AnswersField result (commands.Inventory first last) }
 {
     let first = fields.bounded(Expected::First, 0, 65_535)?;
     let last = fields.last_number(Expected::Last, first, 65_535)?;
@@ -66,9 +72,11 @@ pub(crate) fn inventory(fields: &mut Fields<'_>) -> Result<Command, LineError>
 }
 
 pub(crate) fn set_number(fields: &mut Fields<'_>) -> Result<Command, LineError>
-    ensures read { IfOk result (λ command. (fields.old ≡ value_words command) × IsCommand command × (command_procedure command ≡ procedures.SetNumber)) }
+    ensures read { IfOk result (λ command. (fields.old ≡ value_words command) × IsCommand command
+        × (command_procedure command ≡ procedures.SetNumber)) }
     ensures only { (spi number : ℕ) → IsTrue (is_spi spi) → number < 2 ^ 64
-        → fields.old ≡ value_words (commands.SetNumber spi number) → AnswersField result (commands.SetNumber spi number) }
+        → fields.old ≡ value_words (commands.SetNumber spi number)
+        → AnswersField result (commands.SetNumber spi number) }
 {
     let spi = fields.spi()?;
     let number = fields.last_number(Expected::Number, 0, u64::MAX)?;
@@ -77,7 +85,8 @@ pub(crate) fn set_number(fields: &mut Fields<'_>) -> Result<Command, LineError>
 
 /// What is sealed.
 fn sealed(alloc: Global, fields: &mut Fields<'_>) -> Result<Octets, LineError>
-    ensures read { IfOk result (λ sealed. (fields.old ≡ encode_lower sealed ∷ fields.new) × IsBytes sealed × IsSealedLength sealed) }
+    ensures read { IfOk result (λ sealed. (fields.old ≡ encode_lower sealed ∷ fields.new) × IsBytes sealed
+        × IsSealedLength sealed) }
     ensures only { (sealed : List ℕ) (rest : List (List ℕ)) → IsBytes sealed → IsSealedLength sealed
         → fields.old ≡ encode_lower sealed ∷ rest → AnswersField result sealed }
 {
@@ -87,7 +96,8 @@ fn sealed(alloc: Global, fields: &mut Fields<'_>) -> Result<Octets, LineError>
 
 /// What is sealed, and its tag, the last words.
 fn sealed_and_tag(alloc: Global, fields: &mut Fields<'_>) -> Result<(Octets, [u8; 16]), LineError>
-    ensures read { IfOk result (λ read. (fields.old ≡ encode_lower read.0 ∷ encode_lower read.1 ∷ []) × IsBytes read.0 × IsSealedLength read.0) }
+    ensures read { IfOk result (λ read. (fields.old ≡ encode_lower read.0 ∷ encode_lower read.1 ∷ []) × IsBytes read.0
+        × IsSealedLength read.0) }
     ensures only { (sealed tag : List ℕ) → IsBytes sealed → IsSealedLength sealed → IsBytes tag → length tag ≡ 16
         → fields.old ≡ encode_lower sealed ∷ encode_lower tag ∷ [] → AnswersField result (sealed, tag) }
 {
@@ -101,11 +111,13 @@ fn behind_master(
     alloc: Global,
     fields: &mut Fields<'_>,
 ) -> Result<([u8; 12], Octets, [u8; 16]), LineError>
-    ensures read { IfOk result (λ read. (fields.old ≡ encode_lower read.0 ∷ encode_lower read.1 ∷ encode_lower read.2 ∷ [])
+    ensures read { IfOk result (λ read. (fields.old ≡ encode_lower read.0 ∷ encode_lower read.1 ∷ encode_lower read.2
+        ∷ [])
         × IsBytes read.1 × IsSealedLength read.1) }
     ensures only { (vector sealed tag : List ℕ) → IsBytes vector → length vector ≡ 12 → IsBytes sealed
         → IsSealedLength sealed → IsBytes tag → length tag ≡ 16
-        → fields.old ≡ encode_lower vector ∷ encode_lower sealed ∷ encode_lower tag ∷ [] → AnswersField result (vector, sealed, tag) }
+        → fields.old ≡ encode_lower vector ∷ encode_lower sealed ∷ encode_lower tag ∷ []
+        → AnswersField result (vector, sealed, tag) }
 {
     let vector = fields.array(alloc, Expected::Vector)?;
     let (sealed, tag) = sealed_and_tag(alloc, fields)?;
@@ -113,7 +125,8 @@ fn behind_master(
 }
 
 pub(crate) fn rekeying(alloc: Global, fields: &mut Fields<'_>) -> Result<Command, LineError>
-    ensures read { IfOk result (λ command. (fields.old ≡ value_words command) × IsCommand command × (command_procedure command ≡ procedures.Rekeying)) }
+    ensures read { IfOk result (λ command. (fields.old ≡ value_words command) × IsCommand command
+        × (command_procedure command ≡ procedures.Rekeying)) }
     ensures only { (master : ℕ) (vector sealed tag : List ℕ) → IsTrue (is_key master) → IsBytes vector
         → length vector ≡ 12 → IsBytes sealed → IsSealedLength sealed → IsBytes tag → length tag ≡ 16
         → fields.old ≡ value_words (commands.Rekeying master vector sealed tag)
@@ -130,9 +143,11 @@ pub(crate) fn rekeying(alloc: Global, fields: &mut Fields<'_>) -> Result<Command
 }
 
 pub(crate) fn set_window(fields: &mut Fields<'_>) -> Result<Command, LineError>
-    ensures read { IfOk result (λ command. (fields.old ≡ value_words command) × IsCommand command × (command_procedure command ≡ procedures.SetWindow)) }
+    ensures read { IfOk result (λ command. (fields.old ≡ value_words command) × IsCommand command
+        × (command_procedure command ≡ procedures.SetWindow)) }
     ensures only { (spi window : ℕ) → IsTrue (is_spi spi) → IsWidth window
-        → fields.old ≡ value_words (commands.SetWindow spi window) → AnswersField result (commands.SetWindow spi window) }
+        → fields.old ≡ value_words (commands.SetWindow spi window)
+        → AnswersField result (commands.SetWindow spi window) }
 {
     let spi = fields.spi()?;
     let window = fields.last_number(Expected::Window, 1, MOST_WINDOW)?;
@@ -140,9 +155,11 @@ pub(crate) fn set_window(fields: &mut Fields<'_>) -> Result<Command, LineError>
 }
 
 pub(crate) fn compose(alloc: Global, fields: &mut Fields<'_>) -> Result<Command, LineError>
-    ensures read { IfOk result (λ command. (fields.old ≡ value_words command) × IsCommand command × (command_procedure command ≡ procedures.Compose)) }
+    ensures read { IfOk result (λ command. (fields.old ≡ value_words command) × IsCommand command
+        × (command_procedure command ≡ procedures.Compose)) }
     ensures only { (master : ℕ) (listed : List ℕ) → IsTrue (is_key master) → AreKeys listed → IsKeyCount (length listed)
-        → fields.old ≡ value_words (commands.Compose master listed) → AnswersField result (commands.Compose master listed) }
+        → fields.old ≡ value_words (commands.Compose master listed)
+        → AnswersField result (commands.Compose master listed) }
 {
     let master = fields.key()?;
     let keys = keys(alloc, fields)?;
@@ -192,7 +209,8 @@ fn from_suite(alloc: Global, fields: &mut Fields<'_>) -> Result<(Suite, u64, Oct
         × IsWidth read.1 × AreChannels read.2 × AllByRecursion (λ channel. channel ≤ 63) read.2) }
     ensures only { (suite : Suite) (window : ℕ) (covered : List ℕ) → IsWidth window → AreChannels covered
         → AllByRecursion (λ channel. channel ≤ 63) covered
-        → fields.old ≡ suite_word suite ∷ decimal window ∷ map decimal covered → AnswersField result (suite, window, covered) }
+        → fields.old ≡ suite_word suite ∷ decimal window ∷ map decimal covered
+        → AnswersField result (suite, window, covered) }
 {
     let suite = suite(fields)?;
     let (window, channels) = window_and_channels(alloc, fields)?;
@@ -218,7 +236,8 @@ fn from_direction(
 }
 
 pub(crate) fn create(alloc: Global, fields: &mut Fields<'_>) -> Result<Command, LineError>
-    ensures read { IfOk result (λ command. (fields.old ≡ value_words command) × IsCommand command × (command_procedure command ≡ procedures.Create)) }
+    ensures read { IfOk result (λ command. (fields.old ≡ value_words command) × IsCommand command
+        × (command_procedure command ≡ procedures.Create)) }
     ensures only { (sa : NewSa) → IsTrue (is_spi sa.spi) → IsWidth sa.window → AreChannels sa.channels
         → AllByRecursion (λ channel. channel ≤ 63) sa.channels
         → fields.old ≡ value_words (commands.Create sa) → AnswersField result (commands.Create sa) }

@@ -69,7 +69,8 @@ AddsLine item old new = (text : List ℕ) × Spells item text × (new ≡ old ++
 -- the text is the lines of these items, one after the other
 abbrev pub SpellsAll : List Item → List ℕ → Type 0
 SpellsAll [] text = text ≡ []
-SpellsAll (item ∷ items) text = (front rest : List ℕ) × Spells item front × SpellsAll items rest × (text ≡ front ++ rest)
+SpellsAll (item ∷ items) text = (front rest : List ℕ) × Spells item front × SpellsAll items rest
+    × (text ≡ front ++ rest)
 
 -- the lines say these items, in their order; a line that is skipped says none
 abbrev pub SayItems : List (List ℕ) → List Item → Type 0

@@ -63,7 +63,8 @@ fn line_of(alloc: Global, recorded: Record) -> Result<Line, NoMemory>
 ///
 /// A command is told by its name and values where its octets are a message, and else by its octets.
 pub fn put_record(alloc: Global, text: &mut Vec<u8>, recorded: Record) -> Result<(), NoMemory>
-    ensures { IsItem (item_of recorded) → OnOk result (AddsLine (seen_item (item_of recorded)) text.old.items text.new.items) }
+    ensures { IsItem (item_of recorded) → OnOk result
+        (AddsLine (seen_item (item_of recorded)) text.old.items text.new.items) }
 {
     let line = line_of(alloc, recorded)?;
     put_line(alloc, text, &line)?;
@@ -72,7 +73,8 @@ pub fn put_record(alloc: Global, text: &mut Vec<u8>, recorded: Record) -> Result
 
 /// Puts the line of a fence, with a line feed at its end.
 pub fn put_fence(alloc: Global, text: &mut Vec<u8>) -> Result<(), NoMemory>
-    ensures { OnOk result (AddsLine (record { kind = Fence; lane = 0; link = 0; octets = [] }) text.old.items text.new.items) }
+    ensures { OnOk result (AddsLine (record { kind = Fence; lane = 0; link = 0; octets = [] }) text.old.items
+        text.new.items) }
 {
     put_line(alloc, text, &Line::Fence)?;
     Ok(())

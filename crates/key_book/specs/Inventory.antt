@@ -8,7 +8,8 @@ use Rattle.key_book.specs.declared.key_row.KeyRow.{KeyRow}
 
 -- the keys from one identifier to another, with their states
 abbrev pub listed : List KeyRow → ℕ → ℕ → List (ℕ × KeyState)
-listed rows first last = map (λ row. (row.id, row.state)) (filter (λ row. nat_le first row.id && nat_le row.id last) rows)
+listed rows first last = map (λ row. (row.id, row.state))
+    (filter (λ row. nat_le first row.id && nat_le row.id last) rows)
 
 -- how many there are, and the first of them in ascending order
 pub record IsInventory (rows : List KeyRow) (first last : ℕ) (inventory : Inventory) : Type 0 where

@@ -24,7 +24,14 @@ pub record IsKeyRow (row : KeyRow) : Type 0 where
 
 -- the row of a key just loaded: it has sent nothing and accepted nothing
 abbrev pub new_row : KeyItem → KeyRow
-new_row item = record { id = item.id; state = PreActive; bytes = item.bytes; digest = sha256 item.bytes; mark = 1; floor = 0 }
+new_row item = record {
+  id = item.id;
+  state = PreActive;
+  bytes = item.bytes;
+  digest = sha256 item.bytes;
+  mark = 1;
+  floor = 0;
+}
 
 -- what a state leaves of a key's octets
 abbrev pub bytes_in : KeyState → List ℕ → List ℕ

@@ -1,5 +1,6 @@
 -- Keys that take a state (CCSDS 355.1-B-1, key activation, deactivation and destruction; order profile).
-use Rattle.std.specs.Prelude.{ℕ, Bool, true, false, not, ◌==◌, if◌then◌else◌, min, List, [], ◌∷◌, map, filter, Option, Some, None}
+use Rattle.std.specs.Prelude.{ℕ, Bool, true, false, not, ◌==◌, if◌then◌else◌, min, List, [], ◌∷◌, map, filter, Option}
+use Rattle.std.specs.Prelude.{Some, None}
 use Rattle.std.specs.List.{list_any}
 use Rattle.std.specs.Option.{option_or, option_map_or}
 use Rattle.sdls_base.specs.FirstFailing.{fails_if}

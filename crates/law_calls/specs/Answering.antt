@@ -1,11 +1,13 @@
 -- The answers to records, by what the calls on the unit answered (profile).
-use Rattle.std.specs.Prelude.{◌≢◌, ◌⊎◌, ℕ, ◌≤◌, Bool, List, [], ◌∷◌, length, take, Option, Some, None, Result, Ok, Err, MatchResult}
+use Rattle.std.specs.Prelude.{◌≢◌, ◌⊎◌, ℕ, ◌≤◌, Bool, List, [], ◌∷◌, length, take, Option, Some, None, Result, Ok, Err}
+use Rattle.std.specs.Prelude.{MatchResult}
 use Rattle.sdls_outside.specs.Moments.{Trace}
 use Rattle.frame_checks.specs.declared.open_reply.OpenReply.{OpenReply}
 use Rattle.frame_checks.specs.Accepting.{LeavesOctets, field_in}
 use Rattle.ep_core.specs.declared.reply.Reply.{Reply}
 use Rattle.record_io.specs.declared.answers.Answer.{Answer}
-use Rattle.record_io.specs.declared.code.TheConstants.{PROTECTED, CLEAR, EXHAUSTED, JOURNAL_FULL, SITE_FAULT, STOPPED, NO_MEMORY}
+use Rattle.record_io.specs.declared.code.TheConstants.{PROTECTED, CLEAR, EXHAUSTED, JOURNAL_FULL, SITE_FAULT, STOPPED}
+use Rattle.record_io.specs.declared.code.TheConstants.{NO_MEMORY}
 use Rattle.record_io.specs.declared.kinds.RecordKind.TheVariants.{Protect}
 use Rattle.record_io.specs.declared.records.Record.{Record}
 use Rattle.counter_table.specs.declared.view.View.{View}
@@ -64,7 +66,8 @@ commanded_answer (Err refused) = fault_answer refused.0 refused.1
 
 -- of a frame that was protected, with the octets of the room that the call wrote to
 abbrev pub protected_answer : Protected → List ℕ → Option Answer
-protected_answer (protecteds.Done d) out = Some (answer_of (numbered PROTECTED d.key d.number (take d.length out)) d.epoch)
+protected_answer (protecteds.Done d) out = Some (answer_of (numbered PROTECTED d.key d.number (take d.length out))
+    d.epoch)
 protected_answer protecteds.Clear out = Some (answer_of (plain CLEAR 0) 0)
 protected_answer (protecteds.Refused fault epoch) out = Some (answer_of (fault_told fault) epoch)
 protected_answer (protecteds.Exhausted key number epoch) out = Some (answer_of (numbered EXHAUSTED key number []) epoch)
@@ -72,8 +75,8 @@ protected_answer (protecteds.Fault fault position) out = fault_answer fault posi
 
 -- ---- what became of a record
 
--- why a record has no answer: the run has as many entries as it may, the site had not failed, and the record is of a kind that
--- always makes one, or may need one
+-- why a record has no answer: the run has as many entries as it may, the site had not failed, and the record is of a
+-- kind that always makes one, or may need one
 pub record IsFullFor (begin : Begin) (old new : View) (task : Record) : Type 0 where
   pub full : MOST_ENTRIES ≤ length (entries_in new)
   pub not_failed : ¬ Rose old.turn.known.opening.faults old.turn.known.faults
@@ -81,27 +84,33 @@ pub record IsFullFor (begin : Begin) (old new : View) (task : Record) : Type 0 w
 
 -- the record was handled and has this answer; or it has none, since the history is full
 abbrev pub Answered : Layout → Begin → ℕ → View → View → Record → Option Answer → Type 0
-Answered layout begin segment old new task (Some answer) = Handled layout begin old new (task ∷ []) (deed_of segment task answer ∷ [])
-Answered layout begin segment old new task None = Handled layout begin old new (task ∷ []) [] × IsFullFor begin old new task
+Answered layout begin segment old new task (Some answer) = Handled layout begin old new (task ∷ [])
+    (deed_of segment task answer ∷ [])
+Answered layout begin segment old new task None = Handled layout begin old new (task ∷ []) []
+    × IsFullFor begin old new task
 
 -- The record was served in turn, and moved a word as its answer tells; where it has none, it may have moved one.
 abbrev pub AnsweredExactly : Begin → ℕ → View → View → Record → Option Answer → Type 0
-AnsweredExactly begin segment old new task (Some answer) = MovedInTurn begin old new 1 (deed_of segment task answer ∷ [])
+AnsweredExactly begin segment old new task (Some answer) = MovedInTurn begin old new 1
+    (deed_of segment task answer ∷ [])
 AnsweredExactly begin segment old new task None = MovedInTurn begin old new 1 []
 
 -- ---- what the calls say, for a record
 
 -- `open_frame`, which left the frame's octets so
-abbrev pub OpensRecord : {O : Type 0} → Bool → (O → Trace) → (O → ℕ) → (O → ℕ) → Record → List ℕ → Result (OpenReply × ℕ) (BookFault × ℕ)
+abbrev pub OpensRecord : {O : Type 0} → Bool → (O → Trace) → (O → ℕ) → (O → ℕ) → Record → List ℕ
+    → Result (OpenReply × ℕ) (BookFault × ℕ)
     → View → View → Type 0
 OpensRecord {O} told trace faults_of puts task left result v w = (found : BookView O) × (given : BookView O)
     × Visits told trace faults_of puts found given v.turn w.turn
     × WithPosition result (known_of_book trace faults_of puts given) (λ answer. MatchResult answer
-    (λ told. OpensWithEntry faults_of task.index task.link task.octets (field_in told.0 left) found given told.0 told.1 × LeavesOctets told.0 task.octets left)
+    (λ told. OpensWithEntry faults_of task.index task.link task.octets (field_in told.0 left) found given told.0 told.1
+    × LeavesOctets told.0 task.octets left)
     (RefusesFrame faults_of task.index task.link task.octets found given))
 
 -- `command`
-abbrev pub CommandsRecord : {O : Type 0} → Bool → (O → Trace) → (O → ℕ) → (O → ℕ) → Record → Result (Reply × ℕ) (BookFault × ℕ)
+abbrev pub CommandsRecord : {O : Type 0} → Bool → (O → Trace) → (O → ℕ) → (O → ℕ) → Record
+    → Result (Reply × ℕ) (BookFault × ℕ)
     → View → View → Type 0
 CommandsRecord {O} told trace faults_of puts task result v w = (found : BookView O) × (given : BookView O)
     × Visits told trace faults_of puts found given v.turn w.turn

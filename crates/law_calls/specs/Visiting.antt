@@ -7,9 +7,10 @@ use Rattle.shared_unit.specs.Turn.{Visits}
 use Rattle.law_worker.specs.Begin.{Begin}
 use Rattle.law_worker.specs.Began.{BeganWith}
 
--- A worker of the run, which had not the turn, took it once, with the one book found and the other given back, and left the
--- numbers.
-pub record Visited {O : Type 0} (told : Bool) (trace : O → Trace) (faults puts : O → ℕ) (begin : Begin) (found given : BookView O) (v w : View) : Type 0 where
+-- A worker of the run, which had not the turn, took it once, with the one book found and the other given back, and left
+-- the numbers.
+pub record Visited {O : Type 0} (told : Bool) (trace : O → Trace) (faults puts : O → ℕ) (begin : Begin)
+    (found given : BookView O) (v w : View) : Type 0 where
   pub began : BeganWith told begin v.turn.known.opening
   pub free : v.turn.holds ≡ false
   pub visits : Visits told trace faults puts found given v.turn w.turn

@@ -13,7 +13,8 @@ ghost use Rattle.shared_unit.specs.Protecting.{IsProtectStep};
 ghost use Rattle.law_worker.specs.Begin.{Begin};
 ghost use Rattle.law_worker.specs.Order.{Layout};
 ghost use Rattle.law_worker.specs.Began.{BeganWith};
-ghost use Rattle.law_calls.specs.Answering.{Answered, commanded_answer, CommandsRecord, opened_answer, OpensRecord, protected_answer, unserved_answer};
+ghost use Rattle.law_calls.specs.Answering.{Answered, commanded_answer, CommandsRecord, opened_answer, OpensRecord};
+ghost use Rattle.law_calls.specs.Answering.{protected_answer, unserved_answer};
 
 use sdls_outside::Site;
 
@@ -26,15 +27,18 @@ pub fn unserved_answers()
 /// Law: a frame that was opened, or was refused, has its answer.
 pub fn opening_answers<O: Site>()
     ensures { (begin : Begin) (layout : Layout) (segment : ℕ) (v w : View) (task : Record) (left : List ℕ)
-        (result : Result (OpenReply × ℕ) (BookFault × ℕ)) → BeganWith O.told begin v.turn.known.opening → v.turn.holds ≡ false
-        → task.kind ≡ Open → w.numbers ≡ v.numbers → OpensRecord O.told O.trace O.faults O.put_faults task left result v w
+        (result : Result (OpenReply × ℕ) (BookFault × ℕ)) → BeganWith O.told begin v.turn.known.opening
+        → v.turn.holds ≡ false
+        → task.kind ≡ Open → w.numbers ≡ v.numbers → OpensRecord O.told O.trace O.faults O.put_faults task left result v
+        w
         → Answered layout begin segment v w task (opened_answer result left) }
 {}
 
 /// Law: a message that was handled, or was refused, has its answer.
 pub fn commanding_answers<O: Site>()
     ensures { (begin : Begin) (layout : Layout) (segment : ℕ) (v w : View) (task : Record)
-        (result : Result (Reply × ℕ) (BookFault × ℕ)) → BeganWith O.told begin v.turn.known.opening → v.turn.holds ≡ false
+        (result : Result (Reply × ℕ) (BookFault × ℕ)) → BeganWith O.told begin v.turn.known.opening
+        → v.turn.holds ≡ false
         → task.kind ≡ Command → CommandsRecord O.told O.trace O.faults O.put_faults task result v w
         → Answered layout begin segment v w task (commanded_answer result) }
 {}

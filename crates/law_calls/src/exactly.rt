@@ -13,7 +13,8 @@ ghost use Rattle.shared_unit.specs.Protecting.{CoversIfTaken, IsProtectStep};
 ghost use Rattle.shared_unit.specs.Turn.{FindsCovered};
 ghost use Rattle.law_worker.specs.Begin.{Begin};
 ghost use Rattle.law_worker.specs.Began.{BeganWith};
-ghost use Rattle.law_calls.specs.Answering.{AnsweredExactly, commanded_answer, CommandsRecord, opened_answer, OpensRecord, protected_answer, unserved_answer};
+ghost use Rattle.law_calls.specs.Answering.{AnsweredExactly, commanded_answer, CommandsRecord, opened_answer};
+ghost use Rattle.law_calls.specs.Answering.{OpensRecord, protected_answer, unserved_answer};
 
 use sdls_outside::Site;
 
@@ -26,8 +27,10 @@ pub fn unserved_is_exact()
 /// Law: a frame that is opened moves no word.
 pub fn opening_is_exact<O: Site>()
     ensures { (begin : Begin) (segment : ℕ) (v w : View) (task : Record) (left : List ℕ)
-        (result : Result (OpenReply × ℕ) (BookFault × ℕ)) → BeganWith O.told begin v.turn.known.opening → v.turn.holds ≡ false
-        → task.kind ≡ Open → w.numbers ≡ v.numbers → OpensRecord O.told O.trace O.faults O.put_faults task left result v w
+        (result : Result (OpenReply × ℕ) (BookFault × ℕ)) → BeganWith O.told begin v.turn.known.opening
+        → v.turn.holds ≡ false
+        → task.kind ≡ Open → w.numbers ≡ v.numbers → OpensRecord O.told O.trace O.faults O.put_faults task left result v
+        w
         → FindsCovered O.told O.trace O.faults O.put_faults v w
         → AnsweredExactly begin segment v w task (opened_answer result left) }
 {}
@@ -35,7 +38,8 @@ pub fn opening_is_exact<O: Site>()
 /// Law: a message moves the word that it needs, and its answer tells how.
 pub fn commanding_is_exact<O: Site>()
     ensures { (begin : Begin) (segment : ℕ) (v w : View) (task : Record)
-        (result : Result (Reply × ℕ) (BookFault × ℕ)) → BeganWith O.told begin v.turn.known.opening → v.turn.holds ≡ false
+        (result : Result (Reply × ℕ) (BookFault × ℕ)) → BeganWith O.told begin v.turn.known.opening
+        → v.turn.holds ≡ false
         → task.kind ≡ Command → CommandsRecord O.told O.trace O.faults O.put_faults task result v w
         → FindsCovered O.told O.trace O.faults O.put_faults v w
         → AnsweredExactly begin segment v w task (commanded_answer result) }

@@ -1,8 +1,9 @@
-//! What calls on the unit that lanes share are as work: what a worker drew, spent, raised and made in a call, and the answer
-//! that its record has (profile).
+//! What calls on the unit that lanes share are as work: what a worker drew, spent, raised and made in a call, and the
+//! answer that its record has (profile).
 //!
-//! There is no code to run here: definitions stand in `specs`, and the functions are laws over them, with an empty body. Each
-//! takes what a call of `shared_unit` ensures, and tells the piece of work that it is. Read [`protecting_answers`] first.
+//! There is no code to run here: definitions stand in `specs`, and the functions are laws over them, with an empty
+//! body. Each takes what a call of `shared_unit` ensures, and tells the piece of work that it is. Read
+//! [`protecting_answers`] first.
 #![tactic(auto)]
 
 mod answering;

@@ -28,7 +28,8 @@ pub fn putting_works<O: Site>()
         → IsPut O.told O.trace O.faults O.put_faults octets result found given → Worked begin v w tasks }
 {}
 
-/// Law: the first put behind a segment settles its answers, where it says that no number spent is at or above its row's mark.
+/// Law: the first put behind a segment settles its answers, where it says that no number spent is at or above its row's
+/// mark.
 pub fn putting_settles<O: Site>()
     ensures { (begin : Begin) (v w : View) (found given : BookView O) (octets : List ℕ)
         (result : Result (Unit {0}) BookFault) → Visited O.told O.trace O.faults O.put_faults begin found given v w

@@ -27,7 +27,8 @@ module _ {B : Type 0} (told : B → Known) where
 
   -- what the counters tell the worker that steps is what it then knows in the scene
   abbrev pub ToldAfter : Type 0
-  ToldAfter = (count : ℕ) (s : Scene) (move : Move) (m w : Me (Option B) View) → Tells told count move s m w → MovesBook told move s m w
+  ToldAfter = (count : ℕ) (s : Scene) (move : Move) (m w : Me (Option B) View) → Tells told count move s m w
+      → MovesBook told move s m w
       → w.0 ≡ view_after m.0 move s
 
 -- the used pairs stay those that the workers spent
@@ -43,14 +44,17 @@ pub record MarksOne (row mark : ℕ) (book later : Known) : Type 0 where
 
 -- the holder's book stored a mark: the core writes it and syncs
 abbrev pub StoresTie : {B : Type 0} → (B → Known) → Type 0
-StoresTie told = (count : ℕ) (s : Scene) → IsRuled told count s → (id : ℕ) (v : View) → slice_get s.views id ≡ Some v → v.turn.holds ≡ true
-    → (row key mark : ℕ) (later : Known) → slice_get s.ids row ≡ Some key → mark ≤ end_of key → MarksOne row mark s.book later
+StoresTie told = (count : ℕ) (s : Scene) → IsRuled told count s → (id : ℕ) (v : View) → slice_get s.views id ≡ Some v
+    → v.turn.holds ≡ true
+    → (row key mark : ℕ) (later : Known) → slice_get s.ids row ≡ Some key → mark ≤ end_of key
+    → MarksOne row mark s.book later
     → world_of (record s { book = later }) ≡ after_all (world_of s) (Write id key mark ∷ Sync id ∷ [])
 
 -- the worker at this place gave a share to a new one, which has the next place
 abbrev pub split_at : ℕ → View → Scene → Scene
 split_at id v s = record s {
-  views = slice_set s.views id (record v { numbers = keeper v.numbers }) ++ (record { numbers = newcomer v.numbers; turn = beginner v.turn }) ∷ [];
+  views = slice_set s.views id (record v { numbers = keeper v.numbers })
+      ++ (record { numbers = newcomer v.numbers; turn = beginner v.turn }) ∷ [];
 }
 
 -- no step of the core: one more actor, which is idle
@@ -62,13 +66,21 @@ SplitTies = (s : Scene) (id : ℕ) (v : View) → slice_get s.views id ≡ Some 
 -- the worker at the first place took in the one at the other, which ended
 abbrev pub join_at : ℕ → View → ℕ → View → Scene → Scene
 join_at id v other u s = record s {
-  views = slice_set (slice_set s.views id (record { numbers = joined v.numbers u.numbers; turn = merged v.turn u.turn })) other no_view;
+  views = slice_set (slice_set s.views id (record {
+    numbers = joined v.numbers u.numbers;
+    turn = merged v.turn
+        u.turn;
+  })) other no_view;
 }
 
 -- no step of the core: the one actor has what both drew and used, the other is idle, and the same actor holds the turn
 abbrev pub JoinTies : Type 0
-JoinTies = (s : Scene) (id other : ℕ) (v u : View) → slice_get s.views id ≡ Some v → slice_get s.views other ≡ Some u → other ≢ id
+JoinTies = (s : Scene) (id other : ℕ) (v u : View) → slice_get s.views id ≡ Some v → slice_get s.views other ≡ Some u
+    → other ≢ id
     → u.turn.holds ≡ false
     → (world_of (join_at id v other u s)
-    ≡ record (world_of s) { actors = slice_set (slice_set (doers 0 s.views) id (doer id (joined v.numbers u.numbers))) other (idle other) })
+    ≡ record (world_of s) {
+      actors = slice_set (slice_set (doers 0 s.views) id (doer id (joined v.numbers u.numbers)))
+          other (idle other);
+    })
     × (AreSpent s.views s.used → AreSpent (join_at id v other u s).views s.used)

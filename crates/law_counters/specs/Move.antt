@@ -1,5 +1,6 @@
 -- Profile: what one step of the counters does to a scene, where it is made, and its steps in the pure core.
-use Rattle.std.specs.Prelude.{◌≡◌, ℕ, ◌+◌, ◌<◌, ◌≤◌, ◌^◌, ◌==◌, max, nat_lt, true, false, ⊤, if◌then◌else◌, List, [], ◌∷◌, ◌++◌, Option, Some, slice_get, slice_set}
+use Rattle.std.specs.Prelude.{◌≡◌, ℕ, ◌+◌, ◌<◌, ◌≤◌, ◌^◌, ◌==◌, max, nat_lt, true, false, ⊤, if◌then◌else◌, List, []}
+use Rattle.std.specs.Prelude.{◌∷◌, ◌++◌, Option, Some, slice_get, slice_set}
 use Rattle.atomic_table.specs.Table.{Me}
 use Rattle.counter_table.specs.declared.view.Known.{Known}
 use Rattle.counter_table.specs.declared.view.View.{View}
@@ -10,7 +11,8 @@ use Rattle.counter_table.specs.Rule.{next_at, limit_at}
 use Rattle.counter_table.specs.Play as plays
 use Rattle.sdls_base.specs.KeyId.{end_of}
 use Rattle.sdls_world.specs.declared.step.Step.{Step}
-use Rattle.sdls_world.specs.declared.step.Step.TheVariants.{Arm, Draw, Peek, Spend, See, Take, Give, Lift, RaiseNext, Turn}
+use Rattle.sdls_world.specs.declared.step.Step.TheVariants.{Arm, Draw, Peek, Spend, See, Take, Give, Lift, RaiseNext}
+use Rattle.sdls_world.specs.declared.step.Step.TheVariants.{Turn}
 use Rattle.law_counters.specs.Scene.{Scene, next_of, limit_of, turn_of, epoch_of}
 
 -- one step of the counters: the row, the identifier of its key, and what the call is given
@@ -64,7 +66,12 @@ used_after turns s = s.used
 
 -- the scene after a step of the worker at this place, which knew v
 abbrev pub moved : ℕ → View → Move → Scene → Scene
-moved id v move s = record s { words = words_after move s; views = slice_set s.views id (view_after v move s); used = used_after move s }
+moved id v move s = record s {
+  words = words_after move s;
+  views = slice_set s.views id (view_after v move s);
+  used =
+      used_after move s;
+}
 
 -- what the calls of the counters ask for, and that the row is that of this key of the book
 abbrev pub MayMove : View → Move → Scene → Type 0

@@ -10,7 +10,8 @@ use Rattle.law_counters.specs.Scene.{Scene, IsRuled, world_of}
 use Rattle.law_counters.specs.Move.{Move, moved, MayMove, steps_of}
 use Rattle.law_counters.specs.Laws.{MarksOne}
 
--- a step of the worker at a place, which knew v; or a mark that the book of such a worker stored, which then is the later one
+-- a step of the worker at a place, which knew v; or a mark that the book of such a worker stored, which then is the
+-- later one
 pub data Event : Type 0 where
   steps : (id : ℕ) (v : View) (move : Move) → Event
   stores : (id : ℕ) (v : View) (row key mark : ℕ) (later : Known) → Event

@@ -1,5 +1,6 @@
 -- Profile: the counters at one time, and the world of the pure core that words, views and book stand for.
-use Rattle.std.specs.Prelude.{◌≡◌, ℕ, suc, ◌≤◌, if◌then◌else◌, false, List, [], ◌∷◌, length, Option, Some, None, slice_get, slice_index}
+use Rattle.std.specs.Prelude.{◌≡◌, ℕ, suc, ◌≤◌, if◌then◌else◌, false, List, [], ◌∷◌, length, Option, Some, None}
+use Rattle.std.specs.Prelude.{slice_get, slice_index}
 use mathlib.Core.Option as slot
 use Rattle.counter_table.specs.declared.view.Known.{Known}
 use Rattle.counter_table.specs.declared.view.Numbers.{Numbers}
@@ -11,8 +12,8 @@ use Rattle.sdls_base.specs.Numbers.{times, total}
 use Rattle.sdls_world.specs.declared.key.Key.{Key}
 use Rattle.sdls_world.specs.Core.{Doer, Core}
 
--- the words, what each worker knows, the book at home or held, the identifiers of its keys by row, and the pairs that were
--- spent, in the order in which they were
+-- the words, what each worker knows, the book at home or held, the identifiers of its keys by row, and the pairs that
+-- were spent, in the order in which they were
 pub record Scene : Type 0 where
   pub words : List ℕ
   pub views : List View
@@ -34,7 +35,15 @@ epoch_of s = slice_index s.words 1
 
 -- the worker at a place, as an actor. It funds and spends in one step, so what was funded is what was spent
 abbrev pub doer : ℕ → Numbers → Doer
-doer id v = record { id = id; armed = v.armed; last = v.last; is_funded = false; drawn = v.drawn; funded = v.spent; spent = v.spent }
+doer id v = record {
+  id = id;
+  armed = v.armed;
+  last = v.last;
+  is_funded = false;
+  drawn = v.drawn;
+  funded = v.spent;
+  spent = v.spent;
+}
 
 -- the workers from a place on
 abbrev pub doers : ℕ → List View → List Doer

@@ -1,5 +1,6 @@
 -- What the two units of a drill were handed, and what is counted of their answers (profile).
-use Rattle.std.specs.Prelude.{◌≡◌, ℕ, zero, suc, ◌+◌, ◌-◌, ◌*◌, ◌/◌, min, ◌==◌, ◌||◌, Bool, true, false, List, [], ◌++◌, Ok}
+use Rattle.std.specs.Prelude.{◌≡◌, ℕ, zero, suc, ◌+◌, ◌-◌, ◌*◌, ◌/◌, min, ◌==◌, ◌||◌, Bool, true, false, List, [], ◌++◌}
+use Rattle.std.specs.Prelude.{Ok}
 use Rattle.std.specs.List.{list_any}
 use Rattle.sdls_base.specs.declared.TheConstants.{MOST_KEYS}
 use Rattle.disk_journal.specs.Image.{held}
@@ -25,8 +26,8 @@ use Rattle.law_drill.specs.Plans.{receiver_plan, sender_plan, slots}
 
 -- ---- the units
 
--- A unit was opened on the image of this plan, without records; its one worker, with all shares, has this view and did nothing
--- yet: each word `next` is its key's mark.
+-- A unit was opened on the image of this plan, without records; its one worker, with all shares, has this view and did
+-- nothing yet: each word `next` is its key's mark.
 pub record UnitIsOpened (plan : List ℕ) (begin : Begin) (v : View) : Type 0 where
   pub began : BeganWith true begin v.turn.known.opening
   pub image : v.turn.known.opening.image ≡ initial_image plan slots
@@ -42,10 +43,12 @@ tells_fault answer = (answer.code == codes_of.SITE_FAULT) || (answer.code == cod
 abbrev pub tells_want : Answer → Bool
 tells_want answer = answer.code == codes_of.NO_MEMORY
 
--- From the one view to the other the unit handled these records as a segment, with these answers: all of them are answered, or
--- those before one for which its history was full. No answer tells a fault of its site, and the worker still did all.
+-- From the one view to the other the unit handled these records as a segment, with these answers: all of them are
+-- answered, or those before one for which its history was full. No answer tells a fault of its site, and the worker
+-- still did all.
 pub record HandlesSegment (begin : Begin) (v w : View) (tasks : List Record) (answers : List Answer) : Type 0 where
-  pub handled : (layout : Layout) (number : ℕ) → LiesIn layout number tasks → Handled layout begin v w tasks (deeds_of number tasks answers)
+  pub handled : (layout : Layout) (number : ℕ) → LiesIn layout number tasks
+      → Handled layout begin v w tasks (deeds_of number tasks answers)
   pub full : Bool
   pub ends : EndsSegment begin v w tasks answers full
   pub quiet : list_any tells_fault answers ≡ false
@@ -53,8 +56,8 @@ pub record HandlesSegment (begin : Begin) (v w : View) (tasks : List Record) (an
 
 -- ---- chunks
 
--- A chunk, by its number: the first unit protected its frames, the second opened those that were protected, and then the first
--- of them again. The counts are those of their answers.
+-- A chunk, by its number: the first unit protected its frames, the second opened those that were protected, and then
+-- the first of them again. The counts are those of their answers.
 pub record IsChunk (sender receiver : Begin) (chunk end : ℕ) (s t v w : View) (counts : Counts) : Type 0 where
   pub sent : List Answer
   pub opened : List Answer

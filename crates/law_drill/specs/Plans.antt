@@ -19,8 +19,10 @@ plan_text digit direction =
     ++ (codes "channel 0 0 1 0 -\nchannel 1 0 1 1 -\nchannel 2 0 1 2 -\nchannel 3 0 1 3 -\n"
     ++ (codes "key 32769 active 01010101010101010101010101010101\nkey 257 active 02020202020202020202020202020202\n"
     ++ (codes "key 32771 active 03030303030303030303030303030303\nkey 259 active 04040404040404040404040404040404\n"
-    ++ (codes "sa 1 " ++ (direction ++ (codes " cmac 32769 1 4294967296 0\nsa 2 " ++ (direction ++ (codes " gcm 257 1 4294967296 1\nsa 3 "
-    ++ (direction ++ (codes " cmac 32771 1 4294967296 2\nsa 4 " ++ (direction ++ codes " gcm 259 1 4294967296 3\n")))))))))))))
+    ++ (codes "sa 1 " ++ (direction ++ (codes " cmac 32769 1 4294967296 0\nsa 2 "
+    ++ (direction ++ (codes " gcm 257 1 4294967296 1\nsa 3 "
+    ++ (direction ++ (codes " cmac 32771 1 4294967296 2\nsa 4 "
+    ++ (direction ++ codes " gcm 259 1 4294967296 3\n")))))))))))))
 
 unfoldable pub sender_plan : List ℕ
 sender_plan = plan_text (codes "1") (codes "send")

@@ -14,8 +14,8 @@ pub fn plans_are_read()
     ensures receiver { plan_of receiver_plan ≡ Ok receiver_lines }
 {}
 
-/// Law: where no answer of a drill tells want of memory, each of its frames was protected and accepted, and the first of each chunk
-/// rejected the second time.
+/// Law: where no answer of a drill tells want of memory, each of its frames was protected and accepted, and the first
+/// of each chunk rejected the second time.
 pub fn drill_is_complete()
     ensures { (number : ℕ) (answers : List Answer) (counts : Counts) → number ≤ 100000 → IsDrilled number answers counts
         → IsComplete number answers counts }

@@ -1,7 +1,8 @@
-//! What the two units of a drill were handed and what is counted of their answers (profile), and the law that all frames are
-//! counted where no memory was wanting.
+//! What the two units of a drill were handed and what is counted of their answers (profile), and the law that all
+//! frames are counted where no memory was wanting.
 //!
-//! There is no code to run here: definitions stand in `specs`, and the functions are laws over them. Read `specs/Drilled.antt`.
+//! There is no code to run here: definitions stand in `specs`, and the functions are laws over them. Read
+//! `specs/Drilled.antt`.
 #![tactic(auto)]
 
 mod laws;

@@ -1,5 +1,6 @@
 -- How many lines of a log, and how many records, are of a kind (profile).
-use Rattle.std.specs.Prelude.{ℕ, ◌+◌, ◌==◌, Bool, true, false, if◌then◌else◌, List, [], ◌∷◌, slice_get, Option, Some, None}
+use Rattle.std.specs.Prelude.{ℕ, ◌+◌, ◌==◌, Bool, true, false, if◌then◌else◌, List, [], ◌∷◌, slice_get, Option, Some}
+use Rattle.std.specs.Prelude.{None}
 use Rattle.sdls_base.specs.declared.entry.Entry.{Entry}
 use Rattle.sdls_base.specs.declared.entry.Logged.{Logged}
 use Rattle.sdls_base.specs.declared.entry.Logged.TheVariants as logged

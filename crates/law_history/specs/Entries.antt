@@ -21,15 +21,16 @@ use Rattle.ep_core.specs.Need.{need_of}
 use Rattle.ep_core.specs.Step.{IsStep, refused}
 use Rattle.law_history.specs.Numbers.{floor_of}
 
--- The floor of a key once a number was accepted: where the number is above it, the lesser of number plus `accept` less 1 and
--- the last number below the key's end.
+-- The floor of a key once a number was accepted: where the number is above it, the lesser of number plus `accept` less
+-- 1 and the last number below the key's end.
 abbrev pub raised_floor : PlanLines → State → ℕ → ℕ → ℕ
 raised_floor plan state key number =
     if nat_lt (floor_of state key) number then min (number + plan.accept - 1) (end_of key - 1) else floor_of state key
 
 -- what a frame changes, by the reply to it
 abbrev pub frame_change : PlanLines → State → OpenReply → Change
-frame_change plan state (opens.Accepted spi key number from to) = changes.Accepted spi key number (raised_floor plan state key number)
+frame_change plan state (opens.Accepted spi key number from to) = changes.Accepted spi key number
+    (raised_floor plan state key number)
 frame_change plan state opens.Clear = changes.Nothing
 frame_change plan state (opens.Layout number) = changes.Nothing
 frame_change plan state opens.Channel = changes.Nothing

@@ -1,5 +1,6 @@
 -- When an answer fits the record that it answers (profile).
-use Rattle.std.specs.Prelude.{◌≡◌, ◌≢◌, ℕ, ◌+◌, ◌-◌, ◌<◌, ◌≤◌, ◌⊎◌, Bool, IsTrue, List, [], ◌++◌, length, take, slice_get, Some, Ok}
+use Rattle.std.specs.Prelude.{◌≡◌, ◌≢◌, ℕ, ◌+◌, ◌-◌, ◌<◌, ◌≤◌, ◌⊎◌, Bool, IsTrue, List, [], ◌++◌, length, take}
+use Rattle.std.specs.Prelude.{slice_get, Some, Ok}
 use Rattle.sdls_base.specs.KeyId.{end_of}
 use Rattle.sdls_base.specs.declared.change.Change.{Change}
 use Rattle.sdls_base.specs.declared.change.Change.TheVariants as changes
@@ -18,7 +19,8 @@ use Rattle.frame_checks.specs.ProtectingFrames.{channel_check}
 use Rattle.ep_core.specs.declared.need.Need.TheVariants.{Number}
 use Rattle.ep_core.specs.declared.reply.Reply.{Reply}
 use Rattle.record_io.specs.declared.answers.Answer.{Answer}
-use Rattle.record_io.specs.declared.code.TheConstants.{PROTECTED, EXHAUSTED, JOURNAL_FULL, SITE_FAULT, STOPPED, NO_MEMORY}
+use Rattle.record_io.specs.declared.code.TheConstants.{PROTECTED, EXHAUSTED, JOURNAL_FULL, SITE_FAULT, STOPPED}
+use Rattle.record_io.specs.declared.code.TheConstants.{NO_MEMORY}
 use Rattle.record_io.specs.declared.kinds.RecordKind.{RecordKind}
 use Rattle.record_io.specs.declared.kinds.RecordKind.TheVariants.{Protect, Open, Command}
 use Rattle.record_io.specs.declared.records.Record.{Record}
@@ -29,9 +31,9 @@ use Rattle.law_history.specs.Legal.{KeyOf, SeesFor, SeenNear}
 use Rattle.law_history.specs.ProtectingFrames.{protect_reply}
 use Rattle.law_history.specs.Answers.{told_by, plain, counting, numbered, opened_told, replied_told, unbound_told}
 
--- What the answers of a run speak of: the plan and the state that the image shows at the start, the slots of the image and
--- those used then, whether the site tells what it holds, its count of faults when the book was opened and as it is known now,
--- and the entries known now.
+-- What the answers of a run speak of: the plan and the state that the image shows at the start, the slots of the image
+-- and those used then, whether the site tells what it holds, its count of faults when the book was opened and as it is
+-- known now, and the entries known now.
 pub record Course : Type 0 where
   pub plan : PlanLines
   pub start : State
@@ -78,7 +80,8 @@ pub record CanRaiseFloor (course : Course) (p : ℕ) (task : Record) : Type 0 wh
   pub from : ℕ
   pub to : ℕ
   pub field : List ℕ
-  pub accepts : IsOpenReply course.plan (state_after course p) task.link task.octets (Accepted spi key number from to) field
+  pub accepts : IsOpenReply course.plan (state_after course p) task.link task.octets (Accepted spi key number from to)
+      field
   pub above : floor_of (state_after course p) key < number
 
 -- a command can change the state
@@ -137,13 +140,14 @@ pub record IsExhausted (near : ℕ → ℕ → Type 0) (course : Course) (task :
   pub is_near : near answer.key answer.number
   pub at_end : end_of answer.key ≤ answer.number
 
--- The checks tell the answer, in the state of the epoch that it tells. Where the plan is enough for them it tells none: the
--- position is 0, or the frame is of a channel.
+-- The checks tell the answer, in the state of the epoch that it tells. Where the plan is enough for them it tells none:
+-- the position is 0, or the frame is of a channel.
 pub record IsUnbound (course : Course) (task : Record) (answer : Answer) : Type 0 where
   pub reached : answer.position ≤ epoch_after course.entries
   pub told : unbound_told (protect_reply course.plan (state_in course answer.position) task.link task.octets)
       ≡ Some (told_by answer)
-  pub epoch_looked_at : (answer.position ≡ 0) ⊎ ((channel : ℕ) × (channel_check course.plan task.link task.octets ≡ Ok (Some channel)))
+  pub epoch_looked_at : (answer.position ≡ 0) ⊎ ((channel : ℕ)
+      × (channel_check course.plan task.link task.octets ≡ Ok (Some channel)))
 
 -- ---- frames opened, and commands
 
@@ -181,7 +185,8 @@ pub record IsFull (near : ℕ → ℕ → Type 0) (course : Course) (task : Reco
   pub told : told_by answer ≡ counting JOURNAL_FULL 0 answer.number
   pub within : answer.position ≤ length course.entries
   pub slots_are : IsTrue course.told → answer.number ≡ course.slots
-  pub full : IsTrue course.told → course.used + stored_count course.start (take answer.position course.entries) ≡ course.slots
+  pub full : IsTrue course.told → course.used + stored_count course.start (take answer.position course.entries)
+      ≡ course.slots
   pub may : MayAppend near course answer.position task
 
 -- the answer tells a count of faults that rose since the opening, and the count of all entries
@@ -208,7 +213,8 @@ pub record IsWanting (answer : Answer) : Type 0 where
 
 abbrev pub FitsAny : (ℕ → ℕ → Type 0) → Course → Record → Answer → Type 0
 FitsAny near course task answer =
-    IsFull near course task answer ⊎ (IsFaulted near course task answer ⊎ (IsStopped near course task answer ⊎ IsWanting answer))
+    IsFull near course task answer ⊎ (IsFaulted near course task answer
+    ⊎ (IsStopped near course task answer ⊎ IsWanting answer))
 
 abbrev pub FitsKind : (ℕ → ℕ → Type 0) → Course → Record → Answer → RecordKind → Type 0
 FitsKind near course task answer Protect = IsProtected near course task answer

@@ -1,7 +1,8 @@
 -- What the laws of histories say.
 use Rattle.std.specs.Prelude.{◌≡◌, ⊤, ℕ, ◌<◌, ◌≤◌, List, length, take, slice_get, Some}
 use Rattle.sdls_base.specs.declared.change.Change.{Change}
-use Rattle.sdls_base.specs.declared.change.Change.TheVariants.{Marks, Load, KeyStates, Create, Rekey, SaTo, SetNumber, SetWindow, Accepted, Nothing}
+use Rattle.sdls_base.specs.declared.change.Change.TheVariants.{Marks, Load, KeyStates, Create, Rekey, SaTo, SetNumber}
+use Rattle.sdls_base.specs.declared.change.Change.TheVariants.{SetWindow, Accepted, Nothing}
 use Rattle.sdls_base.specs.declared.entry.Entry.{Entry}
 use Rattle.sdls_base.specs.declared.entry.Seen.TheVariants.{Word}
 use Rattle.unit_state.specs.declared.state.State.{State}
@@ -49,7 +50,8 @@ pub record RaisesFloor (state : State) (reply : OpenReply) : Type 0 where
 -- the number is below each word that a release of the key saw, of the entries from a place on
 abbrev pub IsBelowReleases : List Entry → ℕ → ℕ → ℕ → Type 0
 IsBelowReleases entries from key number = (place : ℕ) (entry : Entry) (word mark floor : ℕ) → from ≤ place
-    → slice_get entries place ≡ Some entry → entry.seen ≡ Word word → entry.change ≡ Marks key mark floor → number < word
+    → slice_get entries place ≡ Some entry → entry.seen ≡ Word word → entry.change ≡ Marks key mark floor
+    → number < word
 
 -- the epoch began with the state after the first so many entries
 pub record BeginsAt (start : State) (entries : List Entry) (epoch place : ℕ) : Type 0 where

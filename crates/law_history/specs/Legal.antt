@@ -1,5 +1,6 @@
 -- The entries of a run: each of a record, a reserve, or at the end a release, in the state before it (profile).
-use Rattle.std.specs.Prelude.{◌≡◌, ⊤, ℕ, ◌+◌, ◌<◌, ◌≤◌, ◌⊎◌, List, take, slice_get, Contains, Option, Some, None, IsSome}
+use Rattle.std.specs.Prelude.{◌≡◌, ⊤, ℕ, ◌+◌, ◌<◌, ◌≤◌, ◌⊎◌, List, take, slice_get, Contains, Option, Some, None}
+use Rattle.std.specs.Prelude.{IsSome}
 use Rattle.sdls_base.specs.KeyId.{end_of}
 use Rattle.sdls_base.specs.declared.entry.Entry.{Entry}
 use Rattle.sdls_base.specs.declared.entry.Logged.{Logged}
@@ -34,8 +35,8 @@ needed_key (needs.Number key) = Some key
 abbrev pub KeyOf : State → List ℕ → ℕ → Type 0
 KeyOf state octets key = (need : Need) × IsNeedOf state octets need × (needed_key need ≡ Some key)
 
--- the message asks, for an association that sends with this key, that the key's numbers go on from this one, and no refusal
--- applies but that it is too low
+-- the message asks, for an association that sends with this key, that the key's numbers go on from this one, and no
+-- refusal applies but that it is too low
 abbrev pub AsksFor : State → List ℕ → ℕ → ℕ → Type 0
 AsksFor state octets key number = IsNeedOf state octets (needs.Raise key number)
 

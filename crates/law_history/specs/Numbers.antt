@@ -1,5 +1,6 @@
 -- The entries that move marks and floors: reserves and releases (profile).
-use Rattle.std.specs.Prelude.{ℕ, ◌+◌, min, Bool, ◌&&◌, ◌==◌, if◌then◌else◌, List, [], ◌∷◌, slice_get, Option, Some, None}
+use Rattle.std.specs.Prelude.{ℕ, ◌+◌, min, Bool, ◌&&◌, ◌==◌, if◌then◌else◌, List, [], ◌∷◌, slice_get, Option, Some}
+use Rattle.std.specs.Prelude.{None}
 use Rattle.std.specs.Option.{option_map_or, option_and_then}
 use Rattle.sdls_base.specs.KeyId.{end_of}
 use Rattle.sdls_base.specs.declared.change.Change.TheVariants.{Marks}
@@ -51,5 +52,6 @@ release_at state place word = option_and_then (release_of state word) (slice_get
 abbrev pub releases : State → ℕ → List ℕ → List Entry
 releases state place [] = []
 releases state place (word ∷ words) =
-    option_map_or (λ entry. entry ∷ releases (applied state entry.change) (place + 1) words) (release_at state place word)
+    option_map_or (λ entry. entry ∷ releases (applied state entry.change) (place + 1) words)
+    (release_at state place word)
     (releases state (place + 1) words)

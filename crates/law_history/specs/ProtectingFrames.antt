@@ -15,7 +15,7 @@ layout_check clear (Ok (Some binding)) =
 layout_check clear (Ok None) = Ok None
 layout_check clear (Err fault) = Err fault
 
--- What is found of a frame that is to be protected: the refusal of the first check that fails, that it carries no security, or
--- the binding under which it is protected.
+-- What is found of a frame that is to be protected: the refusal of the first check that fails, that it carries no
+-- security, or the binding under which it is protected.
 abbrev pub protect_reply : PlanLines → State → ℕ → List ℕ → Answer
 protect_reply plan state link clear = layout_check clear (protect_check plan state link clear)

@@ -22,22 +22,25 @@ pub record IsAskedFor (start : State) (entries : List Entry) (records : List Rec
   pub kind_is : task.kind ≡ Command
   pub asks : AsksFor (after_first start entries p) task.octets key number
 
--- The word can have stood in the key's word `next`: it is no lower than the mark at the start, and no more than one a record
--- that can draw above the mark, or above a number that was asked for.
+-- The word can have stood in the key's word `next`: it is no lower than the mark at the start, and no more than one a
+-- record that can draw above the mark, or above a number that was asked for.
 pub record NearWord (start : State) (entries : List Entry) (records : List Record) (key word : ℕ) : Type 0 where
   pub least : mark_of start key ≤ word
   pub base : ℕ
   pub is_base : (base ≡ mark_of start key) ⊎ IsAskedFor start entries records key base
   pub most : word ≤ base + drawers records
 
--- two records of these places, by their numbers, are handled in their order: they are of one lane, or of different segments
+-- two records of these places, by their numbers, are handled in their order: they are of one lane, or of different
+-- segments
 abbrev pub TurnIn : List Place → ℕ → ℕ → Type 0
 TurnIn places i j = (one other : Place) × Contains places one × Contains places other
-    × (one.task.index ≡ i) × (other.task.index ≡ j) × ((one.task.lane ≡ other.task.lane) ⊎ (one.segment ≢ other.segment))
+    × (one.task.index ≡ i) × (other.task.index ≡ j)
+    × ((one.task.lane ≡ other.task.lane) ⊎ (one.segment ≢ other.segment))
 
--- A legal history of a run with these records. The first `ends` entries are of records, or reserves; the others are releases.
--- In turn says which two records, by their numbers, are handled in their order.
-pub record LegalRun (plan : PlanLines) (start : State) (records : List Record) (in_turn : ℕ → ℕ → Type 0) (entries : List Entry) : Type 0 where
+-- A legal history of a run with these records. The first `ends` entries are of records, or reserves; the others are
+-- releases. In turn says which two records, by their numbers, are handled in their order.
+pub record LegalRun (plan : PlanLines) (start : State) (records : List Record) (in_turn : ℕ → ℕ → Type 0)
+    (entries : List Entry) : Type 0 where
   pub ends : ℕ
   pub within : ends ≤ length entries
   pub each : (p : ℕ) (entry : Entry) → p < ends → slice_get entries p ≡ Some entry
@@ -54,7 +57,8 @@ pub record LegalRun (plan : PlanLines) (start : State) (records : List Record) (
   pub in_order : (p q i j : ℕ) (a b : Entry) → slice_get entries p ≡ Some a → slice_get entries q ≡ Some b
       → a.index ≡ Some i → b.index ≡ Some j → i < j → in_turn i j → p < q
 
--- the history of a run that served these places of an input: the plan and the first state keep their rules, and it is legal
+-- the history of a run that served these places of an input: the plan and the first state keep their rules, and it is
+-- legal
 pub record IsLegalHistory (plan : PlanLines) (start : State) (places : List Place) (entries : List Entry) : Type 0 where
   pub plan_is : IsPlan plan
   pub rules : KeepsRules start

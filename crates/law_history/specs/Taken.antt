@@ -11,8 +11,8 @@ use Rattle.law_history.specs.Numbers.{floor_of, released_floor}
 abbrev pub kept_floor : State → ℕ → ℕ
 kept_floor state key = option_map_or (released_floor state) (key_row state key) 0
 
--- No opening accepts the number under the key any more: it is no higher than the key's floor, nor than the highest number of
--- an association that receives with the key.
+-- No opening accepts the number under the key any more: it is no higher than the key's floor, nor than the highest
+-- number of an association that receives with the key.
 pub record IsTaken (state : State) (key number : ℕ) : Type 0 where
   pub floor : number ≤ floor_of state key
   pub highs : All (λ row. IsTrue (receives_with key row) → number ≤ row.window.high) state.associations

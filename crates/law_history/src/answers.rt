@@ -18,8 +18,8 @@ pub fn fits_has_a_code()
         → Fits anywhere course task answer → IsCodeOf task.kind answer.code }
 {}
 
-/// Law: an answer that accepts is what the checks of an opening told, and no refusal of theirs: the entry before its position
-/// accepts the number.
+/// Law: an answer that accepts is what the checks of an opening told, and no refusal of theirs: the entry before its
+/// position accepts the number.
 pub fn acceptance_is_told()
     ensures { (course : Course) (task : Record) (answer : Answer) (key number : ℕ)
         → Fits anywhere course task answer → Accepts answer key number

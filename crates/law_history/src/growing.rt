@@ -43,11 +43,13 @@ pub fn near_stays()
         → NearWord start entries tasks key word → NearWord start (entries ++ more) (tasks ++ others) key word }
 {}
 
-/// Law: an answer that fits still does when the history has gone on, among more records, where after a fault of the site no
-/// entry came. So the epoch and the place that it tells are reached, and their states stay.
+/// Law: an answer that fits still does when the history has gone on, among more records, where after a fault of the
+/// site no entry came. So the epoch and the place that it tells are reached, and their states stay.
 pub fn fits_stays()
-    ensures { (course : Course) (more : List Entry) (faults : ℕ) (tasks others : List Record) (task : Record) (answer : Answer)
+    ensures { (course : Course) (more : List Entry) (faults : ℕ) (tasks others : List Record) (task : Record)
+        (answer : Answer)
         → course.faults ≤ faults → (Rose course.faults_before course.faults → more ≡ [])
         → Fits (NearWord course.start course.entries tasks) course task answer
-        → Fits (NearWord course.start (course.entries ++ more) (tasks ++ others)) (grown course more faults) task answer }
+        → Fits (NearWord course.start (course.entries ++ more) (tasks ++ others)) (grown course more faults) task
+        answer }
 {}

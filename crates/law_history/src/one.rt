@@ -17,16 +17,19 @@ use frame_shield::opens_once;
 
 /// Law: the checks of a frame that is opened tell one answer and one change.
 pub fn openings_tell_one()
-    ensures { (plan : PlanLines) (state : State) (link : ℕ) (frame : List ℕ) (reply other : OpenReply) (field again : List ℕ)
+    ensures { (plan : PlanLines) (state : State) (link : ℕ) (frame : List ℕ) (reply other : OpenReply)
+        (field again : List ℕ)
         → IsOpenReply plan state link frame reply field → IsOpenReply plan state link frame other again
-        → (opened_told reply field ≡ opened_told other again) × (frame_change plan state reply ≡ frame_change plan state other) }
+        → (opened_told reply field ≡ opened_told other again)
+        × (frame_change plan state reply ≡ frame_change plan state other) }
 {
     opens_once();
 }
 
 /// Law: the need of a message is one by the state and the message.
 pub fn messages_need_one()
-    ensures { (state : State) (octets : List ℕ) (need other : Need) → IsNeedOf state octets need → IsNeedOf state octets other
+    ensures { (state : State) (octets : List ℕ) (need other : Need) → IsNeedOf state octets need
+        → IsNeedOf state octets other
         → need ≡ other }
 {}
 

@@ -13,8 +13,8 @@ ghost use Rattle.law_history.specs.Stored.{stored_count};
 ghost use Rattle.law_history.specs.Legal.{AreNear, IsRelease};
 ghost use Rattle.law_history.specs.Run.{LegalRun, NearWord, TurnIn};
 
-/// Law: the first of the releases of all keys, in loading order, are each the release of a key in the state before it, where
-/// the words are at least 1 and near in the run.
+/// Law: the first of the releases of all keys, in loading order, are each the release of a key in the state before it,
+/// where the words are at least 1 and near in the run.
 pub fn releases_are_legal()
     ensures { (start : State) (entries : List Entry) (records : List Record) (state : State) (words : List ℕ)
         → (made rest : List Entry)
@@ -30,11 +30,12 @@ pub fn stored_counts_add()
         → stored_count state (entries ++ more) ≡ stored_count state entries + stored_count (after state entries) more }
 {}
 
-/// Law: each release takes a slot of the journal, so that the first of the releases of the keys from any place on, in loading
-/// order, take as many as they are.
+/// Law: each release takes a slot of the journal, so that the first of the releases of the keys from any place on, in
+/// loading order, take as many as they are.
 pub fn releases_are_stored()
     ensures { (state : State) (place : ℕ) (words : List ℕ) (count : ℕ)
-        → stored_count state (take count (releases state place words)) ≡ length (take count (releases state place words)) }
+        → stored_count state (take count (releases state place words))
+        ≡ length (take count (releases state place words)) }
 {}
 
 /// Law: a legal run without releases, with releases behind it, is a legal run.

@@ -28,8 +28,8 @@ pub fn marks_rise_along()
         → mark_of (after_first start entries p) key ≤ mark_of (after_first start entries q) key }
 {}
 
-/// Law: a number below a mark stays below it, through the releases too, where it is below each word that these saw of its
-/// key.
+/// Law: a number below a mark stays below it, through the releases too, where it is below each word that these saw of
+/// its key.
 pub fn used_stays_below()
     ensures { (plan : PlanLines) (start : State) (places : List Place) (entries : List Entry)
         → (history : IsLegalHistory plan start places entries)

@@ -25,7 +25,8 @@ pub fn taken_up_to_the_floor()
 
 /// Law: an acceptance takes its number.
 pub fn acceptance_takes()
-    ensures { (state : State) (spi key number floor : ℕ) → KeepsRules state → Allows state (Accepted spi key number floor)
+    ensures { (state : State) (spi key number floor : ℕ) → KeepsRules state
+        → Allows state (Accepted spi key number floor)
         → IsTaken (applied state (Accepted spi key number floor)) key number }
 {}
 

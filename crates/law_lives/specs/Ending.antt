@@ -21,9 +21,10 @@ use Rattle.law_worker.specs.Order.{Lined}
 use Rattle.law_lives.specs.Opened.{IsJustOpened}
 use Rattle.law_lives.specs.Release.{AreReleases}
 
--- From the opening to the end one worker did it all, with the records of these places and these answers. The words are those
--- that the closed counters told, and the releases went by them; once the site had failed there were none.
-pub record EndsRun (begin : Begin) (first now : View) (places : List Place) (deeds : List Deed) (words : ℕ → ℕ) (releases : List Entry) (faults : ℕ) : Type 0 where
+-- From the opening to the end one worker did it all, with the records of these places and these answers. The words are
+-- those that the closed counters told, and the releases went by them; once the site had failed there were none.
+pub record EndsRun (begin : Begin) (first now : View) (places : List Place) (deeds : List Deed) (words : ℕ → ℕ)
+    (releases : List Entry) (faults : ℕ) : Type 0 where
   pub rows : begin.rows ≡ MOST_KEYS
   pub plan_is : IsPlan begin.plan
   pub rules : KeepsRules begin.start
@@ -32,7 +33,8 @@ pub record EndsRun (begin : Begin) (first now : View) (places : List Place) (dee
   pub does : Does begin first now (records_of places) deeds
   pub whole : IsWhole begin.rows now
   pub pieces : ℕ
-  pub lined : Lined (TurnIn places) (log_of now) does.gains.made (length (records_of places) + drawers (records_of places)) pieces
+  pub lined : Lined (TurnIn places) (log_of now) does.gains.made
+      (length (records_of places) + drawers (records_of places)) pieces
   pub once : (index : ℕ) → indexed index (records_of places) ≤ 1
   pub ascend : AllPairs (λ one other. one.task.index < other.task.index) deeds
   pub words_are : (row : ℕ) → row < begin.rows → RowStands row (words row) now.numbers
@@ -42,4 +44,8 @@ pub record EndsRun (begin : Begin) (first now : View) (places : List Place) (dee
 
 -- what the answers of the run speak of
 abbrev pub course_at_end : Begin → View → List Entry → ℕ → Course
-course_at_end begin now releases faults = record (course_in begin now) { faults = faults; entries = entries_in now ++ releases }
+course_at_end begin now releases faults = record (course_in begin now) {
+  faults = faults;
+  entries = entries_in now
+      ++ releases;
+}

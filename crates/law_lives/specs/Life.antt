@@ -1,5 +1,6 @@
 -- A life of the unit: runs one after the other, each from what a crash at a moment of the one before left (profile).
-use Rattle.std.specs.Prelude.{◌≡◌, ◌≢◌, ◌⊎◌, ⊤, ℕ, ◌-◌, ◌<◌, ◌≤◌, nat_lt, if◌then◌else◌, List, [], ◌∷◌, ◌++◌, length, IsSomeAnd}
+use Rattle.std.specs.Prelude.{◌≡◌, ◌≢◌, ◌⊎◌, ⊤, ℕ, ◌-◌, ◌<◌, ◌≤◌, nat_lt, if◌then◌else◌, List, [], ◌∷◌, ◌++◌, length}
+use Rattle.std.specs.Prelude.{IsSomeAnd}
 use Rattle.std.specs.List.{AllPairs}
 use Rattle.disk_journal.specs.Image.{IsOpenedForm}
 use Rattle.disk_journal.specs.Initial.{initial_image}
@@ -19,8 +20,8 @@ use Rattle.law_worker.specs.Begin.{Begin}
 use Rattle.law_worker.specs.Deeds.{Deed}
 use Rattle.law_lives.specs.Sound.{IsSound, SoundMoment}
 
--- A run of a life: the image at its start; what it began with, its course, its records, and its answers with the octets of
--- End; the image and the octets sunk at the moment at which it ended.
+-- A run of a life: the image at its start; what it began with, its course, its records, and its answers with the octets
+-- of End; the image and the octets sunk at the moment at which it ended.
 pub record LifeRun : Type 0 where
   pub start : List ℕ
   pub begin : Begin
@@ -44,7 +45,8 @@ FollowFrom image (run ∷ runs) = (run.start ≡ image) × IsRun run × FollowFr
 
 -- the image that `init` makes of a plan
 abbrev pub IsInitial : List ℕ → Type 0
-IsInitial image = (text : List ℕ) × (plan : PlanLines) × (first : State) × SaysPlan text plan first × (image ≡ initial_image text plan.slots)
+IsInitial image = (text : List ℕ) × (plan : PlanLines) × (first : State) × SaysPlan text plan first
+    × (image ≡ initial_image text plan.slots)
 
 -- the first run starts from an image that `init` made
 pub record IsLife (image : List ℕ) (runs : List LifeRun) : Type 0 where
@@ -68,7 +70,8 @@ pub record Given : Type 0 where
 -- the answers of which an octet is among the first count octets
 abbrev pub answers_begun : ℕ → List Deed → List Deed
 answers_begun count [] = []
-answers_begun count (deed ∷ deeds) = if nat_lt 0 count then deed ∷ answers_begun (count - length (answer_octets deed.answer)) deeds else []
+answers_begun count (deed ∷ deeds) = if nat_lt 0 count then deed
+    ∷ answers_begun (count - length (answer_octets deed.answer)) deeds else []
 
 abbrev pub given_of : Course → List Deed → List Given
 given_of course [] = []
@@ -89,12 +92,14 @@ state_told Command course answer = state_before course answer
 pub record UsesOctets (given : Given) (key : ℕ) (octets : List ℕ) (number : ℕ) : Type 0 where
   pub uses_number : Uses given.deed.answer key number
   pub some : octets ≢ []
-  pub has : IsSomeAnd (key_row (state_told given.deed.task.kind given.course given.deed.answer) key) (λ held. held.bytes ≡ octets)
+  pub has : IsSomeAnd (key_row (state_told given.deed.task.kind given.course given.deed.answer) key)
+      (λ held. held.bytes ≡ octets)
 
 -- Two answers of a life: they use no number under one key, by identifier or by octets, and accept none under one key.
 pub record AreApart (one other : Given) : Type 0 where
   pub by_identifier : (key number : ℕ) → Uses one.deed.answer key number → Uses other.deed.answer key number → ⊥
-  pub by_octets : (a b : ℕ) (octets : List ℕ) (number : ℕ) → UsesOctets one a octets number → UsesOctets other b octets number → ⊥
+  pub by_octets : (a b : ℕ) (octets : List ℕ) (number : ℕ) → UsesOctets one a octets number
+      → UsesOctets other b octets number → ⊥
   pub accepted : (key number : ℕ) → Accepts one.deed.answer key number → Accepts other.deed.answer key number → ⊥
 
 abbrev pub OnceInLife : List LifeRun → Type 0

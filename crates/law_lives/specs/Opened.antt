@@ -6,7 +6,8 @@ use Rattle.unit_book.specs.Marks.{mark_at}
 use Rattle.law_worker.specs.Begin.{Begin}
 use Rattle.law_worker.specs.Views.{log_of}
 
--- Nothing was drawn, put or entered, and the word `next` of each row was raised to its key's mark, or to 1 where it has none.
+-- Nothing was drawn, put or entered, and the word `next` of each row was raised to its key's mark, or to 1 where it has
+-- none.
 pub record IsJustOpened (begin : Begin) (view : View) : Type 0 where
   pub none_drawn : view.numbers.drawn ≡ []
   pub none_made : view.turn.made ≡ []

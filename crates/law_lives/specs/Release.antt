@@ -18,5 +18,6 @@ pub record ReleasesKey (words : ℕ → ℕ) (at_end state : State) (entry : Ent
 
 -- behind the entries of the lanes each entry is such a release
 abbrev pub AreReleases : (ℕ → ℕ) → State → List Entry → List Entry → Type 0
-AreReleases words start entries releases = (p : ℕ) (entry : Entry) → length entries ≤ p → slice_get (entries ++ releases) p ≡ Some entry
+AreReleases words start entries releases = (p : ℕ) (entry : Entry) → length entries ≤ p
+    → slice_get (entries ++ releases) p ≡ Some entry
     → ReleasesKey words (after start entries) (after_first start (entries ++ releases) p) entry

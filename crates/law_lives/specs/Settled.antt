@@ -16,9 +16,10 @@ use Rattle.law_worker.specs.Views.{log_of, entries_in, IsRow}
 use Rattle.law_worker.specs.Deeds.{Deed, Does, course_in}
 use Rattle.law_lives.specs.Sound.{deeds_octets, IsCoveredBy}
 
--- The answer was settled before an octet of it was put: so many lines of the log stood then, and so many entries were stored,
--- whose state covers it. The first octet of the answer is the one at this place among the octets put.
-pub record AnswerIsSettled (begin : Begin) (course : Course) (stored : ℕ) (log : List Logged) (at : ℕ) (deed : Deed) : Type 0 where
+-- The answer was settled before an octet of it was put: so many lines of the log stood then, and so many entries were
+-- stored, whose state covers it. The first octet of the answer is the one at this place among the octets put.
+pub record AnswerIsSettled (begin : Begin) (course : Course) (stored : ℕ) (log : List Logged) (at : ℕ)
+    (deed : Deed) : Type 0 where
   pub lines : ℕ
   pub within : lines ≤ length log
   pub before : length (pieces_of (take lines log)) ≤ at
@@ -31,11 +32,12 @@ pub record AnswerIsSettled (begin : Begin) (course : Course) (stored : ℕ) (log
 abbrev pub AreSettled : Begin → Course → ℕ → List Logged → ℕ → List Deed → Type 0
 AreSettled begin course stored log at [] = ⊤
 AreSettled begin course stored log at (deed ∷ deeds) =
-    AnswerIsSettled begin course stored log at deed × AreSettled begin course stored log (at + length (answer_octets deed.answer)) deeds
+    AnswerIsSettled begin course stored log at deed
+    × AreSettled begin course stored log (at + length (answer_octets deed.answer)) deeds
 
--- What the first put behind a segment tells of the book that it found: so many lines and entries stood there, so many of the
--- entries were stored, whose epoch is not below the one that the worker had seen, and whose marks are above each number that
--- the worker has spent on a row of the table.
+-- What the first put behind a segment tells of the book that it found: so many lines and entries stood there, so many
+-- of the entries were stored, whose epoch is not below the one that the worker had seen, and whose marks are above each
+-- number that the worker has spent on a row of the table.
 pub record SettlesAt (begin : Begin) (old new : View) (stored entries lines : ℕ) : Type 0 where
   pub within : lines ≤ length (log_of new)
   pub low : entries ≤ length (entries_of (take lines (log_of new)))
@@ -46,8 +48,10 @@ pub record SettlesAt (begin : Begin) (old new : View) (stored entries lines : �
   -- where the site did not fail, all entries stood
   pub stood : ¬ Rose new.turn.known.opening.faults new.turn.known.faults → entries ≡ length (entries_in new)
 
--- A run under way: what the first worker did since the opening, that the answers were put, and that each was settled before.
-pub record UnderWay (begin : Begin) (first now : View) (stored : ℕ) (records : List Record) (deeds : List Deed) : Type 0 where
+-- A run under way: what the first worker did since the opening, that the answers were put, and that each was settled
+-- before.
+pub record UnderWay (begin : Begin) (first now : View) (stored : ℕ) (records : List Record)
+    (deeds : List Deed) : Type 0 where
   pub does : Does begin first now records deeds
   pub put : pieces_of (log_of now) ≡ deeds_octets deeds
   pub settled : AreSettled begin (course_in begin now) stored (log_of now) 0 deeds

@@ -13,8 +13,8 @@ use Rattle.law_one_lane.specs.InTurn.{ServedBetween, ServedInTurn}
 abbrev pub OneLane : List Record → Type 0
 OneLane tasks = (lane : ℕ) × All (λ (task : Record). task.lane ≡ lane) tasks
 
--- Of so many records these were answered. Each of them moved the words once, as its answer tells; of a record without an answer
--- there may be one move more. All lines that the worker made since the old view are of these records.
+-- Of so many records these were answered. Each of them moved the words once, as its answer tells; of a record without
+-- an answer there may be one move more. All lines that the worker made since the old view are of these records.
 pub record MovedExactly (begin : Begin) (old new : View) (count : ℕ) (deeds : List Deed) : Type 0 where
   pub made : List ℕ
   pub made_is : new.turn.made ≡ old.turn.made ++ made

@@ -1,8 +1,8 @@
 -- The words of rows as a machine that records move, one after the other (profile).
 use Rattle.std.specs.Prelude.{◌≡◌, ⊤, ℕ, ◌+◌, ◌-◌, ◌<◌, ◌==◌, if◌then◌else◌, List, [], ◌∷◌}
 
--- What a record did to a row's word `next`: nothing, or it found the word and left it, drew a number, raised the word to a
--- number, or drew one at or past the key's end.
+-- What a record did to a row's word `next`: nothing, or it found the word and left it, drew a number, raised the word
+-- to a number, or drew one at or past the key's end.
 pub data Move : Type 0 where
   Kept : Move
   Found : (row word : ℕ) → Move
@@ -22,8 +22,8 @@ abbrev pub adds_all : ℕ → List Move → ℕ
 adds_all row [] = 0
 adds_all row (move ∷ moves) = adds row move + adds_all row moves
 
--- What the move found is the word as it stands, of one of so many rows. No number is drawn past the end: the word is looked at
--- first.
+-- What the move found is the word as it stands, of one of so many rows. No number is drawn past the end: the word is
+-- looked at first.
 abbrev pub IsAt : ℕ → (ℕ → ℕ) → Move → Type 0
 IsAt rows words Kept = ⊤
 IsAt rows words (Found row word) = (row < rows) × (word ≡ words row)

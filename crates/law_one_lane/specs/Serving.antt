@@ -1,6 +1,7 @@
--- One lane alone, record by record: what a record makes of the history that those before it left, and how it is answered
--- (profile).
-use Rattle.std.specs.Prelude.{◌≡◌, ⊤, ◌⊎◌, ℕ, ◌+◌, ◌<◌, ◌≤◌, IsTrue, List, [], ◌∷◌, ◌++◌, length, Option, Some, None, Result, Ok, Err}
+-- One lane alone, record by record: what a record makes of the history that those before it left, and how it is
+-- answered (profile).
+use Rattle.std.specs.Prelude.{◌≡◌, ⊤, ◌⊎◌, ℕ, ◌+◌, ◌<◌, ◌≤◌, IsTrue, List, [], ◌∷◌, ◌++◌, length, Option, Some, None}
+use Rattle.std.specs.Prelude.{Result, Ok, Err}
 use Rattle.sdls_base.specs.KeyId.{end_of}
 use Rattle.sdls_base.specs.declared.change.Change.{Change}
 use Rattle.sdls_base.specs.declared.entry.Entry.{Entry}
@@ -32,7 +33,8 @@ use Rattle.law_worker.specs.Begin.{Begin}
 use Rattle.law_worker.specs.Deeds.{Deed}
 use Rattle.law_one_lane.specs.Machine.{Move, Kept, Found, Drew, Raised, Overdrew}
 
--- the epoch that stands beside an answer of the checks of a frame that is to be protected: 0 where the plan is enough for them
+-- the epoch that stands beside an answer of the checks of a frame that is to be protected: 0 where the plan is enough
+-- for them
 abbrev pub epoch_beside : Result (Option ℕ) ShieldFault → ℕ → ℕ
 epoch_beside (Ok (Some channel)) epoch = epoch
 epoch_beside (Ok None) epoch = 0
@@ -65,14 +67,16 @@ module _ (begin : Begin) (history : List Entry) where
   -- The number that was drawn is below its key's mark, or an entry of its own reserves it.
   abbrev pub Funds : ℕ → ℕ → List Entry → Type 0
   Funds key number own = ((own ≡ []) × (number < mark_of now key))
-      ⊎ ((own ≡ reserve_of begin.plan now key number ∷ []) × (mark_of now key ≤ number) × HasSlot (reserve_of begin.plan now key number))
+      ⊎ ((own ≡ reserve_of begin.plan now key number ∷ []) × (mark_of now key ≤ number)
+      × HasSlot (reserve_of begin.plan now key number))
 
   -- ---- a frame that is to be protected
 
   -- the checks tell the answer in the state of the epoch
   pub record AloneUnbound (task : Record) (answer : Answer) (own : List Entry) (move : Move) : Type 0 where
     pub told : unbound_told (protect_reply begin.plan at_last_epoch task.link task.octets) ≡ Some (told_by answer)
-    pub position_is : answer.position ≡ epoch_beside (channel_check begin.plan task.link task.octets) (epoch_after history)
+    pub position_is : answer.position ≡ epoch_beside (channel_check begin.plan task.link task.octets)
+        (epoch_after history)
     pub own_is : own ≡ []
     pub move_is : move ≡ Kept
 
@@ -139,7 +143,8 @@ module _ (begin : Begin) (history : List Entry) where
   -- what the words showed for a need, with the reserve of a number that was drawn
   abbrev pub AloneShows : Need → Seen → List Entry → Move → Type 0
   AloneShows needs.Nothing seens.Nothing own move = (own ≡ []) × (move ≡ Kept)
-  AloneShows (needs.Look key) (seens.Word n) own move = (own ≡ []) × ((row : ℕ) × (place_of now.keys key ≡ Some row) × (move ≡ Raised row n 1))
+  AloneShows (needs.Look key) (seens.Word n) own move = (own ≡ [])
+      × ((row : ℕ) × (place_of now.keys key ≡ Some row) × (move ≡ Raised row n 1))
   AloneShows (needs.Raise key number) (seens.Word n) own move =
       (own ≡ []) × ((row : ℕ) × (place_of now.keys key ≡ Some row) × (move ≡ Raised row n number))
   AloneShows (needs.Number key) (seens.Number n) own move =
@@ -149,7 +154,8 @@ module _ (begin : Begin) (history : List Entry) where
   AloneShows need seen own move = ⊥
 
 -- it was shown what it needs
-pub record AloneShown (begin : Begin) (history : List Entry) (task : Record) (reserve : List Entry) (move : Move) : Type 0 where
+pub record AloneShown (begin : Begin) (history : List Entry) (task : Record) (reserve : List Entry)
+    (move : Move) : Type 0 where
   pub need : Need
   pub needed : IsNeedOf (now begin history) task.octets need
   pub seen : Seen
@@ -189,13 +195,16 @@ module _ (begin : Begin) (history : List Entry) where
   -- ---- a record of any kind
 
   abbrev pub ServesKind : RecordKind → Record → Answer → List Entry → Move → Type 0
-  ServesKind Protect task answer own move = AloneUnbound begin history task answer own move ⊎ (AloneProtected begin history task answer own move
+  ServesKind Protect task answer own move = AloneUnbound begin history task answer own move
+      ⊎ (AloneProtected begin history task answer own move
       ⊎ (AloneExhausted begin history task answer own move ⊎ AloneUnfunded begin history task answer own move))
-  ServesKind Open task answer own move = AloneOpened begin history task answer own move ⊎ AloneUnopened begin history task answer own move
-  ServesKind Command task answer own move = AloneHandled task answer own move ⊎ (AloneUnhandled task answer own move ⊎ AloneUnmet task answer own move)
+  ServesKind Open task answer own move = AloneOpened begin history task answer own move
+      ⊎ AloneUnopened begin history task answer own move
+  ServesKind Command task answer own move = AloneHandled task answer own move
+      ⊎ (AloneUnhandled task answer own move ⊎ AloneUnmet task answer own move)
 
-  -- The record has this answer, made these entries and moved a word so. Nothing is said of one for which the site failed or
-  -- memory was wanting: codes from 31 on.
+  -- The record has this answer, made these entries and moved a word so. Nothing is said of one for which the site
+  -- failed or memory was wanting: codes from 31 on.
   abbrev pub AloneServes : Record → Answer → List Entry → Move → Type 0
   AloneServes task answer own move = (JOURNAL_FULL < answer.code) ⊎ ServesKind task.kind task answer own move
 
@@ -204,7 +213,8 @@ abbrev pub ServesAll : Begin → List Entry → List Deed → List Move → List
 ServesAll begin history [] [] own = own ≡ []
 ServesAll begin history [] (move ∷ moves) own = ⊥
 ServesAll begin history (deed ∷ deeds) [] own = ⊥
-ServesAll begin history (deed ∷ deeds) (move ∷ moves) own = (first : List Entry) × (rest : List Entry) × (own ≡ first ++ rest)
+ServesAll begin history (deed ∷ deeds) (move ∷ moves) own = (first : List Entry) × (rest : List Entry)
+    × (own ≡ first ++ rest)
     × AloneServes begin history deed.task deed.answer first move × ServesAll begin (history ++ first) deeds moves rest
 
 -- the same records, one by one

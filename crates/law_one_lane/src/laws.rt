@@ -22,7 +22,8 @@ pub fn exact_nothing()
     ensures { (begin : Begin) (view : View) → Exact begin view view [] [] [] }
 {}
 
-/// Law: one record, whose answer tells its move, was done exactly, where the move is the machine's if no other worker moved a word.
+/// Law: one record, whose answer tells its move, was done exactly, where the move is the machine's if no other worker
+/// moved a word.
 pub fn exact_move()
     ensures { (begin : Begin) (old new : View) (made : List ℕ) (deed : Deed) (move : Move)
         → Tells begin.start (entries_in new) deed move
@@ -34,16 +35,17 @@ pub fn exact_move()
         → Exact begin old new made (deed ∷ []) [] }
 {}
 
-/// Law: what was done exactly in two parts, one after the other, was done so as a whole. Of the first part each record has an
-/// answer.
+/// Law: what was done exactly in two parts, one after the other, was done so as a whole. Of the first part each record
+/// has an answer.
 pub fn exact_then()
     ensures { (begin : Begin) (old mid new : View) (made later : List ℕ) (deeds more : List Deed) (last : List Move)
         → Exact begin old mid made deeds [] → ((place : ℕ) → 0 < stands place made → place < length (log_of mid))
-        → KnowsMore mid new → Exact begin mid new later more last → Exact begin old new (made ++ later) (deeds ++ more) last }
+        → KnowsMore mid new → Exact begin mid new later more last
+        → Exact begin old new (made ++ later) (deeds ++ more) last }
 {}
 
-/// Law: at the end of a run that one worker did alone the words grew by its moves, so that they are the machine's, from the words
-/// of the first view.
+/// Law: at the end of a run that one worker did alone the words grew by its moves, so that they are the machine's, from
+/// the words of the first view.
 pub fn alone_is_exact()
     ensures { (begin : Begin) (first now : View) (made : List ℕ) (deeds : List Deed) (last : List Move)
         (exact : Exact begin first now made deeds last) → IsWhole begin.rows now
@@ -51,17 +53,19 @@ pub fn alone_is_exact()
         → Runs begin.rows (words_in first) (exact.moves ++ last) }
 {}
 
-/// Law: one lane alone answers once. From one history and the same words the same records have the same answers, make the same
-/// entries and move the words alike, as far as the site tells what it holds, where for none of them the site failed or memory was
-/// wanting, and each state of the history keeps the rules.
+/// Law: one lane alone answers once. From one history and the same words the same records have the same answers, make
+/// the same entries and move the words alike, as far as the site tells what it holds, where for none of them the site
+/// failed or memory was wanting, and each state of the history keeps the rules.
 pub fn served_once()
-    ensures { (begin : Begin) (rows : ℕ) (words : ℕ → ℕ) (history : List Entry) (deeds others : List Deed) (moves more : List Move)
+    ensures { (begin : Begin) (rows : ℕ) (words : ℕ → ℕ) (history : List Entry) (deeds others : List Deed)
+        (moves more : List Move)
         (own entries : List Entry) → IsTrue begin.told
         → ((front rest : List Entry) → own ≡ front ++ rest → KeepsRules (after begin.start (history ++ front)))
         → SameTasks deeds others → AreServed deeds → AreServed others
         → ServesAll begin history deeds moves own → ServesAll begin history others more entries
         → Runs rows words moves → Runs rows words more
-        → (map (λ (deed : Deed). deed.answer) deeds ≡ map (λ (deed : Deed). deed.answer) others) × (own ≡ entries) × (moves ≡ more) }
+        → (map (λ (deed : Deed). deed.answer) deeds ≡ map (λ (deed : Deed). deed.answer) others) × (own ≡ entries)
+        × (moves ≡ more) }
 {
     messages_need_one();
     messages_have_one_step();

@@ -14,12 +14,13 @@ use Rattle.law_history.specs.Fits.{Course}
 use Rattle.law_worker.specs.Begin.{Begin}
 use Rattle.law_worker.specs.Deeds.{Deed, deed_of}
 use Rattle.law_run_ends.specs.declared.end.RunEnd.{RunEnd}
-use Rattle.law_run_ends.specs.declared.end.RunEnd.TheVariants.{Ended, Malformed, SourceFault, SiteFault, NoMemory, NoState, SessionFull, PutFailed}
+use Rattle.law_run_ends.specs.declared.end.RunEnd.TheVariants.{Ended, Malformed, SourceFault, SiteFault, NoMemory}
+use Rattle.law_run_ends.specs.declared.end.RunEnd.TheVariants.{NoState, SessionFull, PutFailed}
 use Rattle.law_run_ends.specs.Call.{CallSeen, image_at_entry}
 
--- What a run did: what ended it and the end that it told; the items that it read, with their octets and those taken of a part
--- behind them; the records that it handled and its one list of answers; and the site's count of faults when the last answers had
--- been put.
+-- What a run did: what ended it and the end that it told; the items that it read, with their octets and those taken of
+-- a part behind them; the records that it handled and its one list of answers; and the site's count of faults when the
+-- last answers had been put.
 pub record Account : Type 0 where
   pub came : RunEnd
   pub told : RunEnd
@@ -96,9 +97,9 @@ HandledFirst account = (segments : ℕ) × (account.handled ≡ of_first segment
 abbrev pub AnsweredEach : Account → Type 0
 AnsweredEach account = length account.answers ≡ length account.handled
 
--- Which records were handled, and which have answers, by what came: all records of the items; those of the first segments,
--- where memory was wanting; some of the first segments, where the history is full, or a put failed; none where the book was not
--- opened.
+-- Which records were handled, and which have answers, by what came: all records of the items; those of the first
+-- segments, where memory was wanting; some of the first segments, where the history is full, or a put failed; none
+-- where the book was not opened.
 abbrev pub AreAnswered : Account → RunEnd → Type 0
 AreAnswered account Ended = HandledAll account × AnsweredEach account
 AreAnswered account (Malformed offset) = HandledAll account × AnsweredEach account

@@ -1,5 +1,6 @@
 -- A run whose records are of one lane: its words and numbers are those of the machine (profile).
-use Rattle.std.specs.Prelude.{◌≡◌, ◌≢◌, ℕ, ◌+◌, ◌<◌, ◌≤◌, List, [], ◌++◌, length, take, slice_get, slice_index, Some, None, Contains}
+use Rattle.std.specs.Prelude.{◌≡◌, ◌≢◌, ℕ, ◌+◌, ◌<◌, ◌≤◌, List, [], ◌++◌, length, take, slice_get, slice_index, Some}
+use Rattle.std.specs.Prelude.{None, Contains}
 use Rattle.std.specs.List.{All}
 use Rattle.sdls_base.specs.declared.TheConstants.{MOST_KEYS}
 use Rattle.sdls_base.specs.declared.entry.Entry.{Entry}
@@ -16,11 +17,13 @@ use Rattle.law_one_lane.specs.Exact.{TellAll}
 use Rattle.law_run_ends.specs.Call.{CallSeen}
 use Rattle.law_run_ends.specs.Account.{Account, AnsweredEach, begin_of, deeds_in, due_octets}
 
--- The moves that the answers tell, and one more at most where a record has no answer, are those of the machine whose words begin at
--- the marks of the image. Each reserve is of a number that was drawn so, and the words by which the keys were released are those that
--- the machine came to. So many entries are of the lane; those behind them are releases. Where each record has its answer and the site
--- had not failed, the records were served one after the other, each in the history that those before it left.
-pub record IsExact (call : CallSeen) (account : Account) (plan : PlanLines) (state : State) (words : List ℕ) (ends : ℕ) : Type 0 where
+-- The moves that the answers tell, and one more at most where a record has no answer, are those of the machine whose
+-- words begin at the marks of the image. Each reserve is of a number that was drawn so, and the words by which the keys
+-- were released are those that the machine came to. So many entries are of the lane; those behind them are releases.
+-- Where each record has its answer and the site had not failed, the records were served one after the other, each in
+-- the history that those before it left.
+pub record IsExact (call : CallSeen) (account : Account) (plan : PlanLines) (state : State) (words : List ℕ)
+    (ends : ℕ) : Type 0 where
   pub moves : List Move
   pub beyond : List Move
   pub few : length beyond ≤ 1

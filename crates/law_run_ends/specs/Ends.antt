@@ -52,8 +52,8 @@ abbrev pub IsJournalFull : CallSeen → State → Type 0
 IsJournalFull call state =
     length (records (image_at_entry call)) + stored_count state call.entries ≡ slot_count (image_at_entry call)
 
--- The releases behind the entries of the lanes: those that are due, up to the first that was refused; none where the site had
--- failed before. One is refused only where the site fails, the journal is full, or the history is full.
+-- The releases behind the entries of the lanes: those that are due, up to the first that was refused; none where the
+-- site had failed before. One is refused only where the site fails, the journal is full, or the history is full.
 pub record IsReleased (call : CallSeen) (account : Account) (state : State) (ends : ℕ) : Type 0 where
   pub words : List ℕ
   pub rows : length words ≡ MOST_KEYS
@@ -68,25 +68,27 @@ pub record IsReleased (call : CallSeen) (account : Account) (state : State) (end
   pub room : ¬ Rose call.site.faults call.site_after.faults
       → length (records (image_at_entry call)) + stored_count state call.entries ≤ slot_count (image_at_entry call)
 
--- why the book over a refused image was not opened: that the image shows no state, a fault of the site, or want of memory
+-- why the book over a refused image was not opened: that the image shows no state, a fault of the site, or want of
+-- memory
 abbrev pub IsOpenRefusal : ℕ → RunEnd → Type 0
 IsOpenRefusal offset came = (came ≡ NoState offset) ⊎ (((count : ℕ) × (came ≡ SiteFault count)) ⊎ (came ≡ NoMemory))
 
--- A moment of a call whose book was not opened: the image is one that a crash at the entry may leave, or that at the entry but
--- for its closed gates; nothing but End was sunk.
+-- A moment of a call whose book was not opened: the image is one that a crash at the entry may leave, or that at the
+-- entry but for its closed gates; nothing but End was sunk.
 pub record IsUnopened (call : CallSeen) (told : RunEnd) (image sunk : List ℕ) : Type 0 where
   pub image_is : Leaves call.site.trace.now image ⊎ Settles (image_at_entry call) image
   pub only_end : sunk_since call sunk ≡ take (length (sunk_since call sunk)) (end_octets call told)
 
--- A refused image: no book was opened, so nothing was taken of the source, and nothing is put but End. Where that is the end that
--- came, the image is as it was, and each moment is early.
+-- A refused image: no book was opened, so nothing was taken of the source, and nothing is put but End. Where that is
+-- the end that came, the image is as it was, and each moment is early.
 pub record IsRefused (call : CallSeen) (account : Account) (offset : ℕ) : Type 0 where
   pub came_is : IsOpenRefusal offset account.came
   pub source_is : call.source_after ≡ call.source
   pub no_entries : call.entries ≡ []
   pub moments : EachMoment call.site.trace call.site_after.trace (IsUnopened call account.told)
   pub image_is : account.came ≡ NoState offset → call.site_after.trace.now.image ≡ image_at_entry call
-  pub early : account.came ≡ NoState offset → EachMoment call.site.trace call.site_after.trace (IsEarly call account.told)
+  pub early : account.came ≡ NoState offset → EachMoment call.site.trace call.site_after.trace
+      (IsEarly call account.told)
 
 -- How a run ends, over its account.
 pub record RunEnds (call : CallSeen) : Type 0 where
@@ -105,4 +107,5 @@ pub record RunEnds (call : CallSeen) : Type 0 where
   pub sound : IsTrue call.site.told → (plan : PlanLines) (state : State) → ShowsAtEntry call plan state
       → (s : IsSoundCall call account plan state) × (r : IsReleased call account state s.run.history.run.ends)
       × (OneLane (records_of account.handled) → IsExact call account plan state r.words s.run.history.run.ends)
-  pub refused : IsTrue call.site.told → (offset : ℕ) → ShowsNone (image_at_entry call) offset → IsRefused call account offset
+  pub refused : IsTrue call.site.told → (offset : ℕ) → ShowsNone (image_at_entry call) offset
+      → IsRefused call account offset

@@ -47,11 +47,13 @@ no_account call = record {
   last = call.site.faults;
 }
 
--- Each moment is one that a crash at the entry may leave, or a sound one of a run without records, whose octets sunk are taken
--- as none.
+-- Each moment is one that a crash at the entry may leave, or a sound one of a run without records, whose octets sunk
+-- are taken as none.
 abbrev pub ReadsSoundly : CallSeen → PlanLines → State → Type 0
-ReadsSoundly call plan state = EachMoment call.site.trace call.site_after.trace (λ image sunk. Leaves call.site.trace.now image
-    ⊎ SoundMoment (begin_of call plan state) (course_of call (no_account call) plan state) [] [] (image_at_entry call) image [])
+ReadsSoundly call plan state = EachMoment call.site.trace call.site_after.trace
+    (λ image sunk. Leaves call.site.trace.now image
+    ⊎ SoundMoment (begin_of call plan state) (course_of call (no_account call) plan state) [] [] (image_at_entry call)
+    image [])
 
 -- The same of a life: such a call stands in it as a run without records, which sinks nothing.
 abbrev pub KeepsLivesReading : CallSeen → Type 0

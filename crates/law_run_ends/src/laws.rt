@@ -43,14 +43,17 @@ pub fn faults_are_told()
         → SaysSiteFailed (slice_index_or run.account.answers k default) → call.status ≡ SITE_FAULT }
 {}
 
-/// Law: after a fault of the disk the run goes on: with the status of a fault of the site and at least one entry, where no put
-/// failed, memory was not wanting and the history not full, the input was read to its end.
+/// Law: after a fault of the disk the run goes on: with the status of a fault of the site and at least one entry, where
+/// no put failed, memory was not wanting and the history not full, the input was read to its end.
 pub fn goes_to_its_end()
-    ensures { (call : CallSeen) (run : RunEnds call) → call.site_after.put_faults ≡ call.site.put_faults → call.status ≡ SITE_FAULT
-        → call.entries ≢ [] → run.account.came ≢ ends.NoMemory → run.account.came ≢ ends.SessionFull → GoesToItsEnd call run }
+    ensures { (call : CallSeen) (run : RunEnds call) → call.site_after.put_faults ≡ call.site.put_faults
+        → call.status ≡ SITE_FAULT
+        → call.entries ≢ [] → run.account.came ≢ ends.NoMemory → run.account.came ≢ ends.SessionFull
+        → GoesToItsEnd call run }
 {}
 
-/// Law: with another status than that of a fault of the site or of a full history, the end that is told is the one that came.
+/// Law: with another status than that of a fault of the site or of a full history, the end that is told is the one that
+/// came.
 pub fn status_tells_what_came()
     ensures { (call : CallSeen) (run : RunEnds call) → call.status ≢ SITE_FAULT → call.status ≢ SESSION_FULL
         → (run.account.told ≡ run.account.came) × (call.status ≡ end_status run.account.came) }
@@ -63,18 +66,21 @@ pub fn full_is_told()
 
 /// Law: the status of a fault of the site comes only where the site's count rose in the call.
 pub fn status_five_has_a_fault()
-    ensures { (call : CallSeen) → RunEnds call → call.status ≡ SITE_FAULT → Rose call.site.faults call.site_after.faults }
+    ensures { (call : CallSeen) → RunEnds call → call.status ≡ SITE_FAULT
+        → Rose call.site.faults call.site_after.faults }
 {}
 
 /// Law: a refused image is not answered with status 0, and with its own status it stays as it was.
 pub fn refused_stays()
-    ensures { (call : CallSeen) → RunEnds call → IsTrue call.site.told → (offset : ℕ) → ShowsNone (image_at_entry call) offset
+    ensures { (call : CallSeen) → RunEnds call → IsTrue call.site.told → (offset : ℕ)
+        → ShowsNone (image_at_entry call) offset
         → IsLeftRefused call }
 {}
 
 /// Law: a run that nothing hinders does all, or memory was wanting.
 pub fn unhindered_run_completes()
-    ensures { (call : CallSeen) (run : RunEnds call) (plan : PlanLines) (state : State) → IsUnhindered call run plan state
+    ensures { (call : CallSeen) (run : RunEnds call) (plan : PlanLines) (state : State)
+        → IsUnhindered call run plan state
         → (call.status ≡ DONE) ⊎ (call.status ≡ NO_MEMORY) }
 {
     input_reads_once();
@@ -100,21 +106,24 @@ pub fn sound_reading_keeps_lives()
 
 /// Law: two calls with one input, both with status 0, handled the same records, and answered each.
 pub fn one_input_is_handled_alike()
-    ensures { (call other : CallSeen) (run : RunEnds call) (again : RunEnds other) → call.status ≡ DONE → other.status ≡ DONE
+    ensures { (call other : CallSeen) (run : RunEnds call) (again : RunEnds other) → call.status ≡ DONE
+        → other.status ≡ DONE
         → IsTrue call.source.told → IsTrue other.source.told → other.source.left ≡ call.source.left
         → (again.account.handled ≡ run.account.handled) × (length again.account.answers ≡ length run.account.answers) }
 {
     input_reads_once();
 }
 
-/// Law: two calls over one image with one input, all of one lane, both with status 0 and none wanting memory for a record, have the
-/// same answers and the same entries, and put the same octets.
+/// Law: two calls over one image with one input, all of one lane, both with status 0 and none wanting memory for a
+/// record, have the same answers and the same entries, and put the same octets.
 pub fn one_lane_runs_alike()
     ensures { (call other : CallSeen) (run : RunEnds call) (again : RunEnds other) (plan : PlanLines) (state : State)
-        → call.status ≡ DONE → other.status ≡ DONE → IsTrue call.source.told → IsTrue other.source.told → IsTrue call.site.told
+        → call.status ≡ DONE → other.status ≡ DONE → IsTrue call.source.told → IsTrue other.source.told
+        → IsTrue call.site.told
         → IsTrue other.site.told → other.source.left ≡ call.source.left → image_at_entry other ≡ image_at_entry call
         → ShowsAtEntry call plan state → OneLane (records_of run.account.handled)
-        → NoneWants run.account.answers → NoneWants again.account.answers → RunsAlike call other run.account again.account }
+        → NoneWants run.account.answers → NoneWants again.account.answers
+        → RunsAlike call other run.account again.account }
 {
     one_input_is_handled_alike();
     zero_says_all();

@@ -1,9 +1,9 @@
-//! How a run of the unit ends: what its caller sees of the call, why it ends, what the status says, and what the call adds to a
-//! life of the unit (profile).
+//! How a run of the unit ends: what its caller sees of the call, why it ends, what the status says, and what the call
+//! adds to a life of the unit (profile).
 //!
-//! [`RunEnd`] names the ends. The rest is definitions, in `specs`, and laws over them: read `Ends` there, whose `RunEnds` is what
-//! the top call promises; [`zero_says_all`], [`faults_are_told`] and [`unhindered_run_completes`] draw from it what a status
-//! says, and [`sound_call_keeps_lives`] what a call is in a life.
+//! [`RunEnd`] names the ends. The rest is definitions, in `specs`, and laws over them: read `Ends` there, whose
+//! `RunEnds` is what the top call promises; [`zero_says_all`], [`faults_are_told`] and [`unhindered_run_completes`]
+//! draw from it what a status says, and [`sound_call_keeps_lives`] what a call is in a life.
 #![tactic(auto)]
 
 mod end;

@@ -31,7 +31,8 @@ pub record HasBroken (begin : Begin) (now : View) (failed_before failed : ℕ) (
   pub rose : Rose now.turn.known.opening.faults now.turn.known.faults
 
 -- Between two segments: the items so far end with a segment, and each record of them was answered.
-pub record IsUnderWay (start source : SourceSeen) (standing : Standing) (begin : Begin) (first now : View) (failed_before failed stored : ℕ) : Type 0 where
+pub record IsUnderWay (start source : SourceSeen) (standing : Standing) (begin : Begin) (first now : View)
+    (failed_before failed stored : ℕ) : Type 0 where
   pub items : List Item
   pub read : List ℕ
   pub answers : List Answer
@@ -48,7 +49,8 @@ abbrev pub EndsReading : SourceSeen → SourceSeen → List Item → List ℕ �
 EndsReading start source items read part ends.Ended = (part ≡ []) × (IsTrue start.told → IsInput start.left items Whole)
 EndsReading start source items read part (ends.Malformed offset) =
     (offset ≡ length read) × (IsTrue start.told → IsInput start.left items (MalformedAt offset))
-EndsReading start source items read part (ends.SourceFault count) = Rose start.faults source.faults × (count ≡ source.faults)
+EndsReading start source items read part (ends.SourceFault count) = Rose start.faults source.faults
+    × (count ≡ source.faults)
 EndsReading start source items read part (ends.SiteFault count) = ⊥
 EndsReading start source items read part ends.NoMemory = ⊤
 EndsReading start source items read part (ends.NoState offset) = ⊥
@@ -67,14 +69,17 @@ PutsBy begin now failed_before failed answers ends.SessionFull = HasPut begin no
 PutsBy begin now failed_before failed answers ends.PutFailed = HasBroken begin now failed_before failed answers
 
 -- the history is full, and the first record without an answer needs an entry, or may need one
-pub record StopsAtFullHistory (begin : Begin) (first now : View) (places : List Place) (answers : List Answer) : Type 0 where
+pub record StopsAtFullHistory (begin : Begin) (first now : View) (places : List Place)
+    (answers : List Answer) : Type 0 where
   pub place : Place
   pub first_without : slice_get places (length answers) ≡ Some place
   pub full : MOST_ENTRIES ≤ length (entries_in now)
-  pub due : (place.task.kind ≢ Protect) ⊎ MayAppend (IsBetween begin first now) (course_in begin now) MOST_ENTRIES place.task
+  pub due : (place.task.kind ≢ Protect) ⊎ MayAppend (IsBetween begin first now) (course_in begin now) MOST_ENTRIES
+      place.task
 
 -- The reading and the serving came to this end. The records handled are those of a front of the items.
-pub record HasCome (start source : SourceSeen) (begin : Begin) (first now : View) (failed_before failed stored : ℕ) (came : RunEnd) : Type 0 where
+pub record HasCome (start source : SourceSeen) (begin : Begin) (first now : View) (failed_before failed stored : ℕ)
+    (came : RunEnd) : Type 0 where
   pub items : List Item
   pub read : List ℕ
   pub part : List ℕ

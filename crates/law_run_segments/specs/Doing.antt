@@ -31,8 +31,8 @@ abbrev pub LieIn : Layout → List Place → Type 0
 LieIn layout places = (place : Place) → Contains places place
     → (layout.lane_of place.task.index ≡ place.task.lane) × (layout.segment_of place.task.index ≡ place.segment)
 
--- What a run stands on: the plan and the first state keep their rules, a restart left that state, and the first worker is as
--- the opening made it.
+-- What a run stands on: the plan and the first state keep their rules, a restart left that state, and the first worker
+-- is as the opening made it.
 pub record IsFounded (begin : Begin) (first : View) : Type 0 where
   pub rows : begin.rows ≡ MOST_KEYS
   pub plan_is : IsPlan begin.plan
@@ -40,15 +40,17 @@ pub record IsFounded (begin : Begin) (first : View) : Type 0 where
   pub left : restarted begin.start ≡ begin.start
   pub opened : IsJustOpened begin first
 
--- The worker did all since the opening, with the records of these places and these answers, and its lines stand in input order.
+-- The worker did all since the opening, with the records of these places and these answers, and its lines stand in
+-- input order.
 pub record HasDone (begin : Begin) (first now : View) (places : List Place) (answers : List Answer) : Type 0 where
   pub none_made : first.turn.made ≡ []
   pub does : Does begin first now (records_of places) (deeds_from places answers)
   pub lined : (layout : Layout) → LieIn layout places → (pieces : ℕ)
-      × Lined (TakeTurns layout) (log_of now) now.turn.made (length (records_of places) + drawers (records_of places)) pieces
+      × Lined (TakeTurns layout) (log_of now) now.turn.made (length (records_of places) + drawers (records_of places))
+      pieces
 
--- One lane alone: each record moved the words as its answer tells, and where each has its answer, the site did not fail and no other
--- worker made a line, they were served in turn from the history of the first view.
+-- One lane alone: each record moved the words as its answer tells, and where each has its answer, the site did not fail
+-- and no other worker made a line, they were served in turn from the history of the first view.
 pub record RunAlone (begin : Begin) (first now : View) (places : List Place) (answers : List Answer) : Type 0 where
   pub moved : MovedExactly begin first now (length places) (deeds_from places answers)
   pub level : IsClean now → IsLevel first → IsLevel now
@@ -65,8 +67,8 @@ abbrev pub HasSettled : Begin → View → ℕ → List Place → List Answer �
 HasSettled begin now stored places answers =
     AreSettled begin (course_in begin now) stored (log_of now) 0 (deeds_from places answers)
 
--- The first put behind a segment found a book that settles what the worker had done before: of so many entries that were
--- stored, no fewer than the worker knew of; so many are stored now.
+-- The first put behind a segment found a book that settles what the worker had done before: of so many entries that
+-- were stored, no fewer than the worker knew of; so many are stored now.
 pub record SettlesWork (begin : Begin) (v w : View) (known stored : ℕ) : Type 0 where
   pub entries : ℕ
   pub lines : ℕ

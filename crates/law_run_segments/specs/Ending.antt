@@ -17,7 +17,8 @@ use Rattle.law_run_ends.specs.declared.end.RunEnd.{RunEnd}
 use Rattle.law_run_ends.specs.declared.end.RunEnd.TheVariants as ends
 use Rattle.law_run_ends.specs.Account.{end_answer, end_status}
 
--- The end that is told, by the site's counts of faults before the run, when all answers were put, and behind the release.
+-- The end that is told, by the site's counts of faults before the run, when all answers were put, and behind the
+-- release.
 abbrev pub IsToldEnd : ℕ → ℕ → ℕ → RunEnd → Result (Unit {0}) BookFault → RunEnd → Type 0
 IsToldEnd before last now came released told = (Rose before last × (told ≡ ends.SiteFault last))
     ⊎ ((¬ Rose before last) × (((came ≢ ends.Ended) × (told ≡ came))
@@ -26,7 +27,8 @@ IsToldEnd before last now came released told = (Rose before last × (told ≡ en
     ⊎ (told ≡ ends.Ended)))))))
 
 -- End was put, or a front of it.
-pub record IsEndPut {O : Type 0} (told : Bool) (trace : O → Trace) (faults_of puts : O → ℕ) (end : RunEnd) (old new : BookView O) (status : ℕ) : Type 0 where
+pub record IsEndPut {O : Type 0} (told : Bool) (trace : O → Trace) (faults_of puts : O → ℕ) (end : RunEnd)
+    (old new : BookView O) (status : ℕ) : Type 0 where
   pub put : Result (Unit {0}) BookFault
   pub made : new ≡ with_put (sunk_between (trace old.site) (trace new.site)) (record old { site = new.site })
   pub sinks : IsTrue told
@@ -37,13 +39,15 @@ pub record IsEndPut {O : Type 0} (told : Bool) (trace : O → Trace) (faults_of 
       (λ _. (status ≡ SITE_FAULT) × Rose (faults_of old.site) (faults_of new.site))
 
 -- Where a put failed before, nothing more is put.
-abbrev pub PutsEnd : {O : Type 0} → Bool → (O → Trace) → (O → ℕ) → (O → ℕ) → RunEnd → RunEnd → BookView O → BookView O → ℕ → Type 0
+abbrev pub PutsEnd : {O : Type 0} → Bool → (O → Trace) → (O → ℕ) → (O → ℕ) → RunEnd → RunEnd → BookView O → BookView O
+    → ℕ → Type 0
 PutsEnd told trace faults_of puts came end old new status =
     ((came ≡ ends.PutFailed) × (new ≡ old) × (status ≡ SITE_FAULT))
     ⊎ ((came ≢ ends.PutFailed) × IsEndPut told trace faults_of puts end old new status)
 
 -- The keys were released by these words `next`, and End was put.
-pub record Finishes {O : Type 0} (told : Bool) (trace : O → Trace) (faults_of puts : O → ℕ) (before : ℕ) (words : List ℕ) (came : RunEnd)
+pub record Finishes {O : Type 0} (told : Bool) (trace : O → Trace) (faults_of puts : O → ℕ) (before : ℕ)
+    (words : List ℕ) (came : RunEnd)
     (book : BookView O) (site : O) (entries : List Entry) (status : ℕ) : Type 0 where
   pub released : BookView O
   pub answer : Result (Unit {0}) BookFault

@@ -37,11 +37,13 @@ begin_by told image plan start = record {
 -- where the site tells what it holds and has not failed, so many slots of the image are used
 abbrev pub CountsSlots : {O : Type 0} → Bool → (O → ℕ) → List ℕ → BookView O → Type 0
 CountsSlots told faults image book = IsTrue told → ¬ Rose (faults book.opened) (faults book.site)
-    → (book.journal.slots ≡ slot_count image) × (book.journal.used ≡ length (records image) + stored_count book.start (entries_of book.log))
+    → (book.journal.slots ≡ slot_count image) × (book.journal.used
+    ≡ length (records image) + stored_count book.start (entries_of book.log))
 
--- The book was opened on the site, one worker did all that was done from the first view to the last, and the counters were closed
--- with these words `next`.
-pub record Ran {O : Type 0} (told : Bool) (trace : O → Trace) (faults puts : O → ℕ) (site : O) (source source_after : SourceSeen)
+-- The book was opened on the site, one worker did all that was done from the first view to the last, and the counters
+-- were closed with these words `next`.
+pub record Ran {O : Type 0} (told : Bool) (trace : O → Trace) (faults puts : O → ℕ) (site : O)
+    (source source_after : SourceSeen)
     (first now : View) (came : RunEnd) (book : BookView O) (words : List ℕ) : Type 0 where
   pub says : IsTrue told → plan_of (held (trace site).now.image).plan ≡ Ok book.plan
   pub shows : IsTrue told → Shows (trace site).now.image book.start
@@ -60,7 +62,8 @@ pub record Ran {O : Type 0} (told : Bool) (trace : O → Trace) (faults puts : O
   pub stand : (row : ℕ) → row < MOST_KEYS → RowStands row (slice_index words row) now.numbers
 
 -- the call, as its caller sees it
-abbrev pub call_seen : {O : Type 0} → Bool → (O → Trace) → (O → ℕ) → (O → ℕ) → O → O → SourceSeen → SourceSeen → ℕ → List Entry → CallSeen
+abbrev pub call_seen : {O : Type 0} → Bool → (O → Trace) → (O → ℕ) → (O → ℕ) → O → O → SourceSeen → SourceSeen → ℕ
+    → List Entry → CallSeen
 call_seen told trace faults puts site after source source_after status entries = record {
   source = source;
   source_after = source_after;

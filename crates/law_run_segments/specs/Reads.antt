@@ -14,11 +14,12 @@ abbrev pub StillShows : CallSeen → List ℕ → Type 0
 StillShows call image = (state : State) × Shows (image_at_entry call) state × Shows image (restarted state)
     × ((form : List ℕ) → ¬ IsOpenedForm image form)
 
--- a crash then leaves what one at the entry may leave too, or the image at the entry but for its closed gates, or one that still
--- shows what that shows
+-- a crash then leaves what one at the entry may leave too, or the image at the entry but for its closed gates, or one
+-- that still shows what that shows
 abbrev pub IsRead : CallSeen → List ℕ → Type 0
 IsRead call image = Leaves call.site.trace.now image ⊎ (Settles (image_at_entry call) image ⊎ StillShows call image)
 
 -- each moment of the call is such
 abbrev pub ReadsAlone : CallSeen → Type 0
-ReadsAlone call = IsTrue call.site.told → EachMoment call.site.trace call.site_after.trace (λ image sunk. IsRead call image)
+ReadsAlone call = IsTrue call.site.told → EachMoment call.site.trace call.site_after.trace
+    (λ image sunk. IsRead call image)

@@ -22,9 +22,10 @@ refused_end (faults.SiteFault count) = ends.SiteFault count
 refused_end (faults.Image offset) = ends.NoState offset
 refused_end faults.NoMemory = ends.NoMemory
 
--- The opening gave the site back with this fault, and then End was put on it, or a front of it. A fault of the site that came
--- before is told, else why the book was not opened.
-pub record Refused {O : Type 0} (told : Bool) (trace : O → Trace) (faults_of puts : O → ℕ) (site back after : O) (fault : OpenFault)
+-- The opening gave the site back with this fault, and then End was put on it, or a front of it. A fault of the site
+-- that came before is told, else why the book was not opened.
+pub record Refused {O : Type 0} (told : Bool) (trace : O → Trace) (faults_of puts : O → ℕ) (site back after : O)
+    (fault : OpenFault)
     (status : ℕ) : Type 0 where
   pub cause : IsOpenCause (faults_of site) (faults_of back)
       (λ offset. IsTrue told → ShowsNone (trace site).now.image offset × OnlySyncs (trace site) (trace back)) fault

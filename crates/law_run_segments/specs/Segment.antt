@@ -17,10 +17,12 @@ use Rattle.law_worker.specs.Order.{Layout, LiesIn, Handled}
 use Rattle.law_one_lane.specs.Alone.{OneLane, ServedAlone}
 use Rattle.law_run_segments.specs.Doing.{AreSettledInside, PutsPieces, SettlesWork, octets_put}
 
--- From the first view to the second the worker handled the records; from there to the last it put the answers, or a front of
--- them. So many entries were stored at the end.
-pub record HandlesAndPuts (begin : Begin) (v mid w : View) (records : List Record) (answers : List Answer) (stored : ℕ) : Type 0 where
-  pub handled : (layout : Layout) (number : ℕ) → LiesIn layout number records → Handled layout begin v mid records (deeds_of number records answers)
+-- From the first view to the second the worker handled the records; from there to the last it put the answers, or a
+-- front of them. So many entries were stored at the end.
+pub record HandlesAndPuts (begin : Begin) (v mid w : View) (records : List Record) (answers : List Answer)
+    (stored : ℕ) : Type 0 where
+  pub handled : (layout : Layout) (number : ℕ) → LiesIn layout number records
+      → Handled layout begin v mid records (deeds_of number records answers)
   pub few : length answers ≤ length records
   pub whole_mid : IsWhole begin.rows mid
   pub whole : IsWhole begin.rows w
@@ -29,7 +31,8 @@ pub record HandlesAndPuts (begin : Begin) (v mid w : View) (records : List Recor
   pub settles : SettlesWork begin mid w known stored
   pub entered : (number : ℕ) → AreSettledInside known (deeds_of number records answers)
   -- where all records are of one lane, they were served in turn; the puts moved no word
-  pub exactly : OneLane records → (number : ℕ) → ServedAlone begin v mid (length records) (deeds_of number records answers)
+  pub exactly : OneLane records → (number : ℕ) → ServedAlone begin v mid (length records)
+      (deeds_of number records answers)
   pub same_numbers : w.numbers ≡ mid.numbers
 
 -- so many puts had failed before, and have now: none since, and the octets were added to those put before

@@ -28,7 +28,8 @@ ghost use Rattle.law_run_segments.specs.Ending.{Finishes};
 ghost use Rattle.law_run_segments.specs.Ran.{call_seen, CountsSlots, Ran};
 ghost use Rattle.law_run_segments.specs.Reads.{ReadsAlone};
 ghost use Rattle.law_run_segments.specs.Refused.{Refused};
-ghost use Rattle.law_run_segments.specs.Doing.{AreSettledInside, HasDone, HasSettled, IsBefore, IsFounded, IsSegment, octets_put, PutsPieces, SettlesWork};
+ghost use Rattle.law_run_segments.specs.Doing.{AreSettledInside, HasDone, HasSettled, IsBefore, IsFounded, IsSegment};
+ghost use Rattle.law_run_segments.specs.Doing.{octets_put, PutsPieces, SettlesWork};
 
 use law_image::shown_keeps_rules;
 use law_run_ends::{sound_call_keeps_lives, sound_reading_keeps_lives};
@@ -37,26 +38,36 @@ use unit_image::{refused_with_one, shows_one};
 
 /// Law: a run goes on by a segment, whose records were handled and whose answers were put; and these are settled.
 pub fn segment_goes_on()
-    ensures done { (begin : Begin) (first v mid w : View) (places more : List Place) (answers next : List Answer) (number : ℕ)
-        → HasDone begin first v places answers → length answers ≡ length places → IsWhole begin.rows v → IsSegment number places more
+    ensures done { (begin : Begin) (first v mid w : View) (places more : List Place) (answers next : List Answer)
+        (number : ℕ)
+        → HasDone begin first v places answers → length answers ≡ length places → IsWhole begin.rows v
+        → IsSegment number places more
         → ((layout : Layout) → LiesIn layout number (records_of more)
         → Handled layout begin v mid (records_of more) (deeds_of number (records_of more) next))
         → PutsPieces begin mid w → HasDone begin first w (places ++ more) (answers ++ next) }
-    ensures settled { (begin : Begin) (first v mid w : View) (places more : List Place) (answers next : List Answer) (number : ℕ)
-        → HasDone begin first v places answers → length answers ≡ length places → IsWhole begin.rows v → IsSegment number places more
+    ensures settled { (begin : Begin) (first v mid w : View) (places more : List Place) (answers next : List Answer)
+        (number : ℕ)
+        → HasDone begin first v places answers → length answers ≡ length places → IsWhole begin.rows v
+        → IsSegment number places more
         → ((layout : Layout) → LiesIn layout number (records_of more)
         → Handled layout begin v mid (records_of more) (deeds_of number (records_of more) next))
-        → PutsPieces begin mid w → IsFounded begin first → IsWhole begin.rows mid → IsWhole begin.rows w → AllPairs IsBefore (places ++ more)
-        → (known stored : ℕ) → HasSettled begin v known places answers → known ≤ stored → octets_put v ≡ answers_octets answers
+        → PutsPieces begin mid w → IsFounded begin first → IsWhole begin.rows mid → IsWhole begin.rows w
+        → AllPairs IsBefore (places ++ more)
+        → (known stored : ℕ) → HasSettled begin v known places answers → known ≤ stored
+        → octets_put v ≡ answers_octets answers
         → (inside : ℕ) → SettlesWork begin mid w inside stored → AreSettledInside inside (deeds_from more next)
         → HasSettled begin w stored (places ++ more) (answers ++ next) }
-    ensures quiet { (begin : Begin) (first v mid w : View) (places more : List Place) (answers next : List Answer) (number : ℕ)
-        → HasDone begin first v places answers → length answers ≡ length places → IsWhole begin.rows v → IsSegment number places more
+    ensures quiet { (begin : Begin) (first v mid w : View) (places more : List Place) (answers next : List Answer)
+        (number : ℕ)
+        → HasDone begin first v places answers → length answers ≡ length places → IsWhole begin.rows v
+        → IsSegment number places more
         → ((layout : Layout) → LiesIn layout number (records_of more)
         → Handled layout begin v mid (records_of more) (deeds_of number (records_of more) next))
         → PutsPieces begin mid w → IsWhole begin.rows mid → octets_put mid ≡ octets_put v }
-    ensures unfailed { (begin : Begin) (first v mid w : View) (places more : List Place) (answers next : List Answer) (number : ℕ)
-        → HasDone begin first v places answers → length answers ≡ length places → IsWhole begin.rows v → IsSegment number places more
+    ensures unfailed { (begin : Begin) (first v mid w : View) (places more : List Place) (answers next : List Answer)
+        (number : ℕ)
+        → HasDone begin first v places answers → length answers ≡ length places → IsWhole begin.rows v
+        → IsSegment number places more
         → ((layout : Layout) → LiesIn layout number (records_of more)
         → Handled layout begin v mid (records_of more) (deeds_of number (records_of more) next))
         → PutsPieces begin mid w → IsWhole begin.rows mid → mid.turn.known.put_faults ≡ v.turn.known.put_faults }
@@ -68,12 +79,13 @@ pub fn run_stands()
         → HasDone begin first now places answers → IsWhole begin.rows now → AllPairs IsBefore places
         → (words : ℕ → ℕ) → ((row : ℕ) → row < begin.rows → RowStands row (words row) now.numbers)
         → (releases : List Entry) → AreReleases words begin.start (entries_in now) releases
-        → (faults : ℕ) → now.turn.known.faults ≤ faults → (Rose now.turn.known.opening.faults now.turn.known.faults → releases ≡ [])
+        → (faults : ℕ) → now.turn.known.faults ≤ faults
+        → (Rose now.turn.known.opening.faults now.turn.known.faults → releases ≡ [])
         → EndsRun begin first now places (deeds_from places answers) words releases faults }
 {}
 
-/// Law: a call whose book was opened, whose records one worker served, and which released its keys and put End, ends as a run
-/// ends, and goes on with each life that left the image at its entry.
+/// Law: a call whose book was opened, whose records one worker served, and which released its keys and put End, ends as
+/// a run ends, and goes on with each life that left the image at its entry.
 pub fn run_ends_well<O: Site>()
     ensures { (site after : O) (source source_after : SourceSeen) (first now : View) (came : RunEnd) (book : BookView O)
         (words : List ℕ) (entries : List Entry) (status : ℕ)
@@ -87,8 +99,8 @@ pub fn run_ends_well<O: Site>()
     sound_call_keeps_lives();
 }
 
-/// Law: a call whose book was not opened, which took nothing of its source and put End alone, ends as a run ends, and goes on
-/// with each life that left the image at its entry.
+/// Law: a call whose book was not opened, which took nothing of its source and put End alone, ends as a run ends, and
+/// goes on with each life that left the image at its entry.
 pub fn refused_run_ends<O: Site>()
     ensures { (site back after : O) (source : SourceSeen) (fault : OpenFault) (status : ℕ)
         → Refused O.told O.trace O.faults O.put_faults site back after fault status
@@ -101,14 +113,15 @@ pub fn refused_run_ends<O: Site>()
 
 /// Law: a run without records is sound, where the image at the entry shows a state.
 pub fn no_records_are_sound()
-    ensures { (call : CallSeen) (account : Account) (plan : PlanLines) (state : State) → ShowsAtEntry call plan state → call.entries ≡ []
+    ensures { (call : CallSeen) (account : Account) (plan : PlanLines) (state : State) → ShowsAtEntry call plan state
+        → call.entries ≡ []
         → IsSound (begin_of call plan state) (course_of call account plan state) [] [] }
 {
     shown_keeps_rules();
 }
 
-/// Law: a call that reads an image and stores nothing goes on with each life that left the image at its entry, as a run without
-/// records.
+/// Law: a call that reads an image and stores nothing goes on with each life that left the image at its entry, as a run
+/// without records.
 pub fn reading_keeps_lives()
     ensures { (call : CallSeen) (plan : PlanLines) (state : State) → ShowsAtEntry call plan state → call.entries ≡ []
         → ReadsAlone call → KeepsLivesReading call }

@@ -1,6 +1,7 @@
 //! What the one worker of a run did since the opening, segment by segment (profile).
 //!
-//! There is no code to run here: definitions stand in `specs`, and the functions are laws over them, with an empty body.
+//! There is no code to run here: definitions stand in `specs`, and the functions are laws over them, with an empty
+//! body.
 #![tactic(auto)]
 
 mod laws;

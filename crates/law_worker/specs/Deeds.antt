@@ -1,5 +1,6 @@
 -- What a worker did, with the answers that it gave (profile).
-use Rattle.std.specs.Prelude.{◌≡◌, ◌≢◌, ◌⊎◌, ℕ, ◌+◌, ◌<◌, ◌≤◌, ◌&&◌, ◌||◌, not, nat_le, Bool, IsTrue, true, false, if◌then◌else◌, List, [], ◌∷◌, length, take}
+use Rattle.std.specs.Prelude.{◌≡◌, ◌≢◌, ◌⊎◌, ℕ, ◌+◌, ◌<◌, ◌≤◌, ◌&&◌, ◌||◌, not, nat_le, Bool, IsTrue, true, false}
+use Rattle.std.specs.Prelude.{if◌then◌else◌, List, [], ◌∷◌, length, take}
 use Rattle.std.specs.List.{All, AllPairs}
 use Rattle.sdls_base.specs.Numbers.{times}
 use Rattle.sdls_base.specs.declared.entry.Entry.{Entry}
@@ -49,16 +50,20 @@ is_protected Command = false
 
 -- the position is that of an entry: the answer is of an Open or a Command, with a code from ACCEPTED to NUMBER
 abbrev pub tells_entry : Deed → Bool
-tells_entry deed = not (is_protected deed.task.kind) && (nat_le ACCEPTED deed.answer.code && nat_le deed.answer.code NUMBER)
+tells_entry deed = not (is_protected deed.task.kind) &&
+    (nat_le ACCEPTED deed.answer.code && nat_le deed.answer.code NUMBER)
 
--- the position is an epoch: the answer is of a Protect, comes from its checks behind the channel, and has a code up to EXHAUSTED
+-- the position is an epoch: the answer is of a Protect, comes from its checks behind the channel, and has a code up to
+-- EXHAUSTED
 abbrev pub tells_epoch : Begin → Deed → Bool
 tells_epoch begin deed =
-    is_protected deed.task.kind && (has_channel begin.plan deed.task.link deed.task.octets && nat_le deed.answer.code EXHAUSTED)
+    is_protected deed.task.kind && (has_channel begin.plan deed.task.link deed.task.octets && nat_le deed.answer.code
+    EXHAUSTED)
 
 -- the epoch that an ordered answer tells
 abbrev pub epoch_told : List Entry → Deed → ℕ
-epoch_told history deed = if is_protected deed.task.kind then deed.answer.position else epoch_after (take deed.answer.position history)
+epoch_told history deed = if is_protected deed.task.kind then deed.answer.position else epoch_after
+    (take deed.answer.position history)
 
 abbrev pub is_ordered : Begin → Deed → Bool
 is_ordered begin deed = tells_entry deed || tells_epoch begin deed
@@ -66,9 +71,12 @@ is_ordered begin deed = tells_entry deed || tells_epoch begin deed
 -- the later answer stands behind the earlier one
 pub record StandsBehind (begin : Begin) (history : List Entry) (one other : Deed) : Type 0 where
   pub entries : IsTrue (tells_entry one) → IsTrue (tells_entry other) → one.answer.position < other.answer.position
-  pub epochs : IsTrue (is_ordered begin one) → IsTrue (is_ordered begin other) → epoch_told history one ≤ epoch_told history other
-  pub numbers : (one.task.lane ≡ other.task.lane) → one.answer.code ≡ PROTECTED → other.answer.code ≡ PROTECTED → IsTrue (is_protected one.task.kind)
-      → IsTrue (is_protected other.task.kind) → one.answer.key ≡ other.answer.key → one.answer.number < other.answer.number
+  pub epochs : IsTrue (is_ordered begin one) → IsTrue (is_ordered begin other)
+      → epoch_told history one ≤ epoch_told history other
+  pub numbers : (one.task.lane ≡ other.task.lane) → one.answer.code ≡ PROTECTED → other.answer.code ≡ PROTECTED
+      → IsTrue (is_protected one.task.kind)
+      → IsTrue (is_protected other.task.kind) → one.answer.key ≡ other.answer.key
+      → one.answer.number < other.answer.number
 
 -- two records are handled in their order: they are of one lane, or of different segments
 abbrev pub InTurn : Deed → Deed → Type 0
@@ -76,11 +84,13 @@ InTurn one other = (one.task.lane ≡ other.task.lane) ⊎ (one.segment ≢ othe
 
 -- where the answer stands, between what was seen before and after; an entry that it tells stands in the book
 pub record StandsWithin (begin : Begin) (old new : View) (deed : Deed) : Type 0 where
-  pub entry : IsTrue (tells_entry deed) → (length (entries_in old) < deed.answer.position) × (deed.answer.position ≤ length (entries_in new))
+  pub entry : IsTrue (tells_entry deed) → (length (entries_in old) < deed.answer.position)
+      × (deed.answer.position ≤ length (entries_in new))
   pub stored : IsTrue (tells_entry deed) → deed.answer.position ≤ new.turn.known.standing
   pub epoch : IsTrue (is_ordered begin deed) → (epoch_seen old.turn ≤ epoch_told (entries_in new) deed)
       × (epoch_told (entries_in new) deed ≤ epoch_seen new.turn)
-  pub number : deed.answer.code ≡ PROTECTED → IsTrue (is_protected deed.task.kind) → (row : ℕ) × IsRow begin new deed.answer.key row
+  pub number : deed.answer.code ≡ PROTECTED → IsTrue (is_protected deed.task.kind)
+      → (row : ℕ) × IsRow begin new deed.answer.key row
       × (top row old.numbers.nexts ≤ deed.answer.number) × (deed.answer.number < top row new.numbers.nexts)
 
 -- the last entry of the log stands at this place
@@ -91,7 +101,8 @@ IsLastAt log place = (length (entries_of (take place log)) < length (entries_of 
 -- what holds of the answers to two records
 pub record Agree (begin : Begin) (history : List Entry) (one other : Deed) : Type 0 where
   -- no number is used twice under a key
-  pub pairs : one.task.index ≢ other.task.index → (key number : ℕ) → Uses one.answer key number → ¬ Uses other.answer key number
+  pub pairs : one.task.index ≢ other.task.index → (key number : ℕ) → Uses one.answer key number
+      → ¬ Uses other.answer key number
   -- one alone can say that the site failed while an entry was stored
   pub faults : one.task.index ≢ other.task.index → one.answer.code ≡ SITE_FAULT → other.answer.code ≢ SITE_FAULT
   -- where they are handled in their order, so are their answers
@@ -113,8 +124,8 @@ abbrev pub IsSpent : Begin → View → Gains → Deed → Type 0
 IsSpent begin new gains deed = (key number : ℕ) → Uses deed.answer key number
     → (row : ℕ) × (row < begin.rows) × IsRow begin new key row × (0 < times row number gains.spent)
 
--- The answers that were given on the way from the old view to the new one. Each fact stays true while the views grow apart,
--- and none looks at the order of the answers.
+-- The answers that were given on the way from the old view to the new one. Each fact stays true while the views grow
+-- apart, and none looks at the order of the answers.
 pub record Answers (begin : Begin) (old new : View) (gains : Gains) (deeds : List Deed) : Type 0 where
   -- each answer fits its record, and stands between what was seen before and after
   pub fit : All (λ deed. Fits (IsBetween begin old new) (course_in begin new) deed.task deed.answer) deeds
@@ -124,8 +135,8 @@ pub record Answers (begin : Begin) (old new : View) (gains : Gains) (deeds : Lis
   -- who answers that the site failed made the last entry
   pub failed : All (λ deed. deed.answer.code ≡ SITE_FAULT → MadeLast new gains) deeds
 
--- What a worker did from the old view to the new one with these records, and the answers that it gave. No more puts failed than
--- pieces were put.
+-- What a worker did from the old view to the new one with these records, and the answers that it gave. No more puts
+-- failed than pieces were put.
 pub record Does (begin : Begin) (old new : View) (tasks : List Record) (deeds : List Deed) : Type 0 where
   pub gains : Gains
   pub gained : Gained old new gains

@@ -28,7 +28,8 @@ pub record Part : Type 0 where
 
 -- the lane's worker was split from one that knew the base, and handled the lane's records
 abbrev pub DidPart : Layout → Begin → View → ℕ → List Record → Part → Type 0
-DidPart layout begin base segment tasks part = Handled layout begin (starting base) part.knows (of_lane part.number tasks)
+DidPart layout begin base segment tasks part = Handled layout begin (starting base) part.knows
+    (of_lane part.number tasks)
     (deeds_of segment (of_lane part.number tasks) part.answers)
 
 -- what a worker knows that took in the lanes' workers one by one
@@ -44,7 +45,8 @@ MeetAll rows now (part ∷ parts) = Meets rows now part.knows × MeetAll rows (m
 -- the records that the lanes answered, and all that they had
 abbrev pub parts_deeds : ℕ → List Record → List Part → List Deed
 parts_deeds segment tasks [] = []
-parts_deeds segment tasks (part ∷ parts) = deeds_of segment (of_lane part.number tasks) part.answers ++ parts_deeds segment tasks parts
+parts_deeds segment tasks (part ∷ parts) = deeds_of segment (of_lane part.number tasks) part.answers
+    ++ parts_deeds segment tasks parts
 
 abbrev pub parts_tasks : List Record → List Part → List Record
 parts_tasks tasks [] = []

@@ -1,5 +1,6 @@
 -- Lines and records in input order (profile).
-use Rattle.std.specs.Prelude.{◌≡◌, ◌≢◌, ℕ, ◌+◌, ◌<◌, ◌≤◌, ◌⊎◌, Bool, true, false, List, Option, Some, None, length, slice_get, Contains}
+use Rattle.std.specs.Prelude.{◌≡◌, ◌≢◌, ℕ, ◌+◌, ◌<◌, ◌≤◌, ◌⊎◌, Bool, true, false, List, Option, Some, None, length}
+use Rattle.std.specs.Prelude.{slice_get, Contains}
 use Rattle.sdls_base.specs.declared.entry.Logged.{Logged}
 use Rattle.sdls_base.specs.declared.entry.Logged.TheVariants as lines
 use Rattle.counter_table.specs.declared.view.View.{View}
@@ -23,7 +24,8 @@ TakeTurns layout i j = (layout.lane_of i ≡ layout.lane_of j) ⊎ (layout.segme
 -- the layout has the records of this segment as they are
 abbrev pub LiesIn : Layout → ℕ → List Record → Type 0
 LiesIn layout segment tasks =
-    (task : Record) → Contains tasks task → (layout.lane_of task.index ≡ task.lane) × (layout.segment_of task.index ≡ segment)
+    (task : Record) → Contains tasks task → (layout.lane_of task.index ≡ task.lane)
+    × (layout.segment_of task.index ≡ segment)
 
 abbrev pub is_piece : Option Logged → Bool
 is_piece None = false
@@ -35,8 +37,8 @@ is_line None = false
 is_line (Some (lines.Piece piece)) = false
 is_line (Some (lines.Entry entry)) = true
 
--- Of the lines that a worker made: entries of records that are handled in turn stand in input order; so many at most are
--- entries, and so many pieces.
+-- Of the lines that a worker made: entries of records that are handled in turn stand in input order; so many at most
+-- are entries, and so many pieces.
 pub record Lined (in_turn : ℕ → ℕ → Type 0) (log : List Logged) (made : List ℕ) (entries pieces : ℕ) : Type 0 where
   pub in_order : (x y i j : ℕ) → 0 < stands x made → 0 < stands y made → is_of_record i (slice_get log x) ≡ true
       → is_of_record j (slice_get log y) ≡ true → i < j → in_turn i j → x < y
@@ -51,8 +53,9 @@ ComeBefore ts us = (i j : ℕ) → 0 < indexed i ts → 0 < indexed j us → i <
 abbrev pub AreAside : (ℕ → ℕ → Type 0) → List Record → List Record → Type 0
 AreAside in_turn ts us = (i j : ℕ) → 0 < indexed i ts → 0 < indexed j us → (in_turn i j → ⊥) × (in_turn j i → ⊥)
 
--- What a worker did with records of one segment, which lie so in the input: the entries of records that are handled in turn
--- stand in input order, and nothing was put.
-pub record Handled (layout : Layout) (begin : Begin) (old new : View) (tasks : List Record) (deeds : List Deed) : Type 0 where
+-- What a worker did with records of one segment, which lie so in the input: the entries of records that are handled in
+-- turn stand in input order, and nothing was put.
+pub record Handled (layout : Layout) (begin : Begin) (old new : View) (tasks : List Record)
+    (deeds : List Deed) : Type 0 where
   pub does : Does begin old new tasks deeds
   pub lined : Lined (TakeTurns layout) (log_of new) does.gains.made (length tasks + drawers tasks) 0

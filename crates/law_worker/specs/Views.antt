@@ -36,8 +36,8 @@ pub record KnowsMore (old new : View) : Type 0 where
   pub opening : new.turn.known.opening ≡ old.turn.known.opening
   pub epochs : epoch_seen old.turn ≤ epoch_seen new.turn
 
--- What was added to the lists of a view: the numbers drawn, spent and raised to, what was added to words, and the places of
--- the log that were made.
+-- What was added to the lists of a view: the numbers drawn, spent and raised to, what was added to words, and the
+-- places of the log that were made.
 pub record Gains : Type 0 where
   pub drawn : List (ℕ × ℕ)
   pub spent : List (ℕ × ℕ)
@@ -78,8 +78,8 @@ starting v = record { numbers = newcomer v.numbers; turn = beginner v.turn }
 abbrev pub meeting : View → View → View
 meeting v w = record { numbers = joined v.numbers w.numbers; turn = merged v.turn w.turn }
 
--- What a join tells of the two views: both are of an earlier time than the joined one, and neither drew a number or made a
--- place that the other did.
+-- What a join tells of the two views: both are of an earlier time than the joined one, and neither drew a number or
+-- made a place that the other did.
 pub record Meets (rows : ℕ) (v w : View) : Type 0 where
   pub earlier : Earlier v.turn.known (meeting v w).turn.known
   pub other_earlier : Earlier w.turn.known (meeting v w).turn.known

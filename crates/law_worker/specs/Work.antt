@@ -32,8 +32,8 @@ pub record IsAsked (begin : Begin) (history : List Entry) (tasks : List Record) 
   pub is_command : task.kind ≡ Command
   pub asks : AsksFor (after_first begin.start history p) task.octets key number
 
--- What was drawn, spent, raised and made from the old view to the new one, with these records. Each fact stays true while
--- the views grow apart.
+-- What was drawn, spent, raised and made from the old view to the new one, with these records. Each fact stays true
+-- while the views grow apart.
 pub record Works (begin : Begin) (old new : View) (gains : Gains) (tasks : List Record) : Type 0 where
   -- each line made is new, and each entry made is legal in the state before it
   pub made : (place : ℕ) → 0 < stands place gains.made → (length (log_of old) ≤ place) × (place < length (log_of new))
@@ -50,8 +50,8 @@ pub record Works (begin : Begin) (old new : View) (gains : Gains) (tasks : List 
   -- words were raised to 1, or to what was asked for
   pub raised : All (λ pair. (pair.1 ≤ 1) ⊎ IsAsked begin (entries_in new) tasks pair.0 pair.1) gains.raised
 
--- What a worker did from the old view to the new one: something of this, and what it knew it knows. No more puts failed than
--- pieces were put.
+-- What a worker did from the old view to the new one: something of this, and what it knew it knows. No more puts failed
+-- than pieces were put.
 pub record Worked (begin : Begin) (old new : View) (tasks : List Record) : Type 0 where
   pub gains : Gains
   pub gained : Gained old new gains

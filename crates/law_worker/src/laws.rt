@@ -14,7 +14,8 @@ pub fn does_nothing()
 
 /// Law: what a worker did without the answers, it did without an answer.
 pub fn does_unanswered()
-    ensures { (begin : Begin) (old new : View) (tasks : List Record) → Worked begin old new tasks → Does begin old new tasks [] }
+    ensures { (begin : Begin) (old new : View) (tasks : List Record) → Worked begin old new tasks
+        → Does begin old new tasks [] }
 {}
 
 /// Law: what was done one after the other, the records of the later ones having the greater numbers, was done.
@@ -25,7 +26,8 @@ pub fn does_then()
         → Does begin old new (tasks ++ later) (deeds ++ more) }
 {}
 
-/// Law: what two workers did at once, of which one was split from the other, was done by the worker that they are joined to.
+/// Law: what two workers did at once, of which one was split from the other, was done by the worker that they are
+/// joined to.
 pub fn does_beside()
     ensures { (begin : Begin) (old one other : View) (tasks beside : List Record) (deeds more : List Deed)
         → Does begin (keeping old) one tasks deeds → Does begin (starting old) other beside more

@@ -22,7 +22,8 @@ first_count = record { index = 0; segment = 0; inside = 0 }
 
 -- behind a record: its segment ends where it is the 1,024th
 abbrev pub behind_record : Count → Count
-behind_record c = if c.inside + 1 == SEGMENT_RECORDS then record { index = c.index + 1; segment = c.segment + 1; inside = 0 }
+behind_record c = if c.inside + 1 == SEGMENT_RECORDS then
+    record { index = c.index + 1; segment = c.segment + 1; inside = 0 }
     else record { index = c.index + 1; segment = c.segment; inside = c.inside + 1 }
 
 -- behind an item: a fence ends a segment

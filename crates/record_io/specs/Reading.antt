@@ -43,7 +43,8 @@ pub record IsReading (start now : SourceSeen) (standing : Standing) (items : Lis
   pub closed : (counted first_count items).inside ≡ 0
 
 -- one more segment was read to its end, behind these items: its records have the number of that segment
-pub record ReadsMore (start now : SourceSeen) (standing : Standing) (items : List Item) (records : List Record) : Type 0 where
+pub record ReadsMore (start now : SourceSeen) (standing : Standing) (items : List Item)
+    (records : List Record) : Type 0 where
   pub more : List Item
   pub read : List ℕ
   pub reading : IsReading start now standing (items ++ more) read

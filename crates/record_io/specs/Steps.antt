@@ -1,5 +1,6 @@
 -- What one call of a reader takes (profile). Private: the clauses of `next_segment` speak of the whole input.
-use Rattle.std.specs.Prelude.{◌≡◌, ◌≢◌, ℕ, ◌+◌, ◌-◌, ◌*◌, ◌<◌, ◌≤◌, ◌⊎◌, ⊤, Bool, IsTrue, ◌==◌, if◌then◌else◌, List, [], ◌∷◌, ◌++◌, length, take, map}
+use Rattle.std.specs.Prelude.{◌≡◌, ◌≢◌, ℕ, ◌+◌, ◌-◌, ◌*◌, ◌<◌, ◌≤◌, ◌⊎◌, ⊤, Bool, IsTrue, ◌==◌, if◌then◌else◌, List, []}
+use Rattle.std.specs.Prelude.{◌∷◌, ◌++◌, length, take, map}
 use Rattle.std.specs.List.{All}
 use Rattle.std.specs.Int.{w16, to_be_bytes}
 use Rattle.record_io.specs.declared.kinds.ItemKind.TheVariants.{Fence, Recorded}
@@ -11,7 +12,8 @@ use Rattle.record_io.specs.declared.heads.Head.{Head}
 use Rattle.record_io.specs.declared.reader.Read.{Read}
 use Rattle.record_io.specs.declared.reader.Read.TheVariants as reads
 use Rattle.record_io.specs.declared.reader.TheConstants.{SEGMENT_RECORDS}
-use Rattle.record_io.specs.Input.{Item, IsItem, kind_octet, most_octets, item_header, item_octets, items_octets, beginning, LacksItem, LacksBeginning, MOST_OCTETS}
+use Rattle.record_io.specs.Input.{Item, IsItem, kind_octet, most_octets, item_header, item_octets, items_octets}
+use Rattle.record_io.specs.Input.{beginning, LacksItem, LacksBeginning, MOST_OCTETS}
 use Rattle.record_io.specs.Reading.{Standing, HasFaultCause}
 
 -- the six octets head an item of this kind
@@ -41,7 +43,8 @@ pub record TakesTooFew (told : Bool) (most taken : ℕ) (left_old left_new : Lis
   pub within : taken + length part ≤ MOST_OCTETS
 
 -- the items were read, and a part of what is behind them was taken, in which no item stands whole
-pub record Took (told : Bool) (items : List Item) (part : List ℕ) (taken : ℕ) (left_old left_new : List ℕ) : Type 0 where
+pub record Took (told : Bool) (items : List Item) (part : List ℕ) (taken : ℕ)
+    (left_old left_new : List ℕ) : Type 0 where
   pub items_are : All IsItem items
   pub moved : IsTrue told → left_old ≡ items_octets items ++ (part ++ left_new)
   pub within : taken + (length (items_octets items) + length part) ≤ MOST_OCTETS
@@ -62,10 +65,12 @@ AreNumbered n (r ∷ records) = (r.index ≡ n) × AreNumbered (n + 1) records
 -- what ends a segment behind so many records: a fence, or nothing where they are 1,024
 abbrev pub ClosesSegment : ℕ → List Item → Type 0
 ClosesSegment count close =
-    ((count < SEGMENT_RECORDS) × (fence : Item) × (fence.kind ≡ Fence) × (close ≡ fence ∷ [])) ⊎ ((count ≡ SEGMENT_RECORDS) × (close ≡ []))
+    ((count < SEGMENT_RECORDS) × (fence : Item) × (fence.kind ≡ Fence) × (close ≡ fence ∷ []))
+    ⊎ ((count ≡ SEGMENT_RECORDS) × (close ≡ []))
 
 -- the items were read, and those that close the segment
-pub record ReadsOn (told : Bool) (count : ℕ) (items : List Item) (taken taken_new : ℕ) (left_old left_new : List ℕ) : Type 0 where
+pub record ReadsOn (told : Bool) (count : ℕ) (items : List Item) (taken taken_new : ℕ)
+    (left_old left_new : List ℕ) : Type 0 where
   pub close : List Item
   pub closes : ClosesSegment count close
   pub took : Took told (items ++ close) [] taken left_old left_new
@@ -81,7 +86,8 @@ pub record Breaks (told : Bool) (items : List Item) (taken : ℕ) (left_old left
 
 -- what is so behind the records of a segment, by the end that is answered
 abbrev pub EndsBehind : Bool → ℕ → List Item → ℕ → ℕ → List ℕ → List ℕ → SegmentEnd → Type 0
-EndsBehind told count items taken taken_new left_old left_new More = ReadsOn told count items taken taken_new left_old left_new
+EndsBehind told count items taken taken_new left_old left_new More = ReadsOn told count items taken taken_new left_old
+    left_new
 EndsBehind told count items taken taken_new left_old left_new End = (count < SEGMENT_RECORDS)
     × Took told items [] taken left_old left_new
     × (IsTrue told → still_counted (taken + length (items_octets items)) left_new ≡ [])
@@ -95,11 +101,13 @@ abbrev pub ReadsItem : Bool → ℕ → ℕ → List ℕ → List ℕ → Read �
 ReadsItem told taken taken_new left_old left_new (reads.Next kind lane link octets) =
     let item : Item = record { kind = Recorded kind; lane = lane; link = link; octets = octets } in
     Took told (item ∷ []) [] taken left_old left_new × (taken_new ≡ taken + length (item_octets item))
-ReadsItem told taken taken_new left_old left_new (reads.Ends end) = EndsBehind told 0 [] taken taken_new left_old left_new end
+ReadsItem told taken taken_new left_old left_new (reads.Ends end) = EndsBehind told 0 [] taken taken_new left_old
+    left_new end
 
 -- where memory was wanting: some items were read, and a part of another was taken
 abbrev pub Wants : Bool → ℕ → List ℕ → List ℕ → Type 0
-Wants told taken left_old left_new = (items : List Item) × (part : List ℕ) × Took told items part taken left_old left_new
+Wants told taken left_old left_new = (items : List Item) × (part : List ℕ)
+    × Took told items part taken left_old left_new
 
 -- a fault that was read has its cause
 abbrev pub IsFaultRead : ℕ → ℕ → Read → Type 0
@@ -108,7 +116,8 @@ IsFaultRead before now (reads.Ends end) = HasFaultCause before now end
 
 -- the count of records stays, and where a record was read there are octets enough for one more
 abbrev pub CountsRecords : Standing → Standing → Read → Type 0
-CountsRecords old new (reads.Next kind lane link octets) = (new.records ≡ old.records) × (6 * (new.records + 1) ≤ new.taken)
+CountsRecords old new (reads.Next kind lane link octets) = (new.records ≡ old.records)
+    × (6 * (new.records + 1) ≤ new.taken)
 CountsRecords old new (reads.Ends end) = new.records ≡ old.records
 
 -- The records of a segment, numbered on, and what ends it.
@@ -133,6 +142,8 @@ pub record Misses (told : Bool) (part : List ℕ) (taken : ℕ) (left_old left_n
 abbrev pub EndsBefore : Bool → ℕ → List ℕ → List ℕ → SegmentEnd → Type 0
 EndsBefore told taken left_old left_new More = ⊥
 EndsBefore told taken left_old left_new End = ⊥
-EndsBefore told taken left_old left_new (Malformed offset) = (offset ≡ 0) × ((part : List ℕ) × Misses told part taken left_old left_new
+EndsBefore told taken left_old left_new (Malformed offset) = (offset ≡ 0)
+    × ((part : List ℕ) × Misses told part taken left_old left_new
     × (IsTrue told → LacksBeginning (part ++ still_counted (length part) left_new)))
-EndsBefore told taken left_old left_new (SourceFault faults) = (part : List ℕ) × Misses told part taken left_old left_new
+EndsBefore told taken left_old left_new (SourceFault faults) = (part : List ℕ)
+    × Misses told part taken left_old left_new

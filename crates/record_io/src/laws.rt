@@ -26,8 +26,10 @@ pub fn answers_shown_once()
 
 /// Law: the octets of answers show these, and where they are cut in the body of another, that one as far as they go.
 pub fn answers_are_shown()
-    ensures whole { (answers : List Answer) → All IsAnswer answers → ShowsAnswers (answers_octets answers) answers None }
-    ensures cut { (answers : List Answer) (last : Answer) (n : ℕ) → All IsAnswer answers → IsAnswer last → n < length last.body
+    ensures whole { (answers : List Answer) → All IsAnswer answers
+        → ShowsAnswers (answers_octets answers) answers None }
+    ensures cut { (answers : List Answer) (last : Answer) (n : ℕ) → All IsAnswer answers → IsAnswer last
+        → n < length last.body
         → ShowsAnswers (answers_octets answers ++ take (ANSWER_HEADER + n) (answer_octets last)) answers
         (Some (record { header = header_of last; front = take n last.body })) }
 {}

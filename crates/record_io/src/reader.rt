@@ -1,9 +1,12 @@
 // The recorded input, read in segments.
-ghost use Rattle.std.specs.Prelude.{ℕ, List, ◌≡◌, ◌+◌, ◌-◌, ◌*◌, ◌≤◌, ◌<◌, ◌++◌, [], length, take, IsTrue, IfOk, OnErr, IfErr, IfNone, IfSome, MatchResult, vec_len};
+ghost use Rattle.std.specs.Prelude.{ℕ, List, ◌≡◌, ◌+◌, ◌-◌, ◌*◌, ◌≤◌, ◌<◌, ◌++◌, [], length, take, IsTrue, IfOk, OnErr};
+ghost use Rattle.std.specs.Prelude.{IfErr, IfNone, IfSome, MatchResult, vec_len};
 ghost use Rattle.sdls_outside.specs.Faults.{HasCause};
 ghost use Rattle.record_io.specs.Input.{Item, MOST_OCTETS};
-ghost use Rattle.record_io.specs.Reading.{SourceSeen, Standing, first_standing, IsReading, ReadsTo, Loses, HasFaultCause};
-ghost use Rattle.record_io.specs.Steps.{still_counted, TakesTooFew, Moves, ReadsItem, Wants, IsFaultRead, CountsRecords, Segment, due_beginning, EndsBefore};
+ghost use Rattle.record_io.specs.Reading.{SourceSeen, Standing, first_standing, IsReading, ReadsTo, Loses};
+ghost use Rattle.record_io.specs.Reading.{HasFaultCause};
+ghost use Rattle.record_io.specs.Steps.{still_counted, TakesTooFew, Moves, ReadsItem, Wants, IsFaultRead};
+ghost use Rattle.record_io.specs.Steps.{CountsRecords, Segment, due_beginning, EndsBefore};
 
 use crate::heads::{Head, head_of};
 use crate::kinds::{ItemKind, RecordKind};
@@ -81,7 +84,8 @@ impl Reader {
 
         ensures few { IfOk result (λ _. self.new.taken ≤ MOST_OCTETS) }
         ensures uncounted { OnErr result (self.new ≡ self.old) }
-        ensures short { OnErr result (TakesTooFew S.told (length room.old) self.old.taken (S.left source.old) (S.left source.new)) }
+        ensures short { OnErr result (TakesTooFew S.told (length room.old) self.old.taken (S.left source.old)
+            (S.left source.new)) }
         ensures cause { HasCause (S.faults source.old) (S.faults source.new) result }
     {
         let most = room.len().min((u64::MAX - self.taken) as usize);
@@ -133,7 +137,8 @@ impl Reader {
         requires { 6 ≤ self.old.taken }
         ensures read { IfOk result (ReadsItem S.told (self.old.taken - 6) self.new.taken
             (header ++ S.left source.old) (S.left source.new)) }
-        ensures wants { OnErr result (Wants S.told (self.old.taken - 6) (header ++ S.left source.old) (S.left source.new)) }
+        ensures wants { OnErr result (Wants S.told (self.old.taken - 6) (header ++ S.left source.old)
+            (S.left source.new)) }
         ensures taken { IfOk result (λ _. self.old.taken ≤ self.new.taken) }
         ensures same_records { IfOk result (λ _. self.new.records ≡ self.old.records) }
         ensures later { S.faults source.old ≤ S.faults source.new }
@@ -172,7 +177,8 @@ impl Reader {
 
     /// Reads the next item: a record, or what ends the segment.
     fn read_item<S: Source>(&mut self, alloc: Global, source: &mut S) -> Result<Read, NoMemory>
-        ensures read { IfOk result (ReadsItem S.told self.old.taken self.new.taken (S.left source.old) (S.left source.new)) }
+        ensures read { IfOk result (ReadsItem S.told self.old.taken self.new.taken (S.left source.old)
+            (S.left source.new)) }
         ensures wants { OnErr result (Wants S.told self.old.taken (S.left source.old) (S.left source.new)) }
         ensures counted { IfOk result (λ read. CountsRecords self.old self.new read) }
         ensures later { S.faults source.old ≤ S.faults source.new }
@@ -238,7 +244,8 @@ impl Reader {
 
     /// Reads the beginning where it is due, or says how the segment ends where there is none.
     fn begin<S: Source>(&mut self, source: &mut S) -> Option<SegmentEnd>
-        ensures begun { IfNone result (Moves S.told (due_beginning self.old.taken) self.old.taken self.new.taken (S.left source.old) (S.left source.new)) }
+        ensures begun { IfNone result (Moves S.told (due_beginning self.old.taken) self.old.taken self.new.taken
+            (S.left source.old) (S.left source.new)) }
         ensures few { self.new.taken ≤ MOST_OCTETS }
         ensures refused { IfSome result (EndsBefore S.told self.old.taken (S.left source.old) (S.left source.new)) }
         ensures same_records { self.new.records ≡ self.old.records }
@@ -256,7 +263,8 @@ impl Reader {
         }
     }
 
-    /// Reads the next segment: its records in their order, numbered on, and how it ends. Octets behind it are not taken.
+    /// Reads the next segment: its records in their order, numbered on, and how it ends. Octets behind it are not
+    /// taken.
     ///
     /// The first segment stands behind the beginning. Each earlier call on this reader is to have answered `More`: then
     /// the clauses `reads` and `loses` speak of the whole input, from where the reader began.
@@ -265,13 +273,25 @@ impl Reader {
         alloc: Global,
         source: &mut S,
     ) -> Result<(Vec<Record>, SegmentEnd), NoMemory>
-        ensures reads { let before : SourceSeen = record { told = S.told; left = S.left source.old; faults = S.faults source.old } in
+        ensures reads { let before : SourceSeen = record {
+          told = S.told;
+          left = S.left source.old;
+          faults = S.faults
+              source.old;
+        } in
             let now : SourceSeen = record { told = S.told; left = S.left source.new; faults = S.faults source.new } in
-            IfOk result (λ segment. (start : SourceSeen) (items : List Item) (read : List ℕ) → IsReading start before self.old items read
+            IfOk result (λ segment. (start : SourceSeen) (items : List Item) (read : List ℕ)
+            → IsReading start before self.old items read
             → ReadsTo start now self.new items segment.0.items segment.1) }
-        ensures loses { let before : SourceSeen = record { told = S.told; left = S.left source.old; faults = S.faults source.old } in
+        ensures loses { let before : SourceSeen = record {
+          told = S.told;
+          left = S.left source.old;
+          faults = S.faults
+              source.old;
+        } in
             let now : SourceSeen = record { told = S.told; left = S.left source.new; faults = S.faults source.new } in
-            OnErr result ((start : SourceSeen) (items : List Item) (read : List ℕ) → IsReading start before self.old items read
+            OnErr result ((start : SourceSeen) (items : List Item) (read : List ℕ)
+            → IsReading start before self.old items read
             → Loses start now items) }
         ensures forth { IfOk result (λ segment. segment.1 ≡ SegmentEnd.More → self.old.taken < self.new.taken) }
         ensures later { S.faults source.old ≤ S.faults source.new }

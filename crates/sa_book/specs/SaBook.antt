@@ -1,5 +1,6 @@
 -- The rows of a book of security associations, ascending by index (CCSDS 355.0-B-2, Security Associations).
-use Rattle.std.specs.Prelude.{◌≡◌, ℕ, ◌+◌, ◌<◌, ◌≤◌, Bool, true, false, not, ◌&&◌, ◌==◌, nat_lt, if◌then◌else◌, List, length, map, filter, insert, Option, Some, position, All, AllPairs, Contains}
+use Rattle.std.specs.Prelude.{◌≡◌, ℕ, ◌+◌, ◌<◌, ◌≤◌, Bool, true, false, not, ◌&&◌, ◌==◌, nat_lt, if◌then◌else◌, List}
+use Rattle.std.specs.Prelude.{length, map, filter, insert, Option, Some, position, All, AllPairs, Contains}
 use Rattle.std.specs.List.{find, list_any, filter_map, position_or_len}
 use Rattle.std.specs.Option.{option_map}
 use Rattle.sdls_base.specs.declared.TheConstants.{MOST_ASSOCIATIONS}
@@ -64,7 +65,8 @@ is_same_direction _ _ = false
 -- whether an association is operational in a direction and covers a channel
 abbrev pub covers : Direction → ℕ → SaRow → Bool
 covers direction channel row =
-    is_operational row.state && is_same_direction row.direction direction && list_any (λ own. own == channel) row.channels
+    is_operational row.state && is_same_direction row.direction direction && list_any (λ own. own == channel)
+    row.channels
 
 -- the operational sending association that covers a channel
 abbrev pub sender_on : List SaRow → ℕ → Option SaRow

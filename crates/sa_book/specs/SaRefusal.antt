@@ -1,5 +1,6 @@
 -- Which refusal comes first (CCSDS 355.1-B-1, SA management; order profile).
-use Rattle.std.specs.Prelude.{◌≡◌, ℕ, ◌⊎◌, Bool, true, false, not, ◌&&◌, ◌==◌, nat_lt, nat_le, List, [], ◌∷◌, length, Option, Some, None, is_some}
+use Rattle.std.specs.Prelude.{◌≡◌, ℕ, ◌⊎◌, Bool, true, false, not, ◌&&◌, ◌==◌, nat_lt, nat_le, List, [], ◌∷◌, length}
+use Rattle.std.specs.Prelude.{Option, Some, None, is_some}
 use Rattle.std.specs.List.{find, list_any}
 use Rattle.std.specs.Option.{option_map, option_map_or}
 use Rattle.sdls_base.specs.FirstFailing.{fails_if, first_told}
@@ -17,7 +18,9 @@ use Rattle.sdls_base.specs.declared.states.SaState.{SaState}
 use Rattle.sdls_base.specs.declared.states.SaState.TheVariants.{Unkeyed, Keyed, Operational}
 use Rattle.sa_book.specs.declared.sa_row.SaRow.{SaRow}
 use Rattle.sa_book.specs.declared.sa_refusal.SaRefusal.{SaRefusal}
-use Rattle.sa_book.specs.declared.sa_refusal.SaRefusal.TheVariants.{UnknownSpi, SpiTaken, WrongState, ChannelTaken, KeyNotActive, BelowFloor, TableFull, WrongSuite, PastEnd, UnknownChannel, KeyTaken, NoMemory}
+use Rattle.sa_book.specs.declared.sa_refusal.SaRefusal.TheVariants.{UnknownSpi, SpiTaken, WrongState, ChannelTaken}
+use Rattle.sa_book.specs.declared.sa_refusal.SaRefusal.TheVariants.{KeyNotActive, BelowFloor, TableFull, WrongSuite}
+use Rattle.sa_book.specs.declared.sa_refusal.SaRefusal.TheVariants.{PastEnd, UnknownChannel, KeyTaken, NoMemory}
 use Rattle.sa_book.specs.SaBook.{row_of, covers}
 
 -- a refusal is want of memory, or the first that applies

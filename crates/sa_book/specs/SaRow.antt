@@ -27,7 +27,15 @@ pub record IsSaRow (row : SaRow) : Type 0 where
 
 -- the row of an association just created
 abbrev pub new_row : NewSa → SaRow
-new_row new = record { spi = new.spi; direction = new.direction; suite = new.suite; state = Unkeyed; key = None; channels = new.channels; window = record { high = 0; width = new.window } }
+new_row new = record {
+  spi = new.spi;
+  direction = new.direction;
+  suite = new.suite;
+  state = Unkeyed;
+  key = None;
+  channels = new.channels;
+  window = record { high = 0; width = new.window };
+}
 
 -- the window when a number is the next to accept; a sending association keeps its window
 abbrev pub following : Direction → ℕ → Window → Window
@@ -36,7 +44,12 @@ following Send number window = window
 
 -- a row that took a key, with the next number
 abbrev pub with_key : ℕ → ℕ → SaRow → SaRow
-with_key key number row = record row { state = Keyed; key = Some key; window = following row.direction number row.window }
+with_key key number row = record row {
+  state = Keyed;
+  key = Some key;
+  window = following row.direction number
+      row.window;
+}
 
 -- a row whose key was taken away
 abbrev pub without_key : SaRow → SaRow

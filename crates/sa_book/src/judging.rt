@@ -1,11 +1,15 @@
 //! What decides on the associations. Nothing here changes a row.
 
-ghost use Rattle.std.specs.Prelude.{◌≡◌, ◌+◌, ◌^◌, ◌<◌, ◌≤◌, ◌==◌, nat_lt, [], ◌∷◌, not, position, All, None, Some, IsSome, IfOk, MatchResult};
+ghost use Rattle.std.specs.Prelude.{◌≡◌, ◌+◌, ◌^◌, ◌<◌, ◌≤◌, ◌==◌, nat_lt, [], ◌∷◌, not, position, All, None, Some};
+ghost use Rattle.std.specs.Prelude.{IsSome, IfOk, MatchResult};
 ghost use Rattle.std.specs.List.{list_any, position_or_len};
 ghost use Rattle.std.specs.Result.{result_err};
 ghost use Rattle.sdls_base.specs.FirstFailing.{first_told};
 ghost use Rattle.sa_book.specs.SaBook.{row_of, place_of, covers};
-ghost use Rattle.sa_book.specs.SaRefusal.{create_refusal, first_unknown, receives_with, receiver_with, held_by, taken_key, key_refusal, number_refusal, rival_of, taken_channel, unless_unkeyed, unless_keyed, unless_operational, if_unkeyed, number_refusal_of};
+ghost use Rattle.sa_book.specs.SaRefusal.{create_refusal, first_unknown, receives_with, receiver_with, held_by};
+ghost use Rattle.sa_book.specs.SaRefusal.{taken_key, key_refusal, number_refusal, rival_of, taken_channel};
+ghost use Rattle.sa_book.specs.SaRefusal.{unless_unkeyed, unless_keyed, unless_operational, if_unkeyed};
+ghost use Rattle.sa_book.specs.SaRefusal.{number_refusal_of};
 
 use crate::sa_refusal::SaRefusal;
 use crate::sa_row::SaRow;

@@ -1,7 +1,8 @@
 //! What the calls of a book would refuse. Nothing changes, and nothing here takes memory.
 
 ghost use Rattle.std.specs.Prelude.{◌≡◌, ◌≤◌, All};
-ghost use Rattle.sa_book.specs.SaRefusal.{create_refusal, rekey_refusal, start_refusal, stop_refusal, expire_refusal, delete_refusal, set_number_refusal, set_window_refusal};
+ghost use Rattle.sa_book.specs.SaRefusal.{create_refusal, rekey_refusal, start_refusal, stop_refusal, expire_refusal};
+ghost use Rattle.sa_book.specs.SaRefusal.{delete_refusal, set_number_refusal, set_window_refusal};
 
 use crate::judging;
 use crate::sa_book::SaBook;

@@ -1,4 +1,5 @@
-ghost use Rattle.std.specs.Prelude.{◌≡◌, ℕ, ◌+◌, ◌<◌, ◌≤◌, List, length, take, slice_index_or, [], ◌∷◌, ◌++◌, All, Some, IfOk, IfErr, OnOk, OnErr, IsSomeAnd};
+ghost use Rattle.std.specs.Prelude.{◌≡◌, ℕ, ◌+◌, ◌<◌, ◌≤◌, List, length, take, slice_index_or, [], ◌∷◌, ◌++◌, All};
+ghost use Rattle.std.specs.Prelude.{Some, IfOk, IfErr, OnOk, OnErr, IsSomeAnd};
 ghost use Rattle.std.specs.Option.{option_map, ForSome};
 ghost use Rattle.std.specs.Result.{result_err};
 ghost use Rattle.sdls_base.specs.Bounds.{AreChannels, IsWidth};
@@ -9,7 +10,9 @@ ghost use Rattle.sa_book.specs.SaRow.{MayAccept, new_row, with_key, without_key,
 ghost use Rattle.sa_book.specs.SaBook.{IsSaBook, MayFollow, row_of, changed, without, with_row, sender_on, in_use};
 ghost use Rattle.sa_book.specs.Numbers.{lowered, all_high};
 ghost use Rattle.sdls_base.specs.KeyId.{end_of};
-ghost use Rattle.sa_book.specs.SaRefusal.{IsSaRefusal, create_refusal, rekey_refusal, start_refusal, stop_refusal, expire_refusal, delete_refusal, set_number_refusal, set_window_refusal, read_number_refusal};
+ghost use Rattle.sa_book.specs.SaRefusal.{IsSaRefusal, create_refusal, rekey_refusal, start_refusal, stop_refusal};
+ghost use Rattle.sa_book.specs.SaRefusal.{expire_refusal, delete_refusal, set_number_refusal, set_window_refusal};
+ghost use Rattle.sa_book.specs.SaRefusal.{read_number_refusal};
 
 use crate::sa_refusal::SaRefusal;
 use crate::sa_row::{SaRow, following};

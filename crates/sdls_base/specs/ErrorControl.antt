@@ -1,7 +1,8 @@
 -- The frame error control field (CCSDS 232.0-B-4, 132.0-B-3 and 732.0-B-4, Frame Error Control Field).
 -- A polynomial over GF(2) is seen as the number whose bit i is the coefficient of x^i: bit_xor adds, and * 2 ^ k
 -- multiplies by x^k.
-use Rattle.std.specs.Prelude.{◌≡◌, ℕ, ◌+◌, ◌-◌, ◌*◌, ◌^◌, ◌<◌, nat_lt, if◌then◌else◌, Bool, true, false, not, ◌&&◌, List, [], ◌∷◌, ◌++◌, length, take, drop, fold, bit_xor}
+use Rattle.std.specs.Prelude.{◌≡◌, ℕ, ◌+◌, ◌-◌, ◌*◌, ◌^◌, ◌<◌, nat_lt, if◌then◌else◌, Bool, true, false, not, ◌&&◌}
+use Rattle.std.specs.Prelude.{List, [], ◌∷◌, ◌++◌, length, take, drop, fold, bit_xor}
 use Rattle.std.specs.Str.{bytes_eq}
 use Rattle.std.specs.Int.{w16, to_be_bytes}
 
@@ -29,7 +30,8 @@ times_x r = if nat_lt r (2 ^ 15) then 2 * r else bit_xor (2 * r) (2 ^ 16 + 0x102
 
 -- the register after one more octet, its most significant bit first
 unfoldable pub after_octet : ℕ → ℕ → ℕ
-after_octet r octet = times_x (times_x (times_x (times_x (times_x (times_x (times_x (times_x (bit_xor r (octet * 2 ^ 8)))))))))
+after_octet r octet = times_x (times_x (times_x (times_x
+    (times_x (times_x (times_x (times_x (bit_xor r (octet * 2 ^ 8)))))))))
 
 -- The register after the octets. `fecf` says that it is the remainder of what is divided.
 unfoldable pub frame_error_control : List ℕ → ℕ

@@ -12,4 +12,5 @@ item_octets item = to_be_bytes w16 item.id ++ length item.bytes ∷ item.bytes
 -- an association to be created, with the count of its channels before them
 abbrev pub association_octets : NewSa → List ℕ
 association_octets new = to_be_bytes w16 new.spi
-    ++ direction_code new.direction ∷ suite_code new.suite ∷ (to_be_bytes w64 new.window ++ length new.channels ∷ new.channels)
+    ++ direction_code new.direction ∷ suite_code new.suite
+    ∷ (to_be_bytes w64 new.window ++ length new.channels ∷ new.channels)

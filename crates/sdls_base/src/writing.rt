@@ -1,5 +1,7 @@
-ghost use Rattle.std.specs.Prelude.{◌≡◌, ◌+◌, ◌/◌, ◌%◌, ◌^◌, ◌<◌, ◌≤◌, ◌++◌, ◌==◌, [], length, take, drop, unwrap_or, option_copied};
-ghost use Rattle.sdls_base.specs.ErrorControl.{with_error_control, before_error_control, error_control_length, fails_error_control};
+ghost use Rattle.std.specs.Prelude.{◌≡◌, ◌+◌, ◌/◌, ◌%◌, ◌^◌, ◌<◌, ◌≤◌, ◌++◌, ◌==◌, [], length, take, drop, unwrap_or};
+ghost use Rattle.std.specs.Prelude.{option_copied};
+ghost use Rattle.sdls_base.specs.ErrorControl.{with_error_control, before_error_control, error_control_length};
+ghost use Rattle.sdls_base.specs.ErrorControl.{fails_error_control};
 
 use crate::error_control::fecf;
 
@@ -43,7 +45,8 @@ pub fn before_fecf(frame: &[u8], has_fecf: bool) -> &[u8]
     }
 }
 
-/// Whether the layout has a frame error control field, and the last two octets are not that over the octets before them.
+/// Whether the layout has a frame error control field, and the last two octets are not that over the octets before
+/// them.
 pub fn fecf_fails(frame: &[u8], has_fecf: bool) -> bool
     requires { error_control_length has_fecf ≤ length frame.now }
     ensures { result ≡ fails_error_control has_fecf frame.now }

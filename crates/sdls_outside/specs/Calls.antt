@@ -21,7 +21,8 @@ counted n = min (n + 1) (2 ^ 64 - 1)
 -- whether the next call is to fail: it is listed, counted from 0, or the device is dead by then
 abbrev pub fails_next : Plan → Bool
 fails_next plan =
-    list_any (λ call. call == plan.made) plan.failing || option_map_or (λ from. nat_le from plan.made) plan.dead_from false
+    list_any (λ call. call == plan.made) plan.failing || option_map_or (λ from. nat_le from plan.made) plan.dead_from
+    false
 
 -- a call was made that failed just where it was to fail
 pub record FailsWhenDue {T E : Type 0} (old new : Plan) (result : Result T E) : Type 0 where

@@ -1,5 +1,6 @@
 // A site in memory that a test can crash.
-ghost use Rattle.std.specs.Prelude.{◌≡◌, ◌+◌, ◌≤◌, true, [], None, IfOk, OnOk, OnErr, IsErr, IsTrue, length, take, drop};
+ghost use Rattle.std.specs.Prelude.{◌≡◌, ◌+◌, ◌≤◌, true, [], None, IfOk, OnOk, OnErr, IsErr, IsTrue, length, take};
+ghost use Rattle.std.specs.Prelude.{drop};
 ghost use Rattle.sdls_outside.specs.Crash.{LeftBy, fresh};
 ghost use Rattle.sdls_outside.specs.Disk.{Leaves};
 ghost use Rattle.sdls_outside.specs.Faults.{HasCause};

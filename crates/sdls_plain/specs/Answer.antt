@@ -38,7 +38,8 @@ CheckOutput key input text status =
     ⊎ ((fault : Refusal) × IsFirstFault key input fault × (text ≡ refused_text fault) × (status ≡ REFUSED))
 
 -- the text is delivered, and the status that goes with it is answered
-pub record DeliversText {E : Type 0} (told : Bool) (text : List ℕ) (due : ℕ) (result : Result ℕ E) (old new : Trace) : Type 0 where
+pub record DeliversText {E : Type 0} (told : Bool) (text : List ℕ) (due : ℕ) (result : Result ℕ E) (old new : Trace) :
+    Type 0 where
   pub status : IfOk result (λ status. status ≡ due)
   pub delivered : IsTrue told → Delivers text result old new
 

@@ -14,15 +14,17 @@ use Rattle.unit_state.specs.Initial.{initial}
 use Rattle.unit_image.specs.Shows.{SaysPlan}
 use Rattle.disk_journal.specs.Initial.{initial_image}
 use Rattle.sdls_plain.specs.declared.init.InitEnd.{InitEnd}
-use Rattle.sdls_plain.specs.declared.init.InitEnd.TheVariants.{Made, ImageExists, Refused, SourceFault, SiteFault, NoMemory}
+use Rattle.sdls_plain.specs.declared.init.InitEnd.TheVariants.{Made, ImageExists, Refused, SourceFault, SiteFault}
+use Rattle.sdls_plain.specs.declared.init.InitEnd.TheVariants.{NoMemory}
 use Rattle.record_io.specs.declared.status.TheConstants as statuses
 use Rattle.sdls_plain.specs.Answer.{source_fault_text}
 use Rattle.record_io.specs.Outcome.{Ends, line}
 
--- The first line of a text that has a cause: of those that reading finds, or where there is none, the first that the books
--- refuse.
+-- The first line of a text that has a cause: of those that reading finds, or where there is none, the first that the
+-- books refuse.
 abbrev pub IsPlanFault : List ℕ → PlanFault → Type 0
-IsPlanFault text fault = (plan_of text ≡ Err fault) ⊎ ((plan : PlanLines) × (plan_of text ≡ Ok plan) × (initial plan ≡ Err fault))
+IsPlanFault text fault = (plan_of text ≡ Err fault)
+    ⊎ ((plan : PlanLines) × (plan_of text ≡ Ok plan) × (initial plan ≡ Err fault))
 
 -- a text is this plan, whose lines make a state; or it is none, for its first fault; want of memory needs no cause
 abbrev pub JudgesPlan : List ℕ → Result PlanLines PlanError → Type 0
@@ -64,11 +66,12 @@ init_status SourceFault = statuses.SOURCE_FAULT
 init_status SiteFault = statuses.SITE_FAULT
 init_status NoMemory = statuses.NO_MEMORY
 
--- Why `init` ends so, and what stands before the text is put: the initial image of the plan, on the disk,
--- or all as it was. After a fault of the site anything may stand. Nothing is taken of the source (`unread`) where an image
--- exists; of a fault of the site too, unless there is no image and the input is a plan. Want of memory needs no cause.
+-- Why `init` ends so, and what stands before the text is put: the initial image of the plan, on the disk, or all as it
+-- was. After a fault of the site anything may stand. Nothing is taken of the source (`unread`) where an image exists;
+-- of a fault of the site too, unless there is no image and the input is a plan. Want of memory needs no cause.
 abbrev pub InitEnds : (List ℕ → Type 0) → Type 0 → Type 0 → Bool → Type 0 → Trace → Trace → InitEnd → Type 0
-InitEnds IsInput unread source_rose told site_rose old new Made = (input : List ℕ) × (plan : PlanLines) × (first : State)
+InitEnds IsInput unread source_rose told site_rose old new Made = (input : List ℕ) × (plan : PlanLines)
+    × (first : State)
     × IsInput input × SaysPlan input plan first × (IsTrue told → ((old.now.image ≡ []) × IsSynced new.now
     × (new.now.image ≡ initial_image input plan.slots) × (new.now.sunk ≡ old.now.sunk)))
 InitEnds IsInput unread source_rose told site_rose old new ImageExists =
@@ -78,7 +81,8 @@ InitEnds IsInput unread source_rose told site_rose old new (Refused fault) = (in
 InitEnds IsInput unread source_rose told site_rose old new SourceFault =
     source_rose × (IsTrue told → ((old.now.image ≡ []) × (new ≡ old)))
 InitEnds IsInput unread source_rose told site_rose old new SiteFault = site_rose × (unread ⊎ ((input : List ℕ)
-    × (plan : PlanLines) × (first : State) × IsInput input × SaysPlan input plan first × (IsTrue told → old.now.image ≡ [])))
+    × (plan : PlanLines) × (first : State) × IsInput input × SaysPlan input plan first
+    × (IsTrue told → old.now.image ≡ [])))
 InitEnds IsInput unread source_rose told site_rose old new NoMemory = IsTrue told → ((old.now.image ≡ []) × (new ≡ old))
 
 -- how `init` ends: for one of these reasons, and then with the text and the status that are due

@@ -60,18 +60,19 @@ pub record ShowsAlone (state : State) (image : List ℕ) : Type 0 where
   pub shows : Shows image (restarted state)
   pub no_form : (form : List ℕ) → ¬ IsOpenedForm image form
 
--- A moment of `stat`: what a crash then leaves, one at the entry may leave too; or it is the image as read, but for its closed
--- gates; or it shows the state that was shown.
+-- A moment of `stat`: what a crash then leaves, one at the entry may leave too; or it is the image as read, but for its
+-- closed gates; or it shows the state that was shown.
 abbrev pub StatMoment : Trace → List ℕ → Type 0
 StatMoment entry image = Leaves entry.now image ⊎ (Settles entry.now.image image
     ⊎ ((state : State) × Shows entry.now.image state × ShowsAlone state image))
 
--- The text was put whole, and the status is the one that is due; or a put failed, a front of the text was put, and the status
--- says so.
+-- The text was put whole, and the status is the one that is due; or a put failed, a front of the text was put, and the
+-- status says so.
 abbrev pub PutsText : Bool → List ℕ → ℕ → ℕ → Trace → Trace → Type 0 → Type 0
 PutsText told text due status old new site_rose =
     ((status ≡ due) × (IsTrue told → new.now.sunk ≡ old.now.sunk ++ text))
-    ⊎ ((status ≡ statuses.SITE_FAULT) × site_rose × (IsTrue told → Between old.now.sunk (old.now.sunk ++ text) new.now.sunk))
+    ⊎ ((status ≡ statuses.SITE_FAULT) × site_rose ×
+    (IsTrue told → Between old.now.sunk (old.now.sunk ++ text) new.now.sunk))
 
 -- what is told of a book that was opened: its state, or that memory is wanting
 abbrev pub TellsBook : {O : Type 0} → BookView O → List ℕ → StatEnd → Type 0
@@ -80,8 +81,8 @@ TellsBook book text SiteFault = ⊥
 TellsBook book text NoMemory = text ≡ line (codes "no memory")
 TellsBook book text (NoState offset) = ⊥
 
--- How `stat` ends: with the text and the status that are due, or a front of the text where a put failed; and what its moments
--- leave.
+-- How `stat` ends: with the text and the status that are due, or a front of the text where a put failed; and what its
+-- moments leave.
 pub record EndsStat (told : Bool) (old new : Trace) (site_rose : Type 0) (status : ℕ) : Type 0 where
   pub end : StatEnd
   pub text : List ℕ

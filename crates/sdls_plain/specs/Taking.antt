@@ -9,4 +9,5 @@ use Rattle.sdls_plain.specs.Words.{IsInit}
 -- `init` takes at most one octet more than a plan may have, other words one more than a frame may have
 abbrev pub TakesFew : List (String Global) → List ℕ → List ℕ → Type 0
 TakesFew words before after =
-    (IsInit words → TakesAtMost (MOST_OCTETS + 1) before after) × (¬ IsInit words → TakesAtMost (GREATEST_LENGTH + 1) before after)
+    (IsInit words → TakesAtMost (MOST_OCTETS + 1) before after)
+    × (¬ IsInit words → TakesAtMost (GREATEST_LENGTH + 1) before after)

@@ -24,7 +24,8 @@ fn refusal_line(refusal: Refusal) -> &'static [u8]
 
 /// Puts the line for an accepted frame.
 fn put_field<O: Site>(site: &mut O, field: &[u8]) -> Result<(), Failed>
-    ensures delivered { IsTrue O.told → Delivers (accepted_text field.now) result (O.trace site.old) (O.trace site.new) }
+    ensures delivered { IsTrue O.told → Delivers (accepted_text field.now) result (O.trace site.old)
+        (O.trace site.new) }
     ensures cause { HasCause (O.faults site.old) (O.faults site.new) result }
 {
     put_text(site, b"ok ")?;

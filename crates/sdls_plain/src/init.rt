@@ -1,6 +1,7 @@
 ghost use Rattle.std.specs.Prelude.{◌≡◌, ◌+◌, ◌≤◌, [], length, vec_len, decimal, IsTrue, IfOk};
 ghost use Rattle.sdls_outside.specs.Faults.{HasCause, Rose};
-ghost use Rattle.sdls_plain.specs.Init.{EndsInit, InitEnds, JudgesPlan, cause_text, cause_word, init_status, init_text, plan_fault_text};
+ghost use Rattle.sdls_plain.specs.Init.{EndsInit, InitEnds, JudgesPlan, cause_text, cause_word, init_status, init_text};
+ghost use Rattle.sdls_plain.specs.Init.{plan_fault_text};
 ghost use Rattle.sdls_outside.specs.Intake.{TakesAtMost};
 ghost use Rattle.sdls_outside.specs.Output.{Delivers};
 

@@ -5,8 +5,8 @@
 //! words is answered with the usage line. [`is_run`] says whether the words are those of a run, which is not served
 //! here.
 //!
-//! The input comes from a `Source`, and what is put goes to a `Site`: both are traits of `sdls_outside`, so that a clause can
-//! speak of what they hold.
+//! The input comes from a `Source`, and what is put goes to a `Site`: both are traits of `sdls_outside`, so that a
+//! clause can speak of what they hold.
 #![tactic(auto)]
 
 mod answer;

@@ -19,7 +19,8 @@ pub(crate) fn put_text<O: Site>(site: &mut O, text: &[u8]) -> Result<(), Failed>
 /// Puts up to 64 octets as hexadecimal digits, with lower-case letters, in one piece.
 fn put_piece<O: Site>(site: &mut O, octets: &[u8]) -> Result<(), Failed>
     requires { length octets.now ≤ PIECE }
-    ensures delivered { IsTrue O.told → Delivers (encode_lower octets.now) result (O.trace site.old) (O.trace site.new) }
+    ensures delivered { IsTrue O.told → Delivers (encode_lower octets.now) result (O.trace site.old)
+        (O.trace site.new) }
     ensures cause { HasCause (O.faults site.old) (O.faults site.new) result }
 {
     let mut digits = [0; 2 * PIECE];
@@ -30,7 +31,8 @@ fn put_piece<O: Site>(site: &mut O, octets: &[u8]) -> Result<(), Failed>
 
 /// Puts octets as hexadecimal digits, with lower-case letters, piece by piece.
 pub(crate) fn put_hexadecimal<O: Site>(site: &mut O, octets: &[u8]) -> Result<(), Failed>
-    ensures delivered { IsTrue O.told → Delivers (encode_lower octets.now) result (O.trace site.old) (O.trace site.new) }
+    ensures delivered { IsTrue O.told → Delivers (encode_lower octets.now) result (O.trace site.old)
+        (O.trace site.new) }
     ensures cause { HasCause (O.faults site.old) (O.faults site.new) result }
 {
     let mut rest = octets;

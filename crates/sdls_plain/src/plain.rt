@@ -70,8 +70,8 @@ fn run_usage<O: Site>(alloc: Global, mut site: O) -> Outcome<O>
     }
 }
 
-/// Serves the words that need no threads: `check KEY`, `init` and `stat`. Other words, `run` among them, are answered with the
-/// usage line.
+/// Serves the words that need no threads: `check KEY`, `init` and `stat`. Other words, `run` among them, are answered
+/// with the usage line.
 ///
 /// `check KEY` reads one AOS transfer frame from the source and puts `ok` with its data field in
 /// hexadecimal digits, or `refused` with the first check that fails. It takes no memory.
@@ -79,8 +79,8 @@ fn run_usage<O: Site>(alloc: Global, mut site: O) -> Outcome<O>
 /// `init` reads a plan from the source and makes the image of it, where there is none, and puts
 /// nothing; or it puts why not, and the image is as it was, except after a fault of the site.
 ///
-/// `stat` puts the state that the image shows as text, or why there is none. It brings the image to rest as each opening does,
-/// and changes nothing else.
+/// `stat` puts the state that the image shows as text, or why there is none. It brings the image to rest as each
+/// opening does, and changes nothing else.
 ///
 /// Nothing is put after a failed put.
 pub fn run_plain<S: Source, O: Site>(
@@ -95,11 +95,13 @@ pub fn run_plain<S: Source, O: Site>(
     ensures taken { IsTrue S.told → TakesFew words.now (S.left source.old) (S.left source.new) }
 
     ensures init { IsInit words.now → EndsInit
-        (λ input. IsTrue S.told → input ≡ S.left source.old) (source.new ≡ source.old) (Rose (S.faults source.old) (S.faults source.new))
+        (λ input. IsTrue S.told → input ≡ S.left source.old) (source.new ≡ source.old)
+        (Rose (S.faults source.old) (S.faults source.new))
         O.told (O.trace site) (O.trace result.site) (Rose (O.faults site) (O.faults result.site)) result.status }
 
     ensures stat { IsStat words.now
-        → EndsStat O.told (O.trace site) (O.trace result.site) (Rose (O.faults site) (O.faults result.site)) result.status }
+        → EndsStat O.told (O.trace site) (O.trace result.site) (Rose (O.faults site) (O.faults result.site))
+        result.status }
     ensures unread { IsStat words.now → source.new ≡ source.old }
 
     ensures usage { IsNoCommand words.now

@@ -6,7 +6,8 @@ ghost use Rattle.unit_book.specs.Book.{IsKept, with_put};
 ghost use Rattle.unit_book.specs.Log.{sunk_between};
 ghost use Rattle.record_io.specs.Outcome.{Ends};
 ghost use Rattle.sdls_outside.specs.Output.{Delivers};
-ghost use Rattle.sdls_plain.specs.Stat.{EndsStat, PutsText, ShowsAlone, TellsBook, end_of_open, fault_text, image_text, stat_status};
+ghost use Rattle.sdls_plain.specs.Stat.{EndsStat, PutsText, ShowsAlone, TellsBook, end_of_open, fault_text, image_text};
+ghost use Rattle.sdls_plain.specs.Stat.{stat_status};
 
 use crate::output::put_text;
 use crate::status::{DONE, NO_MEMORY, NO_STATE, SITE_FAULT};
@@ -84,7 +85,8 @@ fn tell_state<O: Site>(alloc: Global, mut book: Book<O>) -> Outcome<O>
     ensures told { (end : StatEnd) × (text : List ℕ) × TellsBook book text end
         × PutsText O.told text (stat_status end) result.status (O.trace book.site) (O.trace result.site)
         (Rose (O.faults book.site) (O.faults result.site)) }
-    ensures moments { IsTrue O.told → EachMoment (O.trace book.site) (O.trace result.site) (λ image sunk. ShowsAlone book.start image) }
+    ensures moments { IsTrue O.told → EachMoment (O.trace book.site) (O.trace result.site)
+        (λ image sunk. ShowsAlone book.start image) }
     ensures later { O.faults book.site ≤ O.faults result.site }
     ensures no_history { result.entries.items ≡ [] }
 {
@@ -160,7 +162,8 @@ fn tell_fault<O: Site>(alloc: Global, fault: OpenFault, mut site: O) -> Outcome<
 
 /// Runs `stat`.
 pub(crate) fn run_stat<O: Site>(alloc: Global, site: O) -> Outcome<O>
-    ensures ends { EndsStat O.told (O.trace site) (O.trace result.site) (Rose (O.faults site) (O.faults result.site)) result.status }
+    ensures ends { EndsStat O.told (O.trace site) (O.trace result.site) (Rose (O.faults site) (O.faults result.site))
+        result.status }
     ensures no_history { result.entries.items ≡ [] }
 {
     match Book::open(alloc, site) {

@@ -12,7 +12,8 @@ use law_run_segments::reading_keeps_lives;
 /// Law: a call that ends as `stat` does, and makes no entry, goes on with each life that left the image at its entry.
 pub fn stat_keeps_lives()
     ensures { (call : CallSeen) → call.entries ≡ []
-        → EndsStat call.site.told call.site.trace call.site_after.trace (Rose call.site.faults call.site_after.faults) call.status
+        → EndsStat call.site.told call.site.trace call.site_after.trace (Rose call.site.faults call.site_after.faults)
+        call.status
         → (plan : PlanLines) (state : State) → ShowsAtEntry call plan state → KeepsLivesReading call }
 {
     reading_keeps_lives();

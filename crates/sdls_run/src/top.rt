@@ -30,12 +30,12 @@ use unit_session::run_recorded;
 /// Serves the words after the program's name, and answers the status, the site and the run's entries.
 ///
 /// `run` reads recorded records from the source: frames to protect, frames to open, and commands. It has them handled
-/// by the unit of the site's image, the lanes of a segment at once, and puts one answer for each, in their order, and an End
-/// answer behind them. What an answer rests on is stored in the image before it is put. The gate is called before and after
-/// each record.
+/// by the unit of the site's image, the lanes of a segment at once, and puts one answer for each, in their order, and
+/// an End answer behind them. What an answer rests on is stored in the image before it is put. The gate is called
+/// before and after each record.
 ///
-/// `drill N` makes two units in memory and N frames from their numbers, has the one protect them and the other open them, on four
-/// lanes, and puts one line. It reads nothing from the source, and leaves the image as it was.
+/// `drill N` makes two units in memory and N frames from their numbers, has the one protect them and the other open
+/// them, on four lanes, and puts one line. It reads nothing from the source, and leaves the image as it was.
 ///
 /// It hands all other words to [`run_plain`], whose clauses are its own.
 pub fn run<R: Threads + Wait + Sync, S: Source, O: Site + Send, G: Gate + Sync>(
@@ -46,11 +46,13 @@ pub fn run<R: Threads + Wait + Sync, S: Source, O: Site + Send, G: Gate + Sync>(
     site: O,
     gate: &G,
 ) -> Outcome<O>
-    // Each moment of the run is early or sound, and goes on with each life that left the image at the entry; why it ends is told.
+    // Each moment of the run is early or sound, and goes on with each life that left the image at the entry; why it
+    // ends is told.
     ensures run { IsRunWord words.now →
         let before : SourceSeen = record { told = S.told; left = S.left source.old; faults = S.faults source.old } in
         let after : SourceSeen = record { told = S.told; left = S.left source.new; faults = S.faults source.new } in
-        EndsAndLives (call_seen O.told O.trace O.faults O.put_faults site result.site before after result.status result.entries.items) }
+        EndsAndLives (call_seen O.told O.trace O.faults O.put_faults site result.site before after result.status
+        result.entries.items) }
 
     ensures check { (key : List ℕ) → IsCheck words.now key → EndsCheck key
         (λ input. IsTrue S.told → input ≡ S.left source.old) (Rose (S.faults source.old) (S.faults source.new))
@@ -58,21 +60,24 @@ pub fn run<R: Threads + Wait + Sync, S: Source, O: Site + Send, G: Gate + Sync>(
     ensures taken { IsTrue S.told → ¬ IsRunWord words.now → TakesFew words.now (S.left source.old) (S.left source.new) }
 
     ensures init { IsInit words.now → EndsInit
-        (λ input. IsTrue S.told → input ≡ S.left source.old) (source.new ≡ source.old) (Rose (S.faults source.old) (S.faults source.new))
+        (λ input. IsTrue S.told → input ≡ S.left source.old) (source.new ≡ source.old)
+        (Rose (S.faults source.old) (S.faults source.new))
         O.told (O.trace site) (O.trace result.site) (Rose (O.faults site) (O.faults result.site)) result.status }
 
     ensures stat { IsStat words.now
-        → EndsStat O.told (O.trace site) (O.trace result.site) (Rose (O.faults site) (O.faults result.site)) result.status }
+        → EndsStat O.told (O.trace site) (O.trace result.site) (Rose (O.faults site) (O.faults result.site))
+        result.status }
     ensures unread { IsStat words.now → source.new ≡ source.old }
     // It goes on with each life that left the image at the entry, as a run without records.
     ensures stat_lives { IsStat words.now → (plan : PlanLines) (state : State) →
         let before : SourceSeen = record { told = S.told; left = S.left source.old; faults = S.faults source.old } in
         let after : SourceSeen = record { told = S.told; left = S.left source.new; faults = S.faults source.new } in
-        let call : CallSeen = call_seen O.told O.trace O.faults O.put_faults site result.site before after result.status result.entries.items in
+        let call : CallSeen = call_seen O.told O.trace O.faults O.put_faults site result.site before after result.status
+        result.entries.items in
         ShowsAtEntry call plan state → KeepsLivesReading call }
 
-    // A drill puts the counts of the answers of its own two units, which are all frames where no answer tells want of memory. To the
-    // site nothing is done but to put, and the image stays.
+    // A drill puts the counts of the answers of its own two units, which are all frames where no answer tells want of
+    // memory. To the site nothing is done but to put, and the image stays.
     ensures drill { (number : ℕ) → IsDrill words.now number → EndsDrill number
         O.told (O.trace site) (O.trace result.site) (Rose (O.faults site) (O.faults result.site)) result.status }
 

@@ -1,6 +1,6 @@
-//! The program `sdls_text`: recorded input and answers as text. `sdls_text records` reads lines from standard input and puts
-//! the recorded input that they say; `sdls_text show` puts the lines of recorded input; `sdls_text answers` reads answers and
-//! puts their lines. What is put is the matter of `text_streams`.
+//! The program `sdls_text`: recorded input and answers as text. `sdls_text records` reads lines from standard input and
+//! puts the recorded input that they say; `sdls_text show` puts the lines of recorded input; `sdls_text answers` reads
+//! answers and puts their lines. What is put is the matter of `text_streams`.
 #![tactic(auto)]
 
 use sdls_outside::{FileSite, StdSource};

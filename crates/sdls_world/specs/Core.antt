@@ -1,12 +1,15 @@
--- Profile: the pure core. What one atomic step does to words, actors and marks, on plain data. A row is the place of a key, and a pair is a row with a number.
-use Rattle.std.specs.Prelude.{ℕ, suc, ◌+◌, ◌==◌, ◌&&◌, max, nat_lt, nat_le, Bool, true, false, List, [], ◌∷◌, ◌++◌, map, Option, Some, None, slice_get, slice_set, if◌then◌else◌}
+-- Profile: the pure core. What one atomic step does to words, actors and marks, on plain data. A row is the place of a
+-- key, and a pair is a row with a number.
+use Rattle.std.specs.Prelude.{ℕ, suc, ◌+◌, ◌==◌, ◌&&◌, max, nat_lt, nat_le, Bool, true, false, List, [], ◌∷◌, ◌++◌, map}
+use Rattle.std.specs.Prelude.{Option, Some, None, slice_get, slice_set, if◌then◌else◌}
 use Rattle.sdls_base.specs.KeyId.{end_of}
 use Rattle.sdls_world.specs.declared.key.Key.{Key}
 use Rattle.sdls_world.specs.declared.step.Step.{Step}
-use Rattle.sdls_world.specs.declared.step.Step.TheVariants.{Arm, Draw, Peek, Spend, See, Take, Give, Write, Sync, Lift, RaiseNext, Turn, Crash}
+use Rattle.sdls_world.specs.declared.step.Step.TheVariants.{Arm, Draw, Peek, Spend, See, Take, Give, Write, Sync, Lift}
+use Rattle.sdls_world.specs.declared.step.Step.TheVariants.{RaiseNext, Turn, Crash}
 
--- an actor: the row that it is armed for, the number that it drew last, until it is used, and whether that one is funded;
--- and the numbers that it drew, that were funded and that it used since the words began
+-- an actor: the row that it is armed for, the number that it drew last, until it is used, and whether that one is
+-- funded; and the numbers that it drew, that were funded and that it used since the words began
 pub record Doer : Type 0 where
   pub id : ℕ
   pub armed : Option ℕ
@@ -75,7 +78,11 @@ arm_step w id k =
 abbrev pub draw_at : Core → ℕ × Doer → ℕ → Option Key → Core
 draw_at w a row None = w
 draw_at w a row (Some k) =
-    record w { keys = slice_set w.keys row (record k { next = k.next + 1 }); actors = slice_set w.actors a.0 (drawing row k.next a.1) }
+    record w {
+      keys = slice_set w.keys row (record k { next = k.next + 1 });
+      actors = slice_set w.actors a.0
+          (drawing row k.next a.1);
+    }
 
 abbrev pub draw_step : Core → ℕ × Doer → Option ℕ → Core
 draw_step w a None = w
@@ -101,14 +108,18 @@ take_step w id (Some h) = w
 
 abbrev pub write_step : Core → ℕ → ℕ × Key → Core
 write_step w mark k =
-    if (nat_le k.1.mark mark) && (nat_le mark (end_of k.1.id)) then record w { keys = slice_set w.keys k.0 (record k.1 { mark = mark }) } else w
+    if (nat_le k.1.mark mark) && (nat_le mark (end_of k.1.id)) then
+    record w { keys = slice_set w.keys k.0 (record k.1 { mark = mark }) } else w
 
 abbrev pub lift_step : Core → ℕ × Key → Core
 lift_step w k = record w { keys = slice_set w.keys k.0 (record k.1 { limit = max k.1.limit k.1.durable }) }
 
 abbrev pub raise_step : Core → ℕ → ℕ × Key → Core
 raise_step w number k =
-    if nat_le number (end_of k.1.id) then record w { keys = slice_set w.keys k.0 (record k.1 { next = max k.1.next number }) } else w
+    if nat_le number (end_of k.1.id) then record w {
+      keys = slice_set w.keys k.0
+          (record k.1 { next = max k.1.next number });
+    } else w
 
 abbrev pub synced : Key → Key
 synced k = record k { durable = k.mark }
@@ -133,7 +144,8 @@ after w (Write actor key mark) = if_holder w actor (on_found w (key_of key w.key
 after w (Sync actor) = if_holder w actor (record w { keys = map synced w.keys })
 after w (Lift actor key) = if_holder w actor (on_found w (key_of key w.keys) (lift_step w))
 after w (RaiseNext actor key number) = if_holder w actor (on_found w (key_of key w.keys) (raise_step w number))
-after w (Turn actor) = if_holder w actor (record w { epoch = if nat_lt w.epoch 18446744073709551615 then w.epoch + 1 else w.epoch })
+after w (Turn actor) = if_holder w actor (record
+    w { epoch = if nat_lt w.epoch 18446744073709551615 then w.epoch + 1 else w.epoch })
 after w Crash = record { keys = map restarted w.keys; actors = []; holder = None; epoch = 0; used = w.used }
 
 abbrev pub after_all : Core → List Step → Core

@@ -21,7 +21,16 @@ impl Model for Actor {
 
     ghost Value = { Doer };
 
-    ghost view = { λ a. record { id = a.id; armed = a.armed; last = a.last; is_funded = a.is_funded; drawn = a.drawn.items; funded = a.funded.items; spent = a.spent.items } };
+    ghost view = { λ a. record {
+      id = a.id;
+      armed = a.armed;
+      last = a.last;
+      is_funded = a.is_funded;
+      drawn =
+          a.drawn.items;
+      funded = a.funded.items;
+      spent = a.spent.items;
+    } };
 }
 
 impl Actor {

@@ -15,5 +15,6 @@ pub fn kept_always()
 /// Law: in all lives together no pair of row and number is used twice.
 #[tactic(auto, using(crate::proofs::Moments::used_differ))]
 pub fn used_once()
-    ensures { (keys : List (ℕ × ℕ)) (steps : List Step) (row x : ℕ) → row < length keys → times row x (after_all (beginning keys) steps).used ≤ 1 }
+    ensures { (keys : List (ℕ × ℕ)) (steps : List Step) (row x : ℕ) → row < length keys
+        → times row x (after_all (beginning keys) steps).used ≤ 1 }
 {}

@@ -1,8 +1,11 @@
 //! The world: words, actors, marks and the used pairs, and its steps.
-ghost use Rattle.std.specs.Prelude.{◌≡◌, ◌≢◌, ◌<◌, ◌≤◌, ℕ, None, Some, OnOk, OnErr, IfOk, IfSome, MatchOption, length, map, take, slice_get};
+ghost use Rattle.std.specs.Prelude.{◌≡◌, ◌≢◌, ◌<◌, ◌≤◌, ℕ, None, Some, OnOk, OnErr, IfOk, IfSome, MatchOption, length};
+ghost use Rattle.std.specs.Prelude.{map, take, slice_get};
 ghost use Rattle.sdls_base.specs.KeyId.{end_of};
-ghost use Rattle.sdls_world.specs.declared.step.Step.TheVariants.{Arm, Draw, Peek, Spend, See, Take, Give, Write, Sync, Lift, RaiseNext, Turn, Crash};
-ghost use Rattle.sdls_world.specs.Core.{key_of, doer_of, holds_turn, after, after_all, begun, beginning, synced, restarted};
+ghost use Rattle.sdls_world.specs.declared.step.Step.TheVariants.{Arm, Draw, Peek, Spend, See, Take, Give, Write, Sync};
+ghost use Rattle.sdls_world.specs.declared.step.Step.TheVariants.{Lift, RaiseNext, Turn, Crash};
+ghost use Rattle.sdls_world.specs.Core.{key_of, doer_of, holds_turn, after, after_all, begun, beginning, synced};
+ghost use Rattle.sdls_world.specs.Core.{restarted};
 ghost use Rattle.sdls_world.specs.Kept.{IsWorldKept};
 
 use crate::actor::Actor;
@@ -28,7 +31,13 @@ impl Model for World {
 
     ghost Value = { Core };
 
-    ghost view = { λ w. record { keys = w.keys.items; actors = w.actors.items; holder = w.holder; epoch = w.epoch; used = w.used.items } };
+    ghost view = { λ w. record {
+      keys = w.keys.items;
+      actors = w.actors.items;
+      holder = w.holder;
+      epoch = w.epoch;
+      used = w.used.items;
+    } };
 }
 
 impl World {
@@ -36,7 +45,8 @@ impl World {
     /// The world whose keys have these durable marks, with `next` and `limit` equal to them, the turn free and every
     /// actor idle.
     pub fn new(alloc: Global, keys: &[(KeyId, u64)]) -> Result<World, NoMemory>
-        requires apart { (i j : ℕ) (a b : ℕ × ℕ) → slice_get keys.now i ≡ Some a → slice_get keys.now j ≡ Some b → i ≢ j → a.0 ≢ b.0 }
+        requires apart { (i j : ℕ) (a b : ℕ × ℕ) → slice_get keys.now i ≡ Some a → slice_get keys.now j ≡ Some b → i ≢ j
+            → a.0 ≢ b.0 }
         requires marks { (i : ℕ) (a : ℕ × ℕ) → slice_get keys.now i ≡ Some a → (1 ≤ a.1) × (a.1 ≤ end_of a.0) }
         ensures world { IfOk result (λ w. w ≡ beginning keys.now) }
         ensures kept { IfOk result IsWorldKept }
@@ -141,7 +151,8 @@ impl World {
 
     fn key(&self, id: KeyId) -> Option<(usize, Key)>
         ensures found { result ≡ key_of id self.now.keys }
-        ensures there { IfSome result (λ found. (found.0 < length self.now.keys) × (slice_get self.now.keys found.0 ≡ Some found.1)) }
+        ensures there { IfSome result (λ found. (found.0 < length self.now.keys)
+            × (slice_get self.now.keys found.0 ≡ Some found.1)) }
     {
         for (row, key) in self.keys.iter().enumerate() {
             if key.id == id {
@@ -152,8 +163,10 @@ impl World {
     }
 
     fn actor(&self, id: u64) -> Option<(usize, &Actor)>
-        ensures found { MatchOption result (doer_of id self.now.actors ≡ None) (λ found. doer_of id self.now.actors ≡ Some (found.0, found.1.now)) }
-        ensures there { IfSome result (λ found. (found.0 < length self.now.actors) × (slice_get self.now.actors found.0 ≡ Some found.1.now)) }
+        ensures found { MatchOption result (doer_of id self.now.actors ≡ None)
+            (λ found. doer_of id self.now.actors ≡ Some (found.0, found.1.now)) }
+        ensures there { IfSome result (λ found. (found.0 < length self.now.actors)
+            × (slice_get self.now.actors found.0 ≡ Some found.1.now)) }
     {
         for (place, actor) in self.actors.iter().enumerate() {
             if actor.id() == id {

@@ -13,8 +13,10 @@ abbrev pub WithPosition : {T : Type 0} → Result T (BookFault × ℕ) → Known
 WithPosition (Ok t) given P = P (Ok t)
 WithPosition (Err refused) given P = P (Err refused.0) × (refused.1 ≡ entry_count given)
 
--- The octets were put, or a front of them, and are the next line of the log. One more put failed where the answer is a fault.
-pub record IsPut {O : Type 0} (told : Bool) (trace : O → Trace) (faults puts : O → ℕ) (octets : List ℕ) (result : Result (Unit {0}) BookFault) (found given : BookView O) : Type 0 where
+-- The octets were put, or a front of them, and are the next line of the log. One more put failed where the answer is a
+-- fault.
+pub record IsPut {O : Type 0} (told : Bool) (trace : O → Trace) (faults puts : O → ℕ) (octets : List ℕ)
+    (result : Result (Unit {0}) BookFault) (found given : BookView O) : Type 0 where
   pub made : given ≡ with_put (sunk_between (trace found.site) (trace given.site)) (record found { site = given.site })
   pub put : IsTrue told → sites.Puts octets result (trace found.site) (trace given.site)
   pub counted : puts given.site ≡ sites.after_put result (puts found.site)

@@ -45,7 +45,8 @@ pub record FindsNone {O : Type 0} (key n : ℕ) (found : BookView O) (v w : Numb
   pub out : RunsOut row (end_of key) n v w
 
 -- A number was drawn, and its reserve refused.
-pub record FailsFor {O : Type 0} (faults : O → ℕ) (need : Need) (fault : BookFault) (found middle : BookView O) (v w : Numbers) : Type 0 where
+pub record FailsFor {O : Type 0} (faults : O → ℕ) (need : Need) (fault : BookFault) (found middle : BookView O)
+    (v w : Numbers) : Type 0 where
   pub key : ℕ
   pub is : need ≡ needs.Number key
   pub row : ℕ
@@ -59,23 +60,29 @@ pub record FailsFor {O : Type 0} (faults : O → ℕ) (need : Need) (fault : Boo
 abbrev pub Satisfies : {O : Type 0} → (O → ℕ) → Need → Seen → BookView O → BookView O → Numbers → Numbers → Type 0
 Satisfies faults needs.Nothing sights.Nothing found middle v w = (middle ≡ found) × (w ≡ v)
 Satisfies faults (needs.Look key) (sights.Word n) found middle v w = (middle ≡ found) × RaisesWord key 1 n found v w
-Satisfies faults (needs.Raise key number) (sights.Word n) found middle v w = (middle ≡ found) × RaisesWord key number n found v w
+Satisfies faults (needs.Raise key number) (sights.Word n) found middle v w = (middle ≡ found)
+    × RaisesWord key number n found v w
 Satisfies faults (needs.Number key) (sights.Number n) found middle v w = DrawsFor faults key n found middle v w
 Satisfies faults (needs.Number key) (sights.Exhausted n) found middle v w = (middle ≡ found) × FindsNone key n found v w
 Satisfies faults need seen found middle v w = ⊥
 
-abbrev pub IsSeen : {O : Type 0} → (O → ℕ) → Need → Result Seen BookFault → BookView O → BookView O → View → View → Type 0
+abbrev pub IsSeen : {O : Type 0} → (O → ℕ) → Need → Result Seen BookFault → BookView O → BookView O → View → View
+    → Type 0
 IsSeen faults need (Ok seen) found middle v w =
-    Satisfies faults need seen found middle v.numbers w.numbers × ((w.turn ≡ v.turn) ⊎ (w.turn ≡ learning (marks_of middle.state) v.turn))
-IsSeen faults need (Err fault) found middle v w = FailsFor faults need fault found middle v.numbers w.numbers × (w.turn ≡ v.turn)
+    Satisfies faults need seen found middle v.numbers w.numbers
+    × ((w.turn ≡ v.turn) ⊎ (w.turn ≡ learning (marks_of middle.state) v.turn))
+IsSeen faults need (Err fault) found middle v w = FailsFor faults need fault found middle v.numbers w.numbers
+    × (w.turn ≡ v.turn)
 
 abbrev pub knowing : ℕ → Turn → Turn
 knowing changes v = record v { known = record v.known { changes = changes } }
 
 -- by the answer, what became of the book and of the numbers
-abbrev pub IsCommanded : {O : Type 0} → (O → ℕ) → ℕ → List ℕ → Result (Reply × ℕ) BookFault → BookView O → BookView O → Numbers → Numbers → Type 0
+abbrev pub IsCommanded : {O : Type 0} → (O → ℕ) → ℕ → List ℕ → Result (Reply × ℕ) BookFault → BookView O → BookView O
+    → Numbers → Numbers → Type 0
 IsCommanded {O} faults index pdu (Ok answer) found given v w =
-    (need : Need) × (seen : Seen) × (middle : BookView O) × IsNeedOf found.state pdu need × Satisfies faults need seen found middle v w
+    (need : Need) × (seen : Seen) × (middle : BookView O) × IsNeedOf found.state pdu need
+    × Satisfies faults need seen found middle v w
     × Handles faults index pdu seen middle given answer.0 answer.1
 IsCommanded {O} faults index pdu (Err fault) found given v w =
     ((fault ≡ refusals.NoMemory) × (given ≡ found) × (w ≡ v))

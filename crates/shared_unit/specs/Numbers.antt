@@ -34,7 +34,8 @@ RunsOut row end n v w = (end ≤ n) × (((top row v.nexts ≤ n) × (w ≡ armin
 
 -- a draw by its answer
 abbrev pub IsDrawAnswer : ℕ → ℕ → Result (ℕ × ℕ) ℕ → Numbers → Numbers → Type 0
-IsDrawAnswer row end (Ok ticket) v w = (ticket.0 ≡ row) × (ticket.1 < end) × (w.last ≡ Some ticket) × Draws row end ticket.1 v w
+IsDrawAnswer row end (Ok ticket) v w = (ticket.0 ≡ row) × (ticket.1 < end) × (w.last ≡ Some ticket)
+    × Draws row end ticket.1 v w
 IsDrawAnswer row end (Err n) v w = RunsOut row end n v w
 
 -- the limit was lifted to the mark and found above the number, which is spent
@@ -45,8 +46,8 @@ pub record Lifts (row n : ℕ) (v w : Numbers) : Type 0 where
   pub funded : n < limit
   pub is : w ≡ spending row n limit (lifting row mark v)
 
--- In sum: a number was drawn and spent, and so many tickets came back. The number is no less than each word seen before, and
--- the word that is left is one above it.
+-- In sum: a number was drawn and spent, and so many tickets came back. The number is no less than each word seen
+-- before, and the word that is left is one above it.
 pub record UsesNumber (row n back : ℕ) (v w : Numbers) : Type 0 where
   pub drawn : w.drawn ≡ v.drawn ++ (row, n) ∷ []
   pub spent : w.spent ≡ v.spent ++ (row, n) ∷ []

@@ -37,7 +37,8 @@ pub record IsTrueFor (permit : Permit) (v : Turn) : Type 0 where
   pub reached : permit.epoch ≤ epoch_after (entries_of v.known.log)
   -- in the state of its epoch the sender on its channel binds to this, on its link, with the row of the key
   pub line : link_of v.known.opening.plan.links permit.link ≡ Some permit.binding.link
-  pub sender : binding_on v.known.opening.plan (state_at v.known permit.epoch) permit.binding.link permit.channel ≡ Some permit.binding
+  pub sender : binding_on v.known.opening.plan (state_at v.known permit.epoch) permit.binding.link permit.channel
+      ≡ Some permit.binding
   pub row : place_of (state_at v.known permit.epoch).keys permit.binding.key ≡ Some permit.row
   pub there : permit.row < MOST_KEYS
   pub binding : IsBinding permit.binding
@@ -55,7 +56,8 @@ IfPermit (replies.Refused fault epoch) P = ⊤
 -- the answer of `permit`, by the checks in the state of the book
 abbrev pub Permits : {O : Type 0} → ℕ → List ℕ → PermitReply → BookView O → Type 0
 Permits link clear (replies.Permit permit) book =
-    (permit.link ≡ link) × (channel_check book.plan link clear ≡ Ok (Some permit.channel)) × (permit.epoch ≡ book.changes)
+    (permit.link ≡ link) × (channel_check book.plan link clear ≡ Ok (Some permit.channel))
+    × (permit.epoch ≡ book.changes)
     × (protect_check book.plan book.state link clear ≡ Ok (Some permit.binding))
     × (place_of book.state.keys permit.binding.key ≡ Some permit.row) × IsBinding permit.binding
 Permits link clear replies.Clear book =
@@ -77,13 +79,16 @@ pub record IsProtectedUnder (permit : Permit) (clear out : List ℕ) (done : Don
 
 -- what `protect_ready` does, by its answer
 abbrev pub IsReadyStep : Permit → List ℕ → List ℕ → Ready → View → View → Type 0
-IsReadyStep p clear out (readies.Refused fault) v w = LacksLayout p.binding clear fault × (w.numbers ≡ v.numbers) × (w.turn ≡ v.turn)
+IsReadyStep p clear out (readies.Refused fault) v w = LacksLayout p.binding clear fault × (w.numbers ≡ v.numbers)
+    × (w.turn ≡ v.turn)
 IsReadyStep p clear out (readies.Stale epoch) v w =
     (clear_fault p.binding clear ≡ None) × (p.epoch ≢ epoch) × (w.numbers ≡ v.numbers) × Loads epoch v.turn w.turn
 IsReadyStep p clear out (readies.Exhausted n) v w =
-    (clear_fault p.binding clear ≡ None) × Loads p.epoch v.turn w.turn × RunsOut p.row (end_of p.binding.key) n v.numbers w.numbers
+    (clear_fault p.binding clear ≡ None) × Loads p.epoch v.turn w.turn
+    × RunsOut p.row (end_of p.binding.key) n v.numbers w.numbers
 IsReadyStep p clear out (readies.NeedBlock ticket) v w =
-    (clear_fault p.binding clear ≡ None) × Loads p.epoch v.turn w.turn × (ticket.0 ≡ p.row) × (ticket.1 < end_of p.binding.key)
+    (clear_fault p.binding clear ≡ None) × Loads p.epoch v.turn w.turn × (ticket.0 ≡ p.row)
+    × (ticket.1 < end_of p.binding.key)
     × ComesBack p.row (end_of p.binding.key) ticket.1 v.numbers w.numbers
 IsReadyStep p clear out (readies.Done d) v w =
     (clear_fault p.binding clear ≡ None) × Loads p.epoch v.turn w.turn × IsProtectedUnder p clear out d

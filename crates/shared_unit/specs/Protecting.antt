@@ -36,7 +36,8 @@ abbrev pub RunsOutUnder : Permit → List ℕ → ℕ → ℕ → ℕ → View �
 RunsOutUnder p clear key n epoch v w = (clear_fault p.binding clear ≡ None) × (key ≡ p.binding.key) × (epoch ≡ p.epoch)
     × RunsOut p.row (end_of key) n v.numbers w.numbers × (epoch_seen v.turn ≤ epoch)
 
--- The number was drawn and spent, and the frame is protected with it, in an epoch that is no less than the one seen before.
+-- The number was drawn and spent, and the frame is protected with it, in an epoch that is no less than the one seen
+-- before.
 pub record IsDrawnAndProtected (p : Permit) (clear out : List ℕ) (d : Done) (v w : View) : Type 0 where
   pub fits : clear_fault p.binding clear ≡ None
   pub protected : IsProtectedUnder p clear out d
@@ -94,11 +95,12 @@ module _ {O : Type 0} (told : Bool) (trace : O → Trace) (faults puts : O → �
   abbrev pub MayTakeTurn : (BookView O → BookView O → Type 0) → Turn → Turn → Type 0
   MayTakeTurn done v w = Looks v w ⊎ TakesTurn done v w
 
-  -- The epoch was loaded, at most; or it was, and then the turn was taken once, and the book found is above each number that
-  -- the worker had spent before.
+  -- The epoch was loaded, at most; or it was, and then the turn was taken once, and the book found is above each number
+  -- that the worker had spent before.
   abbrev pub CoversIfTaken : View → View → Type 0
   CoversIfTaken v w = Looks v.turn w.turn
-      ⊎ ((epoch : ℕ) × (epoch_seen v.turn ≤ epoch_seen (seeing epoch v.turn)) × FindsCovered told trace faults puts (record v { turn = seeing epoch v.turn }) w)
+      ⊎ ((epoch : ℕ) × (epoch_seen v.turn ≤ epoch_seen (seeing epoch v.turn))
+      × FindsCovered told trace faults puts (record v { turn = seeing epoch v.turn }) w)
 
   -- the turn was taken once, and the book found had counted so many changes
   abbrev pub FindsEpoch : Turn → Turn → ℕ → Type 0
@@ -110,7 +112,8 @@ module _ {O : Type 0} (told : Bool) (trace : O → Trace) (faults puts : O → �
 
   -- one reserve was stored, or refused, or there was none
   abbrev pub AddsReserve : ℕ → BookView O → BookView O → Type 0
-  AddsReserve key found given = (given ≡ found) ⊎ ((n : ℕ) × (result : Result ℕ BookFault) × Reserves faults key n result found given)
+  AddsReserve key found given = (given ≡ found) ⊎
+      ((n : ℕ) × (result : Result ℕ BookFault) × Reserves faults key n result found given)
 
   -- the epoch was loaded, and the turn was taken at most once, for at most one reserve
   abbrev pub TakesAtMostOnce : Turn → Turn → Type 0
@@ -121,29 +124,35 @@ module _ {O : Type 0} (told : Bool) (trace : O → Trace) (faults puts : O → �
   IsRefusedUnder p clear fault position v w = (clear_fault p.binding clear ≡ None) × (epoch_seen v.turn ≤ p.epoch)
       × (position ≡ entry_count w.turn.known)
       × ((n : ℕ) × (n < end_of p.binding.key)
-      × (Draws p.row (end_of p.binding.key) n v.numbers w.numbers ⊎ ComesBack p.row (end_of p.binding.key) n v.numbers w.numbers)
+      × (Draws p.row (end_of p.binding.key) n v.numbers w.numbers
+      ⊎ ComesBack p.row (end_of p.binding.key) n v.numbers w.numbers)
       × TakesTurn (Reserves faults p.binding.key n (Err fault)) v.turn w.turn)
 
-  -- What was done under a permit, by the answer. The turn is taken for a reserve of the number that was drawn here, or the book
-  -- is given back as it was found.
+  -- What was done under a permit, by the answer. The turn is taken for a reserve of the number that was drawn here, or
+  -- the book is given back as it was found.
   abbrev pub IsUnder : Permit → List ℕ → List ℕ → Protected → View → View → Type 0
-  IsUnder p clear out (answers.Done d) v w = IsDrawnAndProtected p clear out d v w × MayTakeTurn (Funds faults p.binding.key d.number) v.turn w.turn
+  IsUnder p clear out (answers.Done d) v w = IsDrawnAndProtected p clear out d v w
+      × MayTakeTurn (Funds faults p.binding.key d.number) v.turn w.turn
   IsUnder p clear out answers.Clear v w = ⊥
   IsUnder p clear out (answers.Refused fault epoch) v w =
-      LacksLayout p.binding clear fault × (epoch ≡ p.epoch) × (w.numbers ≡ v.numbers) × (epoch_seen v.turn ≤ epoch) × MayTakeTurn Rests v.turn w.turn
-  IsUnder p clear out (answers.Exhausted key n epoch) v w = RunsOutUnder p clear key n epoch v w × MayTakeTurn Rests v.turn w.turn
+      LacksLayout p.binding clear fault × (epoch ≡ p.epoch) × (w.numbers ≡ v.numbers) × (epoch_seen v.turn ≤ epoch)
+      × MayTakeTurn Rests v.turn w.turn
+  IsUnder p clear out (answers.Exhausted key n epoch) v w = RunsOutUnder p clear key n epoch v w
+      × MayTakeTurn Rests v.turn w.turn
   IsUnder p clear out (answers.Fault fault position) v w = IsRefusedUnder p clear fault position v w
 
   -- With a kept permit the turn is taken for a ticket that came back alone. There is no answer where the epoch went on.
   abbrev pub IsKeptStep : Permit → List ℕ → List ℕ → Option Protected → View → View → Type 0
-  IsKeptStep p clear out None v w = (w.numbers ≡ v.numbers) × ((epoch : ℕ) × (p.epoch < epoch) × Loads epoch v.turn w.turn)
+  IsKeptStep p clear out None v w = (w.numbers ≡ v.numbers)
+      × ((epoch : ℕ) × (p.epoch < epoch) × Loads epoch v.turn w.turn)
   IsKeptStep p clear out (Some answer) v w = IsUnder p clear out answer v w × TakesByTicket v w
 
-  -- Where the plan is enough for the check that fails first, nothing is looked at. Else the epoch is no less than the one seen
-  -- before.
+  -- Where the plan is enough for the check that fails first, nothing is looked at. Else the epoch is no less than the
+  -- one seen before.
   abbrev pub IsRefusedAt : PlanLines → ℕ → List ℕ → ShieldFault → ℕ → Turn → Turn → Type 0
   IsRefusedAt plan link clear fault epoch v w =
-      ((channel_check plan link clear ≡ Err fault) × (epoch ≡ 0) × (w ≡ v)) ⊎ (FailsAt link clear fault epoch w × (epoch_seen v ≤ epoch) × MayTakeTurn Rests v w)
+      ((channel_check plan link clear ≡ Err fault) × (epoch ≡ 0) × (w ≡ v))
+      ⊎ (FailsAt link clear fault epoch w × (epoch_seen v ≤ epoch) × MayTakeTurn Rests v w)
 
   -- What `protect` does, by its answer and the permit that is kept afterwards.
   abbrev pub IsProtectStep : PlanLines → ℕ → List ℕ → List ℕ → Option Permit → Protected → View → View → Type 0

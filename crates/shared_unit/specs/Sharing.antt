@@ -37,7 +37,8 @@ pub record IsRaised (book : Known) (count : ℕ) (v w : View) : Type 0 where
   pub low : (row : ℕ) → top row w.numbers.raised ≤ max (top row v.numbers.raised) (known_mark book row)
 
 -- The book that was opened on the site, as the opening left both.
-pub record BookIsOpened {O : Type 0} (told : Bool) (trace : O → Trace) (faults puts : O → ℕ) (site : O) (book : BookView O) : Type 0 where
+pub record BookIsOpened {O : Type 0} (told : Bool) (trace : O → Trace) (faults puts : O → ℕ) (site : O)
+    (book : BookView O) : Type 0 where
   pub kept : IsKept told trace faults book
   pub begun_is : book ≡ begun book.site (trace site).now.image book.plan book.start book.journal
   pub shows : IsTrue told → Shows (trace site).now.image book.start × Shows (trace book.site).now.image book.start
@@ -48,9 +49,10 @@ pub record BookIsOpened {O : Type 0} (told : Bool) (trace : O → Trace) (faults
   pub stood : faults book.site ≡ faults site
   pub puts_same : puts book.site ≡ puts site
 
--- The first worker, which has all shares: it drew, spent and made nothing yet, and each word is its key's mark, 1 where there
--- is no key.
-pub record Begins {O B : Type 0} (trace : O → Trace) (faults puts : O → ℕ) (book : BookView O) (counters : Counters B) (plan : PlanLines) (worker : Worker B) : Type 0 where
+-- The first worker, which has all shares: it drew, spent and made nothing yet, and each word is its key's mark, 1 where
+-- there is no key.
+pub record Begins {O B : Type 0} (trace : O → Trace) (faults puts : O → ℕ) (book : BookView O) (counters : Counters B)
+    (plan : PlanLines) (worker : Worker B) : Type 0 where
   pub ready : IsReady counters plan worker
   pub shares : (view worker).numbers.shares ≡ ALL_SHARES
   pub drawn : (view worker).numbers.drawn ≡ []
@@ -64,4 +66,5 @@ pub record Begins {O B : Type 0} (trace : O → Trace) (faults puts : O → ℕ)
   pub faults_same : (view worker).turn.known.faults ≡ faults book.site
   pub words : (row : ℕ) → row < MOST_KEYS → top row (view worker).numbers.nexts ≡ mark_at book.start row
   pub raised : (row : ℕ) → row < MOST_KEYS → top row (view worker).numbers.raised ≤ mark_at book.start row
-  pub added : (row : ℕ) → row < MOST_KEYS → top row (view worker).numbers.nexts ≡ 1 + amount row (view worker).numbers.added
+  pub added : (row : ℕ) → row < MOST_KEYS → top row (view worker).numbers.nexts
+      ≡ 1 + amount row (view worker).numbers.added

@@ -16,7 +16,14 @@ known_of_book trace faults puts book = record {
   faults = faults book.site;
   standing = book.standing;
   put_faults = puts book.site;
-  opening = record { image = book.image; plan = book.plan; start = book.start; trail = trace book.opened; faults = faults book.opened };
+  opening = record {
+    image = book.image;
+    plan = book.plan;
+    start = book.start;
+    trail = trace book.opened;
+    faults =
+        faults book.opened;
+  };
 }
 
 -- the state that an epoch began with, by the log that is known

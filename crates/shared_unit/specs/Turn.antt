@@ -40,7 +40,8 @@ pub record TakesOnce (found given : Known) (v w : Turn) : Type 0 where
   pub turn : w ≡ taking_once found given v
 
 -- the same of two kept books
-pub record Visits {O : Type 0} (told : Bool) (trace : O → Trace) (faults puts : O → ℕ) (found given : BookView O) (v w : Turn) : Type 0 where
+pub record Visits {O : Type 0} (told : Bool) (trace : O → Trace) (faults puts : O → ℕ) (found given : BookView O)
+    (v w : Turn) : Type 0 where
   pub found_kept : IsKept told trace faults found
   pub given_kept : IsKept told trace faults given
   pub takes : TakesOnce (known_of_book trace faults puts found) (known_of_book trace faults puts given) v w

@@ -15,15 +15,20 @@ use Rattle.shared_unit.specs.Permit.{IsProtectedUnder, LacksLayout}
 use Rattle.shared_unit.specs.Funding.{Reserves}
 
 -- what the holder of the turn does with a permit of the held book, by the answer
-abbrev pub IsFinished : {O : Type 0} → (O → ℕ) → Permit → List ℕ → List ℕ → Protected → BookView O → BookView O → View → View → Type 0
+abbrev pub IsFinished : {O : Type 0} → (O → ℕ) → Permit → List ℕ → List ℕ → Protected → BookView O → BookView O → View
+    → View → Type 0
 IsFinished faults p clear out (answers.Done d) found given v w =
-    (clear_fault p.binding clear ≡ None) × IsProtectedUnder p clear out d × UsesNumber p.row d.number 0 v.numbers w.numbers
-    × (w.turn ≡ learning (marks_of given.state) v.turn) × ((mark : ℕ) × Reserves faults p.binding.key d.number (Ok mark) found given)
+    (clear_fault p.binding clear ≡ None) × IsProtectedUnder p clear out d
+    × UsesNumber p.row d.number 0 v.numbers w.numbers
+    × (w.turn ≡ learning (marks_of given.state) v.turn)
+    × ((mark : ℕ) × Reserves faults p.binding.key d.number (Ok mark) found given)
 IsFinished faults p clear out answers.Clear found given v w = ⊥
 IsFinished faults p clear out (answers.Refused fault epoch) found given v w =
-    LacksLayout p.binding clear fault × (epoch ≡ p.epoch) × (w.numbers ≡ v.numbers) × (w.turn ≡ v.turn) × (given ≡ found)
+    LacksLayout p.binding clear fault × (epoch ≡ p.epoch) × (w.numbers ≡ v.numbers) × (w.turn ≡ v.turn)
+    × (given ≡ found)
 IsFinished faults p clear out (answers.Exhausted key n epoch) found given v w =
-    (clear_fault p.binding clear ≡ None) × (key ≡ p.binding.key) × (epoch ≡ p.epoch) × RunsOut p.row (end_of key) n v.numbers w.numbers
+    (clear_fault p.binding clear ≡ None) × (key ≡ p.binding.key) × (epoch ≡ p.epoch)
+    × RunsOut p.row (end_of key) n v.numbers w.numbers
     × (w.turn ≡ v.turn) × (given ≡ found)
 IsFinished faults p clear out (answers.Fault fault position) found given v w =
     (clear_fault p.binding clear ≡ None) × (position ≡ length (entries_of given.log)) × (w.turn ≡ v.turn)

@@ -23,7 +23,8 @@ impl<O: Site> Unit<O> {
         requires ready { IsReady self.now.counters self.now.plan worker.old }
         ensures ready { IsReady self.now.counters self.now.plan worker.new }
         ensures numbers { KeepsNumbers worker.old worker.new }
-        ensures counted { (found : BookView O) × Visits O.told O.trace O.faults O.put_faults found found (view worker.old).turn (view worker.new).turn
+        ensures counted { (found : BookView O) × Visits O.told O.trace O.faults O.put_faults found found
+            (view worker.old).turn (view worker.new).turn
             × (result ≡ entry_count (known_of_book O.trace O.faults O.put_faults found)) }
     {
         let held = self.counters.take(rt, worker);
@@ -43,12 +44,14 @@ impl<O: Site> Unit<O> {
         ensures ready { IsReady self.now.counters self.now.plan worker.new }
         ensures numbers { KeepsNumbers worker.old worker.new }
 
-        // No number was spent by the worker that is not below its row's mark in the book that the call found, and who has all
-        // shares found the book as it was known.
-        ensures put { (found given : BookView O) × Visits O.told O.trace O.faults O.put_faults found given (view worker.old).turn (view worker.new).turn
+        // No number was spent by the worker that is not below its row's mark in the book that the call found, and who
+        // has all shares found the book as it was known.
+        ensures put { (found given : BookView O) × Visits O.told O.trace O.faults O.put_faults found given
+            (view worker.old).turn (view worker.new).turn
             × IsPut O.told O.trace O.faults O.put_faults octets.now result found given
             × IsCovered MOST_KEYS (view worker.old).numbers (known_of_book O.trace O.faults O.put_faults found)
-            × ((view worker.old).numbers.shares ≡ ALL_SHARES → IsAsKnown (view worker.old).turn (known_of_book O.trace O.faults O.put_faults found)) }
+            × ((view worker.old).numbers.shares ≡ ALL_SHARES
+            → IsAsKnown (view worker.old).turn (known_of_book O.trace O.faults O.put_faults found)) }
     {
         let mut held = self.counters.take(rt, worker);
         let result = held.book.put(octets);
@@ -56,9 +59,10 @@ impl<O: Site> Unit<O> {
         result
     }
 
-    /// Handles the record with this number, whose frame came on this link: opens the frame in place where no check fails, and
-    /// answers the reply and its position (CCSDS 355.0-B-2, ProcessSecurity). Beside a fault stands the count of the
-    /// run's entries. After an answer that is not `Accepted` the frame's octets may be any. Takes no memory.
+    /// Handles the record with this number, whose frame came on this link: opens the frame in place where no check
+    /// fails, and answers the reply and its position (CCSDS 355.0-B-2, ProcessSecurity). Beside a fault stands the
+    /// count of the run's entries. After an answer that is not `Accepted` the frame's octets may be any. Takes no
+    /// memory.
     pub fn open_frame<R: Wait>(
         &self,
         rt: &R,
@@ -70,9 +74,11 @@ impl<O: Site> Unit<O> {
         requires ready { IsReady self.now.counters self.now.plan worker.old }
         ensures ready { IsReady self.now.counters self.now.plan worker.new }
         ensures numbers { KeepsNumbers worker.old worker.new }
-        ensures opened { (found given : BookView O) × Visits O.told O.trace O.faults O.put_faults found given (view worker.old).turn (view worker.new).turn
+        ensures opened { (found given : BookView O) × Visits O.told O.trace O.faults O.put_faults found given
+            (view worker.old).turn (view worker.new).turn
             × WithPosition result (known_of_book O.trace O.faults O.put_faults given) (λ answer. MatchResult answer
-            (λ told. OpensWithEntry O.faults index link frame.old (field_in told.0 frame.new) found given told.0 told.1 × LeavesOctets told.0 frame.old frame.new)
+            (λ told. OpensWithEntry O.faults index link frame.old (field_in told.0 frame.new) found given told.0 told.1
+            × LeavesOctets told.0 frame.old frame.new)
             (RefusesFrame O.faults index link frame.old found given)) }
 
         // No number was spent by the worker that is not below its row's mark in the book that the call found.

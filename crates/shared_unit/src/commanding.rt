@@ -47,13 +47,15 @@ impl<O: Site> Unit<O> {
         requires own { IsOf self.now.counters worker.old }
         requires turn { (view worker.old).turn.holds ≡ true }
         requires filled { (view worker.old).turn.filled ≡ true }
-        requires marks { LowersNoMark (view worker.old).turn.known (known_of_book O.trace O.faults O.put_faults held.old.book) }
+        requires marks { LowersNoMark (view worker.old).turn.known
+            (known_of_book O.trace O.faults O.put_faults held.old.book) }
         requires key { (row : ℕ) × (place_of held.old.book.state.keys key ≡ Some row) }
         requires kept { IsKept O.told O.trace O.faults held.old.book }
         ensures same { IsSame worker.old worker.new }
         ensures kept { IsKept O.told O.trace O.faults held.new.book }
         ensures goes_on { GoesUp O.faults O.put_faults held.old.book held.new.book }
-        ensures seen { IsSeen O.faults (needs.Number key) result held.old.book held.new.book (view worker.old) (view worker.new) }
+        ensures seen { IsSeen O.faults (needs.Number key) result held.old.book held.new.book (view worker.old)
+            (view worker.new) }
     {
         let row = self.row_in(held, key);
         let ticket = match self.draw_below(worker, row, key.end()) {
@@ -74,7 +76,8 @@ impl<O: Site> Unit<O> {
         requires own { IsOf self.now.counters worker.old }
         requires turn { (view worker.old).turn.holds ≡ true }
         requires filled { (view worker.old).turn.filled ≡ true }
-        requires marks { LowersNoMark (view worker.old).turn.known (known_of_book O.trace O.faults O.put_faults held.old.book) }
+        requires marks { LowersNoMark (view worker.old).turn.known
+            (known_of_book O.trace O.faults O.put_faults held.old.book) }
         requires names { NamesKey held.old.book.state need }
         requires kept { IsKept O.told O.trace O.faults held.old.book }
         ensures same { IsSame worker.old worker.new }
@@ -127,8 +130,10 @@ impl<O: Site> Unit<O> {
         ensures was_kept { IsKept O.told O.trace O.faults held.old.book }
         ensures kept { IsKept O.told O.trace O.faults held.new.book }
         ensures goes_on { GoesUp O.faults O.put_faults held.old.book held.new.book }
-        ensures holds { KnowsHeld (known_of_book O.trace O.faults O.put_faults held.new.book) (view worker.old).turn (view worker.new).turn }
-        ensures step { IsCommanded O.faults index pdu.now result held.old.book held.new.book (view worker.old).numbers (view worker.new).numbers }
+        ensures holds { KnowsHeld (known_of_book O.trace O.faults O.put_faults held.new.book) (view worker.old).turn
+            (view worker.new).turn }
+        ensures step { IsCommanded O.faults index pdu.now result held.old.book held.new.book (view worker.old).numbers
+            (view worker.new).numbers }
     {
         let Ok(need) = held.book.need(pdu) else {
             return Err(BookFault::NoMemory);
@@ -158,9 +163,11 @@ impl<O: Site> Unit<O> {
         ensures ready { IsReady self.now.counters self.now.plan worker.new }
         ensures same { IsSame worker.old worker.new }
         ensures shares { (view worker.new).numbers.shares ≡ (view worker.old).numbers.shares }
-        ensures commanded { (found given : BookView O) × Visits O.told O.trace O.faults O.put_faults found given (view worker.old).turn (view worker.new).turn
+        ensures commanded { (found given : BookView O)
+            × Visits O.told O.trace O.faults O.put_faults found given (view worker.old).turn (view worker.new).turn
             × WithPosition result (known_of_book O.trace O.faults O.put_faults given)
-            (λ answer. IsCommanded O.faults index pdu.now answer found given (view worker.old).numbers (view worker.new).numbers) }
+            (λ answer. IsCommanded O.faults index pdu.now answer found given (view worker.old).numbers
+            (view worker.new).numbers) }
 
         // No number was spent by the worker that is not below its row's mark in the book that the call found.
         ensures covered { FindsCovered O.told O.trace O.faults O.put_faults (view worker.old) (view worker.new) }

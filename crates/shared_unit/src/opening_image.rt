@@ -38,9 +38,11 @@ impl<O: Site> Unit<O> {
         requires turn { (view worker.old).turn.holds ≡ true }
         requires filled { (view worker.old).turn.filled ≡ true }
         requires known { (view worker.old).turn.known ≡ known_of_book O.trace O.faults O.put_faults held.now.book }
-        requires marks { (row : ℕ) → known_mark (known_of_book O.trace O.faults O.put_faults held.now.book) row ≤ 2 ^ 48 }
+        requires marks { (row : ℕ) → known_mark (known_of_book O.trace O.faults O.put_faults held.now.book) row
+            ≤ 2 ^ 48 }
         ensures own { IsOf self.now.counters worker.new }
-        ensures raised { IsRaised (known_of_book O.trace O.faults O.put_faults held.now.book) MOST_KEYS (view worker.old) (view worker.new) }
+        ensures raised { IsRaised (known_of_book O.trace O.faults O.put_faults held.now.book) MOST_KEYS
+            (view worker.old) (view worker.new) }
     {
         for row in 0..ROWS {
             let mark = held.book.mark(row);
@@ -53,7 +55,8 @@ impl<O: Site> Unit<O> {
     fn share_book<R: Wait>(rt: &R, alloc: Global, book: Book<O>) -> Result<(Unit<O>, Worker<O>), O>
         requires kept { IsKept O.told O.trace O.faults book }
         requires first { book.log ≡ [] }
-        ensures made { IfOk result (λ made. Begins O.trace O.faults O.put_faults book made.0.counters made.0.plan made.1) }
+        ensures made { IfOk result (λ made. Begins O.trace O.faults O.put_faults book made.0.counters made.0.plan
+            made.1) }
         ensures refused { IfErr result (λ site. site ≡ book.site) }
     {
         let plan = match book.plan().copy() {
@@ -76,15 +79,16 @@ impl<O: Site> Unit<O> {
         Ok((unit, worker))
     }
 
-    /// Opens the image of a site, and makes the words of its keys: each word `next` and `limit` begins at its key's mark.
-    /// Answers the unit and its first worker, which has all shares. The refusals are those of [`Book::open`]; where memory
-    /// for the words is wanting, the site is as the opening left it.
+    /// Opens the image of a site, and makes the words of its keys: each word `next` and `limit` begins at its key's
+    /// mark. Answers the unit and its first worker, which has all shares. The refusals are those of [`Book::open`];
+    /// where memory for the words is wanting, the site is as the opening left it.
     pub fn open<R: Wait>(
         rt: &R,
         alloc: Global,
         site: O,
     ) -> Result<(Unit<O>, Worker<O>), (OpenFault, O)>
-        ensures opened { IfOk result (λ made. (book : BookView O) × BookIsOpened O.told O.trace O.faults O.put_faults site book
+        ensures opened { IfOk result (λ made. (book : BookView O)
+            × BookIsOpened O.told O.trace O.faults O.put_faults site book
             × Begins O.trace O.faults O.put_faults book made.0.counters made.0.plan made.1) }
 
         // Only an image that shows no state is refused as one, and nothing is written then.
@@ -93,7 +97,8 @@ impl<O: Site> Unit<O> {
             × OnlySyncs (O.trace site) (O.trace refused.1)) refused.0) }
 
         // A crash at any moment leaves what one before may have left, or the image but for its closed gates.
-        ensures any_moment { IfErr result (λ refused. IsTrue O.told → EachMoment (O.trace site) (O.trace refused.1) (Opening (O.trace site))) }
+        ensures any_moment { IfErr result (λ refused. IsTrue O.told
+            → EachMoment (O.trace site) (O.trace refused.1) (Opening (O.trace site))) }
         ensures later { IfErr result (λ refused. O.faults site ≤ O.faults refused.1) }
         ensures puts { IfErr result (λ refused. O.put_faults refused.1 ≡ O.put_faults site) }
     {

@@ -66,9 +66,11 @@ impl<O: Site> Unit<O> {
         requires ready { IsReady self.now.counters self.now.plan worker.old }
         ensures ready { IsReady self.now.counters self.now.plan worker.new }
         ensures numbers { KeepsNumbers worker.old worker.new }
-        ensures permitted { (found : BookView O) × Visits O.told O.trace O.faults O.put_faults found found (view worker.old).turn (view worker.new).turn
+        ensures permitted { (found : BookView O) × Visits O.told O.trace O.faults O.put_faults found found
+            (view worker.old).turn (view worker.new).turn
             × Permits link clear.now result found }
-        ensures trusted { IfPermit result (λ permit. IsTrueFor permit (view worker.new).turn × IsOfPermit self.now.plan permit clear.now) }
+        ensures trusted { IfPermit result (λ permit. IsTrueFor permit (view worker.new).turn
+            × IsOfPermit self.now.plan permit clear.now) }
     {
         let held = self.counters.take(rt, worker);
         let reply = permit_in(&self.plan, &held.book, link, clear);

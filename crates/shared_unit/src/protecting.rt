@@ -7,7 +7,8 @@ ghost use Rattle.counter_table.specs.Worker.{view, IsSame};
 ghost use Rattle.shared_unit.specs.declared.permit.Permit.{Permit};
 ghost use Rattle.shared_unit.specs.declared.permit.Done.{Done};
 ghost use Rattle.shared_unit.specs.Permit.{IsOfPermit, IsTrueFor};
-ghost use Rattle.shared_unit.specs.Protecting.{CoversIfTaken, FindsEpoch, IfEpoch, IsByKept, IsEpochOf, IsKeptStep, IsProtectStep, IsTrueIfKept, TakesAtMostOnce, TakesByTicket};
+ghost use Rattle.shared_unit.specs.Protecting.{CoversIfTaken, FindsEpoch, IfEpoch, IsByKept, IsEpochOf, IsKeptStep};
+ghost use Rattle.shared_unit.specs.Protecting.{IsProtectStep, IsTrueIfKept, TakesAtMostOnce, TakesByTicket};
 ghost use Rattle.shared_unit.specs.Turn.{FindsCovered, IsReady};
 
 use crate::permit::{Permit, PermitReply, Protected, Ready};
@@ -33,10 +34,12 @@ impl<O: Site> Unit<O> {
         requires room { length out.old ≡ FRAME_ROOM }
         ensures ready { IsReady self.now.counters self.now.plan worker.new }
         ensures same { IsSame worker.old worker.new }
-        ensures turn { TakesAtMostOnce O.told O.trace O.faults O.put_faults (view worker.old).turn (view worker.new).turn }
+        ensures turn { TakesAtMostOnce O.told O.trace O.faults O.put_faults (view worker.old).turn
+            (view worker.new).turn }
         ensures covered { CoversIfTaken O.told O.trace O.faults O.put_faults (view worker.old) (view worker.new) }
         ensures epoch { IfSome result (λ answer. IfEpoch answer (λ epoch. (view worker.new).turn.epoch ≡ epoch)) }
-        ensures step { IsKeptStep O.told O.trace O.faults O.put_faults permit.now clear.now out.new result (view worker.old) (view worker.new) }
+        ensures step { IsKeptStep O.told O.trace O.faults O.put_faults permit.now clear.now out.new result
+            (view worker.old) (view worker.new) }
     {
         match self.protect_ready(worker, permit, clear, out) {
             Ready::Done(done) => Some(Protected::Done(done)),
@@ -76,10 +79,12 @@ impl<O: Site> Unit<O> {
         requires room { length out.old ≡ FRAME_ROOM }
         ensures ready { IsReady self.now.counters self.now.plan worker.new }
         ensures same { IsSame worker.old worker.new }
-        ensures turn { TakesAtMostOnce O.told O.trace O.faults O.put_faults (view worker.old).turn (view worker.new).turn }
+        ensures turn { TakesAtMostOnce O.told O.trace O.faults O.put_faults (view worker.old).turn
+            (view worker.new).turn }
         ensures covered { CoversIfTaken O.told O.trace O.faults O.put_faults (view worker.old) (view worker.new) }
         ensures epoch { IfSome result (λ answer. IfEpoch answer (λ epoch. (view worker.new).turn.epoch ≡ epoch)) }
-        ensures step { IsByKept O.told O.trace O.faults O.put_faults self.now.plan kept.now link clear.now out.new result (view worker.old) (view worker.new) }
+        ensures step { IsByKept O.told O.trace O.faults O.put_faults self.now.plan kept.now link clear.now out.new
+            result (view worker.old) (view worker.new) }
     {
         let Some(permit) = kept else {
             return None;
@@ -109,11 +114,14 @@ impl<O: Site> Unit<O> {
         requires room { length out.old ≡ FRAME_ROOM }
         ensures ready { IsReady self.now.counters self.now.plan worker.new }
         ensures same { IsSame worker.old worker.new }
-        ensures turn { TakesAtMostOnce O.told O.trace O.faults O.put_faults (view worker.old).turn (view worker.new).turn }
+        ensures turn { TakesAtMostOnce O.told O.trace O.faults O.put_faults (view worker.old).turn
+            (view worker.new).turn }
         ensures covered { FindsCovered O.told O.trace O.faults O.put_faults (view worker.old) (view worker.new) }
         ensures kept { IsTrueIfKept kept.new (view worker.new).turn }
-        ensures step { IsProtectStep O.told O.trace O.faults O.put_faults self.now.plan link clear.now out.new kept.new result (view worker.old) (view worker.new) }
-        ensures epochs { IfEpoch result (FindsEpoch O.told O.trace O.faults O.put_faults (view worker.old).turn (view worker.new).turn) }
+        ensures step { IsProtectStep O.told O.trace O.faults O.put_faults self.now.plan link clear.now out.new kept.new
+            result (view worker.old) (view worker.new) }
+        ensures epochs { IfEpoch result (FindsEpoch O.told O.trace O.faults O.put_faults (view worker.old).turn
+            (view worker.new).turn) }
         ensures later { (d : Done) → result ≡ Protected.Done d → epoch_seen (view worker.old).turn ≤ d.epoch }
         ensures epoch { (view worker.new).turn.epoch ≡ (view worker.old).turn.epoch }
     {
@@ -151,19 +159,26 @@ impl<O: Site> Unit<O> {
         ensures ready { IsReady self.now.counters self.now.plan worker.new }
         ensures same { IsSame worker.old worker.new }
         ensures shares { (view worker.new).numbers.shares ≡ (view worker.old).numbers.shares }
-        ensures turn { TakesAtMostOnce O.told O.trace O.faults O.put_faults (view worker.old).turn (view worker.new).turn }
+        ensures turn { TakesAtMostOnce O.told O.trace O.faults O.put_faults (view worker.old).turn
+            (view worker.new).turn }
         ensures kept { IsTrueIfKept kept.new (view worker.new).turn }
-        ensures step { IsProtectStep O.told O.trace O.faults O.put_faults self.now.plan link clear.now out.new kept.new result (view worker.old) (view worker.new) }
+        ensures step { IsProtectStep O.told O.trace O.faults O.put_faults self.now.plan link clear.now out.new kept.new
+            result (view worker.old) (view worker.new) }
 
-        // No number was spent by the worker that is not below its row's mark in the book that the call found, if it took the turn.
+        // No number was spent by the worker that is not below its row's mark in the book that the call found, if it
+        // took the turn.
         ensures covered { CoversIfTaken O.told O.trace O.faults O.put_faults (view worker.old) (view worker.new) }
 
-        // The epoch beside an answer is the one loaded last, or that of the book held; where the plan is enough there is none.
+        // The epoch beside an answer is the one loaded last, or that of the book held; where the plan is enough there
+        // is none.
         ensures epochs { (channel : ℕ) → channel_check self.now.plan link clear.now ≡ Ok (Some channel)
-            → IfEpoch result (IsEpochOf O.told O.trace O.faults O.put_faults (view worker.old).turn (view worker.new).turn) }
+            → IfEpoch result (IsEpochOf O.told O.trace O.faults O.put_faults (view worker.old).turn
+            (view worker.new).turn) }
 
-        // With the kept permit, where its epoch was the one loaded last, the turn is taken for a ticket that came back alone.
-        ensures turns { (p : Permit) (d : Done) → kept.old ≡ Some p → p.link ≡ link → IsOfPermit self.now.plan p clear.now
+        // With the kept permit, where its epoch was the one loaded last, the turn is taken for a ticket that came back
+        // alone.
+        ensures turns { (p : Permit) (d : Done) → kept.old ≡ Some p → p.link ≡ link
+            → IsOfPermit self.now.plan p clear.now
             → result ≡ Protected.Done d → d.epoch ≡ p.epoch → TakesByTicket (view worker.old) (view worker.new) }
         ensures turns_kept { (p : Permit) → kept.old ≡ Some p → p.link ≡ link → IsOfPermit self.now.plan p clear.now
             → (view worker.new).turn.epoch ≤ p.epoch → TakesByTicket (view worker.old) (view worker.new) }

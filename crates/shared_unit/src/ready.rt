@@ -40,8 +40,8 @@ impl<O: Site> Unit<O> {
         }
     }
 
-    /// Protects a frame under a permit, by steps on words alone: asks whether the clear frame has its layout, loads the epoch,
-    /// draws a number and looks at the limit. Takes neither memory nor the turn.
+    /// Protects a frame under a permit, by steps on words alone: asks whether the clear frame has its layout, loads the
+    /// epoch, draws a number and looks at the limit. Takes neither memory nor the turn.
     pub fn protect_ready(
         &self,
         worker: &mut Worker<O>,

@@ -23,8 +23,16 @@ impl<O: Site> Unit<O> {
         ensures ready { IsReady self.now.counters self.now.plan worker.new }
         ensures new { IsReady self.now.counters self.now.plan result }
         ensures same { IsSame worker.old worker.new }
-        ensures keeper { view worker.new ≡ record { numbers = keeper (view worker.old).numbers; turn = (view worker.old).turn } }
-        ensures newcomer { view result ≡ record { numbers = newcomer (view worker.old).numbers; turn = beginner (view worker.old).turn } }
+        ensures keeper { view worker.new ≡ record {
+          numbers = keeper (view worker.old).numbers;
+          turn =
+              (view worker.old).turn;
+        } }
+        ensures newcomer { view result ≡ record {
+          numbers = newcomer (view worker.old).numbers;
+          turn = beginner
+              (view worker.old).turn;
+        } }
     {
         self.counters.split(worker)
     }
@@ -51,13 +59,14 @@ impl<O: Site> Unit<O> {
         self.counters.join(worker, other);
     }
 
-    /// Ends the unit, and gives the book and each row's word `next`, in the order of loading. All workers but this one were
-    /// joined.
+    /// Ends the unit, and gives the book and each row's word `next`, in the order of loading. All workers but this one
+    /// were joined.
     pub fn close(self, worker: Worker<O>) -> (Book<O>, Vec<u64>)
         requires ready { IsReady self.counters self.plan worker }
         requires all { (view worker).numbers.shares ≡ ALL_SHARES }
         ensures kept { IsKept O.told O.trace O.faults result.0 }
-        ensures closes { ClosesCounters MOST_KEYS (view worker) (known_of_book O.trace O.faults O.put_faults result.0) result.1.items }
+        ensures closes { ClosesCounters MOST_KEYS (view worker) (known_of_book O.trace O.faults O.put_faults result.0)
+            result.1.items }
     {
         let counters = self.into_counters();
         let (shelf, nexts) = counters.close(worker);

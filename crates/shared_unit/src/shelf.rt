@@ -130,7 +130,8 @@ impl<O: Site> Shelf<O> {
         ensures was_kept { IsKept O.told O.trace O.faults self.old }
         ensures kept { IsKept O.told O.trace O.faults self.new }
         ensures made { MatchResult result
-            (λ answer. OpensWithEntry O.faults index link frame.old (field_in answer.0 frame.new) self.old self.new answer.0 answer.1
+            (λ answer. OpensWithEntry O.faults index link frame.old (field_in answer.0 frame.new) self.old self.new
+            answer.0 answer.1
             × LeavesOctets answer.0 frame.old frame.new)
             (RefusesFrame O.faults index link frame.old self.old self.new) }
         ensures goes_on { GoesUp O.faults O.put_faults self.old self.new }

@@ -31,7 +31,8 @@ impl<O: Site> Unit<O> {
         requires own { IsOf self.now.counters worker.old }
         requires turn { (view worker.old).turn.holds ≡ true }
         requires filled { (view worker.old).turn.filled ≡ true }
-        requires marks { LowersNoMark (view worker.old).turn.known (known_of_book O.trace O.faults O.put_faults held.old.book) }
+        requires marks { LowersNoMark (view worker.old).turn.known
+            (known_of_book O.trace O.faults O.put_faults held.old.book) }
         requires place { place_of held.old.book.state.keys permit.now.binding.key ≡ Some permit.now.row }
         requires row { permit.now.row < MOST_KEYS }
         requires binding { IsBinding permit.now.binding }
@@ -40,7 +41,8 @@ impl<O: Site> Unit<O> {
         ensures same { IsSame worker.old worker.new }
         ensures kept { IsKept O.told O.trace O.faults held.new.book }
         ensures goes_on { GoesUp O.faults O.put_faults held.old.book held.new.book }
-        ensures step { IsFinished O.faults permit.now clear.now out.new result held.old.book held.new.book (view worker.old) (view worker.new) }
+        ensures step { IsFinished O.faults permit.now clear.now out.new result held.old.book held.new.book
+            (view worker.old) (view worker.new) }
     {
         let key = permit.binding.key;
         if let Err(fault) = fits(&permit.binding, clear) {

@@ -36,8 +36,8 @@ impl<O: Site> Unit<O> {
         counters
     }
 
-    /// The channel of a frame in clear that is to be protected, or the first check that fails of those for which the plan is
-    /// enough. `None` is a frame that is sent as it stands. Takes neither memory nor the turn.
+    /// The channel of a frame in clear that is to be protected, or the first check that fails of those for which the
+    /// plan is enough. `None` is a frame that is sent as it stands. Takes neither memory nor the turn.
     pub fn channel(&self, link: u8, clear: &[u8]) -> Result<Option<ChannelId>, ShieldFault>
         ensures { result ≡ channel_check self.now.plan link clear.now }
     {

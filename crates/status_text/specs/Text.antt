@@ -12,13 +12,16 @@ unfoldable pub slots_line : ℕ → ℕ → List ℕ
 slots_line used slots = codes "slots " ++ decimal used ++ codes " of " ++ decimal slots ++ codes "\n"
 
 unfoldable pub key_line : KeyRow → List ℕ
-key_line row = codes "key " ++ decimal row.id ++ codes " " ++ key_state_word row.state ++ codes " mark " ++ decimal row.mark
+key_line row = codes "key " ++ decimal row.id ++ codes " " ++ key_state_word row.state ++ codes " mark "
+    ++ decimal row.mark
     ++ codes " floor " ++ decimal row.floor ++ codes "\n"
 
 -- an association without a key has key 0
 unfoldable pub association_line : SaRow → List ℕ
-association_line row = codes "sa " ++ decimal row.spi ++ codes " " ++ direction_word row.direction ++ codes " " ++ suite_word row.suite
-    ++ codes " " ++ sa_state_word row.state ++ codes " key " ++ decimal (unwrap_or row.key 0) ++ codes " window " ++ decimal row.window.width
+association_line row = codes "sa " ++ decimal row.spi ++ codes " " ++ direction_word row.direction ++ codes " "
+    ++ suite_word row.suite
+    ++ codes " " ++ sa_state_word row.state ++ codes " key " ++ decimal (unwrap_or row.key 0) ++ codes " window "
+    ++ decimal row.window.width
     ++ codes "\n"
 
 -- a line for each key whose identifier is one of so many from the first on, ascending

@@ -45,8 +45,8 @@ fn put_associations(text: &mut Vec<u8>, rows: &[SaRow]) -> Result<(), NoMemory>
     Ok(())
 }
 
-/// The text of a state: `slots U of S`, then a line for each key, ascending by identifier, then one for each association,
-/// ascending by SPI. Each line ends with a line feed.
+/// The text of a state: `slots U of S`, then a line for each key, ascending by identifier, then one for each
+/// association, ascending by SPI. Each line ends with a line feed.
 pub fn status_text(alloc: Global, state: &State, used: u32, slots: u32) -> Result<Vec<u8>, NoMemory>
     ensures { IfOk result (λ text. text.items ≡ status_text state.now used slots) }
 {

@@ -1,4 +1,5 @@
-ghost use Rattle.std.specs.Prelude.{◌≡◌, ◌+◌, ◌≤◌, ◌<◌, ◌++◌, Bool, length, take, if◌then◌else◌, Some, None, IfOk, IsOkAnd, MatchResult, slice_index};
+ghost use Rattle.std.specs.Prelude.{◌≡◌, ◌+◌, ◌≤◌, ◌<◌, ◌++◌, Bool, length, take, if◌then◌else◌, Some, None, IfOk};
+ghost use Rattle.std.specs.Prelude.{IsOkAnd, MatchResult, slice_index};
 ghost use Rattle.sdls_base.specs.ErrorControl.{with_error_control};
 ghost use Rattle.tc_frame.specs.TcFrame.{TcParts, TcFrame, has_segment, view, prefix_of};
 ghost use Rattle.tc_frame.specs.FirstFault.{first_fault, control_of, segment_length, least};
@@ -31,7 +32,8 @@ fn least_length(frame: &[u8], layout: &TcLayout) -> usize
     if layout.fecf { header + 2 } else { header }
 }
 
-/// The first check of a frame of the layout that fails: `Short`, `Long`, `LengthField`, `Version`, `Spare`, `Fecf`. None where the octets are such a frame.
+/// The first check of a frame of the layout that fails: `Short`, `Long`, `LengthField`, `Version`, `Spare`, `Fecf`.
+/// None where the octets are such a frame.
 pub fn fault_of(frame: &[u8], layout: &TcLayout) -> Option<FrameFault>
     ensures { result ≡ first_fault layout.now frame.now }
 {

@@ -2,7 +2,8 @@
 use Rattle.std.specs.Prelude.{ℕ}
 use Rattle.record_io.specs.declared.status.TheConstants as statuses
 use Rattle.text_streams.specs.declared.ends.End.{End}
-use Rattle.text_streams.specs.declared.ends.End.TheVariants.{Done, LineFault, LongLine, CutAnswer, NoAnswer, NoItem, SourceFault, OutputFault, NoMemory}
+use Rattle.text_streams.specs.declared.ends.End.TheVariants.{Done, LineFault, LongLine, CutAnswer, NoAnswer, NoItem}
+use Rattle.text_streams.specs.declared.ends.End.TheVariants.{SourceFault, OutputFault, NoMemory}
 
 -- what is at fault in the text, the items or the answers has one status
 abbrev pub end_status : End → ℕ

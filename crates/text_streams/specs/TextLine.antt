@@ -7,7 +7,8 @@ use Rattle.input_text.specs.declared.line.Line.{Line}
 use Rattle.input_text.specs.Line.{Says, is_skipped, line_item}
 use Rattle.item_text.specs.Spelling.{SayItems}
 use Rattle.text_streams.specs.declared.ends.End.{End}
-use Rattle.text_streams.specs.declared.ends.End.TheVariants.{Done, LineFault, LongLine, CutAnswer, NoAnswer, NoItem, SourceFault, OutputFault, NoMemory}
+use Rattle.text_streams.specs.declared.ends.End.TheVariants.{Done, LineFault, LongLine, CutAnswer, NoAnswer, NoItem}
+use Rattle.text_streams.specs.declared.ends.End.TheVariants.{SourceFault, OutputFault, NoMemory}
 use Rattle.text_streams.specs.declared.lines.NextLine.{NextLine}
 use Rattle.text_streams.specs.declared.lines.NextLine.TheVariants as next
 use Rattle.text_streams.specs.declared.lines.TheConstants.{MOST_LINE}
@@ -36,7 +37,8 @@ TakesLine left left_new next.SourceFault = ⊤
 -- a line that is skipped adds nothing, and any other the octets of the item that it says
 abbrev pub Adds : List ℕ → List ℕ → List ℕ → Type 0
 Adds text old new =
-    (IsTrue (is_skipped text) × (new ≡ old)) ⊎ ((line : Line) × Says text line × (new ≡ old ++ item_octets (line_item line)))
+    (IsTrue (is_skipped text) × (new ≡ old)) ⊎ ((line : Line) × Says text line
+    × (new ≡ old ++ item_octets (line_item line)))
 
 -- the first line was taken, and added
 pub record AddsNext (left left_new old new : List ℕ) : Type 0 where
@@ -148,7 +150,8 @@ PutsRest end result old out new = ((result ≡ end) × (new ≡ old ++ out) × (
     ⊎ ((result ≡ OutputFault) × (end ≡ OutputFault) × (new ≡ old)))
 
 -- The octets that were put are the beginning and those of the items that the lines say, up to the end of the text, or
--- to the first line that says nothing or is too long, which is told by its number; nothing of it or of a later one is put.
+-- to the first line that says nothing or is too long, which is told by its number; nothing of it or of a later one is
+-- put.
 pub record PutsRecords (left old new : List ℕ) (end : End) : Type 0 where
   pub left_new : List ℕ
   pub count : ℕ

@@ -24,7 +24,8 @@ fn list<S: Source, O: Site>(alloc: Global, source: &mut S, sink: &mut O, out: &m
     End::Done
 }
 
-/// Puts the lines of the answers of the source. Where an answer is cut, or octets are none, the lines before it are put.
+/// Puts the lines of the answers of the source. Where an answer is cut, or octets are none, the lines before it are
+/// put.
 pub fn put_answers<S: Source, O: Site>(alloc: Global, source: &mut S, sink: &mut O) -> End {
     let mut out = Vec::new(alloc);
     let end = list(alloc, source, sink, &mut out);

@@ -1,5 +1,5 @@
-//! Recorded input and answers as text, from a source to a sink (profile). Each call streams: what is read ahead and what is
-//! not yet put is bounded, whatever the length of the input.
+//! Recorded input and answers as text, from a source to a sink (profile). Each call streams: what is read ahead and
+//! what is not yet put is bounded, whatever the length of the input.
 //!
 //! [`put_records`] puts the recorded input that lines of text say, [`put_lines`] the lines of recorded input, and
 //! [`put_answers`] the lines of answers. Each says by its [`End`] why the input was read no further.

@@ -12,7 +12,8 @@ const PIECE: usize = 4096;
 
 /// Puts octets. After `Failed` a front of them was put.
 pub fn put_octets<O: Site>(sink: &mut O, octets: &[u8]) -> Result<(), Failed>
-    ensures put { IsTrue O.told → OnOk result ((O.trace sink.new).now.sunk ≡ (O.trace sink.old).now.sunk ++ octets.now) }
+    ensures put { IsTrue O.told → OnOk result ((O.trace sink.new).now.sunk ≡ (O.trace sink.old).now.sunk
+        ++ octets.now) }
     ensures front { IsTrue O.told → OnErr result (Between (O.trace sink.old).now.sunk
         ((O.trace sink.old).now.sunk ++ octets.now) (O.trace sink.new).now.sunk) }
     ensures cause { HasCause (O.faults sink.old) (O.faults sink.new) result }
@@ -22,7 +23,8 @@ pub fn put_octets<O: Site>(sink: &mut O, octets: &[u8]) -> Result<(), Failed>
 
 /// Puts what stands in the buffer, which is empty then. After `Failed` a front of it was put.
 fn put<O: Site>(sink: &mut O, out: &mut Vec<u8>) -> Result<(), Failed>
-    ensures put { IsTrue O.told → OnOk result ((O.trace sink.new).now.sunk ≡ (O.trace sink.old).now.sunk ++ out.old.items) }
+    ensures put { IsTrue O.told → OnOk result ((O.trace sink.new).now.sunk ≡ (O.trace sink.old).now.sunk
+        ++ out.old.items) }
     ensures empty { OnOk result (out.new.items ≡ []) }
     ensures front { IsTrue O.told → OnErr result (Between (O.trace sink.old).now.sunk
         ((O.trace sink.old).now.sunk ++ out.old.items) (O.trace sink.new).now.sunk) }
@@ -37,7 +39,8 @@ fn put<O: Site>(sink: &mut O, out: &mut Vec<u8>) -> Result<(), Failed>
 pub fn put_full<O: Site>(sink: &mut O, out: &mut Vec<u8>) -> Result<(), Failed>
     ensures put { IsTrue O.told → OnOk result
         ((O.trace sink.new).now.sunk ++ out.new.items ≡ (O.trace sink.old).now.sunk ++ out.old.items) }
-    ensures least { IsTrue O.told → OnOk result (length (O.trace sink.old).now.sunk ≤ length (O.trace sink.new).now.sunk) }
+    ensures least { IsTrue O.told → OnOk result (length (O.trace sink.old).now.sunk
+        ≤ length (O.trace sink.new).now.sunk) }
     ensures front { IsTrue O.told → OnErr result (Between (O.trace sink.old).now.sunk
         ((O.trace sink.old).now.sunk ++ out.old.items) (O.trace sink.new).now.sunk) }
     ensures cause { HasCause (O.faults sink.old) (O.faults sink.new) result }
@@ -50,7 +53,8 @@ pub fn put_full<O: Site>(sink: &mut O, out: &mut Vec<u8>) -> Result<(), Failed>
 
 /// Puts what is left in the buffer, unless the output has failed, and answers how the run ends.
 pub fn put_rest<O: Site>(sink: &mut O, mut out: Vec<u8>, end: End) -> End
-    ensures put { IsTrue O.told → PutsRest end result (O.trace sink.old).now.sunk out.items (O.trace sink.new).now.sunk }
+    ensures put { IsTrue O.told → PutsRest end result (O.trace sink.old).now.sunk out.items
+        (O.trace sink.new).now.sunk }
     ensures cause { (result ≡ end) ⊎ ((result ≡ End.OutputFault) × Rose (O.faults sink.old) (O.faults sink.new)) }
     ensures later { O.faults sink.old ≤ O.faults sink.new }
 {

@@ -75,7 +75,8 @@ fn read_lines<S: Source, O: Site>(
 ) -> End
     ensures reads { IsTrue S.told → IsTrue O.told → ReadsLines (S.left source.old)
         (O.trace sink.old).now.sunk out.old.items (O.trace sink.new).now.sunk out.new.items result }
-    ensures fault { IsFaultCause (Rose (S.faults source.old) (S.faults source.new)) (Rose (O.faults sink.old) (O.faults sink.new)) result }
+    ensures fault { IsFaultCause (Rose (S.faults source.old) (S.faults source.new))
+        (Rose (O.faults sink.old) (O.faults sink.new)) result }
     ensures later { O.faults sink.old ≤ O.faults sink.new }
 {
     'lines: for number in 1..u64::MAX {
@@ -94,7 +95,8 @@ fn read_lines<S: Source, O: Site>(
 pub fn put_records<S: Source, O: Site>(alloc: Global, source: &mut S, sink: &mut O) -> End
     ensures put { IsTrue S.told → IsTrue O.told
         → PutsRecords (S.left source.old) (O.trace sink.old).now.sunk (O.trace sink.new).now.sunk result }
-    ensures fault { IsFaultCause (Rose (S.faults source.old) (S.faults source.new)) (Rose (O.faults sink.old) (O.faults sink.new)) result }
+    ensures fault { IsFaultCause (Rose (S.faults source.old) (S.faults source.new))
+        (Rose (O.faults sink.old) (O.faults sink.new)) result }
 {
     if let Err(Failed) = put_octets(sink, b"SDLSREC1") {
         return End::OutputFault;

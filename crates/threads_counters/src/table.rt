@@ -21,7 +21,15 @@ struct Tally {
 }
 
 impl Counted for Tally {
-    ghost told = { λ t. record { marks = t.mark ∷ []; log = []; changes = t.changes; faults = 0; standing = 0; put_faults = 0; opening = unopened } };
+    ghost told = { λ t. record {
+      marks = t.mark ∷ [];
+      log = [];
+      changes = t.changes;
+      faults = 0;
+      standing = 0;
+      put_faults = 0;
+      opening = unopened;
+    } };
 
     fn mark(&self, row: u16) -> u64 {
         match row {

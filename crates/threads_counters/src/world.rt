@@ -32,7 +32,8 @@ fn use_one(world: &mut World, key: KeyId) -> Option<()> {
     world.run(&steps).ok()
 }
 
-// A key whose mark is 1, and a block of 4: number 1 is drawn above the limit, and each that follows is used below the mark that was stored.
+// A key whose mark is 1, and a block of 4: number 1 is drawn above the limit, and each that follows is used below the
+// mark that was stored.
 fn four_numbers(alloc: Global, key: KeyId) -> Option<World> {
     let mut world = World::new(alloc, &[(key, 1)]).ok()?;
     world

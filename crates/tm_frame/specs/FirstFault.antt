@@ -1,5 +1,6 @@
 -- The checks of a TM transfer frame, in their order (profile; the layout is that of CCSDS 132.0-B-3).
-use Rattle.std.specs.Prelude.{ℕ, ◌+◌, ◌-◌, ◌*◌, ◌/◌, ◌%◌, ◌^◌, Bool, not, ◌&&◌, ◌||◌, ◌==◌, nat_lt, List, [], ◌∷◌, length, slice_index, Option}
+use Rattle.std.specs.Prelude.{ℕ, ◌+◌, ◌-◌, ◌*◌, ◌/◌, ◌%◌, ◌^◌, Bool, not, ◌&&◌, ◌||◌, ◌==◌, nat_lt, List, [], ◌∷◌}
+use Rattle.std.specs.Prelude.{length, slice_index, Option}
 use Rattle.sdls_base.specs.declared.layout.TmLayout.{TmLayout}
 use Rattle.sdls_base.specs.declared.layout.FrameFault.{FrameFault}
 use Rattle.sdls_base.specs.declared.layout.FrameFault.TheVariants.{Short, Long, Version, SecondaryHeader, Fecf}
@@ -24,7 +25,8 @@ status_of frame = slice_index frame 4 * 2 ^ 8 + slice_index frame 5
 abbrev pub data_length : TmLayout → List ℕ → ℕ
 data_length layout frame = length frame - error_control_length layout.fecf - ocf_length (ocf_flag frame) - 6
 
--- The secondary header, where its flag is set, has another version, or runs past those octets; one octet it has at least.
+-- The secondary header, where its flag is set, has another version, or runs past those octets; one octet it has at
+-- least.
 abbrev pub fails_secondary : TmLayout → List ℕ → Bool
 fails_secondary layout frame =
     has_secondary (status_of frame)

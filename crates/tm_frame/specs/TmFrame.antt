@@ -1,5 +1,6 @@
 -- TM Transfer Frame (CCSDS 132.0-B-3).
-use Rattle.std.specs.Prelude.{◌≡◌, ℕ, ◌-◌, ◌/◌, ◌^◌, ◌<◌, ◌≤◌, ◌==◌, Bool, true, false, List, [], ◌∷◌, ◌++◌, length, slice_index, Option, is_some, option_copied, unwrap_or}
+use Rattle.std.specs.Prelude.{◌≡◌, ℕ, ◌-◌, ◌/◌, ◌^◌, ◌<◌, ◌≤◌, ◌==◌, Bool, true, false, List, [], ◌∷◌, ◌++◌, length}
+use Rattle.std.specs.Prelude.{slice_index, Option, is_some, option_copied, unwrap_or}
 use Rattle.sdls_base.specs.declared.layout.TmLayout.{TmLayout}
 use Rattle.sdls_base.specs.ControlField.{IsControlField}
 use Rattle.sdls_base.specs.Fields.{Field, bit, packed}

@@ -1,4 +1,5 @@
-ghost use Rattle.std.specs.Prelude.{◌≡◌, ◌+◌, ◌-◌, ◌≤◌, ◌<◌, [], ◌++◌, length, take, Some, None, IfOk, IsOkAnd, MatchResult, unwrap_or};
+ghost use Rattle.std.specs.Prelude.{◌≡◌, ◌+◌, ◌-◌, ◌≤◌, ◌<◌, [], ◌++◌, length, take, Some, None, IfOk, IsOkAnd};
+ghost use Rattle.std.specs.Prelude.{MatchResult, unwrap_or};
 ghost use Rattle.sdls_base.specs.ControlField.{ocf_length};
 ghost use Rattle.sdls_base.specs.ErrorControl.{with_error_control, error_control_length};
 ghost use Rattle.tm_frame.specs.TmFrame.{TmParts, TmFrame, IsLayout, view, prefix_of};
@@ -37,7 +38,8 @@ fn secondary_fails(frame: &[u8], layout: &TmLayout) -> bool
         && (first >> 6 != 0 || octets_of_data(frame, layout) < usize::from(first & 0x3F) + 1)
 }
 
-/// The first check of a frame of the layout that fails: `Short`, `Long`, `Version`, `SecondaryHeader`, `Fecf`. None where the octets are such a frame.
+/// The first check of a frame of the layout that fails: `Short`, `Long`, `Version`, `SecondaryHeader`, `Fecf`. None
+/// where the octets are such a frame.
 pub fn fault_of(frame: &[u8], layout: &TmLayout) -> Option<FrameFault>
     requires { IsLayout layout.now }
     ensures { result ≡ first_fault layout.now frame.now }

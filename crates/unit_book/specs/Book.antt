@@ -1,5 +1,6 @@
 -- What a book is seen as, and what holds of it between its calls.
-use Rattle.std.specs.Prelude.{◌≡◌, ℕ, ◌+◌, ◌<◌, ◌≤◌, ◌⊎◌, min, Bool, IsTrue, if◌then◌else◌, List, [], ◌∷◌, ◌++◌, length, take}
+use Rattle.std.specs.Prelude.{◌≡◌, ℕ, ◌+◌, ◌<◌, ◌≤◌, ◌⊎◌, min, Bool, IsTrue, if◌then◌else◌, List, [], ◌∷◌, ◌++◌, length}
+use Rattle.std.specs.Prelude.{take}
 use Rattle.sdls_base.specs.declared.change.Change.{Change}
 use Rattle.sdls_base.specs.declared.entry.Entry.{Entry}
 use Rattle.sdls_base.specs.declared.entry.Logged.{Logged}
@@ -27,8 +28,8 @@ use Rattle.law_history.specs.Stored.{IsStored, stored_count}
 use Rattle.unit_book.specs.Marks.{HasNoRelease, KeepsMarks}
 
 -- The site, and what it was when `open` returned; the image as it was read, its plan, and the state that it showed; the
--- state now; the journal; the log; how many entries of the log stand: all, but for a last one whose append failed; how many
--- of those count for the epoch.
+-- state now; the journal; the log; how many entries of the log stand: all, but for a last one whose append failed; how
+-- many of those count for the epoch.
 pub record BookView (O : Type 0) : Type 0 where
   pub site : O
   pub opened : O
@@ -56,8 +57,8 @@ pub record ShowsAfter (start : State) (entries : List Entry) (p : ℕ) (image : 
 abbrev pub ShowsFrom : State → List Entry → ℕ → List ℕ → Type 0
 ShowsFrom start entries least image = (p : ℕ) × (least ≤ p) × ShowsAfter start entries p image
 
--- A moment while the book serves: a place of the log, or its end. The octets sunk are those of the pieces before the place,
--- and a front of the piece at it. The image shows the state after at least the entries before it that stand.
+-- A moment while the book serves: a place of the log, or its end. The octets sunk are those of the pieces before the
+-- place, and a front of the piece at it. The image shows the state after at least the entries before it that stand.
 pub record Serves (start : State) (log : List Logged) (standing : ℕ) (before image sunk : List ℕ) : Type 0 where
   pub place : ℕ
   pub within : place ≤ length log
@@ -75,8 +76,10 @@ pub record IsCurrent (now : Trace) (start : State) (journal : JournalView) (entr
   pub settled : IsSettled now journal
   pub shows : Shows now.now.image (restarted (after start entries))
 
--- The slots are those of the image that was read, and used are one for each of its records and for each entry that takes one.
-pub record CountsUsedSlots (image : List ℕ) (start : State) (journal : JournalView) (entries : List Entry) : Type 0 where
+-- The slots are those of the image that was read, and used are one for each of its records and for each entry that
+-- takes one.
+pub record CountsUsedSlots (image : List ℕ) (start : State) (journal : JournalView)
+    (entries : List Entry) : Type 0 where
   pub slots : journal.slots ≡ slot_count image
   pub used : journal.used ≡ length (records image) + stored_count start entries
 
@@ -118,10 +121,12 @@ left_out entry book = record book { log = book.log ++ logged.Entry entry ∷ [] 
 abbrev pub with_put : {O : Type 0} → List ℕ → BookView O → BookView O
 with_put piece book = record book { log = book.log ++ logged.Piece piece ∷ [] }
 
--- Why a call is refused before it is looked at: the site failed since the opening, or the run has as many entries as it may.
+-- Why a call is refused before it is looked at: the site failed since the opening, or the run has as many entries as it
+-- may.
 abbrev pub IsBarred : {O : Type 0} → (O → ℕ) → BookView O → BookFault → Type 0
 IsBarred faults book (Stopped count) = Rose (faults book.opened) (faults book.site) × (count ≡ faults book.site)
-IsBarred faults book SessionFull = ¬ Rose (faults book.opened) (faults book.site) × (length (entries_of book.log) ≡ MOST_ENTRIES)
+IsBarred faults book SessionFull = ¬ Rose (faults book.opened) (faults book.site)
+    × (length (entries_of book.log) ≡ MOST_ENTRIES)
 IsBarred faults book (SiteFault count) = ⊥
 IsBarred faults book (JournalFull slots) = ⊥
 IsBarred faults book NoMemory = ⊥
@@ -129,10 +134,12 @@ IsBarred faults book NoMemory = ⊥
 -- Why an entry that may be made is not, and what that leaves. After a fault of the site it is the last of the run.
 abbrev pub IsUnstored : {O : Type 0} → (O → ℕ) → Entry → BookView O → BookView O → BookFault → Type 0
 IsUnstored faults entry old new (SiteFault count) =
-    IsTrue (IsStored old.state entry) × (old.journal.used < old.journal.slots) × Rose (faults old.site) (faults new.site)
+    IsTrue (IsStored old.state entry) × (old.journal.used < old.journal.slots)
+    × Rose (faults old.site) (faults new.site)
     × (count ≡ faults new.site) × (new ≡ left_out entry (record old { site = new.site }))
 IsUnstored faults entry old new (JournalFull slots) =
-    IsTrue (IsStored old.state entry) × (old.journal.used ≡ old.journal.slots) × (slots ≡ old.journal.slots) × (new ≡ old)
+    IsTrue (IsStored old.state entry) × (old.journal.used ≡ old.journal.slots) × (slots ≡ old.journal.slots)
+    × (new ≡ old)
 IsUnstored faults entry old new (Stopped count) = ⊥
 IsUnstored faults entry old new SessionFull = ⊥
 IsUnstored faults entry old new NoMemory = ⊥
@@ -160,7 +167,8 @@ PutFails before now SessionFull = ⊥
 PutFails before now (JournalFull slots) = ⊥
 PutFails before now NoMemory = ⊥
 
--- Why a call that makes this entry is refused, in the order of the refusals. Barred or without a slot, the book is as it was.
+-- Why a call that makes this entry is refused, in the order of the refusals. Barred or without a slot, the book is as
+-- it was.
 abbrev pub Refuses : {O : Type 0} → (O → ℕ) → Entry → BookView O → BookView O → BookFault → Type 0
 Refuses faults entry old new fault =
     (IsBarred faults old fault × (new ≡ old)) ⊎ (CanEnter faults old × IsUnstored faults entry old new fault)

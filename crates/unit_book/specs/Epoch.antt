@@ -29,7 +29,8 @@ epoch_state book = at_epoch book.start (entries_of book.log) book.changes
 abbrev pub binding_on : PlanLines → State → Link → ℕ → Option Binding
 binding_on plan state line channel = option_and_then (binding_of plan state line) (sender_on state.associations channel)
 
--- In both states each frame is checked and bound alike, each key has its place, and each message needs the same to be seen.
+-- In both states each frame is checked and bound alike, each key has its place, and each message needs the same to be
+-- seen.
 pub record ServesAlike (plan : PlanLines) (one other : State) : Type 0 where
   pub checks : (link : ℕ) (clear : List ℕ) → protect_check plan one link clear ≡ protect_check plan other link clear
   pub bindings : (line : Link) (channel : ℕ) → binding_on plan one line channel ≡ binding_on plan other line channel

@@ -9,9 +9,9 @@ use Rattle.law_history.specs.Log.{entries_of}
 use Rattle.unit_book.specs.Marks.{HasNoRelease, KeepsMarks}
 use Rattle.unit_book.specs.Book.{BookView}
 
--- The opening stands: what was read, its plan and state, the site as it was then, and the slots. The log goes on by the lines
--- that the call added. Neither the count of faults nor that of changes falls; once the first had risen, no entry is added.
--- Keys keep their places, and their marks do not fall but by a release.
+-- The opening stands: what was read, its plan and state, the site as it was then, and the slots. The log goes on by the
+-- lines that the call added. Neither the count of faults nor that of changes falls; once the first had risen, no entry
+-- is added. Keys keep their places, and their marks do not fall but by a release.
 pub record GoesOn {O : Type 0} (faults : O → ℕ) (old new : BookView O) : Type 0 where
   pub opened : new.opened ≡ old.opened
   pub image : new.image ≡ old.image

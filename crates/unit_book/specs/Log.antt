@@ -12,4 +12,5 @@ sunk_between old new = drop (length old.now.sunk) new.now.sunk
 abbrev pub lines : {O : Type 0} → (O → Trace) → Log O → List Logged
 lines trace Begun = []
 lines trace (Entered' marker log entry) = lines trace log ++ logged.Entry entry.value ∷ []
-lines trace (Put' marker log before now) = lines trace log ++ logged.Piece (sunk_between (trace before.value) (trace now.value)) ∷ []
+lines trace (Put' marker log before now) = lines trace log
+    ++ logged.Piece (sunk_between (trace before.value) (trace now.value)) ∷ []

@@ -12,12 +12,14 @@ EnteredInTurn faults (entry ∷ entries) old new =
     (next : BookView _) × (position : ℕ) × Made faults entry old next position × EnteredInTurn faults entries next new
 
 -- how the releases end: all made, or one refused
-abbrev pub EndsReleases : {O : Type 0} → (O → ℕ) → List Entry → BookView O → BookView O → Result (Unit {0}) BookFault → Type 0
+abbrev pub EndsReleases : {O : Type 0} → (O → ℕ) → List Entry → BookView O → BookView O → Result (Unit {0}) BookFault
+    → Type 0
 EndsReleases faults [] mid new result = MatchResult result (λ _. new ≡ mid) (λ _. ⊥)
 EndsReleases faults (entry ∷ rest) mid new result = MatchResult result (λ _. ⊥) (Refuses faults entry mid new)
 
 -- The releases of all keys were made in loading order, up to the first that is refused.
-pub record Releases {O : Type 0} (faults : O → ℕ) (words : List ℕ) (old new : BookView O) (result : Result (Unit {0}) BookFault) : Type 0 where
+pub record Releases {O : Type 0} (faults : O → ℕ) (words : List ℕ) (old new : BookView O)
+    (result : Result (Unit {0}) BookFault) : Type 0 where
   pub made : List Entry
   pub rest : List Entry
   pub all : made ++ rest ≡ releases old.state 0 words

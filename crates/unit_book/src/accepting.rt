@@ -60,9 +60,9 @@ impl<O: Site> Book<O> {
         }
     }
 
-    /// Handles the record with this number, whose frame came on this link: makes the checks of opening in their order, and
-    /// where none fails, accepts the number and opens the frame in place (CCSDS 355.0-B-2, ProcessSecurity). Answers
-    /// the reply and its position. A floor that rises is stored before the answer. Takes no memory.
+    /// Handles the record with this number, whose frame came on this link: makes the checks of opening in their order,
+    /// and where none fails, accepts the number and opens the frame in place (CCSDS 355.0-B-2, ProcessSecurity).
+    /// Answers the reply and its position. A floor that rises is stored before the answer. Takes no memory.
     ///
     /// After an answer that is not `Accepted` the frame's octets may be any.
     pub fn accept(
@@ -74,7 +74,8 @@ impl<O: Site> Book<O> {
         requires kept { IsKept O.told O.trace O.faults self.old }
         ensures kept { IsKept O.told O.trace O.faults self.new }
         ensures made { MatchResult result
-            (λ answer. OpensWithEntry O.faults index link frame.old (field_in answer.0 frame.new) self.old self.new answer.0 answer.1
+            (λ answer. OpensWithEntry O.faults index link frame.old (field_in answer.0 frame.new) self.old self.new
+            answer.0 answer.1
             × LeavesOctets answer.0 frame.old frame.new)
             (RefusesFrame O.faults index link frame.old self.old self.new) }
         ensures goes_on { GoesOn O.faults self.old self.new }

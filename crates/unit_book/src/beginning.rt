@@ -22,7 +22,8 @@ impl<O: Site> Book<O> {
         requires rules { KeepsRules found.state }
         requires settled { IsTrue O.told → IsSettled (O.trace site) found.journal }
         requires shows { IsTrue O.told → Shows (O.trace site).now.image (restarted found.state) }
-        requires same { IsTrue O.told → SameJournal (O.trace taken.value).now.image (O.trace site).now.image found.journal }
+        requires same { IsTrue O.told → SameJournal (O.trace taken.value).now.image (O.trace site).now.image
+            found.journal }
         requires room { (entries.items ≡ []) × (MOST_ENTRIES ≤ vec_capacity entries) }
         ensures view { result ≡ begun site (O.trace taken.value).now.image found.plan found.state found.journal }
         ensures kept { IsKept O.told O.trace O.faults result }

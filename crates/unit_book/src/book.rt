@@ -1,5 +1,6 @@
 // The book.
-ghost use Rattle.std.specs.Prelude.{◌≡◌, ◌+◌, ◌<◌, ◌≤◌, ◌↔◌, IsTrue, MatchResult, IfErr, OnOk, Some, None, length, ◌∷◌, [], ◌++◌, false};
+ghost use Rattle.std.specs.Prelude.{◌≡◌, ◌+◌, ◌<◌, ◌≤◌, ◌↔◌, IsTrue, MatchResult, IfErr, OnOk, Some, None, length, ◌∷◌};
+ghost use Rattle.std.specs.Prelude.{[], ◌++◌, false};
 ghost use Rattle.sdls_base.specs.declared.change.Change.{Change};
 ghost use Rattle.sdls_outside.specs.Faults.{Rose};
 ghost use Rattle.sdls_outside.specs.Site.{Puts, after_put};
@@ -10,7 +11,8 @@ ghost use Rattle.unit_state.specs.Restart.{stored_as};
 ghost use Rattle.law_history.specs.Log.{entries_of};
 ghost use Rattle.unit_book.specs.Log.{sunk_between};
 ghost use Rattle.unit_book.specs.Marks.{is_release, KeepsMarks};
-ghost use Rattle.unit_book.specs.Book.{IsKept, CanEnter, IsBarred, IsUnstored, Enters, IsNextState, entered, left_out, with_put, PutFails};
+ghost use Rattle.unit_book.specs.Book.{IsKept, CanEnter, IsBarred, IsUnstored, Enters, IsNextState, entered, left_out};
+ghost use Rattle.unit_book.specs.Book.{with_put, PutFails};
 ghost use Rattle.unit_book.specs.GoesOn.{GoesOn, TellsRise};
 
 use crate::applying::{changes_of, put_next};
@@ -147,9 +149,11 @@ impl<O: Site> Book<O> {
         requires makes { IsNextState self.old.state entry.change next }
         requires marks { is_release entry ≡ false → KeepsMarks self.old.state (applied self.old.state entry.change) }
         requires free { self.old.journal.used < self.old.journal.slots }
-        requires stored { (stored : Change) × (stored_as self.old.state entry.change ≡ Some stored) × IsRecord stored body.now }
+        requires stored { (stored : Change) × (stored_as self.old.state entry.change ≡ Some stored)
+            × IsRecord stored body.now }
         ensures kept { IsKept O.told O.trace O.faults self.new }
-        ensures made { MatchResult result (Enters entry self.old self.new) (IsUnstored O.faults entry self.old self.new) }
+        ensures made { MatchResult result (Enters entry self.old self.new)
+            (IsUnstored O.faults entry self.old self.new) }
         ensures sunk { IsTrue O.told → (O.trace self.new.site).now.sunk ≡ (O.trace self.old.site).now.sunk }
         ensures puts { O.put_faults self.new.site ≡ O.put_faults self.old.site }
         ensures later { O.faults self.old.site ≤ O.faults self.new.site }
@@ -183,8 +187,8 @@ impl<O: Site> Book<O> {
         self.count()
     }
 
-    /// Makes an entry, and its change with it. Where something is stored for it, that is in every image that a crash may
-    /// leave before the answer.
+    /// Makes an entry, and its change with it. Where something is stored for it, that is in every image that a crash
+    /// may leave before the answer.
     pub(crate) fn commit(&mut self, entry: Entry, next: Next) -> Result<u64, BookFault>
         requires kept { IsKept O.told O.trace O.faults self.old }
         requires can { CanEnter O.faults self.old }
@@ -192,7 +196,8 @@ impl<O: Site> Book<O> {
         requires makes { IsNextState self.old.state entry.change next }
         requires marks { is_release entry ≡ false → KeepsMarks self.old.state (applied self.old.state entry.change) }
         ensures kept { IsKept O.told O.trace O.faults self.new }
-        ensures made { MatchResult result (Enters entry self.old self.new) (IsUnstored O.faults entry self.old self.new) }
+        ensures made { MatchResult result (Enters entry self.old self.new)
+            (IsUnstored O.faults entry self.old self.new) }
         ensures goes_on { GoesOn O.faults self.old self.new }
         ensures marks { is_release entry ≡ false → KeepsMarks self.old.state self.new.state }
         ensures risen { IfErr result (TellsRise O.faults self.new) }

@@ -83,8 +83,8 @@ impl<O: Site> Book<O> {
     /// Handles the record with this number, whose octets are a message of a command, with what was seen of a key's
     /// numbers (CCSDS 355.1-B-1). Answers the reply and its position. A refused command makes an entry too.
     ///
-    /// Memory is asked for before the first call on the site: the change is made on a copy of the state, which takes the
-    /// state's place once the change is stored.
+    /// Memory is asked for before the first call on the site: the change is made on a copy of the state, which takes
+    /// the state's place once the change is stored.
     pub fn command(&mut self, index: u64, pdu: &[u8], seen: Seen) -> Result<(Reply, u64), BookFault>
         requires kept { IsKept O.told O.trace O.faults self.old }
         requires seen { (need : Need) → IsNeedOf self.old.state pdu.now need → MeetsNeed self.old.state need seen }

@@ -25,18 +25,22 @@ pub fn states_serve_alike()
     ensures { (plan : PlanLines) (one other : State) → still one ≡ still other → ServesAlike plan one other }
 {}
 
-/// Law: a book's state and that of its epoch differ in marks, floors and highest numbers alone, so that they serve alike.
+/// Law: a book's state and that of its epoch differ in marks, floors and highest numbers alone, so that they serve
+/// alike.
 pub fn serves_at_epoch<O: Site>()
-    ensures still { (book : BookView O) → IsKept O.told O.trace O.faults book → still book.state ≡ still (epoch_state book) }
+    ensures still { (book : BookView O) → IsKept O.told O.trace O.faults book
+        → still book.state ≡ still (epoch_state book) }
     ensures served { (book : BookView O) → IsKept O.told O.trace O.faults book
         → ServesAlike book.plan book.state (epoch_state book) }
 {}
 
-/// Law: the count of changes is not above the epoch of the entries. Where the site has not failed it is the same, and the
-/// state is that after all entries.
+/// Law: the count of changes is not above the epoch of the entries. Where the site has not failed it is the same, and
+/// the state is that after all entries.
 pub fn entries_lead<O: Site>()
-    ensures changes { (book : BookView O) → IsKept O.told O.trace O.faults book → book.changes ≤ epoch_after (entries_of book.log) }
-    ensures whole { (book : BookView O) → IsKept O.told O.trace O.faults book → ¬ Rose (O.faults book.opened) (O.faults book.site)
+    ensures changes { (book : BookView O) → IsKept O.told O.trace O.faults book
+        → book.changes ≤ epoch_after (entries_of book.log) }
+    ensures whole { (book : BookView O) → IsKept O.told O.trace O.faults book
+        → ¬ Rose (O.faults book.opened) (O.faults book.site)
         → (book.state ≡ after book.start (entries_of book.log)) × (book.changes ≡ epoch_after (entries_of book.log)) }
     ensures places { (book : BookView O) → IsKept O.told O.trace O.faults book → KeepsPlaces book.start book.state }
 {}
@@ -45,7 +49,8 @@ pub fn entries_lead<O: Site>()
 pub fn marks_stand<O: Site>()
     ensures places { (book : BookView O) → IsKept O.told O.trace O.faults book → HasNoRelease (entries_of book.log)
         → KeepsMarks book.start book.state }
-    ensures keys { (book : BookView O) (key : ℕ) → IsKept O.told O.trace O.faults book → HasNoRelease (entries_of book.log)
+    ensures keys { (book : BookView O) (key : ℕ) → IsKept O.told O.trace O.faults book
+        → HasNoRelease (entries_of book.log)
         → mark_of book.start key ≤ mark_of book.state key }
 {}
 
@@ -67,5 +72,6 @@ pub fn calls_go_on<O: Site>()
 
 /// Law: the key that a need names is there, and the number that it names lies below the key's end.
 pub fn needs_name_keys()
-    ensures { (state : State) (octets : List ℕ) (need : Need) → KeepsRules state → IsNeedOf state octets need → NamesKey state need }
+    ensures { (state : State) (octets : List ℕ) (need : Need) → KeepsRules state → IsNeedOf state octets need
+        → NamesKey state need }
 {}

@@ -48,8 +48,8 @@ fn start<O: Site>(alloc: Global, site: &mut O) -> Result<(Opened, Vec<Entry>), O
 }
 
 impl<O: Site> Book<O> {
-    /// Opens the image of a site: starts a run on it, reserves the room for the entries, makes all checks of the image, and
-    /// brings its journal to rest.
+    /// Opens the image of a site: starts a run on it, reserves the room for the entries, makes all checks of the image,
+    /// and brings its journal to rest.
     ///
     /// An answer `Image`, with the offset of the first check that fails, says that the image shows no state; nothing is
     /// written then. Each other refusal is a fault of the site or want of memory.
@@ -61,7 +61,8 @@ impl<O: Site> Book<O> {
         ensures shows { IsTrue O.told → IfOk result (λ book. Shows (O.trace site).now.image book.start
             × Shows (O.trace book.site).now.image book.start
             × SameJournal (O.trace site).now.image (O.trace book.site).now.image book.journal) }
-        ensures plan { IsTrue O.told → IfOk result (λ book. plan_of (held (O.trace site).now.image).plan ≡ Ok book.plan) }
+        ensures plan { IsTrue O.told → IfOk result (λ book. plan_of (held (O.trace site).now.image).plan
+            ≡ Ok book.plan) }
 
         // Only an image that shows no state is refused as one, and nothing is written then.
         ensures refused { IfErr result (λ refused. IsOpenCause (O.faults site) (O.faults refused.1)

@@ -1,5 +1,6 @@
 // The release at the end of a run.
-ghost use Rattle.std.specs.Prelude.{◌≡◌, ℕ, ◌<◌, ◌≤◌, Ok, MatchOption, MatchResult, IfErr, Some, length, slice_get, slice_index};
+ghost use Rattle.std.specs.Prelude.{◌≡◌, ℕ, ◌<◌, ◌≤◌, Ok, MatchOption, MatchResult, IfErr, Some, length, slice_get};
+ghost use Rattle.std.specs.Prelude.{slice_index};
 ghost use Rattle.std.specs.Option.{option_map};
 ghost use Rattle.sa_book.specs.SaRefusal.{receives_with, receiver_with};
 ghost use Rattle.unit_book.specs.Book.{IsKept, Made, Refuses};
@@ -97,8 +98,8 @@ impl<O: Site> Book<O> {
         }
     }
 
-    /// Releases what the run did not use: goes through the keys in loading order, and where the key's word `next`, or the
-    /// highest number of the association that receives with it, lies below its mark or its floor, stores the lesser
+    /// Releases what the run did not use: goes through the keys in loading order, and where the key's word `next`, or
+    /// the highest number of the association that receives with it, lies below its mark or its floor, stores the lesser
     /// numbers. Stops at the first refusal. Takes no memory.
     ///
     /// `next` has a word for each key row; further words are not looked at.

@@ -39,8 +39,8 @@ impl<O: Site> Book<O> {
         self.state.keys.mark(key).unwrap_or(1)
     }
 
-    /// Sees to it that a key's mark is above a number that was drawn, and answers the mark that then stands. Where it is
-    /// above already no entry is made. Takes no memory.
+    /// Sees to it that a key's mark is above a number that was drawn, and answers the mark that then stands. Where it
+    /// is above already no entry is made. Takes no memory.
     pub fn reserve(&mut self, key: KeyId, number: u64) -> Result<u64, BookFault>
         requires kept { IsKept O.told O.trace O.faults self.old }
         requires there { IsSome (key_row self.old.state key) }
@@ -49,7 +49,8 @@ impl<O: Site> Book<O> {
         ensures unneeded { number < mark_of self.old.state key
             → (result ≡ Ok (mark_of self.old.state key)) × (self.new ≡ self.old) }
         ensures made { mark_of self.old.state key ≤ number → MatchResult result
-            (λ mark. (position : ℕ) × Made O.faults (reserve_of self.old.plan self.old.state key number) self.old self.new position
+            (λ mark. (position : ℕ) × Made O.faults (reserve_of self.old.plan self.old.state key number) self.old
+            self.new position
             × (mark ≡ mark_of self.new.state key))
             (Refuses O.faults (reserve_of self.old.plan self.old.state key number) self.old self.new) }
         ensures above { (mark : ℕ) → result ≡ Ok mark → number < mark }

@@ -19,8 +19,8 @@ pub record MayServe {B : Type 0} (counters : Counters B) (plan : PlanLines) (wor
   pub ready : IsReady counters plan worker
   pub shares : (view worker).numbers.shares ≡ ALL_SHARES
 
--- These are the counts of a drill of so many frames: those of the answers of its units. Where no answer tells want of memory, all
--- frames are protected and accepted, and the first of each chunk is rejected the second time.
+-- These are the counts of a drill of so many frames: those of the answers of its units. Where no answer tells want of
+-- memory, all frames are protected and accepted, and the first of each chunk is rejected the second time.
 pub record AreCounts (number : ℕ) (counts : Counts) : Type 0 where
   pub answers : List Answer
   pub drilled : IsDrilled number answers counts

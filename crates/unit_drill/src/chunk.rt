@@ -34,7 +34,8 @@ impl Drop for Pair {
 }
 
 impl Pair {
-    /// Protects the frames of a chunk, those before `end`, opens those that were protected, and opens the first of them again.
+    /// Protects the frames of a chunk, those before `end`, opens those that were protected, and opens the first of them
+    /// again.
     pub(crate) fn serve_chunk<R: Threads + Wait + Sync, G: Gate + Sync>(
         &mut self,
         rt: &R,
@@ -47,9 +48,12 @@ impl Pair {
         requires least { CHUNK * chunk ≤ end }
         requires most { end ≤ CHUNK * chunk + CHUNK }
         requires sends { MayServe self.old.sender.unit.counters self.old.sender.unit.plan self.old.sender.worker }
-        requires receives { MayServe self.old.receiver.unit.counters self.old.receiver.unit.plan self.old.receiver.worker }
-        ensures sends { IfOk result (λ _. MayServe self.new.sender.unit.counters self.new.sender.unit.plan self.new.sender.worker) }
-        ensures receives { IfOk result (λ _. MayServe self.new.receiver.unit.counters self.new.receiver.unit.plan self.new.receiver.worker) }
+        requires receives { MayServe self.old.receiver.unit.counters self.old.receiver.unit.plan
+            self.old.receiver.worker }
+        ensures sends { IfOk result (λ _. MayServe self.new.sender.unit.counters self.new.sender.unit.plan
+            self.new.sender.worker) }
+        ensures receives { IfOk result (λ _. MayServe self.new.receiver.unit.counters self.new.receiver.unit.plan
+            self.new.receiver.worker) }
         ensures chunk { IfOk result (λ counts. (one other : Begin)
             → BeganWith true one (view self.old.sender.worker).turn.known.opening
             → BeganWith true other (view self.old.receiver.worker).turn.known.opening

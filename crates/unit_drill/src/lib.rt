@@ -1,9 +1,9 @@
-//! A drill (profile): two units in memory, the one sending and the other receiving, and frames that are made from a number
-//! alone (crate `drill_frames`). In chunks of 256 they are protected, opened, and the first of each opened again; one line tells
-//! the counts of the answers.
+//! A drill (profile): two units in memory, the one sending and the other receiving, and frames that are made from a
+//! number alone (crate `drill_frames`). In chunks of 256 they are protected, opened, and the first of each opened
+//! again; one line tells the counts of the answers.
 //!
-//! [`drill`] is the call, and [`drill_number`] reads the words that ask for it. Read `specs/Drilled.antt` first: what the units
-//! were handed, and what is counted of their answers.
+//! [`drill`] is the call, and [`drill_number`] reads the words that ask for it. Read `specs/Drilled.antt` first: what
+//! the units were handed, and what is counted of their answers.
 #![tactic(auto)]
 
 mod chunk;

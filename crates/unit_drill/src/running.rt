@@ -62,7 +62,8 @@ fn line_of<R: Threads + Wait + Sync, G: Gate + Sync>(
     gate: &G,
 ) -> Result<Vec<u8>, NoMemory>
     requires { number ≤ MOST_FRAMES }
-    ensures { IfOk result (λ line. (counts : Counts) × AreCounts number counts × (line.items ≡ drill_text number counts)) }
+    ensures { IfOk result (λ line. (counts : Counts) × AreCounts number counts
+        × (line.items ≡ drill_text number counts)) }
 {
     let counts = counts_of(rt, alloc, number, gate)?;
     // For contracts alone: where no answer told want of memory, all frames are counted.
@@ -72,7 +73,8 @@ fn line_of<R: Threads + Wait + Sync, G: Gate + Sync>(
 
 /// Puts a text, and answers the status: this one, or that of a put that failed.
 fn put_text<O: Site>(site: &mut O, text: &[u8], status: u8) -> u8
-    ensures { Ends O.told (O.trace site.old) (O.trace site.new) (Rose (O.faults site.old) (O.faults site.new)) text.now status result }
+    ensures { Ends O.told (O.trace site.old) (O.trace site.new) (Rose (O.faults site.old) (O.faults site.new)) text.now
+        status result }
 {
     match site.put(text) {
         Ok(()) => status,
@@ -80,9 +82,10 @@ fn put_text<O: Site>(site: &mut O, text: &[u8], status: u8) -> u8
     }
 }
 
-/// Runs a drill of this many frames, on four lanes, and puts its line: how many the one unit protected, how many the other
-/// accepted with their data fields, and how many it rejected for their number. Where memory is wanting, or the site of one of
-/// these units fails, it puts that in place of the line. The gate is called before and after each record.
+/// Runs a drill of this many frames, on four lanes, and puts its line: how many the one unit protected, how many the
+/// other accepted with their data fields, and how many it rejected for their number. Where memory is wanting, or the
+/// site of one of these units fails, it puts that in place of the line. The gate is called before and after each
+/// record.
 ///
 /// The units and all that they hold are gone afterwards. To the site that is handed in nothing is done but to put.
 pub fn drill<R: Threads + Wait + Sync, O: Site, G: Gate + Sync>(
@@ -93,7 +96,8 @@ pub fn drill<R: Threads + Wait + Sync, O: Site, G: Gate + Sync>(
     gate: &G,
 ) -> Outcome<O>
     requires { number ≤ MOST_FRAMES }
-    ensures ends { EndsDrill number O.told (O.trace site) (O.trace result.site) (Rose (O.faults site) (O.faults result.site)) result.status }
+    ensures ends { EndsDrill number O.told (O.trace site) (O.trace result.site)
+        (Rose (O.faults site) (O.faults result.site)) result.status }
     ensures no_history { result.entries.items ≡ [] }
 {
     let status = match line_of(rt, alloc, number, gate) {

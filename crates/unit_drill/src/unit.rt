@@ -71,7 +71,8 @@ impl DrillUnit {
         requires lanes { (ahead : ℕ) × All (λ (task : Record). task.lane ≡ (task.index - ahead) % 4) records.now }
         requires ascend { Ascend records.now }
         ensures may { MayServe self.new.unit.counters self.new.unit.plan self.new.worker }
-        ensures serves { IfOk result (λ answers. (begin : Begin) → BeganWith true begin (view self.old.worker).turn.known.opening
+        ensures serves { IfOk result (λ answers. (begin : Begin)
+            → BeganWith true begin (view self.old.worker).turn.known.opening
             → HandlesSegment begin (view self.old.worker) (view self.new.worker) records.now answers.items
             × BeganWith true begin (view self.new.worker).turn.known.opening) }
         ensures few { IfOk result (λ answers. vec_len answers ≤ length records.now) }

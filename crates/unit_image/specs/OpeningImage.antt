@@ -28,7 +28,8 @@ IsOpenCause before now refused (Image offset) = refused offset
 IsOpenCause before now refused NoMemory = ⊤
 
 -- the count of faults never falls, and stands after an Ok; a fault that is answered has its cause
-pub record HasOpenFault {T : Type 0} (before now : ℕ) (refused : ℕ → Type 0) (result : Result T OpenFault) : Type 0 where
+pub record HasOpenFault {T : Type 0} (before now : ℕ) (refused : ℕ → Type 0)
+    (result : Result T OpenFault) : Type 0 where
   pub later : before ≤ now
   pub stood : OnOk result (now ≡ before)
   pub cause : IfErr result (IsOpenCause before now refused)
@@ -54,8 +55,8 @@ pub record TakesRecord (bodies : List (List ℕ)) (place : ℕ) (old new : State
   pub allowed : Allows old change
   pub is : new ≡ applied old change
 
--- A moment while an image is opened: the image is one that a crash before might leave, or the one that was read but for its
--- closed gates; nothing is sunk.
+-- A moment while an image is opened: the image is one that a crash before might leave, or the one that was read but for
+-- its closed gates; nothing is sunk.
 abbrev pub Opening : Trace → List ℕ → List ℕ → Type 0
 Opening entry image sunk = (Leaves entry.now image ⊎ Settles entry.now.image image) × (sunk ≡ entry.now.sunk)
 

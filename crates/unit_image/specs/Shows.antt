@@ -20,7 +20,8 @@ pub record SaysPlan (text : List ℕ) (plan : PlanLines) (first : State) : Type 
   pub read : plan_of text ≡ Ok plan
   pub made : initial plan ≡ Ok first
 
--- the bodies, in order, are records of changes that the states before them allow, and the last state is what they lead to
+-- the bodies, in order, are records of changes that the states before them allow, and the last state is what they lead
+-- to
 abbrev pub LeadTo : State → List (List ℕ) → State → Type 0
 LeadTo state [] last = last ≡ state
 LeadTo state (body ∷ bodies) last =
@@ -54,12 +55,13 @@ pub record IsBadRecord (state : State) (bodies : List (List ℕ)) (place : ℕ) 
   pub led : LeadTo state (take place bodies) before
   pub unfit : IsNoChangeAt bodies place before
 
--- What an image holds says no state, and this is the offset of the first check that fails: that the text is a plan whose lines
--- make a state; that the slots are the plan's; that each record is of a change that is allowed.
+-- What an image holds says no state, and this is the offset of the first check that fails: that the text is a plan
+-- whose lines make a state; that the slots are the plan's; that each record is of a change that is allowed.
 abbrev pub SaysNone : List ℕ → Held → ℕ → Type 0
 SaysNone image what offset =
     (((plan : PlanLines) (first : State) → ¬ SaysPlan what.plan plan first) × (offset ≡ PLAN_AT))
-    ⊎ ((plan : PlanLines) × (first : State) × SaysPlan what.plan plan first × (plan.slots ≢ what.slots) × (offset ≡ SLOT_COUNT_AT))
+    ⊎ ((plan : PlanLines) × (first : State) × SaysPlan what.plan plan first × (plan.slots ≢ what.slots)
+    × (offset ≡ SLOT_COUNT_AT))
     ⊎ ((plan : PlanLines) × (first : State) × SaysPlan what.plan plan first × (plan.slots ≡ what.slots)
     × ((place : ℕ) × IsBadRecord first what.records place × (offset ≡ record_at image place)))
 

@@ -1,8 +1,8 @@
 //! What an image shows: the state of a unit that its plan and its records lead to.
 //!
-//! Read `specs/Shows.antt` first: the state that an image shows, or the offset of the first check that fails. [`open`] makes
-//! the checks, answers that state and the image's journal, and brings the journal to rest. [`stored_record`] writes the record
-//! that is stored for a change.
+//! Read `specs/Shows.antt` first: the state that an image shows, or the offset of the first check that fails. [`open`]
+//! makes the checks, answers that state and the image's journal, and brings the journal to rest. [`stored_record`]
+//! writes the record that is stored for a change.
 #![tactic(auto)]
 
 mod fault;

@@ -71,7 +71,8 @@ fn inspect<O: Site>(alloc: Global, site: &mut O, room: &mut [u8]) -> Result<Open
         plan_of (held (O.trace site.old).now.image).plan ≡ Ok opened.plan) }
     ensures rules { IfOk result (λ opened. KeepsRules opened.state) }
     ensures unchanged { IsTrue O.told → OnlySyncs (O.trace site.old) (O.trace site.new) }
-    ensures any_moment { IsTrue O.told → EachImage (O.trace site.old) (O.trace site.new) (Leaves (O.trace site.old).now) }
+    ensures any_moment { IsTrue O.told → EachImage (O.trace site.old) (O.trace site.new)
+        (Leaves (O.trace site.old).now) }
     ensures puts { O.put_faults site.new ≡ O.put_faults site.old }
     ensures fault { HasOpenFault (O.faults site.old) (O.faults site.new)
         (λ offset. IsTrue O.told → ShowsNone (O.trace site.old).now.image offset) result }

@@ -70,7 +70,8 @@ pub(crate) fn read_plan<O: Site>(
     ensures same { IsTrue O.told → O.trace site.new ≡ O.trace site.old }
     ensures puts { O.put_faults site.new ≡ O.put_faults site.old }
     ensures fault { HasOpenFault (O.faults site.old) (O.faults site.new)
-        (λ offset. IsTrue O.told → SaysNone (O.trace site.old).now.image (held (O.trace site.old).now.image) offset) result }
+        (λ offset. IsTrue O.told → SaysNone (O.trace site.old).now.image (held (O.trace site.old).now.image) offset)
+        result }
 {
     let count = match journal.plan_text(site, room) {
         Ok(count) => count,
@@ -127,7 +128,8 @@ fn take_record<O: Site>(
     ensures same { IsTrue O.told → O.trace site.new ≡ O.trace site.old }
     ensures puts { O.put_faults site.new ≡ O.put_faults site.old }
     ensures fault { HasOpenFault (O.faults site.old) (O.faults site.new) (λ offset. IsTrue O.told
-        → IsNoChangeAt (records (O.trace site.old).now.image) index state.old × (offset ≡ record_at (O.trace site.old).now.image index)) result }
+        → IsNoChangeAt (records (O.trace site.old).now.image) index state.old
+        × (offset ≡ record_at (O.trace site.old).now.image index)) result }
 {
     let body = match journal.body(site, index) {
         Ok(body) => body,

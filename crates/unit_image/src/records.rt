@@ -15,7 +15,8 @@ use unit_state::State;
 fn acceptance_record(state: &State, key: KeyId, floor: u64) -> Option<[u8; BODY_LENGTH]>
     ensures { MatchOption result
         (option_and_then (acceptance_stored key floor) (key_row state.now key) ≡ None)
-        (λ body. (stored : Change) × (option_and_then (acceptance_stored key floor) (key_row state.now key) ≡ Some stored)
+        (λ body. (stored : Change) × (option_and_then (acceptance_stored key floor) (key_row state.now key)
+        ≡ Some stored)
         × IsRecord stored body) }
 {
     let (_, row) = state.keys.find(key)?;

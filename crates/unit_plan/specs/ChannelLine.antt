@@ -35,6 +35,7 @@ is_map wanted None = not wanted
 
 -- the bounds on a link (CCSDS 232.0-B-4, 132.0-B-3 and 732.0-B-4; of AOS 63 is the channel of idle frames)
 abbrev pub is_place : AnyLayout → Place → Bool
-is_place (Tc layout) place = nat_le place.spacecraft 1023 && (nat_le place.channel 63 && is_map layout.segment place.map)
+is_place (Tc layout) place = nat_le place.spacecraft 1023 &&
+    (nat_le place.channel 63 && is_map layout.segment place.map)
 is_place (Tm layout) place = nat_le place.spacecraft 1023 && (nat_le place.channel 7 && is_map false place.map)
 is_place (Aos layout) place = nat_le place.spacecraft 255 && (nat_le place.channel 62 && is_map false place.map)

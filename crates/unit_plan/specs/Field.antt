@@ -34,7 +34,8 @@ optional_at words = do
 
 -- one of two words: whether it is the first
 abbrev pub choice : List ℕ → List ℕ → List ℕ → Option Bool
-choice first second word = if bytes_eq word first then Some true else (if bytes_eq word second then Some false else None)
+choice first second word = if bytes_eq word first then Some true else
+    (if bytes_eq word second then Some false else None)
 
 unfoldable pub choice_at : List ℕ → List ℕ → List (List ℕ) → Option (Bool × List (List ℕ))
 choice_at first second words = do

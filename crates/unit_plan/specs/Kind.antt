@@ -3,7 +3,8 @@ use Rattle.std.specs.Prelude.{ℕ, List, [], ◌∷◌, codes, Option, Some, Non
 use Rattle.std.specs.Option.{option_or}
 use Rattle.std.specs.Str.{bytes_eq}
 use Rattle.unit_plan.specs.declared.kind.Kind.{Kind}
-use Rattle.unit_plan.specs.declared.kind.Kind.TheVariants.{Version, Device, Slots, Block, Accept, Link, Channel, Key, Association}
+use Rattle.unit_plan.specs.declared.kind.Kind.TheVariants.{Version, Device, Slots, Block, Accept, Link, Channel, Key}
+use Rattle.unit_plan.specs.declared.kind.Kind.TheVariants.{Association}
 
 -- the kind that a word has in a table
 abbrev pub kind_in : List (List ℕ × Kind) → List ℕ → Option Kind
@@ -19,7 +20,8 @@ first_kind_of word =
 -- of those after them
 abbrev pub later_kind_of : List ℕ → Option Kind
 later_kind_of word =
-    kind_in ((codes "link", Link) ∷ (codes "channel", Channel) ∷ (codes "key", Key) ∷ (codes "sa", Association) ∷ []) word
+    kind_in ((codes "link", Link) ∷ (codes "channel", Channel) ∷ (codes "key", Key) ∷ (codes "sa", Association) ∷ [])
+    word
 
 abbrev pub kind_of : List ℕ → Option Kind
 kind_of word = option_or (first_kind_of word) (later_kind_of word)

@@ -1,5 +1,6 @@
 -- Profile: `link` lines.
-use Rattle.std.specs.Prelude.{ℕ, ◌+◌, ◌==◌, nat_le, Bool, ◌&&◌, List, [], ◌∷◌, ◌++◌, drop, codes, Option, Some, None, if◌then◌else◌}
+use Rattle.std.specs.Prelude.{ℕ, ◌+◌, ◌==◌, nat_le, Bool, ◌&&◌, List, [], ◌∷◌, ◌++◌, drop, codes, Option, Some, None}
+use Rattle.std.specs.Prelude.{if◌then◌else◌}
 use Rattle.std.specs.Option.{option_map}
 use Rattle.std.specs.Str.{bytes_eq}
 use Rattle.sdls_base.specs.declared.link.AnyLayout.{AnyLayout}
@@ -46,7 +47,14 @@ aos_at words = do
   ocf ← choice_at (codes "ocf") (codes "noocf") insert.1
   fecf ← choice_at (codes "fecf") (codes "nofecf") ocf.1
   mask ← mask_at usual_aos fecf.1
-  Some (record { layout = Aos (record { length = size.0; insert = insert.0; ocf = ocf.0; fecf = fecf.0 }); mask = mask.0 }, mask.1)
+  Some (
+    record {
+      layout = Aos (record { length = size.0; insert = insert.0; ocf = ocf.0; fecf = fecf.0 });
+      mask =
+          mask.0;
+    },
+    mask.1,
+  )
 
 -- what belongs to a kind of frames
 abbrev pub frame_of : List ℕ → List (List ℕ) → Option (Link × List (List ℕ))
@@ -72,7 +80,8 @@ link_said words = do
 abbrev pub is_layout : AnyLayout → Bool
 is_layout (Tc layout) = layout.most == 1024
 is_layout (Tm layout) = nat_le 48 layout.length && nat_le layout.length 2048
-is_layout (Aos layout) = nat_le layout.insert 64 && (nat_le (48 + layout.insert) layout.length && nat_le layout.length 2048)
+is_layout (Aos layout) = nat_le layout.insert 64 &&
+    (nat_le (48 + layout.insert) layout.length && nat_le layout.length 2048)
 
 abbrev pub is_link : ℕ → Link → Bool
 is_link n link = nat_le n 15 && is_layout link.layout

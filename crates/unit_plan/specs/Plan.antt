@@ -1,5 +1,6 @@
 -- Profile: what the lines of a plan say, or the first line that has a cause with its first cause.
-use Rattle.std.specs.Prelude.{◌≡◌, ⊤, ℕ, ◌+◌, ◌==◌, nat_le, nat_lt, Bool, true, not, List, [], ◌∷◌, ◌++◌, length, Option, Some, None, Result, Ok, Err, if◌then◌else◌}
+use Rattle.std.specs.Prelude.{◌≡◌, ⊤, ℕ, ◌+◌, ◌==◌, nat_le, nat_lt, Bool, true, not, List, [], ◌∷◌, ◌++◌, length}
+use Rattle.std.specs.Prelude.{Option, Some, None, Result, Ok, Err, if◌then◌else◌}
 use Rattle.unit_plan.specs.declared.channel_line.Place.{Place}
 use Rattle.unit_plan.specs.declared.kind.Kind.{Kind}
 use Rattle.unit_plan.specs.declared.kind.Kind.TheVariants as kinds

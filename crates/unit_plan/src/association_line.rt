@@ -3,7 +3,8 @@ ghost use Rattle.std.specs.Prelude.{◌≡◌, ◌≤◌, All, IfOk, IsTrue};
 ghost use Rattle.std.specs.List.Sorted.{IsStrictlyIncreasing};
 ghost use Rattle.std.specs.Option.{option_map};
 ghost use Rattle.sdls_base.specs.Bounds.{AreChannels};
-ghost use Rattle.unit_plan.specs.AssociationLine.{direction_of, suite_of, before_list, association_said, channels_from, are_channels};
+ghost use Rattle.unit_plan.specs.AssociationLine.{direction_of, suite_of, before_list, association_said, channels_from};
+ghost use Rattle.unit_plan.specs.AssociationLine.{are_channels};
 
 use crate::fields::{channels, choice, decimal};
 use crate::lines::Words;

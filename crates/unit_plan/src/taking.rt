@@ -4,7 +4,9 @@ ghost use Rattle.unit_plan.specs.Lines.{words_of};
 ghost use Rattle.unit_plan.specs.PlanRules.{IsAssociation};
 ghost use Rattle.unit_plan.specs.PlanError.{Gives};
 ghost use Rattle.unit_plan.specs.LineForm.{bounded, channel_id, version_said, device_said, number_said, association_of};
-ghost use Rattle.unit_plan.specs.Plan.{TakesPlanLine, in_order, is_on_link, version_taken, device_taken, slots_taken, block_taken, accept_taken, link_taken, channel_taken, key_taken, admitted, association_added, association_taken, taken_as, taken, is_skipped, line_taken};
+ghost use Rattle.unit_plan.specs.Plan.{TakesPlanLine, in_order, is_on_link, version_taken, device_taken, slots_taken};
+ghost use Rattle.unit_plan.specs.Plan.{block_taken, accept_taken, link_taken, channel_taken, key_taken, admitted};
+ghost use Rattle.unit_plan.specs.Plan.{association_added, association_taken, taken_as, taken, is_skipped, line_taken};
 
 use crate::association_line::{AssociationLine, are_channels, association};
 use crate::channel_line::{Place, channel, is_place};

@@ -27,8 +27,8 @@ pub record IsAlone {B : Type 0} (counters : Counters B) (plan : PlanLines) (work
 abbrev pub Adds : {T E : Type 0} → List ℕ → Result T E → List ℕ → List ℕ → Type 0
 Adds octets result old new = MatchResult result (λ _. new ≡ old ++ octets) (λ _. Between old (old ++ octets) new)
 
--- The octets were taken over behind those of a piece that is to be put. Ok: what is put, and the piece behind it, have grown by
--- them. Err: a front was put.
+-- The octets were taken over behind those of a piece that is to be put. Ok: what is put, and the piece behind it, have
+-- grown by them. Err: a front was put.
 abbrev pub TakesOver : {T E : Type 0} → List ℕ → Result T E → List ℕ → List ℕ → List ℕ → List ℕ → Type 0
 TakesOver octets result piece_old piece_new old new = MatchResult result
     (λ _. (length old ≤ length new) × (new ++ piece_new ≡ (old ++ piece_old) ++ octets))
@@ -46,8 +46,8 @@ Begun begin v w = (log_of w ≡ log_of v) ⊎ SettlesAll begin v w
 abbrev pub OfRun : Bool → View → (Begin → Type 0) → Type 0
 OfRun told v P = (begin : Begin) → BeganWith told begin v.turn.known.opening → P begin
 
--- What every putting leaves: the opening and the numbers stand, one more put failed where the answer is a fault, and the site's
--- count then had risen.
+-- What every putting leaves: the opening and the numbers stand, one more put failed where the answer is a fault, and
+-- the site's count then had risen.
 pub record PutLeaves {T E : Type 0} (told : Bool) (result : Result T E) (v w : View) : Type 0 where
   pub opening : w.turn.known.opening ≡ v.turn.known.opening
   pub counted : w.turn.known.put_faults ≡ after_put result v.turn.known.put_faults
@@ -62,7 +62,8 @@ pub record PutsOctets {T E : Type 0} (told : Bool) (octets : List ℕ) (result :
   pub settles : OfRun told v (λ begin. SettlesAll begin v w)
 
 -- The octets were taken over into the piece, or put with it.
-pub record TakesOctets {T E : Type 0} (told : Bool) (octets : List ℕ) (result : Result T E) (piece_old piece_new : List ℕ) (v w : View) : Type 0 where
+pub record TakesOctets {T E : Type 0} (told : Bool) (octets : List ℕ) (result : Result T E)
+    (piece_old piece_new : List ℕ) (v w : View) : Type 0 where
   pub leaves : PutLeaves told result v w
   pub takes : IsTrue told → TakesOver octets result piece_old piece_new (octets_put v) (octets_put w)
   pub begun : OfRun told v (λ begin. Begun begin v w)
@@ -74,5 +75,6 @@ pub record TakesSoFar (told : Bool) (octets piece : List ℕ) (v w : View) : Typ
   pub counted : w.turn.known.put_faults ≡ v.turn.known.put_faults
   pub puts : OfRun told v (λ begin. PutsPieces begin v w)
   pub numbers : w.numbers ≡ v.numbers
-  pub takes : IsTrue told → (length (octets_put v) ≤ length (octets_put w)) × (octets_put w ++ piece ≡ octets_put v ++ octets)
+  pub takes : IsTrue told → (length (octets_put v) ≤ length (octets_put w))
+      × (octets_put w ++ piece ≡ octets_put v ++ octets)
   pub begun : OfRun told v (λ begin. Begun begin v w)

@@ -23,15 +23,18 @@ use Rattle.law_run_segments.specs.Ending.{Finishes, IsToldEnd}
 use Rattle.law_run_segments.specs.Refused.{refused_end}
 use Rattle.unit_session.specs.Serving.{Comes}
 
--- The one worker, from the first view to the last, served the input of the source until this end came; then the unit was closed with
--- these words `next`, and the run was ended, which left the site so. So many faults had been counted before the run.
-pub record RunsUnit {O : Type 0} (told : Bool) (trace : O → Trace) (faults puts : O → ℕ) (before : ℕ) (source source_after : SourceSeen)
+-- The one worker, from the first view to the last, served the input of the source until this end came; then the unit
+-- was closed with these words `next`, and the run was ended, which left the site so. So many faults had been counted
+-- before the run.
+pub record RunsUnit {O : Type 0} (told : Bool) (trace : O → Trace) (faults puts : O → ℕ) (before : ℕ)
+    (source source_after : SourceSeen)
     (first : View) (site : O) (entries : List Entry) (status : ℕ) : Type 0 where
   pub now : View
   pub came : RunEnd
   pub book : BookView O
   pub words : List ℕ
-  pub comes : (begin : Begin) → BeganWith told begin first.turn.known.opening → Comes source source_after begin first now came
+  pub comes : (begin : Begin) → BeganWith told begin first.turn.known.opening
+      → Comes source source_after begin first now came
   pub opening : now.turn.known.opening ≡ first.turn.known.opening
   pub whole : IsWhole MOST_KEYS now
   pub kept : IsKept told trace faults book
@@ -39,7 +42,8 @@ pub record RunsUnit {O : Type 0} (told : Bool) (trace : O → Trace) (faults put
   pub finishes : Finishes told trace faults puts before words came book site entries status
 
 -- where a book was not opened: End was put, or a front of it; so many faults had been counted before the run
-pub record PutsRefusal {O : Type 0} (told : Bool) (trace : O → Trace) (faults_of puts : O → ℕ) (before : ℕ) (fault : OpenFault) (site after : O)
+pub record PutsRefusal {O : Type 0} (told : Bool) (trace : O → Trace) (faults_of puts : O → ℕ) (before : ℕ)
+    (fault : OpenFault) (site after : O)
     (status : ℕ) : Type 0 where
   pub end : RunEnd
   pub end_is : IsToldEnd before (faults_of site) (faults_of site) (refused_end fault) (Ok tt) end

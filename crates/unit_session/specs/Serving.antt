@@ -16,21 +16,23 @@ use Rattle.unit_session.specs.declared.serving.Stop.{Stop}
 use Rattle.unit_session.specs.declared.serving.Stop.TheVariants as stops
 
 -- the records were handled, and the answers put, with this put
-pub record IsHandledAndPut (begin : Begin) (records : List Record) (v w : View) (P : View → List Answer → Type 0) : Type 0 where
+pub record IsHandledAndPut (begin : Begin) (records : List Record) (v w : View)
+    (P : View → List Answer → Type 0) : Type 0 where
   pub mid : View
   pub answers : List Answer
   pub handles : HandlesAndPuts begin v mid w records answers w.turn.known.standing
   pub stands : v.turn.known.standing ≤ w.turn.known.standing
   pub so : P mid answers
 
--- Each record was answered, and all was put; or memory was wanting, and nothing was done; or the history was full, and the answers
--- before were put; or a put failed.
+-- Each record was answered, and all was put; or memory was wanting, and nothing was done; or the history was full, and
+-- the answers before were put; or a put failed.
 abbrev pub ServesSegment : Begin → List Record → Result (Unit {0}) Stop → View → View → Type 0
 ServesSegment begin records (Ok done) v w = IsHandledAndPut begin records v w (λ mid answers.
     PutsWell begin mid w answers v.turn.known.put_faults w.turn.known.put_faults × (length answers ≡ length records))
 ServesSegment begin records (Err stops.NoMemory) v w = w ≡ v
 ServesSegment begin records (Err stops.Full) v w = IsHandledAndPut begin records v w (λ mid answers.
-    PutsWell begin mid w answers v.turn.known.put_faults w.turn.known.put_faults × IsFullSegment begin v mid records answers)
+    PutsWell begin mid w answers v.turn.known.put_faults w.turn.known.put_faults
+    × IsFullSegment begin v mid records answers)
 ServesSegment begin records (Err stops.PutFailed) v w = IsHandledAndPut begin records v w (λ mid answers.
     PutsBadly begin mid w answers v.turn.known.put_faults w.turn.known.put_faults)
 
@@ -47,7 +49,8 @@ Goes start source standing begin first now = IsUnderWay start source standing be
 
 abbrev pub Comes : SourceSeen → SourceSeen → Begin → View → View → RunEnd → Type 0
 Comes start source begin first now came =
-    HasCome start source begin first now first.turn.known.put_faults now.turn.known.put_faults now.turn.known.standing came
+    HasCome start source begin first now first.turn.known.put_faults now.turn.known.put_faults now.turn.known.standing
+    came
 
 abbrev pub end_after : SegmentEnd → Option RunEnd
 end_after segments.More = None

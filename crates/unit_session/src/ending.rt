@@ -21,8 +21,8 @@ fn rose(before: u64, now: u64) -> bool
     now > before || now == u64::MAX
 }
 
-/// The end that is told: a fault of the site that came before all answers were put; else what came; and behind an input that
-/// ended, what the release met.
+/// The end that is told: a fault of the site that came before all answers were put; else what came; and behind an input
+/// that ended, what the release met.
 pub(crate) fn told_end(
     before: u64,
     last: u64,
@@ -79,8 +79,8 @@ fn put_end<O: Site>(alloc: Global, book: &mut Book<O>, came: RunEnd, told: RunEn
     }
 }
 
-/// Releases what the run did not use, and puts End. `before` is the site's count of faults before the run, `words` the rows'
-/// words `next`.
+/// Releases what the run did not use, and puts End. `before` is the site's count of faults before the run, `words` the
+/// rows' words `next`.
 pub fn finish<O: Site>(
     alloc: Global,
     mut book: Book<O>,
@@ -92,7 +92,8 @@ pub fn finish<O: Site>(
     requires words { length book.state.keys ≤ length words.now }
     requires some { (place : ℕ) → place < length book.state.keys → 1 ≤ slice_index words.now place }
     requires later { before ≤ O.faults book.site }
-    ensures finishes { Finishes O.told O.trace O.faults O.put_faults before words.now came book result.site result.entries.items result.status }
+    ensures finishes { Finishes O.told O.trace O.faults O.put_faults before words.now came book result.site
+        result.entries.items result.status }
 {
     let last = book.faults();
     let released = book.release(words);

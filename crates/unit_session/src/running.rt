@@ -70,8 +70,8 @@ fn image_stays<O: Site>()
     ensures { (site : O) → IsTrue O.told → Leaves (O.trace site).now (O.trace site).now.image }
 {}
 
-/// Serves the input of a source with a unit that was opened, closes the unit, and ends the run. `before` is the site's count of
-/// faults before the run.
+/// Serves the input of a source with a unit that was opened, closes the unit, and ends the run. `before` is the site's
+/// count of faults before the run.
 fn serve_unit<R: Threads + Wait + Sync, S: Source, O: Site + Send, G: Gate + Sync>(
     rt: &R,
     alloc: Global,
@@ -85,9 +85,11 @@ fn serve_unit<R: Threads + Wait + Sync, S: Source, O: Site + Send, G: Gate + Syn
     requires no_log { (view worker).turn.known.log ≡ [] }
     requires none_made { (view worker).turn.made ≡ [] }
     requires before { before ≤ (view worker).turn.known.opening.faults }
-    ensures { let seen : SourceSeen = record { told = S.told; left = S.left source.old; faults = S.faults source.old } in
+    ensures { let seen : SourceSeen = record { told = S.told; left = S.left source.old; faults = S.faults source.old }
+        in
         let after : SourceSeen = record { told = S.told; left = S.left source.new; faults = S.faults source.new } in
-        RunsUnit O.told O.trace O.faults O.put_faults before seen after (view worker) result.site result.entries.items result.status }
+        RunsUnit O.told O.trace O.faults O.put_faults before seen after (view worker) result.site result.entries.items
+        result.status }
 {
     let mut session = Session::new(alloc, unit, worker);
     let came = session.serve_input(rt, alloc, source, gate);
@@ -101,8 +103,8 @@ fn serve_unit<R: Threads + Wait + Sync, S: Source, O: Site + Send, G: Gate + Syn
     finish(alloc, book, &words, before, came)
 }
 
-/// Serves the recorded input of a source with the unit of the site's image: its records in segments, the lanes of a segment at
-/// once, the answers in input order, and End behind them.
+/// Serves the recorded input of a source with the unit of the site's image: its records in segments, the lanes of a
+/// segment at once, the answers in input order, and End behind them.
 pub fn run_recorded<R: Threads + Wait + Sync, S: Source, O: Site + Send, G: Gate + Sync>(
     rt: &R,
     alloc: Global,
@@ -110,9 +112,11 @@ pub fn run_recorded<R: Threads + Wait + Sync, S: Source, O: Site + Send, G: Gate
     site: O,
     gate: &G,
 ) -> Outcome<O>
-    ensures { let before : SourceSeen = record { told = S.told; left = S.left source.old; faults = S.faults source.old } in
+    ensures { let before : SourceSeen = record { told = S.told; left = S.left source.old; faults = S.faults source.old }
+        in
         let after : SourceSeen = record { told = S.told; left = S.left source.new; faults = S.faults source.new } in
-        EndsAndLives (call_seen O.told O.trace O.faults O.put_faults site result.site before after result.status result.entries.items) }
+        EndsAndLives (call_seen O.told O.trace O.faults O.put_faults site result.site before after result.status
+        result.entries.items) }
 {
     let before = site.faults();
     image_stays::<O>();

@@ -82,7 +82,8 @@ impl<O: Site + Send> Session<O> {
         requires ascend { Ascend records.now }
         ensures alone { IsAlone self.new.unit.counters self.new.unit.plan self.new.worker }
         ensures opening { (view self.new.worker).turn.known.opening ≡ (view self.old.worker).turn.known.opening }
-        ensures serves { OfRun O.told (view self.old.worker) (λ begin. ServesSegment begin records.now result (view self.old.worker) (view self.new.worker)) }
+        ensures serves { OfRun O.told (view self.old.worker)
+            (λ begin. ServesSegment begin records.now result (view self.old.worker) (view self.new.worker)) }
     {
         let segment = match run_segment(rt, alloc, &self.unit, &mut self.worker, records, gate) {
             Ok(segment) => segment,
@@ -102,13 +103,21 @@ impl<O: Site + Send> Session<O> {
         gate: &G,
     ) -> Option<RunEnd>
         requires alone { IsAlone self.old.unit.counters self.old.unit.plan self.old.worker }
-        requires reading { let before : SourceSeen = record { told = S.told; left = S.left source.old; faults = S.faults source.old } in
-            (start : SourceSeen) × (items : List Item) × (read : List ℕ) × IsReading start before reader.old items read }
+        requires reading { let before : SourceSeen =
+            record { told = S.told; left = S.left source.old; faults = S.faults source.old } in
+            (start : SourceSeen) × (items : List Item) × (read : List ℕ)
+            × IsReading start before reader.old items read }
         ensures alone { IsAlone self.new.unit.counters self.new.unit.plan self.new.worker }
         ensures opening { (view self.new.worker).turn.known.opening ≡ (view self.old.worker).turn.known.opening }
-        ensures leads { let before : SourceSeen = record { told = S.told; left = S.left source.old; faults = S.faults source.old } in
+        ensures leads { let before : SourceSeen = record {
+          told = S.told;
+          left = S.left source.old;
+          faults = S.faults
+              source.old;
+        } in
             let after : SourceSeen = record { told = S.told; left = S.left source.new; faults = S.faults source.new } in
-            (start : SourceSeen) (begin : Begin) (first : View) → BeganWith O.told begin (view self.old.worker).turn.known.opening
+            (start : SourceSeen) (begin : Begin) (first : View)
+            → BeganWith O.told begin (view self.old.worker).turn.known.opening
             → Goes start before reader.old begin first (view self.old.worker)
             → Leads start after reader.new begin first (view self.new.worker) result }
         ensures forth { IfNone result (reader.old.taken < reader.new.taken) }
@@ -136,7 +145,12 @@ impl<O: Site + Send> Session<O> {
         requires none_made { (view self.old.worker).turn.made ≡ [] }
         ensures alone { IsAlone self.new.unit.counters self.new.unit.plan self.new.worker }
         ensures opening { (view self.new.worker).turn.known.opening ≡ (view self.old.worker).turn.known.opening }
-        ensures comes { let before : SourceSeen = record { told = S.told; left = S.left source.old; faults = S.faults source.old } in
+        ensures comes { let before : SourceSeen = record {
+          told = S.told;
+          left = S.left source.old;
+          faults = S.faults
+              source.old;
+        } in
             let after : SourceSeen = record { told = S.told; left = S.left source.new; faults = S.faults source.new } in
             (begin : Begin) → BeganWith O.told begin (view self.old.worker).turn.known.opening
             → Comes before after begin (view self.old.worker) (view self.new.worker) result }

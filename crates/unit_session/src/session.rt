@@ -77,7 +77,8 @@ impl<O: Site> Session<O> {
         ensures alone { IsAlone self.new.unit.counters self.new.unit.plan self.new.worker }
         ensures same { self.new.unit ≡ self.old.unit }
         ensures piece { self.new.piece ≡ self.old.piece }
-        ensures puts { PutsOctets O.told (answer_octets answer.now) result (view self.old.worker) (view self.new.worker) }
+        ensures puts { PutsOctets O.told (answer_octets answer.now) result (view self.old.worker)
+            (view self.new.worker) }
     {
         match put_alone(rt, &self.unit, &mut self.worker, &answer_header(answer)) {
             Ok(()) => put_alone(rt, &self.unit, &mut self.worker, answer.body.as_slice()),
@@ -87,7 +88,8 @@ impl<O: Site> Session<O> {
 
     /// Whether the piece has room for an answer.
     fn has_room(&self, answer: &Answer) -> bool
-        ensures { IsTrue result ↔ (vec_len self.now.piece + (ANSWER_HEADER + length answer.now.body) ≤ vec_capacity self.now.piece) }
+        ensures { IsTrue result ↔ (vec_len self.now.piece + (ANSWER_HEADER + length answer.now.body)
+            ≤ vec_capacity self.now.piece) }
     {
         let room = self.piece.capacity() - self.piece.len();
         ANSWER_HEADER <= room && answer.body.as_slice().len() <= room - ANSWER_HEADER
@@ -95,7 +97,8 @@ impl<O: Site> Session<O> {
 
     /// Adds an answer to the piece, its header before its body.
     fn keep_answer(&mut self, answer: &Answer)
-        requires room { vec_len self.old.piece + (ANSWER_HEADER + length answer.now.body) ≤ vec_capacity self.old.piece }
+        requires room { vec_len self.old.piece + (ANSWER_HEADER + length answer.now.body)
+            ≤ vec_capacity self.old.piece }
         ensures piece { self.new.piece.items ≡ self.old.piece.items ++ answer_octets answer.now }
         ensures others { (self.new.unit ≡ self.old.unit) × (self.new.worker ≡ self.old.worker) }
     {
@@ -142,7 +145,8 @@ impl<O: Site> Session<O> {
         requires alone { IsAlone self.old.unit.counters self.old.unit.plan self.old.worker }
         ensures alone { IsAlone self.new.unit.counters self.new.unit.plan self.new.worker }
         ensures same { self.new.unit ≡ self.old.unit }
-        ensures puts { PutsOctets O.told (answers_octets answers.now) result (view self.old.worker) (view self.new.worker) }
+        ensures puts { PutsOctets O.told (answers_octets answers.now) result (view self.old.worker)
+            (view self.new.worker) }
     {
         self.piece.clear();
         for answer in answers {

@@ -5,7 +5,8 @@ use Rattle.sdls_base.specs.KeyId.{class_of, end_of}
 use Rattle.sdls_base.specs.declared.key_id.KeyClass.TheVariants.{Master}
 use Rattle.sdls_base.specs.declared.key_item.KeyItem.{KeyItem}
 use Rattle.sdls_base.specs.declared.change.Change.{Change}
-use Rattle.sdls_base.specs.declared.change.Change.TheVariants.{Marks, Load, KeyStates, Create, Rekey, SaTo, SetNumber, SetWindow, Accepted, Nothing}
+use Rattle.sdls_base.specs.declared.change.Change.TheVariants.{Marks, Load, KeyStates, Create, Rekey, SaTo, SetNumber}
+use Rattle.sdls_base.specs.declared.change.Change.TheVariants.{SetWindow, Accepted, Nothing}
 use Rattle.sdls_base.specs.declared.change.NewSa.{NewSa}
 use Rattle.sdls_base.specs.declared.states.Direction.{Direction}
 use Rattle.sdls_base.specs.declared.states.Direction.TheVariants.{Send, Receive}
@@ -19,7 +20,8 @@ use Rattle.sa_book.specs.declared.sa_refusal.SaRefusal.{SaRefusal}
 use Rattle.sa_book.specs.declared.sa_row.SaRow.{SaRow}
 use Rattle.sa_book.specs.SaRow.{MayAccept}
 use Rattle.sa_book.specs.SaBook.{in_use}
-use Rattle.sa_book.specs.SaRefusal.{create_refusal, start_refusal, stop_refusal, expire_refusal, delete_refusal, set_number_refusal, set_window_refusal}
+use Rattle.sa_book.specs.SaRefusal.{create_refusal, start_refusal, stop_refusal, expire_refusal, delete_refusal}
+use Rattle.sa_book.specs.SaRefusal.{set_number_refusal, set_window_refusal}
 use Rattle.unit_state.specs.declared.state.State.{State}
 use Rattle.unit_state.specs.State.{key_row, association_row}
 use Rattle.unit_state.specs.Taking.{least_with, taking_refusal}
@@ -54,7 +56,8 @@ pub record AllowsCreate (state : State) (new : NewSa) : Type 0 where
   pub numbers : All (λ channel. channel ≤ 63) new.channels
   pub book : create_refusal state.associations new state.channels ≡ None
 
--- The association takes the key as it stands, with the number. Whatever word was seen of a sending one, it was at least 1.
+-- The association takes the key as it stands, with the number. Whatever word was seen of a sending one, it was at least
+-- 1.
 abbrev pub AllowsRekey : State → ℕ → ℕ → ℕ → Type 0
 AllowsRekey state spi key number = IsSomeAnd (association_row state spi)
     (λ row. IsSomeAnd (key_row state key) (λ held. taking_refusal state spi key number 1 row held ≡ None))

@@ -1,5 +1,6 @@
 -- The state that the lines of a plan make, in their order, or the first line that the books refuse (profile).
-use Rattle.std.specs.Prelude.{◌≡◌, ⊤, ℕ, ◌+◌, Bool, false, nat_le, List, [], ◌∷◌, map, take, drop, Option, Some, is_none, Result, Ok, Err}
+use Rattle.std.specs.Prelude.{◌≡◌, ⊤, ℕ, ◌+◌, Bool, false, nat_le, List, [], ◌∷◌, map, take, drop, Option, Some}
+use Rattle.std.specs.Prelude.{is_none, Result, Ok, Err}
 use Rattle.std.specs.List.{position_or_len}
 use Rattle.std.specs.Option.{option_map_or}
 use Rattle.sdls_base.specs.declared.change.Change.TheVariants.{Load, KeyStates, Create, Rekey, SaTo}
@@ -79,7 +80,8 @@ started state found = do
   Ok (applied state (SaTo found.sa.spi (Some Operational)))
 
 abbrev pub association_made : State → PlanSa → Result State PlanFault
-association_made state found = created state found >>= λ unkeyed. keyed unkeyed found >>= λ stopped. started stopped found
+association_made state found = created state found >>= λ unkeyed. keyed unkeyed found >>= λ stopped. started stopped
+    found
 
 -- how many of the keys have their line before another
 abbrev pub count_before : ℕ → List PlanKey → ℕ

@@ -5,7 +5,8 @@ use Rattle.key_book.specs.declared.key_row.KeyRow.{KeyRow}
 use Rattle.key_book.specs.KeyBook.{place_of}
 use Rattle.sa_book.specs.SaBook.{sender_on}
 use Rattle.sdls_base.specs.declared.change.Change.{Change}
-use Rattle.sdls_base.specs.declared.change.Change.TheVariants.{Marks, Load, KeyStates, Create, Rekey, SaTo, SetNumber, SetWindow, Accepted, Nothing}
+use Rattle.sdls_base.specs.declared.change.Change.TheVariants.{Marks, Load, KeyStates, Create, Rekey, SaTo, SetNumber}
+use Rattle.sdls_base.specs.declared.change.Change.TheVariants.{SetWindow, Accepted, Nothing}
 use Rattle.unit_state.specs.declared.state.State.{State}
 use Rattle.unit_state.specs.State.{key_row}
 use Rattle.unit_state.specs.Applied.{applied}
@@ -54,7 +55,8 @@ HaveOwnBytes rows = AllPairs (λ a b. a.bytes ≡ b.bytes → a.bytes ≡ []) ro
 
 -- The same sender on each channel, and the same row of each key, but for marks, floors and highest numbers.
 pub record ServeAlike (one other : State) : Type 0 where
-  pub sender : (channel : ℕ) → option_map still_association (sender_on one.associations channel) ≡ option_map still_association (sender_on other.associations channel)
+  pub sender : (channel : ℕ) → option_map still_association (sender_on one.associations channel)
+      ≡ option_map still_association (sender_on other.associations channel)
   pub key : (id : ℕ) → option_map still_key (key_row one id) ≡ option_map still_key (key_row other id)
 
 -- the change that is stored for another may be stored, is allowed, and after a restart leaves the same

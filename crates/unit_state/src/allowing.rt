@@ -11,7 +11,8 @@ ghost use Rattle.sa_book.specs.SaBook.{in_use};
 ghost use Rattle.sa_book.specs.SaRefusal.{is_key};
 ghost use Rattle.sa_book.specs.SaRow.{MayAccept};
 ghost use Rattle.unit_state.specs.State.{key_row};
-ghost use Rattle.unit_state.specs.Allows.{Allows, IsSessionKey, AllowsMarks, AllowsLoad, AllowsStates, AllowsCreate, AllowsRekey, AllowsNumber, AllowsWindow, AllowsAccepted, state_refusal};
+ghost use Rattle.unit_state.specs.Allows.{Allows, IsSessionKey, AllowsMarks, AllowsLoad, AllowsStates, AllowsCreate};
+ghost use Rattle.unit_state.specs.Allows.{AllowsRekey, AllowsNumber, AllowsWindow, AllowsAccepted, state_refusal};
 
 use crate::state::State;
 use crate::taking::least_with;

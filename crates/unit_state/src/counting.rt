@@ -5,8 +5,8 @@ ghost use Rattle.unit_state.specs.Restart.{counts};
 
 use sdls_base::Change;
 
-/// Whether a change counts for the epoch: all count but marks, acceptances and nothing, which leave what binds a frame as it
-/// was.
+/// Whether a change counts for the epoch: all count but marks, acceptances and nothing, which leave what binds a frame
+/// as it was.
 pub fn counts(change: &Change) -> bool
     ensures { result ≡ counts change.now }
 {

@@ -10,7 +10,8 @@ ghost use Rattle.unit_state.specs.Applied.{applied};
 ghost use Rattle.unit_state.specs.Allows.{Allows};
 ghost use Rattle.unit_state.specs.Restart.{AreAlike, IsLight, IsStorable, restarted, still, stored_as};
 ghost use Rattle.unit_state.specs.History.{after, at_epoch, epoch_after};
-ghost use Rattle.unit_state.specs.Laws.{Rises, FallOnlyTo, IsNoMarks, KeepsPlaces, HaveOwnBytes, ServeAlike, StoresWell};
+ghost use Rattle.unit_state.specs.Laws.{Rises, FallOnlyTo, IsNoMarks, KeepsPlaces, HaveOwnBytes, ServeAlike};
+ghost use Rattle.unit_state.specs.Laws.{StoresWell};
 
 /// Law: a change that a state allows leaves the rules.
 pub fn rules_stay()

@@ -7,7 +7,9 @@ ghost use Rattle.unit_plan.specs.PlanError.{Gives};
 ghost use Rattle.sdls_base.specs.Bounds.{IsKeyLength};
 ghost use Rattle.unit_plan.specs.PlanRules.{IsAssociation};
 ghost use Rattle.unit_state.specs.State.{KeepsRules};
-ghost use Rattle.unit_state.specs.Initial.{MakesLines, bare, loaded, activated, activated_if, key_made, keys_made, created, keyed, started, association_made, count_before, lines_made, initial};
+ghost use Rattle.unit_state.specs.Initial.{MakesLines, bare, loaded, activated, activated_if, key_made, keys_made};
+ghost use Rattle.unit_state.specs.Initial.{created, keyed, started, association_made, count_before, lines_made};
+ghost use Rattle.unit_state.specs.Initial.{initial};
 
 use crate::state::State;
 use crate::taking::least_with;
