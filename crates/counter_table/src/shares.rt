@@ -122,6 +122,7 @@ impl<B: Counted> Counters<B> {
         ensures whole { (view worker.old).numbers.shares ≡ ALL_SHARES → IsWhole rows (view worker.old) }
         ensures look { Look (view worker.old).turn }
     {
+        // For contracts alone.
         let _rows = rows;
         self.table.shared.load::<Looks<T>>(&mut worker.seat, 1);
     }

@@ -160,6 +160,7 @@ impl<B: Counted> Counters<B> {
         ensures numbers { (view worker.new).numbers ≡ lifting row mark (view worker.old).numbers }
         ensures turn { (view worker.new).turn ≡ learning (B.told held.now.book).marks (view worker.old).turn }
     {
+        // For contracts alone.
         let _held = held;
         let at = limit_word(row);
         self.table
@@ -192,6 +193,7 @@ impl<B: Counted> Counters<B> {
         ensures same { (seat.new.table_id ≡ seat.old.table_id) × (seat.new.id ≡ seat.old.id) }
         ensures took { Took B.told rows seat.old.me seat.new.me }
     {
+        // For contracts alone.
         let _rows = rows;
         let shared = &self.table.shared;
         for _ in rt.forever() {

@@ -76,6 +76,7 @@ pub fn hash(table: &Table, aad: &[u8], text: &[u8]) -> u128
     ensures { result ≡ ghash table.now (blocks (hashed aad.now text.now)) }
 {
     let y = fold_padded(table, fold_padded(table, 0, aad), text);
+    // For contracts alone.
     let _ = &table.subkey;
     table.product(y ^ lengths(aad.len(), text.len()))
 }

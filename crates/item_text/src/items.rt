@@ -30,7 +30,7 @@ fn command_line(alloc: Global, lane: u8, octets: Octets) -> Result<Line, NoMemor
     }
 }
 
-/// What a slice of octets holds is octets.
+/// For contracts alone: what a slice of octets holds is octets.
 fn hold_octets(octets: &[u8])
     ensures { IsBytes octets.now }
 {

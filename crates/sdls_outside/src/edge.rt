@@ -12,6 +12,7 @@ pub fn counted<T, E: Drop>(outcome: Result<T, E>, faults: &mut u64) -> Result<T,
 {
     match outcome {
         Ok(value) => {
+            // For contracts alone.
             let _ = *faults;
             Ok(value)
         }
