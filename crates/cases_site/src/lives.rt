@@ -4,14 +4,35 @@ use sdls_outside::{Crash, MemSite, Site};
 use std::alloc::{AllocError, Global};
 use std::str::SplitWhitespace;
 
+// Each call has a function of its own, without a clause: what five contracts say together takes long to prove.
+fn begins(site: &mut MemSite) -> bool {
+    site.begin().is_ok()
+}
+
+fn writes(site: &mut MemSite) -> bool {
+    site.write_at(0, b"aXY").is_ok()
+}
+
+fn syncs(site: &mut MemSite) -> bool {
+    site.sync().is_ok()
+}
+
+fn puts(site: &mut MemSite) -> bool {
+    site.put(b"sunk").is_ok()
+}
+
+fn reads(site: &mut MemSite) -> bool {
+    let mut into = [0; 2];
+    site.image().len() >= 2 && site.read_at(0, &mut into).is_ok()
+}
+
 /// Whether each of the five calls is Ok.
 fn lived(site: &mut MemSite) -> [bool; 5] {
-    let mut into = [0; 2];
-    let begun = site.begin().is_ok();
-    let written = site.write_at(0, b"aXY").is_ok();
-    let synced = site.sync().is_ok();
-    let put = site.put(b"sunk").is_ok();
-    let read = site.image().len() >= 2 && site.read_at(0, &mut into).is_ok();
+    let begun = begins(site);
+    let written = writes(site);
+    let synced = syncs(site);
+    let put = puts(site);
+    let read = reads(site);
     [begun, written, synced, put, read]
 }
 
