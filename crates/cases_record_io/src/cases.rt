@@ -20,7 +20,7 @@ impl Case {
     pub fn read(alloc: Global, text: &str) -> anyhow::Result<Case> {
         let mut words = text.split_whitespace();
         Ok(Case {
-            piece: number(&mut words).unwrap_or(1).max(1) as usize,
+            piece: number(&mut words).unwrap_or(1) as usize,
             failing: number(&mut words),
             octets: octets(alloc, &mut words)?,
         })
@@ -34,7 +34,7 @@ impl Case {
         if let Some(call) = self.failing {
             failing.push(call)?;
         }
-        Ok(MemSource::new(front, self.piece, failing))
+        Ok(MemSource::new(front, self.piece.max(1), failing))
     }
 }
 
