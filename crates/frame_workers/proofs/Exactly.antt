@@ -13,17 +13,17 @@ use Rattle.law_history.specs.Log.{entries_of}
 use Rattle.law_history.specs.Numbers.{mark_of}
 use Rattle.record_io.specs.declared.records.Record.{Record}
 use Rattle.record_io.specs.declared.answers.Answer.{Answer}
-use Rattle.law_worker.specs.Begin.{Begin}
-use Rattle.law_worker.specs.Views.{KnowsMore, entries_in, keeping, log_of, starting, meeting}
-use Rattle.law_worker.specs.Deeds.{Deed, Does, deed_of, deeds_of}
-use Rattle.law_worker.specs.Lanes.{giving_shares}
-use Rattle.law_worker.proofs.Joining.{top_both}
-use Rattle.law_one_lane.specs.Machine.{Move}
-use Rattle.law_one_lane.specs.Exact.{words_in}
-use Rattle.law_one_lane.specs.InTurn.{IsLevel, ServedBetween}
-use Rattle.law_one_lane.specs.Alone.{MovedInTurn, ServedAlone}
-use Rattle.law_one_lane.proofs.Turns.{clean_before, log_low, row_on}
-use Rattle.law_one_lane.proofs.Alone.{below_log, exact_seen, seen_moves, turns_more, turns_then}
+use Rattle.law_workers.specs.Begin.{Begin}
+use Rattle.law_workers.specs.Views.{KnowsMore, entries_in, keeping, log_of, starting, meeting}
+use Rattle.law_workers.specs.Deeds.{Deed, Does, deed_of, deeds_of}
+use Rattle.law_workers.specs.Lanes.{giving_shares}
+use Rattle.law_workers.proofs.Joining.{top_both}
+use Rattle.law_workers.specs.Machine.{Move}
+use Rattle.law_workers.specs.Exact.{words_in}
+use Rattle.law_workers.specs.InTurn.{IsLevel, ServedBetween}
+use Rattle.law_workers.specs.Alone.{MovedInTurn, ServedAlone}
+use Rattle.law_workers.proofs.Turns.{clean_before, log_low, row_on}
+use Rattle.law_workers.proofs.Alone.{below_log, exact_seen, seen_moves, turns_more, turns_then}
 use Rattle.law_calls.specs.Answering.{AnsweredExactly}
 use Rattle.frame_workers.proofs.Steps.{deeds_step, deeds_short}
 

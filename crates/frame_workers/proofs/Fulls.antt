@@ -5,13 +5,13 @@ use Rattle.counter_table.specs.declared.view.View.{View}
 use Rattle.sdls_outside.specs.Faults.{Rose}
 use Rattle.record_io.specs.declared.records.Record.{Record}
 use Rattle.unit_book.specs.declared.limits.TheConstants.{MOST_ENTRIES}
-use Rattle.law_worker.specs.Begin.{Begin}
-use Rattle.law_worker.specs.Views.{KnowsMore, keeping, starting, meeting, Meets, entries_in}
-use Rattle.law_worker.specs.Deeds.{Deed}
-use Rattle.law_worker.specs.Order.{Layout, Handled}
-use Rattle.law_worker.proofs.Working.{grown_entries, may_later}
-use Rattle.law_worker.proofs.Handling.{handled_nothing, handled_then, handled_beside}
-use Rattle.law_calls.specs.Answering.{IsFullFor}
+use Rattle.law_workers.specs.Begin.{Begin}
+use Rattle.law_workers.specs.Views.{KnowsMore, keeping, starting, meeting, Meets, entries_in}
+use Rattle.law_workers.specs.Deeds.{Deed}
+use Rattle.law_workers.specs.Order.{Layout, Handled}
+use Rattle.law_workers.proofs.Working.{grown_entries, may_later}
+use Rattle.law_workers.proofs.Handling.{handled_nothing, handled_then, handled_beside}
+use Rattle.law_workers.specs.Ends.{IsFullFor}
 
 pub full_stays : (begin : Begin) (u v w z : View) (task : Record) → KnowsMore u v → KnowsMore w z → IsFullFor begin v w task → IsFullFor begin u z task
 full_stays begin u v w z task low high is = record {

@@ -9,9 +9,9 @@ use Rattle.std.proofs.lemmas.List.Quantifiers.{all_pairs_push}
 use Rattle.counter_table.specs.declared.view.View.{View}
 use Rattle.record_io.specs.declared.records.Record.{Record}
 use Rattle.record_io.specs.declared.answers.Answer.{Answer}
-use Rattle.law_worker.specs.Views.{meeting, Meets}
-use Rattle.law_worker.specs.Deeds.{deeds_of}
-use Rattle.law_worker.specs.Lanes.{of_lane, Part, meeting_all, MeetAll, parts_deeds}
+use Rattle.law_workers.specs.Views.{meeting, Meets}
+use Rattle.law_workers.specs.Deeds.{deeds_of}
+use Rattle.law_workers.specs.Lanes.{of_lane, Part, meeting_all, MeetAll, parts_deeds}
 use Rattle.frame_workers.specs.declared.lane.Lane.{Lane}
 use Rattle.frame_workers.specs.Lanes.{part_of, parts_of, answers_of, HaveOwnNumbers, AreAmong}
 

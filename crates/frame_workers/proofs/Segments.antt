@@ -12,19 +12,18 @@ use Rattle.counter_table.specs.Worker.{view}
 use Rattle.record_io.specs.declared.records.Record.{Record}
 use Rattle.record_io.specs.declared.answers.Answer.{Answer}
 use Rattle.record_io.specs.declared.kinds.TheConstants.{LANES}
-use Rattle.law_worker.specs.Begin.{Begin}
-use Rattle.law_worker.specs.Views.{KnowsMore, keeping, starting, meeting, Meets}
-use Rattle.law_worker.specs.Deeds.{deeds_of}
-use Rattle.law_worker.specs.Order.{Layout, LiesIn, Handled}
-use Rattle.law_worker.specs.Lanes.{is_of_lane, of_lane, giving_shares, Part, DidPart, meeting_all, MeetAll, parts_deeds}
-use Rattle.law_worker.proofs.Joining.{grows_itself, grows_further}
-use Rattle.law_worker.proofs.Handling.{handled_nothing}
-use Rattle.law_worker.proofs.Lanes.{lanes_handled, lanes_grow}
+use Rattle.law_workers.specs.Begin.{Begin}
+use Rattle.law_workers.specs.Views.{KnowsMore, keeping, starting, meeting, Meets}
+use Rattle.law_workers.specs.Deeds.{deeds_of}
+use Rattle.law_workers.specs.Order.{Layout, LiesIn, Handled}
+use Rattle.law_workers.specs.Lanes.{is_of_lane, of_lane, giving_shares, Part, DidPart, meeting_all, MeetAll, parts_deeds}
+use Rattle.law_workers.proofs.Joining.{grows_itself, grows_further}
+use Rattle.law_workers.proofs.Handling.{handled_nothing}
+use Rattle.law_workers.proofs.Lanes.{lanes_handled, lanes_grow}
 use Rattle.frame_workers.specs.declared.lane.Lane.{Lane}
-use Rattle.law_one_lane.specs.Alone.{MovedInTurn, ServedAlone}
-use Rattle.law_calls.specs.Answering.{IsFullFor}
-use Rattle.law_worker.specs.Began.{BeganWith}
-use Rattle.law_calls.specs.Ends.{EndsSegment}
+use Rattle.law_workers.specs.Alone.{MovedInTurn, ServedAlone}
+use Rattle.law_workers.specs.Ends.{IsFullFor, EndsSegment}
+use Rattle.law_workers.specs.Began.{BeganWith}
 use Rattle.frame_workers.specs.Lanes.{HasRun, IsSplit, part_of, parts_of, answers_of, HaveOwnNumbers, IsThere, StopsAt}
 use Rattle.frame_workers.proofs.Keeping.{begun_at, began_at}
 use Rattle.frame_workers.proofs.Steps.{lane_next, lane_whole}

@@ -5,8 +5,8 @@ use Rattle.std.proofs.lemmas.List.Elements.{Contains-append_left, Contains-push}
 use Rattle.counter_table.specs.declared.view.View.{View}
 use Rattle.record_io.specs.declared.records.Record.{Record}
 use Rattle.record_io.specs.declared.answers.Answer.{Answer}
-use Rattle.law_worker.specs.Views.{keeping, starting}
-use Rattle.law_worker.specs.Lanes.{giving_shares}
+use Rattle.law_workers.specs.Views.{keeping, starting}
+use Rattle.law_workers.specs.Lanes.{giving_shares}
 use Rattle.frame_workers.specs.declared.lane.Lane.{Lane}
 use Rattle.frame_workers.specs.Lanes.{IsRoom, IsThere}
 

@@ -8,11 +8,11 @@ use Rattle.std.proofs.lemmas.List.Kept.{AllPairs-filter}
 use Rattle.counter_table.specs.declared.view.View.{View}
 use Rattle.record_io.specs.declared.records.Record.{Record}
 use Rattle.record_io.specs.declared.answers.Answer.{Answer}
-use Rattle.law_worker.specs.Begin.{Begin}
-use Rattle.law_worker.specs.Deeds.{Deed, deed_of, deeds_of, Ascend}
-use Rattle.law_worker.specs.Order.{Layout, Handled, ComeBefore}
-use Rattle.law_worker.specs.Lanes.{is_of_lane, of_lane}
-use Rattle.law_worker.proofs.Handling.{handled_nothing, handled_then, record_indexed}
+use Rattle.law_workers.specs.Begin.{Begin}
+use Rattle.law_workers.specs.Deeds.{Deed, deed_of, deeds_of, Ascend}
+use Rattle.law_workers.specs.Order.{Layout, Handled, ComeBefore}
+use Rattle.law_workers.specs.Lanes.{is_of_lane, of_lane}
+use Rattle.law_workers.proofs.Handling.{handled_nothing, handled_then, record_indexed}
 
 pub deeds_step : (s : ℕ) (ts : List Record) (xs : List Answer) (r : Record) (a : Answer) → length xs ≡ length ts
     → deeds_of s (ts ++ r ∷ []) (xs ++ a ∷ []) ≡ deeds_of s ts xs ++ deed_of s r a ∷ []

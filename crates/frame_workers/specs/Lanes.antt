@@ -9,15 +9,15 @@ use Rattle.record_io.specs.declared.records.Record.{Record}
 use Rattle.record_io.specs.declared.answers.Answer.{Answer}
 use Rattle.record_io.specs.declared.kinds.TheConstants.{LANES}
 use Rattle.shared_unit.specs.Protecting.{IsTrueIfKept}
-use Rattle.law_worker.specs.Begin.{Begin}
-use Rattle.law_worker.specs.Views.{starting}
-use Rattle.law_worker.specs.Deeds.{Deed, deeds_of}
-use Rattle.law_worker.specs.Order.{Layout, Handled}
-use Rattle.law_worker.specs.Lanes.{is_of_lane, of_lane, Part}
-use Rattle.law_one_lane.specs.Alone.{MovedInTurn}
-use Rattle.law_worker.specs.Began.{BeganWith}
+use Rattle.law_workers.specs.Begin.{Begin}
+use Rattle.law_workers.specs.Views.{starting}
+use Rattle.law_workers.specs.Deeds.{Deed, deeds_of}
+use Rattle.law_workers.specs.Order.{Layout, Handled}
+use Rattle.law_workers.specs.Lanes.{is_of_lane, of_lane, Part}
+use Rattle.law_workers.specs.Alone.{MovedInTurn}
+use Rattle.law_workers.specs.Began.{BeganWith}
 use Rattle.frame_workers.specs.declared.lane.Lane.{Lane}
-use Rattle.law_calls.specs.Ends.{EndsSegment}
+use Rattle.law_workers.specs.Ends.{EndsSegment}
 
 module _ {B : Type 0} (ready : Worker B → Type 0) where
   -- the lane may run: its worker is ready, what it keeps is true, and it has room for the answers

@@ -4,7 +4,7 @@ ghost use Rattle.std.specs.List.{AllPairs, list_any};
 ghost use Rattle.sdls_base.specs.declared.TheConstants.{MOST_KEYS};
 ghost use Rattle.counter_table.specs.Worker.{view};
 ghost use Rattle.shared_unit.specs.Turn.{IsReady};
-ghost use Rattle.law_worker.specs.Lanes.{giving_shares, is_of_lane, MeetAll, meeting_all, Part};
+ghost use Rattle.law_workers.specs.Lanes.{giving_shares, is_of_lane, MeetAll, meeting_all, Part};
 ghost use Rattle.frame_workers.specs.Lanes.{answers_of, HaveOwnNumbers, IsRoom, IsSplit, IsThere, left_at, parts_of};
 
 use crate::lane::Lane;

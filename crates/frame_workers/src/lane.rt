@@ -1,7 +1,7 @@
 // A lane of a segment, and its run.
 ghost use Rattle.std.specs.Prelude.{◌≡◌, ◌<◌, ℕ, All, length, slice_index_or};
 ghost use Rattle.shared_unit.specs.Turn.{IsReady};
-ghost use Rattle.law_worker.specs.Deeds.{Ascend};
+ghost use Rattle.law_workers.specs.Deeds.{Ascend};
 ghost use Rattle.frame_workers.specs.Lanes.{CanRun, HasRun};
 
 use crate::gate::Gate;

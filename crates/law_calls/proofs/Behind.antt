@@ -18,9 +18,9 @@ use Rattle.counter_table.specs.Turn.{places, stands}
 use Rattle.law_history.specs.Log.{entries_of}
 use Rattle.law_history.specs.Legal.{IsLegal, IsLegalAt}
 use Rattle.law_history.specs.Counts.{count_at}
-use Rattle.law_worker.specs.Deeds.{IsLastAt}
-use Rattle.law_worker.specs.Order.{is_line, is_piece}
-use Rattle.law_worker.proofs.Logs.{more_stands}
+use Rattle.law_workers.specs.Deeds.{IsLastAt}
+use Rattle.law_workers.specs.Order.{is_line, is_piece}
+use Rattle.law_workers.proofs.Logs.{more_stands}
 
 abbrev pub lines_of : List Entry → List Logged
 lines_of [] = []

@@ -45,12 +45,12 @@ use Rattle.shared_unit.specs.Told.{known_of_book, entry_count}
 use Rattle.shared_unit.specs.Turn.{Visits}
 use Rattle.shared_unit.proofs.Places.{place_there}
 use Rattle.shared_unit.proofs.Reserved.{reserves_place}
-use Rattle.law_worker.specs.Begin.{Begin}
-use Rattle.law_worker.specs.Views.{IsBetween, IsRow, entries_in}
-use Rattle.law_worker.specs.Work.{IsAsked}
-use Rattle.law_worker.specs.Deeds.{course_in}
-use Rattle.law_worker.specs.Order.{Layout}
-use Rattle.law_worker.specs.Began.{BeganWith}
+use Rattle.law_workers.specs.Begin.{Begin}
+use Rattle.law_workers.specs.Views.{IsBetween, IsRow, entries_in}
+use Rattle.law_workers.specs.Work.{IsAsked}
+use Rattle.law_workers.specs.Deeds.{course_in}
+use Rattle.law_workers.specs.Order.{Layout}
+use Rattle.law_workers.specs.Began.{BeganWith}
 use Rattle.law_calls.specs.Answering.{Answered, answer_of, fault_answer, commanded_answer}
 use Rattle.law_calls.proofs.Counting.{Shows, counted_none, raise_shows, draws_shows, uses_shows, out_shows}
 use Rattle.law_calls.proofs.Fitted.{commanded_fits}

@@ -46,15 +46,15 @@ use Rattle.shared_unit.specs.Numbers.{Draws}
 use Rattle.shared_unit.specs.Told.{known_of_book, entry_count}
 use Rattle.shared_unit.specs.Turn.{FindsCovered, Visits}
 use Rattle.shared_unit.proofs.Steps.{earlier_again}
-use Rattle.law_worker.specs.Begin.{Begin}
-use Rattle.law_worker.specs.Views.{entries_in}
-use Rattle.law_worker.specs.Deeds.{course_in, deed_of}
-use Rattle.law_worker.specs.Order.{Layout}
-use Rattle.law_one_lane.specs.Machine.{Move, Kept, Found, Drew, Raised, Overdrew}
-use Rattle.law_one_lane.specs.Serving as machine
-use Rattle.law_one_lane.specs.InTurn.{IsClean}
-use Rattle.law_one_lane.specs.Exact.{TellsSeen, TellsCommand, TellsKind, Tells, IsOfMoves}
-use Rattle.law_worker.specs.Began.{BeganWith}
+use Rattle.law_workers.specs.Begin.{Begin}
+use Rattle.law_workers.specs.Views.{entries_in}
+use Rattle.law_workers.specs.Deeds.{course_in, deed_of}
+use Rattle.law_workers.specs.Order.{Layout}
+use Rattle.law_workers.specs.Machine.{Move, Kept, Found, Drew, Raised, Overdrew}
+use Rattle.law_workers.specs.Serving as machine
+use Rattle.law_workers.specs.InTurn.{IsClean}
+use Rattle.law_workers.specs.Exact.{TellsSeen, TellsCommand, TellsKind, Tells, IsOfMoves}
+use Rattle.law_workers.specs.Began.{BeganWith}
 use Rattle.law_calls.specs.Answering.{answer_of, fault_answer, commanded_answer, AnsweredExactly}
 use Rattle.law_calls.proofs.Behind.{lines_of, lines_more, lines_entries}
 use Rattle.law_calls.proofs.Counting.{Shows, found_shows, draws_shows, uses_shows}

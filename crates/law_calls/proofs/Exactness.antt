@@ -18,15 +18,15 @@ use Rattle.law_history.specs.Answers.{counting}
 use Rattle.law_history.specs.Log.{entries_of}
 use Rattle.unit_book.specs.declared.fault.BookFault.{BookFault}
 use Rattle.unit_book.specs.declared.fault.BookFault.TheVariants as refusals
-use Rattle.law_worker.specs.Begin.{Begin}
-use Rattle.law_worker.specs.Views.{log_of, entries_in}
-use Rattle.law_worker.specs.Deeds.{deed_of}
-use Rattle.law_worker.proofs.Logs.{more_stands}
-use Rattle.law_one_lane.specs.Machine.{Move, Kept}
-use Rattle.law_one_lane.specs.Exact.{IsOfMoves, Tells, TellsKind}
-use Rattle.law_one_lane.specs.Serving.{AloneServes}
-use Rattle.law_one_lane.specs.InTurn.{IsClean, IsLevel, AreMarked, ServedInTurn}
-use Rattle.law_one_lane.proofs.Machines.{exact_move, move_moves}
+use Rattle.law_workers.specs.Begin.{Begin}
+use Rattle.law_workers.specs.Views.{log_of, entries_in}
+use Rattle.law_workers.specs.Deeds.{deed_of}
+use Rattle.law_workers.proofs.Logs.{more_stands}
+use Rattle.law_workers.specs.Machine.{Move, Kept}
+use Rattle.law_workers.specs.Exact.{IsOfMoves, Tells, TellsKind}
+use Rattle.law_workers.specs.Serving.{AloneServes}
+use Rattle.law_workers.specs.InTurn.{IsClean, IsLevel, AreMarked, ServedInTurn}
+use Rattle.law_workers.proofs.Machines.{exact_move, move_moves}
 use Rattle.law_calls.specs.Answering.{answer_of, unserved_answer, fault_answer, AnsweredExactly}
 use Rattle.law_calls.proofs.Behind.{lines_of, here, next, longer}
 use Rattle.law_calls.proofs.InTurn.{Passes, served_turn, unserved_turn}

@@ -31,15 +31,15 @@ use Rattle.unit_book.specs.Book.{BookView, Enters}
 use Rattle.unit_book.specs.Marks.{mark_at}
 use Rattle.shared_unit.specs.Told.{known_of_book}
 use Rattle.shared_unit.specs.Turn.{FindsCovered, taking_once, Visits}
-use Rattle.law_worker.specs.Begin.{Begin}
-use Rattle.law_worker.specs.Views.{IsRow, log_of, entries_in}
-use Rattle.law_worker.specs.Deeds.{deed_of}
-use Rattle.law_lives.proofs.Rows.{mark_known}
-use Rattle.law_one_lane.specs.Machine.{Move}
-use Rattle.law_one_lane.specs.Serving.{HasSlot, SaysFull, AloneServes}
-use Rattle.law_one_lane.specs.InTurn.{MadeAllLines, IsClean, IsLevel, IsMarked, AreMarked, ServedInTurn}
+use Rattle.law_workers.specs.Begin.{Begin}
+use Rattle.law_workers.specs.Views.{IsRow, log_of, entries_in}
+use Rattle.law_workers.specs.Deeds.{deed_of}
+use Rattle.law_workers.proofs.Rows.{mark_known}
+use Rattle.law_workers.specs.Machine.{Move}
+use Rattle.law_workers.specs.Serving.{HasSlot, SaysFull, AloneServes}
+use Rattle.law_workers.specs.InTurn.{MadeAllLines, IsClean, IsLevel, IsMarked, AreMarked, ServedInTurn}
 use Rattle.law_calls.specs.Answering.{answer_of}
-use Rattle.law_worker.specs.Began.{BeganWith}
+use Rattle.law_workers.specs.Began.{BeganWith}
 use Rattle.law_calls.proofs.Behind.{lines_of, lines_entries, places_within}
 use Rattle.law_calls.proofs.OneRecord.{Turned}
 use Rattle.law_calls.proofs.Visit.{below_mark, began_faults, faults_are, changes_are, log_is, log_low, start_is, whole}

@@ -9,10 +9,10 @@ use Rattle.counter_table.specs.Numbers.{amount, top, raising}
 use Rattle.record_io.specs.declared.records.Record.{Record}
 use Rattle.shared_unit.specs.Numbers.{Draws}
 use Rattle.shared_unit.proofs.Tops.{top-append}
-use Rattle.law_worker.specs.Begin.{Begin}
-use Rattle.law_one_lane.specs.Machine.{Move, Kept, Found, Drew, Raised, Overdrew, adds, IsAt}
-use Rattle.law_one_lane.specs.Exact.{words_in}
-use Rattle.law_one_lane.proofs.Machines.{drew_alone, found_alone, raised_alone}
+use Rattle.law_workers.specs.Begin.{Begin}
+use Rattle.law_workers.specs.Machine.{Move, Kept, Found, Drew, Raised, Overdrew, adds, IsAt}
+use Rattle.law_workers.specs.Exact.{words_in}
+use Rattle.law_workers.proofs.Machines.{drew_alone, found_alone, raised_alone}
 use Rattle.law_calls.proofs.Counting.{Shows}
 
 amount_both : (row : ℕ) (a b : List (ℕ × ℕ)) → amount row (a ++ b) ≡ amount row a + amount row b

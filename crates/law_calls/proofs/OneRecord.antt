@@ -19,12 +19,12 @@ use Rattle.law_history.specs.Log.{entries_of}
 use Rattle.law_history.specs.Legal.{IsLegalAt}
 use Rattle.law_history.specs.Counts.{is_of_record, is_of_none, count_at, drawers}
 use Rattle.law_history.specs.Fits.{Fits}
-use Rattle.law_worker.specs.Begin.{Begin}
-use Rattle.law_worker.specs.Views.{Gains, Gained, KnowsMore, IsBetween, log_of, entries_in}
-use Rattle.law_worker.specs.Work.{indexed, IsAsked, Works}
-use Rattle.law_worker.specs.Deeds.{Deed, deed_of, course_in, StandsWithin, Agree, IsSpent, MadeLast}
-use Rattle.law_worker.specs.Order.{Layout, TakeTurns, is_line, is_piece, Lined, Handled}
-use Rattle.law_worker.proofs.Logs.{count_one}
+use Rattle.law_workers.specs.Begin.{Begin}
+use Rattle.law_workers.specs.Views.{Gains, Gained, KnowsMore, IsBetween, log_of, entries_in}
+use Rattle.law_workers.specs.Work.{indexed, IsAsked, Works}
+use Rattle.law_workers.specs.Deeds.{Deed, deed_of, course_in, StandsWithin, Agree, IsSpent, MadeLast}
+use Rattle.law_workers.specs.Order.{Layout, TakeTurns, is_line, is_piece, Lined, Handled}
+use Rattle.law_workers.proofs.Logs.{count_one}
 use Rattle.law_calls.proofs.Behind.{lines_of, tested, lines_length, places_within, count_behind, all_lines, no_pieces, LegalInTurn, legal_behind}
 
 pub one_all : {X : Type 0} (P : X → Type 0) (x : X) → P x → All P (x ∷ [])

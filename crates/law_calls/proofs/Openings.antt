@@ -29,12 +29,12 @@ use Rattle.unit_book.specs.Records.{OpensWithEntry, RefusesFrame}
 use Rattle.shared_unit.specs.Calls.{WithPosition}
 use Rattle.shared_unit.specs.Told.{known_of_book}
 use Rattle.shared_unit.specs.Turn.{Visits}
-use Rattle.law_worker.specs.Begin.{Begin}
-use Rattle.law_worker.specs.Views.{IsBetween}
-use Rattle.law_worker.specs.Work.{indexed}
-use Rattle.law_worker.specs.Deeds.{course_in}
-use Rattle.law_worker.specs.Order.{Layout}
-use Rattle.law_worker.specs.Began.{BeganWith}
+use Rattle.law_workers.specs.Begin.{Begin}
+use Rattle.law_workers.specs.Views.{IsBetween}
+use Rattle.law_workers.specs.Work.{indexed}
+use Rattle.law_workers.specs.Deeds.{course_in}
+use Rattle.law_workers.specs.Order.{Layout}
+use Rattle.law_workers.specs.Began.{BeganWith}
 use Rattle.law_calls.specs.Answering.{Answered, answer_of, opened_answer}
 use Rattle.law_calls.proofs.Behind.{tested}
 use Rattle.law_calls.proofs.Counting.{counted_none}

@@ -25,14 +25,14 @@ use Rattle.unit_book.specs.Records.{OpensWithEntry, RefusesFrame}
 use Rattle.shared_unit.specs.Calls.{WithPosition}
 use Rattle.shared_unit.specs.Told.{known_of_book, entry_count}
 use Rattle.shared_unit.specs.Turn.{FindsCovered, Visits}
-use Rattle.law_worker.specs.Begin.{Begin}
-use Rattle.law_worker.specs.Views.{entries_in}
-use Rattle.law_worker.specs.Deeds.{deed_of}
-use Rattle.law_one_lane.specs.Machine.{Kept}
-use Rattle.law_one_lane.specs.Serving.{now, HasSlot, SaysFull, AloneOpened, AloneUnopened, ServesKind, AloneServes}
-use Rattle.law_one_lane.specs.InTurn.{IsClean}
-use Rattle.law_one_lane.specs.Exact.{Tells, TellsKind}
-use Rattle.law_worker.specs.Began.{BeganWith}
+use Rattle.law_workers.specs.Begin.{Begin}
+use Rattle.law_workers.specs.Views.{entries_in}
+use Rattle.law_workers.specs.Deeds.{deed_of}
+use Rattle.law_workers.specs.Machine.{Kept}
+use Rattle.law_workers.specs.Serving.{now, HasSlot, SaysFull, AloneOpened, AloneUnopened, ServesKind, AloneServes}
+use Rattle.law_workers.specs.InTurn.{IsClean}
+use Rattle.law_workers.specs.Exact.{Tells, TellsKind}
+use Rattle.law_workers.specs.Began.{BeganWith}
 use Rattle.law_calls.specs.Answering.{answer_of, fault_answer, opened_answer, AnsweredExactly}
 use Rattle.law_calls.proofs.Behind.{lines_of, lines_entries}
 use Rattle.law_calls.proofs.OneRecord.{Turned}

@@ -24,7 +24,7 @@ use Rattle.frame_checks.specs.Binding.{binding_of}
 use Rattle.frame_checks.specs.ProtectingFrames.{Answer, answer_on, channel_check, channel_on, protect_check, has_channel, tells_channel}
 use Rattle.law_history.specs.ProtectingFrames.{layout_check, protect_reply}
 use Rattle.law_history.proofs.Epochs.{begins}
-use Rattle.law_worker.proofs.Histories.{row_kept_first}
+use Rattle.law_workers.proofs.Histories.{row_kept_first}
 
 -- a binding with its layout is the answer of all checks
 pub bound_reply : (plan : PlanLines) (state : State) (link : ℕ) (clear : List ℕ) (b : Binding) → protect_check plan state link clear ≡ Ok (Some b)

@@ -40,11 +40,11 @@ use Rattle.shared_unit.specs.Protecting.{FailsAt, Funds, IsDrawnAndProtected, Is
 use Rattle.shared_unit.specs.Told.{entry_count}
 use Rattle.shared_unit.proofs.Checks.{bound_check}
 use Rattle.shared_unit.proofs.Passing.{reserves_changes}
-use Rattle.law_worker.specs.Begin.{Begin}
-use Rattle.law_worker.specs.Views.{IsBetween, IsRow, entries_in}
-use Rattle.law_worker.specs.Deeds.{deed_of, course_in, is_protected, epoch_told, StandsWithin}
-use Rattle.law_worker.specs.Order.{Layout, Handled}
-use Rattle.law_worker.specs.Began.{BeganWith}
+use Rattle.law_workers.specs.Begin.{Begin}
+use Rattle.law_workers.specs.Views.{IsBetween, IsRow, entries_in}
+use Rattle.law_workers.specs.Deeds.{deed_of, course_in, is_protected, epoch_told, StandsWithin}
+use Rattle.law_workers.specs.Order.{Layout, Handled}
+use Rattle.law_workers.specs.Began.{BeganWith}
 use Rattle.law_calls.specs.Answering.{Answered, answer_of, fault_answer, protected_answer}
 use Rattle.law_calls.proofs.Behind.{LegalInTurn}
 use Rattle.law_calls.proofs.OneRecord.{Turned, Counted, handled_answered}

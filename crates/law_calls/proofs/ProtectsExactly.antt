@@ -45,15 +45,15 @@ use Rattle.shared_unit.specs.Numbers.{Draws, ComesBack}
 use Rattle.shared_unit.specs.Protecting.{CoversIfTaken, Funds, IsDrawnAndProtected, IsProtectStep, IsRefusedAt, IsUsed, Looks, MayTakeTurn, Rests, RunsOutUnder, TakesTurn}
 use Rattle.shared_unit.specs.Told.{entry_count, known_of_book}
 use Rattle.shared_unit.proofs.Steps.{earlier_again}
-use Rattle.law_worker.specs.Begin.{Begin}
-use Rattle.law_worker.specs.Views.{entries_in, log_of}
-use Rattle.law_worker.specs.Deeds.{deed_of}
-use Rattle.law_worker.specs.Order.{Layout}
-use Rattle.law_one_lane.specs.Machine.{Move, Kept, Found, Drew, Overdrew}
-use Rattle.law_one_lane.specs.Serving as machine
-use Rattle.law_one_lane.specs.InTurn.{IsClean, IsLevel, AreMarked}
-use Rattle.law_one_lane.specs.Exact.{TellsProtect, TellsKind, Tells}
-use Rattle.law_worker.specs.Began.{BeganWith}
+use Rattle.law_workers.specs.Begin.{Begin}
+use Rattle.law_workers.specs.Views.{entries_in, log_of}
+use Rattle.law_workers.specs.Deeds.{deed_of}
+use Rattle.law_workers.specs.Order.{Layout}
+use Rattle.law_workers.specs.Machine.{Move, Kept, Found, Drew, Overdrew}
+use Rattle.law_workers.specs.Serving as machine
+use Rattle.law_workers.specs.InTurn.{IsClean, IsLevel, AreMarked}
+use Rattle.law_workers.specs.Exact.{TellsProtect, TellsKind, Tells}
+use Rattle.law_workers.specs.Began.{BeganWith}
 use Rattle.law_calls.specs.Answering.{answer_of, fault_answer, protected_answer, AnsweredExactly}
 use Rattle.law_calls.proofs.Behind.{lines_of}
 use Rattle.law_calls.proofs.Counting.{Shows, found_shows, draws_shows, back_shows, uses_shows}

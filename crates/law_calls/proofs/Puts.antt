@@ -27,12 +27,12 @@ use Rattle.shared_unit.specs.Calls.{IsPut}
 use Rattle.shared_unit.specs.Told.{known_of_book}
 use Rattle.shared_unit.specs.Turn.{taking_once}
 use Rattle.shared_unit.proofs.Steps.{earlier_again}
-use Rattle.law_worker.specs.Begin.{Begin}
-use Rattle.law_worker.specs.Views.{Gains, log_of, entries_in, KnowsMore, Gained}
-use Rattle.law_worker.specs.Work.{Worked}
-use Rattle.law_lives.specs.Settled.{SettlesAt}
-use Rattle.law_worker.proofs.Histories.{entries_both}
-use Rattle.law_lives.proofs.Rows.{mark_known}
+use Rattle.law_workers.specs.Begin.{Begin}
+use Rattle.law_workers.specs.Views.{Gains, log_of, entries_in, KnowsMore, Gained}
+use Rattle.law_workers.specs.Work.{Worked}
+use Rattle.law_workers.specs.Settles.{SettlesAt}
+use Rattle.law_workers.proofs.Histories.{entries_both}
+use Rattle.law_workers.proofs.Rows.{mark_known}
 use Rattle.law_calls.specs.Visiting.{Visited}
 use Rattle.law_calls.proofs.Behind.{after_both}
 use Rattle.law_calls.proofs.OneRecord.{none_all}

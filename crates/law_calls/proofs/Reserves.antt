@@ -20,8 +20,8 @@ use Rattle.unit_book.specs.Book.{BookView, CanEnter, Made}
 use Rattle.shared_unit.specs.Funding.{Reserves}
 use Rattle.shared_unit.specs.Told.{known_of_book, entry_count}
 use Rattle.shared_unit.proofs.Places.{place_there}
-use Rattle.law_worker.specs.Views.{IsBetween}
-use Rattle.law_worker.specs.Deeds.{course_in}
+use Rattle.law_workers.specs.Views.{IsBetween}
+use Rattle.law_workers.specs.Deeds.{course_in}
 use Rattle.law_calls.specs.Answering.{Answered, fault_answer}
 use Rattle.law_calls.proofs.Behind.{after_both, lines_entries}
 use Rattle.law_calls.proofs.Visit.{plan_is, whole, led_known}

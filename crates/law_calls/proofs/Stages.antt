@@ -33,13 +33,13 @@ use Rattle.unit_book.specs.declared.limits.TheConstants.{MOST_ENTRIES}
 use Rattle.unit_book.specs.Book.{BookView, CanEnter, Enters, IsBarred, IsUnstored, IsKept}
 use Rattle.shared_unit.specs.Told.{known_of_book, entry_count}
 use Rattle.shared_unit.specs.Turn.{Visits}
-use Rattle.law_worker.specs.Begin.{Begin}
-use Rattle.law_worker.specs.Views.{Gains, IsBetween, IsRow, entries_in}
-use Rattle.law_worker.specs.Work.{indexed}
-use Rattle.law_worker.specs.Deeds.{deed_of, course_in, is_protected, epoch_told, StandsWithin, IsLastAt, IsSpent, MadeLast}
+use Rattle.law_workers.specs.Begin.{Begin}
+use Rattle.law_workers.specs.Views.{Gains, IsBetween, IsRow, entries_in}
+use Rattle.law_workers.specs.Work.{indexed}
+use Rattle.law_workers.specs.Deeds.{deed_of, course_in, is_protected, epoch_told, StandsWithin, IsLastAt, IsSpent, MadeLast}
 use Rattle.frame_checks.specs.ProtectingFrames.{has_channel}
-use Rattle.law_worker.specs.Order.{Layout, Handled}
-use Rattle.law_worker.specs.Began.{BeganWith}
+use Rattle.law_workers.specs.Order.{Layout, Handled}
+use Rattle.law_workers.specs.Began.{BeganWith}
 use Rattle.law_calls.specs.Answering.{answer_of, unserved_answer, fault_answer, Answered}
 use Rattle.law_calls.proofs.Behind.{lines_of, tested, lines_length, lines_entries, lines_more, tested_more, tested_few, LegalInTurn, legal_then, after_both, places_stand, last_behind}
 use Rattle.law_calls.proofs.OneRecord.{Turned, Counted, handled_answered, handled_unanswered}

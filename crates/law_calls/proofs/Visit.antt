@@ -22,9 +22,9 @@ use Rattle.unit_book.proofs.KeptLaws.{kept_whole, bounds_of}
 use Rattle.shared_unit.specs.Told.{known_of_book}
 use Rattle.shared_unit.specs.Turn.{taking_once, Visits}
 use Rattle.shared_unit.proofs.Steps.{earlier_again}
-use Rattle.law_worker.specs.Begin.{Begin}
-use Rattle.law_worker.proofs.Histories.{row_kept_first, entries_both as both}
-use Rattle.law_worker.specs.Began.{BeganWith}
+use Rattle.law_workers.specs.Begin.{Begin}
+use Rattle.law_workers.proofs.Histories.{row_kept_first, entries_both as both}
+use Rattle.law_workers.specs.Began.{BeganWith}
 use Rattle.law_calls.proofs.Behind.{lines_of, lines_entries, lines_length}
 use Rattle.law_calls.proofs.OneRecord.{Turned}
 

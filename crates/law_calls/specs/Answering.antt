@@ -1,6 +1,5 @@
 -- The answers to records, by what the calls on the unit answered (profile).
-use Rattle.std.specs.Prelude.{◌≢◌, ◌⊎◌, ℕ, ◌≤◌, Bool, List, [], ◌∷◌, length, take, Option, Some, None, Result, Ok, Err}
-use Rattle.std.specs.Prelude.{MatchResult}
+use Rattle.std.specs.Prelude.{ℕ, Bool, List, [], ◌∷◌, take, Option, Some, None, Result, Ok, Err, MatchResult}
 use Rattle.sdls_outside.specs.Moments.{Trace}
 use Rattle.frame_checks.specs.declared.open_reply.OpenReply.{OpenReply}
 use Rattle.frame_checks.specs.Accepting.{LeavesOctets, field_in}
@@ -8,15 +7,11 @@ use Rattle.ep_core.specs.declared.reply.Reply.{Reply}
 use Rattle.record_io.specs.declared.answers.Answer.{Answer}
 use Rattle.record_io.specs.declared.code.TheConstants.{PROTECTED, CLEAR, EXHAUSTED, JOURNAL_FULL, SITE_FAULT, STOPPED}
 use Rattle.record_io.specs.declared.code.TheConstants.{NO_MEMORY}
-use Rattle.record_io.specs.declared.kinds.RecordKind.TheVariants.{Protect}
 use Rattle.record_io.specs.declared.records.Record.{Record}
 use Rattle.counter_table.specs.declared.view.View.{View}
-use Rattle.sdls_outside.specs.Faults.{Rose}
 use Rattle.law_history.specs.Answers.{Told, counting, plain, numbered, opened_told, replied_told, fault_told}
-use Rattle.law_history.specs.Fits.{MayAppend}
 use Rattle.unit_book.specs.declared.fault.BookFault.{BookFault}
 use Rattle.unit_book.specs.declared.fault.BookFault.TheVariants as faults
-use Rattle.unit_book.specs.declared.limits.TheConstants.{MOST_ENTRIES}
 use Rattle.unit_book.specs.Book.{BookView}
 use Rattle.unit_book.specs.Records.{OpensWithEntry, RefusesFrame}
 use Rattle.shared_unit.specs.declared.permit.Protected.{Protected}
@@ -25,11 +20,11 @@ use Rattle.shared_unit.specs.Calls.{WithPosition}
 use Rattle.shared_unit.specs.Commanding.{IsCommanded}
 use Rattle.shared_unit.specs.Told.{known_of_book}
 use Rattle.shared_unit.specs.Turn.{Visits}
-use Rattle.law_worker.specs.Begin.{Begin}
-use Rattle.law_worker.specs.Views.{IsBetween, entries_in}
-use Rattle.law_worker.specs.Deeds.{course_in, deed_of}
-use Rattle.law_worker.specs.Order.{Layout, Handled}
-use Rattle.law_one_lane.specs.Alone.{MovedInTurn}
+use Rattle.law_workers.specs.Begin.{Begin}
+use Rattle.law_workers.specs.Deeds.{deed_of}
+use Rattle.law_workers.specs.Order.{Layout, Handled}
+use Rattle.law_workers.specs.Ends.{IsFullFor}
+use Rattle.law_workers.specs.Alone.{MovedInTurn}
 
 -- ---- answers
 
@@ -74,13 +69,6 @@ protected_answer (protecteds.Exhausted key number epoch) out = Some (answer_of (
 protected_answer (protecteds.Fault fault position) out = fault_answer fault position
 
 -- ---- what became of a record
-
--- why a record has no answer: the run has as many entries as it may, the site had not failed, and the record is of a
--- kind that always makes one, or may need one
-pub record IsFullFor (begin : Begin) (old new : View) (task : Record) : Type 0 where
-  pub full : MOST_ENTRIES ≤ length (entries_in new)
-  pub not_failed : ¬ Rose old.turn.known.opening.faults old.turn.known.faults
-  pub due : (task.kind ≢ Protect) ⊎ MayAppend (IsBetween begin old new) (course_in begin new) MOST_ENTRIES task
 
 -- the record was handled and has this answer; or it has none, since the history is full
 abbrev pub Answered : Layout → Begin → ℕ → View → View → Record → Option Answer → Type 0

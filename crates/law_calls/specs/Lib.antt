@@ -1,3 +1,2 @@
 pub mod Visiting
 pub mod Answering
-pub mod Ends

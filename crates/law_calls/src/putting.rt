@@ -8,9 +8,9 @@ ghost use Rattle.unit_book.specs.declared.fault.BookFault.{BookFault};
 ghost use Rattle.unit_book.specs.Book.{BookView};
 ghost use Rattle.shared_unit.specs.Calls.{IsPut};
 ghost use Rattle.shared_unit.specs.Told.{known_of_book};
-ghost use Rattle.law_worker.specs.Begin.{Begin};
-ghost use Rattle.law_worker.specs.Work.{Worked};
-ghost use Rattle.law_lives.specs.Settled.{SettlesAt};
+ghost use Rattle.law_workers.specs.Begin.{Begin};
+ghost use Rattle.law_workers.specs.Work.{Worked};
+ghost use Rattle.law_workers.specs.Settles.{SettlesAt};
 ghost use Rattle.law_calls.specs.Visiting.{Visited};
 
 use sdls_outside::Site;

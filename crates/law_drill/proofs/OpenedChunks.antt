@@ -12,11 +12,11 @@ use Rattle.record_io.specs.declared.records.Record.{Record}
 use Rattle.counter_table.specs.declared.view.View.{View}
 use Rattle.counter_table.specs.Whole.{IsWhole}
 use Rattle.law_history.specs.Fits.{Fits}
-use Rattle.law_worker.specs.Begin.{Begin}
-use Rattle.law_worker.specs.Deeds.{Ascend, Deed, course_in, deed_of, deeds_of}
-use Rattle.law_worker.specs.Order.{Layout, LiesIn}
-use Rattle.law_worker.proofs.Handling as handling
-use Rattle.law_lives.specs.Opened.{IsJustOpened}
+use Rattle.law_workers.specs.Begin.{Begin}
+use Rattle.law_workers.specs.Deeds.{Ascend, Deed, course_in, deed_of, deeds_of}
+use Rattle.law_workers.specs.Order.{Layout, LiesIn}
+use Rattle.law_workers.proofs.Handling as handling
+use Rattle.law_workers.specs.Opened.{IsJustOpened}
 use Rattle.drill_frames.specs.Counting.{count_accepted, count_code, count_fields, gives_field}
 use Rattle.drill_frames.specs.Frames.{data_field, open_task, open_tasks, replay_tasks}
 use Rattle.law_drill.specs.Drilled.{HandlesSegment, tells_want}

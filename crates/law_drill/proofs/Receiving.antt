@@ -33,13 +33,12 @@ use Rattle.law_history.specs.Fits.{Course, Fits, FitsKind, IsFull, IsOpenAnswer}
 use Rattle.law_history.specs.Legal.{IsLegal, IsOpening}
 use Rattle.law_history.specs.Run.{NearWord}
 use Rattle.law_history.specs.Stored.{stored_count}
-use Rattle.law_worker.specs.Begin.{Begin}
-use Rattle.law_worker.specs.Deeds.{Deed, Does, course_in}
-use Rattle.law_worker.specs.Order.{Layout, TakeTurns}
-use Rattle.law_worker.specs.Views.{entries_in}
-use Rattle.law_lives.proofs.Assembled.{rules_at_end}
-use Rattle.law_lives.proofs.Counting.{entries_in_order, few_entries, few_reserves}
-use Rattle.law_lives.proofs.Ending.{IsHistory, answers_fit, legal}
+use Rattle.law_workers.specs.Begin.{Begin}
+use Rattle.law_workers.specs.Deeds.{Deed, Does, course_in}
+use Rattle.law_workers.specs.Order.{Layout, TakeTurns}
+use Rattle.law_workers.specs.Views.{entries_in}
+use Rattle.law_workers.proofs.WholeRun.{rules_at_end, IsHistory, answers_fit, legal}
+use Rattle.law_workers.proofs.Counting.{entries_in_order, few_entries, few_reserves}
 use Rattle.drill_frames.specs.Frames.{clear_frame, data_field, field_octet, field_octets, open_task}
 use Rattle.law_drill.specs.Plans.{receiver_lines}
 use Rattle.law_drill.proofs.Accepting.{Taken, none_taken, taken_more, taken_nothing}

@@ -34,14 +34,13 @@ use Rattle.law_history.specs.Numbers.{mark_of}
 use Rattle.law_history.specs.ProtectingFrames.{protect_reply}
 use Rattle.law_history.specs.Run.{IsAskedFor, NearWord}
 use Rattle.law_history.specs.Stored.{IsStored, stored_count}
-use Rattle.law_worker.specs.Begin.{Begin}
-use Rattle.law_worker.specs.Deeds.{Deed, Does, course_in}
-use Rattle.law_worker.specs.Order.{Handled, Layout}
-use Rattle.law_worker.specs.Views.{entries_in}
-use Rattle.law_worker.specs.Work.{indexed}
-use Rattle.law_lives.specs.Opened.{IsJustOpened}
-use Rattle.law_lives.proofs.Assembled.{rules_at_end}
-use Rattle.law_lives.proofs.Ending.{IsHistory, answers_fit, legal}
+use Rattle.law_workers.specs.Begin.{Begin}
+use Rattle.law_workers.specs.Deeds.{Deed, Does, course_in}
+use Rattle.law_workers.specs.Order.{Handled, Layout}
+use Rattle.law_workers.specs.Views.{entries_in}
+use Rattle.law_workers.specs.Work.{indexed}
+use Rattle.law_workers.specs.Opened.{IsJustOpened}
+use Rattle.law_workers.proofs.WholeRun.{rules_at_end, IsHistory, answers_fit, legal}
 use Rattle.drill_frames.specs.Frames.{clear_frame, field_octet, field_octets, protect_task}
 use Rattle.law_drill.specs.Plans.{sender_lines}
 use Rattle.law_drill.proofs.Binding.{bound_on, bound_to, clear_on, field_by}

@@ -12,14 +12,14 @@ use Rattle.record_io.specs.declared.records.Record.{Record}
 use Rattle.counter_table.specs.declared.view.View.{View}
 use Rattle.counter_table.specs.Whole.{IsWhole}
 use Rattle.law_history.specs.Fits.{Fits}
-use Rattle.law_worker.specs.Begin.{Begin}
-use Rattle.law_worker.specs.Deeds.{Agree, Ascend, Deed, course_in, deed_of, deeds_of}
-use Rattle.law_worker.specs.Order.{Handled, Layout}
-use Rattle.law_worker.specs.Views.{entries_in}
-use Rattle.law_worker.proofs.Handling.{handled_then}
-use Rattle.law_worker.proofs.Handling as handling
-use Rattle.law_lives.specs.Opened.{IsJustOpened}
-use Rattle.law_calls.specs.Ends.{EndsSegment}
+use Rattle.law_workers.specs.Begin.{Begin}
+use Rattle.law_workers.specs.Deeds.{Agree, Ascend, Deed, course_in, deed_of, deeds_of}
+use Rattle.law_workers.specs.Order.{Handled, Layout}
+use Rattle.law_workers.specs.Views.{entries_in}
+use Rattle.law_workers.proofs.Handling.{handled_then}
+use Rattle.law_workers.proofs.Handling as handling
+use Rattle.law_workers.specs.Opened.{IsJustOpened}
+use Rattle.law_workers.specs.Ends.{EndsSegment}
 use Rattle.drill_frames.specs.Frames.{protect_task, protect_tasks}
 use Rattle.law_drill.specs.Drilled.{HandlesSegment, tells_fault, tells_want}
 use Rattle.law_drill.specs.Plans.{sender_lines}

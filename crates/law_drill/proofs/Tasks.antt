@@ -7,8 +7,8 @@ use Rattle.record_io.specs.declared.answers.Answer.{Answer}
 use Rattle.record_io.specs.declared.code.TheConstants.{PROTECTED}
 use Rattle.record_io.specs.declared.records.Record.{Record}
 use Rattle.record_io.specs.declared.kinds.TheConstants.{LANES}
-use Rattle.law_worker.specs.Deeds.{Ascend}
-use Rattle.law_worker.specs.Order.{Layout, LiesIn}
+use Rattle.law_workers.specs.Deeds.{Ascend}
+use Rattle.law_workers.specs.Order.{Layout, LiesIn}
 use Rattle.drill_frames.specs.declared.records.TheConstants.{CHUNK}
 use Rattle.drill_frames.specs.Frames.{open_task, open_tasks, protect_task, protect_tasks, replay_tasks}
 

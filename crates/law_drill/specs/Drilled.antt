@@ -12,12 +12,12 @@ use Rattle.unit_plan.specs.Plan.{plan_of}
 use Rattle.unit_image.specs.Shows.{Shows}
 use Rattle.counter_table.specs.declared.view.View.{View}
 use Rattle.counter_table.specs.Whole.{IsWhole}
-use Rattle.law_worker.specs.Begin.{Begin}
-use Rattle.law_worker.specs.Deeds.{deeds_of}
-use Rattle.law_worker.specs.Order.{Layout, LiesIn, Handled}
-use Rattle.law_lives.specs.Opened as runs
-use Rattle.law_worker.specs.Began.{BeganWith}
-use Rattle.law_calls.specs.Ends.{EndsSegment}
+use Rattle.law_workers.specs.Begin.{Begin}
+use Rattle.law_workers.specs.Deeds.{deeds_of}
+use Rattle.law_workers.specs.Order.{Layout, LiesIn, Handled}
+use Rattle.law_workers.specs.Opened as runs
+use Rattle.law_workers.specs.Began.{BeganWith}
+use Rattle.law_workers.specs.Ends.{EndsSegment}
 use Rattle.drill_frames.specs.declared.counts.Counts.{Counts}
 use Rattle.drill_frames.specs.declared.records.TheConstants.{CHUNK}
 use Rattle.drill_frames.specs.Counting.{count_accepted, count_code, count_fields, no_counts, sum_of}

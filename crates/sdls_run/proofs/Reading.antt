@@ -2,8 +2,8 @@
 use Rattle.std.proofs.Common.{ℕ, List, inl, inr}
 use Rattle.sdls_outside.specs.Faults.{Rose}
 use Rattle.sdls_outside.proofs.Moments.{each_weaker}
-use Rattle.law_run_ends.specs.Call.{CallSeen}
-use Rattle.law_run_segments.specs.Reads.{IsRead, ReadsAlone}
+use Rattle.law_runs.specs.Call.{CallSeen}
+use Rattle.law_runs.specs.Reads.{IsRead, ReadsAlone}
 use Rattle.sdls_plain.specs.Stat.{EndsStat, StatMoment}
 
 is_read : (call : CallSeen) (image : List ℕ) → StatMoment call.site.trace image → IsRead call image

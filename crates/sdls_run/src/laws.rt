@@ -3,11 +3,11 @@ ghost use Rattle.std.specs.Prelude.{◌≡◌, []};
 ghost use Rattle.sdls_outside.specs.Faults.{Rose};
 ghost use Rattle.unit_plan.specs.PlanLines.{PlanLines};
 ghost use Rattle.unit_state.specs.declared.state.State.{State};
-ghost use Rattle.law_run_ends.specs.Call.{CallSeen, ShowsAtEntry};
-ghost use Rattle.law_run_ends.specs.Lives.{KeepsLivesReading};
+ghost use Rattle.law_runs.specs.Call.{CallSeen, ShowsAtEntry};
+ghost use Rattle.law_runs.specs.Lives.{KeepsLivesReading};
 ghost use Rattle.sdls_plain.specs.Stat.{EndsStat};
 
-use law_run_segments::reading_keeps_lives;
+use law_runs::reading_keeps_lives;
 
 /// Law: a call that ends as `stat` does, and makes no entry, goes on with each life that left the image at its entry.
 pub fn stat_keeps_lives()

@@ -8,12 +8,12 @@ use Rattle.counter_table.specs.declared.view.View.{View}
 use Rattle.counter_table.specs.Whole.{IsWhole}
 use Rattle.record_io.specs.declared.answers.Answer.{Answer}
 use Rattle.record_io.specs.declared.records.Record.{Record}
-use Rattle.law_worker.specs.Begin.{Begin}
-use Rattle.law_worker.specs.Deeds.{deeds_of}
-use Rattle.law_worker.specs.Order.{Handled, Layout, LiesIn}
-use Rattle.law_worker.specs.Began.{BeganWith}
+use Rattle.law_workers.specs.Begin.{Begin}
+use Rattle.law_workers.specs.Deeds.{deeds_of}
+use Rattle.law_workers.specs.Order.{Handled, Layout, LiesIn}
+use Rattle.law_workers.specs.Began.{BeganWith}
 use Rattle.disk_journal.specs.Image.{records, slot_count}
-use Rattle.law_calls.specs.Ends.{EndsSegment}
+use Rattle.law_workers.specs.Ends.{EndsSegment}
 use Rattle.law_drill.specs.Drilled.{HandlesSegment, tells_fault}
 use Rattle.law_drill.proofs.Tasks.{OnLane, drill_layout, drill_lies}
 

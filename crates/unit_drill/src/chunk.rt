@@ -1,8 +1,8 @@
 //! One chunk of frames.
 ghost use Rattle.std.specs.Prelude.{◌≡◌, ◌*◌, ◌+◌, ◌≤◌, true, IfOk};
 ghost use Rattle.counter_table.specs.Worker.{view};
-ghost use Rattle.law_worker.specs.Begin.{Begin};
-ghost use Rattle.law_worker.specs.Began.{BeganWith};
+ghost use Rattle.law_workers.specs.Begin.{Begin};
+ghost use Rattle.law_workers.specs.Began.{BeganWith};
 ghost use Rattle.law_drill.specs.Drilled.{IsChunk};
 ghost use Rattle.unit_drill.specs.Drilled.{MayServe};
 

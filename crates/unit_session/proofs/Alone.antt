@@ -26,17 +26,17 @@ use Rattle.law_history.specs.Log.{entries_of, pieces_of}
 use Rattle.shared_unit.specs.Calls.{IsPut}
 use Rattle.shared_unit.specs.Told.{known_of_book}
 use Rattle.shared_unit.specs.Turn.{Visits}
-use Rattle.law_worker.specs.Begin.{Begin}
-use Rattle.law_worker.specs.Views.{log_of, entries_in}
-use Rattle.law_worker.specs.Work.{Worked}
-use Rattle.law_worker.proofs.Histories.{entries_both}
-use Rattle.law_worker.proofs.Joining.{does_unanswered}
-use Rattle.law_worker.proofs.Logs.{stands_both}
-use Rattle.law_lives.specs.Settled.{SettlesAt}
-use Rattle.law_lives.proofs.Counting.{pieces_both}
-use Rattle.law_worker.specs.Began.{BeganWith}
+use Rattle.law_workers.specs.Begin.{Begin}
+use Rattle.law_workers.specs.Views.{log_of, entries_in}
+use Rattle.law_workers.specs.Work.{Worked}
+use Rattle.law_workers.proofs.Histories.{entries_both}
+use Rattle.law_workers.proofs.Joining.{does_unanswered}
+use Rattle.law_workers.proofs.Logs.{stands_both}
+use Rattle.law_workers.specs.Settles.{SettlesAt}
+use Rattle.law_workers.proofs.Counting.{pieces_both}
+use Rattle.law_workers.specs.Began.{BeganWith}
 use Rattle.law_calls.specs.Visiting.{Visited}
-use Rattle.law_run_segments.specs.Doing.{PutsPieces, octets_put}
+use Rattle.law_runs.specs.Doing.{PutsPieces, octets_put}
 use Rattle.unit_session.specs.Putting.{Adds, PutsOctets, SettlesAll}
 use Rattle.unit_session.proofs.Octets.{puts_adds}
 

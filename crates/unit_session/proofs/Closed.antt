@@ -24,11 +24,11 @@ use Rattle.unit_book.specs.Book.{BookView}
 use Rattle.unit_book.specs.Marks.{mark_at}
 use Rattle.shared_unit.specs.Sharing.{Begins, BookIsOpened}
 use Rattle.shared_unit.specs.Told.{known_of_book}
-use Rattle.law_worker.specs.Began.{BeganWith}
-use Rattle.law_run_segments.specs.Coming.{HasCome}
-use Rattle.law_run_segments.specs.Ending.{PutsEnd}
-use Rattle.law_run_segments.specs.Ran.{CountsSlots, Ran, begin_by}
-use Rattle.law_run_ends.specs.declared.end.RunEnd.{RunEnd}
+use Rattle.law_workers.specs.Began.{BeganWith}
+use Rattle.law_runs.specs.Coming.{HasCome}
+use Rattle.law_runs.specs.Ending.{PutsEnd}
+use Rattle.law_runs.specs.Ran.{CountsSlots, Ran, begin_by}
+use Rattle.law_runs.specs.declared.end.RunEnd.{RunEnd}
 use Rattle.unit_session.specs.Running.{RunsUnit}
 
 -- the octets sunk stand where they stood while the image is opened

@@ -3,8 +3,8 @@ use Rattle.std.proofs.Common.{◌≡◌, ℕ, zero, suc, ◌<◌, ◌==◌, eqb,
 use Rattle.std.specs.List.{slice_index_or}
 use Rattle.std.proofs.lemmas.Bool.Decides.{nat_tests}
 use Rattle.record_io.specs.declared.records.Record.{Record}
-use Rattle.law_worker.specs.Deeds.{Ascend}
-use Rattle.law_worker.specs.Order.{Layout, LiesIn}
+use Rattle.law_workers.specs.Deeds.{Ascend}
+use Rattle.law_workers.specs.Order.{Layout, LiesIn}
 
 abbrev lane_in : List Record → ℕ → ℕ
 lane_in [] index = 0

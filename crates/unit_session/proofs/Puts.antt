@@ -12,13 +12,13 @@ use Rattle.key_book.specs.KeyBook.{place_of}
 use Rattle.unit_state.specs.History.{after, after_first, epoch_after}
 use Rattle.law_history.specs.Log.{entries_of, pieces_of}
 use Rattle.law_history.specs.Numbers.{mark_of}
-use Rattle.law_worker.specs.Begin.{Begin}
-use Rattle.law_worker.specs.Views.{log_of}
-use Rattle.law_worker.proofs.Joining.{does_then, does_nothing}
-use Rattle.law_worker.proofs.Logs.{times_both}
-use Rattle.law_worker.specs.Began.{BeganWith}
-use Rattle.law_run_segments.specs.Doing.{PutsPieces, octets_put}
-use Rattle.law_one_lane.proofs.Turns.{clean_before}
+use Rattle.law_workers.specs.Begin.{Begin}
+use Rattle.law_workers.specs.Views.{log_of}
+use Rattle.law_workers.proofs.Joining.{does_then, does_nothing}
+use Rattle.law_workers.proofs.Logs.{times_both}
+use Rattle.law_workers.specs.Began.{BeganWith}
+use Rattle.law_runs.specs.Doing.{PutsPieces, octets_put}
+use Rattle.law_workers.proofs.Turns.{clean_before}
 use Rattle.unit_session.specs.Putting.{Begun, PutLeaves, OfRun, PutsOctets, SettlesAll, TakesOctets, TakesSoFar}
 use Rattle.unit_session.proofs.Octets.{adds_then, takes_behind, between_wider, put_last, put_more, put_some}
 use Rattle.record_io.specs.declared.answers.Answer.{Answer}

@@ -10,14 +10,14 @@ use Rattle.record_io.specs.declared.answers.Answer.{Answer}
 use Rattle.record_io.specs.declared.records.Record.{Record}
 use Rattle.record_io.specs.Answers.{answers_octets}
 use Rattle.unit_book.specs.declared.fault.BookFault.{BookFault}
-use Rattle.law_worker.specs.Begin.{Begin}
-use Rattle.law_worker.specs.Deeds.{Ascend, Deed, deeds_of}
-use Rattle.law_worker.specs.Order.{Handled, Layout, LiesIn}
-use Rattle.law_lives.proofs.Counting.{none_failed}
-use Rattle.law_one_lane.specs.Alone.{OneLane, ServedAlone}
-use Rattle.law_worker.specs.Began.{BeganWith}
-use Rattle.law_run_segments.specs.Segment.{HandlesAndPuts, PutsWell}
-use Rattle.law_calls.specs.Ends.{EndsSegment}
+use Rattle.law_workers.specs.Begin.{Begin}
+use Rattle.law_workers.specs.Deeds.{Ascend, Deed, deeds_of}
+use Rattle.law_workers.specs.Order.{Handled, Layout, LiesIn}
+use Rattle.law_workers.proofs.Counting.{none_failed}
+use Rattle.law_workers.specs.Alone.{OneLane, ServedAlone}
+use Rattle.law_workers.specs.Began.{BeganWith}
+use Rattle.law_runs.specs.Segment.{HandlesAndPuts, PutsWell}
+use Rattle.law_workers.specs.Ends.{EndsSegment}
 use Rattle.unit_session.specs.Putting.{PutsOctets}
 use Rattle.unit_session.specs.Serving.{ServesSegment, served_as}
 use Rattle.unit_session.proofs.Lying.{own_layout, own_lies}

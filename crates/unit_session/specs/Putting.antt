@@ -12,10 +12,10 @@ use Rattle.counter_table.specs.Whole.{IsWhole}
 use Rattle.counter_table.specs.Worker.{view}
 use Rattle.counter_table.specs.Numbers.{ALL_SHARES}
 use Rattle.shared_unit.specs.Turn.{IsReady}
-use Rattle.law_worker.specs.Begin.{Begin}
-use Rattle.law_worker.specs.Views.{log_of}
-use Rattle.law_worker.specs.Began.{BeganWith}
-use Rattle.law_run_segments.specs.Doing.{PutsPieces, SettlesWork, octets_put}
+use Rattle.law_workers.specs.Begin.{Begin}
+use Rattle.law_workers.specs.Views.{log_of}
+use Rattle.law_workers.specs.Began.{BeganWith}
+use Rattle.law_runs.specs.Doing.{PutsPieces, SettlesWork, octets_put}
 
 -- One worker of the unit, with all shares, which did all that was done.
 pub record IsAlone {B : Type 0} (counters : Counters B) (plan : PlanLines) (worker : Worker B) : Type 0 where

@@ -7,11 +7,11 @@ use Rattle.record_io.specs.declared.records.SegmentEnd.{SegmentEnd}
 use Rattle.record_io.specs.declared.records.SegmentEnd.TheVariants as segments
 use Rattle.record_io.specs.Reading.{SourceSeen, Standing}
 use Rattle.std.specs.Prelude.{Option, Some, None}
-use Rattle.law_worker.specs.Begin.{Begin}
-use Rattle.law_run_ends.specs.declared.end.RunEnd.{RunEnd}
-use Rattle.law_run_ends.specs.declared.end.RunEnd.TheVariants as ends
-use Rattle.law_run_segments.specs.Coming.{HasCome, IsUnderWay}
-use Rattle.law_run_segments.specs.Segment.{HandlesAndPuts, IsFullSegment, PutsBadly, PutsWell}
+use Rattle.law_workers.specs.Begin.{Begin}
+use Rattle.law_runs.specs.declared.end.RunEnd.{RunEnd}
+use Rattle.law_runs.specs.declared.end.RunEnd.TheVariants as ends
+use Rattle.law_runs.specs.Coming.{HasCome, IsUnderWay}
+use Rattle.law_runs.specs.Segment.{HandlesAndPuts, IsFullSegment, PutsBadly, PutsWell}
 use Rattle.unit_session.specs.declared.serving.Stop.{Stop}
 use Rattle.unit_session.specs.declared.serving.Stop.TheVariants as stops
 

@@ -3,10 +3,10 @@ ghost use Rattle.std.specs.Prelude.{◌≡◌, ◌≤◌, IsTrue, [], MatchResul
 ghost use Rattle.sdls_outside.specs.Disk.{Leaves};
 ghost use Rattle.counter_table.specs.Worker.{view};
 ghost use Rattle.record_io.specs.Reading.{SourceSeen};
-ghost use Rattle.law_run_ends.specs.Lives.{EndsAndLives};
-ghost use Rattle.law_run_ends.specs.Account.{end_status};
-ghost use Rattle.law_run_segments.specs.Ran.{call_seen};
-ghost use Rattle.law_run_segments.specs.Refused.{refused_end};
+ghost use Rattle.law_runs.specs.Lives.{EndsAndLives};
+ghost use Rattle.law_runs.specs.Account.{end_status};
+ghost use Rattle.law_runs.specs.Call.{call_seen};
+ghost use Rattle.law_runs.specs.Refused.{refused_end};
 ghost use Rattle.unit_session.specs.Putting.{IsAlone};
 ghost use Rattle.unit_session.specs.Running.{PutsRefusal, RunsUnit};
 
@@ -14,8 +14,7 @@ use crate::ending::{answer_of, finish, told_end};
 use crate::session::Session;
 use frame_workers::Gate;
 use law_image::shown_keeps_rules;
-use law_run_ends::RunEnd;
-use law_run_segments::{refused_run_ends, run_ends_well};
+use law_runs::{RunEnd, refused_run_ends, run_ends_well};
 use record_io::status::SITE_FAULT;
 use record_io::{Outcome, answer_header};
 use sdls_outside::{Failed, Site, Source};

@@ -6,7 +6,7 @@ use Rattle.shared_unit.specs.Calls.{WithPosition}
 use Rattle.shared_unit.specs.Told.{known_of_book}
 use Rattle.law_calls.specs.Answering.{Answered, AnsweredExactly}
 use Rattle.shared_unit.specs.Commanding.{IsCommanded}
-use Rattle.law_worker.specs.Order.{Layout}
+use Rattle.law_workers.specs.Order.{Layout}
 use Rattle.law_calls.proofs.Commandings.{commanding_answers}
 use Rattle.law_calls.proofs.CommandsExactly.{commanding_exactly}
 use Rattle.shared_unit.proofs.Steps.{takes_grows}

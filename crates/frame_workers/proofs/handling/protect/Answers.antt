@@ -3,7 +3,7 @@ use Rattle.counter_table.specs.declared.view.View.{View}
 use Rattle.counter_table.specs.Worker.{view}
 use Rattle.record_io.specs.declared.answers.Answer.{Answer}
 use Rattle.record_io.specs.declared.records.Record.{Record}
-use Rattle.law_worker.specs.Order.{Layout}
+use Rattle.law_workers.specs.Order.{Layout}
 use Rattle.law_calls.specs.Answering.{Answered, AnsweredExactly}
 use Rattle.shared_unit.specs.Protecting.{IsProtectStep}
 use Rattle.law_calls.specs.Answering.{protected_answer}

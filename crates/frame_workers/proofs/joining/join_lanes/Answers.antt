@@ -6,7 +6,7 @@ use Rattle.record_io.specs.declared.kinds.TheConstants.{LANES}
 use Rattle.sdls_base.specs.declared.TheConstants.{MOST_KEYS}
 use Rattle.counter_table.specs.Worker.{view}
 use Rattle.shared_unit.specs.Turn.{IsReady}
-use Rattle.law_worker.specs.Lanes.{Part}
+use Rattle.law_workers.specs.Lanes.{Part}
 use Rattle.frame_workers.specs.Lanes.{HaveOwnNumbers, left_at, part_of, parts_of}
 use Rattle.frame_workers.proofs.Joins.{parts_push, parts_all, joined_next, meet_next, answers_or, none_kept, keeps_next, pairs_pop}
 use Rattle.frame_workers.proofs.Places.{left_set, left_other}

@@ -4,7 +4,7 @@ use Rattle.record_io.specs.declared.kinds.TheConstants.{LANES}
 use Rattle.sdls_base.specs.declared.TheConstants.{MOST_KEYS}
 use Rattle.counter_table.specs.Worker.{view}
 use Rattle.shared_unit.specs.Turn.{IsReady}
-use Rattle.law_worker.specs.Lanes.{MeetAll, meeting_all}
+use Rattle.law_workers.specs.Lanes.{MeetAll, meeting_all}
 use Rattle.frame_workers.specs.Lanes.{HaveOwnNumbers, answers_of, left_at, parts_of}
 use Rattle.frame_workers.proofs.Joins.{answers_or}
 use Rattle.frame_workers.proofs.joining.join_lanes.Given as goal

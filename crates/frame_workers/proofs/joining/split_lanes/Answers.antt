@@ -6,7 +6,7 @@ use Rattle.std.proofs.lemmas.List.Quantifiers.{all_pairs_push}
 use Rattle.counter_table.specs.declared.view.View.{View}
 use Rattle.counter_table.specs.Worker.{view}
 use Rattle.shared_unit.specs.Turn.{IsReady}
-use Rattle.law_worker.specs.Lanes.{giving_shares, is_of_lane}
+use Rattle.law_workers.specs.Lanes.{giving_shares, is_of_lane}
 use Rattle.frame_workers.specs.Lanes.{HaveOwnNumbers, IsRoom, IsSplit, IsThere}
 use Rattle.frame_workers.proofs.Splits.{gives_more, starts_so, there_push, there_last, room_last, rooms_left}
 use Rattle.frame_workers.proofs.joining.split_lanes.Goals as goal

@@ -3,7 +3,7 @@ use Rattle.std.specs.List.{All, AllPairs, list_any, slice_index_or}
 use Rattle.record_io.specs.declared.kinds.TheConstants.{LANES}
 use Rattle.counter_table.specs.Worker.{view}
 use Rattle.shared_unit.specs.Turn.{IsReady}
-use Rattle.law_worker.specs.Lanes.{giving_shares, is_of_lane}
+use Rattle.law_workers.specs.Lanes.{giving_shares, is_of_lane}
 use Rattle.frame_workers.specs.Lanes.{HaveOwnNumbers, IsRoom, IsSplit, IsThere}
 use Rattle.frame_workers.proofs.joining.split_lanes.Given as goal
 

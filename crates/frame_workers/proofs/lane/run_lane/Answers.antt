@@ -6,16 +6,16 @@ use Rattle.counter_table.specs.declared.view.View.{View}
 use Rattle.counter_table.specs.Worker.{view}
 use Rattle.record_io.specs.declared.records.Record.{Record}
 use Rattle.record_io.specs.declared.answers.Answer.{Answer}
-use Rattle.law_worker.specs.Deeds.{deeds_of}
-use Rattle.law_worker.specs.Order.{Layout, Handled}
-use Rattle.law_worker.specs.Lanes.{is_of_lane, of_lane}
-use Rattle.law_worker.proofs.Joining.{grows_itself}
-use Rattle.law_worker.proofs.Handling.{handled_nothing}
-use Rattle.law_one_lane.specs.Alone.{MovedInTurn}
-use Rattle.law_one_lane.proofs.Alone.{turns_nothing}
+use Rattle.law_workers.specs.Deeds.{deeds_of}
+use Rattle.law_workers.specs.Order.{Layout, Handled}
+use Rattle.law_workers.specs.Lanes.{is_of_lane, of_lane}
+use Rattle.law_workers.proofs.Joining.{grows_itself}
+use Rattle.law_workers.proofs.Handling.{handled_nothing}
+use Rattle.law_workers.specs.Alone.{MovedInTurn}
+use Rattle.law_workers.proofs.Alone.{turns_nothing}
 use Rattle.law_calls.specs.Answering.{Answered, AnsweredExactly}
-use Rattle.law_worker.specs.Began.{BeganWith}
-use Rattle.law_calls.specs.Ends.{EndsSegment}
+use Rattle.law_workers.specs.Began.{BeganWith}
+use Rattle.law_workers.specs.Ends.{EndsSegment}
 use Rattle.frame_workers.proofs.Steps.{lane_own, lane_other, lane_short, lane_whole, lane_next, lane_step, lane_stop}
 use Rattle.frame_workers.proofs.Exactly.{next_exactly, stop_exactly}
 use Rattle.frame_workers.proofs.Fulls.{full_stays}

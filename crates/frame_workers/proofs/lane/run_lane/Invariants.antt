@@ -2,12 +2,12 @@ use Rattle.std.proofs.Common.{◌≡◌, ℕ, ◌≤◌, length, take, false, ve
 use Rattle.counter_table.specs.Worker.{view}
 use Rattle.shared_unit.specs.Protecting.{IsTrueIfKept}
 use Rattle.shared_unit.specs.Turn.{IsReady}
-use Rattle.law_worker.specs.Begin.{Begin}
-use Rattle.law_worker.specs.Deeds.{Ascend, deeds_of}
-use Rattle.law_worker.specs.Order.{Layout, Handled}
-use Rattle.law_worker.specs.Lanes.{of_lane}
-use Rattle.law_one_lane.specs.Alone.{MovedInTurn}
-use Rattle.law_worker.specs.Began.{BeganWith}
+use Rattle.law_workers.specs.Begin.{Begin}
+use Rattle.law_workers.specs.Deeds.{Ascend, deeds_of}
+use Rattle.law_workers.specs.Order.{Layout, Handled}
+use Rattle.law_workers.specs.Lanes.{of_lane}
+use Rattle.law_workers.specs.Alone.{MovedInTurn}
+use Rattle.law_workers.specs.Began.{BeganWith}
 use Rattle.frame_workers.proofs.lane.run_lane.Given as goal
 
 abbrev pub invariant-loop-task : goal.invariant-loop-task

@@ -6,12 +6,12 @@ use Rattle.counter_table.specs.Worker.{view}
 use Rattle.shared_unit.specs.Turn.{IsReady}
 use Rattle.record_io.specs.declared.records.Record.{Record}
 use Rattle.record_io.specs.declared.kinds.TheConstants.{LANES}
-use Rattle.law_worker.specs.Views.{keeping, meeting, Meets, starting}
-use Rattle.law_worker.specs.Deeds.{deeds_of}
-use Rattle.law_worker.specs.Order.{Handled}
-use Rattle.law_worker.specs.Lanes.{MeetAll, meeting_all, parts_deeds}
-use Rattle.law_one_lane.specs.Alone.{ServedAlone}
-use Rattle.law_calls.specs.Ends.{EndsSegment}
+use Rattle.law_workers.specs.Views.{keeping, meeting, Meets, starting}
+use Rattle.law_workers.specs.Deeds.{deeds_of}
+use Rattle.law_workers.specs.Order.{Handled}
+use Rattle.law_workers.specs.Lanes.{MeetAll, meeting_all, parts_deeds}
+use Rattle.law_workers.specs.Alone.{ServedAlone}
+use Rattle.law_workers.specs.Ends.{EndsSegment}
 use Rattle.frame_workers.specs.Lanes.{AreAmong, HaveOwnNumbers, HasRun, answers_of, left_at, parts_of}
 use Rattle.frame_workers.proofs.Joins.{each_among}
 use Rattle.frame_workers.proofs.Segments.{slice_whole, by_flag, by_end, stops_same, new_apart, new_ready, joined_shares, all_handled, all_exactly, all_ends}

@@ -1,4 +1,4 @@
-use Rattle.law_worker.specs.Order.{Layout}
+use Rattle.law_workers.specs.Order.{Layout}
 use Rattle.law_calls.proofs.ProtectsExactly.{covers_taken, protects_exactly}
 use Rattle.law_calls.proofs.exactly.protecting_is_exact.Goals as goal
 

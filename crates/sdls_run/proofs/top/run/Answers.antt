@@ -1,5 +1,4 @@
-use Rattle.law_run_ends.specs.Call.{CallSeen}
-use Rattle.law_run_segments.specs.Ran.{call_seen}
+use Rattle.law_runs.specs.Call.{CallSeen, call_seen}
 use Rattle.sdls_run.proofs.top.run.Goals as goal
 
 pub returns-in-None-clause-stat_lives : goal.returns-in-None-clause-stat_lives

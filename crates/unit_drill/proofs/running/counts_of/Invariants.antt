@@ -1,8 +1,8 @@
 use Rattle.std.proofs.Common.{◌*◌, ◌≤◌, true, List}
 use Rattle.record_io.specs.declared.answers.Answer.{Answer}
 use Rattle.counter_table.specs.Worker.{view}
-use Rattle.law_worker.specs.Begin.{Begin}
-use Rattle.law_worker.specs.Began.{BeganWith}
+use Rattle.law_workers.specs.Begin.{Begin}
+use Rattle.law_workers.specs.Began.{BeganWith}
 use Rattle.law_drill.specs.Drilled.{AreChunks}
 use Rattle.unit_drill.specs.Drilled.{MayServe}
 use Rattle.unit_drill.proofs.running.counts_of.Given as goal

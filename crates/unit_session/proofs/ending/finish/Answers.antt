@@ -1,5 +1,5 @@
 use Rattle.std.proofs.Common.{ℕ, subst}
-use Rattle.law_run_segments.specs.Ending.{IsToldEnd}
+use Rattle.law_runs.specs.Ending.{IsToldEnd}
 use Rattle.unit_session.proofs.ending.finish.Goals as goal
 
 pub returns : goal.returns

@@ -3,7 +3,7 @@ use Rattle.std.specs.List.{All}
 use Rattle.record_io.specs.declared.answers.Answer.{Answer}
 use Rattle.record_io.specs.declared.records.Record.{Record}
 use Rattle.counter_table.specs.Worker.{view}
-use Rattle.law_worker.specs.Deeds.{Ascend}
+use Rattle.law_workers.specs.Deeds.{Ascend}
 use Rattle.drill_frames.specs.Counting.{count_accepted, count_code, count_fields}
 use Rattle.drill_frames.specs.Frames.{open_tasks, replay_tasks}
 use Rattle.law_drill.specs.Drilled.{HandlesSegment}

@@ -1,8 +1,8 @@
 use Rattle.std.proofs.Common.{refl, sym, ◌∙◌, subst, arith}
 use Rattle.record_io.specs.Reading.{SourceSeen, Standing}
 use Rattle.counter_table.specs.Worker.{view}
-use Rattle.law_worker.specs.Began.{BeganWith}
-use Rattle.law_run_segments.proofs.Looping.{begins_way}
+use Rattle.law_workers.specs.Began.{BeganWith}
+use Rattle.law_runs.proofs.Looping.{begins_way}
 use Rattle.unit_session.specs.Serving.{Goes}
 use Rattle.unit_session.proofs.Served.{began_with, begin_with}
 use Rattle.unit_session.proofs.session.Session.serve_input.Goals as goal

@@ -1,7 +1,7 @@
 use Rattle.std.proofs.Common.{◌≡◌, ◌-◌, ◌^◌}
 use Rattle.counter_table.specs.Worker.{view}
-use Rattle.law_worker.specs.Begin.{Begin}
-use Rattle.law_worker.specs.Began.{BeganWith}
+use Rattle.law_workers.specs.Begin.{Begin}
+use Rattle.law_workers.specs.Began.{BeganWith}
 use Rattle.unit_session.specs.Putting.{IsAlone}
 use Rattle.unit_session.specs.Serving.{Goes}
 use Rattle.unit_session.proofs.session.Session.serve_input.Given as goal

@@ -1,5 +1,0 @@
-use Rattle.law_lives.proofs.Lives.{once_in_life}
-use Rattle.law_lives.proofs.laws.used_once_in_a_life.Goals as goal
-
-pub returns : goal.returns
-returns c = once_in_life c.shows_one.ensures

@@ -1,4 +1,0 @@
-pub mod Machines
-pub mod Turns
-pub mod Alone
-pub mod Once

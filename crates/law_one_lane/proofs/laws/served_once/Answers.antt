@@ -1,7 +1,0 @@
-use Rattle.law_one_lane.proofs.Once.{all_once}
-use Rattle.law_one_lane.proofs.laws.served_once.Goals as goal
-
-pub returns : goal.returns
-returns c = λ begin rows words history deeds others moves more own entries tells rules same served also first second runs again.
-    all_once begin tells c.messages_need_one.ensures c.messages_have_one_step.ensures c.openings_tell_one.ensures c.protected_once.ensures rows
-    history words deeds others moves more own entries rules same served also first second runs again

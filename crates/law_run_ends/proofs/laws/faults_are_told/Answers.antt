@@ -1,5 +1,0 @@
-use Rattle.law_run_ends.proofs.Statuses.{fault_told}
-use Rattle.law_run_ends.proofs.laws.faults_are_told.Goals as goal
-
-pub returns : goal.returns
-returns c = λ call run. fault_told call run

@@ -1,5 +1,0 @@
-use Rattle.law_run_ends.proofs.Statuses.{all_done}
-use Rattle.law_run_ends.proofs.laws.zero_says_all.Goals as goal
-
-pub returns : goal.returns
-returns c = λ call run. all_done call run

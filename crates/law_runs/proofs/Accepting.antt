@@ -1,0 +1,27 @@
+-- No two answers of a run accept one number under one key, and none accepts a number up to the floor at the start.
+use Rattle.std.proofs.Common.{◌≡◌, ℕ, ◌<◌, List, ◌-◌, arith}
+use Rattle.std.specs.List.{All, AllPairs, slice_index_or}
+use Rattle.record_io.specs.Places.{Place, records_of}
+use Rattle.unit_state.specs.Restart.{restarted}
+use Rattle.law_history.specs.Numbers.{floor_of}
+use Rattle.law_history.specs.Run.{IsLegalHistory, TurnIn}
+use Rattle.law_history.specs.Answers.{Accepts}
+use Rattle.law_history.specs.Fits.{Course, Fits}
+use Rattle.law_history.proofs.Along.{accepted_above, of_places}
+use Rattle.law_history.proofs.Codes.{accepting_opening, accepts_at, answers_once}
+use Rattle.law_workers.specs.Deeds.{Deed, Differ}
+
+module _ (near : ℕ → ℕ → Type 0) (course : Course) (places : List Place) (history : IsLegalHistory course.plan course.start places course.entries) where
+  pub accepts_differ : (deeds : List Deed) → AllPairs (λ (d e : Deed). d.task.index < e.task.index) deeds
+      → All (λ (d : Deed). Fits near course d.task d.answer) deeds → AllPairs (Differ Accepts) deeds
+  accepts_differ deeds up fit i j x lt within key number one other =
+      answers_once near course places (slice_index_or deeds i x).task (slice_index_or deeds j x).task
+      (slice_index_or deeds i x).answer (slice_index_or deeds j x).answer key number history
+      (λ same. let l = up i j x lt within in omega arith) (fit i x (omega arith)) (fit j x within) one other
+
+  pub accepts_above : restarted course.start ≡ course.start → (d : Deed) → Fits near course d.task d.answer → (key number : ℕ)
+      → Accepts d.answer key number → floor_of course.start key < number
+  accepts_above left d fit key number accepts =
+      accepted_above course.plan course.start (records_of places) (TurnIn places) course.entries
+      (of_places course.plan course.start places course.entries history) left (d.answer.position - 1) key number
+      (accepts_at course d.task d.answer key number (accepting_opening near course d.task d.answer key number fit accepts) accepts)

@@ -1,0 +1,322 @@
+-- Two runs of one lane over one image, with one input, that nothing kept from their end did the same.
+use Rattle.std.proofs.Common.{◌≡◌, ◌⊎◌, ℕ, zero, suc, ◌+◌, ◌<◌, ◌≤◌, ◌==◌, Bool, IsTrue, true, false, List, [], ◌∷◌, ◌++◌, length, map, take, drop, refl, sym, ◌∙◌, ap, subst, inl, inr, arith, append_assoc, append-nil, length-append, eqb, Ok}
+use Rattle.std.specs.Bool.{⊤}
+use Rattle.std.specs.List.{All, list_any, slice_index}
+use Rattle.std.proofs.lemmas.Bool.{cases_eq, cases_lt}
+use Rattle.std.proofs.lemmas.Bool.Decides.{nat_tests}
+use Rattle.std.proofs.lemmas.List.{ext_get_or, length-take, take-append-drop, take-append-le, take_all}
+use Rattle.sdls_base.specs.declared.TheConstants.{MOST_KEYS}
+use Rattle.sdls_base.specs.declared.entry.Entry.{Entry}
+use Rattle.sdls_outside.specs.Faults.{Rose}
+use Rattle.disk_journal.specs.Image.{held, records, slot_count}
+use Rattle.record_io.specs.declared.answers.Answer.{Answer}
+use Rattle.record_io.specs.declared.code.TheConstants.{NO_MEMORY, JOURNAL_FULL, SITE_FAULT, STOPPED}
+use Rattle.record_io.specs.declared.kinds.RecordKind.{RecordKind}
+use Rattle.record_io.specs.declared.kinds.RecordKind.TheVariants.{Protect, Open, Command}
+use Rattle.record_io.specs.Answers.{answer_octets, answers_octets}
+use Rattle.record_io.specs.Places.{Place, records_of}
+use Rattle.unit_plan.specs.Plan.{plan_of}
+use Rattle.unit_image.specs.Shows.{Shows}
+use Rattle.unit_plan.specs.PlanLines.{PlanLines}
+use Rattle.unit_state.specs.declared.state.State.{State}
+use Rattle.unit_state.specs.State.{KeepsRules}
+use Rattle.unit_state.specs.History.{after, after_first}
+use Rattle.law_history.specs.Answers.{codes_of}
+use Rattle.law_history.specs.Fits.{Course, Fits}
+use Rattle.law_history.specs.Numbers.{releases}
+use Rattle.law_history.specs.Run.{IsLegalHistory, NearWord}
+use Rattle.law_history.specs.Stored.{stored_count}
+use Rattle.law_history.proofs.Codes.{fits_code}
+use Rattle.unit_book.specs.declared.limits.TheConstants.{MOST_ENTRIES}
+use Rattle.unit_book.specs.Marks.{mark_at}
+use Rattle.law_workers.specs.Begin.{Begin}
+use Rattle.law_workers.specs.Deeds.{Deed}
+use Rattle.law_workers.specs.Machine.{Move, Runs, adds_all}
+use Rattle.law_workers.specs.Serving.{AreServed, SameTasks, ServesAll}
+use Rattle.law_workers.specs.Alone.{OneLane}
+use Rattle.law_runs.specs.declared.end.RunEnd.{RunEnd}
+use Rattle.law_runs.specs.declared.end.RunEnd.TheVariants.{Ended, SiteFault}
+use Rattle.law_runs.specs.Call.{CallSeen, ShowsAtEntry, image_at_entry}
+use Rattle.law_runs.specs.Account.{Account, SaysSiteFailed, begin_of, course_of, deeds_from, deeds_in, end_answer, end_octets}
+use Rattle.law_runs.specs.Causes.{TellsEnd}
+use Rattle.law_runs.specs.Ends.{IsJournalFull, IsReleased, IsSoundCall, RunEnds, due_releases}
+use Rattle.law_runs.specs.Alone.{IsExact, NoneWants, RunsAlike}
+use Rattle.law_runs.specs.Says.{DidAll}
+
+-- ---- codes
+
+-- each of the codes is at most that of want of memory
+abbrev AreLow : List ℕ → Type 0
+AreLow [] = ⊤
+AreLow (code ∷ codes) = (code ≤ NO_MEMORY) × AreLow codes
+
+are_low : (kind : RecordKind) → AreLow (codes_of kind)
+are_low Protect = (omega arith, (omega arith, (omega arith, (omega arith, (omega arith, (omega arith, (omega arith, (omega arith, (omega arith, (omega arith, tt))))))))))
+are_low Open = (omega arith, (omega arith, (omega arith, (omega arith, (omega arith, (omega arith, (omega arith, (omega arith, (omega arith, (omega arith, (omega arith, (omega arith, (omega arith, (omega arith, tt))))))))))))))
+are_low Command = (omega arith, (omega arith, (omega arith, (omega arith, (omega arith, (omega arith, tt))))))
+
+low_code : (codes : List ℕ) (code : ℕ) → AreLow codes → IsTrue (list_any (λ own. own == code) codes) → code ≤ NO_MEMORY
+low_code [] code low h = absurd (let t : false ≡ true = h in cc)
+low_code (c ∷ codes) code low h = elim (cases_eq c code) [
+  | inl is ↦ let l = low.0 in omega arith
+  | inr off ↦ let f : eqb c code ≡ false = grind (arith, nat_tests) in low_code codes code low.1 (rw f at h)
+]
+
+-- ---- records and their answers
+
+answers_of_deeds : (places : List Place) (answers : List Answer) → length answers ≡ length places
+    → map (λ (d : Deed). d.answer) (deeds_from places answers) ≡ answers
+answers_of_deeds [] [] same = refl
+answers_of_deeds [] (answer ∷ answers) same = absurd (omega arith)
+answers_of_deeds (place ∷ places) [] same = absurd (omega arith)
+answers_of_deeds (place ∷ places) (answer ∷ answers) same = ap (λ (l : List Answer). answer ∷ l) (answers_of_deeds places answers (omega arith))
+
+same_tasks : (places : List Place) (answers others : List Answer) → length answers ≡ length places → length others ≡ length places
+    → SameTasks (deeds_from places answers) (deeds_from places others)
+same_tasks [] answers others one two = tt
+same_tasks (place ∷ places) [] others one two = absurd (omega arith)
+same_tasks (place ∷ places) (answer ∷ answers) [] one two = absurd (omega arith)
+same_tasks (place ∷ places) (answer ∷ answers) (other ∷ others) one two = (refl, same_tasks places answers others (omega arith) (omega arith))
+
+-- where the site did not fail and memory was not wanting, no answer has a code from 31 on
+are_served : (near : ℕ → ℕ → Type 0) (course : Course) (places : List Place) (answers : List Answer)
+    → All (λ (deed : Deed). Fits near course deed.task deed.answer) (deeds_from places answers)
+    → All (λ (answer : Answer). SaysSiteFailed answer → ⊥) answers → NoneWants answers → AreServed (deeds_from places answers)
+are_served near course [] answers fit none wants = tt
+are_served near course (place ∷ places) [] fit none wants = tt
+are_served near course (place ∷ places) (answer ∷ answers) fit none wants =
+    let f = fit 0 (record { task = place.task; segment = place.segment; answer = answer }) (omega arith) in
+    let low = low_code (codes_of place.task.kind) answer.code (are_low place.task.kind) (fits_code near course place.task answer f) in
+    let full = wants 0 answer (omega arith) in
+    let faults = none 0 answer (omega arith) in (
+      by_code answer.code low full (λ is. faults (inl is)) (λ is. faults (inr is)),
+      are_served near course places answers (λ k d small. fit (suc k) d (omega arith)) (λ k d small. none (suc k) d (omega arith)) (λ k d small. wants (suc k) d (omega arith)),
+    )
+  where
+    by_code : (code : ℕ) → code ≤ NO_MEMORY → (code ≡ NO_MEMORY → ⊥) → (code ≡ SITE_FAULT → ⊥) → (code ≡ STOPPED → ⊥) → code ≤ JOURNAL_FULL
+    by_code code low a b c = elim (cases_lt JOURNAL_FULL code) [
+      | inl high ↦ absurd (grind arith)
+      | inr small ↦ omega arith
+    ]
+
+-- ---- a run that ended well
+
+not_rose : (call : CallSeen) (account : Account) → TellsEnd call account → account.told ≡ Ended → ¬ Rose call.site.faults account.last
+not_rose call account (inl (rose, told)) is = absurd (let both : Ended ≡ SiteFault account.last = sym is ∙ told in let b = both in cc)
+not_rose call account (inr (not, rest)) is = not
+
+front_is : (xs front rest : List Entry) → xs ≡ front ++ rest → take (length front) xs ≡ front
+front_is xs front rest is =
+    ap (take (length front)) is ∙ take-append-le (length front) front rest (omega arith) ∙ take_all (length front) front (omega arith)
+
+-- the states after the entries of the lane keep the rules
+rules_front : (state : State) (entries : List Entry) (ends : ℕ) → ((p : ℕ) → p ≤ length entries → KeepsRules (after_first state entries p))
+    → (front rest : List Entry) → take ends entries ≡ front ++ rest → KeepsRules (after state ([] ++ front))
+rules_front state entries ends rules front rest is =
+    let whole : entries ≡ front ++ (rest ++ drop ends entries) =
+    sym (take-append-drop ends entries) ∙ ap (λ (l : List Entry). l ++ drop ends entries) is ∙ append_assoc front rest (drop ends entries) in
+    let size : length entries ≡ length front + length (rest ++ drop ends entries) = ap length whole ∙ length-append front (rest ++ drop ends entries) in
+    subst (λ (l : List Entry). KeepsRules (after state l)) (front_is entries front (rest ++ drop ends entries) whole) (rules (length front) (omega arith))
+
+no_more_moves : (rows : ℕ) (words : ℕ → ℕ) (moves beyond : List Move) → beyond ≡ [] → Runs rows words (moves ++ beyond) → Runs rows words moves
+no_more_moves rows words moves beyond none h =
+    subst (Runs rows words) (ap (λ (l : List Move). moves ++ l) none ∙ append-nil moves) h
+
+-- ---- releases
+
+-- of two runs with the same entries of the lane and the same releases due, neither makes more releases than the other
+module _ (state : State) (base due : List Entry) (used slots : ℕ)
+    (adds : (state : State) (entries more : List Entry) → stored_count state (entries ++ more) ≡ stored_count state entries + stored_count (after state entries) more)
+    (stored : (count : ℕ) → stored_count (after state base) (take count due) ≡ length (take count due)) where
+  no_fewer : (count more : ℕ) → (count < length due → (used + stored_count state (base ++ take count due) ≡ slots) ⊎ (length (base ++ take count due) ≡ MOST_ENTRIES))
+      → used + stored_count state (base ++ take more due) ≤ slots → length (base ++ take more due) ≤ MOST_ENTRIES
+      → length (take more due) ≤ length (take count due)
+  no_fewer count more refused room bounded = elim (cases_lt count (length due)) [
+    | inr all ↦
+        let a = length-take count due in let b = length-take more due in omega arith
+    | inl few ↦ elim (refused few) [
+      | inl full ↦
+          let a = adds state base (take count due) in let b = adds state base (take more due) in
+          let c = stored count in let d = stored more in omega arith
+      | inr long ↦
+          let a = length-append base (take count due) in let b = length-append base (take more due) in omega arith
+    ]
+  ]
+
+  same_front : (count more : ℕ) → length (take more due) ≡ length (take count due) → take more due ≡ take count due
+  same_front count more same =
+      let a = length-take count due in
+      let b = length-take more due in
+      by_size count more same
+    where
+      as_length : (n : ℕ) (l : List Entry) → take n l ≡ take (length (take n l)) l
+      as_length zero l = refl
+      as_length (suc n) [] = refl
+      as_length (suc n) (x ∷ l) = ap (λ (z : List Entry). x ∷ z) (as_length n l)
+
+      by_size : (count more : ℕ) → length (take more due) ≡ length (take count due) → take more due ≡ take count due
+      by_size count more same = as_length more due ∙ ap (λ (n : ℕ). take n due) same ∙ sym (as_length count due)
+
+-- ---- two calls
+
+-- what a call began with, by what its caller sees
+began_with : Bool → List ℕ → PlanLines → State → Begin
+began_with told image plan state =
+    record { rows = MOST_KEYS; told = told; plan = plan; start = state; slots = slot_count image; used = length (records image) }
+
+module _ (call other : CallSeen) (run : RunEnds call) (again : RunEnds other) (plan : PlanLines) (state : State)
+    (did : DidAll call run) (redid : DidAll other again) (told : IsTrue call.site.told) (tells : IsTrue other.site.told)
+    (image : image_at_entry other ≡ image_at_entry call) (shows : ShowsAtEntry call plan state)
+    (handled : again.account.handled ≡ run.account.handled) (counted : length again.account.answers ≡ length run.account.answers)
+    (one : OneLane (records_of run.account.handled)) (wants : NoneWants run.account.answers) (rewants : NoneWants again.account.answers)
+    (once : (begin : Begin) (rows : ℕ) (words : ℕ → ℕ) (history : List Entry) (deeds others : List Deed) (moves more : List Move)
+    (own entries : List Entry) → IsTrue begin.told
+    → ((front rest : List Entry) → own ≡ front ++ rest → KeepsRules (after begin.start (history ++ front)))
+    → SameTasks deeds others → AreServed deeds → AreServed others
+    → ServesAll begin history deeds moves own → ServesAll begin history others more entries
+    → Runs rows words moves → Runs rows words more
+    → (map (λ (deed : Deed). deed.answer) deeds ≡ map (λ (deed : Deed). deed.answer) others) × (own ≡ entries) × (moves ≡ more))
+    (along : (plan : PlanLines) (start : State) (places : List Place) (entries : List Entry) → IsLegalHistory plan start places entries
+    → (p : ℕ) → p ≤ length entries → KeepsRules (after_first start entries p))
+    (adds : (state : State) (entries more : List Entry) → stored_count state (entries ++ more) ≡ stored_count state entries + stored_count (after state entries) more)
+    (stored : (state : State) (place : ℕ) (words : List ℕ) (count : ℕ)
+    → stored_count state (take count (releases state place words)) ≡ length (take count (releases state place words))) where
+  reshows : ShowsAtEntry other plan state
+  reshows = record {
+    says = subst (λ (i : List ℕ). plan_of (held i).plan ≡ Ok plan) (sym image) shows.says;
+    shows = subst (λ (i : List ℕ). Shows i state) (sym image) shows.shows;
+  }
+
+  quiet : ¬ Rose call.site.faults run.account.last
+  quiet = not_rose call run.account run.tells did.told_is
+
+  requiet : ¬ Rose other.site.faults again.account.last
+  requiet = not_rose other again.account again.tells redid.told_is
+
+  still : ¬ Rose call.site.faults call.site_after.faults
+  still rose =
+      let a = run.last_later in let b = run.after_later in let c = did.no_fault in
+      let same : run.account.last ≡ call.site_after.faults = omega arith in
+      quiet (subst (λ (n : ℕ). Rose call.site.faults n) (sym same) rose)
+
+  restill : ¬ Rose other.site.faults other.site_after.faults
+  restill rose =
+      let a = again.last_later in let b = again.after_later in let c = redid.no_fault in
+      let same : again.account.last ≡ other.site_after.faults = omega arith in
+      requiet (subst (λ (n : ℕ). Rose other.site.faults n) (sym same) rose)
+
+  begins : begin_of other plan state ≡ begin_of call plan state
+  unfolding began_with
+  begins = ap (λ (b : Bool). began_with b (image_at_entry other) plan state) (tells ∙ sym told)
+      ∙ ap (λ (i : List ℕ). began_with call.site.told i plan state) image
+
+  recounted : length again.account.answers ≡ length run.account.handled
+  recounted = counted ∙ did.answered
+
+  tasks : SameTasks (deeds_in run.account) (deeds_in again.account)
+  tasks = subst (λ (places : List Place). SameTasks (deeds_in run.account) (deeds_from places again.account.answers)) (sym handled)
+      (same_tasks run.account.handled run.account.answers again.account.answers did.answered recounted)
+
+  module _ (s : IsSoundCall call run.account plan state) (t : IsSoundCall other again.account plan state)
+      (r : IsReleased call run.account state s.run.history.run.ends) (q : IsReleased other again.account state t.run.history.run.ends)
+      (e : IsExact call run.account plan state r.words s.run.history.run.ends) (f : IsExact other again.account plan state q.words t.run.history.run.ends) where
+    abbrev base : List Entry
+    base = take s.run.history.run.ends call.entries
+
+    abbrev due : List Entry
+    due = due_releases call state s.run.history.run.ends r.words
+
+    all_same : (map (λ (deed : Deed). deed.answer) (deeds_in run.account) ≡ map (λ (deed : Deed). deed.answer) (deeds_in again.account))
+        × (take s.run.history.run.ends call.entries ≡ take t.run.history.run.ends other.entries) × (e.moves ≡ f.moves)
+    all_same = once (begin_of call plan state) MOST_KEYS (mark_at state) [] (deeds_in run.account) (deeds_in again.account) e.moves f.moves
+        (take s.run.history.run.ends call.entries) (take t.run.history.run.ends other.entries) told
+        (rules_front state call.entries s.run.history.run.ends (along plan state run.account.handled call.entries s.run.history)) tasks
+        (are_served (NearWord state call.entries (records_of run.account.handled)) (course_of call run.account plan state) run.account.handled run.account.answers s.run.answers
+        (λ k d low fault. quiet (run.faults_told k d low fault)) wants)
+        (are_served (NearWord state other.entries (records_of again.account.handled)) (course_of other again.account plan state) again.account.handled again.account.answers t.run.answers
+        (λ k d low fault. requiet (again.faults_told k d low fault)) rewants)
+        (e.served did.answered quiet)
+        (subst (λ (b : Begin). ServesAll b [] (deeds_in again.account) f.moves (take t.run.history.run.ends other.entries)) begins (f.served redid.answered requiet))
+        (no_more_moves MOST_KEYS (mark_at state) e.moves e.beyond (e.each did.answered) e.runs)
+        (no_more_moves MOST_KEYS (mark_at state) f.moves f.beyond (f.each redid.answered) f.runs)
+
+    same_answers : again.account.answers ≡ run.account.answers
+    same_answers = sym (answers_of_deeds again.account.handled again.account.answers redid.answered) ∙ sym all_same.0
+        ∙ answers_of_deeds run.account.handled run.account.answers did.answered
+
+    same_words : q.words ≡ r.words
+    same_words = ext_get_or 0 q.words r.words (q.rows ∙ sym r.rows) (λ row low.
+        let size = q.rows in
+        let a : slice_index q.words row ≡ mark_at state row + adds_all row (f.moves ++ f.beyond) = f.last row (omega arith) in
+        let b : slice_index r.words row ≡ mark_at state row + adds_all row (e.moves ++ e.beyond) = e.last row (omega arith) in
+        let beyond : f.moves ++ f.beyond ≡ e.moves ++ e.beyond =
+        ap (λ (l : List Move). f.moves ++ l) (f.each redid.answered ∙ sym (e.each did.answered)) ∙ ap (λ (l : List Move). l ++ e.beyond) (sym all_same.2) in
+        a ∙ ap (λ (l : List Move). mark_at state row + adds_all row l) beyond ∙ sym b)
+
+    same_due : due_releases other state t.run.history.run.ends q.words ≡ due_releases call state s.run.history.run.ends r.words
+    same_due = ap (λ (l : List Entry). releases (after state l) 0 q.words) (sym all_same.1)
+        ∙ ap (λ (ws : List ℕ). releases (after state (take s.run.history.run.ends call.entries)) 0 ws) same_words
+
+    entries_are : call.entries ≡ base ++ take r.count due
+    entries_are = sym (take-append-drop s.run.history.run.ends call.entries) ∙ ap (λ (l : List Entry). base ++ l) r.are_due
+
+    others_are : other.entries ≡ base ++ take q.count due
+    others_are = sym (take-append-drop t.run.history.run.ends other.entries)
+        ∙ ap (λ (l : List Entry). l ++ drop t.run.history.run.ends other.entries) (sym all_same.1)
+        ∙ ap (λ (l : List Entry). base ++ l) (q.are_due ∙ ap (take q.count) same_due)
+
+    abbrev used : ℕ
+    used = length (records (image_at_entry call))
+
+    abbrev slots : ℕ
+    slots = slot_count (image_at_entry call)
+
+    refused : r.count < length due → (used + stored_count state (base ++ take r.count due) ≡ slots) ⊎ (length (base ++ take r.count due) ≡ MOST_ENTRIES)
+    refused few = by_cause (r.refused few)
+      where
+        by_cause : Rose call.site.faults call.site_after.faults ⊎ (IsJournalFull call state ⊎ (length call.entries ≡ MOST_ENTRIES))
+            → (used + stored_count state (base ++ take r.count due) ≡ slots) ⊎ (length (base ++ take r.count due) ≡ MOST_ENTRIES)
+        by_cause (inl rose) = absurd (still rose)
+        by_cause (inr (inl full)) = inl (subst (λ (l : List Entry). used + stored_count state l ≡ slots) entries_are full)
+        by_cause (inr (inr long)) = inr (ap length (sym entries_are) ∙ long)
+
+    rerefused : q.count < length due → (used + stored_count state (base ++ take q.count due) ≡ slots) ⊎ (length (base ++ take q.count due) ≡ MOST_ENTRIES)
+    rerefused few = by_cause (q.refused (let d = ap length same_due in omega arith))
+      where
+        by_cause : Rose other.site.faults other.site_after.faults ⊎ (IsJournalFull other state ⊎ (length other.entries ≡ MOST_ENTRIES))
+            → (used + stored_count state (base ++ take q.count due) ≡ slots) ⊎ (length (base ++ take q.count due) ≡ MOST_ENTRIES)
+        by_cause (inl rose) = absurd (restill rose)
+        by_cause (inr (inl full)) = inl (subst (λ (l : List Entry). used + stored_count state l ≡ slots) others_are
+            (subst (λ (i : List ℕ). length (records i) + stored_count state other.entries ≡ slot_count i) image full))
+        by_cause (inr (inr long)) = inr (ap length (sym others_are) ∙ long)
+
+    room : used + stored_count state (base ++ take r.count due) ≤ slots
+    room = subst (λ (l : List Entry). used + stored_count state l ≤ slots) entries_are (r.room still)
+
+    reroom : used + stored_count state (base ++ take q.count due) ≤ slots
+    reroom = subst (λ (l : List Entry). used + stored_count state l ≤ slots) others_are
+        (subst (λ (i : List ℕ). length (records i) + stored_count state other.entries ≤ slot_count i) image (q.room restill))
+
+    releases_stored : (count : ℕ) → stored_count (after state base) (take count due) ≡ length (take count due)
+    releases_stored count = stored (after state base) 0 r.words count
+
+    same_entries : other.entries ≡ call.entries
+    same_entries =
+        let a = no_fewer state base due used slots adds releases_stored r.count q.count refused reroom (let b = again.bounded in let l = ap length others_are in omega arith) in
+        let c = no_fewer state base due used slots adds releases_stored q.count r.count rerefused room (let b = run.bounded in let l = ap length entries_are in omega arith) in
+        others_are ∙ ap (λ (l : List Entry). base ++ l) (same_front state base due used slots adds releases_stored r.count q.count (omega arith)) ∙ sym entries_are
+
+    alike_so : RunsAlike call other run.account again.account
+    alike_so = record {
+      answers = same_answers;
+      entries = same_entries;
+      due = ap (λ (l : List Answer). answers_octets l ++ end_octets other again.account.told) same_answers
+          ∙ ap (λ (end : RunEnd). answers_octets run.account.answers ++ end_octets other end) (redid.told_is ∙ sym did.told_is)
+          ∙ ap (λ (l : List Entry). answers_octets run.account.answers ++ answer_octets (end_answer run.account.told (length l))) same_entries;
+    }
+
+  pub alike : RunsAlike call other run.account again.account
+  alike =
+      let (s, r, e) = run.sound told plan state shows in
+      let (t, q, f) = again.sound tells plan state reshows in
+      alike_so s t r q (e one) (f (subst (λ (places : List Place). OneLane (records_of places)) (sym handled) one))

@@ -1,0 +1,323 @@
+-- Where all records are of one lane: how the words moved, segment by segment, and what is told of it at the end of a run.
+use Rattle.std.proofs.Common.{◌≡◌, ◌⊎◌, ℕ, zero, suc, ◌+◌, ◌<◌, ◌≤◌, List, [], ◌∷◌, ◌++◌, length, Some, refl, sym, ◌∙◌, ap, subst, inl, inr, arith, append_assoc, append-nil, length-append, take}
+use Rattle.std.specs.List.{All, slice_get, slice_index}
+use Rattle.std.proofs.lemmas.Bool.Decides.{nat_tests}
+use Rattle.std.proofs.lemmas.List.{append_cancel_left, take-append-le, take_all}
+use Rattle.std.proofs.lemmas.List.Elements.{All-nil, All-cons}
+use Rattle.sdls_base.specs.declared.TheConstants.{MOST_KEYS}
+use Rattle.sdls_base.specs.declared.entry.Entry.{Entry}
+use Rattle.counter_table.specs.declared.view.Numbers.{Numbers}
+use Rattle.counter_table.specs.declared.view.View.{View}
+use Rattle.counter_table.specs.Numbers.{amount, top}
+use Rattle.sdls_outside.specs.Faults.{Rose}
+use Rattle.counter_table.specs.Turn.{stands}
+use Rattle.key_book.specs.KeyBook.{place_of}
+use Rattle.unit_plan.specs.PlanLines.{PlanLines}
+use Rattle.unit_state.specs.declared.state.State.{State}
+use Rattle.unit_state.specs.History.{after, after_first, epoch_after}
+use Rattle.law_history.specs.Log.{entries_of}
+use Rattle.law_history.specs.Numbers.{mark_of}
+use Rattle.sdls_base.specs.Numbers.{times}
+use Rattle.counter_table.specs.Whole.{IsWhole, RowStands}
+use Rattle.record_io.specs.declared.answers.Answer.{Answer}
+use Rattle.record_io.specs.declared.records.Record.{Record}
+use Rattle.record_io.specs.Places.{Place, records_of}
+use Rattle.unit_book.specs.Marks.{mark_at}
+use Rattle.law_history.specs.Counts.{count_at, is_none_index, is_of_none}
+use Rattle.law_workers.specs.Begin.{Begin}
+use Rattle.law_workers.specs.Views.{entries_in, KnowsMore, log_of}
+use Rattle.law_workers.specs.Deeds.{Deed, Does, deeds_of}
+use Rattle.law_workers.proofs.Histories.{get_front, place_of_entry}
+use Rattle.law_workers.proofs.Joining.{grows_further}
+use Rattle.law_workers.proofs.Logs.{count_one, stands_both, times_both}
+use Rattle.law_workers.specs.Machine.{Move, Runs}
+use Rattle.law_workers.specs.Serving.{ServesAll}
+use Rattle.law_workers.specs.InTurn.{MadeAllLines, IsClean, IsLevel, AreMarked}
+use Rattle.law_workers.specs.Exact.{words_in, Exact, IsOfMoves, TellAll}
+use Rattle.law_workers.specs.Alone.{MovedExactly, OneLane, ServedAlone}
+use Rattle.law_workers.proofs.Alone.{below_log, exact_seen, seen_moves}
+use Rattle.law_workers.proofs.Machines.{alone, exact_nothing, exact_then, nothing_moves, runs_same, tell_more, then_moves}
+use Rattle.law_workers.proofs.Turns.{clean_before, log_low, made_first, made_rest, serves_both}
+use Rattle.law_workers.specs.Opened.{IsJustOpened}
+use Rattle.law_workers.specs.Settles.{SettlesAt}
+use Rattle.law_runs.specs.Call.{CallSeen}
+use Rattle.law_runs.specs.Account.{Account, begin_of, deeds_from, deeds_in}
+use Rattle.law_runs.specs.Alone.{IsExact}
+use Rattle.law_runs.proofs.Placed.{deeds_both, deeds_of_segment, records_length}
+use Rattle.law_runs.specs.Doing.{MovedAlone, PutsPieces, RunAlone}
+
+-- ---- records of one lane
+
+lane_first : (lane : ℕ) (places more : List Place) → All (λ (task : Record). task.lane ≡ lane) (records_of (places ++ more))
+    → All (λ (task : Record). task.lane ≡ lane) (records_of places)
+lane_first lane [] more all = All-nil (λ (task : Record). task.lane ≡ lane)
+lane_first lane (place ∷ places) more all =
+    All-cons (λ (task : Record). task.lane ≡ lane) place.task (records_of places) (all 0 place.task (omega arith))
+    (lane_first lane places more (λ k d low. all (suc k) d (omega arith)))
+
+lane_rest : (lane : ℕ) (places more : List Place) → All (λ (task : Record). task.lane ≡ lane) (records_of (places ++ more))
+    → All (λ (task : Record). task.lane ≡ lane) (records_of more)
+lane_rest lane [] more all = all
+lane_rest lane (place ∷ places) more all = lane_rest lane places more (λ k d low. all (suc k) d (omega arith))
+
+deeds_length : (places : List Place) (answers : List Answer) → length answers ≡ length places → length (deeds_from places answers) ≡ length places
+deeds_length [] answers same = refl
+deeds_length (place ∷ places) [] same = absurd (omega arith)
+deeds_length (place ∷ places) (answer ∷ answers) same = ap suc (deeds_length places answers (omega arith))
+
+-- ---- one segment more
+
+either : (a b : ℕ) → 0 < a + b → (0 < a) ⊎ (0 < b)
+either zero b h = inr (omega arith)
+either (suc a) b h = inl (omega arith)
+
+-- no line that was put is a reserve
+none_reserved : (begin : Begin) (mid w : View) (puts : PutsPieces begin mid w) (moves : List Move) (place : ℕ) → 0 < stands place puts.does.gains.made
+    → IsOfMoves moves (slice_get (log_of w) place)
+none_reserved begin mid w puts moves place made entry is none =
+    let test = ap is_of_none is ∙ ap is_none_index none in
+    let a = count_one is_of_none (log_of w) place puts.does.gains.made made test in
+    let b : count_at is_of_none (log_of w) puts.does.gains.made ≤ 0 = puts.does.works.reserves in
+    absurd (omega arith)
+
+-- answers that were put moved no word
+moved_put : (begin : Begin) (v mid w : View) (tasks : List Record) (n : ℕ) (deeds : List Deed) → Does begin v mid tasks deeds → MovedExactly begin v mid n deeds
+    → PutsPieces begin mid w → w.numbers ≡ mid.numbers → MovedExactly begin v w n deeds
+moved_put begin v mid w tasks n deeds does a puts same =
+    let amounts : (row : ℕ) → amount row w.numbers.added ≡ amount row mid.numbers.added = λ row. ap (λ (k : Numbers). amount row k.added) same in
+    let e = exact_seen begin v mid v w a.made deeds a.last a.exact (below_log begin v mid tasks deeds does a.made a.made_is) puts.does.grows (λ row. refl)
+    (λ row. ap (λ (k : Numbers). top row k.nexts) same) (λ row. let h = amounts row in omega arith) in
+    record {
+      made = a.made ++ puts.does.gains.made;
+      made_is = puts.does.gained.made ∙ (ap (λ (l : List ℕ). l ++ puts.does.gains.made) a.made_is ∙ append_assoc v.turn.made a.made puts.does.gains.made);
+      last = a.last;
+      few = a.few;
+      each = a.each;
+      exact = record {
+        moves = e.moves;
+        told = e.told;
+        reserves = λ place made.
+            let s = stands_both place a.made puts.does.gains.made in
+            elim (either (stands place a.made) (stands place puts.does.gains.made) (omega arith)) [
+              | inl here ↦ e.reserves place here
+              | inr there ↦ none_reserved begin mid w puts (e.moves ++ a.last) place there
+            ];
+        added = e.added;
+        grown = e.grown;
+        exact = e.exact;
+      };
+    }
+
+-- the moves are those of the records
+put_moves : (begin : Begin) (v mid w : View) (tasks : List Record) (n : ℕ) (deeds : List Deed) (does : Does begin v mid tasks deeds) (a : MovedExactly begin v mid n deeds)
+    (puts : PutsPieces begin mid w) (same : w.numbers ≡ mid.numbers) → (moved_put begin v mid w tasks n deeds does a puts same).exact.moves ≡ a.exact.moves
+unfolding moved_put
+put_moves begin v mid w tasks n deeds does a puts same =
+    seen_moves begin v mid v w a.made deeds a.last a.exact (below_log begin v mid tasks deeds does a.made a.made_is) puts.does.grows (λ row. refl)
+    (λ row. ap (λ (k : Numbers). top row k.nexts) same)
+    (λ row. let h : amount row w.numbers.added ≡ amount row mid.numbers.added = ap (λ (k : Numbers). amount row k.added) same in omega arith)
+
+-- the lines that were made since a view stand behind its log
+above_log : (begin : Begin) (u v : View) (ts : List Record) (ds : List Deed) → Does begin u v ts ds → (made : List ℕ) → v.turn.made ≡ u.turn.made ++ made
+    → (place : ℕ) → 0 < stands place made → length (log_of u) ≤ place
+above_log begin u v ts ds d made is place h =
+    let same : made ≡ d.gains.made = append_cancel_left u.turn.made made d.gains.made (sym is ∙ d.gained.made) in
+    (d.works.made place (subst (λ (l : List ℕ). 0 < stands place l) same h)).0
+
+module _ (begin : Begin) (first v mid w : View) (places more : List Place) (answers next : List Answer) (number stored entries lines : ℕ)
+    (does : Does begin first v (records_of places) (deeds_from places answers)) (each : length answers ≡ length places)
+    (here : Does begin v mid (records_of more) (deeds_from more next))
+    (puts : PutsPieces begin mid w) (same : w.numbers ≡ mid.numbers) (settles : SettlesAt begin mid w stored entries lines)
+    (a : RunAlone begin first v places answers) (b : ServedAlone begin v mid (length more) (deeds_from more next)) where
+  c : MovedExactly begin v w (length more) (deeds_from more next)
+  c = moved_put begin v mid w (records_of more) (length more) (deeds_from more next) here b.moved puts same
+
+  grows : KnowsMore v w
+  grows = grows_further v mid w here.grows puts.does.grows
+
+  below : (place : ℕ) → 0 < stands place a.moved.made → place < length (log_of v)
+  below = below_log begin first v (records_of places) (deeds_from places answers) does a.moved.made a.moved.made_is
+
+  -- what was served before, once each record has its answer
+  Before : List Move → Type 0
+  Before last = (e : Exact begin first v a.moved.made (deeds_from places answers) last)
+      × (last ≡ [] → MadeAllLines first v a.moved.made → IsClean v → IsLevel first
+      → (own : List Entry) × (entries_in v ≡ entries_in first ++ own) × ServesAll begin (entries_in first) (deeds_from places answers) e.moves own)
+
+  before : Before []
+  unfolding Before
+  before = subst Before (a.moved.each (deeds_length places answers each)) (a.moved.exact, a.served)
+
+  above_rest : (place : ℕ) → 0 < stands place (b.moved.made ++ puts.does.gains.made) → length (log_of v) ≤ place
+  above_rest place in' =
+      let s = stands_both place b.moved.made puts.does.gains.made in
+      elim (either (stands place b.moved.made) (stands place puts.does.gains.made) (omega arith)) [
+        | inl one ↦ above_log begin v mid (records_of more) (deeds_from more next) here b.moved.made b.moved.made_is place one
+        | inr two ↦ let p = (puts.does.works.made place two).0 in let l = log_low v mid here.grows in omega arith
+      ]
+
+  above_put : (place : ℕ) → 0 < stands place puts.does.gains.made → length (log_of mid) ≤ place
+  above_put place in' = (puts.does.works.made place in').0
+
+  -- each number that the segment spent was below its mark when its answers were put
+  marked : IsClean w → AreMarked begin mid b.spent
+  marked clean key row number few there in' =
+      let t : times row number mid.numbers.spent ≡ times row number v.numbers.spent + times row number b.spent =
+      ap (times row number) b.between.spent_is ∙ times_both row number v.numbers.spent b.spent in
+      let found = settles.marks key row number few (subst (λ (es : List Entry). place_of (after begin.start es).keys key ≡ Some row) (sym puts.entries) there) (omega arith) in
+      let stood : entries ≡ length (entries_in w) = settles.stood clean in
+      let whole : after_first begin.start (entries_in w) entries ≡ after begin.start (entries_in mid) =
+      ap (after begin.start) (take_all entries (entries_in w) (omega arith) ∙ puts.entries) in
+      subst (λ (s : State). number < mark_of s key) whole found
+
+  both_served : (e : Exact begin first v a.moved.made (deeds_from places answers) []) (moves : List Move) → moves ≡ e.moves ++ b.moved.exact.moves
+      → (MadeAllLines first v a.moved.made → IsClean v → IsLevel first
+      → (own : List Entry) × (entries_in v ≡ entries_in first ++ own) × ServesAll begin (entries_in first) (deeds_from places answers) e.moves own)
+      → b.moved.last ≡ [] → MadeAllLines first w (a.moved.made ++ (b.moved.made ++ puts.does.gains.made)) → IsClean w → IsLevel first
+      → (own : List Entry) × (entries_in w ≡ entries_in first ++ own)
+      × ServesAll begin (entries_in first) (deeds_from places answers ++ deeds_from more next) moves own
+  both_served e moves is served none all clean level =
+      let clean_mid = clean_before mid w puts.does.grows clean in
+      let clean_v = clean_before v mid here.grows clean_mid in
+      let rest = made_rest first v w a.moved.made (b.moved.made ++ puts.does.gains.made) does.grows below all in
+      let (own, own_is, one) = served (made_first first v w a.moved.made (b.moved.made ++ puts.does.gains.made) grows above_rest all) clean_v level in
+      let (more_own, more_is, two) = b.between.served none (made_first v mid w b.moved.made puts.does.gains.made puts.does.grows above_put rest) clean_mid
+      (a.level clean_v level) (marked clean) in (
+        own ++ more_own,
+        puts.entries ∙ more_is ∙ ap (λ (l : List Entry). l ++ more_own) own_is ∙ append_assoc (entries_in first) own more_own,
+        subst (λ (l : List Move). ServesAll begin (entries_in first) (deeds_from places answers ++ deeds_from more next) l (own ++ more_own)) (sym is)
+            (serves_both begin (entries_in first) (deeds_from places answers) (deeds_from more next) e.moves b.moved.exact.moves own more_own one
+            (subst (λ (l : List Entry). ServesAll begin l (deeds_from more next) b.moved.exact.moves more_own) own_is two)),
+      )
+
+  -- a segment behind those before
+  alone_then : (moved : MovedExactly begin first w (length places + length more) (deeds_from places answers ++ deeds_from more next))
+      × (IsClean w → IsLevel first → IsLevel w)
+      × (moved.last ≡ [] → MadeAllLines first w moved.made → IsClean w → IsLevel first
+      → (own : List Entry) × (entries_in w ≡ entries_in first ++ own)
+      × ServesAll begin (entries_in first) (deeds_from places answers ++ deeds_from more next) moved.exact.moves own)
+  unfolding before Before c moved_put
+  alone_then =
+      let (e, served) = before in (
+        record {
+          made = a.moved.made ++ c.made;
+          made_is = c.made_is ∙ (ap (λ (l : List ℕ). l ++ c.made) a.moved.made_is ∙ append_assoc first.turn.made a.moved.made c.made);
+          last = c.last;
+          few = c.few;
+          each = λ all. c.each (let both = length-append (deeds_from places answers) (deeds_from more next) in let d = deeds_length places answers each in omega arith);
+          exact = exact_then begin first v w a.moved.made c.made (deeds_from places answers) (deeds_from more next) c.last e below grows c.exact;
+        },
+        λ clean level.
+            let clean_mid = clean_before mid w puts.does.grows clean in
+            let mid_level : IsLevel mid = b.between.level clean_mid (a.level (clean_before v mid here.grows clean_mid) level) in
+            let epochs = puts.does.grows.epochs in
+            let counted = ap epoch_after puts.entries in omega arith,
+        both_served e
+            (exact_then begin first v w a.moved.made c.made (deeds_from places answers) (deeds_from more next) c.last e below grows c.exact).moves
+            (then_moves begin first v w a.moved.made c.made (deeds_from places answers) (deeds_from more next) c.last e below grows c.exact
+            ∙ ap (λ (l : List Move). e.moves ++ l) (put_moves begin v mid w (records_of more) (length more) (deeds_from more next) here b.moved puts same))
+            (served refl),
+      )
+
+-- a run whose records are of one lane, with these deeds, where they are so many
+alone_as : (begin : Begin) (first w : View) (places : List Place) (answers : List Answer) (n : ℕ) (deeds : List Deed) → length places ≡ n
+    → deeds_from places answers ≡ deeds
+    → (moved : MovedExactly begin first w n deeds) × (IsClean w → IsLevel first → IsLevel w)
+    × (moved.last ≡ [] → MadeAllLines first w moved.made → IsClean w → IsLevel first
+    → (own : List Entry) × (entries_in w ≡ entries_in first ++ own) × ServesAll begin (entries_in first) deeds moved.exact.moves own)
+    → RunAlone begin first w places answers
+alone_as begin first w places answers n deeds size is h =
+    let (moved, level, served) = subst (λ (k : ℕ). (moved : MovedExactly begin first w k (deeds_from places answers)) × (IsClean w → IsLevel first → IsLevel w)
+    × (moved.last ≡ [] → MadeAllLines first w moved.made → IsClean w → IsLevel first
+    → (own : List Entry) × (entries_in w ≡ entries_in first ++ own) × ServesAll begin (entries_in first) (deeds_from places answers) moved.exact.moves own)) (sym size)
+    (subst (λ (ds : List Deed). (moved : MovedExactly begin first w n ds) × (IsClean w → IsLevel first → IsLevel w)
+    × (moved.last ≡ [] → MadeAllLines first w moved.made → IsClean w → IsLevel first
+    → (own : List Entry) × (entries_in w ≡ entries_in first ++ own) × ServesAll begin (entries_in first) ds moved.exact.moves own)) (sym is) h) in
+    record { moved = moved; level = level; served = served }
+
+pub moved_on : (begin : Begin) (first v mid w : View) (places more : List Place) (answers next : List Answer) (number stored entries lines : ℕ)
+    → Does begin first v (records_of places) (deeds_from places answers) → length answers ≡ length places
+    → All (λ (place : Place). place.segment ≡ number) more → Does begin v mid (records_of more) (deeds_from more next)
+    → PutsPieces begin mid w → w.numbers ≡ mid.numbers → SettlesAt begin mid w stored entries lines → MovedAlone begin first v places answers
+    → (OneLane (records_of more) → ServedAlone begin v mid (length (records_of more)) (deeds_of number (records_of more) next))
+    → MovedAlone begin first w (places ++ more) (answers ++ next)
+moved_on begin first v mid w places more answers next number stored entries lines does each of here puts same settles earlier segment (lane, all) =
+    let a = earlier (lane, lane_first lane places more all) in
+    let b : ServedAlone begin v mid (length more) (deeds_from more next) =
+    subst (λ (n : ℕ). ServedAlone begin v mid n (deeds_from more next)) (records_length more)
+    (subst (ServedAlone begin v mid (length (records_of more))) (sym (deeds_of_segment number more next of))
+    (segment (lane, lane_rest lane places more all))) in
+    alone_as begin first w (places ++ more) (answers ++ next) (length places + length more) (deeds_from places answers ++ deeds_from more next)
+    (length-append places more) (deeds_both places more answers next each)
+    (alone_then begin first v mid w places more answers next number stored entries lines does each here puts same settles a b)
+
+-- no segment yet
+pub alone_nothing : (begin : Begin) (first : View) → RunAlone begin first first [] []
+alone_nothing begin first = record {
+  moved = record {
+    made = [];
+    made_is = sym (append-nil first.turn.made);
+    last = [];
+    few = omega arith;
+    each = λ same. refl;
+    exact = exact_nothing begin first;
+  };
+  level = λ clean level. level;
+  served = λ none all clean level. (
+    [],
+    sym (append-nil (entries_in first)),
+    subst (λ (moves : List Move). ServesAll begin (entries_in first) [] moves []) (sym (nothing_moves begin first)) refl,
+  );
+}
+
+-- ---- the end of a run
+
+pub exact_call : (call : CallSeen) (account : Account) (plan : PlanLines) (begin : Begin) (first now : View) (words : List ℕ) (releases : List Entry)
+    → begin ≡ begin_of call plan begin.start → IsJustOpened begin first → IsWhole begin.rows now
+    → ((row : ℕ) → row < MOST_KEYS → RowStands row (slice_index words row) now.numbers)
+    → RunAlone begin first now account.handled account.answers → call.entries ≡ entries_in now ++ releases
+    → now.turn.known.opening.faults ≡ call.site.faults → now.turn.known.faults ≡ account.last
+    → IsExact call account plan begin.start words (length (entries_in now))
+exact_call call account plan begin first now words releases begins opened whole stand alone_run is faults_before faults_last = record {
+  moves = alone_run.moved.exact.moves;
+  beyond = alone_run.moved.last;
+  few = alone_run.moved.few;
+  each = λ all. alone_run.moved.each (deeds_length account.handled account.answers all);
+  told = subst (λ (l : List Entry). TellAll begin.start l (deeds_in account) alone_run.moved.exact.moves) (sym is)
+      (tell_more begin.start (entries_in now) releases (deeds_in account) alone_run.moved.exact.moves alone_run.moved.exact.told);
+  runs = subst (λ (n : ℕ). Runs n (mark_at begin.start) (alone_run.moved.exact.moves ++ alone_run.moved.last)) rows
+      (runs_same begin.rows (words_in first) (mark_at begin.start) opened.nexts (alone_run.moved.exact.moves ++ alone_run.moved.last)
+      (alone begin first now alone_run.moved.made (deeds_in account) alone_run.moved.last alone_run.moved.exact whole opened.added));
+  reserves = λ p entry low there none.
+      let here : slice_get (entries_in now) p ≡ Some entry =
+      sym (get_front (entries_in now) releases p low) ∙ (ap (λ (l : List Entry). slice_get l p) (sym is) ∙ there) in
+      let (place, inside, at, same) = place_of_entry (log_of now) p entry here in
+      alone_run.moved.exact.reserves place (all_made place inside) entry at none;
+  last = λ row low.
+      let r = rows in
+      let g = (stand row low).grown in
+      let o = opened.added row (omega arith) in
+      let n = opened.nexts row (omega arith) in
+      let a = alone_run.moved.exact.added row in omega arith;
+  served = λ all quiet.
+      let none : alone_run.moved.last ≡ [] = alone_run.moved.each (deeds_length account.handled account.answers all) in
+      let clean : IsClean now = (λ risen. quiet (subst (λ (n : ℕ). Rose n account.last) faults_before
+      (subst (λ (n : ℕ). Rose now.turn.known.opening.faults n) faults_last risen))) in
+      let empty : entries_in first ≡ [] = ap entries_of opened.no_log in
+      let level : IsLevel first = (let counted = ap epoch_after empty in omega arith) in
+      let (own, own_is, served) = alone_run.served none (λ place low high. all_made place high) clean level in
+      let front : take (length (entries_in now)) call.entries ≡ own =
+      ap (take (length (entries_in now))) is ∙ take-append-le (length (entries_in now)) (entries_in now) releases (omega arith)
+      ∙ take_all (length (entries_in now)) (entries_in now) (omega arith) ∙ own_is ∙ ap (λ (l : List Entry). l ++ own) empty in
+      subst (λ (l : List Entry). ServesAll (begin_of call plan begin.start) [] (deeds_in account) alone_run.moved.exact.moves l) (sym front)
+      (subst (λ (b : Begin). ServesAll b [] (deeds_in account) alone_run.moved.exact.moves own) begins
+      (subst (λ (l : List Entry). ServesAll begin l (deeds_in account) alone_run.moved.exact.moves own) empty served));
+} where
+  rows : begin.rows ≡ MOST_KEYS
+  rows = ap (λ (b : Begin). b.rows) begins
+
+  all_made : (place : ℕ) → place < length (log_of now) → 0 < stands place alone_run.moved.made
+  all_made place inside =
+      let made_is : now.turn.made ≡ alone_run.moved.made = alone_run.moved.made_is ∙ ap (λ (l : List ℕ). l ++ alone_run.moved.made) opened.none_made in
+      let made : 0 < stands place now.turn.made = (let once = whole.made place in grind (arith, nat_tests)) in
+      subst (λ (l : List ℕ). 0 < stands place l) made_is made

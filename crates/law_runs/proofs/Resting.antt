@@ -1,0 +1,84 @@
+-- A run without records is sound, and so is each moment of a call that reads an image and stores nothing: for
+-- `no_records_are_sound` and `reading_keeps_lives`.
+use Rattle.std.proofs.Common.{◌≡◌, ◌⊎◌, ℕ, IsTrue, List, [], refl, sym, subst, inl, inr, ⊎_elim, arith}
+use Rattle.std.proofs.lemmas.Option.{none-some}
+use Rattle.sdls_base.specs.declared.entry.Entry.{Entry}
+use Rattle.sdls_outside.specs.Disk.{Leaves}
+use Rattle.unit_plan.specs.PlanLines.{PlanLines}
+use Rattle.unit_plan.specs.PlanRules.{IsPlan}
+use Rattle.unit_state.specs.declared.state.State.{State}
+use Rattle.unit_state.specs.Restart.{restarted}
+use Rattle.unit_state.specs.State.{KeepsRules}
+use Rattle.unit_image.specs.Shows.{Shows}
+use Rattle.law_history.specs.Fits.{Course}
+use Rattle.law_workers.specs.Begin.{Begin}
+use Rattle.law_runs.specs.Sound.{IsSound, SoundMoment}
+use Rattle.law_runs.specs.Call.{CallSeen, ShowsAtEntry, image_at_entry}
+use Rattle.law_runs.specs.Account.{begin_of, course_of}
+use Rattle.law_runs.specs.Lives.{ReadsSoundly, no_account}
+use Rattle.law_runs.specs.Reads.{IsRead, ReadsAlone, StillShows}
+
+none_sound : (begin : Begin) (course : Course) → begin.plan ≡ course.plan → IsPlan course.plan → KeepsRules course.start
+    → IsSound begin (record course { entries = [] }) [] []
+none_sound begin course same plan_is rules = record {
+  begins = same;
+  history = record {
+    plan_is = plan_is;
+    rules = rules;
+    run = record {
+      ends = 0;
+      within = omega arith;
+      each = λ p entry low there. absurd (omega arith);
+      releases = λ p entry low there. absurd (none-some entry there);
+      once = λ p q a b index low at_p at_q is_a is_b. absurd (none-some a at_p);
+      few_entries = omega arith;
+      few_reserves = omega arith;
+      in_order = λ p q i j a b at_p at_q is_a is_b low turn. absurd (none-some a at_p);
+    };
+  };
+  answers = λ k d low. absurd (omega arith);
+  pairs = λ i j d less low. absurd (omega arith);
+  pairs_above = λ k d low. absurd (omega arith);
+  accepted = λ i j d less low. absurd (omega arith);
+  accepted_above = λ k d low. absurd (omega arith);
+  one_fault = λ i j d less low. absurd (omega arith);
+  order = λ i j d less low. absurd (omega arith);
+}
+
+-- a run without records and without entries is sound
+pub no_records : (begin : Begin) (course : Course) → begin.plan ≡ course.plan → IsPlan course.plan → KeepsRules course.start → course.entries ≡ []
+    → IsSound begin course [] []
+no_records begin course same plan_is rules empty =
+    subst (λ (entries : List Entry). IsSound begin (record course { entries = entries }) [] []) (sym empty) (none_sound begin course same plan_is rules)
+
+module _ (one : (image : List ℕ) (a b : State) → Shows image a → Shows image b → a ≡ b) (call : CallSeen) (plan : PlanLines) (state : State)
+    (shows : ShowsAtEntry call plan state) where
+  abbrev Sound : List ℕ → Type 0
+  Sound image = SoundMoment (begin_of call plan state) (course_of call (no_account call) plan state) [] [] (image_at_entry call) image []
+
+  still : (image : List ℕ) → StillShows call image → Sound image
+  still image shown = record {
+    front = refl;
+    image_shows = inr (record {
+      p = 0;
+      within = omega arith;
+      shows = subst (λ (s : State). Shows image (restarted s)) (one (image_at_entry call) shown.0 state shown.1 shows.shows) shown.2;
+      covers = tt;
+      forms = λ form is. absurd (shown.3 form is);
+    });
+  }
+
+  sound_at : (image : List ℕ) → IsRead call image → Leaves call.site.trace.now image ⊎ Sound image
+  sound_at image (inl leaves) = inl leaves
+  sound_at image (inr (inl settles)) = inr (record { front = refl; image_shows = inl (tt, settles) })
+  sound_at image (inr (inr shown)) = inr (still image shown)
+
+  -- a call that stores nothing reads soundly
+  pub reads_soundly : IsTrue call.site.told → ReadsAlone call → ReadsSoundly call plan state
+  reads_soundly is_told reads =
+      let moments = reads is_told in
+      record {
+        later = moments.later;
+        each = λ image sunk m. sound_at image (moments.each image sunk m);
+        before = λ time image sunk low m. ⊎_elim inl (λ p. inr (sound_at image p)) (moments.before time image sunk low m);
+      }

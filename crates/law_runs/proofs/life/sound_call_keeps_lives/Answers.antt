@@ -1,0 +1,5 @@
+use Rattle.law_runs.proofs.Living.{keeps_lives}
+use Rattle.law_runs.proofs.life.sound_call_keeps_lives.Goals as goal
+
+pub returns : goal.returns
+returns c = keeps_lives c.used_once_in_a_life.ensures

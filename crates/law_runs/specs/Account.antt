@@ -1,0 +1,135 @@
+-- What a run did, and what it began with (profile).
+use Rattle.std.specs.Prelude.{◌≡◌, ◌⊎◌, ℕ, ◌<◌, ◌≤◌, nat_lt, if◌then◌else◌, List, [], ◌∷◌, ◌++◌, length}
+use Rattle.sdls_base.specs.declared.TheConstants.{MOST_KEYS}
+use Rattle.disk_journal.specs.Image.{records, slot_count}
+use Rattle.record_io.specs.declared.answers.Answer.{Answer}
+use Rattle.record_io.specs.declared.code.TheConstants.{END, SITE_FAULT, STOPPED}
+use Rattle.record_io.specs.declared.status.TheConstants as status
+use Rattle.record_io.specs.Answers.{answer_octets, answers_octets}
+use Rattle.record_io.specs.Input.{Item}
+use Rattle.record_io.specs.Places.{Place, places_of}
+use Rattle.unit_plan.specs.PlanLines.{PlanLines}
+use Rattle.unit_state.specs.declared.state.State.{State}
+use Rattle.law_history.specs.Fits.{Course}
+use Rattle.law_workers.specs.Begin.{Begin}
+use Rattle.law_workers.specs.Deeds.{Deed, deed_of}
+use Rattle.law_runs.specs.declared.end.RunEnd.{RunEnd}
+use Rattle.law_runs.specs.declared.end.RunEnd.TheVariants.{Ended, Malformed, SourceFault, SiteFault, NoMemory, NoState}
+use Rattle.law_runs.specs.declared.end.RunEnd.TheVariants.{SessionFull, PutFailed}
+use Rattle.law_runs.specs.Call.{CallSeen, image_at_entry}
+
+-- What a run did: what ended it and the end that it told; the items that it read, with their octets and those taken of
+-- a part behind them; the records that it handled and its one list of answers; and the site's count of faults when the
+-- last answers had been put.
+pub record Account : Type 0 where
+  pub came : RunEnd
+  pub told : RunEnd
+  pub items : List Item
+  pub read : List ℕ
+  pub part : List ℕ
+  pub handled : List Place
+  pub answers : List Answer
+  pub last : ℕ
+
+-- ---- the end
+
+abbrev pub end_status : RunEnd → ℕ
+end_status Ended = status.DONE
+end_status (Malformed offset) = status.MALFORMED
+end_status (SourceFault count) = status.SOURCE_FAULT
+end_status (SiteFault count) = status.SITE_FAULT
+end_status NoMemory = status.NO_MEMORY
+end_status (NoState offset) = status.NO_STATE
+end_status SessionFull = status.SESSION_FULL
+end_status PutFailed = status.SITE_FAULT
+
+-- the offset, or the count of faults
+abbrev pub end_number : RunEnd → ℕ
+end_number Ended = 0
+end_number (Malformed offset) = offset
+end_number (SourceFault count) = count
+end_number (SiteFault count) = count
+end_number NoMemory = 0
+end_number (NoState offset) = offset
+end_number SessionFull = 0
+end_number PutFailed = 0
+
+abbrev pub end_answer : RunEnd → ℕ → Answer
+end_answer end entries =
+    record { code = END; detail = end_status end; key = 0; position = entries; number = end_number end; body = [] }
+
+-- the octets of End
+abbrev pub end_octets : CallSeen → RunEnd → List ℕ
+end_octets call told = answer_octets (end_answer told (length call.entries))
+
+-- the octets that are due: those of the answers and of End
+abbrev pub due_octets : CallSeen → Account → List ℕ
+due_octets call account = answers_octets account.answers ++ end_octets call account.told
+
+-- the answer says that the site has failed
+abbrev pub SaysSiteFailed : Answer → Type 0
+SaysSiteFailed answer = (answer.code ≡ SITE_FAULT) ⊎ (answer.code ≡ STOPPED)
+
+-- ---- records and answers
+
+-- the places with their answers, as far as there are answers
+abbrev pub deeds_from : List Place → List Answer → List Deed
+deeds_from [] answers = []
+deeds_from (place ∷ places) [] = []
+deeds_from (place ∷ places) (answer ∷ answers) = deed_of place.segment place.task answer ∷ deeds_from places answers
+
+abbrev pub deeds_in : Account → List Deed
+deeds_in account = deeds_from account.handled account.answers
+
+-- the places of the first segments
+abbrev pub of_first : ℕ → List Place → List Place
+of_first segments [] = []
+of_first segments (place ∷ places) = if nat_lt place.segment segments then place ∷ of_first segments places else []
+
+-- all records of the items were handled
+abbrev pub HandledAll : Account → Type 0
+HandledAll account = account.handled ≡ places_of account.items
+
+-- those of the first segments were
+abbrev pub HandledFirst : Account → Type 0
+HandledFirst account = (segments : ℕ) × (account.handled ≡ of_first segments (places_of account.items))
+
+abbrev pub AnsweredEach : Account → Type 0
+AnsweredEach account = length account.answers ≡ length account.handled
+
+-- Which records were handled, and which have answers, by what came: all records of the items; those of the first
+-- segments, where memory was wanting; some of the first segments, where the history is full, or a put failed; none
+-- where the book was not opened.
+abbrev pub AreAnswered : Account → RunEnd → Type 0
+AreAnswered account Ended = HandledAll account × AnsweredEach account
+AreAnswered account (Malformed offset) = HandledAll account × AnsweredEach account
+AreAnswered account (SourceFault count) = HandledAll account × AnsweredEach account
+AreAnswered account NoMemory = HandledFirst account × AnsweredEach account
+AreAnswered account SessionFull = HandledFirst account × (length account.answers < length account.handled)
+AreAnswered account PutFailed = HandledFirst account × (length account.answers ≤ length account.handled)
+AreAnswered account (SiteFault count) = (account.handled ≡ []) × (account.answers ≡ [])
+AreAnswered account (NoState offset) = (account.handled ≡ []) × (account.answers ≡ [])
+
+-- ---- what it began with
+
+abbrev pub begin_of : CallSeen → PlanLines → State → Begin
+begin_of call plan state = record {
+  rows = MOST_KEYS;
+  told = call.site.told;
+  plan = plan;
+  start = state;
+  slots = slot_count (image_at_entry call);
+  used = length (records (image_at_entry call));
+}
+
+abbrev pub course_of : CallSeen → Account → PlanLines → State → Course
+course_of call account plan state = record {
+  plan = plan;
+  start = state;
+  slots = slot_count (image_at_entry call);
+  used = length (records (image_at_entry call));
+  told = call.site.told;
+  faults_before = call.site.faults;
+  faults = account.last;
+  entries = call.entries;
+}

@@ -1,0 +1,47 @@
+-- A run whose records are of one lane: its words and numbers are those of the machine (profile).
+use Rattle.std.specs.Prelude.{◌≡◌, ◌≢◌, ℕ, ◌+◌, ◌<◌, ◌≤◌, List, [], ◌++◌, length, take, slice_get, slice_index, Some}
+use Rattle.std.specs.Prelude.{None, Contains}
+use Rattle.std.specs.List.{All}
+use Rattle.sdls_base.specs.declared.TheConstants.{MOST_KEYS}
+use Rattle.sdls_base.specs.declared.entry.Entry.{Entry}
+use Rattle.sdls_base.specs.declared.entry.Seen.TheVariants as seens
+use Rattle.sdls_outside.specs.Faults.{Rose}
+use Rattle.record_io.specs.declared.answers.Answer.{Answer}
+use Rattle.record_io.specs.declared.code.TheConstants.{NO_MEMORY}
+use Rattle.unit_book.specs.Marks.{mark_at}
+use Rattle.unit_plan.specs.PlanLines.{PlanLines}
+use Rattle.unit_state.specs.declared.state.State.{State}
+use Rattle.law_workers.specs.Machine.{Move, Drew, adds_all, Runs}
+use Rattle.law_workers.specs.Serving.{ServesAll}
+use Rattle.law_workers.specs.Exact.{TellAll}
+use Rattle.law_runs.specs.Call.{CallSeen}
+use Rattle.law_runs.specs.Account.{Account, AnsweredEach, begin_of, deeds_in, due_octets}
+
+-- The moves that the answers tell, and one more at most where a record has no answer, are those of the machine whose
+-- words begin at the marks of the image. Each reserve is of a number that was drawn so, and the words by which the keys
+-- were released are those that the machine came to. So many entries are of the lane; those behind them are releases.
+-- Where each record has its answer and the site had not failed, the records were served one after the other, each in
+-- the history that those before it left.
+pub record IsExact (call : CallSeen) (account : Account) (plan : PlanLines) (state : State) (words : List ℕ)
+    (ends : ℕ) : Type 0 where
+  pub moves : List Move
+  pub beyond : List Move
+  pub few : length beyond ≤ 1
+  pub each : AnsweredEach account → beyond ≡ []
+  pub told : TellAll state call.entries (deeds_in account) moves
+  pub runs : Runs MOST_KEYS (mark_at state) (moves ++ beyond)
+  pub reserves : (p : ℕ) (entry : Entry) → p < ends → slice_get call.entries p ≡ Some entry → entry.index ≡ None
+      → (row : ℕ) × (number : ℕ) × (entry.seen ≡ seens.Number number) × Contains (moves ++ beyond) (Drew row number)
+  pub last : (row : ℕ) → row < MOST_KEYS → slice_index words row ≡ mark_at state row + adds_all row (moves ++ beyond)
+  pub served : AnsweredEach account → ¬ Rose call.site.faults account.last
+      → ServesAll (begin_of call plan state) [] (deeds_in account) moves (take ends call.entries)
+
+-- for no record memory was wanting
+abbrev pub NoneWants : List Answer → Type 0
+NoneWants answers = All (λ answer. answer.code ≢ NO_MEMORY) answers
+
+-- Two calls did the same: their answers and their entries are the same, and so are the octets that are due, with End's.
+pub record RunsAlike (call other : CallSeen) (account again : Account) : Type 0 where
+  pub answers : again.answers ≡ account.answers
+  pub entries : other.entries ≡ call.entries
+  pub due : due_octets other again ≡ due_octets call account

@@ -1,0 +1,75 @@
+-- Why a run ends, and the end that it tells (profile).
+use Rattle.std.specs.Prelude.{◌≡◌, ◌≢◌, ◌⊎◌, ⊤, ℕ, ◌<◌, ◌≤◌, IsTrue, [], ◌++◌, length, slice_get, Some}
+use Rattle.sdls_outside.specs.Faults.{Rose}
+use Rattle.sdls_outside.specs.Moments.{Between}
+use Rattle.record_io.specs.declared.kinds.RecordKind.TheVariants.{Protect}
+use Rattle.record_io.specs.declared.status.TheConstants as status
+use Rattle.record_io.specs.Input.{IsInput, Whole, MalformedAt}
+use Rattle.record_io.specs.Places.{Place, records_of}
+use Rattle.unit_plan.specs.PlanLines.{PlanLines}
+use Rattle.unit_state.specs.declared.state.State.{State}
+use Rattle.unit_image.specs.Shows.{ShowsNone}
+use Rattle.law_history.specs.Run.{NearWord}
+use Rattle.law_history.specs.Fits.{MayAppend}
+use Rattle.unit_book.specs.declared.limits.TheConstants.{MOST_ENTRIES}
+use Rattle.law_runs.specs.declared.end.RunEnd.{RunEnd}
+use Rattle.law_runs.specs.declared.end.RunEnd.TheVariants.{Ended, Malformed, SourceFault, SiteFault, NoMemory, NoState}
+use Rattle.law_runs.specs.declared.end.RunEnd.TheVariants.{SessionFull, PutFailed}
+use Rattle.law_runs.specs.Call.{CallSeen, ShowsAtEntry, image_at_entry}
+use Rattle.law_runs.specs.Account.{Account, end_status, due_octets, course_of}
+
+-- The history is full, and the first record without an answer needs an entry, or may need one.
+pub record IsFullAt (call : CallSeen) (account : Account) : Type 0 where
+  pub full : length call.entries ≡ MOST_ENTRIES
+  pub place : Place
+  pub first : slice_get account.handled (length account.answers) ≡ Some place
+  pub due : IsTrue call.site.told → (plan : PlanLines) (state : State) → ShowsAtEntry call plan state
+      → (place.task.kind ≢ Protect)
+      ⊎ MayAppend (NearWord state call.entries (records_of account.handled)) (course_of call account plan state)
+      MOST_ENTRIES place.task
+
+-- Why the reading ended.
+abbrev pub CameBy : CallSeen → Account → RunEnd → Type 0
+CameBy call account Ended = (account.part ≡ []) ×
+    (IsTrue call.source.told → IsInput call.source.left account.items Whole)
+CameBy call account (Malformed offset) =
+    (offset ≡ length account.read) × (IsTrue call.source.told
+    → IsInput call.source.left account.items (MalformedAt offset))
+CameBy call account (SourceFault count) = Rose call.source.faults call.source_after.faults
+    × (count ≡ call.source_after.faults)
+CameBy call account (SiteFault count) = Rose call.site.faults account.last × (count ≡ account.last)
+    × (call.entries ≡ [])
+CameBy call account NoMemory = ⊤
+CameBy call account (NoState offset) = (IsTrue call.site.told → ShowsNone (image_at_entry call) offset)
+    × (call.entries ≡ [])
+CameBy call account SessionFull = IsFullAt call account
+CameBy call account PutFailed = call.site.put_faults < call.site_after.put_faults
+
+-- behind an input that ended the release met a fault of the site, or found the history full
+abbrev pub EndsByRelease : CallSeen → Account → Type 0
+EndsByRelease call account =
+    ((count : ℕ) × (account.told ≡ SiteFault count) × Rose account.last count × (count ≤ call.site_after.faults))
+    ⊎ ((account.told ≡ SessionFull) × (length call.entries ≡ MOST_ENTRIES))
+
+-- The end that is told. A fault of the site that came before all answers were put is told in each case; else it is what
+-- came, unless the input ended, and the release met something.
+abbrev pub TellsEnd : CallSeen → Account → Type 0
+TellsEnd call account = (Rose call.site.faults account.last × (account.told ≡ SiteFault account.last))
+    ⊎ ((¬ Rose call.site.faults account.last) × ((account.told ≡ account.came)
+    ⊎ ((account.came ≡ Ended) × EndsByRelease call account)))
+
+-- no put failed: all that is due was put, and the status is that of the end
+pub record PutsDue (call : CallSeen) (account : Account) : Type 0 where
+  pub none_failed : call.site_after.put_faults ≡ call.site.put_faults
+  pub status_is : call.status ≡ end_status account.told
+  pub sunk : IsTrue call.site.told
+      → call.site_after.trace.now.sunk ≡ call.site.trace.now.sunk ++ due_octets call account
+
+-- a put failed: a front of what is due was put, and the status is that of a fault of the site
+pub record PutsFront (call : CallSeen) (account : Account) : Type 0 where
+  pub one_failed : call.site.put_faults < call.site_after.put_faults
+  pub status_is : call.status ≡ status.SITE_FAULT
+  pub rose : Rose call.site.faults call.site_after.faults
+  pub sunk : IsTrue call.site.told
+      → Between call.site.trace.now.sunk (call.site.trace.now.sunk ++ due_octets call account)
+      call.site_after.trace.now.sunk

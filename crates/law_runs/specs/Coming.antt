@@ -1,0 +1,105 @@
+-- How the reading and the serving of a run came to an end (profile).
+use Rattle.std.specs.Prelude.{◌≡◌, ◌≢◌, ◌⊎◌, ⊤, ℕ, ◌+◌, ◌≤◌, IsTrue, List, [], length, slice_get, Some}
+use Rattle.sdls_outside.specs.Faults.{Rose}
+use Rattle.sdls_outside.specs.Moments.{Between}
+use Rattle.counter_table.specs.declared.view.View.{View}
+use Rattle.record_io.specs.declared.answers.Answer.{Answer}
+use Rattle.record_io.specs.declared.kinds.RecordKind.TheVariants.{Protect}
+use Rattle.record_io.specs.Answers.{answers_octets}
+use Rattle.record_io.specs.Input.{Item, IsInput, Whole, MalformedAt}
+use Rattle.record_io.specs.Places.{Place, places_of}
+use Rattle.record_io.specs.Reading.{SourceSeen, Standing, IsReading, HasTaken}
+use Rattle.unit_book.specs.declared.limits.TheConstants.{MOST_ENTRIES}
+use Rattle.law_history.specs.Fits.{MayAppend}
+use Rattle.law_workers.specs.Begin.{Begin}
+use Rattle.law_workers.specs.Views.{IsBetween, entries_in}
+use Rattle.law_workers.specs.Deeds.{course_in}
+use Rattle.law_runs.specs.declared.end.RunEnd.{RunEnd}
+use Rattle.law_runs.specs.declared.end.RunEnd.TheVariants as ends
+use Rattle.law_runs.specs.Account.{AreAnswered}
+use Rattle.law_runs.specs.Doing.{HasDone, HasSettled, IsFounded, MovedAlone, octets_put}
+
+-- no put failed, and the answers were put; so many puts had failed before and have now
+pub record HasPut (begin : Begin) (now : View) (failed_before failed : ℕ) (answers : List Answer) : Type 0 where
+  pub octets : IsTrue begin.told → octets_put now ≡ answers_octets answers
+  pub none_failed : failed ≡ failed_before
+
+-- one put failed, and a front of the answers was put
+pub record HasBroken (begin : Begin) (now : View) (failed_before failed : ℕ) (answers : List Answer) : Type 0 where
+  pub octets : IsTrue begin.told → Between [] (answers_octets answers) (octets_put now)
+  pub one_failed : failed ≡ failed_before + 1
+  pub rose : Rose now.turn.known.opening.faults now.turn.known.faults
+
+-- Between two segments: the items so far end with a segment, and each record of them was answered.
+pub record IsUnderWay (start source : SourceSeen) (standing : Standing) (begin : Begin) (first now : View)
+    (failed_before failed stored : ℕ) : Type 0 where
+  pub items : List Item
+  pub read : List ℕ
+  pub answers : List Answer
+  pub reading : IsReading start source standing items read
+  pub later : start.faults ≤ source.faults
+  pub done : HasDone begin first now (places_of items) answers
+  pub each : length answers ≡ length (places_of items)
+  pub put : HasPut begin now failed_before failed answers
+  pub settled : IsTrue begin.told → IsFounded begin first → HasSettled begin now stored (places_of items) answers
+  pub exactly : MovedAlone begin first now (places_of items) answers
+
+-- why the reading ended
+abbrev pub EndsReading : SourceSeen → SourceSeen → List Item → List ℕ → List ℕ → RunEnd → Type 0
+EndsReading start source items read part ends.Ended = (part ≡ []) × (IsTrue start.told → IsInput start.left items Whole)
+EndsReading start source items read part (ends.Malformed offset) =
+    (offset ≡ length read) × (IsTrue start.told → IsInput start.left items (MalformedAt offset))
+EndsReading start source items read part (ends.SourceFault count) = Rose start.faults source.faults
+    × (count ≡ source.faults)
+EndsReading start source items read part (ends.SiteFault count) = ⊥
+EndsReading start source items read part ends.NoMemory = ⊤
+EndsReading start source items read part (ends.NoState offset) = ⊥
+EndsReading start source items read part ends.SessionFull = ⊤
+EndsReading start source items read part ends.PutFailed = ⊤
+
+-- what was put, by what came
+abbrev pub PutsBy : Begin → View → ℕ → ℕ → List Answer → RunEnd → Type 0
+PutsBy begin now failed_before failed answers ends.Ended = HasPut begin now failed_before failed answers
+PutsBy begin now failed_before failed answers (ends.Malformed offset) = HasPut begin now failed_before failed answers
+PutsBy begin now failed_before failed answers (ends.SourceFault count) = HasPut begin now failed_before failed answers
+PutsBy begin now failed_before failed answers (ends.SiteFault count) = ⊥
+PutsBy begin now failed_before failed answers ends.NoMemory = HasPut begin now failed_before failed answers
+PutsBy begin now failed_before failed answers (ends.NoState offset) = ⊥
+PutsBy begin now failed_before failed answers ends.SessionFull = HasPut begin now failed_before failed answers
+PutsBy begin now failed_before failed answers ends.PutFailed = HasBroken begin now failed_before failed answers
+
+-- the history is full, and the first record without an answer needs an entry, or may need one
+pub record StopsAtFullHistory (begin : Begin) (first now : View) (places : List Place)
+    (answers : List Answer) : Type 0 where
+  pub place : Place
+  pub first_without : slice_get places (length answers) ≡ Some place
+  pub full : MOST_ENTRIES ≤ length (entries_in now)
+  pub due : (place.task.kind ≢ Protect) ⊎ MayAppend (IsBetween begin first now) (course_in begin now) MOST_ENTRIES
+      place.task
+
+-- The reading and the serving came to this end. The records handled are those of a front of the items.
+pub record HasCome (start source : SourceSeen) (begin : Begin) (first now : View) (failed_before failed stored : ℕ)
+    (came : RunEnd) : Type 0 where
+  pub items : List Item
+  pub read : List ℕ
+  pub part : List ℕ
+  pub of : List Item
+  pub answers : List Answer
+  pub takes : HasTaken start source items read part
+  pub reads : EndsReading start source items read part came
+  pub answered : (told : RunEnd) (last : ℕ) → AreAnswered (record {
+    came = came;
+    told = told;
+    items = items;
+    read = read;
+    part = part;
+    handled = places_of of;
+    answers = answers;
+    last = last;
+  }) came
+  pub few : length answers ≤ length (places_of of)
+  pub done : HasDone begin first now (places_of of) answers
+  pub put : PutsBy begin now failed_before failed answers came
+  pub settled : IsTrue begin.told → IsFounded begin first → HasSettled begin now stored (places_of of) answers
+  pub exactly : MovedAlone begin first now (places_of of) answers
+  pub full : came ≡ ends.SessionFull → StopsAtFullHistory begin first now (places_of of) answers

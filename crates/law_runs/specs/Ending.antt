@@ -1,0 +1,64 @@
+-- The end of a run, as the book goes through it (profile).
+use Rattle.std.specs.Prelude.{◌≡◌, ◌≢◌, ◌⊎◌, ℕ, ◌≤◌, Bool, IsTrue, List, length, Result, Err, IfErr, MatchResult}
+use Rattle.sdls_base.specs.declared.entry.Entry.{Entry}
+use Rattle.sdls_outside.specs.Faults.{Rose}
+use Rattle.sdls_outside.specs.Moments.{Trace}
+use Rattle.sdls_outside.specs.Site as sites
+use Rattle.record_io.specs.declared.status.TheConstants.{SITE_FAULT}
+use Rattle.record_io.specs.Answers.{answer_octets}
+use Rattle.unit_book.specs.declared.fault.BookFault.{BookFault}
+use Rattle.unit_book.specs.declared.fault.BookFault.TheVariants as faults
+use Rattle.unit_book.specs.Book.{BookView, IsKept, with_put}
+use Rattle.unit_book.specs.GoesOn.{GoesOn, TellsRise}
+use Rattle.unit_book.specs.Log.{sunk_between}
+use Rattle.unit_book.specs.Numbers.{Releases}
+use Rattle.law_history.specs.Log.{entries_of}
+use Rattle.law_runs.specs.declared.end.RunEnd.{RunEnd}
+use Rattle.law_runs.specs.declared.end.RunEnd.TheVariants as ends
+use Rattle.law_runs.specs.Account.{end_answer, end_status}
+
+-- The end that is told, by the site's counts of faults before the run, when all answers were put, and behind the
+-- release.
+abbrev pub IsToldEnd : ℕ → ℕ → ℕ → RunEnd → Result (Unit {0}) BookFault → RunEnd → Type 0
+IsToldEnd before last now came released told = (Rose before last × (told ≡ ends.SiteFault last))
+    ⊎ ((¬ Rose before last) × (((came ≢ ends.Ended) × (told ≡ came))
+    ⊎ ((came ≡ ends.Ended) × ((Rose last now × (told ≡ ends.SiteFault now))
+    ⊎ ((¬ Rose last now) × (((released ≡ Err faults.SessionFull) × (told ≡ ends.SessionFull))
+    ⊎ (told ≡ ends.Ended)))))))
+
+-- End was put, or a front of it.
+pub record IsEndPut {O : Type 0} (told : Bool) (trace : O → Trace) (faults_of puts : O → ℕ) (end : RunEnd)
+    (old new : BookView O) (status : ℕ) : Type 0 where
+  pub put : Result (Unit {0}) BookFault
+  pub made : new ≡ with_put (sunk_between (trace old.site) (trace new.site)) (record old { site = new.site })
+  pub sinks : IsTrue told
+      → sites.Puts (answer_octets (end_answer end (length (entries_of old.log)))) put (trace old.site) (trace new.site)
+  pub counted : puts new.site ≡ sites.after_put put (puts old.site)
+  pub later : faults_of old.site ≤ faults_of new.site
+  pub status_is : MatchResult put (λ _. (status ≡ end_status end) × (faults_of new.site ≡ faults_of old.site))
+      (λ _. (status ≡ SITE_FAULT) × Rose (faults_of old.site) (faults_of new.site))
+
+-- Where a put failed before, nothing more is put.
+abbrev pub PutsEnd : {O : Type 0} → Bool → (O → Trace) → (O → ℕ) → (O → ℕ) → RunEnd → RunEnd → BookView O → BookView O
+    → ℕ → Type 0
+PutsEnd told trace faults_of puts came end old new status =
+    ((came ≡ ends.PutFailed) × (new ≡ old) × (status ≡ SITE_FAULT))
+    ⊎ ((came ≢ ends.PutFailed) × IsEndPut told trace faults_of puts end old new status)
+
+-- The keys were released by these words `next`, and End was put.
+pub record Finishes {O : Type 0} (told : Bool) (trace : O → Trace) (faults_of puts : O → ℕ) (before : ℕ)
+    (words : List ℕ) (came : RunEnd)
+    (book : BookView O) (site : O) (entries : List Entry) (status : ℕ) : Type 0 where
+  pub released : BookView O
+  pub answer : Result (Unit {0}) BookFault
+  pub releases : Releases faults_of words book released answer
+  pub goes_on : GoesOn faults_of book released
+  pub risen : IfErr answer (TellsRise faults_of released)
+  pub same_puts : puts released.site ≡ puts book.site
+  pub end : RunEnd
+  pub end_is : IsToldEnd before (faults_of book.site) (faults_of released.site) came answer end
+  pub last : BookView O
+  pub kept : IsKept told trace faults_of last
+  pub puts_end : PutsEnd told trace faults_of puts came end released last status
+  pub site_is : site ≡ last.site
+  pub entries_are : entries ≡ entries_of last.log

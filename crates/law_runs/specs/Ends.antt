@@ -1,0 +1,111 @@
+-- How a run ends, and that it is sound (profile).
+use Rattle.std.specs.Prelude.{◌≡◌, ◌⊎◌, ℕ, ◌+◌, ◌<◌, ◌≤◌, IsTrue, List, [], length, take, drop}
+use Rattle.std.specs.List.{All}
+use Rattle.sdls_base.specs.declared.TheConstants.{MOST_KEYS}
+use Rattle.sdls_base.specs.declared.entry.Entry.{Entry}
+use Rattle.sdls_outside.specs.Faults.{Rose}
+use Rattle.sdls_outside.specs.Disk.{Leaves}
+use Rattle.sdls_outside.specs.Moments.{EachMoment}
+use Rattle.disk_journal.specs.Image.{records, slot_count}
+use Rattle.disk_journal.specs.Forms.{Settles}
+use Rattle.record_io.specs.declared.status.TheConstants as status
+use Rattle.record_io.specs.Places.{records_of}
+use Rattle.record_io.specs.Reading.{HasTaken}
+use Rattle.unit_plan.specs.PlanLines.{PlanLines}
+use Rattle.unit_state.specs.declared.state.State.{State}
+use Rattle.unit_state.specs.History.{after_first}
+use Rattle.unit_image.specs.Shows.{ShowsNone}
+use Rattle.law_history.specs.Numbers.{releases}
+use Rattle.law_history.specs.Stored.{stored_count}
+use Rattle.unit_book.specs.declared.limits.TheConstants.{MOST_ENTRIES}
+use Rattle.law_runs.specs.Sound.{IsSound, SoundMoment}
+use Rattle.law_workers.specs.Alone.{OneLane}
+use Rattle.law_runs.specs.declared.end.RunEnd.{RunEnd}
+use Rattle.law_runs.specs.declared.end.RunEnd.TheVariants.{Ended, SiteFault, NoMemory, NoState, SessionFull}
+use Rattle.law_runs.specs.Call.{CallSeen, ShowsAtEntry, image_at_entry, sunk_since}
+use Rattle.law_runs.specs.Account.{Account, AreAnswered, SaysSiteFailed, begin_of, course_of, deeds_in, end_octets}
+use Rattle.law_runs.specs.Alone.{IsExact}
+use Rattle.law_runs.specs.Causes.{CameBy, TellsEnd, PutsDue, PutsFront}
+
+-- An early moment: what a crash then leaves of the image, one at the entry may leave too, and nothing but End was sunk.
+pub record IsEarly (call : CallSeen) (told : RunEnd) (image sunk : List ℕ) : Type 0 where
+  pub leaves : Leaves call.site.trace.now image
+  pub only_end : sunk_since call sunk ≡ take (length (sunk_since call sunk)) (end_octets call told)
+
+-- a moment of a run that served is sound
+abbrev pub IsServed : CallSeen → Account → PlanLines → State → List ℕ → List ℕ → Type 0
+IsServed call account plan state image sunk = SoundMoment (begin_of call plan state) (course_of call account plan state)
+    (deeds_in account) (end_octets call account.told) (image_at_entry call) image (sunk_since call sunk)
+
+-- The run is sound, and each of its moments is so, or early.
+pub record IsSoundCall (call : CallSeen) (account : Account) (plan : PlanLines) (state : State) : Type 0 where
+  pub run : IsSound (begin_of call plan state) (course_of call account plan state) account.handled (deeds_in account)
+  pub moments : EachMoment call.site.trace call.site_after.trace
+      (λ image sunk. IsEarly call account.told image sunk ⊎ IsServed call account plan state image sunk)
+
+-- the releases that are due behind the entries of the lanes, by these words `next` of the rows
+abbrev pub due_releases : CallSeen → State → ℕ → List ℕ → List Entry
+due_releases call state ends words = releases (after_first state call.entries ends) 0 words
+
+-- all slots of the image are used, by its own records and by the entries that were stored
+abbrev pub IsJournalFull : CallSeen → State → Type 0
+IsJournalFull call state =
+    length (records (image_at_entry call)) + stored_count state call.entries ≡ slot_count (image_at_entry call)
+
+-- The releases behind the entries of the lanes: those that are due, up to the first that was refused; none where the
+-- site had failed before. One is refused only where the site fails, the journal is full, or the history is full.
+pub record IsReleased (call : CallSeen) (account : Account) (state : State) (ends : ℕ) : Type 0 where
+  pub words : List ℕ
+  pub rows : length words ≡ MOST_KEYS
+  pub count : ℕ
+  pub are_due : drop ends call.entries ≡ take count (due_releases call state ends words)
+  pub stopped : Rose call.site.faults account.last → length call.entries ≡ ends
+  pub refused : count < length (due_releases call state ends words)
+      → Rose call.site.faults call.site_after.faults ⊎ (IsJournalFull call state ⊎ (length call.entries ≡ MOST_ENTRIES))
+  -- where all records were answered, a full history is told of a release that is due
+  pub full : account.came ≡ Ended → account.told ≡ SessionFull → count < length (due_releases call state ends words)
+  -- no more slots are used than there are, where the site did not fail
+  pub room : ¬ Rose call.site.faults call.site_after.faults
+      → length (records (image_at_entry call)) + stored_count state call.entries ≤ slot_count (image_at_entry call)
+
+-- why the book over a refused image was not opened: that the image shows no state, a fault of the site, or want of
+-- memory
+abbrev pub IsOpenRefusal : ℕ → RunEnd → Type 0
+IsOpenRefusal offset came = (came ≡ NoState offset) ⊎ (((count : ℕ) × (came ≡ SiteFault count)) ⊎ (came ≡ NoMemory))
+
+-- A moment of a call whose book was not opened: the image is one that a crash at the entry may leave, or that at the
+-- entry but for its closed gates; nothing but End was sunk.
+pub record IsUnopened (call : CallSeen) (told : RunEnd) (image sunk : List ℕ) : Type 0 where
+  pub image_is : Leaves call.site.trace.now image ⊎ Settles (image_at_entry call) image
+  pub only_end : sunk_since call sunk ≡ take (length (sunk_since call sunk)) (end_octets call told)
+
+-- A refused image: no book was opened, so nothing was taken of the source, and nothing is put but End. Where that is
+-- the end that came, the image is as it was, and each moment is early.
+pub record IsRefused (call : CallSeen) (account : Account) (offset : ℕ) : Type 0 where
+  pub came_is : IsOpenRefusal offset account.came
+  pub source_is : call.source_after ≡ call.source
+  pub no_entries : call.entries ≡ []
+  pub moments : EachMoment call.site.trace call.site_after.trace (IsUnopened call account.told)
+  pub image_is : account.came ≡ NoState offset → call.site_after.trace.now.image ≡ image_at_entry call
+  pub early : account.came ≡ NoState offset → EachMoment call.site.trace call.site_after.trace
+      (IsEarly call account.told)
+
+-- How a run ends, over its account.
+pub record RunEnds (call : CallSeen) : Type 0 where
+  pub account : Account
+  pub takes : HasTaken call.source call.source_after account.items account.read account.part
+  pub answered : AreAnswered account account.came
+  pub cause : CameBy call account account.came
+  pub tells : TellsEnd call account
+  pub put : PutsDue call account ⊎ PutsFront call account
+  pub faults_told : All (λ answer. SaysSiteFailed answer → Rose call.site.faults account.last) account.answers
+  -- the counts of faults in their order; status 0 comes only where the site's stood
+  pub last_later : call.site.faults ≤ account.last
+  pub after_later : account.last ≤ call.site_after.faults
+  pub quiet : call.status ≡ status.DONE → call.site_after.faults ≡ call.site.faults
+  pub bounded : length call.entries ≤ MOST_ENTRIES
+  pub sound : IsTrue call.site.told → (plan : PlanLines) (state : State) → ShowsAtEntry call plan state
+      → (s : IsSoundCall call account plan state) × (r : IsReleased call account state s.run.history.run.ends)
+      × (OneLane (records_of account.handled) → IsExact call account plan state r.words s.run.history.run.ends)
+  pub refused : IsTrue call.site.told → (offset : ℕ) → ShowsNone (image_at_entry call) offset
+      → IsRefused call account offset

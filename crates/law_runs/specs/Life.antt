@@ -1,0 +1,111 @@
+-- A life of the unit: runs one after the other, each from what a crash at a moment of the one before left (profile).
+use Rattle.std.specs.Prelude.{◌≡◌, ◌≢◌, ◌⊎◌, ⊤, ℕ, ◌-◌, ◌<◌, ◌≤◌, nat_lt, if◌then◌else◌, List, [], ◌∷◌, ◌++◌, length}
+use Rattle.std.specs.Prelude.{IsSomeAnd}
+use Rattle.std.specs.List.{AllPairs}
+use Rattle.disk_journal.specs.Image.{IsOpenedForm}
+use Rattle.disk_journal.specs.Initial.{initial_image}
+use Rattle.record_io.specs.declared.kinds.RecordKind.{RecordKind}
+use Rattle.record_io.specs.declared.kinds.RecordKind.TheVariants.{Protect, Open, Command}
+use Rattle.record_io.specs.declared.answers.Answer.{Answer}
+use Rattle.record_io.specs.Answers.{answer_octets}
+use Rattle.record_io.specs.Places.{Place}
+use Rattle.unit_plan.specs.PlanLines.{PlanLines}
+use Rattle.unit_state.specs.declared.state.State.{State}
+use Rattle.unit_state.specs.State.{key_row}
+use Rattle.unit_image.specs.Shows.{SaysPlan, Shows}
+use Rattle.law_history.specs.Answers.{Uses, Accepts}
+use Rattle.law_history.specs.Fits.{Course, state_in, state_before}
+use Rattle.law_history.specs.Numbers.{mark_of, floor_of}
+use Rattle.law_workers.specs.Begin.{Begin}
+use Rattle.law_workers.specs.Deeds.{Deed}
+use Rattle.law_runs.specs.Sound.{IsSound, SoundMoment}
+
+-- A run of a life: the image at its start; what it began with, its course, its records, and its answers with the octets
+-- of End; the image and the octets sunk at the moment at which it ended.
+pub record LifeRun : Type 0 where
+  pub start : List ℕ
+  pub begin : Begin
+  pub course : Course
+  pub places : List Place
+  pub deeds : List Deed
+  pub ends : List ℕ
+  pub image : List ℕ
+  pub sunk : List ℕ
+
+-- the image at its start shows the state that it began with; the run is sound, and so is the moment at which it ended
+pub record IsRun (run : LifeRun) : Type 0 where
+  pub shows : Shows run.start run.course.start
+  pub sound : IsSound run.begin run.course run.places run.deeds
+  pub moment : SoundMoment run.begin run.course run.deeds run.ends run.start run.image run.sunk
+
+-- each run starts from the image that the one before left
+abbrev pub FollowFrom : List ℕ → List LifeRun → Type 0
+FollowFrom image [] = ⊤
+FollowFrom image (run ∷ runs) = (run.start ≡ image) × IsRun run × FollowFrom run.image runs
+
+-- the image that `init` makes of a plan
+abbrev pub IsInitial : List ℕ → Type 0
+IsInitial image = (text : List ℕ) × (plan : PlanLines) × (first : State) × SaysPlan text plan first
+    × (image ≡ initial_image text plan.slots)
+
+-- the first run starts from an image that `init` made
+pub record IsLife (image : List ℕ) (runs : List LifeRun) : Type 0 where
+  pub initial : IsInitial image
+  pub follow : FollowFrom image runs
+
+-- the image that the runs left
+abbrev pub left_by : List ℕ → List LifeRun → List ℕ
+left_by image [] = image
+left_by image (run ∷ runs) = left_by run.image runs
+
+-- the image shows the state, or one of its opened forms does
+abbrev pub IsShown : List ℕ → State → Type 0
+IsShown image state = Shows image state ⊎ ((form : List ℕ) × IsOpenedForm image form × Shows form state)
+
+-- an answer of a run
+pub record Given : Type 0 where
+  pub course : Course
+  pub deed : Deed
+
+-- the answers of which an octet is among the first count octets
+abbrev pub answers_begun : ℕ → List Deed → List Deed
+answers_begun count [] = []
+answers_begun count (deed ∷ deeds) = if nat_lt 0 count then deed
+    ∷ answers_begun (count - length (answer_octets deed.answer)) deeds else []
+
+abbrev pub given_of : Course → List Deed → List Given
+given_of course [] = []
+given_of course (deed ∷ deeds) = record { course = course; deed = deed } ∷ given_of course deeds
+
+-- the answers of all runs that were begun at the moments at which these ended
+abbrev pub given_in : List LifeRun → List Given
+given_in [] = []
+given_in (run ∷ runs) = given_of run.course (answers_begun (length run.sunk) run.deeds) ++ given_in runs
+
+-- the state in which an answer that uses a number found its key: that of its epoch, or the one before its own entry
+abbrev pub state_told : RecordKind → Course → Answer → State
+state_told Protect course answer = state_in course answer.position
+state_told Open course answer = state_before course answer
+state_told Command course answer = state_before course answer
+
+-- the answer uses the number under a key that had these octets
+pub record UsesOctets (given : Given) (key : ℕ) (octets : List ℕ) (number : ℕ) : Type 0 where
+  pub uses_number : Uses given.deed.answer key number
+  pub some : octets ≢ []
+  pub has : IsSomeAnd (key_row (state_told given.deed.task.kind given.course given.deed.answer) key)
+      (λ held. held.bytes ≡ octets)
+
+-- Two answers of a life: they use no number under one key, by identifier or by octets, and accept none under one key.
+pub record AreApart (one other : Given) : Type 0 where
+  pub by_identifier : (key number : ℕ) → Uses one.deed.answer key number → Uses other.deed.answer key number → ⊥
+  pub by_octets : (a b : ℕ) (octets : List ℕ) (number : ℕ) → UsesOctets one a octets number
+      → UsesOctets other b octets number → ⊥
+  pub accepted : (key number : ℕ) → Accepts one.deed.answer key number → Accepts other.deed.answer key number → ⊥
+
+abbrev pub OnceInLife : List LifeRun → Type 0
+OnceInLife runs = AllPairs AreApart (given_in runs)
+
+-- what a state knows of an answer: each number used is below its mark, and each accepted at most its floor
+pub record Knows (state : State) (given : Given) : Type 0 where
+  pub below : (key number : ℕ) → Uses given.deed.answer key number → number < mark_of state key
+  pub floored : (key number : ℕ) → Accepts given.deed.answer key number → number ≤ floor_of state key

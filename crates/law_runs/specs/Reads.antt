@@ -1,0 +1,25 @@
+-- What a moment of a call leaves that reads an image and stores nothing (profile).
+use Rattle.std.specs.Prelude.{◌⊎◌, ℕ, IsTrue, List}
+use Rattle.sdls_outside.specs.Disk.{Leaves}
+use Rattle.sdls_outside.specs.Moments.{EachMoment}
+use Rattle.disk_journal.specs.Image.{IsOpenedForm}
+use Rattle.disk_journal.specs.Forms.{Settles}
+use Rattle.unit_state.specs.declared.state.State.{State}
+use Rattle.unit_state.specs.Restart.{restarted}
+use Rattle.unit_image.specs.Shows.{Shows}
+use Rattle.law_runs.specs.Call.{CallSeen, image_at_entry}
+
+-- the image shows what a restart leaves of a state that the image at the entry shows, and has no opened form
+abbrev pub StillShows : CallSeen → List ℕ → Type 0
+StillShows call image = (state : State) × Shows (image_at_entry call) state × Shows image (restarted state)
+    × ((form : List ℕ) → ¬ IsOpenedForm image form)
+
+-- a crash then leaves what one at the entry may leave too, or the image at the entry but for its closed gates, or one
+-- that still shows what that shows
+abbrev pub IsRead : CallSeen → List ℕ → Type 0
+IsRead call image = Leaves call.site.trace.now image ⊎ (Settles (image_at_entry call) image ⊎ StillShows call image)
+
+-- each moment of the call is such
+abbrev pub ReadsAlone : CallSeen → Type 0
+ReadsAlone call = IsTrue call.site.told → EachMoment call.site.trace call.site_after.trace
+    (λ image sunk. IsRead call image)

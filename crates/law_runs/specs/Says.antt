@@ -1,0 +1,53 @@
+-- What the statuses of a run say.
+use Rattle.std.specs.Prelude.{◌≡◌, ◌⊎◌, ℕ, ◌+◌, ◌*◌, ◌<◌, IsTrue, ◌++◌, length}
+use Rattle.sdls_base.specs.declared.TheConstants.{MOST_KEYS}
+use Rattle.sdls_outside.specs.Faults.{Rose}
+use Rattle.record_io.specs.declared.status.TheConstants as status
+use Rattle.record_io.specs.Input.{IsInput, Whole}
+use Rattle.record_io.specs.Places.{places_of}
+use Rattle.unit_plan.specs.PlanLines.{PlanLines}
+use Rattle.unit_state.specs.declared.state.State.{State}
+use Rattle.unit_book.specs.declared.limits.TheConstants.{MOST_ENTRIES}
+use Rattle.law_runs.specs.declared.end.RunEnd.TheVariants.{Ended, Malformed, SourceFault, SessionFull}
+use Rattle.law_runs.specs.Call.{CallSeen, ShowsAtEntry, image_at_entry}
+use Rattle.law_runs.specs.Account.{AnsweredEach, HandledAll, due_octets}
+use Rattle.law_runs.specs.Ends.{RunEnds}
+
+-- The whole input was read, each record was answered, End stands last, and the site has not failed.
+pub record DidAll (call : CallSeen) (ends : RunEnds call) : Type 0 where
+  pub told_is : ends.account.told ≡ Ended
+  pub whole : IsTrue call.source.told → IsInput call.source.left ends.account.items Whole
+  pub handled : HandledAll ends.account
+  pub answered : AnsweredEach ends.account
+  pub no_fault : call.site_after.faults ≡ call.site.faults
+  pub none_failed : call.site_after.put_faults ≡ call.site.put_faults
+  pub sunk : IsTrue call.site.told
+      → call.site_after.trace.now.sunk ≡ call.site.trace.now.sunk ++ due_octets call ends.account
+
+-- the run went on to the end of its input: it ended, is malformed, or the source failed
+abbrev pub GoesToItsEnd : (call : CallSeen) → RunEnds call → Type 0
+GoesToItsEnd call ends = (ends.account.came ≡ Ended) ⊎ (((offset : ℕ) × (ends.account.came ≡ Malformed offset))
+    ⊎ (((count : ℕ) × (ends.account.came ≡ SourceFault count)) × Rose call.source.faults call.source_after.faults))
+
+-- The status is that of the refused image, of a fault of the site, or of want of memory; with the first the image is as
+-- it was.
+pub record IsLeftRefused (call : CallSeen) : Type 0 where
+  pub status_is : (call.status ≡ status.NO_STATE)
+      ⊎ ((call.status ≡ status.SITE_FAULT) ⊎ (call.status ≡ status.NO_MEMORY))
+  pub image_is : call.status ≡ status.NO_STATE → call.site_after.trace.now.image ≡ image_at_entry call
+
+-- the history is full: a record without an answer needs an entry, or all have one, and a release is due
+pub record EndsWithFullHistory (call : CallSeen) (ends : RunEnds call) : Type 0 where
+  pub full : length call.entries ≡ MOST_ENTRIES
+  pub by : (ends.account.came ≡ SessionFull) ⊎ ((ends.account.came ≡ Ended) × (ends.account.told ≡ SessionFull))
+
+-- Nothing can keep the run from its end but want of memory: the image shows a state, no count rose, the input is whole
+-- and well formed, and not too long for the history.
+pub record IsUnhindered (call : CallSeen) (ends : RunEnds call) (plan : PlanLines) (state : State) : Type 0 where
+  pub site_told : IsTrue call.site.told
+  pub source_told : IsTrue call.source.told
+  pub shows : ShowsAtEntry call plan state
+  pub source_well : ¬ Rose call.source.faults call.source_after.faults
+  pub site_well : ¬ Rose call.site.faults call.site_after.faults
+  pub well_formed : (items : _) × IsInput call.source.left items Whole
+  pub short : 2 * length (places_of ends.account.items) + MOST_KEYS < MOST_ENTRIES

@@ -1,0 +1,78 @@
+-- When a run is sound, and what a crash at one of its moments leaves (profile).
+use Rattle.std.specs.Prelude.{◌≡◌, ◌≢◌, ◌⊎◌, ⊤, ℕ, ◌-◌, ◌<◌, ◌≤◌, IsTrue, List, [], ◌∷◌, ◌++◌, length, map, take}
+use Rattle.std.specs.List.{All, AllPairs}
+use Rattle.disk_journal.specs.Image.{IsOpenedForm}
+use Rattle.disk_journal.specs.Forms.{Settles}
+use Rattle.record_io.specs.Places.{Place, records_of}
+use Rattle.record_io.specs.declared.code.TheConstants.{SITE_FAULT}
+use Rattle.record_io.specs.Answers.{answer_octets, answers_octets}
+use Rattle.unit_state.specs.Restart.{restarted}
+use Rattle.unit_state.specs.History.{after_first, epoch_after}
+use Rattle.unit_image.specs.Shows.{Shows}
+use Rattle.law_history.specs.Numbers.{mark_of, floor_of}
+use Rattle.law_history.specs.Run.{NearWord, IsLegalHistory}
+use Rattle.law_history.specs.Answers.{Uses, Accepts}
+use Rattle.law_history.specs.Fits.{Course, Fits}
+use Rattle.law_history.specs.Taken.{kept_floor}
+use Rattle.law_workers.specs.Begin.{Begin}
+use Rattle.law_workers.specs.Deeds.{Deed, Differ, InTurn, StandsBehind, tells_entry, is_ordered, epoch_told}
+
+-- the octets of the answers
+abbrev pub deeds_octets : List Deed → List ℕ
+deeds_octets deeds = answers_octets (map (λ deed. deed.answer) deeds)
+
+-- The run is sound: its history is legal, each answer fits its record, no number is used or accepted twice under a key,
+-- at most one answer says that the site failed while an entry was stored, and the answers stand in order.
+pub record IsSound (begin : Begin) (course : Course) (places : List Place) (deeds : List Deed) : Type 0 where
+  pub begins : begin.plan ≡ course.plan
+  pub history : IsLegalHistory course.plan course.start places course.entries
+  pub answers : All (λ deed. Fits (NearWord course.start course.entries (records_of places)) course deed.task
+      deed.answer) deeds
+  pub pairs : AllPairs (Differ Uses) deeds
+  pub pairs_above : All (λ deed. (key number : ℕ) → Uses deed.answer key number → mark_of course.start key ≤ number)
+      deeds
+  pub accepted : AllPairs (Differ Accepts) deeds
+  pub accepted_above : All (λ deed. (key number : ℕ) → Accepts deed.answer key number
+      → floor_of course.start key < number) deeds
+  pub one_fault : AllPairs (λ one other. one.answer.code ≡ SITE_FAULT → other.answer.code ≢ SITE_FAULT) deeds
+  pub order : AllPairs (λ one other. InTurn one other → StandsBehind begin course.entries one other) deeds
+
+-- The answer is covered by the state after the first p entries: its own entry, its epoch, its number and what it
+-- accepted are among what that state knows.
+pub record IsCoveredBy (begin : Begin) (course : Course) (p : ℕ) (deed : Deed) : Type 0 where
+  pub entry : IsTrue (tells_entry deed) → deed.answer.position ≤ p
+  pub epoch : IsTrue (is_ordered begin deed) → epoch_told course.entries deed ≤ epoch_after (take p course.entries)
+  pub used : (key number : ℕ) → Uses deed.answer key number
+      → number < mark_of (after_first course.start course.entries p) key
+  pub accepted : (key number : ℕ) → Accepts deed.answer key number
+      → number ≤ kept_floor (after_first course.start course.entries p) key
+
+-- what covers an answer is covered by each later state: no mark and no floor falls below what was used or accepted
+abbrev pub StaysCovered : Begin → Course → List Deed → Type 0
+StaysCovered begin course deeds = (earlier later : ℕ) → earlier ≤ later → later ≤ length course.entries
+    → All (λ deed. IsCoveredBy begin course earlier deed → IsCoveredBy begin course later deed) deeds
+
+-- P holds of each answer of which an octet is among the first count octets of the answers
+abbrev pub EachBegun : (Deed → Type 0) → ℕ → List Deed → Type 0
+EachBegun P count [] = ⊤
+EachBegun P count (deed ∷ deeds) = (0 < count → P deed) × EachBegun P (count - length (answer_octets deed.answer)) deeds
+
+-- The image shows the state after the first p entries, which covers each answer that was begun; and each of its opened
+-- forms that after more of them.
+pub record ShowsServed (begin : Begin) (course : Course) (deeds : List Deed) (image : List ℕ) (count : ℕ) : Type 0 where
+  pub p : ℕ
+  pub within : p ≤ length course.entries
+  pub shows : Shows image (restarted (after_first course.start course.entries p))
+  pub covers : EachBegun (IsCoveredBy begin course p) count deeds
+  pub forms : (form : List ℕ) → IsOpenedForm image form → (q : ℕ) × (p < q) × (q ≤ length course.entries)
+      × Shows form (restarted (after_first course.start course.entries q))
+      × EachBegun (IsCoveredBy begin course q) count deeds
+
+-- A moment of the run: what was sunk is a front of the octets of the answers and of End. While the book is opened no
+-- answer was begun and the image is that at the start, but for its closed gates; while it serves, what the image shows
+-- covers the answers that were begun.
+pub record SoundMoment (begin : Begin) (course : Course) (deeds : List Deed) (ends : List ℕ)
+    (start image sunk : List ℕ) : Type 0 where
+  pub front : sunk ≡ take (length sunk) (deeds_octets deeds ++ ends)
+  pub image_shows : (EachBegun (λ deed. ⊥) (length sunk) deeds × Settles start image)
+      ⊎ ShowsServed begin course deeds image (length sunk)

@@ -1,0 +1,30 @@
+//! Runs of a unit, from the opening to the end, and its life: what one worker did segment by segment, how the run ends
+//! and what its status says, what a crash at any moment leaves, and what a call adds to a life (profile).
+//!
+//! [`RunEnd`] names the ends. The rest is definitions, in `specs`, and laws over them: read `Lives` there, whose
+//! `EndsAndLives` is what the top call promises. [`run_ends_well`] and [`refused_run_ends`] lead to it;
+//! [`zero_says_all`], [`faults_are_told`] and [`unhindered_run_completes`] draw from it what a status says, and
+//! [`used_once_in_a_life`] what holds of all runs.
+#![tactic(auto)]
+
+mod end;
+mod life;
+mod repeated;
+mod status;
+mod under_way;
+mod whole;
+
+pub use end::RunEnd;
+pub use life::{
+    covered_in_a_life, sound_call_keeps_lives, sound_reading_keeps_lives, used_once_in_a_life,
+};
+pub use repeated::{one_input_is_handled_alike, one_lane_runs_alike};
+pub use status::{
+    due_is_put, faults_are_told, full_is_told, goes_to_its_end, refused_stays,
+    status_five_has_a_fault, status_tells_what_came, unhindered_run_completes, zero_says_all,
+};
+pub use under_way::{answers_settle, moment_is_sound, run_goes_on, segment_goes_on};
+pub use whole::{
+    no_records_are_sound, reading_keeps_lives, refused_run_ends, run_ends_well, run_is_sound,
+    run_stands,
+};

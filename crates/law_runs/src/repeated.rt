@@ -1,0 +1,44 @@
+//! Laws of calls that did the same.
+ghost use Rattle.std.specs.Prelude.{◌≡◌, IsTrue, length};
+ghost use Rattle.record_io.specs.Places.{records_of};
+ghost use Rattle.unit_state.specs.declared.state.State.{State};
+ghost use Rattle.record_io.specs.declared.status.TheConstants.{DONE};
+ghost use Rattle.unit_plan.specs.PlanLines.{PlanLines};
+ghost use Rattle.law_workers.specs.Alone.{OneLane};
+ghost use Rattle.law_runs.specs.Alone.{NoneWants, RunsAlike};
+ghost use Rattle.law_runs.specs.Call.{CallSeen, image_at_entry, ShowsAtEntry};
+ghost use Rattle.law_runs.specs.Ends.{RunEnds};
+
+use crate::status::zero_says_all;
+use law_history::{releases_are_stored, rules_stay_along, stored_counts_add};
+use law_workers::served_once;
+use record_io::input_reads_once;
+
+/// Law: two calls with one input, both with status 0, handled the same records, and answered each.
+pub fn one_input_is_handled_alike()
+    ensures { (call other : CallSeen) (run : RunEnds call) (again : RunEnds other) → call.status ≡ DONE
+        → other.status ≡ DONE
+        → IsTrue call.source.told → IsTrue other.source.told → other.source.left ≡ call.source.left
+        → (again.account.handled ≡ run.account.handled) × (length again.account.answers ≡ length run.account.answers) }
+{
+    input_reads_once();
+}
+
+/// Law: two calls over one image with one input, all of one lane, both with status 0 and none wanting memory for a
+/// record, have the same answers and the same entries, and put the same octets.
+pub fn one_lane_runs_alike()
+    ensures { (call other : CallSeen) (run : RunEnds call) (again : RunEnds other) (plan : PlanLines) (state : State)
+        → call.status ≡ DONE → other.status ≡ DONE → IsTrue call.source.told → IsTrue other.source.told
+        → IsTrue call.site.told
+        → IsTrue other.site.told → other.source.left ≡ call.source.left → image_at_entry other ≡ image_at_entry call
+        → ShowsAtEntry call plan state → OneLane (records_of run.account.handled)
+        → NoneWants run.account.answers → NoneWants again.account.answers
+        → RunsAlike call other run.account again.account }
+{
+    one_input_is_handled_alike();
+    zero_says_all();
+    served_once();
+    rules_stay_along();
+    releases_are_stored();
+    stored_counts_add();
+}

@@ -1,0 +1,105 @@
+//! Laws of whole runs, from the opening to the end.
+ghost use Rattle.std.specs.Prelude.{◌≡◌, ℕ, ◌<◌, ◌≤◌, List, []};
+ghost use Rattle.std.specs.List.{AllPairs};
+ghost use Rattle.sdls_base.specs.declared.entry.Entry.{Entry};
+ghost use Rattle.counter_table.specs.declared.view.View.{View};
+ghost use Rattle.record_io.specs.Places.{Place};
+ghost use Rattle.unit_state.specs.declared.state.State.{State};
+ghost use Rattle.unit_book.specs.Book.{BookView};
+ghost use Rattle.law_workers.specs.Begin.{Begin};
+ghost use Rattle.law_workers.specs.Views.{entries_in};
+ghost use Rattle.law_workers.specs.Deeds.{Deed};
+ghost use Rattle.law_runs.specs.AtEnd.{course_at_end, EndsRun};
+ghost use Rattle.law_runs.specs.Sound.{IsSound, StaysCovered};
+ghost use Rattle.sdls_outside.specs.Faults.{Rose};
+ghost use Rattle.record_io.specs.declared.answers.Answer.{Answer};
+ghost use Rattle.unit_plan.specs.PlanLines.{PlanLines};
+ghost use Rattle.law_runs.specs.Call.{CallSeen, ShowsAtEntry, call_seen};
+ghost use Rattle.law_runs.specs.Account.{Account, begin_of, course_of, deeds_from};
+ghost use Rattle.law_runs.specs.Lives.{KeepsLivesReading, EndsAndLives};
+ghost use Rattle.counter_table.specs.Whole.{IsWhole, RowStands};
+ghost use Rattle.unit_image.specs.declared.fault.OpenFault.{OpenFault};
+ghost use Rattle.law_runs.specs.Release.{AreReleases};
+ghost use Rattle.record_io.specs.Reading.{SourceSeen};
+ghost use Rattle.law_runs.specs.declared.end.RunEnd.{RunEnd};
+ghost use Rattle.law_runs.specs.Ending.{Finishes};
+ghost use Rattle.law_runs.specs.Ran.{CountsSlots, Ran};
+ghost use Rattle.law_runs.specs.Reads.{ReadsAlone};
+ghost use Rattle.law_runs.specs.Refused.{Refused};
+ghost use Rattle.law_runs.specs.Doing.{HasDone, IsBefore, IsFounded};
+
+use crate::life::{sound_call_keeps_lives, sound_reading_keeps_lives};
+use law_image::shown_keeps_rules;
+use sdls_outside::Site;
+use unit_image::{refused_with_one, shows_one};
+
+/// Law: a run that one worker did is sound, with the releases behind it, and what covers an answer covers it to the
+/// end.
+pub fn run_is_sound()
+    ensures sound { (begin : Begin) (first now : View) (places : List Place) (deeds : List Deed) (words : ℕ → ℕ)
+        (releases : List Entry) (faults : ℕ)
+        → EndsRun begin first now places deeds words releases faults
+        → IsSound begin (course_at_end begin now releases faults) places deeds }
+    ensures covered { (begin : Begin) (first now : View) (places : List Place) (deeds : List Deed) (words : ℕ → ℕ)
+        (releases : List Entry) (faults : ℕ)
+        → EndsRun begin first now places deeds words releases faults
+        → StaysCovered begin (course_at_end begin now releases faults) deeds }
+{}
+
+/// Law: what is known of a run at its end, with the releases behind it.
+pub fn run_stands()
+    ensures { (begin : Begin) (first now : View) (places : List Place) (answers : List Answer) → IsFounded begin first
+        → HasDone begin first now places answers → IsWhole begin.rows now → AllPairs IsBefore places
+        → (words : ℕ → ℕ) → ((row : ℕ) → row < begin.rows → RowStands row (words row) now.numbers)
+        → (releases : List Entry) → AreReleases words begin.start (entries_in now) releases
+        → (faults : ℕ) → now.turn.known.faults ≤ faults
+        → (Rose now.turn.known.opening.faults now.turn.known.faults → releases ≡ [])
+        → EndsRun begin first now places (deeds_from places answers) words releases faults }
+{}
+
+/// Law: a call whose book was opened, whose records one worker served, and which released its keys and put End, ends as
+/// a run ends, and goes on with each life that left the image at its entry.
+pub fn run_ends_well<O: Site>()
+    ensures { (site after : O) (source source_after : SourceSeen) (first now : View) (came : RunEnd) (book : BookView O)
+        (words : List ℕ) (entries : List Entry) (status : ℕ)
+        → Ran O.told O.trace O.faults O.put_faults site source source_after first now came book words
+        → (end : Finishes O.told O.trace O.faults O.put_faults (O.faults site) words came book after entries status)
+        → CountsSlots O.told O.faults (O.trace site).now.image end.last
+        → EndsAndLives (call_seen O.told O.trace O.faults O.put_faults site after source source_after status entries) }
+{
+    shows_one();
+    refused_with_one();
+    sound_call_keeps_lives();
+}
+
+/// Law: a call whose book was not opened, which took nothing of its source and put End alone, ends as a run ends, and
+/// goes on with each life that left the image at its entry.
+pub fn refused_run_ends<O: Site>()
+    ensures { (site back after : O) (source : SourceSeen) (fault : OpenFault) (status : ℕ)
+        → Refused O.told O.trace O.faults O.put_faults site back after fault status
+        → EndsAndLives (call_seen O.told O.trace O.faults O.put_faults site after source source status []) }
+{
+    refused_with_one();
+    shown_keeps_rules();
+    sound_call_keeps_lives();
+}
+
+/// Law: a run without records is sound, where the image at the entry shows a state.
+pub fn no_records_are_sound()
+    ensures { (call : CallSeen) (account : Account) (plan : PlanLines) (state : State) → ShowsAtEntry call plan state
+        → call.entries ≡ []
+        → IsSound (begin_of call plan state) (course_of call account plan state) [] [] }
+{
+    shown_keeps_rules();
+}
+
+/// Law: a call that reads an image and stores nothing goes on with each life that left the image at its entry, as a run
+/// without records.
+pub fn reading_keeps_lives()
+    ensures { (call : CallSeen) (plan : PlanLines) (state : State) → ShowsAtEntry call plan state → call.entries ≡ []
+        → ReadsAlone call → KeepsLivesReading call }
+{
+    shows_one();
+    no_records_are_sound();
+    sound_reading_keeps_lives();
+}

@@ -1,7 +1,0 @@
-pub mod Begin
-pub mod Began
-pub mod Views
-pub mod Work
-pub mod Deeds
-pub mod Order
-pub mod Lanes

@@ -1,0 +1,15 @@
+pub mod Histories
+pub mod Fitting
+pub mod Logs
+pub mod Working
+pub mod Joining
+pub mod Ordering
+pub mod Handling
+pub mod Lanes
+pub mod Rows
+pub mod Counting
+pub mod WholeRun
+pub mod Machines
+pub mod Turns
+pub mod Alone
+pub mod Once

@@ -1,0 +1,427 @@
+-- One lane alone: its answers, its entries and its moves are one by the history, the words and the records.
+use Rattle.std.proofs.Common.{◌≡◌, ◌⊎◌, ℕ, ◌+◌, ◌≤◌, List, [], ◌∷◌, ◌++◌, length, map, Some, Ok, IsTrue, refl, sym, ◌∙◌, ap, subst, inl, inr, arith, append_assoc, append-nil}
+use Rattle.std.proofs.lemmas.Option.{none-some, same_Some}
+use Rattle.sdls_base.specs.KeyId.{end_of}
+use Rattle.sdls_base.specs.declared.change.Change.{Change}
+use Rattle.sdls_base.specs.declared.entry.Entry.{Entry}
+use Rattle.sdls_base.specs.declared.entry.Seen.{Seen}
+use Rattle.sdls_base.specs.declared.entry.Seen.TheVariants as seens
+use Rattle.key_book.specs.KeyBook.{place_of}
+use Rattle.frame_shield.specs.declared.binding.Binding.{Binding}
+use Rattle.frame_shield.specs.Protects.{Protects}
+use Rattle.frame_checks.specs.declared.open_reply.OpenReply.{OpenReply}
+use Rattle.frame_checks.specs.OpeningFrames.{IsOpenReply}
+use Rattle.frame_checks.specs.ProtectingFrames as protecting
+use Rattle.ep_core.specs.declared.need.Need.{Need}
+use Rattle.ep_core.specs.declared.need.Need.TheVariants as needs
+use Rattle.ep_core.specs.declared.reply.Reply.{Reply}
+use Rattle.record_io.specs.declared.answers.Answer.{Answer}
+use Rattle.record_io.specs.declared.code.TheConstants.{PROTECTED, EXHAUSTED, JOURNAL_FULL}
+use Rattle.record_io.specs.declared.kinds.RecordKind.{RecordKind}
+use Rattle.record_io.specs.declared.kinds.RecordKind.TheVariants.{Protect, Open, Command}
+use Rattle.record_io.specs.declared.records.Record.{Record}
+use Rattle.unit_plan.specs.PlanLines.{PlanLines}
+use Rattle.unit_state.specs.declared.state.State.{State}
+use Rattle.unit_state.specs.State.{KeepsRules}
+use Rattle.law_history.specs.Answers.{Told, told_by, counting, numbered, opened_told, replied_told, unbound_told}
+use Rattle.law_history.specs.Entries.{frame_change, frame_entry, record_entry, IsNeedOf, IsStepOf}
+use Rattle.law_history.specs.Numbers.{mark_of, reserve_of}
+use Rattle.law_history.specs.Stored.{IsStored}
+use Rattle.law_workers.specs.Begin.{Begin}
+use Rattle.law_workers.specs.Deeds.{Deed}
+use Rattle.law_workers.specs.Machine.{Move, Found, Drew, Raised, Overdrew, IsAt, word_after, Runs}
+use Rattle.law_workers.specs.Serving.{now, HasSlot, SaysFull, Funds, AloneUnbound, AloneBound, AloneProtected, AloneExhausted, AloneUnfunded, AloneOpened, AloneUnopened, AloneShows, AloneShown, AloneHandled, AloneUnhandled, AloneUnmet, ServesKind, AloneServes, ServesAll, SameTasks, AreServed}
+
+same_answer : (a b : Answer) → told_by a ≡ told_by b → a.position ≡ b.position → a ≡ b
+same_answer a b told place =
+    let code : a.code ≡ b.code = ap (λ (t : Told). t.code) told in
+    let detail : a.detail ≡ b.detail = ap (λ (t : Told). t.detail) told in
+    let key : a.key ≡ b.key = ap (λ (t : Told). t.key) told in
+    let number : a.number ≡ b.number = ap (λ (t : Told). t.number) told in
+    let body : a.body ≡ b.body = ap (λ (t : Told). t.body) told in
+    ap (λ (x : ℕ). record a { code = x }) code ∙ ap (λ (x : ℕ). record a { code = b.code; detail = x }) detail
+    ∙ ap (λ (x : ℕ). record a { code = b.code; detail = b.detail; key = x }) key
+    ∙ ap (λ (x : ℕ). record a { code = b.code; detail = b.detail; key = b.key; position = x }) place
+    ∙ ap (λ (x : ℕ). record a { code = b.code; detail = b.detail; key = b.key; position = b.position; number = x }) number
+    ∙ ap (λ (x : List ℕ). record b { body = x }) body
+
+-- what one record has, twice
+abbrev Same : Answer → Answer → List Entry → List Entry → Move → Move → Type 0
+Same a b own more m n = (a ≡ b) × (own ≡ more) × (m ≡ n)
+
+turned : (a b : Answer) (own more : List Entry) (m n : Move) → Same b a more own n m → Same a b own more m n
+turned a b own more m n (x, y, z) = (sym x, sym y, sym z)
+
+module _ (rows : ℕ) (words : ℕ → ℕ) where
+  drew_is : (m : Move) (row n : ℕ) → m ≡ Drew row n → IsAt rows words m → n ≡ words row
+  drew_is m row n is at = (subst (IsAt rows words) is at).1
+
+  raised_is : (m : Move) (row n number : ℕ) → m ≡ Raised row n number → IsAt rows words m → n ≡ words row
+  raised_is m row n number is at = (subst (IsAt rows words) is at).1
+
+  ended_is : (m : Move) (row n : ℕ) → (m ≡ Found row n) ⊎ (m ≡ Overdrew row n) → IsAt rows words m → (m ≡ Found row n) × (n ≡ words row)
+  ended_is m row n (inl is) at = (is, (subst (IsAt rows words) is at).1)
+  ended_is m row n (inr is) at = absurd (subst (IsAt rows words) is at)
+
+module _ (begin : Begin) (tells : IsTrue begin.told)
+    (one_need : (state : State) (octets : List ℕ) (need other : Need) → IsNeedOf state octets need → IsNeedOf state octets other → need ≡ other)
+    (one_step : (state : State) (octets : List ℕ) (seen : Seen) (step other : Change × Reply) → KeepsRules state → IsStepOf state octets seen step
+    → IsStepOf state octets seen other → step ≡ other)
+    (one_opening : (plan : PlanLines) (state : State) (link : ℕ) (frame : List ℕ) (reply other : OpenReply) (field again : List ℕ)
+    → IsOpenReply plan state link frame reply field → IsOpenReply plan state link frame other again
+    → (opened_told reply field ≡ opened_told other again) × (frame_change plan state reply ≡ frame_change plan state other))
+    (one_frame : (b : Binding) (n : ℕ) (clear out other : List ℕ) → Protects b n clear out → Protects b n clear other → out ≡ other)
+    (rows : ℕ) where
+  module _ (history : List Entry) where
+    slot_or_full : (entry other : Entry) → entry ≡ other → HasSlot begin history entry → (answer : Answer) → SaysFull begin history other answer → ⊥
+    slot_or_full entry other same slot answer full =
+        let s = slot tells (subst (λ (e : Entry). IsTrue (IsStored (now begin history) e)) (sym same) full.stored) in
+        let u = full.none_left tells in omega arith
+
+    full_same : (a b : Answer) (entry other : Entry) → SaysFull begin history entry a → SaysFull begin history other b → a ≡ b
+    full_same a b entry other x y = same_answer a b
+        (x.told ∙ ap (λ (n : ℕ). counting JOURNAL_FULL 0 n) (x.slots_are tells ∙ sym (y.slots_are tells)) ∙ sym y.told) (x.position_is ∙ sym y.position_is)
+
+    funds_same : (key n : ℕ) (own more : List Entry) → Funds begin history key n own → Funds begin history key n more → own ≡ more
+    funds_same key n own more (inl a) (inl b) = a.0 ∙ sym b.0
+    funds_same key n own more (inl a) (inr b) = absurd (let x = a.1 in let y = b.1 in omega arith)
+    funds_same key n own more (inr a) (inl b) = absurd (let x = a.1 in let y = b.1 in omega arith)
+    funds_same key n own more (inr a) (inr b) = a.0 ∙ sym b.0
+
+    funds_full : (key n : ℕ) (own : List Entry) (answer : Answer) → Funds begin history key n own → mark_of (now begin history) key ≤ n
+        → SaysFull begin history (reserve_of begin.plan (now begin history) key n) answer → ⊥
+    funds_full key n own answer (inl a) low full = let x = a.1 in omega arith
+    funds_full key n own answer (inr a) low full =
+        slot_or_full (reserve_of begin.plan (now begin history) key n) (reserve_of begin.plan (now begin history) key n) refl a.2 answer full
+
+    module _ (words : ℕ → ℕ) (task : Record) (a b : Answer) (own more : List Entry) (m n : Move) (at : IsAt rows words m) (at' : IsAt rows words n) where
+      bound_same : (x y : AloneBound begin history task) → (x.binding ≡ y.binding) × (x.row ≡ y.row)
+      bound_same x y =
+          let ok : (let r : protecting.Answer = Ok (Some x.binding) in r) ≡ Ok (Some y.binding) = sym x.bound ∙ y.bound in
+          let binding : x.binding ≡ y.binding = cc in (
+            binding,
+            same_Some x.row y.row (sym x.row_is ∙ ap (λ (z : Binding). place_of (now begin history).keys z.key) binding ∙ y.row_is),
+          )
+
+      unbound_or_bound : AloneUnbound begin history task a own m → AloneBound begin history task → ⊥
+      unbound_or_bound x y = none-some (told_by a) (sym (ap unbound_told y.bound) ∙ x.told)
+
+      unbound_both : AloneUnbound begin history task a own m → AloneUnbound begin history task b more n → Same a b own more m n
+      unbound_both x y = (
+        same_answer a b (same_Some (told_by a) (told_by b) (sym x.told ∙ y.told)) (x.position_is ∙ sym y.position_is),
+        x.own_is ∙ sym y.own_is,
+        x.move_is ∙ sym y.move_is,
+      )
+
+      protected_both : AloneProtected begin history task a own m → AloneProtected begin history task b more n → Same a b own more m n
+      protected_both x y =
+          let (binding, row) = bound_same x.is y.is in
+          let number : a.number ≡ b.number = drew_is rows words m x.is.row a.number x.move_is at ∙ ap words row ∙ sym (drew_is rows words n y.is.row b.number y.move_is at') in
+          let body : a.body ≡ b.body = one_frame y.is.binding b.number task.octets a.body b.body
+          (subst (λ (z : Binding). Protects z b.number task.octets a.body) binding
+          (subst (λ (k : ℕ). Protects x.is.binding k task.octets a.body) number x.protects)) y.protects in (
+            same_answer a b
+                (x.told ∙ ap (λ (z : Binding). numbered PROTECTED z.key a.number a.body) binding ∙ ap (λ (k : ℕ). numbered PROTECTED y.is.binding.key k a.body) number
+                ∙ ap (λ (l : List ℕ). numbered PROTECTED y.is.binding.key b.number l) body ∙ sym y.told)
+                (x.position_is ∙ sym y.position_is),
+            funds_same y.is.binding.key b.number own more
+                (subst (λ (z : Binding). Funds begin history z.key b.number own) binding (subst (λ (k : ℕ). Funds begin history x.is.binding.key k own) number x.funded))
+                y.funded,
+            x.move_is ∙ ap (λ (r : ℕ). Drew r a.number) row ∙ ap (λ (k : ℕ). Drew y.is.row k) number ∙ sym y.move_is,
+          )
+
+      exhausted_both : AloneExhausted begin history task a own m → AloneExhausted begin history task b more n → Same a b own more m n
+      exhausted_both x y =
+          let (binding, row) = bound_same x.is y.is in
+          let (move, word) = ended_is rows words m x.is.row a.number x.move_is at in
+          let (other, found) = ended_is rows words n y.is.row b.number y.move_is at' in
+          let number : a.number ≡ b.number = word ∙ ap words row ∙ sym found in (
+            same_answer a b
+                (x.told ∙ ap (λ (z : Binding). numbered EXHAUSTED z.key a.number []) binding ∙ ap (λ (k : ℕ). numbered EXHAUSTED y.is.binding.key k []) number ∙ sym y.told)
+                (x.position_is ∙ sym y.position_is),
+            x.own_is ∙ sym y.own_is,
+            move ∙ ap (λ (r : ℕ). Found r a.number) row ∙ ap (λ (k : ℕ). Found y.is.row k) number ∙ sym other,
+          )
+
+      unfunded_both : AloneUnfunded begin history task a own m → AloneUnfunded begin history task b more n → Same a b own more m n
+      unfunded_both x y =
+          let (binding, row) = bound_same x.is y.is in
+          let number : x.number ≡ y.number = drew_is rows words m x.is.row x.number x.move_is at ∙ ap words row ∙ sym (drew_is rows words n y.is.row y.number y.move_is at') in (
+            full_same a b (reserve_of begin.plan (now begin history) x.is.binding.key x.number) (reserve_of begin.plan (now begin history) y.is.binding.key y.number) x.full y.full,
+            x.own_is ∙ sym y.own_is,
+            x.move_is ∙ ap (λ (r : ℕ). Drew r x.number) row ∙ ap (λ (k : ℕ). Drew y.is.row k) number ∙ sym y.move_is,
+          )
+
+      protected_or_exhausted : AloneProtected begin history task a own m → AloneExhausted begin history task b more n → ⊥
+      protected_or_exhausted x y =
+          let (binding, row) = bound_same x.is y.is in
+          let (move, word) = ended_is rows words n y.is.row b.number y.move_is at' in
+          let number : a.number ≡ b.number = drew_is rows words m x.is.row a.number x.move_is at ∙ ap words row ∙ sym word in
+          let end : end_of x.is.binding.key ≡ end_of y.is.binding.key = ap (λ (z : Binding). end_of z.key) binding in
+          let p = x.below in let q = y.at_end in omega arith
+
+      protected_or_unfunded : AloneProtected begin history task a own m → AloneUnfunded begin history task b more n → ⊥
+      protected_or_unfunded x y =
+          let (binding, row) = bound_same x.is y.is in
+          let number : a.number ≡ y.number = drew_is rows words m x.is.row a.number x.move_is at ∙ ap words row ∙ sym (drew_is rows words n y.is.row y.number y.move_is at') in
+          funds_full y.is.binding.key y.number own b
+          (subst (λ (z : Binding). Funds begin history z.key y.number own) binding (subst (λ (k : ℕ). Funds begin history x.is.binding.key k own) number x.funded))
+          y.unmarked y.full
+
+      exhausted_or_unfunded : AloneExhausted begin history task a own m → AloneUnfunded begin history task b more n → ⊥
+      exhausted_or_unfunded x y =
+          let (binding, row) = bound_same x.is y.is in
+          let (move, word) = ended_is rows words m x.is.row a.number x.move_is at in
+          let number : a.number ≡ y.number = word ∙ ap words row ∙ sym (drew_is rows words n y.is.row y.number y.move_is at') in
+          let end : end_of x.is.binding.key ≡ end_of y.is.binding.key = ap (λ (z : Binding). end_of z.key) binding in
+          let p = x.at_end in let q = y.below in omega arith
+
+      opened_both : AloneOpened begin history task a own m → AloneOpened begin history task b more n → Same a b own more m n
+      opened_both x y =
+          let (told, change) = one_opening begin.plan (now begin history) task.link task.octets x.reply y.reply x.field y.field x.replies y.replies in (
+            same_answer a b (x.told ∙ told ∙ sym y.told) (x.position_is ∙ sym y.position_is),
+            x.own_is ∙ ap (λ (c : Change). record_entry task.index seens.Nothing c ∷ []) change ∙ sym y.own_is,
+            x.move_is ∙ sym y.move_is,
+          )
+
+      opened_or_unopened : AloneOpened begin history task a own m → AloneUnopened begin history task b more n → ⊥
+      opened_or_unopened x y =
+          let (told, change) = one_opening begin.plan (now begin history) task.link task.octets x.reply y.reply x.field y.field x.replies y.replies in
+          slot_or_full (frame_entry begin.plan (now begin history) task.index x.reply) (frame_entry begin.plan (now begin history) task.index y.reply)
+          (ap (λ (c : Change). record_entry task.index seens.Nothing c) change) x.slot b y.full
+
+      unopened_both : AloneUnopened begin history task a own m → AloneUnopened begin history task b more n → Same a b own more m n
+      unopened_both x y = (
+        full_same a b (frame_entry begin.plan (now begin history) task.index x.reply) (frame_entry begin.plan (now begin history) task.index y.reply) x.full y.full,
+        x.own_is ∙ sym y.own_is,
+        x.move_is ∙ sym y.move_is,
+      )
+
+      -- what the words show for a need
+      shown_both : (need : Need) (seen other : Seen) → AloneShows begin history need seen own m → AloneShows begin history need other more n
+          → (seen ≡ other) × (own ≡ more) × (m ≡ n)
+      shown_both needs.Nothing seens.Nothing seens.Nothing (x, k) (y, l) = (refl, x ∙ sym y, k ∙ sym l)
+      shown_both (needs.Look key) (seens.Word p) (seens.Word q) (x, (row, row_is, k)) (y, (other, is, l)) =
+          let same : row ≡ other = same_Some row other (sym row_is ∙ is) in
+          let number : p ≡ q = raised_is rows words m row p 1 k at ∙ ap words same ∙ sym (raised_is rows words n other q 1 l at') in (
+            ap (λ (z : ℕ). seens.Word z) number,
+            x ∙ sym y,
+            k ∙ ap (λ (z : ℕ). Raised z p 1) same ∙ ap (λ (z : ℕ). Raised other z 1) number ∙ sym l,
+          )
+      shown_both (needs.Raise key to) (seens.Word p) (seens.Word q) (x, (row, row_is, k)) (y, (other, is, l)) =
+          let same : row ≡ other = same_Some row other (sym row_is ∙ is) in
+          let number : p ≡ q = raised_is rows words m row p to k at ∙ ap words same ∙ sym (raised_is rows words n other q to l at') in (
+            ap (λ (z : ℕ). seens.Word z) number,
+            x ∙ sym y,
+            k ∙ ap (λ (z : ℕ). Raised z p to) same ∙ ap (λ (z : ℕ). Raised other z to) number ∙ sym l,
+          )
+      shown_both (needs.Number key) (seens.Number p) (seens.Number q) (low, x, (row, row_is, k)) (less, y, (other, is, l)) =
+          let same : row ≡ other = same_Some row other (sym row_is ∙ is) in
+          let number : p ≡ q = drew_is rows words m row p k at ∙ ap words same ∙ sym (drew_is rows words n other q l at') in (
+            ap (λ (z : ℕ). seens.Number z) number,
+            funds_same key q own more (subst (λ (z : ℕ). Funds begin history key z own) number x) y,
+            k ∙ ap (λ (z : ℕ). Drew z p) same ∙ ap (λ (z : ℕ). Drew other z) number ∙ sym l,
+          )
+      shown_both (needs.Number key) (seens.Number p) (seens.Exhausted q) (low, x, (row, row_is, k)) (high, y, (other, is, l)) =
+          let same : row ≡ other = same_Some row other (sym row_is ∙ is) in
+          let number : p ≡ q = drew_is rows words m row p k at ∙ ap words same ∙ sym (ended_is rows words n other q l at').1 in
+          absurd (omega arith)
+      shown_both (needs.Number key) (seens.Exhausted p) (seens.Number q) (high, x, (row, row_is, k)) (low, y, (other, is, l)) =
+          let same : row ≡ other = same_Some row other (sym row_is ∙ is) in
+          let number : p ≡ q = (ended_is rows words m row p k at).1 ∙ ap words same ∙ sym (drew_is rows words n other q l at') in
+          absurd (omega arith)
+      shown_both (needs.Number key) (seens.Exhausted p) (seens.Exhausted q) (high, x, (row, row_is, k)) (top, y, (other, is, l)) =
+          let same : row ≡ other = same_Some row other (sym row_is ∙ is) in
+          let (move, word) = ended_is rows words m row p k at in
+          let (next, found) = ended_is rows words n other q l at' in
+          let number : p ≡ q = word ∙ ap words same ∙ sym found in (
+            ap (λ (z : ℕ). seens.Exhausted z) number,
+            x ∙ sym y,
+            move ∙ ap (λ (z : ℕ). Found z p) same ∙ ap (λ (z : ℕ). Found other z) number ∙ sym next,
+          )
+      shown_both needs.Nothing seens.Nothing other x y = absurd y
+      shown_both (needs.Look key) (seens.Word p) other x y = absurd y
+      shown_both (needs.Raise key to) (seens.Word p) other x y = absurd y
+      shown_both (needs.Number key) (seens.Number p) other x y = absurd y
+      shown_both (needs.Number key) (seens.Exhausted p) other x y = absurd y
+      shown_both need seen other x y = absurd x
+
+    module _ (words : ℕ → ℕ) (task : Record) (a b : Answer) (m n : Move) (at : IsAt rows words m) (at' : IsAt rows words n) where
+      -- what two were shown, the one with this reserve and the other with that
+      shown_same : (own more : List Entry) (x : AloneShown begin history task own m) (y : AloneShown begin history task more n)
+          → (x.seen ≡ y.seen) × (own ≡ more) × (m ≡ n)
+      shown_same own more x y = shown_both words task a b own more m n at at' y.need x.seen y.seen
+          (subst (λ (k : Need). AloneShows begin history k x.seen own m)
+          (one_need (now begin history) task.octets x.need y.need x.needed y.needed) x.shows) y.shows
+
+      step_same : (own more : List Entry) (x : AloneShown begin history task own m) (y : AloneShown begin history task more n)
+          → KeepsRules (now begin (history ++ own)) → (x.change ≡ y.change) × (x.reply ≡ y.reply)
+      step_same own more x y rules =
+          let (seen, same, move) = shown_same own more x y in
+          let step : (x.change, x.reply) ≡ (y.change, y.reply) = one_step (now begin (history ++ own)) task.octets y.seen (x.change, x.reply) (y.change, y.reply) rules
+          (subst (λ (z : Seen). IsStepOf (now begin (history ++ own)) task.octets z (x.change, x.reply)) seen x.step)
+          (subst (λ (l : List Entry). IsStepOf (now begin (history ++ l)) task.octets y.seen (y.change, y.reply)) (sym same) y.step) in (
+            ap (λ (z : Change × Reply). z.0) step,
+            ap (λ (z : Change × Reply). z.1) step,
+          )
+
+      entry_same : (own more : List Entry) (x : AloneShown begin history task own m) (y : AloneShown begin history task more n)
+          → KeepsRules (now begin (history ++ own)) → record_entry task.index x.seen x.change ≡ record_entry task.index y.seen y.change
+      entry_same own more x y rules =
+          ap (λ (z : Seen). record_entry task.index z x.change) (shown_same own more x y).0
+          ∙ ap (λ (z : Change). record_entry task.index y.seen z) (step_same own more x y rules).0
+
+      handled_both : (own more : List Entry) (x : AloneHandled begin history task a own m) (y : AloneHandled begin history task b more n)
+          → KeepsRules (now begin (history ++ x.reserve)) → Same a b own more m n
+      handled_both own more x y rules =
+          let (seen, reserve, move) = shown_same x.reserve y.reserve x.is y.is in
+          let (change, reply) = step_same x.reserve y.reserve x.is y.is rules in
+          let same : own ≡ more = x.own_is ∙ ap (λ (l : List Entry). l ++ record_entry task.index x.is.seen x.is.change ∷ []) reserve
+          ∙ ap (λ (e : Entry). y.reserve ++ e ∷ []) (entry_same x.reserve y.reserve x.is y.is rules) ∙ sym y.own_is in (
+            same_answer a b (x.told ∙ ap replied_told reply ∙ sym y.told)
+                (x.position_is ∙ ap (λ (l : List Entry). length history + length l) same ∙ sym y.position_is),
+            same,
+            move,
+          )
+
+      handled_or_unhandled : (own more : List Entry) (x : AloneHandled begin history task a own m) (y : AloneUnhandled begin history task b more n)
+          → KeepsRules (now begin (history ++ x.reserve)) → ⊥
+      handled_or_unhandled own more x y rules =
+          slot_or_full_at (record_entry task.index x.is.seen x.is.change) (record_entry task.index y.is.seen y.is.change)
+          (entry_same x.reserve more x.is y.is rules)
+          (subst (λ (l : List Entry). HasSlot begin (history ++ l) (record_entry task.index x.is.seen x.is.change)) (shown_same x.reserve more x.is y.is).1 x.slot)
+          y.full
+        where
+          slot_or_full_at : (entry other : Entry) → entry ≡ other → HasSlot begin (history ++ more) entry → SaysFull begin (history ++ more) other b → ⊥
+          slot_or_full_at entry other same slot full =
+              let s = slot tells (subst (λ (e : Entry). IsTrue (IsStored (now begin (history ++ more)) e)) (sym same) full.stored) in
+              let u = full.none_left tells in omega arith
+
+      unhandled_both : (own more : List Entry) (x : AloneUnhandled begin history task a own m) (y : AloneUnhandled begin history task b more n) → Same a b own more m n
+      unhandled_both own more x y =
+          let (seen, same, move) = shown_same own more x.is y.is in (
+            same_answer a b
+                (x.full.told ∙ ap (λ (k : ℕ). counting JOURNAL_FULL 0 k) (x.full.slots_are tells ∙ sym (y.full.slots_are tells)) ∙ sym y.full.told)
+                (x.full.position_is ∙ ap (λ (l : List Entry). length (history ++ l)) same ∙ sym y.full.position_is),
+            same,
+            move,
+          )
+
+      shown_or_unmet : (own more : List Entry) → AloneShown begin history task own m → AloneUnmet begin history task b more n → ⊥
+      shown_or_unmet own more x y =
+          by_seen x.seen (subst (λ (k : Need). AloneShows begin history k x.seen own m)
+          (one_need (now begin history) task.octets x.need (needs.Number y.key) x.needed y.needed) x.shows)
+        where
+          by_seen : (seen : Seen) → AloneShows begin history (needs.Number y.key) seen own m → ⊥
+          by_seen (seens.Number p) (low, funds, (row, row_is, k)) =
+              let same : row ≡ y.row = same_Some row y.row (sym row_is ∙ y.row_is) in
+              let number : p ≡ y.number = drew_is rows words m row p k at ∙ ap words same ∙ sym (drew_is rows words n y.row y.number y.move_is at') in
+              funds_full y.key y.number own b (subst (λ (z : ℕ). Funds begin history y.key z own) number funds) y.unmarked y.full
+          by_seen (seens.Exhausted p) (high, none, (row, row_is, k)) =
+              let same : row ≡ y.row = same_Some row y.row (sym row_is ∙ y.row_is) in
+              let number : p ≡ y.number = (ended_is rows words m row p k at).1 ∙ ap words same ∙ sym (drew_is rows words n y.row y.number y.move_is at') in
+              let low = y.below in omega arith
+          by_seen seens.Nothing h = absurd h
+          by_seen (seens.Word p) h = absurd h
+
+      unmet_both : (own more : List Entry) → AloneUnmet begin history task a own m → AloneUnmet begin history task b more n → Same a b own more m n
+      unmet_both own more x y =
+          let needs_same : needs.Number x.key ≡ needs.Number y.key = one_need (now begin history) task.octets (needs.Number x.key) (needs.Number y.key) x.needed y.needed in
+          let key : x.key ≡ y.key = cc in
+          let row : x.row ≡ y.row = same_Some x.row y.row (sym x.row_is ∙ ap (λ (z : ℕ). place_of (now begin history).keys z) key ∙ y.row_is) in
+          let number : x.number ≡ y.number = drew_is rows words m x.row x.number x.move_is at ∙ ap words row ∙ sym (drew_is rows words n y.row y.number y.move_is at') in (
+            full_same a b (reserve_of begin.plan (now begin history) x.key x.number) (reserve_of begin.plan (now begin history) y.key y.number) x.full y.full,
+            x.own_is ∙ sym y.own_is,
+            x.move_is ∙ ap (λ (z : ℕ). Drew z x.number) row ∙ ap (λ (z : ℕ). Drew y.row z) number ∙ sym y.move_is,
+          )
+
+    -- the same the other way round
+    flipped_unmet : (words : ℕ → ℕ) (task : Record) (a b : Answer) (m n : Move) → IsAt rows words m → IsAt rows words n → (own more : List Entry)
+        → AloneShown begin history task own n → AloneUnmet begin history task a more m → ⊥
+    flipped_unmet words task a b m n at at' own more x y = shown_or_unmet words task b a n m at' at own more x y
+
+    module _ (words : ℕ → ℕ) (task : Record) (a b : Answer) (m n : Move) (at : IsAt rows words m) (at' : IsAt rows words n) where
+      flipped : (own more : List Entry) → AloneShown begin history task own n → AloneUnmet begin history task a more m → ⊥
+      flipped = flipped_unmet words task a b m n at at'
+
+      -- a record of a kind: the states after the entries that it made keep the rules
+      kind_once : (kind : RecordKind) (own more : List Entry) → ((front rest : List Entry) → own ≡ front ++ rest → KeepsRules (now begin (history ++ front)))
+          → ServesKind begin history kind task a own m → ServesKind begin history kind task b more n → Same a b own more m n
+      kind_once Protect own more rules (inl x) (inl y) = unbound_both words task a b own more m n at at' x y
+      kind_once Protect own more rules (inl x) (inr (inl y)) = absurd (unbound_or_bound words task a b own more m n at at' x y.is)
+      kind_once Protect own more rules (inl x) (inr (inr (inl y))) = absurd (unbound_or_bound words task a b own more m n at at' x y.is)
+      kind_once Protect own more rules (inl x) (inr (inr (inr y))) = absurd (unbound_or_bound words task a b own more m n at at' x y.is)
+      kind_once Protect own more rules (inr (inl x)) (inl y) = absurd (unbound_or_bound words task b a more own n m at' at y x.is)
+      kind_once Protect own more rules (inr (inl x)) (inr (inl y)) = protected_both words task a b own more m n at at' x y
+      kind_once Protect own more rules (inr (inl x)) (inr (inr (inl y))) = absurd (protected_or_exhausted words task a b own more m n at at' x y)
+      kind_once Protect own more rules (inr (inl x)) (inr (inr (inr y))) = absurd (protected_or_unfunded words task a b own more m n at at' x y)
+      kind_once Protect own more rules (inr (inr (inl x))) (inl y) = absurd (unbound_or_bound words task b a more own n m at' at y x.is)
+      kind_once Protect own more rules (inr (inr (inl x))) (inr (inl y)) = absurd (protected_or_exhausted words task b a more own n m at' at y x)
+      kind_once Protect own more rules (inr (inr (inl x))) (inr (inr (inl y))) = exhausted_both words task a b own more m n at at' x y
+      kind_once Protect own more rules (inr (inr (inl x))) (inr (inr (inr y))) = absurd (exhausted_or_unfunded words task a b own more m n at at' x y)
+      kind_once Protect own more rules (inr (inr (inr x))) (inl y) = absurd (unbound_or_bound words task b a more own n m at' at y x.is)
+      kind_once Protect own more rules (inr (inr (inr x))) (inr (inl y)) = absurd (protected_or_unfunded words task b a more own n m at' at y x)
+      kind_once Protect own more rules (inr (inr (inr x))) (inr (inr (inl y))) = absurd (exhausted_or_unfunded words task b a more own n m at' at y x)
+      kind_once Protect own more rules (inr (inr (inr x))) (inr (inr (inr y))) = unfunded_both words task a b own more m n at at' x y
+      kind_once Open own more rules (inl x) (inl y) = opened_both words task a b own more m n at at' x y
+      kind_once Open own more rules (inl x) (inr y) = absurd (opened_or_unopened words task a b own more m n at at' x y)
+      kind_once Open own more rules (inr x) (inl y) = absurd (opened_or_unopened words task b a more own n m at' at y x)
+      kind_once Open own more rules (inr x) (inr y) = unopened_both words task a b own more m n at at' x y
+      kind_once Command own more rules (inl x) (inl y) =
+          handled_both words task a b m n at at' own more x y (rules x.reserve (record_entry task.index x.is.seen x.is.change ∷ []) x.own_is)
+      kind_once Command own more rules (inl x) (inr (inl y)) =
+          absurd (handled_or_unhandled words task a b m n at at' own more x y (rules x.reserve (record_entry task.index x.is.seen x.is.change ∷ []) x.own_is))
+      kind_once Command own more rules (inl x) (inr (inr y)) = absurd (shown_or_unmet words task a b m n at at' x.reserve more x.is y)
+      kind_once Command own more rules (inr (inl x)) (inl y) = absurd (unhandled_or_handled x y)
+        where
+          unhandled_or_handled : AloneUnhandled begin history task a own m → AloneHandled begin history task b more n → ⊥
+          unhandled_or_handled x y =
+              let same = (shown_same words task a b m n at at' own y.reserve x.is y.is).1 in
+              let after_own = rules own [] (sym (append-nil own)) in
+              slot_or_full_here (record_entry task.index y.is.seen y.is.change) (record_entry task.index x.is.seen x.is.change)
+              (sym (entry_same words task a b m n at at' own y.reserve x.is y.is after_own))
+              (subst (λ (l : List Entry). HasSlot begin (history ++ l) (record_entry task.index y.is.seen y.is.change)) (sym same) y.slot) x.full
+            where
+              slot_or_full_here : (entry other : Entry) → entry ≡ other → HasSlot begin (history ++ own) entry → SaysFull begin (history ++ own) other a → ⊥
+              slot_or_full_here entry other same slot full =
+                  let s = slot tells (subst (λ (e : Entry). IsTrue (IsStored (now begin (history ++ own)) e)) (sym same) full.stored) in
+                  let u = full.none_left tells in omega arith
+      kind_once Command own more rules (inr (inl x)) (inr (inl y)) = unhandled_both words task a b m n at at' own more x y
+      kind_once Command own more rules (inr (inl x)) (inr (inr y)) = absurd (shown_or_unmet words task a b m n at at' own more x.is y)
+      kind_once Command own more rules (inr (inr x)) (inl y) = absurd (flipped y.reserve own y.is x)
+      kind_once Command own more rules (inr (inr x)) (inr (inl y)) = absurd (flipped more own y.is x)
+      kind_once Command own more rules (inr (inr x)) (inr (inr y)) = unmet_both words task a b m n at at' own more x y
+
+    -- a record that the site and memory sufficed for
+    serves_once : (words : ℕ → ℕ) (task : Record) (a b : Answer) (m n : Move) → IsAt rows words m → IsAt rows words n → (own more : List Entry)
+        → ((front rest : List Entry) → own ≡ front ++ rest → KeepsRules (now begin (history ++ front))) → a.code ≤ JOURNAL_FULL → b.code ≤ JOURNAL_FULL
+        → AloneServes begin history task a own m → AloneServes begin history task b more n → Same a b own more m n
+    serves_once words task a b m n at at' own more rules low less (inl late) y = absurd (omega arith)
+    serves_once words task a b m n at at' own more rules low less (inr x) (inl late) = absurd (omega arith)
+    serves_once words task a b m n at at' own more rules low less (inr x) (inr y) = kind_once words task a b m n at at' task.kind own more rules x y
+
+  -- records one after the other
+  pub all_once : (history : List Entry) (words : ℕ → ℕ) (ds es : List Deed) (a b : List Move) (own more : List Entry)
+      → ((front rest : List Entry) → own ≡ front ++ rest → KeepsRules (now begin (history ++ front))) → SameTasks ds es → AreServed ds → AreServed es
+      → ServesAll begin history ds a own → ServesAll begin history es b more → Runs rows words a → Runs rows words b
+      → (map (λ (d : Deed). d.answer) ds ≡ map (λ (d : Deed). d.answer) es) × (own ≡ more) × (a ≡ b)
+  all_once history words [] [] [] [] own more rules same low less x y r q = (refl, x ∙ sym y, refl)
+  all_once history words [] [] (m ∷ a) b own more rules same low less x y r q = absurd x
+  all_once history words [] [] [] (n ∷ b) own more rules same low less x y r q = absurd y
+  all_once history words [] (e ∷ es) a b own more rules same low less x y r q = absurd same
+  all_once history words (d ∷ ds) [] a b own more rules same low less x y r q = absurd same
+  all_once history words (d ∷ ds) (e ∷ es) [] b own more rules same low less x y r q = absurd x
+  all_once history words (d ∷ ds) (e ∷ es) (m ∷ a) [] own more rules same low less x y r q = absurd y
+  all_once history words (d ∷ ds) (e ∷ es) (m ∷ a) (n ∷ b) own more rules same low less (first, rest, is, x, xs) (start, others, are, y, ys) r q =
+      let (answer, own_is, move) = serves_once history words d.task d.answer e.answer m n r.0 q.0 first start
+      (λ front back split. rules front (back ++ rest) (is ∙ ap (λ (l : List Entry). l ++ rest) split ∙ append_assoc front back rest)) low.0 less.0 x
+      (subst (λ (t : Record). AloneServes begin history t e.answer start n) (sym same.0) y) in
+      let (answers, owns, moves) = all_once (history ++ first) (word_after words m) ds es a b rest others
+      (λ front back split. subst (λ (l : List Entry). KeepsRules (now begin l)) (sym (append_assoc history first front))
+      (rules (first ++ front) back (is ∙ ap (λ (l : List Entry). first ++ l) split ∙ sym (append_assoc first front back))))
+      same.1 low.1 less.1 xs (subst (λ (l : List Entry). ServesAll begin (history ++ l) es b others) (sym own_is) ys) r.1
+      (subst (λ (k : Move). Runs rows (word_after words k) b) (sym move) q.1) in (
+        ap (λ (z : Answer). z ∷ map (λ (d : Deed). d.answer) ds) answer ∙ ap (λ (l : List Answer). e.answer ∷ l) answers,
+        is ∙ ap (λ (l : List Entry). l ++ rest) own_is ∙ ap (λ (l : List Entry). start ++ l) owns ∙ sym are,
+        ap (λ (k : Move). k ∷ a) move ∙ ap (λ (l : List Move). n ∷ l) moves,
+      )

@@ -1,0 +1,15 @@
+pub mod Begin
+pub mod Began
+pub mod Views
+pub mod Work
+pub mod Deeds
+pub mod Order
+pub mod Lanes
+pub mod Ends
+pub mod Opened
+pub mod Settles
+pub mod Machine
+pub mod Serving
+pub mod InTurn
+pub mod Exact
+pub mod Alone

@@ -1,0 +1,230 @@
+-- One lane alone, record by record: what a record makes of the history that those before it left, and how it is
+-- answered (profile).
+use Rattle.std.specs.Prelude.{◌≡◌, ⊤, ◌⊎◌, ℕ, ◌+◌, ◌<◌, ◌≤◌, IsTrue, List, [], ◌∷◌, ◌++◌, length, Option, Some, None}
+use Rattle.std.specs.Prelude.{Result, Ok, Err}
+use Rattle.sdls_base.specs.KeyId.{end_of}
+use Rattle.sdls_base.specs.declared.change.Change.{Change}
+use Rattle.sdls_base.specs.declared.entry.Entry.{Entry}
+use Rattle.sdls_base.specs.declared.entry.Seen.{Seen}
+use Rattle.sdls_base.specs.declared.entry.Seen.TheVariants as seens
+use Rattle.key_book.specs.KeyBook.{place_of}
+use Rattle.frame_shield.specs.declared.binding.Binding.{Binding}
+use Rattle.frame_shield.specs.declared.protecting_frames.ShieldFault.{ShieldFault}
+use Rattle.frame_shield.specs.Protects.{Protects}
+use Rattle.frame_checks.specs.declared.open_reply.OpenReply.{OpenReply}
+use Rattle.frame_checks.specs.OpeningFrames.{IsOpenReply}
+use Rattle.frame_checks.specs.ProtectingFrames.{channel_check}
+use Rattle.ep_core.specs.declared.need.Need.{Need}
+use Rattle.ep_core.specs.declared.need.Need.TheVariants as needs
+use Rattle.ep_core.specs.declared.reply.Reply.{Reply}
+use Rattle.record_io.specs.declared.answers.Answer.{Answer}
+use Rattle.record_io.specs.declared.code.TheConstants.{PROTECTED, EXHAUSTED, JOURNAL_FULL}
+use Rattle.record_io.specs.declared.kinds.RecordKind.{RecordKind}
+use Rattle.record_io.specs.declared.kinds.RecordKind.TheVariants.{Protect, Open, Command}
+use Rattle.record_io.specs.declared.records.Record.{Record}
+use Rattle.unit_state.specs.declared.state.State.{State}
+use Rattle.unit_state.specs.History.{after, at_epoch, epoch_after}
+use Rattle.law_history.specs.Answers.{told_by, counting, numbered, opened_told, replied_told, unbound_told}
+use Rattle.law_history.specs.Entries.{frame_entry, record_entry, IsNeedOf, IsStepOf}
+use Rattle.law_history.specs.Numbers.{mark_of, reserve_of}
+use Rattle.law_history.specs.ProtectingFrames.{protect_reply}
+use Rattle.law_history.specs.Stored.{IsStored, stored_count}
+use Rattle.law_workers.specs.Begin.{Begin}
+use Rattle.law_workers.specs.Deeds.{Deed}
+use Rattle.law_workers.specs.Machine.{Move, Kept, Found, Drew, Raised, Overdrew}
+
+-- the epoch that stands beside an answer of the checks of a frame that is to be protected: 0 where the plan is enough
+-- for them
+abbrev pub epoch_beside : Result (Option ℕ) ShieldFault → ℕ → ℕ
+epoch_beside (Ok (Some channel)) epoch = epoch
+epoch_beside (Ok None) epoch = 0
+epoch_beside (Err fault) epoch = 0
+
+module _ (begin : Begin) (history : List Entry) where
+  -- the state after the history, and the one that its epoch began with
+  abbrev pub now : State
+  now = after begin.start history
+
+  abbrev pub at_last_epoch : State
+  at_last_epoch = at_epoch begin.start history (epoch_after history)
+
+  -- the slots used, those that the image used before among them
+  abbrev pub used_now : ℕ
+  used_now = begin.used + stored_count begin.start history
+
+  -- there is a slot for the entry, where it takes one
+  abbrev pub HasSlot : Entry → Type 0
+  HasSlot entry = IsTrue begin.told → IsTrue (IsStored now entry) → used_now < begin.slots
+
+  -- The answer says that the journal is full: the entry takes a slot, and none is left.
+  pub record SaysFull (entry : Entry) (answer : Answer) : Type 0 where
+    pub told : told_by answer ≡ counting JOURNAL_FULL 0 answer.number
+    pub position_is : answer.position ≡ length history
+    pub slots_are : IsTrue begin.told → answer.number ≡ begin.slots
+    pub stored : IsTrue (IsStored now entry)
+    pub none_left : IsTrue begin.told → used_now ≡ begin.slots
+
+  -- The number that was drawn is below its key's mark, or an entry of its own reserves it.
+  abbrev pub Funds : ℕ → ℕ → List Entry → Type 0
+  Funds key number own = ((own ≡ []) × (number < mark_of now key))
+      ⊎ ((own ≡ reserve_of begin.plan now key number ∷ []) × (mark_of now key ≤ number)
+      × HasSlot (reserve_of begin.plan now key number))
+
+  -- ---- a frame that is to be protected
+
+  -- the checks tell the answer in the state of the epoch
+  pub record AloneUnbound (task : Record) (answer : Answer) (own : List Entry) (move : Move) : Type 0 where
+    pub told : unbound_told (protect_reply begin.plan at_last_epoch task.link task.octets) ≡ Some (told_by answer)
+    pub position_is : answer.position ≡ epoch_beside (channel_check begin.plan task.link task.octets)
+        (epoch_after history)
+    pub own_is : own ≡ []
+    pub move_is : move ≡ Kept
+
+  -- they bind it, to a key that has this row
+  pub record AloneBound (task : Record) : Type 0 where
+    pub binding : Binding
+    pub bound : protect_reply begin.plan at_last_epoch task.link task.octets ≡ Ok (Some binding)
+    pub row : ℕ
+    pub row_is : place_of now.keys binding.key ≡ Some row
+
+  -- it is protected with the number that was drawn
+  pub record AloneProtected (task : Record) (answer : Answer) (own : List Entry) (move : Move) : Type 0 where
+    pub is : AloneBound task
+    pub told : told_by answer ≡ numbered PROTECTED is.binding.key answer.number answer.body
+    pub position_is : answer.position ≡ epoch_after history
+    pub below : answer.number < end_of is.binding.key
+    pub protects : Protects is.binding answer.number task.octets answer.body
+    pub funded : Funds is.binding.key answer.number own
+    pub move_is : move ≡ Drew is.row answer.number
+
+  -- its key has come to the end of its numbers
+  pub record AloneExhausted (task : Record) (answer : Answer) (own : List Entry) (move : Move) : Type 0 where
+    pub is : AloneBound task
+    pub told : told_by answer ≡ numbered EXHAUSTED is.binding.key answer.number []
+    pub position_is : answer.position ≡ epoch_after history
+    pub at_end : end_of is.binding.key ≤ answer.number
+    pub own_is : own ≡ []
+    pub move_is : (move ≡ Found is.row answer.number) ⊎ (move ≡ Overdrew is.row answer.number)
+
+  -- the number that was drawn cannot be reserved
+  pub record AloneUnfunded (task : Record) (answer : Answer) (own : List Entry) (move : Move) : Type 0 where
+    pub is : AloneBound task
+    pub number : ℕ
+    pub below : number < end_of is.binding.key
+    pub unmarked : mark_of now is.binding.key ≤ number
+    pub full : SaysFull (reserve_of begin.plan now is.binding.key number) answer
+    pub own_is : own ≡ []
+    pub move_is : move ≡ Drew is.row number
+
+  -- ---- a frame that is to be opened
+
+  -- the checks tell the answer, and an entry says so
+  pub record AloneOpened (task : Record) (answer : Answer) (own : List Entry) (move : Move) : Type 0 where
+    pub reply : OpenReply
+    pub field : List ℕ
+    pub replies : IsOpenReply begin.plan now task.link task.octets reply field
+    pub told : told_by answer ≡ opened_told reply field
+    pub position_is : answer.position ≡ length history + 1
+    pub slot : HasSlot (frame_entry begin.plan now task.index reply)
+    pub own_is : own ≡ frame_entry begin.plan now task.index reply ∷ []
+    pub move_is : move ≡ Kept
+
+  -- that entry cannot be stored
+  pub record AloneUnopened (task : Record) (answer : Answer) (own : List Entry) (move : Move) : Type 0 where
+    pub reply : OpenReply
+    pub field : List ℕ
+    pub replies : IsOpenReply begin.plan now task.link task.octets reply field
+    pub full : SaysFull (frame_entry begin.plan now task.index reply) answer
+    pub own_is : own ≡ []
+    pub move_is : move ≡ Kept
+
+  -- ---- a command
+
+  -- what the words showed for a need, with the reserve of a number that was drawn
+  abbrev pub AloneShows : Need → Seen → List Entry → Move → Type 0
+  AloneShows needs.Nothing seens.Nothing own move = (own ≡ []) × (move ≡ Kept)
+  AloneShows (needs.Look key) (seens.Word n) own move = (own ≡ [])
+      × ((row : ℕ) × (place_of now.keys key ≡ Some row) × (move ≡ Raised row n 1))
+  AloneShows (needs.Raise key number) (seens.Word n) own move =
+      (own ≡ []) × ((row : ℕ) × (place_of now.keys key ≡ Some row) × (move ≡ Raised row n number))
+  AloneShows (needs.Number key) (seens.Number n) own move =
+      (n < end_of key) × Funds key n own × ((row : ℕ) × (place_of now.keys key ≡ Some row) × (move ≡ Drew row n))
+  AloneShows (needs.Number key) (seens.Exhausted n) own move = (end_of key ≤ n) × (own ≡ [])
+      × ((row : ℕ) × (place_of now.keys key ≡ Some row) × ((move ≡ Found row n) ⊎ (move ≡ Overdrew row n)))
+  AloneShows need seen own move = ⊥
+
+-- it was shown what it needs
+pub record AloneShown (begin : Begin) (history : List Entry) (task : Record) (reserve : List Entry)
+    (move : Move) : Type 0 where
+  pub need : Need
+  pub needed : IsNeedOf (now begin history) task.octets need
+  pub seen : Seen
+  pub shows : AloneShows begin history need seen reserve move
+  pub change : Change
+  pub reply : Reply
+  pub step : IsStepOf (now begin (history ++ reserve)) task.octets seen (change, reply)
+
+module _ (begin : Begin) (history : List Entry) where
+  -- the step tells the answer, and an entry says so
+  pub record AloneHandled (task : Record) (answer : Answer) (own : List Entry) (move : Move) : Type 0 where
+    pub reserve : List Entry
+    pub is : AloneShown begin history task reserve move
+    pub told : told_by answer ≡ replied_told is.reply
+    pub position_is : answer.position ≡ length history + length own
+    pub slot : HasSlot begin (history ++ reserve) (record_entry task.index is.seen is.change)
+    pub own_is : own ≡ reserve ++ record_entry task.index is.seen is.change ∷ []
+
+  -- that entry cannot be stored
+  pub record AloneUnhandled (task : Record) (answer : Answer) (own : List Entry) (move : Move) : Type 0 where
+    pub is : AloneShown begin history task own move
+    pub full : SaysFull begin (history ++ own) (record_entry task.index is.seen is.change) answer
+
+  -- the number that was drawn for it cannot be reserved
+  pub record AloneUnmet (task : Record) (answer : Answer) (own : List Entry) (move : Move) : Type 0 where
+    pub key : ℕ
+    pub needed : IsNeedOf (now begin history) task.octets (needs.Number key)
+    pub row : ℕ
+    pub row_is : place_of (now begin history).keys key ≡ Some row
+    pub number : ℕ
+    pub below : number < end_of key
+    pub unmarked : mark_of (now begin history) key ≤ number
+    pub full : SaysFull begin history (reserve_of begin.plan (now begin history) key number) answer
+    pub own_is : own ≡ []
+    pub move_is : move ≡ Drew row number
+
+  -- ---- a record of any kind
+
+  abbrev pub ServesKind : RecordKind → Record → Answer → List Entry → Move → Type 0
+  ServesKind Protect task answer own move = AloneUnbound begin history task answer own move
+      ⊎ (AloneProtected begin history task answer own move
+      ⊎ (AloneExhausted begin history task answer own move ⊎ AloneUnfunded begin history task answer own move))
+  ServesKind Open task answer own move = AloneOpened begin history task answer own move
+      ⊎ AloneUnopened begin history task answer own move
+  ServesKind Command task answer own move = AloneHandled task answer own move
+      ⊎ (AloneUnhandled task answer own move ⊎ AloneUnmet task answer own move)
+
+  -- The record has this answer, made these entries and moved a word so. Nothing is said of one for which the site
+  -- failed or memory was wanting: codes from 31 on.
+  abbrev pub AloneServes : Record → Answer → List Entry → Move → Type 0
+  AloneServes task answer own move = (JOURNAL_FULL < answer.code) ⊎ ServesKind task.kind task answer own move
+
+-- records served one after the other: each finds the history that those before it left
+abbrev pub ServesAll : Begin → List Entry → List Deed → List Move → List Entry → Type 0
+ServesAll begin history [] [] own = own ≡ []
+ServesAll begin history [] (move ∷ moves) own = ⊥
+ServesAll begin history (deed ∷ deeds) [] own = ⊥
+ServesAll begin history (deed ∷ deeds) (move ∷ moves) own = (first : List Entry) × (rest : List Entry)
+    × (own ≡ first ++ rest)
+    × AloneServes begin history deed.task deed.answer first move × ServesAll begin (history ++ first) deeds moves rest
+
+-- the same records, one by one
+abbrev pub SameTasks : List Deed → List Deed → Type 0
+SameTasks [] [] = ⊤
+SameTasks [] (other ∷ others) = ⊥
+SameTasks (one ∷ ones) [] = ⊥
+SameTasks (one ∷ ones) (other ∷ others) = (one.task ≡ other.task) × SameTasks ones others
+
+-- for none of them the site failed or memory was wanting
+abbrev pub AreServed : List Deed → Type 0
+AreServed [] = ⊤
+AreServed (deed ∷ deeds) = (deed.answer.code ≤ JOURNAL_FULL) × AreServed deeds

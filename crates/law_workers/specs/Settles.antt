@@ -1,0 +1,24 @@
+-- What a worker knows of the book at the first put behind a segment (profile).
+use Rattle.std.specs.Prelude.{◌≡◌, ℕ, ◌<◌, ◌≤◌, length, take}
+use Rattle.sdls_base.specs.Numbers.{times}
+use Rattle.counter_table.specs.declared.view.View.{View}
+use Rattle.sdls_outside.specs.Faults.{Rose}
+use Rattle.counter_table.specs.Turn.{epoch_seen}
+use Rattle.unit_state.specs.History.{after_first, epoch_after}
+use Rattle.law_history.specs.Log.{entries_of}
+use Rattle.law_history.specs.Numbers.{mark_of}
+use Rattle.law_workers.specs.Begin.{Begin}
+use Rattle.law_workers.specs.Views.{log_of, entries_in, IsRow}
+
+-- What the first put behind a segment tells of the book that it found: so many lines and entries stood there, so many
+-- of the entries were stored, whose epoch is not below the one that the worker had seen, and whose marks are above each
+-- number that the worker has spent on a row of the table.
+pub record SettlesAt (begin : Begin) (old new : View) (stored entries lines : ℕ) : Type 0 where
+  pub within : lines ≤ length (log_of new)
+  pub low : entries ≤ length (entries_of (take lines (log_of new)))
+  pub is_stored : entries ≤ stored
+  pub epoch : epoch_seen old.turn ≤ epoch_after (take entries (entries_in new))
+  pub marks : (key row number : ℕ) → row < begin.rows → IsRow begin new key row → 0 < times row number old.numbers.spent
+      → number < mark_of (after_first begin.start (entries_in new) entries) key
+  -- where the site did not fail, all entries stood
+  pub stood : ¬ Rose new.turn.known.opening.faults new.turn.known.faults → entries ≡ length (entries_in new)

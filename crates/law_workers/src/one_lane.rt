@@ -1,0 +1,74 @@
+//! Laws of what one lane did alone.
+ghost use Rattle.std.specs.Prelude.{◌≡◌, ℕ, ◌+◌, ◌<◌, ◌≤◌, IsTrue, List, [], ◌∷◌, ◌++◌, length, map, slice_get};
+ghost use Rattle.counter_table.specs.declared.view.View.{View};
+ghost use Rattle.counter_table.specs.Numbers.{amount};
+ghost use Rattle.counter_table.specs.Turn.{stands};
+ghost use Rattle.counter_table.specs.Whole.{IsWhole};
+ghost use Rattle.law_workers.specs.Begin.{Begin};
+ghost use Rattle.law_workers.specs.Views.{KnowsMore, entries_in, log_of, meeting, starting};
+ghost use Rattle.law_workers.specs.Deeds.{Deed};
+ghost use Rattle.sdls_base.specs.declared.entry.Entry.{Entry};
+ghost use Rattle.unit_state.specs.State.{KeepsRules};
+ghost use Rattle.unit_state.specs.History.{after};
+ghost use Rattle.law_workers.specs.Machine.{adds, IsAt, Move, Runs};
+ghost use Rattle.law_workers.specs.Serving.{AreServed, SameTasks, ServesAll};
+ghost use Rattle.law_workers.specs.Exact.{Exact, IsOfMoves, Tells, words_in};
+
+use frame_shield::protected_once;
+use law_history::{messages_have_one_step, messages_need_one, openings_tell_one};
+
+/// Law: who did nothing did so exactly.
+pub fn exact_nothing()
+    ensures { (begin : Begin) (view : View) → Exact begin view view [] [] [] }
+{}
+
+/// Law: one record, whose answer tells its move, was done exactly, where the move is the machine's if no other worker
+/// moved a word.
+pub fn exact_move()
+    ensures { (begin : Begin) (old new : View) (made : List ℕ) (deed : Deed) (move : Move)
+        → Tells begin.start (entries_in new) deed move
+        → ((place : ℕ) → 0 < stands place made → IsOfMoves (move ∷ []) (slice_get (log_of new) place))
+        → ((row : ℕ) → amount row new.numbers.added ≡ amount row old.numbers.added + adds row move)
+        → ((row : ℕ) → words_in old row + adds row move ≤ words_in new row)
+        → (((row : ℕ) → row < begin.rows → words_in new row ≡ words_in old row + adds row move)
+        → IsAt begin.rows (words_in old) move)
+        → Exact begin old new made (deed ∷ []) [] }
+{}
+
+/// Law: what was done exactly in two parts, one after the other, was done so as a whole. Of the first part each record
+/// has an answer.
+pub fn exact_then()
+    ensures { (begin : Begin) (old mid new : View) (made later : List ℕ) (deeds more : List Deed) (last : List Move)
+        → Exact begin old mid made deeds [] → ((place : ℕ) → 0 < stands place made → place < length (log_of mid))
+        → KnowsMore mid new → Exact begin mid new later more last
+        → Exact begin old new (made ++ later) (deeds ++ more) last }
+{}
+
+/// Law: at the end of a run that one worker did alone the words grew by its moves, so that they are the machine's, from
+/// the words of the first view.
+pub fn alone_is_exact()
+    ensures { (begin : Begin) (first now : View) (made : List ℕ) (deeds : List Deed) (last : List Move)
+        (exact : Exact begin first now made deeds last) → IsWhole begin.rows now
+        → ((row : ℕ) → row < begin.rows → words_in first row ≡ 1 + amount row first.numbers.added)
+        → Runs begin.rows (words_in first) (exact.moves ++ last) }
+{}
+
+/// Law: one lane alone answers once. From one history and the same words the same records have the same answers, make
+/// the same entries and move the words alike, as far as the site tells what it holds, where for none of them the site
+/// failed or memory was wanting, and each state of the history keeps the rules.
+pub fn served_once()
+    ensures { (begin : Begin) (rows : ℕ) (words : ℕ → ℕ) (history : List Entry) (deeds others : List Deed)
+        (moves more : List Move)
+        (own entries : List Entry) → IsTrue begin.told
+        → ((front rest : List Entry) → own ≡ front ++ rest → KeepsRules (after begin.start (history ++ front)))
+        → SameTasks deeds others → AreServed deeds → AreServed others
+        → ServesAll begin history deeds moves own → ServesAll begin history others more entries
+        → Runs rows words moves → Runs rows words more
+        → (map (λ (deed : Deed). deed.answer) deeds ≡ map (λ (deed : Deed). deed.answer) others) × (own ≡ entries)
+        × (moves ≡ more) }
+{
+    messages_need_one();
+    messages_have_one_step();
+    openings_tell_one();
+    protected_once();
+}
