@@ -317,6 +317,7 @@ module _ (call other : CallSeen) (run : RunEnds call) (again : RunEnds other) (p
 
   pub alike : RunsAlike call other run.account again.account
   alike =
-      let (s, r, e) = run.sound told plan state shows in
-      let (t, q, f) = again.sound tells plan state reshows in
-      alike_so s t r q (e one) (f (subst (λ (places : List Place). OneLane (records_of places)) (sym handled) one))
+      let one_serves = run.sound told plan state shows in
+      let other_serves = again.sound tells plan state reshows in
+      alike_so one_serves.sound other_serves.sound one_serves.released other_serves.released (one_serves.exact one)
+      (other_serves.exact (subst (λ (places : List Place). OneLane (records_of places)) (sym handled) one))

@@ -44,7 +44,7 @@ use Rattle.law_runs.proofs.Stepping.{octets_of}
 use Rattle.law_workers.specs.Alone.{OneLane}
 use Rattle.law_runs.specs.Alone.{IsExact}
 use Rattle.law_runs.proofs.Exacting.{exact_call}
-use Rattle.law_runs.specs.Ends.{IsEarly, IsJournalFull, IsReleased, IsServed, IsSoundCall, RunEnds}
+use Rattle.law_runs.specs.Ends.{ServesSoundly, IsEarly, IsJournalFull, IsReleased, IsServed, IsSoundCall, RunEnds}
 use Rattle.law_runs.proofs.Appending.{may_append}
 use Rattle.law_workers.proofs.WholeRun.{near, rules_at_end}
 use Rattle.unit_image.specs.Shows.{Shows, ShowsNone}
@@ -762,15 +762,15 @@ module _ {O : Type 0} (told : Bool) (trace : O → Trace) (faults puts : O → �
         (take entries_added.count (releases book.state 0 words)) refl (ran.founded is_told).opened ran.whole ran.stand (ran.come.exactly one) entries_split
         (ran.known_first ∙ ran.same_faults) ran.known
 
-    sound_call : IsTrue told → (s : IsSoundCall call account book.plan book.start) × (r : IsReleased call account book.start s.run.history.run.ends)
-        × (OneLane (records_of account.handled) → IsExact call account book.plan book.start r.words s.run.history.run.ends)
+    sound_call : IsTrue told → ServesSoundly call account book.plan book.start
     unfolding legal_run
     sound_call is_told =
-        let (r, same) = released_so slots is_told in (
-          record { run = sound_call_run is_told; moments = moments_so is_told },
-          r,
-          λ one. subst (λ (ws : List ℕ). IsExact call account book.plan book.start ws (length (entries_in now))) (sym same) (exact_so is_told one),
-        )
+        let (r, same) = released_so slots is_told in
+        record {
+          sound = record { run = sound_call_run is_told; moments = moments_so is_told };
+          released = r;
+          exact = λ one. subst (λ (ws : List ℕ). IsExact call account book.plan book.start ws (length (entries_in now))) (sym same) (exact_so is_told one);
+        }
 
     pub run_ends_so : RunEnds call
     run_ends_so = record {
@@ -786,10 +786,7 @@ module _ {O : Type 0} (told : Bool) (trace : O → Trace) (faults puts : O → �
       quiet = quiet;
       bounded = entries_most;
       sound = λ is_told plan state shows.
-          subst (λ (pl : PlanLines). (s : IsSoundCall call account pl state) × (r : IsReleased call account state s.run.history.run.ends)
-          × (OneLane (records_of account.handled) → IsExact call account pl state r.words s.run.history.run.ends)) (sym (plan_same is_told plan state shows))
-          (subst (λ (st : State). (s : IsSoundCall call account book.plan st) × (r : IsReleased call account st s.run.history.run.ends)
-          × (OneLane (records_of account.handled) → IsExact call account book.plan st r.words s.run.history.run.ends)) (sym (state_same is_told plan state shows))
-          (sound_call is_told));
+          subst (λ (pl : PlanLines). ServesSoundly call account pl state) (sym (plan_same is_told plan state shows))
+          (subst (λ (st : State). ServesSoundly call account book.plan st) (sym (state_same is_told plan state shows)) (sound_call is_told));
       refused = λ is_told offset none. absurd (shows_some (trace site).now.image book.start offset (ran.shows is_told) none);
     }

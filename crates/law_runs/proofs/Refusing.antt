@@ -398,10 +398,10 @@ module _ {O : Type 0} (told : Bool) (trace : O → Trace) (faults puts : O → �
             let keeps = rules (trace site).now.image state shows.shows in
             let sound = sound_call plan state is_told is_plan keeps in
             let (r, words) = released plan state keeps (lefts (trace site).now.image state shows.shows)
-            sound.run.history.run.ends sound.run.history.run.within in (
-              sound,
-              r,
-              λ one. exact_none plan state r.words sound.run.history.run.ends words,
-            );
+            sound.run.history.run.ends sound.run.history.run.within in record {
+              sound = sound;
+              released = r;
+              exact = λ one. exact_none plan state r.words sound.run.history.run.ends words;
+            };
         refused = refused_so;
       }

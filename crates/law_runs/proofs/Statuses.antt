@@ -267,7 +267,9 @@ module _ (call : CallSeen) (run : RunEnds call) where
   few_entries : IsTrue call.site.told → (plan : PlanLines) (state : State) → ShowsAtEntry call plan state
       → length call.entries ≤ 2 * length (places_of run.account.items) + MOST_KEYS
   few_entries told plan state shows =
-      let (s, rel, exact) = run.sound told plan state shows in
+      let serves = run.sound told plan state shows in
+      let s = serves.sound in
+      let rel = serves.released in
       let ends : ℕ = s.run.history.run.ends in
       let a = s.run.history.run.few_entries in
       let b = drawers_few (records_of run.account.handled) in

@@ -68,6 +68,14 @@ pub record IsReleased (call : CallSeen) (account : Account) (state : State) (end
   pub room : ¬ Rose call.site.faults call.site_after.faults
       → length (records (image_at_entry call)) + stored_count state call.entries ≤ slot_count (image_at_entry call)
 
+-- The image at the entry shows this state of this plan: the run is sound, the keys are released, and one lane alone is
+-- exact.
+pub record ServesSoundly (call : CallSeen) (account : Account) (plan : PlanLines) (state : State) : Type 0 where
+  pub sound : IsSoundCall call account plan state
+  pub released : IsReleased call account state sound.run.history.run.ends
+  pub exact : OneLane (records_of account.handled)
+      → IsExact call account plan state released.words sound.run.history.run.ends
+
 -- why the book over a refused image was not opened: that the image shows no state, a fault of the site, or want of
 -- memory
 abbrev pub IsOpenRefusal : ℕ → RunEnd → Type 0
@@ -105,7 +113,6 @@ pub record RunEnds (call : CallSeen) : Type 0 where
   pub quiet : call.status ≡ status.DONE → call.site_after.faults ≡ call.site.faults
   pub bounded : length call.entries ≤ MOST_ENTRIES
   pub sound : IsTrue call.site.told → (plan : PlanLines) (state : State) → ShowsAtEntry call plan state
-      → (s : IsSoundCall call account plan state) × (r : IsReleased call account state s.run.history.run.ends)
-      × (OneLane (records_of account.handled) → IsExact call account plan state r.words s.run.history.run.ends)
+      → ServesSoundly call account plan state
   pub refused : IsTrue call.site.told → (offset : ℕ) → ShowsNone (image_at_entry call) offset
       → IsRefused call account offset
