@@ -2,7 +2,7 @@
 ghost use Rattle.std.specs.Prelude.{◌≡◌, ◌*◌, ◌+◌, ◌^◌, ◌<◌, ◌≤◌, IsTrue, [], ◌∷◌, ◌++◌, length, OnOk, IfOk};
 ghost use Rattle.std.specs.Int.{w16, w64, to_be_bytes, is_in_range};
 ghost use Rattle.ep_codec.specs.Field.{is_key, is_spi};
-ghost use Rattle.sdls_base.specs.Bounds.{AreChannels, IsKeyCount};
+ghost use Rattle.sdls_base.specs.Bounds.{IsKeyCount};
 ghost use Rattle.sdls_base.specs.Spelling.{association_octets};
 ghost use Rattle.ep_codec.specs.Command.{AreKeys, message, sealed_data, keys_data, command_octets, IsInBounds};
 ghost use Rattle.ep_codec.specs.Command.{HasTypes, IsCommandPdu};
@@ -10,7 +10,7 @@ ghost use Rattle.ep_codec.specs.Command.{HasTypes, IsCommandPdu};
 use crate::command::Command;
 use crate::fields::SEALED_EXTRA;
 use crate::writing::{begin, put_number, put_word};
-use sdls_base::{KeyId, KeyList, NewSa, NoMemory, Octets, Spi};
+use sdls_base::{KeyId, KeyList, MOST_CHANNELS, NewSa, NoMemory, Octets, Spi};
 use std::alloc::Global;
 
 /// A message of an association's index alone.
@@ -99,7 +99,7 @@ pub(crate) fn sealed_message(
 }
 
 fn create_message(alloc: Global, kind: u8, sa: &NewSa) -> Result<Vec<u8>, NoMemory>
-    requires { AreChannels sa.now.channels }
+    requires { length sa.now.channels ≤ MOST_CHANNELS }
     ensures octets { IfOk result (λ out. out.items ≡ message kind (association_octets sa.now)) }
     ensures types { OnOk result (IsTrue (is_spi sa.now.spi)) }
 {
