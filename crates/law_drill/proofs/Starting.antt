@@ -1,5 +1,5 @@
 -- The state that the lines of a drill's plan make, where they make one.
-use Rattle.std.proofs.Common.{◌≡◌, ℕ, ◌-◌, Bool, true, false, List, [], ◌∷◌, take, drop, Some, Result, Ok, Err, refl, sym, ◌∙◌, ap}
+use Rattle.std.proofs.Common.{◌≡◌, ℕ, ◌-◌, Bool, true, false, List, [], ◌∷◌, map, take, drop, Some, Result, Ok, Err, refl, sym, ◌∙◌, ap}
 use Rattle.std.specs.Result.{result_unwrap_or}
 use Rattle.sha2.specs.Sha256.{sha256}
 use Rattle.sdls_base.specs.declared.change.Change.TheVariants.{Load, KeyStates, Create, Rekey, SaTo}
@@ -19,8 +19,9 @@ use Rattle.unit_plan.specs.declared.plan_error.PlanFault.{PlanFault}
 use Rattle.unit_plan.specs.PlanError.{◌>>=◌, check}
 use Rattle.unit_state.specs.declared.state.State.{State}
 use Rattle.unit_state.specs.Applied.{applied}
-use Rattle.unit_state.specs.Initial.{activated_if, association_made, bare, count_before, created, initial, key_made, keyed, keys_made, lines_made, loaded, started}
+use Rattle.unit_state.specs.Initial.{activated_if, association_made, bare, created, initial, in_order, key_made, keyed, lines_made, loaded, OfKey, started}
 use Rattle.unit_state.specs.Restart.{restarted}
+use Rattle.unit_state.proofs.Lines.{count_before, made_in_turns}
 use Rattle.law_drill.specs.Plans.{key_of, receiver_lines, sender_lines}
 use Rattle.law_image.proofs.Planned.{behind, no_fault, ok_of, same_ok}
 
@@ -56,10 +57,10 @@ active_is state next key keys.PreActive h = same_ok state next h
 active_is state next key keys.Deactivated h = same_ok state next h
 active_is state next key keys.Destroyed h = same_ok state next h
 
-keys_are : (state next : State) (keys : List PlanKey) → keys_made state keys ≡ Ok next → with_keys state keys ≡ next
+keys_are : (state next : State) (keys : List PlanKey) → lines_made state (map OfKey keys) ≡ Ok next → with_keys state keys ≡ next
 keys_are state next [] h = same_ok state next h
 keys_are state next (key ∷ more) h =
-    let one = behind (key_made state key) (λ (next : State). keys_made next more) next h in
+    let one = behind (key_made state key) (λ (next : State). lines_made next (map OfKey more)) next h in
     let two = behind (loaded state key) (λ (next : State). activated_if next key key.state) one.0 one.1 in
     let same : applied state (Load (key.item ∷ [])) ≡ two.0 = checked _ _ _ _ two.0 two.1 in
     let active = active_is two.0 one.0 key key.state two.2 in
@@ -75,14 +76,14 @@ association_is state next found h =
     ap (λ (s : State). applied s (SaTo found.sa.spi (Some Operational)))
     (ap (λ (s : State). applied s (Rekey found.sa.spi found.key found.number)) one ∙ two) ∙ three
 
-lines_are : (state next : State) (keys : List PlanKey) (associations : List PlanSa) → lines_made state keys associations ≡ Ok next
+lines_are : (state next : State) (keys : List PlanKey) (associations : List PlanSa) → lines_made state (in_order keys associations) ≡ Ok next
     → with_lines state keys associations ≡ next
 lines_are state next keys [] h = keys_are state next keys h
 lines_are state next keys (found ∷ associations) h =
     let count = count_before found.line keys in
-    let ready = behind (keys_made state (take count keys))
-    (λ (s : State). association_made s found >>= λ (t : State). lines_made t (drop count keys) associations) next h in
-    let one = behind (association_made ready.0 found) (λ (t : State). lines_made t (drop count keys) associations) next ready.2 in
+    let ready = behind (lines_made state (map OfKey (take count keys)))
+    (λ (s : State). association_made s found >>= λ (t : State). lines_made t (in_order (drop count keys) associations)) next (sym (made_in_turns state keys found associations) ∙ h) in
+    let one = behind (association_made ready.0 found) (λ (t : State). lines_made t (in_order (drop count keys) associations)) next ready.2 in
     ap (λ (s : State). with_lines s (drop count keys) associations)
     (ap (λ (s : State). with_association s found) (keys_are state ready.0 (take count keys) ready.1) ∙ association_is ready.0 one.0 found one.1)
     ∙ lines_are one.0 next (drop count keys) associations one.2

@@ -1,5 +1,5 @@
 -- The lines of a plan make a state that keeps the rules.
-use Rattle.std.proofs.Common.{◌≡◌, ℕ, zero, suc, Bool, true, false, List, [], ◌∷◌, length, take, drop, Option, Some, None, is_none, Result, Ok, Err, refl, ap, ◌∙◌, subst, arith}
+use Rattle.std.proofs.Common.{◌≡◌, ℕ, zero, suc, Bool, true, false, List, [], ◌∷◌, length, map, take, drop, Option, Some, None, is_none, Result, Ok, Err, refl, sym, ap, ◌∙◌, subst, arith}
 use Rattle.std.specs.List.{All}
 use Rattle.std.specs.Option.{option_map_or}
 use Rattle.std.proofs.lemmas.Bool.{false≢true}
@@ -25,8 +25,9 @@ use Rattle.unit_plan.specs.PlanRules.{IsAssociation}
 use Rattle.unit_state.specs.declared.state.State.{State}
 use Rattle.unit_state.specs.State.{KeepsRules, key_row, association_row}
 use Rattle.unit_state.specs.Applied.{applied}
-use Rattle.unit_state.specs.Initial.{bare, loaded, activated, activated_if, key_made, keys_made, line_refusal, takes_key, created, keyed, started, association_made, count_before, lines_made, initial}
+use Rattle.unit_state.specs.Initial.{bare, loaded, activated, activated_if, key_made, line_refusal, takes_key, created, keyed, started, association_made, OfKey, in_order, lines_made, initial}
 use Rattle.unit_state.specs.Taking.{least_with}
+use Rattle.unit_state.proofs.Lines.{count_before, made_in_turns}
 use Rattle.unit_state.proofs.Moves.{moves_any}
 use Rattle.unit_state.proofs.RulesKept.{loaded_kept, states_kept, create_kept, keyed_kept, state_kept}
 
@@ -93,10 +94,10 @@ key_rules state next key ok long h =
     let p = passed (loaded state key) (λ next. activated_if next key key.state) next h in
     activated_if_rules p.first next key key.state (loaded_rules state p.first key ok long p.is) p.then
 
-keys_rules : (state next : State) (keys : List PlanKey) → KeepsRules state → All IsKey keys → keys_made state keys ≡ Ok next → KeepsRules next
+keys_rules : (state next : State) (keys : List PlanKey) → KeepsRules state → All IsKey keys → lines_made state (map OfKey keys) ≡ Ok next → KeepsRules next
 keys_rules state next [] ok long h = subst KeepsRules (same_ok state next h) ok
 keys_rules state next (key ∷ keys) ok long h =
-    let p = passed (key_made state key) (λ next. keys_made next keys) next h in
+    let p = passed (key_made state key) (λ next. lines_made next (map OfKey keys)) next h in
     keys_rules p.first next keys (key_rules state p.first key ok (long zero key (omega arith)) p.is) (λ i d low. long (suc i) d (omega arith)) p.then
 
 created_rules : (state next : State) (found : PlanSa) → KeepsRules state → IsAssociation found → created state found ≡ Ok next → KeepsRules next
@@ -133,12 +134,12 @@ association_rules state next found ok bounds h =
     let q = passed (keyed p.first found) (λ stopped. started stopped found) next p.then in
     started_rules q.first next found (keyed_rules p.first q.first found (created_rules state p.first found ok bounds p.is) q.is) q.then
 
-lines_rules : (state next : State) (keys : List PlanKey) (associations : List PlanSa) → KeepsRules state → All IsKey keys → All IsAssociation associations → lines_made state keys associations ≡ Ok next → KeepsRules next
+lines_rules : (state next : State) (keys : List PlanKey) (associations : List PlanSa) → KeepsRules state → All IsKey keys → All IsAssociation associations → lines_made state (in_order keys associations) ≡ Ok next → KeepsRules next
 lines_rules state next keys [] ok long bounds h = keys_rules state next keys ok long h
 lines_rules state next keys (found ∷ associations) ok long bounds h =
     let n = count_before found.line keys in
-    let p = passed (keys_made state (take n keys)) (λ ready. association_made ready found >>= λ next. lines_made next (drop n keys) associations) next h in
-    let q = passed (association_made p.first found) (λ next. lines_made next (drop n keys) associations) next p.then in
+    let p = passed (lines_made state (map OfKey (take n keys))) (λ ready. association_made ready found >>= λ next. lines_made next (in_order (drop n keys) associations)) next (sym (made_in_turns state keys found associations) ∙ h) in
+    let q = passed (association_made p.first found) (λ next. lines_made next (in_order (drop n keys) associations)) next p.then in
     lines_rules q.first next (drop n keys) associations
     (association_rules p.first q.first found (keys_rules state p.first (take n keys) ok (All-take IsKey n keys long) p.is) (bounds zero found (omega arith)) q.is)
     (All-drop IsKey n keys long) (λ i d low. bounds (suc i) d (omega arith)) q.then

@@ -1,7 +1,6 @@
 -- The state that the lines of a plan make, in their order, or the first line that the books refuse (profile).
-use Rattle.std.specs.Prelude.{◌≡◌, ⊤, ℕ, ◌+◌, Bool, false, nat_le, List, [], ◌∷◌, map, take, drop, Option, Some}
-use Rattle.std.specs.Prelude.{is_none, Result, Ok, Err}
-use Rattle.std.specs.List.{position_or_len}
+use Rattle.std.specs.Prelude.{◌≡◌, ⊤, Bool, false, nat_le, if◌then◌else◌, List, [], ◌∷◌, map, Option, Some, is_none, Result}
+use Rattle.std.specs.Prelude.{Ok, Err}
 use Rattle.std.specs.Option.{option_map_or}
 use Rattle.sdls_base.specs.declared.change.Change.TheVariants.{Load, KeyStates, Create, Rekey, SaTo}
 use Rattle.sdls_base.specs.declared.states.KeyState.{KeyState}
@@ -50,10 +49,6 @@ activated_if state key Destroyed = Ok state
 abbrev pub key_made : State → PlanKey → Result State PlanFault
 key_made state key = loaded state key >>= λ next. activated_if next key key.state
 
-abbrev pub keys_made : State → List PlanKey → Result State PlanFault
-keys_made state [] = Ok state
-keys_made state (key ∷ keys) = key_made state key >>= λ next. keys_made next keys
-
 -- what decides on a key for an association: a number below the key's mark or up to its floor is too low
 abbrev pub line_refusal : State → PlanSa → SaRow → KeyRow → Option SaRefusal
 line_refusal state found row held = taking_refusal state found.sa.spi found.key found.number held.mark row held
@@ -83,21 +78,31 @@ abbrev pub association_made : State → PlanSa → Result State PlanFault
 association_made state found = created state found >>= λ unkeyed. keyed unkeyed found >>= λ stopped. started stopped
     found
 
--- how many of the keys have their line before another
-abbrev pub count_before : ℕ → List PlanKey → ℕ
-count_before line keys = position_or_len (λ key. nat_le line key.line) keys
+-- a line that makes a row
+pub data RowLine : Type 0 where
+  OfKey : PlanKey → RowLine
+  OfAssociation : PlanSa → RowLine
 
--- all lines: the keys before each association, that association, and the keys that are left
-abbrev pub lines_made : State → List PlanKey → List PlanSa → Result State PlanFault
-lines_made state keys [] = keys_made state keys
-lines_made state keys (found ∷ associations) = do
-  ready ← keys_made state (take (count_before found.line keys) keys)
-  next ← association_made ready found
-  lines_made next (drop (count_before found.line keys) keys) associations
+abbrev pub line_made : State → RowLine → Result State PlanFault
+line_made state (OfKey key) = key_made state key
+line_made state (OfAssociation found) = association_made state found
+
+-- one line after the other
+abbrev pub lines_made : State → List RowLine → Result State PlanFault
+lines_made state [] = Ok state
+lines_made state (line ∷ lines) = line_made state line >>= λ next. lines_made next lines
+
+-- the lines in the order in which the plan has them
+abbrev pub in_order : List PlanKey → List PlanSa → List RowLine
+in_order keys [] = map OfKey keys
+in_order [] (found ∷ associations) = OfAssociation found ∷ in_order [] associations
+in_order (key ∷ keys) (found ∷ associations) =
+    if nat_le found.line key.line then OfAssociation found ∷ in_order (key ∷ keys) associations
+    else OfKey key ∷ in_order keys (found ∷ associations)
 
 -- a whole plan
 abbrev pub initial : PlanLines → Result State PlanFault
-initial plan = lines_made (bare plan) plan.keys plan.associations
+initial plan = lines_made (bare plan) (in_order plan.keys plan.associations)
 
 -- what a call answers, and the state that it left, is what lines make, unless memory was wanting
 abbrev pub MakesLines : Result (Unit {0}) PlanError → Result State PlanFault → State → Type 0

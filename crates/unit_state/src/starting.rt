@@ -1,15 +1,15 @@
 //! The state that a plan's lines make.
 
-ghost use Rattle.std.specs.Prelude.{◌≡◌, nat_le, length, position, IfOk, All};
+ghost use Rattle.std.specs.Prelude.{◌≡◌, nat_le, length, map, position, IfOk, All};
+ghost use Rattle.std.specs.List.{position_or_len};
 ghost use Rattle.unit_plan.specs.declared.plan_error.PlanError.TheVariants as errors;
 ghost use Rattle.unit_plan.specs.declared.plan_error.PlanCause.TheVariants as causes;
 ghost use Rattle.unit_plan.specs.PlanError.{Gives};
 ghost use Rattle.sdls_base.specs.Bounds.{IsKeyLength};
 ghost use Rattle.unit_plan.specs.PlanRules.{IsAssociation};
 ghost use Rattle.unit_state.specs.State.{KeepsRules};
-ghost use Rattle.unit_state.specs.Initial.{MakesLines, bare, loaded, activated, activated_if, key_made, keys_made};
-ghost use Rattle.unit_state.specs.Initial.{created, keyed, started, association_made, count_before, lines_made};
-ghost use Rattle.unit_state.specs.Initial.{initial};
+ghost use Rattle.unit_state.specs.Initial.{MakesLines, bare, loaded, activated, activated_if, key_made, created, keyed};
+ghost use Rattle.unit_state.specs.Initial.{started, association_made, OfKey, in_order, lines_made, initial};
 
 use crate::state::State;
 use crate::taking::least_with;
@@ -36,7 +36,7 @@ fn first_behind(line: u32, keys: &[PlanKey]) -> Option<usize>
 
 /// How many of the keys have their line before another.
 fn count_before(line: u32, keys: &[PlanKey]) -> usize
-    ensures { result ≡ count_before line keys.now }
+    ensures { result ≡ position_or_len (λ key. nat_le line key.line) keys.now }
 {
     first_behind(line, keys).unwrap_or(keys.len())
 }
@@ -143,7 +143,7 @@ impl State {
 
     fn make_keys(&mut self, alloc: Global, keys: &[PlanKey]) -> Result<(), PlanError>
         requires { All (λ key. IsKeyLength (length key.item.bytes)) keys.now }
-        ensures { MakesLines result (keys_made self.old keys.now) self.new }
+        ensures { MakesLines result (lines_made self.old (map OfKey keys.now)) self.new }
     {
         for key in keys {
             self.make_key(alloc, key)?;
@@ -159,7 +159,7 @@ impl State {
     ) -> Result<(), PlanError>
         requires keys { All (λ key. IsKeyLength (length key.item.bytes)) keys.now }
         requires associations { All IsAssociation associations.now }
-        ensures { MakesLines result (lines_made self.old keys.now associations.now) self.new }
+        ensures { MakesLines result (lines_made self.old (in_order keys.now associations.now)) self.new }
     {
         let mut rest = keys;
         for found in associations {
