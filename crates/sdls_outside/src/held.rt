@@ -47,10 +47,12 @@ impl Held {
         }) }
         ensures err { OnErr result (disk_of self.new ≡ disk_of self.old) }
     {
-        let next = with_octets(alloc, &self.image, at as usize, octets)?;
+        keep(alloc, &mut self.kept, &self.image)?;
         self.ranges.insert(0, (at, octets.len() as u64))?;
-        let before = mem::replace(&mut self.image, next);
-        keep(&mut self.kept, before);
+        if let Err(no_memory) = overwrite(&mut self.image, at as usize, octets) {
+            self.ranges.remove(0);
+            return Err(no_memory);
+        }
         Ok(())
     }
 
@@ -87,27 +89,29 @@ impl Held {
     }
 }
 
-// The image with these octets at this place, over what was there and past its end.
+// Writes the octets at this place, over what was there and past the end. At an error nothing has changed.
 #[tactic(auto, using(crate::proofs::Octets::octet_lemmas))]
-fn with_octets(alloc: Global, image: &[u8], at: usize, octets: &[u8]) -> Result<Vec<u8>, AllocError>
-    requires { at ≤ length image.now }
-    ensures { IfOk result (λ next. next.items ≡ overwritten image.now at octets.now) }
+fn overwrite(image: &mut Vec<u8>, at: usize, octets: &[u8]) -> Result<(), AllocError>
+    requires { at ≤ length image.old.items }
+    ensures ok { OnOk result (image.new.items ≡ overwritten image.old.items at octets.now) }
+    ensures err { OnErr result (image.new.items ≡ image.old.items) }
 {
-    let (before, over) = image.split_at(at);
-    let mut next = Vec::from_slice(alloc, before)?;
-    next.extend_from_slice(octets)?;
-    next.extend_from_slice(&over[octets.len().min(over.len())..])?;
-    Ok(next)
+    let (over, behind) = octets.split_at(octets.len().min(image.len() - at));
+    image.extend_from_slice(behind)?;
+    image[at..at + over.len()].copy_from_slice(over);
+    Ok(())
 }
 
-// Keeps this image as what was synced, unless one is kept already.
-fn keep(kept: &mut Option<Vec<u8>>, image: Vec<u8>)
-    ensures { (other : List ℕ) → option_map_or (λ kept. kept.items) kept.new other
-        ≡ option_map_or (λ kept. kept.items) kept.old image.items }
+// Keeps a copy of the image as what was synced, unless one is kept already.
+fn keep(alloc: Global, kept: &mut Option<Vec<u8>>, image: &[u8]) -> Result<(), AllocError>
+    ensures ok { OnOk result ((other : List ℕ) → option_map_or (λ kept. kept.items) kept.new other
+        ≡ option_map_or (λ kept. kept.items) kept.old image.now) }
+    ensures err { OnErr result (kept.new ≡ kept.old) }
 {
     if kept.is_none() {
-        *kept = Some(image);
+        *kept = Some(Vec::from_slice(alloc, image)?);
     }
+    Ok(())
 }
 
 // Puts the octet everywhere in the ranges.
