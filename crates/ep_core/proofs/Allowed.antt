@@ -1,7 +1,7 @@
 -- The change of a step is one that its state allows.
-use Rattle.std.proofs.Common.{◌≡◌, ◌≢◌, ℕ, zero, suc, ◌+◌, ◌<◌, ◌≤◌, Bool, true, false, List, [], ◌∷◌, length, length-drop, get_or, take, drop, Option, Some, None, IsSome, IsSomeAnd, refl, sym, ap, ◌∙◌, subst, arith}
+use Rattle.std.proofs.Common.{◌≡◌, ◌≢◌, ℕ, zero, suc, ◌+◌, ◌<◌, ◌≤◌, Bool, true, false, not, nat_eq, List, [], ◌∷◌, length, length-drop, get_or, take, drop, Option, Some, None, IsSome, IsSomeAnd, refl, sym, ap, ◌∙◌, subst, arith}
 use Rattle.std.specs.Prelude.{MatchOption, if◌then◌else◌, is_none, is_some, IfSome, IsNone}
-use Rattle.std.specs.List.{AllByRecursion}
+use Rattle.std.specs.List.{AllByRecursion, Any}
 use Rattle.std.specs.Option.{option_map, option_map_or, option_and_then}
 use Rattle.std.specs.Str.{bytes_eq}
 use Rattle.std.proofs.lemmas.Bool.Decides.{nat_tests}
@@ -10,7 +10,8 @@ use Rattle.gcm.specs.Gcm.{gcm_open, gctr, tag_of}
 use Rattle.sdls_base.specs.Bounds.{IsKeyLength}
 use Rattle.sdls_base.specs.FirstFailing.{fails_if, first_told}
 use Rattle.sdls_base.specs.KeyId.{class_of}
-use Rattle.sdls_base.specs.declared.key_id.KeyClass.TheVariants.{Master}
+use Rattle.sdls_base.specs.declared.key_id.KeyClass.{KeyClass}
+use Rattle.sdls_base.specs.declared.key_id.KeyClass.TheVariants.{Master, Gcm, Cmac}
 use Rattle.sdls_base.specs.declared.change.Change.{Change}
 use Rattle.sdls_base.specs.declared.change.Change.TheVariants as changes
 use Rattle.sdls_base.specs.declared.entry.Seen.{Seen}
@@ -18,7 +19,7 @@ use Rattle.sdls_base.specs.declared.entry.Seen.TheVariants as seen
 use Rattle.sdls_base.specs.declared.states.Direction.{Direction}
 use Rattle.sdls_base.specs.declared.states.Direction.TheVariants.{Send, Receive}
 use Rattle.sdls_base.specs.declared.states.KeyState.{KeyState}
-use Rattle.sdls_base.specs.declared.states.KeyState.TheVariants.{Active, Deactivated, Destroyed}
+use Rattle.sdls_base.specs.declared.states.KeyState.TheVariants.{PreActive, Active, Deactivated, Destroyed}
 use Rattle.sdls_base.specs.declared.states.SaState.{SaState}
 use Rattle.sdls_base.specs.declared.states.SaState.TheVariants.{Unkeyed, Keyed, Operational}
 use Rattle.sdls_base.proofs.FieldLemmas.{word}
@@ -31,9 +32,10 @@ use Rattle.sa_book.specs.SaBook.{in_use}
 use Rattle.sa_book.specs.SaRefusal.{unless_unkeyed, if_unkeyed, number_refusal_of, set_number_refusal}
 use Rattle.unit_state.specs.declared.state.State.{State}
 use Rattle.unit_state.specs.State.{KeepsRules, HasKey, MayHold, key_row, association_row}
-use Rattle.unit_state.specs.Allows.{Allows, AllowsLoad, AllowsStates, AllowsRekey, AllowsNumber, IsSessionKey}
+use Rattle.unit_state.specs.Allows.{Allows, IsActiveMaster, AllowsLoad, AllowsStates, AllowsRekey, AllowsNumber, IsSessionKey}
 use Rattle.unit_state.specs.Taking.{least_with, taking_refusal}
-use Rattle.unit_state.proofs.Found.{found}
+use Rattle.unit_state.proofs.Found.{found, found_passes, found_there}
+use Rattle.unit_state.proofs.KeyRules.{equal_number}
 use Rattle.unit_state.proofs.RulesKept.{there, some_there, some_and}
 use Rattle.unit_state.proofs.SaRules.{judged}
 use Rattle.sdls_base.specs.Bounds.{IsKeyCount}
@@ -45,10 +47,10 @@ use Rattle.ep_codec.specs.declared.reply_pdu.ReplyPdu.TheVariants as replies
 use Rattle.ep_codec.proofs.FieldFacts.{low_bound}
 use Rattle.ep_core.specs.declared.need.Need.TheVariants as needs
 use Rattle.ep_core.specs.declared.refusal.Refusal.{Refusal}
-use Rattle.ep_core.specs.declared.refusal.Refusal.TheVariants.{BadTag, BadItems}
+use Rattle.ep_core.specs.declared.refusal.Refusal.TheVariants.{BadTag, BadItems, NotMaster}
 use Rattle.ep_core.specs.declared.reply.Reply.{Reply}
 use Rattle.ep_core.specs.Need.{sends, is_sending, sending_key, sending_key_of, need_of}
-use Rattle.ep_core.specs.Refusals.{from_keys, from_associations, refusal_of, opened, items_of, master_checks, text_checks, unless_free, unless_known, unless_takes, least_at, least_of}
+use Rattle.ep_core.specs.Refusals.{by_state, from_keys, is_master, from_associations, refusal_of, opened, items_of, master_checks, text_checks, unless_free, unless_known, unless_takes, least_at, least_of, unless_active}
 use Rattle.ep_core.specs.Sealed.{front, item_fault, item_at, items_fault, items_in}
 use Rattle.ep_core.specs.Seen.{MeetsNeed, IsWord, word_of}
 use Rattle.ep_core.specs.Step.{IsStep, IsDone, refused, done}
@@ -137,9 +139,9 @@ not_mapped : {A B : Type 0} (f : A → B) (o : Option A) → option_map f o ≡ 
 not_mapped f None none = refl
 not_mapped f (Some x) none = absurd cc
 
-load_allowed : (state : State) (text : Option (List ℕ)) (sealed : List ℕ) → Opened text sealed → 0 < length sealed
+load_allowed : (state : State) (text : Option (List ℕ)) (sealed : List ℕ) → Any IsActiveMaster state.keys → Opened text sealed → 0 < length sealed
     → first_told (text_checks state text) ≡ None → AllowsLoad state (items_of text)
-load_allowed state text sealed is some none =
+load_allowed state text sealed master is some none =
     let items_check = option_map BadItems (option_and_then (items_fault 8 0) text) in
     let book_check = from_keys (load_refusal state.keys (items_of text)) in
     let behind = (passed_both (fails_if (is_none text) BadTag) (items_check ∷ book_check ∷ []) none).1 in
@@ -150,6 +152,7 @@ load_allowed state text sealed is some none =
     let long : 0 < length is.text = omega (arith, is.same) in
     let items : items_of text ≡ items_in 8 is.text = ap items_of is.is in
     record {
+      master = master;
       count = record {
         least = omega (arith, ap length items, items_least 7 0 is.text long right);
         most = omega (arith, ap length items, items_most 8 0 is.text right);
@@ -157,6 +160,35 @@ load_allowed state text sealed is some none =
       each = each_of IsSessionKey (items_of text) (subst (AllByRecursion IsSessionKey) (sym items) (session_items 8 0 is.text right));
       book = keys_free _ (told_load state.keys (items_of text)) book;
     }
+
+master_of : (class : KeyClass) (id : ℕ) → fails_if (not (is_master class)) (NotMaster id) ≡ None → class ≡ Master
+master_of Master id none = refl
+master_of Gcm id none = absurd cc
+master_of Cmac id none = absurd cc
+
+active_of : (state : KeyState) → unless_active state ≡ None → state ≡ Active
+active_of PreActive none = absurd cc
+active_of Active none = refl
+active_of Deactivated none = absurd cc
+active_of Destroyed none = absurd cc
+
+master_there : (state : State) (master : ℕ) (row : Option KeyRow) → key_row state master ≡ row → unless_known master row ≡ None
+    → fails_if (not (is_master (class_of master))) (NotMaster master) ≡ None → by_state unless_active row ≡ None
+    → Any IsActiveMaster state.keys
+master_there state master None there known class active = absurd cc
+master_there state master (Some held) there known class active =
+    let same = equal_number held.id master (found_passes (λ (row : KeyRow). nat_eq row.id master) state.keys held there) in
+    found_there IsActiveMaster (λ (row : KeyRow). nat_eq row.id master) state.keys held there
+    (record { class = ap class_of same ∙ master_of (class_of master) master class; state = active_of held.state active })
+
+active_master : (state : State) (master : ℕ) → first_told (master_checks state master) ≡ None → Any IsActiveMaster state.keys
+active_master state master none =
+    let class = fails_if (not (is_master (class_of master))) (NotMaster master) in
+    let active = by_state unless_active (key_row state master) in
+    let one = passed_both (unless_known master (key_row state master)) (class ∷ active ∷ []) none in
+    let two = passed_both class (active ∷ []) one.1 in
+    let three = passed_both active [] two.1 in
+    master_there state master (key_row state master) refl one.0 two.0 three.0
 
 rekeying_allowed : (state : State) (master : ℕ) (vector sealed tag : List ℕ) → 19 ≤ length sealed
     → first_told (master_checks state master) ≡ None
@@ -167,7 +199,7 @@ rekeying_allowed state master vector sealed tag long known none =
     let items_check = option_map BadItems (option_and_then (items_fault 8 0) text) in
     let book_check = from_keys (load_refusal state.keys (items_of text)) in
     let some = there_is text BadTag (passed_both (fails_if (is_none text) BadTag) (items_check ∷ book_check ∷ []) none).0 in
-    load_allowed state text sealed (opened_text (key_row state master) vector (front master (length sealed)) sealed tag some) (omega (arith, long)) none
+    load_allowed state text sealed (active_master state master known) (opened_text (key_row state master) vector (front master (length sealed)) sealed tag some) (omega (arith, long)) none
 
 -- ---- keys that take a state
 

@@ -19,10 +19,10 @@ use Rattle.sa_book.specs.SaBook.{in_use}
 use Rattle.sa_book.specs.SaRefusal.{create_refusal, rekey_refusal, set_number_refusal, set_window_refusal}
 use Rattle.unit_state.specs.State.{key_row, association_row}
 use Rattle.unit_state.specs.declared.state.State.{State}
-use Rattle.unit_state.specs.Allows.{Allows, AllowsMarks, AllowsLoad, AllowsStates, AllowsCreate, AllowsRekey, AllowsNumber, AllowsWindow, IsSessionKey}
+use Rattle.unit_state.specs.Allows.{Allows, AllowsMarks, AllowsLoad, AllowsStates, AllowsCreate, AllowsRekey, AllowsNumber, AllowsWindow, IsActiveMaster, IsSessionKey}
 use Rattle.unit_state.specs.Taking.{least_with}
 use Rattle.book_record.specs.Record.{HasRecord, HasTypes, IsKey, IsSpi}
-use Rattle.law_image.proofs.Deciding.{Decided, decided_and, decided_three, decided_four, decided_as, decided_not, decided_lt, decided_le, decided_none, decided_some, decided_some_and, decided_all, decided_channels, decided_width, decided_key_length}
+use Rattle.law_image.proofs.Deciding.{Decided, decided_and, decided_three, decided_four, decided_as, decided_not, decided_lt, decided_le, decided_none, decided_some, decided_some_and, decided_all, decided_any, decided_channels, decided_width, decided_key_length}
 
 master : (class : KeyClass) → Decided (class ≡ Master)
 master Master = inl refl
@@ -42,6 +42,16 @@ session_key : (item : KeyItem) → Decided (IsSessionKey item)
 session_key item = decided_as (decided_and (decided_not (master (class_of item.id))) (decided_key_length (length item.bytes)))
     (λ both. record { class = both.0; length = both.1 }) (λ is. (is.class, is.length))
 
+active : (state : KeyState) → Decided (state ≡ Active)
+active PreActive = inr (λ is. cc)
+active Active = inl refl
+active Deactivated = inr (λ is. cc)
+active Destroyed = inr (λ is. cc)
+
+active_master : (row : KeyRow) → Decided (IsActiveMaster row)
+active_master row = decided_as (decided_and (master (class_of row.id)) (active row.state))
+    (λ both. record { class = both.0; state = both.1 }) (λ is. (is.class, is.state))
+
 module _ (state : State) where
   marks : (key mark floor : ℕ) → Decided (AllowsMarks state key mark floor)
   marks key mark floor = decided_as
@@ -51,8 +61,9 @@ module _ (state : State) where
 
   load : (items : List KeyItem) → Decided (AllowsLoad state items)
   load items = decided_as
-      (decided_three (key_count (length items)) (decided_all IsSessionKey session_key items) (decided_none (load_refusal state.keys items)))
-      (λ all. record { count = all.0; each = all.1; book = all.2 }) (λ is. (is.count, is.each, is.book))
+      (decided_four (decided_any IsActiveMaster active_master state.keys) (key_count (length items)) (decided_all IsSessionKey session_key items)
+      (decided_none (load_refusal state.keys items)))
+      (λ all. record { master = all.0; count = all.1; each = all.2; book = all.3 }) (λ is. (is.master, is.count, is.each, is.book))
 
   states : (ids : List ℕ) (to : KeyState) → Decided (AllowsStates state ids to)
   states ids to = decided_as

@@ -1,6 +1,6 @@
 -- What holds or does not, for `refused_exactly`: conjunctions, bounds, lists.
-use Rattle.std.proofs.Common.{◌≡◌, ◌⊎◌, inl, inr, ⊎_elim, ℕ, suc, zero, ◌+◌, ◌<◌, ◌≤◌, List, [], ◌∷◌, length, Option, None, Some, IsSome, IsSomeAnd, refl, sym, subst, arith}
-use Rattle.std.specs.List.{All}
+use Rattle.std.proofs.Common.{◌≡◌, ◌⊎◌, inl, inr, ⊎_elim, ℕ, suc, zero, ◌+◌, ◌<◌, ◌≤◌, List, [], ◌∷◌, length, slice_index_or, Option, None, Some, IsSome, IsSomeAnd, refl, sym, subst, arith}
+use Rattle.std.specs.List.{All, Any}
 use Rattle.std.proofs.lemmas.Bool.{cases_eq, cases_lt, false≢true}
 use Rattle.std.specs.List.{AllByRecursion as ByRecursion, slice_index}
 use Rattle.std.proofs.lemmas.List.Elements.{All-from_recursion, recursion_from_All}
@@ -75,6 +75,23 @@ by_recursion P each (x ∷ xs) = decided_and (each x) (by_recursion P each xs)
 
 pub decided_all : {X : Type 0} (P : X → Type 0) → ((x : X) → Decided (P x)) → (xs : List X) → Decided (All P xs)
 decided_all P each xs = decided_as (by_recursion P each xs) (All-from_recursion P xs) (recursion_from_All P xs)
+
+-- of one element at least
+no_more : {X : Type 0} (P : X → Type 0) (x : X) (xs : List X) → ¬ P x → ¬ Any P xs → Any P (x ∷ xs) → ⊥
+no_more {X} P x xs first rest any = at any.0 any.1 any.2 any.3 any.4
+  where
+    at : (k : ℕ) (d : X) → k < length (x ∷ xs) → slice_index_or (x ∷ xs) k d ≡ d → P d → ⊥
+    at zero d low read holds = first (subst P (sym read) holds)
+    at (suc k) d low read holds = rest (k, d, omega arith, read, holds)
+
+pub decided_any : {X : Type 0} (P : X → Type 0) → ((x : X) → Decided (P x)) → (xs : List X) → Decided (Any P xs)
+decided_any {X} P each [] = inr (λ any. let low = any.2 in absurd (omega arith))
+decided_any {X} P each (x ∷ xs) = go (each x) (decided_any P each xs)
+  where
+    go : Decided (P x) → Decided (Any P xs) → Decided (Any P (x ∷ xs))
+    go (inl here) rest = inl (zero, x, omega arith, refl, here)
+    go (inr not_here) (inl rest) = let low = rest.2 in inl (suc rest.0, rest.1, omega arith, rest.3, rest.4)
+    go (inr not_here) (inr not_there) = inr (no_more P x xs not_here not_there)
 
 -- of each number below a bound
 pub decided_below : (P : ℕ → Type 0) → ((k : ℕ) → Decided (P k)) → (n : ℕ) → Decided ((k : ℕ) → k < n → P k)

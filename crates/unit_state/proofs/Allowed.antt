@@ -1,6 +1,6 @@
 -- What books refuse does not depend on the highest numbers of associations.
 use Rattle.std.proofs.Common.{◌≡◌, ℕ, not, nat_le, nat_eq, List, [], ◌∷◌, length, map, Option, Some, None, is_some, IsSome, IsSomeAnd, sym, refl, ap, ◌∙◌, subst}
-use Rattle.std.specs.List.{list_any, cons_option}
+use Rattle.std.specs.List.{Any, list_any, cons_option}
 use Rattle.std.specs.Option.{option_map}
 use Rattle.std.proofs.lemmas.List.{length-map}
 use Rattle.std.proofs.lemmas.Option.{same_Some}
@@ -28,7 +28,7 @@ use Rattle.sa_book.specs.SaRefusal.{on_row, first_unknown, create_refusal, unles
 use Rattle.sdls_base.specs.Suite.{class_of_suite}
 use Rattle.unit_state.specs.declared.state.State.{State}
 use Rattle.unit_state.specs.State.{key_row}
-use Rattle.unit_state.specs.Allows.{Allows, state_refusal, AllowsRekey, AllowsNumber}
+use Rattle.unit_state.specs.Allows.{Allows, IsActiveMaster, state_refusal, AllowsRekey, AllowsNumber}
 use Rattle.unit_state.specs.Taking.{least_with}
 use Rattle.unit_state.specs.Restart.{restarted_row, AreAlike, IsStorable, still_association}
 
@@ -184,6 +184,7 @@ allowed_still one other (Marks key mark floor) storable keys channels rows allow
   below_end = allowed.below_end;
 }
 allowed_still one other (Load items) storable keys channels rows allowed = record {
+  master = subst (λ ks. Any IsActiveMaster ks) keys allowed.master;
   count = allowed.count;
   each = allowed.each;
   book = ap (λ ks. load_refusal ks items) (sym keys) ∙ allowed.book;

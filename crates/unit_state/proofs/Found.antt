@@ -1,6 +1,6 @@
 -- What a search finds.
-use Rattle.std.proofs.Common.{◌≡◌, ℕ, zero, suc, ◌<◌, Bool, true, false, cond, List, [], ◌∷◌, Option, Some, refl, subst, arith}
-use Rattle.std.specs.List.{find, All}
+use Rattle.std.proofs.Common.{◌≡◌, ℕ, zero, suc, ◌<◌, Bool, true, false, cond, List, [], ◌∷◌, Option, Some, refl, sym, subst, arith}
+use Rattle.std.specs.List.{find, All, Any}
 use Rattle.std.proofs.lemmas.Option.{same_Some}
 use Rattle.sdls_base.specs.KeyId.{end_of}
 use Rattle.key_book.specs.declared.key_row.KeyRow.{KeyRow}
@@ -26,6 +26,18 @@ passes_by p false y x o here there e = there e
 pub found_passes : {X : Type 0} (p : X → Bool) (xs : List X) (x : X) → find p xs ≡ Some x → p x ≡ true
 found_passes p [] x e = absurd (cc)
 found_passes p (y ∷ ys) x e = passes_by p (p y) y x (find p ys) refl (λ e. found_passes p ys x e) e
+
+there_by : {X : Type 0} (P : X → Type 0) (b : Bool) (y x : X) (ys : List X) (o : Option X) → P x → (o ≡ Some x → Any P ys) → cond b (Some y) o ≡ Some x → Any P (y ∷ ys)
+there_by P true y x ys o holds there e = (zero, y, omega arith, refl, subst P (sym (same_Some y x e)) holds)
+there_by P false y x ys o holds there e =
+    let any = there e in
+    let within = any.2 in
+    (suc any.0, any.1, omega arith, any.3, any.4)
+
+-- and it is one of them
+pub found_there : {X : Type 0} (P : X → Type 0) (p : X → Bool) (xs : List X) (x : X) → find p xs ≡ Some x → P x → Any P xs
+found_there P p [] x e holds = absurd (cc)
+found_there P p (y ∷ ys) x e holds = there_by P (p y) y x ys (find p ys) holds (λ e. found_there P p ys x e holds) e
 
 -- the rules of a key that is held
 pub held_rules : (state : State) (key : ℕ) (held : KeyRow) → KeepsRules state → key_row state key ≡ Some held → IsKeyRow held

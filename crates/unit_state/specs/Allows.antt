@@ -1,5 +1,6 @@
 -- The changes that a state allows: those that a command, a frame or a reserve may make there (profile).
 use Rattle.std.specs.Prelude.{◌≡◌, ◌≢◌, ⊤, ℕ, ◌+◌, ◌<◌, ◌≤◌, List, length, Option, Some, None, IsSome, IsSomeAnd, All}
+use Rattle.std.specs.List.{Any}
 use Rattle.sdls_base.specs.Bounds.{AreChannels, IsKeyCount, IsKeyLength, IsWidth}
 use Rattle.sdls_base.specs.KeyId.{class_of, end_of}
 use Rattle.sdls_base.specs.declared.key_id.KeyClass.TheVariants.{Master}
@@ -11,6 +12,7 @@ use Rattle.sdls_base.specs.declared.change.NewSa.{NewSa}
 use Rattle.sdls_base.specs.declared.states.Direction.{Direction}
 use Rattle.sdls_base.specs.declared.states.Direction.TheVariants.{Send, Receive}
 use Rattle.sdls_base.specs.declared.states.KeyState.{KeyState}
+use Rattle.sdls_base.specs.declared.states.KeyState.TheVariants.{Active}
 use Rattle.sdls_base.specs.declared.states.SaState.{SaState}
 use Rattle.sdls_base.specs.declared.states.SaState.TheVariants.{Unkeyed, Keyed, Operational}
 use Rattle.key_book.specs.declared.key_row.KeyRow.{KeyRow}
@@ -38,8 +40,14 @@ pub record IsSessionKey (item : KeyItem) : Type 0 where
   pub class : class_of item.id ≢ Master
   pub length : IsKeyLength (length item.bytes)
 
--- one to eight session keys that the key book takes
+-- a key under which others may come
+pub record IsActiveMaster (row : KeyRow) : Type 0 where
+  pub class : class_of row.id ≡ Master
+  pub state : row.state ≡ Active
+
+-- one to eight session keys that the key book takes, while a master key is active
 pub record AllowsLoad (state : State) (items : List KeyItem) : Type 0 where
+  pub master : Any IsActiveMaster state.keys
   pub count : IsKeyCount (length items)
   pub each : All IsSessionKey items
   pub book : load_refusal state.keys items ≡ None

@@ -1,7 +1,7 @@
 //! Whether a state allows a change. Nothing here takes memory.
 
 ghost use Rattle.std.specs.Prelude.{◌≡◌, ◌↔◌, ◌<◌, ◌≤◌, true, [], Some, None, IfSome, All};
-ghost use Rattle.std.specs.List.{list_any};
+ghost use Rattle.std.specs.List.{Any, list_any};
 ghost use Rattle.std.specs.Option.{option_map};
 ghost use Rattle.sdls_base.specs.Bounds.{AreChannels, IsKeyCount, IsWidth};
 ghost use Rattle.key_book.specs.KeyRow.{IsKeyRow};
@@ -11,8 +11,9 @@ ghost use Rattle.sa_book.specs.SaBook.{in_use};
 ghost use Rattle.sa_book.specs.SaRefusal.{is_key};
 ghost use Rattle.sa_book.specs.SaRow.{MayAccept};
 ghost use Rattle.unit_state.specs.State.{key_row};
-ghost use Rattle.unit_state.specs.Allows.{Allows, IsSessionKey, AllowsMarks, AllowsLoad, AllowsStates, AllowsCreate};
-ghost use Rattle.unit_state.specs.Allows.{AllowsRekey, AllowsNumber, AllowsWindow, AllowsAccepted, state_refusal};
+ghost use Rattle.unit_state.specs.Allows.{Allows, IsSessionKey, IsActiveMaster, AllowsMarks, AllowsLoad};
+ghost use Rattle.unit_state.specs.Allows.{AllowsStates, AllowsCreate, AllowsRekey, AllowsNumber, AllowsWindow};
+ghost use Rattle.unit_state.specs.Allows.{AllowsAccepted, state_refusal};
 
 use crate::state::State;
 use crate::taking::least_with;
@@ -46,6 +47,23 @@ fn are_session_keys(items: &[KeyItem]) -> bool
         }
     }
     true
+}
+
+fn is_active_master(row: &KeyRow) -> bool
+    ensures { (result ≡ true) ↔ IsActiveMaster row.now }
+{
+    row.id.class() == KeyClass::Master && row.state == KeyState::Active
+}
+
+fn has_active_master(rows: &[KeyRow]) -> bool
+    ensures { (result ≡ true) ↔ Any IsActiveMaster rows.now }
+{
+    for row in rows {
+        if is_active_master(row) {
+            return true;
+        }
+    }
+    false
 }
 
 fn are_channels(channels: &[u8]) -> bool
@@ -172,7 +190,10 @@ impl State {
         ensures { (result ≡ true) ↔ AllowsLoad self.now items.now }
     {
         let items = items.as_slice();
-        is_count(items.len()) && are_session_keys(items) && self.keys.load_refusal(items).is_none()
+        has_active_master(self.keys.rows())
+            && is_count(items.len())
+            && are_session_keys(items)
+            && self.keys.load_refusal(items).is_none()
     }
 
     fn allows_rekey(&self, spi: Spi, key: KeyId, number: u64) -> bool
