@@ -5,7 +5,7 @@ use crate::procedure::Procedure;
 use sdls_base::{KeyId, KeyList, NewSa, Octets, Spi};
 
 /// A command of a procedure of the key and association management (CCSDS 355.1-B-1). The bounds are profile.
-#[derive(Debug, PartialEq, Eq, Drop)]
+#[derive(Debug, Drop)]
 pub enum Command {
     /// Loads the keys that are sealed under a master key, by GCM: 19 to 280 octets.
     Rekeying {

@@ -6,7 +6,7 @@ use sdls_base::{Direction, KeyId, KeyRows, Octets, SaState, Spi, Suite};
 
 /// The reply of a procedure (CCSDS 355.1-B-1). One that carries nothing says that the command was done.
 /// The bounds are profile.
-#[derive(Debug, PartialEq, Eq, Drop)]
+#[derive(Debug, Drop)]
 pub enum ReplyPdu {
     Rekeying,
     Activate,

@@ -4,57 +4,55 @@ ghost use Rattle.ep_core.specs.Refusal.{code_of, value_of, of_keys, of_associati
 use key_book::KeyRefusal;
 use sa_book::SaRefusal;
 use sdls_base::{ChannelId, KeyId, KeyState, MOST_ASSOCIATIONS, MOST_KEYS, SaState, Spi};
-use thiserror::Error;
 
 /// Why a command is refused, with what decided.
-#[derive(Clone, Copy, Debug, PartialEq, Eq, Error)]
+#[derive(Clone, Copy, Debug)]
 pub enum Refusal {
-    #[error("key {} was loaded before", .0.get())]
+    /// This key was loaded before.
     AlreadyLoaded(KeyId),
-    #[error("key has the octets of key {}", .0.get())]
+    /// The octets are those of this key.
     DuplicateKey(KeyId),
-    #[error("keys do not fit into the book")]
+    /// The keys do not fit into the book.
     BookFull,
-    #[error("key is in state {0:?}, in which the command does not take it")]
+    /// The key is in this state, in which the command does not take it.
     KeyInState(KeyState),
-    #[error("key is held by association {}", .0.get())]
+    /// The key is held by this association.
     KeyInUse(Spi),
-    #[error("key {} is unknown", .0.get())]
+    /// This key is unknown.
     UnknownKey(KeyId),
-    #[error("association {} is unknown", .0.get())]
+    /// This association is unknown.
     UnknownSpi(Spi),
-    #[error("association {} is there already", .0.get())]
+    /// This association is there already.
     SpiTaken(Spi),
-    #[error("association is in state {0:?}, in which the command does not take it")]
+    /// The association is in this state, in which the command does not take it.
     SaInState(SaState),
-    #[error("channel is covered by association {}", .0.get())]
+    /// A channel is covered by this association.
     ChannelTaken(Spi),
-    #[error("key is in state {0:?}, and is to be active")]
+    /// The key is in this state, and is to be active.
     KeyNotActive(KeyState),
-    #[error("number is below {0}, the least that is lawful")]
+    /// The number is below this one, the least that is lawful.
     BelowFloor(u64),
-    #[error("unit has no room for a further association")]
+    /// The unit has no room for a further association.
     TableFull,
-    #[error("key {} is of another class than the suite", .0.get())]
+    /// This key is of another class than the suite.
     WrongSuite(KeyId),
-    #[error("number is not below {0}, the end of the key")]
+    /// The number is not below this one, the end of the key.
     PastEnd(u64),
-    #[error("channel {} is unknown", .0.get())]
+    /// This channel is unknown.
     UnknownChannel(ChannelId),
-    #[error("key is held by receiving association {}", .0.get())]
+    /// The key is held by this receiving association.
     KeyTaken(Spi),
-    #[error("tag of the sealed keys is wrong")]
+    /// The tag of the sealed keys is wrong.
     BadTag,
-    #[error("sealed keys cannot be read at octet {0}")]
+    /// The sealed keys cannot be read from this octet on.
     BadItems(u32),
-    #[error("number {0} is at or above the end of the key")]
+    /// This number is at or above the end of the key.
     Exhausted(u64),
     /// The octets are no message of a command; the offset of their first fault. It comes before all others.
-    #[error("message has a fault at octet {0}")]
     PduFault(u32),
-    #[error("key {} is no master key", .0.get())]
+    /// This key is no master key.
     NotMaster(KeyId),
-    #[error("key {} is no session key", .0.get())]
+    /// This key is no session key.
     NotSession(KeyId),
 }
 
