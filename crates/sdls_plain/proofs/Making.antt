@@ -88,7 +88,7 @@ ends_of_input left_old left_new buffer count false site_told unread source_rose 
 ends_of_input left_old left_new buffer count source_told site_told unread source_rose site_rose old new SourceFault sized collects ends =
     absurd ends.0
 ends_of_input left_old left_new buffer count source_told site_told unread source_rose site_rose old new SiteFault sized collects ends = elim ends.1 [
-  | inl never ↦ absurd never
+  | inl never ↦ absurd never.0
   | inr made ↦
       let read : plan_of (take count buffer) ≡ Ok made.1 = subst (λ (text : List ℕ). plan_of text ≡ Ok made.1) made.3 made.4.read in (
         ends.0,

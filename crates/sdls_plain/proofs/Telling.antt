@@ -8,7 +8,9 @@ use Rattle.sdls_outside.specs.Site.{Sank}
 use Rattle.sdls_outside.proofs.Moments.{each_then, each_weaker, moment_now}
 use Rattle.sdls_base.specs.declared.entry.Logged.{Logged}
 use Rattle.sdls_base.specs.declared.entry.Logged.TheVariants as logged
+use Rattle.disk_journal.specs.Changes.{OnlySyncs}
 use Rattle.disk_journal.specs.Image.{held, records}
+use Rattle.disk_journal.proofs.Moments.{only_syncs_moments}
 use Rattle.unit_plan.specs.Plan.{plan_of}
 use Rattle.status_text.specs.Text.{status_text}
 use Rattle.unit_image.specs.declared.fault.OpenFault.{OpenFault}
@@ -23,7 +25,7 @@ use Rattle.sdls_plain.specs.declared.stat.StatEnd.{StatEnd}
 use Rattle.sdls_plain.specs.declared.stat.StatEnd.TheVariants.{Told, SiteFault, NoMemory, NoState}
 use Rattle.sdls_outside.specs.Output.{OnlySinks, SinksFront}
 use Rattle.record_io.specs.Outcome.{Ends}
-use Rattle.sdls_plain.specs.Stat.{PutsText, ShowsAlone, StatMoment, StatDue, TellsBook, end_of_open, fault_text}
+use Rattle.sdls_plain.specs.Stat.{IsLeft, PutsText, ShowsAlone, StatMoment, StatDue, TellsBook, end_of_open, fault_text}
 use Rattle.sdls_plain.proofs.Sinking.{sinks_leave}
 
 -- a book whose log is one piece serves the state at its start alone
@@ -153,3 +155,39 @@ refused_moments told text due status entry mid new rose opening ends is =
     (each_weaker mid new (λ image sunk. Leaves mid.now image) (λ image sunk. StatMoment entry image)
     (λ image sunk leaves. opening_moment entry image mid.now.sunk (opening.each image mid.now.sunk (moment_now mid (clock entry) image leaves)))
     (sinks_leave mid new (ends_sink told text due status mid new rose ends is)))
+
+same_image : (old new : Trace) → OnlySyncs old new → new.now.image ≡ old.now.image
+same_image old new (inl same) = ap (λ (t : Trace). t.now.image) same
+same_image old new (inr synced) = synced.image
+
+-- an image that was refused is left
+pub refused_left : (told : Bool) (text : List ℕ) (due status : ℕ) (entry mid new : Trace) (rose : Type 0)
+    → OnlySyncs entry mid → Leaves entry.now entry.now.image → Ends told mid new rose text due status → IsTrue told → IsLeft entry new
+refused_left told text due status entry mid new rose only stays ends is =
+    let each = only_syncs_moments entry mid only stays in
+    let sinks = ends_sink told text due status mid new rose ends is in (
+      sinks.stands.image ∙ same_image entry mid only,
+      each_then entry mid new (λ image sunk. Leaves entry.now image)
+          (each_weaker entry mid (λ image sunk. Leaves entry.now image × (sunk ≡ entry.now.sunk)) (λ image sunk. Leaves entry.now image)
+          (λ image sunk both. both.0) each.moments)
+          (each_weaker mid new (λ image sunk. Leaves mid.now image) (λ image sunk. Leaves entry.now image)
+          (λ image sunk leaves. (each.moments.each image mid.now.sunk (moment_now mid (clock entry) image leaves)).0)
+          (sinks_leave mid new sinks)),
+    )
+
+-- what refuses an image refuses it, and nothing else does
+pub image_refused : (before mid : ℕ) (None : ℕ → Type 0) (fault : OpenFault) (offset : ℕ) → end_of_open fault ≡ NoState offset
+    → IsOpenCause before mid None fault → None offset
+image_refused before mid None (faults.SiteFault count) offset is cause = absurd cc
+image_refused before mid None (faults.Image at) offset is cause = subst None (inside at offset is) cause
+  where
+    inside : (a b : ℕ) → NoState a ≡ NoState b → a ≡ b
+    inside a b same = cc
+image_refused before mid None faults.NoMemory offset is cause = absurd cc
+
+-- a book that was opened was not refused
+pub not_refused : {O : Type 0} (book : BookView O) (text : List ℕ) (end : StatEnd) (offset : ℕ) → end ≡ NoState offset → TellsBook book text end → ⊥
+not_refused book text Told offset is tells = absurd cc
+not_refused book text SiteFault offset is tells = tells
+not_refused book text NoMemory offset is tells = absurd cc
+not_refused book text (NoState at) offset is tells = tells

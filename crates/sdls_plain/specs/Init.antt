@@ -67,8 +67,8 @@ init_status SiteFault = statuses.SITE_FAULT
 init_status NoMemory = statuses.NO_MEMORY
 
 -- Why `init` ends so, and what stands before the text is put: the initial image of the plan, on the disk, or all as it
--- was. After a fault of the site anything may stand. Nothing is taken of the source (`unread`) where an image exists;
--- of a fault of the site too, unless there is no image and the input is a plan. Want of memory needs no cause.
+-- was. After a fault of the site anything may stand if there was no image and the input is a plan; else all is as it
+-- was, and nothing was taken of the source (`unread`), as if an image exists. Out of memory needs no cause.
 abbrev pub InitEnds : (List ℕ → Type 0) → Type 0 → Type 0 → Bool → Type 0 → Trace → Trace → InitEnd → Type 0
 InitEnds IsInput unread source_rose told site_rose old new Made = (input : List ℕ) × (plan : PlanLines)
     × (first : State)
@@ -80,7 +80,8 @@ InitEnds IsInput unread source_rose told site_rose old new (Refused fault) = (in
     × IsInput input × IsPlanFault input fault × (IsTrue told → ((old.now.image ≡ []) × (new ≡ old)))
 InitEnds IsInput unread source_rose told site_rose old new SourceFault =
     source_rose × (IsTrue told → ((old.now.image ≡ []) × (new ≡ old)))
-InitEnds IsInput unread source_rose told site_rose old new SiteFault = site_rose × (unread ⊎ ((input : List ℕ)
+InitEnds IsInput unread source_rose told site_rose old new SiteFault = site_rose
+    × ((unread × (IsTrue told → new ≡ old)) ⊎ ((input : List ℕ)
     × (plan : PlanLines) × (first : State) × IsInput input × SaysPlan input plan first
     × (IsTrue told → old.now.image ≡ [])))
 InitEnds IsInput unread source_rose told site_rose old new NoMemory = IsTrue told → ((old.now.image ≡ []) × (new ≡ old))

@@ -81,11 +81,16 @@ TellsBook book text SiteFault = ⊥
 TellsBook book text NoMemory = text ≡ line (codes "no memory")
 TellsBook book text (NoState offset) = ⊥
 
--- How `stat` ends: with the text and the status that are due, or a front of the text where a put failed; and what its
--- moments leave.
+-- the image stands as it was, and a crash leaves at each moment what it may leave at the entry
+abbrev pub IsLeft : Trace → Trace → Type 0
+IsLeft old new = (new.now.image ≡ old.now.image) × EachMoment old new (λ image sunk. Leaves old.now image)
+
+-- How `stat` ends: with the text and the status that are due, or a front of the text if a put failed; and what its
+-- moments leave. An image that shows no state is left as it was.
 pub record EndsStat (told : Bool) (old new : Trace) (site_rose : Type 0) (status : ℕ) : Type 0 where
   pub end : StatEnd
   pub text : List ℕ
   pub due : StatDue told site_rose old.now.image text end
   pub put : PutsText told text (stat_status end) status old new site_rose
   pub moments : IsTrue told → EachMoment old new (λ image sunk. StatMoment old image)
+  pub refused : (offset : ℕ) → end ≡ NoState offset → IsTrue told → IsLeft old new

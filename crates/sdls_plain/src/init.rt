@@ -1,9 +1,9 @@
-ghost use Rattle.std.specs.Prelude.{◌≡◌, ◌+◌, ◌≤◌, [], length, vec_len, decimal, IsTrue, IfOk};
+ghost use Rattle.std.specs.Prelude.{◌≡◌, ◌≢◌, ◌+◌, ◌≤◌, [], length, vec_len, decimal, IsTrue, IfOk};
 ghost use Rattle.sdls_outside.specs.Faults.{HasCause, Rose};
 ghost use Rattle.sdls_plain.specs.Init.{EndsInit, InitEnds, JudgesPlan, cause_text, cause_word, init_status, init_text};
 ghost use Rattle.sdls_plain.specs.Init.{plan_fault_text};
 ghost use Rattle.sdls_outside.specs.Intake.{TakesAtMost};
-ghost use Rattle.sdls_outside.specs.Output.{Delivers};
+ghost use Rattle.sdls_outside.specs.Output.{Delivers, OnlySinks};
 
 use crate::output::put_text;
 use crate::status::{DONE, MALFORMED, NO_MEMORY, NO_STATE, SITE_FAULT, SOURCE_FAULT};
@@ -123,6 +123,7 @@ fn initialize<S: Source, O: Site>(alloc: Global, source: &mut S, site: &mut O) -
     ensures ends { InitEnds (λ input. IsTrue S.told → input ≡ S.left source.old) (source.new ≡ source.old)
         (Rose (S.faults source.old) (S.faults source.new)) O.told (Rose (O.faults site.old) (O.faults site.new))
         (O.trace site.old) (O.trace site.new) result }
+    ensures untouched { IsTrue O.told → (O.trace site.old).now.image ≢ [] → O.trace site.new ≡ O.trace site.old }
     ensures taken { IsTrue S.told → TakesAtMost (MOST_OCTETS + 1) (S.left source.old) (S.left source.new) }
     ensures later { O.faults site.old ≤ O.faults site.new }
 {
@@ -204,6 +205,7 @@ pub(crate) fn run_init<S: Source, O: Site>(alloc: Global, source: &mut S, mut si
     ensures ends { EndsInit (λ input. IsTrue S.told → input ≡ S.left source.old) (source.new ≡ source.old)
         (Rose (S.faults source.old) (S.faults source.new)) O.told (O.trace site) (O.trace result.site)
         (Rose (O.faults site) (O.faults result.site)) result.status }
+    ensures untouched { IsTrue O.told → (O.trace site).now.image ≢ [] → OnlySinks (O.trace site) (O.trace result.site) }
     ensures taken { IsTrue S.told → TakesAtMost (MOST_OCTETS + 1) (S.left source.old) (S.left source.new) }
     ensures no_history { result.entries.items ≡ [] }
 {

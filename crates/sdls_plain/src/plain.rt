@@ -1,7 +1,8 @@
 //! The words that need no threads.
-ghost use Rattle.std.specs.Prelude.{◌≡◌, ℕ, ◌+◌, List, [], IsTrue};
+ghost use Rattle.std.specs.Prelude.{◌≡◌, ◌≢◌, ℕ, ◌+◌, List, [], IsTrue};
 ghost use Rattle.sdls_outside.specs.Faults.{Rose};
 ghost use Rattle.sdls_outside.specs.Intake.{TakesAtMost};
+ghost use Rattle.sdls_outside.specs.Output.{OnlySinks};
 ghost use Rattle.sdls_plain.specs.Answer.{EndsCheck, usage_text};
 ghost use Rattle.record_io.specs.Outcome.{Ends};
 ghost use Rattle.sdls_plain.specs.Init.{EndsInit};
@@ -98,6 +99,8 @@ pub fn run_plain<S: Source, O: Site>(
         (λ input. IsTrue S.told → input ≡ S.left source.old) (source.new ≡ source.old)
         (Rose (S.faults source.old) (S.faults source.new))
         O.told (O.trace site) (O.trace result.site) (Rose (O.faults site) (O.faults result.site)) result.status }
+    ensures init_leaves { IsInit words.now → IsTrue O.told → (O.trace site).now.image ≢ []
+        → OnlySinks (O.trace site) (O.trace result.site) }
 
     ensures stat { IsStat words.now
         → EndsStat O.told (O.trace site) (O.trace result.site) (Rose (O.faults site) (O.faults result.site))

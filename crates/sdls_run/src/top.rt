@@ -1,5 +1,6 @@
-ghost use Rattle.std.specs.Prelude.{◌≡◌, ℕ, List, [], IsTrue};
+ghost use Rattle.std.specs.Prelude.{◌≡◌, ◌≢◌, ℕ, List, [], IsTrue};
 ghost use Rattle.sdls_outside.specs.Faults.{Rose};
+ghost use Rattle.sdls_outside.specs.Output.{OnlySinks};
 ghost use Rattle.record_io.specs.Reading.{SourceSeen};
 ghost use Rattle.unit_plan.specs.PlanLines.{PlanLines};
 ghost use Rattle.unit_state.specs.declared.state.State.{State};
@@ -62,6 +63,9 @@ pub fn run<R: Threads + Wait + Sync, S: Source, O: Site + Send, G: Gate + Sync>(
         (λ input. IsTrue S.told → input ≡ S.left source.old) (source.new ≡ source.old)
         (Rose (S.faults source.old) (S.faults source.new))
         O.told (O.trace site) (O.trace result.site) (Rose (O.faults site) (O.faults result.site)) result.status }
+    // To an image that stands nothing is done, whatever the end.
+    ensures init_leaves { IsInit words.now → IsTrue O.told → (O.trace site).now.image ≢ []
+        → OnlySinks (O.trace site) (O.trace result.site) }
 
     ensures stat { IsStat words.now
         → EndsStat O.told (O.trace site) (O.trace result.site) (Rose (O.faults site) (O.faults result.site))

@@ -4,7 +4,7 @@ use Rattle.unit_image.specs.Shows.{Shows, ShowsNone}
 use Rattle.unit_book.specs.Book.{BookView}
 use Rattle.disk_journal.specs.Changes.{OnlySyncs}
 use Rattle.sdls_plain.specs.Stat.{end_of_open, fault_text, stat_status}
-use Rattle.sdls_plain.proofs.Telling.{all_moments, ends_put, fault_due, puts_from, refused_moments, sunk_same, told_due}
+use Rattle.sdls_plain.proofs.Telling.{all_moments, ends_put, fault_due, image_refused, not_refused, puts_from, refused_left, refused_moments, sunk_same, told_due}
 use Rattle.sdls_plain.proofs.stat.run_stat.Goals as goal
 
 pub returns-in-Ok-clause-ends : goal.returns-in-Ok-clause-ends
@@ -24,6 +24,7 @@ returns-in-Ok-clause-ends g c =
           (λ is. sunk_same (g.O.Site.trace site) (g.O.Site.trace book.site) (g.met.O.Site.image_may_stay book.site is) (c.in-Ok.ensures.any_moment is)) told.3;
       moments = λ is. all_moments (g.O.Site.trace site) (g.O.Site.trace book.site) (g.O.Site.trace last) book.start (c.in-Ok.ensures.shows is).0
           (c.in-Ok.ensures.any_moment is) (c.tell_state.ensures.moments is);
+      refused = λ offset ends is. absurd (not_refused book told.1 told.0 offset ends told.2);
     }
 
 pub returns-in-Err-clause-ends : goal.returns-in-Err-clause-ends
@@ -45,4 +46,10 @@ returns-in-Err-clause-ends g c =
       moments = λ is. refused_moments g.O.Site.told (fault_text (end_of_open fault)) (stat_status (end_of_open fault)) c.tell_fault.result.status
           (g.O.Site.trace site) (g.O.Site.trace mid) (g.O.Site.trace last) (Rose (g.O.Site.faults mid) (g.O.Site.faults last))
           (c.in-Err.ensures.any_moment is) c.tell_fault.ensures.ends is;
+      refused = λ offset ends is. refused_left g.O.Site.told (fault_text (end_of_open fault)) (stat_status (end_of_open fault)) c.tell_fault.result.status
+          (g.O.Site.trace site) (g.O.Site.trace mid) (g.O.Site.trace last) (Rose (g.O.Site.faults mid) (g.O.Site.faults last))
+          (image_refused (g.O.Site.faults site) (g.O.Site.faults mid)
+          (λ offset. IsTrue g.O.Site.told → ShowsNone (g.O.Site.trace site).now.image offset × OnlySyncs (g.O.Site.trace site) (g.O.Site.trace mid)) fault offset ends
+          c.in-Err.ensures.refused is).1
+          (g.met.O.Site.image_may_stay site is) c.tell_fault.ensures.ends is;
     }
