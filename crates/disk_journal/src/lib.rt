@@ -4,14 +4,13 @@
 //! An image has a header, a plan's text and slots. A slot is a gate octet and a body; the records are
 //! the bodies of the slots before the first closed one. [`create`] writes an image without records,
 //! [`Journal::open`] checks one and writes nothing, [`Journal::settle`] makes it ready to grow, and
-//! [`Journal::append`] adds a record. [`image_of`] is the image without records in memory. No other call takes memory.
+//! [`Journal::append`] adds a record. No call takes memory.
 #![tactic(auto)]
 
 mod creating;
 mod fault;
 mod gates;
 mod header;
-mod initial;
 mod journal;
 mod laws;
 mod layout;
@@ -20,7 +19,6 @@ mod storing;
 
 pub use creating::create;
 pub use fault::JournalFault;
-pub use initial::image_of;
 pub use journal::Journal;
 pub use laws::{initial_image_opens, opening_stays, regated_image_opens, slots_keep_plan};
 pub use layout::{

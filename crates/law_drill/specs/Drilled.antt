@@ -27,13 +27,14 @@ use Rattle.law_drill.specs.Plans.{receiver_plan, sender_plan, slots}
 -- ---- the units
 
 -- A unit was opened on the image of this plan, without records; its one worker, with all shares, has this view and did
--- nothing yet: each word `next` is its key's mark.
+-- nothing yet: it spent no number, and each word `next` is its key's mark.
 pub record UnitIsOpened (plan : List ℕ) (begin : Begin) (v : View) : Type 0 where
   pub began : BeganWith true begin v.turn.known.opening
   pub image : v.turn.known.opening.image ≡ initial_image plan slots
   pub says : plan_of (held (initial_image plan slots)).plan ≡ Ok begin.plan
   pub shows : Shows (initial_image plan slots) begin.start
   pub whole : IsWhole MOST_KEYS v
+  pub unspent : v.numbers.spent ≡ []
   pub opened : runs.IsJustOpened begin v
 
 -- the answer says that the site of its unit has failed, or that memory was wanting

@@ -54,6 +54,7 @@ module _ {O B : Type 0} (trace : O → Trace) (faults puts : O → ℕ) (site : 
         says = subst (λ (i : List ℕ). plan_of (held i).plan ≡ Ok book.plan) image_is (opened.plan refl);
         shows = subst (λ (i : List ℕ). Shows i book.start) image_is (opened.shows refl).0;
         whole = begins.whole;
+        unspent = begins.spent;
         opened = record {
           none_drawn = begins.drawn;
           none_made = begins.made;

@@ -5,9 +5,9 @@ ghost use Rattle.sdls_outside.specs.Crash.{fresh};
 ghost use Rattle.sdls_outside.specs.MemSite.{site_trace};
 ghost use Rattle.law_drill.specs.Plans.{receiver_plan, sender_plan};
 
-use disk_journal::{PLAN_ROOM, image_of};
+use disk_journal::{PLAN_ROOM, create};
 use sdls_base::NoMemory;
-use sdls_outside::MemSite;
+use sdls_outside::{Crash, MemSite};
 use std::alloc::Global;
 
 /// The slots of both images.
@@ -71,11 +71,12 @@ pub(crate) fn receiver_plan() -> &'static [u8]
     RECEIVER
 }
 
-/// A site in memory that holds the image of a plan.
+/// A site in memory that holds the image of a plan, all of it synced. Whatever refuses it is out of memory.
 pub(crate) fn site_of(alloc: Global, plan: &[u8]) -> Result<MemSite, NoMemory>
     requires { length plan.now ≤ PLAN_ROOM }
     ensures { IfOk result (λ site. site_trace site ≡ fresh (initial_image plan.now SLOTS)) }
 {
-    let image = image_of(alloc, plan, SLOTS)?;
-    Ok(MemSite::new(alloc, image, Vec::new(alloc), None))
+    let mut site = MemSite::new(alloc, Vec::new(alloc), Vec::new(alloc), None);
+    create(&mut site, plan, SLOTS).map_err(|_| NoMemory)?;
+    Ok(site.crashed(Crash::Kept))
 }
