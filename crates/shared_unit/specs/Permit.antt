@@ -77,6 +77,14 @@ pub record IsProtectedUnder (permit : Permit) (clear out : List ℕ) (done : Don
   pub below : done.number < end_of permit.binding.key
   pub frame : Protects permit.binding done.number clear (take done.length out)
 
+-- unless a frame was protected, the caller's room is as it was
+abbrev pub LeavesUnready : Ready → List ℕ → List ℕ → Type 0
+LeavesUnready (readies.Done done) old new = ⊤
+LeavesUnready (readies.Refused fault) old new = new ≡ old
+LeavesUnready (readies.Stale epoch) old new = new ≡ old
+LeavesUnready (readies.Exhausted number) old new = new ≡ old
+LeavesUnready (readies.NeedBlock ticket) old new = new ≡ old
+
 -- what `protect_ready` does, by its answer
 abbrev pub IsReadyStep : Permit → List ℕ → List ℕ → Ready → View → View → Type 0
 IsReadyStep p clear out (readies.Refused fault) v w = LacksLayout p.binding clear fault × (w.numbers ≡ v.numbers)

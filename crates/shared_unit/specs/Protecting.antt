@@ -63,6 +63,18 @@ IfEpoch (answers.Refused fault epoch) P = P epoch
 IfEpoch (answers.Exhausted key n epoch) P = P epoch
 IfEpoch (answers.Fault fault position) P = ⊤
 
+-- unless a frame was protected, the caller's room is as it was
+abbrev pub LeavesUnprotected : Protected → List ℕ → List ℕ → Type 0
+LeavesUnprotected (answers.Done done) old new = ⊤
+LeavesUnprotected answers.Clear old new = new ≡ old
+LeavesUnprotected (answers.Refused fault epoch) old new = new ≡ old
+LeavesUnprotected (answers.Exhausted key number epoch) old new = new ≡ old
+LeavesUnprotected (answers.Fault fault position) old new = new ≡ old
+
+abbrev pub LeavesUnanswered : Option Protected → List ℕ → List ℕ → Type 0
+LeavesUnanswered None old new = new ≡ old
+LeavesUnanswered (Some answer) old new = LeavesUnprotected answer old new
+
 -- the turn was taken no more often than a ticket came back
 abbrev pub TakesByTicket : View → View → Type 0
 TakesByTicket v w = w.turn.turns + v.numbers.tickets ≤ v.turn.turns + w.numbers.tickets

@@ -1,5 +1,5 @@
 //! A number that was drawn at or above the limit: its block is reserved under the turn.
-ghost use Rattle.std.specs.Prelude.{◌≡◌, ◌<◌, ℕ, length, true, Some, None};
+ghost use Rattle.std.specs.Prelude.{◌≡◌, ◌<◌, ℕ, length, true, OnErr, Some, None};
 ghost use Rattle.sdls_base.specs.KeyId.{end_of};
 ghost use Rattle.sdls_base.specs.declared.TheConstants.{MOST_KEYS};
 ghost use Rattle.key_book.specs.KeyBook.{place_of};
@@ -80,6 +80,7 @@ impl<O: Site> Unit<O> {
         ensures same { IsSame worker.old worker.new }
         ensures step { IsFundStep O.told O.trace O.faults O.put_faults permit.now ticket.1 clear.now out.new result
             (view worker.old) (view worker.new) }
+        ensures leaves { OnErr result (out.new ≡ out.old) }
 
         // No number was spent by the worker that is not below its row's mark in the book that the call found.
         ensures covered { FindsCovered O.told O.trace O.faults O.put_faults (view worker.old) (view worker.new) }

@@ -8,7 +8,8 @@ ghost use Rattle.shared_unit.specs.declared.permit.Permit.{Permit};
 ghost use Rattle.shared_unit.specs.declared.permit.Done.{Done};
 ghost use Rattle.shared_unit.specs.Permit.{IsOfPermit, IsTrueFor};
 ghost use Rattle.shared_unit.specs.Protecting.{CoversIfTaken, FindsEpoch, IfEpoch, IsByKept, IsEpochOf, IsKeptStep};
-ghost use Rattle.shared_unit.specs.Protecting.{IsProtectStep, IsTrueIfKept, TakesAtMostOnce, TakesByTicket};
+ghost use Rattle.shared_unit.specs.Protecting.{IsProtectStep, IsTrueIfKept, LeavesUnanswered};
+ghost use Rattle.shared_unit.specs.Protecting.{LeavesUnprotected, TakesAtMostOnce, TakesByTicket};
 ghost use Rattle.shared_unit.specs.Turn.{FindsCovered, IsReady};
 
 use crate::permit::{Permit, PermitReply, Protected, Ready};
@@ -40,6 +41,7 @@ impl<O: Site> Unit<O> {
         ensures epoch { IfSome result (λ answer. IfEpoch answer (λ epoch. (view worker.new).turn.epoch ≡ epoch)) }
         ensures step { IsKeptStep O.told O.trace O.faults O.put_faults permit.now clear.now out.new result
             (view worker.old) (view worker.new) }
+        ensures leaves { LeavesUnanswered result out.old out.new }
     {
         match self.protect_ready(worker, permit, clear, out) {
             Ready::Done(done) => Some(Protected::Done(done)),
@@ -85,6 +87,7 @@ impl<O: Site> Unit<O> {
         ensures epoch { IfSome result (λ answer. IfEpoch answer (λ epoch. (view worker.new).turn.epoch ≡ epoch)) }
         ensures step { IsByKept O.told O.trace O.faults O.put_faults self.now.plan kept.now link clear.now out.new
             result (view worker.old) (view worker.new) }
+        ensures leaves { LeavesUnanswered result out.old out.new }
     {
         let Some(permit) = kept else {
             return None;
@@ -120,6 +123,7 @@ impl<O: Site> Unit<O> {
         ensures kept { IsTrueIfKept kept.new (view worker.new).turn }
         ensures step { IsProtectStep O.told O.trace O.faults O.put_faults self.now.plan link clear.now out.new kept.new
             result (view worker.old) (view worker.new) }
+        ensures leaves { LeavesUnprotected result out.old out.new }
         ensures epochs { IfEpoch result (FindsEpoch O.told O.trace O.faults O.put_faults (view worker.old).turn
             (view worker.new).turn) }
         ensures later { (d : Done) → result ≡ Protected.Done d → epoch_seen (view worker.old).turn ≤ d.epoch }
@@ -164,6 +168,7 @@ impl<O: Site> Unit<O> {
         ensures kept { IsTrueIfKept kept.new (view worker.new).turn }
         ensures step { IsProtectStep O.told O.trace O.faults O.put_faults self.now.plan link clear.now out.new kept.new
             result (view worker.old) (view worker.new) }
+        ensures leaves { LeavesUnprotected result out.old out.new }
 
         // No number was spent by the worker that is not below its row's mark in the book that the call found, if it
         // took the turn.

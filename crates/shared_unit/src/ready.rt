@@ -4,7 +4,7 @@ ghost use Rattle.frame_shield.specs.declared.protecting_frames.TheConstants.{FRA
 ghost use Rattle.sdls_base.specs.declared.TheConstants.{MOST_KEYS};
 ghost use Rattle.counter_table.specs.Worker.{view, IsOf, IsSame, KeepsTurn};
 ghost use Rattle.shared_unit.specs.Numbers.{IsDrawAnswer};
-ghost use Rattle.shared_unit.specs.Permit.{IsOfPermit, IsReadyStep, IsTrueFor};
+ghost use Rattle.shared_unit.specs.Permit.{IsOfPermit, IsReadyStep, IsTrueFor, LeavesUnready};
 ghost use Rattle.shared_unit.specs.Turn.{IsReady};
 
 use crate::permit::{Done, Permit, Ready};
@@ -56,6 +56,7 @@ impl<O: Site> Unit<O> {
         ensures ready { IsReady self.now.counters self.now.plan worker.new }
         ensures same { IsSame worker.old worker.new }
         ensures step { IsReadyStep permit.now clear.now out.new result (view worker.old) (view worker.new) }
+        ensures leaves { LeavesUnready result out.old out.new }
     {
         if let Err(fault) = fits(&permit.binding, clear) {
             return Ready::Refused(fault);

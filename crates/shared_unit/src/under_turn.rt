@@ -9,6 +9,7 @@ ghost use Rattle.counter_table.specs.Worker.{view, IsOf, IsSame};
 ghost use Rattle.unit_book.specs.Book.{IsKept};
 ghost use Rattle.shared_unit.specs.UnderTurn.{IsFinished};
 ghost use Rattle.shared_unit.specs.Going.{GoesUp};
+ghost use Rattle.shared_unit.specs.Protecting.{LeavesUnprotected};
 ghost use Rattle.shared_unit.specs.Told.{known_of_book};
 
 use crate::permit::{Done, Permit, Protected};
@@ -43,6 +44,7 @@ impl<O: Site> Unit<O> {
         ensures goes_on { GoesUp O.faults O.put_faults held.old.book held.new.book }
         ensures step { IsFinished O.faults permit.now clear.now out.new result held.old.book held.new.book
             (view worker.old) (view worker.new) }
+        ensures leaves { LeavesUnprotected result out.old out.new }
     {
         let key = permit.binding.key;
         if let Err(fault) = fits(&permit.binding, clear) {
