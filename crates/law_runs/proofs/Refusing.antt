@@ -199,8 +199,8 @@ module _ {O : Type 0} (told : Bool) (trace : O → Trace) (faults puts : O → �
   Cause f = IsOpenCause (faults site) (faults back) (λ offset. IsTrue told → ShowsNone (trace site).now.image offset × OnlySyncs (trace site) (trace back)) f
 
   cause_of : (f : OpenFault) → Cause f → CameBy call account (refused_end f)
-  cause_of (openings.SiteFault count) cause = (cause.0, cause.1, refl)
-  cause_of (openings.Image offset) cause = (λ is_told. (cause is_told).0, refl)
+  cause_of (openings.SiteFault count) cause = (cause.0, cause.1, refl, refl)
+  cause_of (openings.Image offset) cause = (λ is_told. (cause is_told).0, refl, refl)
   cause_of openings.NoMemory cause = tt
 
   tells : TellsEnd call account

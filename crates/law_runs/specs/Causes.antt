@@ -28,7 +28,7 @@ pub record IsFullAt (call : CallSeen) (account : Account) : Type 0 where
       ⊎ MayAppend (NearWord state call.entries (records_of account.handled)) (course_of call account plan state)
       MOST_ENTRIES place.task
 
--- Why the reading ended.
+-- Why the reading ended. If the unit was not opened, nothing was entered, and nothing was taken of the source.
 abbrev pub CameBy : CallSeen → Account → RunEnd → Type 0
 CameBy call account Ended = (account.part ≡ []) ×
     (IsTrue call.source.told → IsInput call.source.left account.items Whole)
@@ -38,10 +38,10 @@ CameBy call account (Malformed offset) =
 CameBy call account (SourceFault count) = Rose call.source.faults call.source_after.faults
     × (count ≡ call.source_after.faults)
 CameBy call account (SiteFault count) = Rose call.site.faults account.last × (count ≡ account.last)
-    × (call.entries ≡ [])
+    × (call.entries ≡ []) × (call.source_after ≡ call.source)
 CameBy call account NoMemory = ⊤
 CameBy call account (NoState offset) = (IsTrue call.site.told → ShowsNone (image_at_entry call) offset)
-    × (call.entries ≡ [])
+    × (call.entries ≡ []) × (call.source_after ≡ call.source)
 CameBy call account SessionFull = IsFullAt call account
 CameBy call account PutFailed = call.site.put_faults < call.site_after.put_faults
 
