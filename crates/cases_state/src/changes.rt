@@ -1,18 +1,46 @@
-// Changes in words.
+//! Changes in words.
+
+ghost use Rattle.std.specs.Prelude.{IfSome};
+ghost use Rattle.unit_state.specs.Restart.{IsLight};
+
+use case_lines::{direction, key, key_state, number, octet, sa_state, spi};
 use sdls_base::{Change, KeyItem, KeyItems, KeyList, NewSa, Octets, Suite};
 use std::alloc::Global;
 use std::str::SplitWhitespace;
 
+/// The change that a reserve makes: `KEY MARK FLOOR`.
+pub fn marks(words: &mut SplitWhitespace<'_>) -> Option<Change>
+    ensures { IfSome result IsLight }
+{
+    Some(Change::Marks {
+        key: key(words)?,
+        mark: number(words)?,
+        floor: number(words)?,
+    })
+}
+
+/// The change that a frame makes: `SPI KEY NUMBER FLOOR`.
+pub fn accepted(words: &mut SplitWhitespace<'_>) -> Option<Change>
+    ensures { IfSome result IsLight }
+{
+    Some(Change::Accepted {
+        spi: spi(words)?,
+        key: key(words)?,
+        number: number(words)?,
+        floor: number(words)?,
+    })
+}
+
 fn load(alloc: Global, words: &mut SplitWhitespace<'_>) -> Option<Change> {
-    let id = case_lines::key(words)?;
+    let id = key(words)?;
     let bytes = Octets::new(hex::decode(alloc, words.next()?).ok()?);
     let items = vec![in alloc; KeyItem { id, bytes }].ok()?;
     Some(Change::Load(KeyItems::new(items)))
 }
 
 fn key_states(alloc: Global, words: &mut SplitWhitespace<'_>) -> Option<Change> {
-    let to = case_lines::key_state(words)?;
-    let ids = vec![in alloc; case_lines::key(words)?].ok()?;
+    let to = key_state(words)?;
+    let ids = vec![in alloc; key(words)?].ok()?;
     Some(Change::KeyStates {
         ids: KeyList::new(ids),
         to,
@@ -21,10 +49,10 @@ fn key_states(alloc: Global, words: &mut SplitWhitespace<'_>) -> Option<Change> 
 
 /// A CMAC association of one channel.
 fn create(alloc: Global, words: &mut SplitWhitespace<'_>) -> Option<Change> {
-    let spi = case_lines::spi(words)?;
-    let direction = case_lines::direction(words)?;
-    let window = case_lines::number(words)?;
-    let channel = case_lines::octet(words)?;
+    let spi = spi(words)?;
+    let direction = direction(words)?;
+    let window = number(words)?;
+    let channel = octet(words)?;
     Some(Change::Create(NewSa {
         spi,
         direction,
@@ -34,41 +62,48 @@ fn create(alloc: Global, words: &mut SplitWhitespace<'_>) -> Option<Change> {
     }))
 }
 
+fn rekey(words: &mut SplitWhitespace<'_>) -> Option<Change> {
+    Some(Change::Rekey {
+        spi: spi(words)?,
+        key: key(words)?,
+        number: number(words)?,
+    })
+}
+
+fn take_state(words: &mut SplitWhitespace<'_>) -> Option<Change> {
+    Some(Change::SaTo {
+        spi: spi(words)?,
+        to: sa_state(words)?,
+    })
+}
+
+fn set_number(words: &mut SplitWhitespace<'_>) -> Option<Change> {
+    Some(Change::SetNumber {
+        spi: spi(words)?,
+        number: number(words)?,
+    })
+}
+
+fn set_window(words: &mut SplitWhitespace<'_>) -> Option<Change> {
+    Some(Change::SetWindow {
+        spi: spi(words)?,
+        window: number(words)?,
+    })
+}
+
 /// Reads a change.
 pub fn read(alloc: Global, text: &str) -> Option<Change> {
     let mut words = text.split_whitespace();
     match words.next()? {
-        "marks" => Some(Change::Marks {
-            key: case_lines::key(&mut words)?,
-            mark: case_lines::number(&mut words)?,
-            floor: case_lines::number(&mut words)?,
-        }),
+        "marks" => marks(&mut words),
         "load" => load(alloc, &mut words),
         "states" => key_states(alloc, &mut words),
         "create" => create(alloc, &mut words),
-        "rekey" => Some(Change::Rekey {
-            spi: case_lines::spi(&mut words)?,
-            key: case_lines::key(&mut words)?,
-            number: case_lines::number(&mut words)?,
-        }),
-        "sa" => Some(Change::SaTo {
-            spi: case_lines::spi(&mut words)?,
-            to: case_lines::sa_state(&mut words)?,
-        }),
-        "number" => Some(Change::SetNumber {
-            spi: case_lines::spi(&mut words)?,
-            number: case_lines::number(&mut words)?,
-        }),
-        "window" => Some(Change::SetWindow {
-            spi: case_lines::spi(&mut words)?,
-            window: case_lines::number(&mut words)?,
-        }),
-        "accepted" => Some(Change::Accepted {
-            spi: case_lines::spi(&mut words)?,
-            key: case_lines::key(&mut words)?,
-            number: case_lines::number(&mut words)?,
-            floor: case_lines::number(&mut words)?,
-        }),
+        "rekey" => rekey(&mut words),
+        "sa" => take_state(&mut words),
+        "number" => set_number(&mut words),
+        "window" => set_window(&mut words),
+        "accepted" => accepted(&mut words),
         "nothing" => Some(Change::Nothing),
         _ => None,
     }

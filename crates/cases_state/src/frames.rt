@@ -1,0 +1,74 @@
+// Frames opened and protected, and what they answer.
+ghost use Rattle.frame_shield.specs.Binding.{IsBinding};
+
+use crate::scenario::Scenario;
+use case_lines::{number_at, word_at};
+use case_units::{open_reply_text, shield_fault_text};
+use frame_shield::{Binding, ShieldFault, fits, shield};
+use std::alloc::{AllocError, Global};
+
+/// The most octets of a frame.
+const MOST_OCTETS: usize = 2_048;
+
+/// Writes the protected frame, and answers how many octets it has. None if the number is none of the key.
+fn write_frame(
+    binding: &Binding,
+    number: u64,
+    clear: &[u8],
+    out: &mut [u8; MOST_OCTETS],
+) -> Result<Option<usize>, ShieldFault>
+    requires { IsBinding binding.now }
+{
+    fits(binding, clear)?;
+    if number == 0 || number >= binding.key.end() {
+        return Ok(None);
+    }
+    Ok(Some(shield(binding, number, clear, out)))
+}
+
+fn frame_text(alloc: Global, binding: &Binding, frame: &[u8]) -> Result<String, AllocError> {
+    let (spi, key) = (binding.spi.get(), binding.key.get());
+    let frame = hex::encode(alloc, frame)?;
+    format!(in alloc; "protected {spi} {key} {frame}")
+}
+
+/// The protected frame, with index and key.
+fn shielded(
+    alloc: Global,
+    binding: &Binding,
+    number: u64,
+    clear: &[u8],
+) -> Result<String, AllocError>
+    requires { IsBinding binding.now }
+{
+    let mut out = [0; MOST_OCTETS];
+    match write_frame(binding, number, clear, &mut out) {
+        Ok(Some(count)) => frame_text(alloc, binding, out.get(..count).unwrap_or(&[])),
+        Ok(None) => format!(in alloc; "no number"),
+        Err(fault) => shield_fault_text(alloc, fault),
+    }
+}
+
+/// The link that a line begins with.
+fn link_of(line: &str) -> u8 {
+    u8::try_from(number_at(line, 0)).unwrap_or(255)
+}
+
+/// What a frame is answered: `LINK FRAME`.
+pub fn open(alloc: Global, scenario: &mut Scenario, line: &str) -> anyhow::Result<String> {
+    let mut frame = hex::decode(alloc, word_at(line, 1))?;
+    let reply = scenario.open(link_of(line), frame.as_mut_slice());
+    Ok(open_reply_text(alloc, reply, frame.as_slice())?)
+}
+
+/// What a clear frame is answered: `LINK NUMBER FRAME`.
+pub fn protect(alloc: Global, scenario: &Scenario, line: &str) -> anyhow::Result<String> {
+    let clear = hex::decode(alloc, word_at(line, 2))?;
+    match scenario.bind(link_of(line), clear.as_slice()) {
+        Ok(Some(binding)) => {
+            Ok(shielded(alloc, &binding, number_at(line, 1), clear.as_slice())?)
+        }
+        Ok(None) => Ok(format!(in alloc; "clear")?),
+        Err(fault) => Ok(shield_fault_text(alloc, fault)?),
+    }
+}

@@ -1,0 +1,174 @@
+//! A state, and what changes, messages and frames make of it.
+//!
+//! Each function makes few of the calls that are tested: what the clauses of several say together takes long to prove.
+
+ghost use Rattle.std.specs.Prelude.{IfOk, IfSome};
+ghost use Rattle.unit_state.specs.Restart.{IsLight};
+ghost use Rattle.frame_shield.specs.Binding.{IsBinding};
+
+use case_units::fits;
+use ep_codec::{Command, PduError, read_pdu};
+use ep_core::{Need, Reply, judge, plan_change};
+use frame_checks::{OpenReply, binding, open_frame};
+use frame_shield::{Binding, ShieldFault};
+use key_book::KeyRow;
+use sa_book::SaRow;
+use sdls_base::{Change, NoMemory, Seen};
+use std::alloc::Global;
+use std::marker::Model;
+use unit_plan::{Plan, PlanError};
+use unit_state::{State, rules_stay};
+
+/// What a message was answered.
+#[derive(Drop)]
+pub enum Answer {
+    /// What was seen is not what was needed.
+    Unfit,
+    /// The state does not allow the change.
+    NotAllowed,
+    Told(Reply),
+}
+
+/// What a command is decided to do: its change and its reply, none if what was seen is not what was needed.
+#[derive(Drop)]
+struct Decision {
+    need: Need,
+    outcome: Option<(Change, Reply)>,
+}
+
+/// A plan, and a state that keeps the rules.
+#[derive(Drop)]
+pub struct Scenario {
+    plan: Plan,
+    state: State,
+}
+
+impl Model for Scenario {
+    ghost use Rattle.unit_state.specs.declared.state.State.{State};
+    ghost use Rattle.unit_state.specs.State.{KeepsRules};
+
+    ghost Value = { State };
+
+    ghost view = { λ scenario. scenario.state };
+
+    ghost invariant = { λ scenario. KeepsRules scenario.state };
+}
+
+impl Scenario {
+    /// The state that a plan's text makes.
+    pub fn begin(alloc: Global, text: &[u8]) -> Result<Scenario, PlanError> {
+        let plan = Plan::read(alloc, text)?;
+        let state = State::initial(alloc, &plan)?;
+        Ok(Scenario { plan, state })
+    }
+
+    /// The rows of the keys.
+    pub fn keys(&self) -> &[KeyRow] {
+        self.state.keys.rows()
+    }
+
+    /// The rows of the associations.
+    pub fn associations(&self) -> &[SaRow] {
+        self.state.associations.rows()
+    }
+
+    /// Takes an equal state.
+    pub fn take_copy(&mut self) -> Result<(), NoMemory> {
+        self.state = self.state.copy()?;
+        Ok(())
+    }
+
+    /// Leaves what a restart leaves.
+    pub fn restart(&mut self) {
+        self.state.restart();
+    }
+
+    /// Makes a change where the state allows it, and says whether it does.
+    pub fn apply(&mut self, change: &Change) -> Result<bool, NoMemory> {
+        let allowed = self.state.allows(change);
+        if allowed {
+            rules_stay();
+            self.state.apply(change)?;
+        }
+        Ok(allowed)
+    }
+
+    /// The same for a change that moves numbers alone. Takes no memory.
+    pub fn apply_here(&mut self, change: &Change) -> bool
+        requires { IsLight change.now }
+    {
+        let allowed = self.state.allows(change);
+        if allowed {
+            rules_stay();
+            self.state.apply_here(change);
+        }
+        allowed
+    }
+
+    fn decide(&self, alloc: Global, message: &[u8], seen: Seen) -> Result<Decision, PduError> {
+        let command = read_pdu(alloc, message)?;
+        let need = judge(&self.state, &command);
+        if !fits(&self.state, &need, seen) {
+            return Ok(Decision {
+                need,
+                outcome: None,
+            });
+        }
+        match plan_change(alloc, &self.state, &command, &seen) {
+            Ok(outcome) => Ok(Decision {
+                need,
+                outcome: Some(outcome),
+            }),
+            Err(NoMemory) => Err(PduError::NoMemory),
+        }
+    }
+
+    /// What a message needs, and what it is answered with what was seen. The state is changed as it says.
+    pub fn obey(
+        &mut self,
+        alloc: Global,
+        message: &[u8],
+        seen: Seen,
+    ) -> anyhow::Result<(Need, Answer)> {
+        let Decision { need, outcome } = self.decide(alloc, message, seen)?;
+        let Some((change, reply)) = outcome else {
+            return Ok((need, Answer::Unfit));
+        };
+        if self.apply(&change)? {
+            Ok((need, Answer::Told(reply)))
+        } else {
+            Ok((need, Answer::NotAllowed))
+        }
+    }
+
+    fn open_only(&self, link: u8, frame: &mut [u8]) -> OpenReply {
+        open_frame(&self.plan, &self.state, link, frame)
+    }
+
+    /// Opens a frame in place, and takes its number where it is accepted.
+    pub fn open(&mut self, link: u8, frame: &mut [u8]) -> OpenReply {
+        let reply = self.open_only(link, frame);
+        if let OpenReply::Accepted {
+            spi,
+            key,
+            number,
+            ..
+        } = reply
+        {
+            self.apply_here(&Change::Accepted {
+                spi,
+                key,
+                number,
+                floor: number,
+            });
+        }
+        reply
+    }
+
+    /// What a clear frame is to be protected under.
+    pub fn bind(&self, link: u8, clear: &[u8]) -> Result<Option<Binding>, ShieldFault>
+        ensures { IfOk result (λ found. IfSome found IsBinding) }
+    {
+        binding(&self.plan, &self.state, link, clear)
+    }
+}

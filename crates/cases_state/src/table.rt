@@ -1,0 +1,157 @@
+//! The steps of scenarios, and what they answer.
+
+ghost use Rattle.std.specs.Prelude.{IfSome};
+ghost use Rattle.unit_state.specs.Restart.{IsLight};
+
+use crate::scenario::Scenario;
+use crate::{changes, commands, frames, messages, showing};
+use case_lines::{Answers, Gathered};
+use sdls_base::Change;
+use std::alloc::{AllocError, Global};
+use unit_plan::PlanError;
+
+fn allowed_text(alloc: Global, allowed: bool) -> Result<String, AllocError> {
+    if allowed {
+        format!(in alloc; "allowed")
+    } else {
+        format!(in alloc; "not allowed")
+    }
+}
+
+fn copy(alloc: Global, scenario: &mut Scenario) -> anyhow::Result<String> {
+    scenario.take_copy()?;
+    Ok(format!(in alloc; "copied")?)
+}
+
+fn restart(alloc: Global, scenario: &mut Scenario) -> anyhow::Result<String> {
+    scenario.restart();
+    Ok(format!(in alloc; "restarted")?)
+}
+
+/// Makes a change of numbers, where there is one that the state allows.
+fn move_numbers(
+    alloc: Global,
+    scenario: &mut Scenario,
+    change: Option<Change>,
+) -> anyhow::Result<String>
+    requires { IfSome change IsLight }
+{
+    let allowed = match change {
+        Some(change) => scenario.apply_here(&change),
+        None => false,
+    };
+    Ok(allowed_text(alloc, allowed)?)
+}
+
+/// Makes a change in words, where the state allows it.
+fn make(alloc: Global, scenario: &mut Scenario, words: &str) -> anyhow::Result<String> {
+    let Some(change) = changes::read(alloc, words) else {
+        return Ok(format!(in alloc; "{words}: no change")?);
+    };
+    let allowed = scenario.apply(&change)?;
+    let allowed = allowed_text(alloc, allowed)?;
+    Ok(format!(in alloc; "{words}: {allowed}")?)
+}
+
+/// What a step that changes numbers or rows answers, none where the word names another.
+fn of_changes(
+    alloc: Global,
+    scenario: &mut Scenario,
+    word: &str,
+    rest: &str,
+) -> Option<anyhow::Result<String>> {
+    let mut words = rest.split_whitespace();
+    match word {
+        "change" => Some(make(alloc, scenario, rest)),
+        "marks" => Some(move_numbers(alloc, scenario, changes::marks(&mut words))),
+        "accepted" => Some(move_numbers(alloc, scenario, changes::accepted(&mut words))),
+        _ => None,
+    }
+}
+
+/// What every other step on a state answers.
+fn of_state(
+    alloc: Global,
+    scenario: &mut Scenario,
+    word: &str,
+    rest: &str,
+) -> anyhow::Result<String> {
+    match word {
+        "copy" => copy(alloc, scenario),
+        "restart" => restart(alloc, scenario),
+        "show" => showing::state_text(alloc, scenario),
+        "do" => commands::obey(alloc, scenario, rest),
+        "open" => frames::open(alloc, scenario, rest),
+        "protect" => frames::protect(alloc, scenario, rest),
+        _ => Ok(format!(in alloc; "no step")?),
+    }
+}
+
+/// The lines of a plan that were gathered, and the scenario that was begun.
+#[derive(Drop)]
+pub struct Table {
+    plan: Gathered,
+    scenario: Option<Scenario>,
+}
+
+impl Table {
+    /// A table of which nothing was read.
+    pub fn new(alloc: Global) -> Table {
+        Table {
+            plan: Gathered::new(alloc),
+            scenario: None,
+        }
+    }
+
+    /// Makes the scenario of the lines that were gathered, or answers what is wrong with them.
+    fn take_plan(&mut self, alloc: Global) -> Option<PlanError> {
+        match Scenario::begin(alloc, self.plan.as_str().as_bytes()) {
+            Ok(scenario) => {
+                self.scenario = Some(scenario);
+                None
+            }
+            Err(error) => {
+                self.scenario = None;
+                Some(error)
+            }
+        }
+    }
+
+    /// Begins a scenario. After an error there is none.
+    fn begin(&mut self, alloc: Global) -> anyhow::Result<String> {
+        let fault = self.take_plan(alloc);
+        self.plan.clear();
+        match fault {
+            None => Ok(format!(in alloc; "begun")?),
+            Some(fault) => Ok(format!(in alloc; "{fault}")?),
+        }
+    }
+
+    /// What a step of a scenario answers.
+    fn step(&mut self, alloc: Global, word: &str, rest: &str) -> anyhow::Result<String> {
+        let Some(scenario) = &mut self.scenario else {
+            return Ok(format!(in alloc; "{word}: no state")?);
+        };
+        match of_changes(alloc, scenario, word, rest) {
+            Some(answer) => answer,
+            None => of_state(alloc, scenario, word, rest),
+        }
+    }
+}
+
+impl Answers for Table {
+    fn answer(&mut self, alloc: Global, line: &str) -> anyhow::Result<Option<String>> {
+        let (word, rest) = line.split_once(' ').unwrap_or((line, ""));
+        if word == "plan" {
+            self.plan.push(rest)?;
+            return Ok(None);
+        }
+        if word == "begin" {
+            return Ok(Some(self.begin(alloc)?));
+        }
+        if let Some(answer) = messages::answer(alloc, word, rest) {
+            return Ok(Some(answer?));
+        }
+        Ok(Some(self.step(alloc, word, rest)?))
+    }
+}
