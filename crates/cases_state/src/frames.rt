@@ -2,29 +2,11 @@
 ghost use Rattle.frame_shield.specs.Binding.{IsBinding};
 
 use crate::scenario::Scenario;
+use crate::shielding::{UNTOUCHED, write_frame};
 use case_lines::{number_at, word_at};
 use case_units::{open_reply_text, shield_fault_text};
-use frame_shield::{Binding, ShieldFault, fits, shield};
+use frame_shield::{Binding, FRAME_ROOM};
 use std::alloc::{AllocError, Global};
-
-/// The most octets of a frame.
-const MOST_OCTETS: usize = 2_048;
-
-/// Writes the protected frame, and answers how many octets it has. None if the number is none of the key.
-fn write_frame(
-    binding: &Binding,
-    number: u64,
-    clear: &[u8],
-    out: &mut [u8; MOST_OCTETS],
-) -> Result<Option<usize>, ShieldFault>
-    requires { IsBinding binding.now }
-{
-    fits(binding, clear)?;
-    if number == 0 || number >= binding.key.end() {
-        return Ok(None);
-    }
-    Ok(Some(shield(binding, number, clear, out)))
-}
 
 fn frame_text(alloc: Global, binding: &Binding, frame: &[u8]) -> Result<String, AllocError> {
     let (spi, key) = (binding.spi.get(), binding.key.get());
@@ -41,7 +23,7 @@ fn shielded(
 ) -> Result<String, AllocError>
     requires { IsBinding binding.now }
 {
-    let mut out = [0; MOST_OCTETS];
+    let mut out = [UNTOUCHED; FRAME_ROOM];
     match write_frame(binding, number, clear, &mut out) {
         Ok(Some(count)) => frame_text(alloc, binding, out.get(..count).unwrap_or(&[])),
         Ok(None) => format!(in alloc; "no number"),

@@ -4,7 +4,7 @@ ghost use Rattle.std.specs.Prelude.{IfSome};
 ghost use Rattle.unit_state.specs.Restart.{IsLight};
 
 use crate::scenario::Scenario;
-use crate::{changes, commands, frames, messages, showing};
+use crate::{cases, changes, commands, frames, messages, showing};
 use case_lines::{Answers, Gathered};
 use sdls_base::Change;
 use std::alloc::{AllocError, Global};
@@ -81,8 +81,8 @@ fn of_state(
         "restart" => restart(alloc, scenario),
         "show" => showing::state_text(alloc, scenario),
         "do" => commands::obey(alloc, scenario, rest),
-        "open" => frames::open(alloc, scenario, rest),
-        "protect" => frames::protect(alloc, scenario, rest),
+        "receive" => frames::open(alloc, scenario, rest),
+        "send" => frames::protect(alloc, scenario, rest),
         _ => Ok(format!(in alloc; "no step")?),
     }
 }
@@ -151,6 +151,10 @@ impl Answers for Table {
         }
         if let Some(answer) = messages::answer(alloc, word, rest) {
             return Ok(Some(answer?));
+        }
+        if let Some(answer) = cases::answer(alloc, word, rest) {
+            let answer = answer?;
+            return Ok(Some(format!(in alloc; "{line}: {answer}")?));
         }
         Ok(Some(self.step(alloc, word, rest)?))
     }

@@ -6,7 +6,9 @@ ghost use Rattle.frame_shield.specs.Binding.{IsBinding};
 ghost use Rattle.frame_shield.specs.Opens.{CarriesIndex};
 
 use aes_block::Schedule;
-use frame_shield::{AnyLayout, Binding, Link, Mask, Opened, fits, shield, unshield};
+use frame_shield::{
+    AnyLayout, Binding, FRAME_ROOM, Link, Mask, Opened, ShieldFault, fits, shield, unshield,
+};
 use sdls_base::{AosLayout, KeyId, Spi, Suite, TcLayout, TmLayout};
 use sdls_header::read_spi;
 use std::alloc::Global;
@@ -18,7 +20,7 @@ const CMAC_KEY: [u8; 16] = *b"\x2b\x7e\x15\x16\x28\xae\xd2\xa6\xab\xf7\x15\x88\x
 const GCM_KEY: [u8; 16] = *b"\x00\x01\x02\x03\x04\x05\x06\x07\x08\x09\x0a\x0b\x0c\x0d\x0e\x0f";
 
 /// What stands in octets that are not written.
-const UNTOUCHED: u8 = 0x55;
+pub const UNTOUCHED: u8 = 0x55;
 
 fn tc_link(words: &mut SplitWhitespace<'_>) -> Link
     ensures { IsLink result }
@@ -117,19 +119,30 @@ pub fn binding(words: &mut SplitWhitespace<'_>, device: [u8; 4]) -> Option<Bindi
     })
 }
 
+/// Writes the clear frame protected under the number, and answers how many octets it has. None if the number is none of
+/// the key.
+pub fn write_frame(
+    binding: &Binding,
+    number: u64,
+    clear: &[u8],
+    out: &mut [u8; FRAME_ROOM],
+) -> Result<Option<usize>, ShieldFault>
+    requires { IsBinding binding.now }
+{
+    fits(binding, clear)?;
+    if number == 0 || number >= binding.key.end() {
+        return Ok(None);
+    }
+    Ok(Some(shield(binding, number, clear, out)))
+}
+
 /// The clear frame protected under the number, none where it does not fit, or the number is none of the key.
 pub fn protected(alloc: Global, binding: &Binding, number: u64, clear: &[u8]) -> Option<Vec<u8>>
     requires { IsBinding binding.now }
 {
-    let mut out = vec![in alloc; UNTOUCHED; 2048].ok()?;
-    match fits(binding, clear) {
-        Ok(()) if number > 0 && number < binding.key.end() => {
-            let count = shield(binding, number, clear, out.as_mut_slice());
-            out.truncate(count);
-            Some(out)
-        }
-        _ => None,
-    }
+    let mut out = [UNTOUCHED; FRAME_ROOM];
+    let count = write_frame(binding, number, clear, &mut out).ok()??;
+    Vec::from_slice(alloc, out.get(..count)?).ok()
 }
 
 /// Whether the room begins with the index.

@@ -17,7 +17,7 @@ fn vector_text(alloc: Global, vector: &Vector) -> Result<String, AllocError> {
     match vector {
         Vector::Sequence(number) => format!(in alloc; "{number}"),
         Vector::Wide { device, number } => {
-            let device = hex::encode(alloc, device)?;
+            let device = hex::encode(alloc, device.as_slice())?;
             format!(in alloc; "{device}:{number}")
         }
     }

@@ -42,18 +42,32 @@ pub fn same(alloc: Global, words: &mut SplitWhitespace<'_>) -> anyhow::Result<St
     Ok(format!(in alloc; "{same}")?)
 }
 
+fn one_item(alloc: Global, id: KeyId, octets: Vec<u8>) -> anyhow::Result<KeyItems> {
+    let bytes = Octets::new(octets);
+    let mut list = Vec::new(alloc);
+    list.push(KeyItem { id, bytes })?;
+    Ok(KeyItems::new(list))
+}
+
+/// Whether the change that loads the items is that of their copy.
+fn loads_copy(items: KeyItems) -> Result<bool, NoMemory> {
+    let change = Change::Load(items.clone()?);
+    Ok(change == Change::Load(items))
+}
+
+fn change_text(alloc: Global, items: &KeyItems) -> anyhow::Result<String> {
+    let change = Change::Load(items.clone()?);
+    Ok(format!(in alloc; "{items:?} {change:?}")?)
+}
+
 /// A key that is to be loaded, as it is printed.
 pub fn printed(alloc: Global, words: &mut SplitWhitespace<'_>) -> anyhow::Result<String> {
     let Some(id) = KeyId::new(case_lines::short(words).unwrap_or(0)) else {
         return Ok(format!(in alloc; "none")?);
     };
-    let bytes = Octets::new(case_lines::octets(alloc, words)?);
-    let mut list = Vec::new(alloc);
-    list.push(KeyItem { id, bytes })?;
-    let items = KeyItems::new(list);
-    let change = Change::Load(items.clone()?);
-    let text = format!(in alloc; "{items:?} {change:?}")?;
-    let same = change == Change::Load(items);
+    let items = one_item(alloc, id, case_lines::octets(alloc, words)?)?;
+    let text = change_text(alloc, &items)?;
+    let same = loads_copy(items)?;
     Ok(format!(in alloc; "{text} same {same}")?)
 }
 

@@ -1,27 +1,5 @@
-//! Tables of transfer frames, for the readers and writers of the three kinds and for `frame_shield`. A line of standard
-//! input is a case, which is printed with what it answers; `#` and a title is printed as it is.
-//!
-//! `tc SEGMENT FECF MOST OCTETS`, `tm LENGTH FECF OCTETS` and `aos LENGTH INSERT OCF FECF OCTETS` read a frame of the
-//! layout and write it again. `protect SUITE SPI LINK NUMBER OCTETS` protects a clear frame, and `open SUITE SPI LINK
-//! OCTETS` opens one; LINK is `tc SEGMENT FECF`, `tm LENGTH FECF` or `aos LENGTH INSERT OCF FECF MASK`, where the mask
-//! is `usual` or `whole`. `bits SUITE SPI LINK OCTETS` protects a clear frame, turns each bit of the first six octets,
-//! makes the error control field anew, and prints what opening answers to each: `o` opened, `x` a bad MAC, `-` no frame
-//! of the link with the index.
-//!
-//! `index OCTETS`, `room SUITE OCTETS`, `header SUITE SPI NUMBER` and `mask MASK OCTETS` are the calls of
-//! `sdls_header`; `spi N`, `channel N`, `key N`, `fecf OCTETS`, `same OCTETS OCTETS`, `printed KEY OCTETS`, `rows KEY`
-//! and `numbers` those of `sdls_base`. Octets are hexadecimal words; `x1016` before a word says how often it stands
-//! there, and `-` is none.
-#![tactic(auto)]
-
-mod bits;
-mod headers;
-mod names;
-mod reading;
-mod sealed;
-mod shielding;
-
-use case_lines::{Answers, print_answers};
+// Cases of frames, security headers and plain types, which depend on no state.
+use crate::{bits, headers, names, reading, sealed};
 use sdls_base::{AosLayout, TcLayout, TmLayout};
 use std::alloc::Global;
 use std::str::SplitWhitespace;
@@ -116,33 +94,14 @@ fn of_names(
     }
 }
 
-/// What a case answers.
-fn answer(alloc: Global, case: &str) -> anyhow::Result<String> {
-    let mut words = case.split_whitespace();
-    let kind = words.next().unwrap_or("");
-    if let Some(answer) = of_frames(alloc, kind, &mut words) {
-        return answer;
+/// What a case answers, none where the word names another.
+pub fn answer(alloc: Global, word: &str, rest: &str) -> Option<anyhow::Result<String>> {
+    let mut words = rest.split_whitespace();
+    if let Some(answer) = of_frames(alloc, word, &mut words) {
+        return Some(answer);
     }
-    if let Some(answer) = of_headers(alloc, kind, &mut words) {
-        return answer;
+    if let Some(answer) = of_headers(alloc, word, &mut words) {
+        return Some(answer);
     }
-    match of_names(alloc, kind, &mut words) {
-        Some(answer) => answer,
-        None => Ok(format!(in alloc; "no case")?),
-    }
-}
-
-/// Cases, which do not depend on one another.
-#[derive(Drop)]
-struct Cases;
-
-impl Answers for Cases {
-    fn answer(&mut self, alloc: Global, line: &str) -> anyhow::Result<Option<String>> {
-        let answer = answer(alloc, line)?;
-        Ok(Some(format!(in alloc; "{line}: {answer}")?))
-    }
-}
-
-fn main(rt: HostRuntime) -> anyhow::Result<()> {
-    print_answers(&rt, &mut Cases)
+    of_names(alloc, word, &mut words)
 }

@@ -2,7 +2,7 @@ use Rattle.std.proofs.Common.{subst, sym}
 use Rattle.sdls_base.specs.declared.link.AnyLayout.{AnyLayout}
 use Rattle.frame_shield.specs.AnyFrame.{aos, IsFrame}
 use Rattle.aos_frame.specs.AosFrame.{view}
-use Rattle.cases_frames.proofs.shielding.is_aos.Goals as goal
+use Rattle.cases_state.proofs.shielding.is_aos.Goals as goal
 
 pub returns-in-Ok : goal.returns-in-Ok
 returns-in-Ok c = λ found. record {
