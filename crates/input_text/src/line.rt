@@ -20,7 +20,7 @@ use sdls_base::Octets;
 use std::alloc::Global;
 
 /// What a line says: an item of the recorded input.
-#[derive(Debug, PartialEq, Eq, Drop)]
+#[derive(Debug, Drop)]
 pub enum Line {
     /// `fence`: the end of a segment.
     Fence,
