@@ -9,16 +9,17 @@ use Rattle.counter_table.specs.declared.view.Opening.{Opening}
 use Rattle.sdls_base.specs.declared.entry.Entry.{Entry}
 use Rattle.sdls_base.specs.declared.entry.Logged.{Logged}
 use Rattle.unit_state.specs.History.{after, epoch_after}
-use Rattle.law_history.specs.Log.{entries_of}
-use Rattle.law_history.specs.Numbers.{mark_of}
+use Rattle.run_promise.specs.Log.{entries_of}
+use Rattle.run_promise.specs.Numbers.{mark_of}
 use Rattle.record_io.specs.declared.records.Record.{Record}
 use Rattle.record_io.specs.declared.answers.Answer.{Answer}
-use Rattle.law_workers.specs.Begin.{Begin}
+use Rattle.run_promise.specs.Begin.{Begin}
 use Rattle.law_workers.specs.Views.{KnowsMore, entries_in, keeping, log_of, starting, meeting}
-use Rattle.law_workers.specs.Deeds.{Deed, Does, deed_of, deeds_of}
+use Rattle.run_promise.specs.Deed.{Deed, deed_of}
+use Rattle.law_workers.specs.Deeds.{Does, deeds_of}
 use Rattle.law_workers.specs.Lanes.{giving_shares}
 use Rattle.law_workers.proofs.Joining.{top_both}
-use Rattle.law_workers.specs.Machine.{Move}
+use Rattle.run_promise.specs.Machine.{Move}
 use Rattle.law_workers.specs.Exact.{words_in}
 use Rattle.law_workers.specs.InTurn.{IsLevel, ServedBetween}
 use Rattle.law_workers.specs.Alone.{MovedInTurn, ServedAlone}

@@ -4,10 +4,10 @@ use Rattle.counter_table.specs.declared.view.Opening.{Opening}
 use Rattle.counter_table.specs.declared.view.View.{View}
 use Rattle.sdls_outside.specs.Faults.{Rose}
 use Rattle.record_io.specs.declared.records.Record.{Record}
-use Rattle.unit_book.specs.declared.limits.TheConstants.{MOST_ENTRIES}
-use Rattle.law_workers.specs.Begin.{Begin}
+use Rattle.run_promise.specs.declared.limits.TheConstants.{MOST_ENTRIES}
+use Rattle.run_promise.specs.Begin.{Begin}
 use Rattle.law_workers.specs.Views.{KnowsMore, keeping, starting, meeting, Meets, entries_in}
-use Rattle.law_workers.specs.Deeds.{Deed}
+use Rattle.run_promise.specs.Deed.{Deed}
 use Rattle.law_workers.specs.Order.{Layout, Handled}
 use Rattle.law_workers.proofs.Working.{grown_entries, may_later}
 use Rattle.law_workers.proofs.Handling.{handled_nothing, handled_then, handled_beside}

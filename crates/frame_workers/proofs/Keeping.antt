@@ -7,7 +7,7 @@ use Rattle.counter_table.specs.declared.view.Turn.{Turn}
 use Rattle.shared_unit.specs.declared.permit.Permit.{Permit}
 use Rattle.shared_unit.specs.Protecting.{IsTrueIfKept}
 use Rattle.shared_unit.specs.Permit.{IsTrueFor}
-use Rattle.law_workers.specs.Begin.{Begin}
+use Rattle.run_promise.specs.Begin.{Begin}
 use Rattle.law_workers.specs.Began.{BeganWith}
 
 -- a run that began with the opening

@@ -8,7 +8,8 @@ use Rattle.std.proofs.lemmas.List.Elements.{All-push, All-head, All-tail}
 use Rattle.std.proofs.Math.Seq.{take-suc, drop-cons}
 use Rattle.record_io.specs.declared.records.Record.{Record}
 use Rattle.record_io.specs.declared.answers.Answer.{Answer}
-use Rattle.law_workers.specs.Deeds.{Deed, deed_of, deeds_of}
+use Rattle.run_promise.specs.Deed.{Deed, deed_of}
+use Rattle.law_workers.specs.Deeds.{deeds_of}
 use Rattle.law_workers.specs.Lanes.{is_of_lane, of_lane}
 use Rattle.frame_workers.specs.Lanes.{left_at, AreAmong}
 use Rattle.frame_workers.proofs.Steps.{deeds_step, lane_own, lane_other}

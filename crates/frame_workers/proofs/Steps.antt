@@ -8,8 +8,9 @@ use Rattle.std.proofs.lemmas.List.Kept.{AllPairs-filter}
 use Rattle.counter_table.specs.declared.view.View.{View}
 use Rattle.record_io.specs.declared.records.Record.{Record}
 use Rattle.record_io.specs.declared.answers.Answer.{Answer}
-use Rattle.law_workers.specs.Begin.{Begin}
-use Rattle.law_workers.specs.Deeds.{Deed, deed_of, deeds_of, Ascend}
+use Rattle.run_promise.specs.Begin.{Begin}
+use Rattle.run_promise.specs.Deed.{Deed, deed_of}
+use Rattle.law_workers.specs.Deeds.{deeds_of, Ascend}
 use Rattle.law_workers.specs.Order.{Layout, Handled, ComeBefore}
 use Rattle.law_workers.specs.Lanes.{is_of_lane, of_lane}
 use Rattle.law_workers.proofs.Handling.{handled_nothing, handled_then, record_indexed}

@@ -9,9 +9,10 @@ use Rattle.record_io.specs.declared.records.Record.{Record}
 use Rattle.record_io.specs.declared.answers.Answer.{Answer}
 use Rattle.record_io.specs.declared.kinds.TheConstants.{LANES}
 use Rattle.shared_unit.specs.Protecting.{IsTrueIfKept}
-use Rattle.law_workers.specs.Begin.{Begin}
+use Rattle.run_promise.specs.Begin.{Begin}
 use Rattle.law_workers.specs.Views.{starting}
-use Rattle.law_workers.specs.Deeds.{Deed, deeds_of}
+use Rattle.run_promise.specs.Deed.{Deed}
+use Rattle.law_workers.specs.Deeds.{deeds_of}
 use Rattle.law_workers.specs.Order.{Layout, Handled}
 use Rattle.law_workers.specs.Lanes.{is_of_lane, of_lane, Part}
 use Rattle.law_workers.specs.Alone.{MovedInTurn}

@@ -4,7 +4,7 @@ ghost use Rattle.std.specs.Int.{w64, to_be_bytes};
 ghost use Rattle.sdls_base.specs.Code.{sa_state_code};
 ghost use Rattle.frame_checks.specs.Accepting.{field_in};
 ghost use Rattle.record_io.specs.declared.code.TheConstants.{PROTECTED};
-ghost use Rattle.law_history.specs.Answers as told;
+ghost use Rattle.run_promise.specs.Answers as told;
 ghost use Rattle.law_calls.specs.Answering as answering;
 
 use ep_core::Reply;

@@ -6,7 +6,7 @@ ghost use Rattle.shared_unit.specs.declared.permit.Permit.{Permit};
 ghost use Rattle.shared_unit.specs.Permit.{IsTrueFor};
 ghost use Rattle.shared_unit.specs.Protecting.{IsTrueIfKept};
 ghost use Rattle.shared_unit.specs.Turn.{IsReady};
-ghost use Rattle.law_workers.specs.Begin.{Begin};
+ghost use Rattle.run_promise.specs.Begin.{Begin};
 ghost use Rattle.law_workers.specs.Order.{Layout};
 ghost use Rattle.law_calls.specs.Answering.{Answered, AnsweredExactly};
 ghost use Rattle.law_workers.specs.Began.{BeganWith};

@@ -3,7 +3,8 @@ ghost use Rattle.std.specs.Prelude.{◌≡◌, ◌<◌, ◌≤◌, ◌++◌, ℕ
 ghost use Rattle.record_io.specs.declared.answers.Answer.{Answer};
 ghost use Rattle.record_io.specs.declared.records.Record.{Record};
 ghost use Rattle.record_io.specs.declared.kinds.TheConstants.{LANES};
-ghost use Rattle.law_workers.specs.Deeds.{Deed, deeds_of};
+ghost use Rattle.run_promise.specs.Deed.{Deed};
+ghost use Rattle.law_workers.specs.Deeds.{deeds_of};
 ghost use Rattle.frame_workers.specs.Lanes.{AreAmong, left_at, StopsAt};
 
 use record_io::{Answer, Record};

@@ -24,20 +24,20 @@ use Rattle.unit_state.specs.State.{key_row}
 use Rattle.unit_state.specs.History.{after}
 use Rattle.unit_state.specs.Restart.{still}
 use Rattle.counter_table.specs.declared.view.View.{View}
-use Rattle.law_history.specs.Answers.{replied_told, Uses}
-use Rattle.law_history.specs.Counts.{drawers}
-use Rattle.law_history.specs.Entries.{record_entry, IsNeedOf, IsStepOf}
-use Rattle.law_history.specs.Fits.{CanAppend, CanChange, CanDraw, MayAppend, state_after}
-use Rattle.law_history.specs.Legal.{needed_key, KeyOf, SeesFor, SeenNear, IsLegal}
-use Rattle.law_history.specs.Log.{entries_of}
-use Rattle.law_history.specs.Numbers.{reserve_of}
-use Rattle.law_history.specs.Stored.{IsStored}
+use Rattle.run_promise.specs.Answers.{replied_told, Uses}
+use Rattle.run_promise.specs.Counts.{drawers}
+use Rattle.run_promise.specs.Entries.{record_entry, IsNeedOf, IsStepOf}
+use Rattle.run_promise.specs.Fits.{CanAppend, CanChange, CanDraw, MayAppend, state_after}
+use Rattle.run_promise.specs.Legal.{needed_key, KeyOf, SeesFor, SeenNear, IsLegal}
+use Rattle.run_promise.specs.Log.{entries_of}
+use Rattle.run_promise.specs.Numbers.{reserve_of}
+use Rattle.run_promise.specs.Stored.{IsStored}
 use Rattle.law_history.proofs.StoredEntries.{stored_changes}
 use Rattle.law_history.proofs.Used.{used_needed}
 use Rattle.unit_book.specs.declared.fault.BookFault.{BookFault}
 use Rattle.unit_book.specs.Book.{BookView, CanEnter}
 use Rattle.unit_book.specs.Records.{Handles, RefusesMessage}
-use Rattle.law_history.proofs.OneStep.{need_one}
+use Rattle.run_promise.proofs.Needs.{need_one}
 use Rattle.unit_book.proofs.EpochStates.{alike_served}
 use Rattle.shared_unit.specs.Calls.{WithPosition}
 use Rattle.shared_unit.specs.Commanding.{RaisesWord, FailsFor, Satisfies, IsCommanded}
@@ -45,7 +45,7 @@ use Rattle.shared_unit.specs.Told.{known_of_book, entry_count}
 use Rattle.shared_unit.specs.Turn.{Visits}
 use Rattle.shared_unit.proofs.Places.{place_there}
 use Rattle.shared_unit.proofs.Reserved.{reserves_place}
-use Rattle.law_workers.specs.Begin.{Begin}
+use Rattle.run_promise.specs.Begin.{Begin}
 use Rattle.law_workers.specs.Views.{IsBetween, IsRow, entries_in}
 use Rattle.law_workers.specs.Work.{IsAsked}
 use Rattle.law_workers.specs.Deeds.{course_in}

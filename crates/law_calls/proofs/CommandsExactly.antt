@@ -29,11 +29,11 @@ use Rattle.counter_table.specs.Known.{Earlier}
 use Rattle.counter_table.specs.declared.view.Numbers.{Numbers}
 use Rattle.counter_table.specs.Numbers.{top, arming}
 use Rattle.counter_table.specs.Turn.{places}
-use Rattle.law_history.specs.Answers.{counting, replied_told}
-use Rattle.law_history.specs.Entries.{record_entry, IsNeedOf, IsStepOf}
-use Rattle.law_history.specs.Legal.{KeyOf}
-use Rattle.law_history.specs.Log.{entries_of}
-use Rattle.law_history.specs.Numbers.{mark_of, reserve_of}
+use Rattle.run_promise.specs.Answers.{counting, replied_told}
+use Rattle.run_promise.specs.Entries.{record_entry, IsNeedOf, IsStepOf}
+use Rattle.run_promise.specs.Legal.{KeyOf}
+use Rattle.run_promise.specs.Log.{entries_of}
+use Rattle.run_promise.specs.Numbers.{mark_of, reserve_of}
 use Rattle.unit_book.specs.declared.fault.BookFault.{BookFault}
 use Rattle.unit_book.specs.declared.fault.BookFault.TheVariants as refusals
 use Rattle.unit_book.specs.Book.{BookView, CanEnter, IsBarred, IsUnstored}
@@ -46,14 +46,16 @@ use Rattle.shared_unit.specs.Numbers.{Draws}
 use Rattle.shared_unit.specs.Told.{known_of_book, entry_count}
 use Rattle.shared_unit.specs.Turn.{FindsCovered, Visits}
 use Rattle.shared_unit.proofs.Steps.{earlier_again}
-use Rattle.law_workers.specs.Begin.{Begin}
+use Rattle.run_promise.specs.Begin.{Begin}
 use Rattle.law_workers.specs.Views.{entries_in}
-use Rattle.law_workers.specs.Deeds.{course_in, deed_of}
+use Rattle.law_workers.specs.Deeds.{course_in}
+use Rattle.run_promise.specs.Deed.{deed_of}
 use Rattle.law_workers.specs.Order.{Layout}
-use Rattle.law_workers.specs.Machine.{Move, Kept, Found, Drew, Raised, Overdrew}
-use Rattle.law_workers.specs.Serving as machine
+use Rattle.run_promise.specs.Machine.{Move, Kept, Found, Drew, Raised, Overdrew}
+use Rattle.run_promise.specs.Serving as machine
 use Rattle.law_workers.specs.InTurn.{IsClean}
-use Rattle.law_workers.specs.Exact.{TellsSeen, TellsCommand, TellsKind, Tells, IsOfMoves}
+use Rattle.run_promise.specs.Moves.{TellsSeen, TellsCommand, TellsKind, Tells}
+use Rattle.law_workers.specs.Exact.{IsOfMoves}
 use Rattle.law_workers.specs.Began.{BeganWith}
 use Rattle.law_calls.specs.Answering.{answer_of, fault_answer, commanded_answer, AnsweredExactly}
 use Rattle.law_calls.proofs.Behind.{lines_of, lines_more, lines_entries}

@@ -14,17 +14,18 @@ use Rattle.record_io.specs.declared.kinds.RecordKind.TheVariants.{Protect, Open,
 use Rattle.record_io.specs.declared.records.Record.{Record}
 use Rattle.counter_table.specs.declared.view.View.{View}
 use Rattle.counter_table.specs.Turn.{places, stands}
-use Rattle.law_history.specs.Answers.{counting}
-use Rattle.law_history.specs.Log.{entries_of}
+use Rattle.run_promise.specs.Answers.{counting}
+use Rattle.run_promise.specs.Log.{entries_of}
 use Rattle.unit_book.specs.declared.fault.BookFault.{BookFault}
 use Rattle.unit_book.specs.declared.fault.BookFault.TheVariants as refusals
-use Rattle.law_workers.specs.Begin.{Begin}
+use Rattle.run_promise.specs.Begin.{Begin}
 use Rattle.law_workers.specs.Views.{log_of, entries_in}
-use Rattle.law_workers.specs.Deeds.{deed_of}
+use Rattle.run_promise.specs.Deed.{deed_of}
 use Rattle.law_workers.proofs.Logs.{more_stands}
-use Rattle.law_workers.specs.Machine.{Move, Kept}
-use Rattle.law_workers.specs.Exact.{IsOfMoves, Tells, TellsKind}
-use Rattle.law_workers.specs.Serving.{AloneServes}
+use Rattle.run_promise.specs.Machine.{Move, Kept}
+use Rattle.law_workers.specs.Exact.{IsOfMoves}
+use Rattle.run_promise.specs.Moves.{Tells, TellsKind}
+use Rattle.run_promise.specs.Serving.{AloneServes}
 use Rattle.law_workers.specs.InTurn.{IsClean, IsLevel, AreMarked, ServedInTurn}
 use Rattle.law_workers.proofs.Machines.{exact_move, move_moves}
 use Rattle.law_calls.specs.Answering.{answer_of, unserved_answer, fault_answer, AnsweredExactly}

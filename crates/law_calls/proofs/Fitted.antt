@@ -16,10 +16,10 @@ use Rattle.record_io.specs.declared.answers.Answer.{Answer}
 use Rattle.record_io.specs.declared.kinds.RecordKind.{RecordKind}
 use Rattle.record_io.specs.declared.kinds.RecordKind.TheVariants.{Protect, Open, Command}
 use Rattle.record_io.specs.declared.code.TheConstants.{JOURNAL_FULL, SITE_FAULT, STOPPED}
-use Rattle.law_history.specs.Answers.{counting, opened_told, replied_told}
-use Rattle.law_history.specs.Entries.{frame_entry, record_entry, IsStepOf}
-use Rattle.law_history.specs.Stored.{stored_count}
-use Rattle.law_history.specs.Fits.{Course, Fits, FitsAny, FitsKind, MayAppend, MayAppendOnce, TellsRisenCount, state_after}
+use Rattle.run_promise.specs.Answers.{counting, opened_told, replied_told}
+use Rattle.run_promise.specs.Entries.{frame_entry, record_entry, IsStepOf}
+use Rattle.run_promise.specs.Stored.{stored_count}
+use Rattle.run_promise.specs.Fits.{Course, Fits, FitsAny, FitsKind, MayAppend, MayAppendOnce, TellsRisenCount, state_after}
 use Rattle.law_calls.specs.Answering.{answer_of, unserved_answer}
 
 pub after_front : (start : State) (es rest : List Entry) → after_first start (es ++ rest) (length es) ≡ after start es

@@ -23,20 +23,19 @@ use Rattle.counter_table.specs.declared.view.View.{View}
 use Rattle.counter_table.specs.Known.{Earlier}
 use Rattle.counter_table.specs.Play.{IsCovered}
 use Rattle.counter_table.specs.Turn.{places, stands}
-use Rattle.law_history.specs.Answers.{counting}
-use Rattle.law_history.specs.Log.{entries_of}
-use Rattle.law_history.specs.Numbers.{mark_of}
-use Rattle.law_history.specs.Stored.{IsStored, stored_count}
+use Rattle.run_promise.specs.Answers.{counting}
+use Rattle.run_promise.specs.Log.{entries_of}
+use Rattle.run_promise.specs.Numbers.{mark_of, mark_at}
+use Rattle.run_promise.specs.Stored.{IsStored, stored_count}
 use Rattle.unit_book.specs.Book.{BookView, Enters}
-use Rattle.unit_book.specs.Marks.{mark_at}
 use Rattle.shared_unit.specs.Told.{known_of_book}
 use Rattle.shared_unit.specs.Turn.{FindsCovered, taking_once, Visits}
-use Rattle.law_workers.specs.Begin.{Begin}
+use Rattle.run_promise.specs.Begin.{Begin}
 use Rattle.law_workers.specs.Views.{IsRow, log_of, entries_in}
-use Rattle.law_workers.specs.Deeds.{deed_of}
+use Rattle.run_promise.specs.Deed.{deed_of}
 use Rattle.law_workers.proofs.Rows.{mark_known}
-use Rattle.law_workers.specs.Machine.{Move}
-use Rattle.law_workers.specs.Serving.{HasSlot, SaysFull, AloneServes}
+use Rattle.run_promise.specs.Machine.{Move}
+use Rattle.run_promise.specs.Serving.{HasSlot, SaysFull, AloneServes}
 use Rattle.law_workers.specs.InTurn.{MadeAllLines, IsClean, IsLevel, IsMarked, AreMarked, ServedInTurn}
 use Rattle.law_calls.specs.Answering.{answer_of}
 use Rattle.law_workers.specs.Began.{BeganWith}

@@ -15,14 +15,15 @@ use Rattle.counter_table.specs.declared.view.View.{View}
 use Rattle.counter_table.specs.Known.{Earlier, IsSparing}
 use Rattle.counter_table.specs.Numbers.{count_of, top}
 use Rattle.counter_table.specs.Turn.{places, epoch_seen}
-use Rattle.law_history.specs.Log.{entries_of}
-use Rattle.law_history.specs.Legal.{IsLegalAt}
-use Rattle.law_history.specs.Counts.{is_of_record, is_of_none, count_at, drawers}
-use Rattle.law_history.specs.Fits.{Fits}
-use Rattle.law_workers.specs.Begin.{Begin}
+use Rattle.run_promise.specs.Log.{entries_of}
+use Rattle.run_promise.specs.Legal.{IsLegalAt}
+use Rattle.run_promise.specs.Counts.{is_of_record, is_of_none, count_at, drawers}
+use Rattle.run_promise.specs.Fits.{Fits}
+use Rattle.run_promise.specs.Begin.{Begin}
 use Rattle.law_workers.specs.Views.{Gains, Gained, KnowsMore, IsBetween, log_of, entries_in}
 use Rattle.law_workers.specs.Work.{indexed, IsAsked, Works}
-use Rattle.law_workers.specs.Deeds.{Deed, deed_of, course_in, StandsWithin, Agree, IsSpent, MadeLast}
+use Rattle.run_promise.specs.Deed.{Deed, deed_of}
+use Rattle.law_workers.specs.Deeds.{course_in, StandsWithin, Agree, IsSpent, MadeLast}
 use Rattle.law_workers.specs.Order.{Layout, TakeTurns, is_line, is_piece, Lined, Handled}
 use Rattle.law_workers.proofs.Logs.{count_one}
 use Rattle.law_calls.proofs.Behind.{lines_of, tested, lines_length, places_within, count_behind, all_lines, no_pieces, LegalInTurn, legal_behind}

@@ -14,14 +14,14 @@ use Rattle.unit_plan.specs.PlanLines.{PlanLines}
 use Rattle.unit_state.specs.declared.state.State.{State}
 use Rattle.unit_state.specs.History.{after}
 use Rattle.counter_table.specs.declared.view.View.{View}
-use Rattle.law_history.specs.Answers.{opened_told, Uses}
-use Rattle.law_history.specs.Counts.{is_of_record}
-use Rattle.law_history.specs.Entries.{frame_entry}
-use Rattle.law_history.specs.Fits.{CanAppend, CanRaiseFloor, MayAppend, state_after}
-use Rattle.law_history.specs.Legal.{IsLegal}
-use Rattle.law_history.specs.Log.{entries_of}
-use Rattle.law_history.specs.Numbers.{floor_of}
-use Rattle.law_history.specs.Stored.{IsStored}
+use Rattle.run_promise.specs.Answers.{opened_told, Uses}
+use Rattle.run_promise.specs.Counts.{is_of_record}
+use Rattle.run_promise.specs.Entries.{frame_entry}
+use Rattle.run_promise.specs.Fits.{CanAppend, CanRaiseFloor, MayAppend, state_after}
+use Rattle.run_promise.specs.Legal.{IsLegal}
+use Rattle.run_promise.specs.Log.{entries_of}
+use Rattle.run_promise.specs.Numbers.{floor_of}
+use Rattle.run_promise.specs.Stored.{IsStored}
 use Rattle.law_history.proofs.StoredEntries.{stored_raises}
 use Rattle.unit_book.specs.declared.fault.BookFault.{BookFault}
 use Rattle.unit_book.specs.Book.{BookView, CanEnter}
@@ -29,7 +29,7 @@ use Rattle.unit_book.specs.Records.{OpensWithEntry, RefusesFrame}
 use Rattle.shared_unit.specs.Calls.{WithPosition}
 use Rattle.shared_unit.specs.Told.{known_of_book}
 use Rattle.shared_unit.specs.Turn.{Visits}
-use Rattle.law_workers.specs.Begin.{Begin}
+use Rattle.run_promise.specs.Begin.{Begin}
 use Rattle.law_workers.specs.Views.{IsBetween}
 use Rattle.law_workers.specs.Work.{indexed}
 use Rattle.law_workers.specs.Deeds.{course_in}

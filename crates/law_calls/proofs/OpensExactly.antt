@@ -15,9 +15,9 @@ use Rattle.counter_table.specs.declared.view.Numbers.{Numbers}
 use Rattle.counter_table.specs.declared.view.View.{View}
 use Rattle.counter_table.specs.Turn.{places}
 use Rattle.record_io.specs.declared.code.TheConstants.{JOURNAL_FULL}
-use Rattle.law_history.specs.Answers.{counting, opened_told}
-use Rattle.law_history.specs.Entries.{frame_entry}
-use Rattle.law_history.specs.Log.{entries_of}
+use Rattle.run_promise.specs.Answers.{counting, opened_told}
+use Rattle.run_promise.specs.Entries.{frame_entry}
+use Rattle.run_promise.specs.Log.{entries_of}
 use Rattle.unit_book.specs.declared.fault.BookFault.{BookFault}
 use Rattle.unit_book.specs.declared.fault.BookFault.TheVariants as refusals
 use Rattle.unit_book.specs.Book.{BookView, IsBarred, IsUnstored}
@@ -25,13 +25,13 @@ use Rattle.unit_book.specs.Records.{OpensWithEntry, RefusesFrame}
 use Rattle.shared_unit.specs.Calls.{WithPosition}
 use Rattle.shared_unit.specs.Told.{known_of_book, entry_count}
 use Rattle.shared_unit.specs.Turn.{FindsCovered, Visits}
-use Rattle.law_workers.specs.Begin.{Begin}
+use Rattle.run_promise.specs.Begin.{Begin}
 use Rattle.law_workers.specs.Views.{entries_in}
-use Rattle.law_workers.specs.Deeds.{deed_of}
-use Rattle.law_workers.specs.Machine.{Kept}
-use Rattle.law_workers.specs.Serving.{now, HasSlot, SaysFull, AloneOpened, AloneUnopened, ServesKind, AloneServes}
+use Rattle.run_promise.specs.Deed.{deed_of}
+use Rattle.run_promise.specs.Machine.{Kept}
+use Rattle.run_promise.specs.Serving.{now, HasSlot, SaysFull, AloneOpened, AloneUnopened, ServesKind, AloneServes}
 use Rattle.law_workers.specs.InTurn.{IsClean}
-use Rattle.law_workers.specs.Exact.{Tells, TellsKind}
+use Rattle.run_promise.specs.Moves.{Tells, TellsKind}
 use Rattle.law_workers.specs.Began.{BeganWith}
 use Rattle.law_calls.specs.Answering.{answer_of, fault_answer, opened_answer, AnsweredExactly}
 use Rattle.law_calls.proofs.Behind.{lines_of, lines_entries}

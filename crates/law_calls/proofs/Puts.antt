@@ -18,16 +18,15 @@ use Rattle.counter_table.specs.declared.view.View.{View}
 use Rattle.counter_table.specs.Known.{IsSparing}
 use Rattle.counter_table.specs.Play.{IsCovered}
 use Rattle.counter_table.specs.Turn.{places, stands}
-use Rattle.law_history.specs.Log.{entries_of}
-use Rattle.law_history.specs.Numbers.{mark_of}
+use Rattle.run_promise.specs.Log.{entries_of}
+use Rattle.run_promise.specs.Numbers.{mark_of, mark_at}
 use Rattle.unit_book.specs.declared.fault.BookFault.{BookFault}
-use Rattle.unit_book.specs.Marks.{mark_at}
 use Rattle.unit_book.specs.Book.{BookView}
 use Rattle.shared_unit.specs.Calls.{IsPut}
 use Rattle.shared_unit.specs.Told.{known_of_book}
 use Rattle.shared_unit.specs.Turn.{taking_once}
 use Rattle.shared_unit.proofs.Steps.{earlier_again}
-use Rattle.law_workers.specs.Begin.{Begin}
+use Rattle.run_promise.specs.Begin.{Begin}
 use Rattle.law_workers.specs.Views.{Gains, log_of, entries_in, KnowsMore, Gained}
 use Rattle.law_workers.specs.Work.{Worked}
 use Rattle.law_workers.specs.Settles.{SettlesAt}

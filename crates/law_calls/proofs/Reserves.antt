@@ -10,11 +10,11 @@ use Rattle.unit_state.specs.Applied.{applied}
 use Rattle.unit_state.specs.History.{after}
 use Rattle.unit_state.specs.Restart.{still}
 use Rattle.unit_state.proofs.StateLaws.{light_still}
-use Rattle.law_history.specs.Counts.{drawers}
-use Rattle.law_history.specs.Fits.{MayAppend, IsUnmarked, state_after}
-use Rattle.law_history.specs.Legal.{IsLegal}
-use Rattle.law_history.specs.Log.{entries_of}
-use Rattle.law_history.specs.Numbers.{mark_of, reserve_of}
+use Rattle.run_promise.specs.Counts.{drawers}
+use Rattle.run_promise.specs.Fits.{MayAppend, IsUnmarked, state_after}
+use Rattle.run_promise.specs.Legal.{IsLegal}
+use Rattle.run_promise.specs.Log.{entries_of}
+use Rattle.run_promise.specs.Numbers.{mark_of, reserve_of}
 use Rattle.unit_book.specs.declared.fault.BookFault.{BookFault}
 use Rattle.unit_book.specs.Book.{BookView, CanEnter, Made}
 use Rattle.shared_unit.specs.Funding.{Reserves}

@@ -21,22 +21,23 @@ use Rattle.counter_table.specs.declared.view.Opening.{Opening}
 use Rattle.counter_table.specs.declared.view.Turn.{Turn}
 use Rattle.counter_table.specs.declared.view.View.{View}
 use Rattle.counter_table.specs.Turn.{epoch_seen, places}
-use Rattle.law_history.specs.Answers.{Told, counting, plain, Uses}
-use Rattle.law_history.specs.Counts.{is_of_record, is_of_none, drawers}
-use Rattle.law_history.specs.Fits.{Course, Fits, MayAppend, state_after}
-use Rattle.law_history.specs.Legal.{IsLegal}
-use Rattle.law_history.specs.Log.{entries_of}
-use Rattle.law_history.specs.Stored.{IsStored, stored_count}
+use Rattle.run_promise.specs.Answers.{Told, counting, plain, Uses}
+use Rattle.run_promise.specs.Counts.{is_of_record, is_of_none, drawers}
+use Rattle.run_promise.specs.Fits.{Course, Fits, MayAppend, state_after}
+use Rattle.run_promise.specs.Legal.{IsLegal}
+use Rattle.run_promise.specs.Log.{entries_of}
+use Rattle.run_promise.specs.Stored.{IsStored, stored_count}
 use Rattle.unit_book.specs.declared.fault.BookFault.{BookFault}
 use Rattle.unit_book.specs.declared.fault.BookFault.TheVariants as refusals
-use Rattle.unit_book.specs.declared.limits.TheConstants.{MOST_ENTRIES}
+use Rattle.run_promise.specs.declared.limits.TheConstants.{MOST_ENTRIES}
 use Rattle.unit_book.specs.Book.{BookView, CanEnter, Enters, IsBarred, IsUnstored, IsKept}
 use Rattle.shared_unit.specs.Told.{known_of_book, entry_count}
 use Rattle.shared_unit.specs.Turn.{Visits}
-use Rattle.law_workers.specs.Begin.{Begin}
+use Rattle.run_promise.specs.Begin.{Begin}
 use Rattle.law_workers.specs.Views.{Gains, IsBetween, IsRow, entries_in}
 use Rattle.law_workers.specs.Work.{indexed}
-use Rattle.law_workers.specs.Deeds.{deed_of, course_in, is_protected, epoch_told, StandsWithin, IsLastAt, IsSpent, MadeLast}
+use Rattle.run_promise.specs.Deed.{deed_of, is_protected, epoch_told}
+use Rattle.law_workers.specs.Deeds.{course_in, StandsWithin, IsLastAt, IsSpent, MadeLast}
 use Rattle.frame_checks.specs.ProtectingFrames.{has_channel}
 use Rattle.law_workers.specs.Order.{Layout, Handled}
 use Rattle.law_workers.specs.Began.{BeganWith}

@@ -16,13 +16,13 @@ use Rattle.counter_table.specs.declared.view.Opening.{Opening}
 use Rattle.counter_table.specs.declared.view.Turn.{Turn}
 use Rattle.counter_table.specs.Known.{Earlier, IsSparing}
 use Rattle.counter_table.specs.Turn.{epoch_seen, places}
-use Rattle.law_history.specs.Log.{entries_of}
+use Rattle.run_promise.specs.Log.{entries_of}
 use Rattle.unit_book.specs.Book.{BookView}
 use Rattle.unit_book.proofs.KeptLaws.{kept_whole, bounds_of}
 use Rattle.shared_unit.specs.Told.{known_of_book}
 use Rattle.shared_unit.specs.Turn.{taking_once, Visits}
 use Rattle.shared_unit.proofs.Steps.{earlier_again}
-use Rattle.law_workers.specs.Begin.{Begin}
+use Rattle.run_promise.specs.Begin.{Begin}
 use Rattle.law_workers.proofs.Histories.{row_kept_first, entries_both as both}
 use Rattle.law_workers.specs.Began.{BeganWith}
 use Rattle.law_calls.proofs.Behind.{lines_of, lines_entries, lines_length}

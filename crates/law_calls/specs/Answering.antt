@@ -9,7 +9,7 @@ use Rattle.record_io.specs.declared.code.TheConstants.{PROTECTED, CLEAR, EXHAUST
 use Rattle.record_io.specs.declared.code.TheConstants.{NO_MEMORY}
 use Rattle.record_io.specs.declared.records.Record.{Record}
 use Rattle.counter_table.specs.declared.view.View.{View}
-use Rattle.law_history.specs.Answers.{Told, counting, plain, numbered, opened_told, replied_told, fault_told}
+use Rattle.run_promise.specs.Answers.{Told, counting, plain, numbered, opened_told, replied_told, fault_told}
 use Rattle.unit_book.specs.declared.fault.BookFault.{BookFault}
 use Rattle.unit_book.specs.declared.fault.BookFault.TheVariants as faults
 use Rattle.unit_book.specs.Book.{BookView}
@@ -20,8 +20,8 @@ use Rattle.shared_unit.specs.Calls.{WithPosition}
 use Rattle.shared_unit.specs.Commanding.{IsCommanded}
 use Rattle.shared_unit.specs.Told.{known_of_book}
 use Rattle.shared_unit.specs.Turn.{Visits}
-use Rattle.law_workers.specs.Begin.{Begin}
-use Rattle.law_workers.specs.Deeds.{deed_of}
+use Rattle.run_promise.specs.Begin.{Begin}
+use Rattle.run_promise.specs.Deed.{deed_of}
 use Rattle.law_workers.specs.Order.{Layout, Handled}
 use Rattle.law_workers.specs.Ends.{IsFullFor}
 use Rattle.law_workers.specs.Alone.{MovedInTurn}

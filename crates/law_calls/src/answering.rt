@@ -10,7 +10,7 @@ ghost use Rattle.unit_book.specs.declared.fault.BookFault.{BookFault};
 ghost use Rattle.shared_unit.specs.declared.permit.Permit.{Permit};
 ghost use Rattle.shared_unit.specs.declared.permit.Protected.{Protected};
 ghost use Rattle.shared_unit.specs.Protecting.{IsProtectStep};
-ghost use Rattle.law_workers.specs.Begin.{Begin};
+ghost use Rattle.run_promise.specs.Begin.{Begin};
 ghost use Rattle.law_workers.specs.Order.{Layout};
 ghost use Rattle.law_workers.specs.Began.{BeganWith};
 ghost use Rattle.law_calls.specs.Answering.{Answered, commanded_answer, CommandsRecord, opened_answer, OpensRecord};

@@ -11,7 +11,7 @@ ghost use Rattle.shared_unit.specs.declared.permit.Permit.{Permit};
 ghost use Rattle.shared_unit.specs.declared.permit.Protected.{Protected};
 ghost use Rattle.shared_unit.specs.Protecting.{CoversIfTaken, IsProtectStep};
 ghost use Rattle.shared_unit.specs.Turn.{FindsCovered};
-ghost use Rattle.law_workers.specs.Begin.{Begin};
+ghost use Rattle.run_promise.specs.Begin.{Begin};
 ghost use Rattle.law_workers.specs.Began.{BeganWith};
 ghost use Rattle.law_calls.specs.Answering.{AnsweredExactly, commanded_answer, CommandsRecord, opened_answer};
 ghost use Rattle.law_calls.specs.Answering.{OpensRecord, protected_answer, unserved_answer};

@@ -14,8 +14,8 @@ use Rattle.unit_state.specs.Applied.{applied}
 use Rattle.unit_state.specs.History.{after}
 use Rattle.unit_state.specs.Restart.{acceptance_stored, stored_as}
 use Rattle.unit_state.proofs.Histories.{after_more}
-use Rattle.law_history.specs.Entries.{raised_floor}
-use Rattle.law_history.specs.Stored.{IsStored, stored_count}
+use Rattle.run_promise.specs.Entries.{raised_floor}
+use Rattle.run_promise.specs.Stored.{IsStored, stored_count}
 use Rattle.law_drill.specs.Plans.{receiver_lines}
 use Rattle.law_drill.proofs.Judging.{receiving}
 use Rattle.law_drill.proofs.Lanes.{accepted_on, each, end_on, floor_on, four, key_on, with_on}

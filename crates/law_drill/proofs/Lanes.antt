@@ -13,7 +13,7 @@ use Rattle.sa_book.specs.declared.sa_row.SaRow.{SaRow}
 use Rattle.unit_state.specs.declared.state.State.{State}
 use Rattle.unit_state.specs.State.{key_row}
 use Rattle.unit_state.specs.Applied.{applied}
-use Rattle.law_history.specs.Numbers.{mark_of, floor_of}
+use Rattle.run_promise.specs.Numbers.{mark_of, floor_of}
 use Rattle.law_drill.proofs.Starting.{association_at, first_state, key_at}
 
 abbrev pub key_on : ℕ → ℕ

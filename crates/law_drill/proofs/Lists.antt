@@ -7,7 +7,8 @@ use Rattle.std.proofs.lemmas.List.Sums.{sum_by-cons}
 use Rattle.law_drill.proofs.Tasks.{ascend_cons}
 use Rattle.record_io.specs.declared.answers.Answer.{Answer}
 use Rattle.record_io.specs.declared.records.Record.{Record}
-use Rattle.law_workers.specs.Deeds.{AllBoth, Ascend, Deed, deed_of, deeds_of}
+use Rattle.law_workers.specs.Deeds.{AllBoth, Ascend, deeds_of}
+use Rattle.run_promise.specs.Deed.{Deed, deed_of}
 use Rattle.law_workers.specs.Order.{ComeBefore}
 use Rattle.law_workers.specs.Work.{indexed}
 use Rattle.law_workers.proofs.Handling.{record_indexed}

@@ -16,7 +16,7 @@ use Rattle.unit_state.specs.Initial.{initial}
 use Rattle.unit_state.specs.Restart.{restarted}
 use Rattle.unit_state.specs.State.{KeepsRules}
 use Rattle.unit_image.specs.Shows.{LeadTo}
-use Rattle.law_workers.specs.Begin.{Begin}
+use Rattle.run_promise.specs.Begin.{Begin}
 use Rattle.law_drill.specs.Drilled.{UnitIsOpened}
 use Rattle.law_drill.specs.Plans.{receiver_lines, receiver_plan, sender_lines, sender_plan, slots}
 use Rattle.law_drill.proofs.Judging.{receiving}

@@ -26,15 +26,16 @@ use Rattle.frame_shield.specs.Protects.{Protects}
 use Rattle.frame_checks.specs.declared.open_reply.OpenReply.{OpenReply}
 use Rattle.frame_checks.specs.declared.open_reply.OpenReply.TheVariants.{Accepted}
 use Rattle.frame_checks.specs.OpeningFrames.{IsOpenReply}
-use Rattle.law_history.specs.Answers.{Told, told_by, opened_told}
-use Rattle.law_history.specs.Counts.{draws, drawers, is_none_index, reserves_of}
-use Rattle.law_history.specs.Entries.{frame_change, frame_entry, raised_floor}
-use Rattle.law_history.specs.Fits.{Course, Fits, FitsKind, IsFull, IsOpenAnswer}
-use Rattle.law_history.specs.Legal.{IsLegal, IsOpening}
-use Rattle.law_history.specs.Run.{NearWord}
-use Rattle.law_history.specs.Stored.{stored_count}
-use Rattle.law_workers.specs.Begin.{Begin}
-use Rattle.law_workers.specs.Deeds.{Deed, Does, course_in}
+use Rattle.run_promise.specs.Answers.{Told, told_by, opened_told}
+use Rattle.run_promise.specs.Counts.{draws, drawers, is_none_index, reserves_of}
+use Rattle.run_promise.specs.Entries.{frame_change, frame_entry, raised_floor}
+use Rattle.run_promise.specs.Fits.{Course, Fits, FitsKind, IsFull, IsOpenAnswer}
+use Rattle.run_promise.specs.Legal.{IsLegal, IsOpening}
+use Rattle.run_promise.specs.Run.{NearWord}
+use Rattle.run_promise.specs.Stored.{stored_count}
+use Rattle.run_promise.specs.Begin.{Begin}
+use Rattle.run_promise.specs.Deed.{Deed}
+use Rattle.law_workers.specs.Deeds.{Does, course_in}
 use Rattle.law_workers.specs.Order.{Layout, TakeTurns}
 use Rattle.law_workers.specs.Views.{entries_in}
 use Rattle.law_workers.proofs.WholeRun.{rules_at_end, IsHistory, answers_fit, legal}

@@ -10,8 +10,8 @@ use Rattle.unit_state.specs.Applied.{applied}
 use Rattle.unit_state.specs.History.{after, epoch_after}
 use Rattle.unit_state.specs.Restart.{counts}
 use Rattle.unit_state.proofs.Histories.{after_more, epochs_more}
-use Rattle.law_history.specs.Legal.{IsReserve}
-use Rattle.law_history.specs.Numbers.{mark_of, floor_of, reserve_of}
+use Rattle.run_promise.specs.Legal.{IsReserve}
+use Rattle.run_promise.specs.Numbers.{mark_of, floor_of, reserve_of}
 use Rattle.law_drill.specs.Plans.{sender_lines}
 use Rattle.law_drill.proofs.Lanes.{each, end_on, floor_on, four, key_lane, key_on, mark_on, marked_on, state_at, with_on}
 

@@ -26,16 +26,17 @@ use Rattle.unit_state.specs.History.{after, at_epoch, epoch_after}
 use Rattle.frame_shield.specs.declared.binding.Binding.{Binding}
 use Rattle.frame_shield.specs.Protects.{Protects}
 use Rattle.frame_checks.specs.ProtectingFrames as protecting
-use Rattle.law_history.specs.Answers.{Told, told_by, unbound_told}
-use Rattle.law_history.specs.Counts.{drawers, draws}
-use Rattle.law_history.specs.Fits.{Course, Fits, IsBound, IsExhausted, IsFull, IsProtected, IsUnbound}
-use Rattle.law_history.specs.Legal.{IsLegal, IsReserve}
-use Rattle.law_history.specs.Numbers.{mark_of}
-use Rattle.law_history.specs.ProtectingFrames.{protect_reply}
-use Rattle.law_history.specs.Run.{IsAskedFor, NearWord}
-use Rattle.law_history.specs.Stored.{IsStored, stored_count}
-use Rattle.law_workers.specs.Begin.{Begin}
-use Rattle.law_workers.specs.Deeds.{Deed, Does, course_in}
+use Rattle.run_promise.specs.Answers.{Told, told_by, unbound_told}
+use Rattle.run_promise.specs.Counts.{drawers, draws}
+use Rattle.run_promise.specs.Fits.{Course, Fits, IsBound, IsExhausted, IsFull, IsProtected, IsUnbound}
+use Rattle.run_promise.specs.Legal.{IsLegal, IsReserve}
+use Rattle.run_promise.specs.Numbers.{mark_of}
+use Rattle.run_promise.specs.ProtectingFrames.{protect_reply}
+use Rattle.run_promise.specs.Run.{IsAskedFor, NearWord}
+use Rattle.run_promise.specs.Stored.{IsStored, stored_count}
+use Rattle.run_promise.specs.Begin.{Begin}
+use Rattle.run_promise.specs.Deed.{Deed}
+use Rattle.law_workers.specs.Deeds.{Does, course_in}
 use Rattle.law_workers.specs.Order.{Handled, Layout}
 use Rattle.law_workers.specs.Views.{entries_in}
 use Rattle.law_workers.specs.Work.{indexed}

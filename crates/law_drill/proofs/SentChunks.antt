@@ -11,9 +11,10 @@ use Rattle.record_io.specs.declared.code.TheConstants as codes_of
 use Rattle.record_io.specs.declared.records.Record.{Record}
 use Rattle.counter_table.specs.declared.view.View.{View}
 use Rattle.counter_table.specs.Whole.{IsWhole}
-use Rattle.law_history.specs.Fits.{Fits}
-use Rattle.law_workers.specs.Begin.{Begin}
-use Rattle.law_workers.specs.Deeds.{Agree, Ascend, Deed, course_in, deed_of, deeds_of}
+use Rattle.run_promise.specs.Fits.{Fits}
+use Rattle.run_promise.specs.Begin.{Begin}
+use Rattle.law_workers.specs.Deeds.{Agree, Ascend, course_in, deeds_of}
+use Rattle.run_promise.specs.Deed.{Deed, deed_of}
 use Rattle.law_workers.specs.Order.{Handled, Layout}
 use Rattle.law_workers.specs.Views.{entries_in}
 use Rattle.law_workers.proofs.Handling.{handled_then}

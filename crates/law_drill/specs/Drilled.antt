@@ -12,7 +12,7 @@ use Rattle.unit_plan.specs.Plan.{plan_of}
 use Rattle.unit_image.specs.Shows.{Shows}
 use Rattle.counter_table.specs.declared.view.View.{View}
 use Rattle.counter_table.specs.Whole.{IsWhole}
-use Rattle.law_workers.specs.Begin.{Begin}
+use Rattle.run_promise.specs.Begin.{Begin}
 use Rattle.law_workers.specs.Deeds.{deeds_of}
 use Rattle.law_workers.specs.Order.{Layout, LiesIn, Handled}
 use Rattle.law_workers.specs.Opened as runs

@@ -15,11 +15,11 @@ use Rattle.record_io.specs.declared.kinds.RecordKind.{RecordKind}
 use Rattle.record_io.specs.declared.kinds.RecordKind.TheVariants.{Protect, Open, Command}
 use Rattle.record_io.specs.declared.records.Record.{Record}
 use Rattle.record_io.specs.Places.{Place, records_of}
-use Rattle.law_history.specs.Entries.{frame_entry, raised_floor}
-use Rattle.law_history.specs.ProtectingFrames.{protect_reply}
-use Rattle.law_history.specs.Answers.{Told, told_by, opened_told, replied_told, unbound_told, IsCodeOf, Accepts}
-use Rattle.law_history.specs.Fits.{Course, state_in, state_before, IsOpenAnswer, FitsAny, FitsKind, Fits}
-use Rattle.law_history.specs.Run.{TurnIn, IsLegalHistory}
+use Rattle.run_promise.specs.Entries.{frame_entry, raised_floor}
+use Rattle.run_promise.specs.ProtectingFrames.{protect_reply}
+use Rattle.run_promise.specs.Answers.{Told, told_by, opened_told, replied_told, unbound_told, IsCodeOf, Accepts}
+use Rattle.run_promise.specs.Fits.{Course, state_in, state_before, IsOpenAnswer, FitsAny, FitsKind, Fits}
+use Rattle.run_promise.specs.Run.{TurnIn, IsLegalHistory}
 use Rattle.law_history.specs.Laws.{AcceptsAt}
 use Rattle.law_history.proofs.Along.{of_places, accepted_twice}
 

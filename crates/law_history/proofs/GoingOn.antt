@@ -20,16 +20,16 @@ use Rattle.record_io.specs.declared.code.TheConstants.{SITE_FAULT, STOPPED}
 use Rattle.record_io.specs.declared.kinds.RecordKind.{RecordKind}
 use Rattle.record_io.specs.declared.kinds.RecordKind.TheVariants.{Protect, Open, Command}
 use Rattle.record_io.specs.declared.records.Record.{Record}
-use Rattle.law_history.specs.Numbers.{floor_of}
-use Rattle.law_history.specs.Entries.{IsNeedOf, IsStepOf, frame_entry, record_entry}
-use Rattle.law_history.specs.Log.{entries_of}
-use Rattle.law_history.specs.Stored.{stored_count}
-use Rattle.law_history.specs.Legal.{KeyOf, SeesFor, AsksFor, IsLegal, IsLegalAt}
-use Rattle.law_history.specs.Counts.{drawers}
-use Rattle.law_history.specs.Run.{IsAskedFor, NearWord}
-use Rattle.law_history.specs.ProtectingFrames.{protect_reply}
-use Rattle.law_history.specs.Answers.{told_by, unbound_told}
-use Rattle.law_history.specs.Fits.{Course, grown, IsUnmarked, CanReserve, CanRaiseFloor, CanChange, CanDraw, CanAppend, MayAppendOnce, IsBound, StandsAt, state_before, TellsRisenCount, FitsAny, FitsKind, Fits}
+use Rattle.run_promise.specs.Numbers.{floor_of}
+use Rattle.run_promise.specs.Entries.{IsNeedOf, IsStepOf, frame_entry, record_entry}
+use Rattle.run_promise.specs.Log.{entries_of}
+use Rattle.run_promise.specs.Stored.{stored_count}
+use Rattle.run_promise.specs.Legal.{KeyOf, SeesFor, AsksFor, IsLegal, IsLegalAt}
+use Rattle.run_promise.specs.Counts.{drawers}
+use Rattle.run_promise.specs.Run.{IsAskedFor, NearWord}
+use Rattle.run_promise.specs.ProtectingFrames.{protect_reply}
+use Rattle.run_promise.specs.Answers.{told_by, unbound_told}
+use Rattle.run_promise.specs.Fits.{Course, grown, IsUnmarked, CanReserve, CanRaiseFloor, CanChange, CanDraw, CanAppend, MayAppendOnce, IsBound, StandsAt, state_before, TellsRisenCount, FitsAny, FitsKind, Fits}
 use Rattle.law_history.proofs.Legal.{seen_wider, legal_wider}
 
 -- ---- lists

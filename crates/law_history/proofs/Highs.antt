@@ -36,7 +36,7 @@ use Rattle.unit_state.proofs.KeyRules.{equal_number, number_test}
 use Rattle.unit_state.proofs.RulesKept.{there}
 use Rattle.unit_state.proofs.SaRules.{judged, one_row}
 use Rattle.unit_state.proofs.StateLaws.{rises, fall_only_to}
-use Rattle.law_history.specs.Taken.{IsTaken}
+use Rattle.run_promise.specs.Taken.{IsTaken}
 use Rattle.law_history.proofs.Marks.{floor_is, floors_up, row_named}
 
 -- where an association receives with the key, its highest number is not below this one

@@ -27,11 +27,11 @@ use Rattle.ep_core.specs.Refusals.{refusal_of}
 use Rattle.ep_core.specs.Step.{IsDone, refused}
 use Rattle.ep_core.proofs.Allowed.{change_allowed}
 use Rattle.record_io.specs.declared.records.Record.{Record}
-use Rattle.law_history.specs.Entries.{frame_change, IsStepOf}
-use Rattle.law_history.specs.Legal.{SeesFor, SeenNear, anywhere, IsLegal, IsRelease}
+use Rattle.run_promise.specs.Entries.{frame_change, IsStepOf}
+use Rattle.run_promise.specs.Legal.{SeesFor, SeenNear, anywhere, IsLegal, IsRelease}
 use Rattle.law_history.specs.Laws.{IsOfCommand}
-use Rattle.law_history.proofs.Marking.{reserve_allowed, release_of_allowed}
-use Rattle.law_history.proofs.Accepted.{accept_allowed}
+use Rattle.run_promise.proofs.Marking.{reserve_allowed, release_of_allowed}
+use Rattle.run_promise.proofs.Accepted.{accept_allowed}
 
 -- ---- what a command changes
 

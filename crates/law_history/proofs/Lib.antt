@@ -1,5 +1,3 @@
-pub mod Marking
-pub mod Accepted
 pub mod Legal
 pub mod Marks
 pub mod Highs

@@ -26,7 +26,7 @@ use Rattle.unit_state.proofs.Held.{row_of_changed}
 use Rattle.unit_state.proofs.KeyRules.{stands, row_of_moved}
 use Rattle.unit_state.proofs.RulesKept.{there}
 use Rattle.unit_state.proofs.StateLaws.{places_kept}
-use Rattle.law_history.specs.Taken.{IsLoadedWith}
+use Rattle.run_promise.specs.Taken.{IsLoadedWith}
 use Rattle.law_history.proofs.Marks.{row_named}
 
 pub places_along : (start : State) (entries : List Entry) (key place : ℕ) → place_of start.keys key ≡ Some place

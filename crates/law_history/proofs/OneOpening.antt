@@ -18,8 +18,8 @@ use Rattle.frame_shield.proofs.OpenFacts.{one_frame}
 use Rattle.frame_checks.specs.declared.open_reply.OpenReply.{OpenReply}
 use Rattle.frame_checks.specs.declared.open_reply.OpenReply.TheVariants as opens
 use Rattle.frame_checks.specs.OpeningFrames.{IsOpenReply, IsReplyOn, IsReplyUnder, IsOpenedUnder, IsJudged, IsToldOr, frame_checks, association_checks, number_of_fault}
-use Rattle.law_history.specs.Entries.{frame_change}
-use Rattle.law_history.specs.Answers.{opened_told}
+use Rattle.run_promise.specs.Entries.{frame_change}
+use Rattle.run_promise.specs.Answers.{opened_told}
 
 -- ---- openings
 

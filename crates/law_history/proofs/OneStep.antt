@@ -1,4 +1,4 @@
--- The need and the step of a message are one.
+-- The step of a message is one.
 use Rattle.std.proofs.Common.{◌≡◌, ℕ, List, Option, Some, None, IsSomeAnd, inl, inr, sym, ap, ◌∙◌, subst}
 use Rattle.std.specs.Prelude.{MatchOption}
 use Rattle.std.proofs.lemmas.Option.{none-some, same_Some}
@@ -11,14 +11,12 @@ use Rattle.ep_codec.specs.declared.command.Command.{Command}
 use Rattle.ep_codec.specs.declared.command.Command.TheVariants.{Rekeying, Activate, Deactivate, Verify, Destroy, Inventory, Compose, ReadNumber, Create, Delete, SetWindow, Rekey, Expire, SetNumber, Start, Stop, Status}
 use Rattle.ep_codec.specs.declared.reply_pdu.ReplyPdu.TheVariants as replies
 use Rattle.ep_codec.proofs.CommandReadings.{message_has_none, one_value}
-use Rattle.ep_core.specs.declared.need.Need.{Need}
 use Rattle.ep_core.specs.declared.refusal.Refusal.{Refusal}
 use Rattle.ep_core.specs.declared.refusal.Refusal.TheVariants.{PduFault}
 use Rattle.ep_core.specs.declared.reply.Reply.{Reply}
-use Rattle.ep_core.specs.Need.{need_of}
 use Rattle.ep_core.specs.Refusals.{refusal_of}
 use Rattle.ep_core.specs.Step.{IsStep, IsDone, telling, refused}
-use Rattle.law_history.specs.Entries.{IsNeedOf, IsStepOf}
+use Rattle.run_promise.specs.Entries.{IsStepOf}
 use Rattle.law_history.proofs.OneInventory.{inventory_one}
 
 some_one : {X : Type 0} (o : Option X) (f : X → Change × Reply) (step other : Change × Reply) → IsSomeAnd o (λ x. step ≡ f x)
@@ -67,12 +65,3 @@ step_one state octets seen step other rules (inr (offset, fault, is)) (inl (comm
 step_one state octets seen step other rules (inr (offset, fault, is)) (inr (at, again, also)) =
     let same : offset ≡ at = same_Some offset at (sym fault ∙ again) in
     is ∙ ap (λ (n : ℕ). refused (PduFault n)) same ∙ sym also
-
-pub need_one : (state : State) (octets : List ℕ) (need other : Need) → IsNeedOf state octets need → IsNeedOf state octets other → need ≡ other
-need_one state octets need other (inl (command, spelled, is)) (inl (again, spells, also)) =
-    is ∙ ap (need_of state) (one_value command again octets spelled spells) ∙ sym also
-need_one state octets need other (inl (command, spelled, is)) (inr (offset, fault, also)) =
-    absurd (none-some offset (sym (message_has_none command octets spelled) ∙ fault))
-need_one state octets need other (inr (offset, fault, is)) (inl (command, spelled, also)) =
-    absurd (none-some offset (sym (message_has_none command octets spelled) ∙ fault))
-need_one state octets need other (inr (offset, fault, is)) (inr (at, again, also)) = is ∙ sym also

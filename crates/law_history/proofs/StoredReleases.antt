@@ -8,8 +8,8 @@ use Rattle.unit_state.specs.declared.state.State.{State}
 use Rattle.unit_state.specs.Applied.{applied}
 use Rattle.unit_state.specs.History.{after}
 use Rattle.unit_state.specs.Restart.{stored_as}
-use Rattle.law_history.specs.Numbers.{release_at, releases}
-use Rattle.law_history.specs.Stored.{IsStored, stored_count}
+use Rattle.run_promise.specs.Numbers.{release_at, releases}
+use Rattle.run_promise.specs.Stored.{IsStored, stored_count}
 use Rattle.law_history.proofs.Marks.{release_entry}
 use Rattle.law_history.proofs.Releasing.{releases_at}
 

@@ -26,11 +26,11 @@ use Rattle.ep_core.specs.Seen.{MeetsNeed, IsNumberSeen, number_of}
 use Rattle.ep_core.specs.Step.{IsDone, refused, using_number}
 use Rattle.ep_core.proofs.ComposeFacts.{none_append}
 use Rattle.ep_core.proofs.SealedFacts.{passed_both}
-use Rattle.law_history.specs.Numbers.{mark_of}
-use Rattle.law_history.specs.Entries.{IsNeedOf, IsStepOf}
-use Rattle.law_history.specs.Legal.{SeesFor, IsReserve}
+use Rattle.run_promise.specs.Numbers.{mark_of}
+use Rattle.run_promise.specs.Entries.{IsNeedOf, IsStepOf}
+use Rattle.run_promise.specs.Legal.{SeesFor, IsReserve}
 use Rattle.law_history.proofs.Marks.{mark_is}
-use Rattle.law_history.proofs.Marking.{mark_above}
+use Rattle.run_promise.proofs.Marking.{mark_above}
 
 -- the reply says that this number of this key was used
 pub record UsesNumber (reply : Reply) (key number : ℕ) : Type 0 where

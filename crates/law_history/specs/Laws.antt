@@ -9,7 +9,7 @@ use Rattle.unit_state.specs.declared.state.State.{State}
 use Rattle.unit_state.specs.History.{after_first, at_epoch, epoch_after}
 use Rattle.frame_checks.specs.declared.open_reply.OpenReply.{OpenReply}
 use Rattle.frame_checks.specs.declared.open_reply.OpenReply.TheVariants as opens
-use Rattle.law_history.specs.Numbers.{mark_of, floor_of}
+use Rattle.run_promise.specs.Numbers.{mark_of, floor_of}
 
 -- a change that a command makes: it neither sets marks nor accepts a number
 abbrev pub IsOfCommand : Change → Type 0

@@ -5,11 +5,11 @@ ghost use Rattle.record_io.specs.declared.answers.Answer.{Answer};
 ghost use Rattle.record_io.specs.declared.kinds.RecordKind.TheVariants.{Command};
 ghost use Rattle.record_io.specs.declared.records.Record.{Record};
 ghost use Rattle.record_io.specs.Places.{Place};
-ghost use Rattle.law_history.specs.Numbers.{mark_of};
-ghost use Rattle.law_history.specs.Legal.{anywhere};
-ghost use Rattle.law_history.specs.Run.{IsLegalHistory, IsOneOf};
-ghost use Rattle.law_history.specs.Answers.{Accepts, IsCodeOf, Uses};
-ghost use Rattle.law_history.specs.Fits.{Course, Fits, IsOpenAnswer, state_before};
+ghost use Rattle.run_promise.specs.Numbers.{mark_of};
+ghost use Rattle.run_promise.specs.Legal.{anywhere};
+ghost use Rattle.run_promise.specs.Run.{IsLegalHistory, IsOneOf};
+ghost use Rattle.run_promise.specs.Answers.{Accepts, IsCodeOf, Uses};
+ghost use Rattle.run_promise.specs.Fits.{Course, Fits, IsOpenAnswer, state_before};
 ghost use Rattle.law_history.specs.Laws.{AcceptsAt};
 
 /// Law: an answer that fits has one of the codes of its record's kind.

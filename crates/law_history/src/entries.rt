@@ -17,10 +17,10 @@ ghost use Rattle.ep_core.specs.declared.need.Need.TheVariants as needs;
 ghost use Rattle.ep_core.specs.declared.reply.Reply.{Reply};
 ghost use Rattle.ep_core.specs.declared.reply.Reply.TheVariants.{Done};
 ghost use Rattle.record_io.specs.declared.records.Record.{Record};
-ghost use Rattle.law_history.specs.Numbers.{mark_of};
-ghost use Rattle.law_history.specs.Entries.{frame_entry, IsNeedOf, IsStepOf};
-ghost use Rattle.law_history.specs.Stored.{IsStored};
-ghost use Rattle.law_history.specs.Legal.{anywhere, SeesFor, IsLegal, IsRelease, IsReserve};
+ghost use Rattle.run_promise.specs.Numbers.{mark_of};
+ghost use Rattle.run_promise.specs.Entries.{frame_entry, IsNeedOf, IsStepOf};
+ghost use Rattle.run_promise.specs.Stored.{IsStored};
+ghost use Rattle.run_promise.specs.Legal.{anywhere, SeesFor, IsLegal, IsRelease, IsReserve};
 ghost use Rattle.law_history.specs.Laws.{IsOfCommand, NumbersRise, RaisesFloor};
 
 /// Law: a legal entry's change is one that the state before it allows.

@@ -10,10 +10,10 @@ ghost use Rattle.unit_state.specs.declared.state.State.{State};
 ghost use Rattle.unit_state.specs.History.{after, after_first};
 ghost use Rattle.record_io.specs.declared.answers.Answer.{Answer};
 ghost use Rattle.record_io.specs.declared.records.Record.{Record};
-ghost use Rattle.law_history.specs.Log.{entries_of};
-ghost use Rattle.law_history.specs.Legal.{anywhere, IsLegal, IsLegalAt};
-ghost use Rattle.law_history.specs.Run.{NearWord};
-ghost use Rattle.law_history.specs.Fits.{Course, Fits, grown};
+ghost use Rattle.run_promise.specs.Log.{entries_of};
+ghost use Rattle.run_promise.specs.Legal.{anywhere, IsLegal, IsLegalAt};
+ghost use Rattle.run_promise.specs.Run.{NearWord};
+ghost use Rattle.run_promise.specs.Fits.{Course, Fits, grown};
 
 /// Law: a place of a log that is legal stays so while the log grows, among more records.
 pub fn legal_place_stays()

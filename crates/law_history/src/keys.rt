@@ -8,7 +8,7 @@ ghost use Rattle.unit_state.specs.declared.state.State.{State};
 ghost use Rattle.unit_state.specs.State.{KeepsRules, key_row};
 ghost use Rattle.unit_state.specs.History.{after, after_first, at_epoch, epoch_after};
 ghost use Rattle.unit_state.specs.Restart.{restarted};
-ghost use Rattle.law_history.specs.Taken.{IsLoadedWith};
+ghost use Rattle.run_promise.specs.Taken.{IsLoadedWith};
 
 /// Law: a key keeps its row through every history.
 pub fn rows_stay()

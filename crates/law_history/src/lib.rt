@@ -1,8 +1,8 @@
-//! The histories of a run, told by states, records and entries alone: what each entry of a frame, a message, a reserve
-//! and a release says, which histories are legal, and when an answer fits its record.
+//! Laws of histories, told by states, records and entries alone: what legal entries keep, and what answers that fit
+//! say.
 //!
-//! There is no code to run here: definitions stand in `specs`, and the functions are laws over them, with an empty
-//! body. Read `specs/Legal.antt` and `specs/Fits.antt` first.
+//! There is no code to run here. The definitions are those of `run_promise`; the functions are laws over them, with an
+//! empty body.
 #![tactic(auto)]
 
 mod answers;

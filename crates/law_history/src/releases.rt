@@ -8,10 +8,10 @@ ghost use Rattle.unit_state.specs.State.{KeepsRules};
 ghost use Rattle.unit_state.specs.History.{after, after_first};
 ghost use Rattle.record_io.specs.declared.records.Record.{Record};
 ghost use Rattle.record_io.specs.Places.{Place, records_of};
-ghost use Rattle.law_history.specs.Numbers.{releases};
-ghost use Rattle.law_history.specs.Stored.{stored_count};
-ghost use Rattle.law_history.specs.Legal.{AreNear, IsRelease};
-ghost use Rattle.law_history.specs.Run.{LegalRun, NearWord, TurnIn};
+ghost use Rattle.run_promise.specs.Numbers.{releases};
+ghost use Rattle.run_promise.specs.Stored.{stored_count};
+ghost use Rattle.run_promise.specs.Legal.{AreNear, IsRelease};
+ghost use Rattle.run_promise.specs.Run.{LegalRun, NearWord, TurnIn};
 
 /// Law: the first of the releases of all keys, in loading order, are each the release of a key in the state before it,
 /// where the words are at least 1 and near in the run.

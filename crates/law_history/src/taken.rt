@@ -13,9 +13,9 @@ ghost use Rattle.unit_state.specs.Restart.{restarted};
 ghost use Rattle.frame_checks.specs.declared.open_reply.OpenReply.TheVariants as opens;
 ghost use Rattle.frame_checks.specs.OpeningFrames.{IsOpenReply};
 ghost use Rattle.record_io.specs.declared.records.Record.{Record};
-ghost use Rattle.law_history.specs.Numbers.{floor_of};
-ghost use Rattle.law_history.specs.Legal.{anywhere, IsEntry};
-ghost use Rattle.law_history.specs.Taken.{kept_floor, IsTaken};
+ghost use Rattle.run_promise.specs.Numbers.{floor_of};
+ghost use Rattle.run_promise.specs.Legal.{anywhere, IsEntry};
+ghost use Rattle.run_promise.specs.Taken.{kept_floor, IsTaken};
 
 /// Law: the numbers that are taken are those up to the floor that a release would leave.
 pub fn taken_up_to_the_floor()

@@ -3,13 +3,13 @@ use Rattle.std.proofs.Common.{◌≡◌, ℕ, ◌<◌, List, ◌-◌, arith}
 use Rattle.std.specs.List.{All, AllPairs, slice_index_or}
 use Rattle.record_io.specs.Places.{Place, records_of}
 use Rattle.unit_state.specs.Restart.{restarted}
-use Rattle.law_history.specs.Numbers.{floor_of}
-use Rattle.law_history.specs.Run.{IsLegalHistory, TurnIn}
-use Rattle.law_history.specs.Answers.{Accepts}
-use Rattle.law_history.specs.Fits.{Course, Fits}
+use Rattle.run_promise.specs.Numbers.{floor_of}
+use Rattle.run_promise.specs.Run.{IsLegalHistory, TurnIn}
+use Rattle.run_promise.specs.Answers.{Accepts}
+use Rattle.run_promise.specs.Fits.{Course, Fits}
 use Rattle.law_history.proofs.Along.{accepted_above, of_places}
 use Rattle.law_history.proofs.Codes.{accepting_opening, accepts_at, answers_once}
-use Rattle.law_workers.specs.Deeds.{Deed, Differ}
+use Rattle.run_promise.specs.Deed.{Deed, Differ}
 
 module _ (near : ℕ → ℕ → Type 0) (course : Course) (places : List Place) (history : IsLegalHistory course.plan course.start places course.entries) where
   pub accepts_differ : (deeds : List Deed) → AllPairs (λ (d e : Deed). d.task.index < e.task.index) deeds

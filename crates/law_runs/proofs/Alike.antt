@@ -21,27 +21,25 @@ use Rattle.unit_plan.specs.PlanLines.{PlanLines}
 use Rattle.unit_state.specs.declared.state.State.{State}
 use Rattle.unit_state.specs.State.{KeepsRules}
 use Rattle.unit_state.specs.History.{after, after_first}
-use Rattle.law_history.specs.Answers.{codes_of}
-use Rattle.law_history.specs.Fits.{Course, Fits}
-use Rattle.law_history.specs.Numbers.{releases}
-use Rattle.law_history.specs.Run.{IsLegalHistory, NearWord}
-use Rattle.law_history.specs.Stored.{stored_count}
+use Rattle.run_promise.specs.Answers.{codes_of}
+use Rattle.run_promise.specs.Fits.{Course, Fits}
+use Rattle.run_promise.specs.Numbers.{releases, mark_at}
+use Rattle.run_promise.specs.Run.{IsLegalHistory, NearWord}
+use Rattle.run_promise.specs.Stored.{stored_count}
 use Rattle.law_history.proofs.Codes.{fits_code}
-use Rattle.unit_book.specs.declared.limits.TheConstants.{MOST_ENTRIES}
-use Rattle.unit_book.specs.Marks.{mark_at}
-use Rattle.law_workers.specs.Begin.{Begin}
-use Rattle.law_workers.specs.Deeds.{Deed}
-use Rattle.law_workers.specs.Machine.{Move, Runs, adds_all}
-use Rattle.law_workers.specs.Serving.{AreServed, SameTasks, ServesAll}
-use Rattle.law_workers.specs.Alone.{OneLane}
-use Rattle.law_runs.specs.declared.end.RunEnd.{RunEnd}
-use Rattle.law_runs.specs.declared.end.RunEnd.TheVariants.{Ended, SiteFault}
-use Rattle.law_runs.specs.Call.{CallSeen, ShowsAtEntry, image_at_entry}
-use Rattle.law_runs.specs.Account.{Account, SaysSiteFailed, begin_of, course_of, deeds_from, deeds_in, end_answer, end_octets}
-use Rattle.law_runs.specs.Causes.{TellsEnd}
-use Rattle.law_runs.specs.Ends.{IsJournalFull, IsReleased, IsSoundCall, RunEnds, due_releases}
-use Rattle.law_runs.specs.Alone.{IsExact, NoneWants, RunsAlike}
-use Rattle.law_runs.specs.Says.{DidAll}
+use Rattle.run_promise.specs.declared.limits.TheConstants.{MOST_ENTRIES}
+use Rattle.run_promise.specs.Begin.{Begin}
+use Rattle.run_promise.specs.Deed.{Deed}
+use Rattle.run_promise.specs.Machine.{Move, Runs, adds_all}
+use Rattle.run_promise.specs.Serving.{AreServed, SameTasks, ServesAll}
+use Rattle.run_promise.specs.Alone.{OneLane, IsExact}
+use Rattle.run_promise.specs.declared.end.RunEnd.{RunEnd}
+use Rattle.run_promise.specs.declared.end.RunEnd.TheVariants.{Ended, SiteFault}
+use Rattle.run_promise.specs.Call.{CallSeen, ShowsAtEntry, image_at_entry}
+use Rattle.run_promise.specs.Account.{Account, SaysSiteFailed, begin_of, course_of, deeds_from, deeds_in, end_answer, end_octets}
+use Rattle.run_promise.specs.Causes.{TellsEnd}
+use Rattle.run_promise.specs.Ends.{IsJournalFull, IsReleased, IsSoundCall, RunEnds, due_releases}
+use Rattle.law_runs.specs.Says.{NoneWants, RunsAlike, DidAll}
 
 -- ---- codes
 

@@ -11,19 +11,21 @@ use Rattle.unit_plan.specs.PlanRules.{IsPlan}
 use Rattle.unit_state.specs.State.{KeepsRules}
 use Rattle.unit_state.specs.Restart.{restarted}
 use Rattle.unit_state.specs.History.{after}
-use Rattle.law_history.specs.Counts.{drawers}
-use Rattle.law_history.specs.Run.{NearWord, IsLegalHistory, TurnIn}
-use Rattle.law_history.specs.Fits.{Course, Fits}
+use Rattle.run_promise.specs.Counts.{drawers}
+use Rattle.run_promise.specs.Run.{NearWord, IsLegalHistory, TurnIn}
+use Rattle.run_promise.specs.Fits.{Course, Fits}
 use Rattle.law_history.proofs.Along.{of_places}
-use Rattle.law_workers.specs.Begin.{Begin}
+use Rattle.run_promise.specs.Begin.{Begin}
 use Rattle.law_workers.specs.Views.{log_of, entries_in}
 use Rattle.law_workers.specs.Work.{indexed}
-use Rattle.law_workers.specs.Deeds.{Deed, Does, StandsWithin, StandsBehind, course_in}
+use Rattle.run_promise.specs.Deed.{Deed, StandsBehind}
+use Rattle.law_workers.specs.Deeds.{Does, StandsWithin, course_in}
 use Rattle.law_workers.specs.Order.{Lined}
 use Rattle.law_workers.proofs.Logs.{told_kept}
 use Rattle.law_workers.specs.Opened.{IsJustOpened}
 use Rattle.law_runs.specs.Release.{AreReleases}
-use Rattle.law_runs.specs.Sound.{IsSound, StaysCovered}
+use Rattle.run_promise.specs.Sound.{IsSound}
+use Rattle.law_runs.specs.AtEnd.{StaysCovered}
 use Rattle.law_workers.proofs.WholeRun.{rules_at_end, pairs, pairs_above, one_fault, order, answers_fit}
 use Rattle.law_runs.proofs.Released.{legal_run, below_releases, fits_ended}
 use Rattle.law_runs.proofs.Accepting.{accepts_differ, accepts_above}

@@ -4,13 +4,13 @@ use Rattle.std.specs.List.{All}
 use Rattle.sdls_base.specs.declared.entry.Entry.{Entry}
 use Rattle.record_io.specs.declared.records.Record.{Record}
 use Rattle.unit_state.specs.History.{epoch_after}
-use Rattle.law_history.specs.Answers.{Uses}
-use Rattle.law_history.specs.Fits.{Course}
+use Rattle.run_promise.specs.Answers.{Uses}
+use Rattle.run_promise.specs.Fits.{Course}
 use Rattle.law_history.specs.Laws.{IsBelowReleases}
 use Rattle.law_history.proofs.Along.{OfRun, kept_along, below_along}
-use Rattle.law_workers.specs.Begin.{Begin}
-use Rattle.law_workers.specs.Deeds.{Deed}
-use Rattle.law_runs.specs.Sound.{StaysCovered}
+use Rattle.run_promise.specs.Begin.{Begin}
+use Rattle.run_promise.specs.Deed.{Deed}
+use Rattle.law_runs.specs.AtEnd.{StaysCovered}
 
 epochs_rise : (entries : List Entry) (p q : ℕ) → p ≤ q → epoch_after (take p entries) ≤ epoch_after (take q entries)
 epochs_rise [] zero zero h = omega arith

@@ -11,15 +11,16 @@ use Rattle.counter_table.specs.Whole.{IsWhole, RowStands}
 use Rattle.record_io.specs.declared.answers.Answer.{Answer}
 use Rattle.record_io.specs.declared.records.Record.{Record}
 use Rattle.record_io.specs.Places.{Place, records_of}
-use Rattle.law_history.specs.Run.{IsLegalHistory, TurnIn}
-use Rattle.law_workers.specs.Begin.{Begin}
+use Rattle.run_promise.specs.Run.{IsLegalHistory, TurnIn}
+use Rattle.run_promise.specs.Begin.{Begin}
 use Rattle.law_workers.specs.Views.{log_of, entries_in}
-use Rattle.law_workers.specs.Deeds.{Deed, Does}
+use Rattle.run_promise.specs.Deed.{Deed}
+use Rattle.law_workers.specs.Deeds.{Does}
 use Rattle.law_workers.specs.Order.{Layout, TakeTurns, Lined}
 use Rattle.law_runs.specs.AtEnd.{EndsRun}
 use Rattle.law_runs.specs.Release.{AreReleases}
 use Rattle.law_runs.proofs.Assembled.{sound_run}
-use Rattle.law_runs.specs.Account.{deeds_from}
+use Rattle.run_promise.specs.Account.{deeds_from}
 use Rattle.law_runs.specs.Doing.{HasDone, IsFounded}
 use Rattle.law_runs.proofs.Placed.{IsBefore, deeds_ascend, indexed_once, lane_at, lane_there, segment_at, segment_there}
 

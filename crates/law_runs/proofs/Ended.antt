@@ -14,18 +14,18 @@ use Rattle.record_io.specs.Answers.{answer_octets, answers_octets}
 use Rattle.record_io.specs.Places.{Place, first_count, places_of, records_of}
 use Rattle.record_io.specs.Reading.{SourceSeen}
 use Rattle.counter_table.specs.declared.view.View.{View}
-use Rattle.law_history.specs.Log.{entries_of, pieces_of}
+use Rattle.run_promise.specs.Log.{entries_of, pieces_of}
 use Rattle.unit_book.specs.declared.fault.BookFault.{BookFault}
 use Rattle.unit_book.specs.declared.fault.BookFault.TheVariants.{SessionFull}
-use Rattle.unit_book.specs.declared.limits.TheConstants.{MOST_ENTRIES}
+use Rattle.run_promise.specs.declared.limits.TheConstants.{MOST_ENTRIES}
 use Rattle.unit_book.specs.Book.{BookView, Serves}
 use Rattle.unit_book.specs.Log.{sunk_between}
 use Rattle.law_workers.proofs.Histories.{entries_both}
-use Rattle.law_runs.specs.declared.end.RunEnd.{RunEnd}
-use Rattle.law_runs.specs.declared.end.RunEnd.TheVariants as ends
-use Rattle.law_runs.specs.Call.{CallSeen, ShowsAtEntry, SiteSeen}
-use Rattle.law_runs.specs.Account.{Account, SaysSiteFailed, begin_of, course_of, deeds_from, due_octets, end_answer, end_octets, end_status}
-use Rattle.law_runs.specs.Causes.{CameBy, PutsDue, PutsFront, TellsEnd}
+use Rattle.run_promise.specs.declared.end.RunEnd.{RunEnd}
+use Rattle.run_promise.specs.declared.end.RunEnd.TheVariants as ends
+use Rattle.run_promise.specs.Call.{CallSeen, ShowsAtEntry, SiteSeen}
+use Rattle.run_promise.specs.Account.{Account, SaysSiteFailed, begin_of, course_of, deeds_from, due_octets, end_answer, end_octets, end_status}
+use Rattle.run_promise.specs.Causes.{CameBy, PutsDue, PutsFront, TellsEnd}
 use Rattle.law_runs.specs.Doing.{IsFounded, octets_put}
 use Rattle.law_runs.specs.Coming.{HasBroken, HasPut, StopsAtFullHistory, PutsBy, EndsReading}
 use Rattle.law_runs.specs.Ending.{Finishes, IsEndPut}
@@ -36,24 +36,23 @@ use Rattle.law_runs.proofs.Moved.{moved_run, settled_more}
 use Rattle.law_runs.proofs.Moments.{all_moments}
 use Rattle.law_runs.proofs.Releases.{AreAdded, AreWords, IsRefusedRelease, are_added, are_releases, released_full, released_pieces}
 use Rattle.law_runs.proofs.Placed.{IsBefore, places_ascend}
-use Rattle.law_runs.specs.AtEnd.{EndsRun, course_at_end}
+use Rattle.law_runs.specs.AtEnd.{EndsRun, course_at_end, StaysCovered}
 use Rattle.law_runs.specs.Release.{AreReleases}
 use Rattle.law_runs.specs.Settled.{AreSettled}
-use Rattle.law_runs.specs.Sound.{IsSound, StaysCovered, deeds_octets}
+use Rattle.run_promise.specs.Sound.{IsSound, deeds_octets}
 use Rattle.law_runs.proofs.Stepping.{octets_of}
-use Rattle.law_workers.specs.Alone.{OneLane}
-use Rattle.law_runs.specs.Alone.{IsExact}
+use Rattle.run_promise.specs.Alone.{OneLane, IsExact}
 use Rattle.law_runs.proofs.Exacting.{exact_call}
-use Rattle.law_runs.specs.Ends.{ServesSoundly, IsEarly, IsJournalFull, IsReleased, IsServed, IsSoundCall, RunEnds}
+use Rattle.run_promise.specs.Ends.{ServesSoundly, IsEarly, IsJournalFull, IsReleased, IsServed, IsSoundCall, RunEnds}
 use Rattle.law_runs.proofs.Appending.{may_append}
 use Rattle.law_workers.proofs.WholeRun.{near, rules_at_end}
 use Rattle.unit_image.specs.Shows.{Shows, ShowsNone}
 use Rattle.unit_plan.specs.declared.plan_error.PlanFault.{PlanFault}
-use Rattle.law_history.specs.Stored.{stored_count}
+use Rattle.run_promise.specs.Stored.{stored_count}
 use Rattle.unit_plan.specs.PlanLines.{PlanLines}
 use Rattle.disk_journal.specs.Image.{records, slot_count}
 use Rattle.disk_journal.proofs.Images.{records_of as image_records}
-use Rattle.law_history.specs.Fits.{MayAppend}
+use Rattle.run_promise.specs.Fits.{MayAppend, Course, Fits}
 use Rattle.record_io.specs.declared.kinds.RecordKind.TheVariants.{Protect}
 use Rattle.law_runs.proofs.Assembled.{sound_run, covered_run}
 use Rattle.law_runs.proofs.Released.{legal_run}
@@ -61,16 +60,16 @@ use Rattle.unit_state.specs.declared.state.State.{State}
 use Rattle.unit_state.specs.State.{KeepsRules}
 use Rattle.unit_state.specs.History.{after_first}
 use Rattle.unit_state.specs.History as histories
-use Rattle.law_history.specs.Fits.{Course, Fits}
-use Rattle.law_history.specs.Run.{LegalRun, NearWord, TurnIn}
+use Rattle.run_promise.specs.Run.{LegalRun, NearWord, TurnIn}
 use Rattle.std.specs.List.{All, AllPairs, slice_index}
 use Rattle.std.proofs.lemmas.Option.{slice_get_within, get_or_from_slice_get}
 use Rattle.std.proofs.lemmas.Bool.{cases_lt}
 use Rattle.record_io.specs.declared.answers.Answer.{Answer}
-use Rattle.law_history.specs.Numbers.{releases}
-use Rattle.law_workers.specs.Begin.{Begin}
+use Rattle.run_promise.specs.Numbers.{releases}
+use Rattle.run_promise.specs.Begin.{Begin}
 use Rattle.law_workers.specs.Views.{IsBetween, entries_in, log_of}
-use Rattle.law_workers.specs.Deeds.{Deed, InTurn, StandsBehind, course_in}
+use Rattle.run_promise.specs.Deed.{Deed, InTurn, StandsBehind}
+use Rattle.law_workers.specs.Deeds.{course_in}
 use Rattle.sdls_outside.proofs.Moments.{between-old}
 use Rattle.law_workers.proofs.Counting.{pieces_both}
 

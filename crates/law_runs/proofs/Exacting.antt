@@ -15,34 +15,35 @@ use Rattle.key_book.specs.KeyBook.{place_of}
 use Rattle.unit_plan.specs.PlanLines.{PlanLines}
 use Rattle.unit_state.specs.declared.state.State.{State}
 use Rattle.unit_state.specs.History.{after, after_first, epoch_after}
-use Rattle.law_history.specs.Log.{entries_of}
-use Rattle.law_history.specs.Numbers.{mark_of}
+use Rattle.run_promise.specs.Log.{entries_of}
+use Rattle.run_promise.specs.Numbers.{mark_of, mark_at}
 use Rattle.sdls_base.specs.Numbers.{times}
 use Rattle.counter_table.specs.Whole.{IsWhole, RowStands}
 use Rattle.record_io.specs.declared.answers.Answer.{Answer}
 use Rattle.record_io.specs.declared.records.Record.{Record}
 use Rattle.record_io.specs.Places.{Place, records_of}
-use Rattle.unit_book.specs.Marks.{mark_at}
-use Rattle.law_history.specs.Counts.{count_at, is_none_index, is_of_none}
-use Rattle.law_workers.specs.Begin.{Begin}
+use Rattle.run_promise.specs.Counts.{count_at, is_none_index, is_of_none}
+use Rattle.run_promise.specs.Begin.{Begin}
 use Rattle.law_workers.specs.Views.{entries_in, KnowsMore, log_of}
-use Rattle.law_workers.specs.Deeds.{Deed, Does, deeds_of}
+use Rattle.run_promise.specs.Deed.{Deed}
+use Rattle.law_workers.specs.Deeds.{Does, deeds_of}
 use Rattle.law_workers.proofs.Histories.{get_front, place_of_entry}
 use Rattle.law_workers.proofs.Joining.{grows_further}
 use Rattle.law_workers.proofs.Logs.{count_one, stands_both, times_both}
-use Rattle.law_workers.specs.Machine.{Move, Runs}
-use Rattle.law_workers.specs.Serving.{ServesAll}
+use Rattle.run_promise.specs.Machine.{Move, Runs}
+use Rattle.run_promise.specs.Serving.{ServesAll}
 use Rattle.law_workers.specs.InTurn.{MadeAllLines, IsClean, IsLevel, AreMarked}
-use Rattle.law_workers.specs.Exact.{words_in, Exact, IsOfMoves, TellAll}
-use Rattle.law_workers.specs.Alone.{MovedExactly, OneLane, ServedAlone}
+use Rattle.law_workers.specs.Exact.{words_in, Exact, IsOfMoves}
+use Rattle.run_promise.specs.Moves.{TellAll}
+use Rattle.law_workers.specs.Alone.{MovedExactly, ServedAlone}
+use Rattle.run_promise.specs.Alone.{OneLane, IsExact}
 use Rattle.law_workers.proofs.Alone.{below_log, exact_seen, seen_moves}
 use Rattle.law_workers.proofs.Machines.{alone, exact_nothing, exact_then, nothing_moves, runs_same, tell_more, then_moves}
 use Rattle.law_workers.proofs.Turns.{clean_before, log_low, made_first, made_rest, serves_both}
 use Rattle.law_workers.specs.Opened.{IsJustOpened}
 use Rattle.law_workers.specs.Settles.{SettlesAt}
-use Rattle.law_runs.specs.Call.{CallSeen}
-use Rattle.law_runs.specs.Account.{Account, begin_of, deeds_from, deeds_in}
-use Rattle.law_runs.specs.Alone.{IsExact}
+use Rattle.run_promise.specs.Call.{CallSeen}
+use Rattle.run_promise.specs.Account.{Account, begin_of, deeds_from, deeds_in}
 use Rattle.law_runs.proofs.Placed.{deeds_both, deeds_of_segment, records_length}
 use Rattle.law_runs.specs.Doing.{MovedAlone, PutsPieces, RunAlone}
 

@@ -15,11 +15,11 @@ use Rattle.record_io.specs.declared.kinds.RecordKind.TheVariants.{Protect, Open,
 use Rattle.record_io.specs.declared.records.Record.{Record}
 use Rattle.record_io.specs.Places.{Place}
 use Rattle.record_io.specs.declared.code.TheConstants.{SITE_FAULT, STOPPED}
-use Rattle.law_history.specs.Answers.{Told, told_by, opened_told, replied_told, unbound_told}
-use Rattle.law_history.specs.ProtectingFrames.{protect_reply}
-use Rattle.law_history.specs.Fits.{Course, Fits, FitsAny, FitsKind, TellsRisenCount as TellsCount, state_in}
-use Rattle.law_workers.specs.Deeds.{Deed}
-use Rattle.law_runs.specs.Account.{SaysSiteFailed, deeds_from}
+use Rattle.run_promise.specs.Answers.{Told, told_by, opened_told, replied_told, unbound_told}
+use Rattle.run_promise.specs.ProtectingFrames.{protect_reply}
+use Rattle.run_promise.specs.Fits.{Course, Fits, FitsAny, FitsKind, TellsRisenCount as TellsCount, state_in}
+use Rattle.run_promise.specs.Deed.{Deed}
+use Rattle.run_promise.specs.Account.{SaysSiteFailed, deeds_from}
 
 abbrev is_other : ℕ → Bool
 is_other code = nat_lt code SITE_FAULT || nat_lt STOPPED code

@@ -22,12 +22,12 @@ use Rattle.unit_state.specs.History.{after, after_first, at_epoch, epoch_after}
 use Rattle.unit_state.proofs.Histories.{after_more, at_epoch_more}
 use Rattle.unit_state.proofs.StateLaws.{restarted_twice}
 use Rattle.unit_image.specs.Shows.{Says, Shows}
-use Rattle.law_history.specs.Numbers.{mark_of, floor_of}
-use Rattle.law_history.specs.Answers.{Uses, Accepts}
-use Rattle.law_history.specs.Fits.{Course, Fits}
+use Rattle.run_promise.specs.Numbers.{mark_of, floor_of, released_floor}
+use Rattle.run_promise.specs.Answers.{Uses, Accepts, Told, told_by, unbound_told, IsCodeOf}
+use Rattle.run_promise.specs.Fits.{Course, Fits, FitsKind, state_in}
 use Rattle.law_history.specs.Laws.{IsBelowReleases}
-use Rattle.law_history.specs.Run.{NearWord, TurnIn}
-use Rattle.law_history.specs.Taken.{kept_floor, IsLoadedWith}
+use Rattle.run_promise.specs.Run.{NearWord, TurnIn}
+use Rattle.run_promise.specs.Taken.{kept_floor, IsLoadedWith}
 use Rattle.law_history.proofs.Codes.{fits_code}
 use Rattle.law_history.proofs.Accepting.{taken_kept, kept_taken, taken_restarted}
 use Rattle.law_history.proofs.Along.{OfRun, rules_along, kept_along, below_along, of_places}
@@ -48,14 +48,12 @@ use Rattle.frame_checks.specs.ProtectingFrames.{protect_check, answer_on, channe
 use Rattle.frame_checks.specs.ProtectingFrames as protecting
 use Rattle.record_io.specs.declared.code.TheConstants.{PROTECTED, DONE}
 use Rattle.unit_plan.specs.PlanLines.{PlanLines, link_of}
-use Rattle.law_history.specs.ProtectingFrames.{protect_reply, layout_check}
-use Rattle.law_history.specs.Answers.{Told, told_by, unbound_told, IsCodeOf}
-use Rattle.law_history.specs.Fits.{FitsKind, state_in}
-use Rattle.law_history.specs.Numbers.{released_floor}
-use Rattle.law_workers.specs.Begin.{Begin}
-use Rattle.law_workers.specs.Deeds.{is_protected, Deed, is_ordered, Differ}
-use Rattle.law_runs.specs.Sound.{EachBegun, IsCoveredBy}
-use Rattle.law_runs.specs.Life.{LifeRun, IsRun, FollowFrom, IsLife, left_by, IsShown, Given, answers_begun, given_of, given_in, state_told, UsesOctets, AreApart, OnceInLife, Knows}
+use Rattle.run_promise.specs.ProtectingFrames.{protect_reply, layout_check}
+use Rattle.run_promise.specs.Begin.{Begin}
+use Rattle.run_promise.specs.Deed.{is_protected, Deed, is_ordered, Differ}
+use Rattle.run_promise.specs.Sound.{EachBegun, IsCoveredBy}
+use Rattle.run_promise.specs.Life.{LifeRun, IsRun, FollowFrom, IsLife, left_by, Given, answers_begun, given_of, given_in, state_told, UsesOctets, AreApart, OnceInLife}
+use Rattle.law_runs.specs.Known.{IsShown, Knows}
 
 all_cons : {X : Type 0} (P : X → Type 0) (x : X) (xs : List X) → P x → All P xs → All P (x ∷ xs)
 all_cons P x xs h t zero d low = h

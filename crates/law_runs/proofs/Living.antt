@@ -3,12 +3,13 @@ use Rattle.std.proofs.Common.{◌≡◌, ◌⊎◌, ℕ, List, [], ◌∷◌, �
 use Rattle.sdls_outside.specs.Disk.{Leaves}
 use Rattle.unit_plan.specs.PlanLines.{PlanLines}
 use Rattle.unit_state.specs.declared.state.State.{State}
-use Rattle.law_runs.specs.Sound.{IsSound, SoundMoment}
-use Rattle.law_runs.specs.Life.{LifeRun, IsRun, IsLife, FollowFrom, left_by, OnceInLife}
-use Rattle.law_runs.specs.Call.{CallSeen, ShowsAtEntry, image_at_entry, sunk_since}
-use Rattle.law_runs.specs.Account.{Account, begin_of, course_of, deeds_in, end_octets}
-use Rattle.law_runs.specs.Ends.{IsEarly, IsServed, IsSoundCall}
-use Rattle.law_runs.specs.Lives.{LivesOn, KeepsLives, KeepsLivesReading, no_account, ReadsSoundly}
+use Rattle.run_promise.specs.Sound.{IsSound, SoundMoment}
+use Rattle.run_promise.specs.Life.{LifeRun, IsRun, IsLife, FollowFrom, left_by, OnceInLife}
+use Rattle.run_promise.specs.Call.{CallSeen, ShowsAtEntry, image_at_entry, sunk_since}
+use Rattle.run_promise.specs.Account.{Account, begin_of, course_of, deeds_in, end_octets}
+use Rattle.run_promise.specs.Ends.{IsEarly, IsServed, IsSoundCall}
+use Rattle.run_promise.specs.Lives.{LivesOn, KeepsLives, KeepsLivesReading}
+use Rattle.law_runs.specs.Reads.{no_account, ReadsSoundly}
 
 follow_append : (image : List ℕ) (runs : List LifeRun) (run : LifeRun) → FollowFrom image runs → run.start ≡ left_by image runs → IsRun run
     → FollowFrom image (runs ++ run ∷ [])

@@ -17,18 +17,19 @@ use Rattle.record_io.specs.Input.{Item, IsItem, LacksNext, beginning}
 use Rattle.record_io.specs.Places.{Place, Count, counted, first_count, places_from, places_of, records_of}
 use Rattle.record_io.specs.Reading.{SourceSeen, Standing, IsReading, Loses, ReadsMore, ReadsLast, HasTaken, first_standing}
 use Rattle.record_io.proofs.Placing.{places-append, counted-append}
-use Rattle.law_history.specs.Fits.{MayAppend}
-use Rattle.unit_book.specs.declared.limits.TheConstants.{MOST_ENTRIES}
-use Rattle.law_workers.specs.Begin.{Begin}
+use Rattle.run_promise.specs.Fits.{MayAppend}
+use Rattle.run_promise.specs.declared.limits.TheConstants.{MOST_ENTRIES}
+use Rattle.run_promise.specs.Begin.{Begin}
 use Rattle.law_workers.specs.Views.{IsBetween, entries_in, log_of}
 use Rattle.law_workers.specs.Deeds.{Ascend, course_in, deeds_of}
 use Rattle.law_workers.specs.Order.{Layout, LiesIn, Handled, Lined, TakeTurns}
 use Rattle.law_workers.proofs.Joining.{does_nothing}
-use Rattle.law_workers.specs.Alone.{OneLane, ServedAlone}
-use Rattle.law_history.specs.Log.{pieces_of}
-use Rattle.law_runs.specs.declared.end.RunEnd.{RunEnd}
-use Rattle.law_runs.specs.declared.end.RunEnd.TheVariants as ends
-use Rattle.law_runs.specs.Account.{AreAnswered, of_first}
+use Rattle.run_promise.specs.Alone.{OneLane}
+use Rattle.law_workers.specs.Alone.{ServedAlone}
+use Rattle.run_promise.specs.Log.{pieces_of}
+use Rattle.run_promise.specs.declared.end.RunEnd.{RunEnd}
+use Rattle.run_promise.specs.declared.end.RunEnd.TheVariants as ends
+use Rattle.run_promise.specs.Account.{AreAnswered, of_first}
 use Rattle.law_runs.proofs.Placed.{IsBefore, deeds_of_segment, places_ascend, records_length}
 use Rattle.law_runs.proofs.Segments.{all_first, are_placed, first_segments, have_lanes}
 use Rattle.law_runs.specs.Doing.{AreSettledInside, HasDone, HasSettled, IsFounded, IsSegment, MovedAlone, octets_put}

@@ -9,15 +9,16 @@ use Rattle.record_io.specs.Answers.{answer_octets}
 use Rattle.unit_image.specs.OpeningImage.{Opening}
 use Rattle.unit_plan.specs.PlanLines.{PlanLines}
 use Rattle.unit_state.specs.declared.state.State.{State}
-use Rattle.law_history.specs.Log.{entries_of, pieces_of}
+use Rattle.run_promise.specs.Log.{entries_of, pieces_of}
 use Rattle.unit_book.specs.Book.{Serves}
-use Rattle.law_workers.specs.Deeds.{Deed}
+use Rattle.run_promise.specs.Deed.{Deed}
 use Rattle.law_runs.specs.Settled.{AreSettled}
-use Rattle.law_runs.specs.Sound.{EachBegun, SoundMoment, StaysCovered, deeds_octets}
+use Rattle.run_promise.specs.Sound.{EachBegun, SoundMoment, deeds_octets}
+use Rattle.law_runs.specs.AtEnd.{StaysCovered}
 use Rattle.law_runs.proofs.SoundMoments.{moment_sound}
-use Rattle.law_runs.specs.Call.{CallSeen, image_at_entry, sunk_since}
-use Rattle.law_runs.specs.Account.{Account, begin_of, course_of, deeds_in, end_octets}
-use Rattle.law_runs.specs.Ends.{IsEarly, IsServed}
+use Rattle.run_promise.specs.Call.{CallSeen, image_at_entry, sunk_since}
+use Rattle.run_promise.specs.Account.{Account, begin_of, course_of, deeds_in, end_octets}
+use Rattle.run_promise.specs.Ends.{IsEarly, IsServed}
 
 none_begun : (deeds : List Deed) → EachBegun (λ (d : Deed). ⊥) 0 deeds
 none_begun [] = tt

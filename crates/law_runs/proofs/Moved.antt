@@ -9,13 +9,13 @@ use Rattle.record_io.specs.Answers.{answer_octets}
 use Rattle.unit_plan.specs.PlanLines.{PlanLines}
 use Rattle.unit_state.specs.declared.state.State.{State}
 use Rattle.unit_state.specs.History.{after, after_first, epoch_after}
-use Rattle.law_history.specs.Fits.{Course}
-use Rattle.law_history.specs.Legal.{IsLegal, IsRelease}
-use Rattle.law_history.specs.Log.{entries_of}
-use Rattle.law_history.specs.Run.{LegalRun, NearWord}
-use Rattle.law_history.specs.Counts.{drawers, reserves_of}
-use Rattle.law_workers.specs.Begin.{Begin}
-use Rattle.law_workers.specs.Deeds.{Deed, epoch_told}
+use Rattle.run_promise.specs.Fits.{Course}
+use Rattle.run_promise.specs.Legal.{IsLegal, IsRelease}
+use Rattle.run_promise.specs.Log.{entries_of}
+use Rattle.run_promise.specs.Run.{LegalRun, NearWord}
+use Rattle.run_promise.specs.Counts.{drawers, reserves_of}
+use Rattle.run_promise.specs.Begin.{Begin}
+use Rattle.run_promise.specs.Deed.{Deed, epoch_told}
 use Rattle.law_workers.proofs.Histories.{entries_both}
 use Rattle.law_workers.proofs.Logs.{entries_low, told_kept}
 use Rattle.law_runs.specs.Settled.{AreSettled, AnswerIsSettled}

@@ -10,8 +10,9 @@ use Rattle.record_io.specs.declared.records.Record.{Record}
 use Rattle.record_io.specs.Input.{Item}
 use Rattle.record_io.specs.Places.{Place, Count, behind, places_at, places_from, records_of}
 use Rattle.law_workers.specs.Work.{indexed}
-use Rattle.law_workers.specs.Deeds.{Deed, deed_of, deeds_of}
-use Rattle.law_runs.specs.Account.{deeds_from}
+use Rattle.run_promise.specs.Deed.{Deed, deed_of}
+use Rattle.law_workers.specs.Deeds.{deeds_of}
+use Rattle.run_promise.specs.Account.{deeds_from}
 use Rattle.law_runs.proofs.Segments.{are_placed, behind_record_counts}
 
 -- ---- the numbers ascend

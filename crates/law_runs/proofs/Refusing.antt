@@ -37,18 +37,17 @@ use Rattle.unit_image.specs.declared.fault.OpenFault.{OpenFault}
 use Rattle.unit_image.specs.declared.fault.OpenFault.TheVariants as openings
 use Rattle.unit_image.specs.OpeningImage.{IsOpenCause}
 use Rattle.unit_image.specs.Shows.{Shows, ShowsNone}
-use Rattle.law_history.specs.Numbers.{release_at, release_of, released_floor, releases}
-use Rattle.law_history.specs.Taken.{kept_floor}
+use Rattle.run_promise.specs.Numbers.{release_at, release_of, released_floor, releases, mark_at}
+use Rattle.run_promise.specs.Taken.{kept_floor}
 use Rattle.law_history.proofs.Accepting.{kept_restarted}
-use Rattle.unit_book.specs.Marks.{mark_at}
-use Rattle.law_runs.specs.Alone.{IsExact}
-use Rattle.law_runs.specs.Sound.{IsSound}
+use Rattle.run_promise.specs.Alone.{IsExact}
+use Rattle.run_promise.specs.Sound.{IsSound}
 use Rattle.law_workers.proofs.Rows.{row_placed}
-use Rattle.law_runs.specs.declared.end.RunEnd.TheVariants as ends
-use Rattle.law_runs.specs.Call.{CallSeen, sunk_since, call_seen}
-use Rattle.law_runs.specs.Account.{Account, AreAnswered, begin_of, course_of, end_answer, end_octets, end_status}
-use Rattle.law_runs.specs.Causes.{CameBy, PutsDue, PutsFront, TellsEnd}
-use Rattle.law_runs.specs.Ends.{IsEarly, IsOpenRefusal, IsRefused, IsReleased, IsServed, IsSoundCall, IsUnopened, RunEnds}
+use Rattle.run_promise.specs.declared.end.RunEnd.TheVariants as ends
+use Rattle.run_promise.specs.Call.{CallSeen, sunk_since, call_seen}
+use Rattle.run_promise.specs.Account.{Account, AreAnswered, begin_of, course_of, end_answer, end_octets, end_status}
+use Rattle.run_promise.specs.Causes.{CameBy, PutsDue, PutsFront, TellsEnd}
+use Rattle.run_promise.specs.Ends.{IsEarly, IsOpenRefusal, IsRefused, IsReleased, IsServed, IsSoundCall, IsUnopened, RunEnds}
 use Rattle.law_runs.specs.Refused.{Refused, refused_end}
 use Rattle.law_runs.proofs.Ended.{failed_put}
 use Rattle.law_runs.proofs.Resting.{no_records}

@@ -18,18 +18,19 @@ use Rattle.key_book.specs.KeyBook.{place_of}
 use Rattle.unit_state.specs.declared.state.State.{State}
 use Rattle.unit_state.specs.State.{KeepsRules}
 use Rattle.unit_state.specs.History.{after, after_first}
-use Rattle.law_history.specs.Numbers.{release_of, is_released, released_floor}
-use Rattle.law_history.specs.Legal.{AsksFor, IsLegal, IsRelease}
-use Rattle.law_history.specs.Run.{NearWord, LegalRun}
-use Rattle.law_history.specs.Counts.{drawers, reserves_of}
-use Rattle.law_history.specs.Answers.{Uses}
-use Rattle.law_history.specs.Fits.{Course, Fits}
+use Rattle.run_promise.specs.Numbers.{release_of, is_released, released_floor}
+use Rattle.run_promise.specs.Legal.{AsksFor, IsLegal, IsRelease}
+use Rattle.run_promise.specs.Run.{NearWord, LegalRun}
+use Rattle.run_promise.specs.Counts.{drawers, reserves_of}
+use Rattle.run_promise.specs.Answers.{Uses}
+use Rattle.run_promise.specs.Fits.{Course, Fits}
 use Rattle.law_history.specs.Laws.{IsBelowReleases}
 use Rattle.law_history.proofs.Marks.{release_entry}
-use Rattle.law_workers.specs.Begin.{Begin}
+use Rattle.run_promise.specs.Begin.{Begin}
 use Rattle.law_workers.specs.Views.{log_of, entries_in}
 use Rattle.law_workers.specs.Work.{indexed}
-use Rattle.law_workers.specs.Deeds.{Deed, Does}
+use Rattle.run_promise.specs.Deed.{Deed}
+use Rattle.law_workers.specs.Deeds.{Does}
 use Rattle.law_workers.specs.Order.{Lined}
 use Rattle.law_workers.proofs.Histories.{get_front}
 use Rattle.law_workers.proofs.Logs.{legal_wider}

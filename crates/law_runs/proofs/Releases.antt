@@ -14,16 +14,16 @@ use Rattle.unit_state.specs.declared.state.State.{State}
 use Rattle.unit_state.specs.State.{KeepsRules, key_row}
 use Rattle.unit_state.proofs.Histories.{after_more}
 use Rattle.unit_state.specs.History.{after, after_first}
-use Rattle.law_history.specs.Legal.{AreNear}
-use Rattle.law_history.specs.Log.{entries_of, pieces_of}
-use Rattle.law_history.specs.Numbers.{release_of, releases}
+use Rattle.run_promise.specs.Legal.{AreNear}
+use Rattle.run_promise.specs.Log.{entries_of, pieces_of}
+use Rattle.run_promise.specs.Numbers.{release_of, releases}
 use Rattle.law_history.proofs.Releasing.{made_release}
 use Rattle.law_workers.proofs.Histories.{entries_both}
 use Rattle.law_runs.specs.Release.{AreReleases}
 use Rattle.law_workers.proofs.Rows.{row_placed}
 use Rattle.unit_book.specs.declared.fault.BookFault.{BookFault}
 use Rattle.unit_book.specs.declared.fault.BookFault.TheVariants.{SiteFault, Stopped, SessionFull, JournalFull, NoMemory}
-use Rattle.unit_book.specs.declared.limits.TheConstants.{MOST_ENTRIES}
+use Rattle.run_promise.specs.declared.limits.TheConstants.{MOST_ENTRIES}
 use Rattle.unit_book.specs.Book.{BookView, IsBarred, IsUnstored, Refuses}
 use Rattle.unit_book.specs.GoesOn.{TellsRise}
 use Rattle.unit_book.specs.Numbers.{EnteredInTurn, EndsReleases, Releases}

@@ -10,13 +10,12 @@ use Rattle.unit_state.specs.declared.state.State.{State}
 use Rattle.unit_state.specs.Restart.{restarted}
 use Rattle.unit_state.specs.State.{KeepsRules}
 use Rattle.unit_image.specs.Shows.{Shows}
-use Rattle.law_history.specs.Fits.{Course}
-use Rattle.law_workers.specs.Begin.{Begin}
-use Rattle.law_runs.specs.Sound.{IsSound, SoundMoment}
-use Rattle.law_runs.specs.Call.{CallSeen, ShowsAtEntry, image_at_entry}
-use Rattle.law_runs.specs.Account.{begin_of, course_of}
-use Rattle.law_runs.specs.Lives.{ReadsSoundly, no_account}
-use Rattle.law_runs.specs.Reads.{IsRead, ReadsAlone, StillShows}
+use Rattle.run_promise.specs.Fits.{Course}
+use Rattle.run_promise.specs.Begin.{Begin}
+use Rattle.run_promise.specs.Sound.{IsSound, SoundMoment}
+use Rattle.run_promise.specs.Call.{CallSeen, ShowsAtEntry, image_at_entry}
+use Rattle.run_promise.specs.Account.{begin_of, course_of}
+use Rattle.law_runs.specs.Reads.{ReadsSoundly, no_account, IsRead, ReadsAlone, StillShows}
 
 none_sound : (begin : Begin) (course : Course) → begin.plan ≡ course.plan → IsPlan course.plan → KeepsRules course.start
     → IsSound begin (record course { entries = [] }) [] []

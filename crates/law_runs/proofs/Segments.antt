@@ -9,7 +9,7 @@ use Rattle.record_io.specs.declared.kinds.TheConstants.{LANES}
 use Rattle.record_io.specs.Input.{Item, IsItem}
 use Rattle.record_io.specs.Places.{Place, Count, behind, counted, places_at, places_from}
 use Rattle.record_io.specs.declared.reader.TheConstants.{SEGMENT_RECORDS}
-use Rattle.law_runs.specs.Account.{of_first}
+use Rattle.run_promise.specs.Account.{of_first}
 
 -- behind a record
 abbrev full_record : Count → Count

@@ -9,17 +9,18 @@ use Rattle.counter_table.specs.declared.view.View.{View}
 use Rattle.record_io.specs.declared.records.Record.{Record}
 use Rattle.record_io.specs.Answers.{answer_octets}
 use Rattle.unit_state.specs.History.{after, after_first, epoch_after}
-use Rattle.law_history.specs.Log.{entries_of, pieces_of}
-use Rattle.law_history.specs.Answers.{Accepts}
-use Rattle.law_history.specs.Taken.{kept_floor}
-use Rattle.law_history.specs.Fits.{Course}
-use Rattle.law_workers.specs.Begin.{Begin}
+use Rattle.run_promise.specs.Log.{entries_of, pieces_of}
+use Rattle.run_promise.specs.Answers.{Accepts}
+use Rattle.run_promise.specs.Taken.{kept_floor}
+use Rattle.run_promise.specs.Fits.{Course}
+use Rattle.run_promise.specs.Begin.{Begin}
 use Rattle.law_workers.specs.Views.{log_of, entries_in, KnowsMore}
-use Rattle.law_workers.specs.Deeds.{Deed, Does, AllBoth, tells_entry, epoch_told, course_in}
+use Rattle.run_promise.specs.Deed.{Deed, tells_entry, epoch_told}
+use Rattle.law_workers.specs.Deeds.{Does, AllBoth, course_in}
 use Rattle.law_workers.proofs.Logs.{entries_low, told_kept, times_both}
 use Rattle.law_workers.proofs.Working.{grown_entries, row_later, told_later}
 use Rattle.law_workers.proofs.Joining.{does_then, grows_itself, grows_further}
-use Rattle.law_runs.specs.Sound.{deeds_octets, IsCoveredBy}
+use Rattle.run_promise.specs.Sound.{deeds_octets, IsCoveredBy}
 use Rattle.law_runs.specs.Settled.{AnswerIsSettled, AreSettled, UnderWay}
 use Rattle.law_workers.specs.Settles.{SettlesAt}
 

@@ -5,13 +5,14 @@ use Rattle.std.proofs.lemmas.List.{take-take, length-take, take-append-le}
 use Rattle.sdls_base.specs.declared.entry.Logged.{Logged}
 use Rattle.sdls_base.specs.declared.entry.Logged.TheVariants as lines
 use Rattle.record_io.specs.Answers.{answer_octets}
-use Rattle.law_history.specs.Log.{entries_of, pieces_of}
-use Rattle.law_history.specs.Fits.{Course}
+use Rattle.run_promise.specs.Log.{entries_of, pieces_of}
+use Rattle.run_promise.specs.Fits.{Course}
 use Rattle.unit_book.specs.Book.{Serves}
-use Rattle.law_workers.specs.Begin.{Begin}
-use Rattle.law_workers.specs.Deeds.{Deed}
+use Rattle.run_promise.specs.Begin.{Begin}
+use Rattle.run_promise.specs.Deed.{Deed}
 use Rattle.law_workers.proofs.Logs.{entries_low}
-use Rattle.law_runs.specs.Sound.{deeds_octets, EachBegun, IsCoveredBy, SoundMoment, StaysCovered}
+use Rattle.run_promise.specs.Sound.{deeds_octets, EachBegun, IsCoveredBy, SoundMoment}
+use Rattle.law_runs.specs.AtEnd.{StaysCovered}
 use Rattle.law_runs.specs.Settled.{AnswerIsSettled, AreSettled}
 
 -- the pieces of a log, from a place on

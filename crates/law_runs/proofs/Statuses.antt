@@ -15,15 +15,15 @@ use Rattle.unit_state.specs.declared.state.State.{State}
 use Rattle.unit_state.specs.Applied.{applied}
 use Rattle.unit_state.specs.History.{after_first}
 use Rattle.unit_image.specs.Shows.{Shows, ShowsNone}
-use Rattle.law_history.specs.Numbers.{releases, release_at}
-use Rattle.law_history.specs.Counts.{drawers, draws}
-use Rattle.unit_book.specs.declared.limits.TheConstants.{MOST_ENTRIES}
-use Rattle.law_runs.specs.declared.end.RunEnd.{RunEnd}
-use Rattle.law_runs.specs.declared.end.RunEnd.TheVariants.{Ended, Malformed, SourceFault, SiteFault, NoMemory, NoState, SessionFull, PutFailed}
-use Rattle.law_runs.specs.Call.{CallSeen, ShowsAtEntry, image_at_entry}
-use Rattle.law_runs.specs.Account.{Account, end_status, AreAnswered, SaysSiteFailed, due_octets, of_first}
-use Rattle.law_runs.specs.Causes.{CameBy, TellsEnd}
-use Rattle.law_runs.specs.Ends.{RunEnds, IsRefused, due_releases}
+use Rattle.run_promise.specs.Numbers.{releases, release_at}
+use Rattle.run_promise.specs.Counts.{drawers, draws}
+use Rattle.run_promise.specs.declared.limits.TheConstants.{MOST_ENTRIES}
+use Rattle.run_promise.specs.declared.end.RunEnd.{RunEnd}
+use Rattle.run_promise.specs.declared.end.RunEnd.TheVariants.{Ended, Malformed, SourceFault, SiteFault, NoMemory, NoState, SessionFull, PutFailed}
+use Rattle.run_promise.specs.Call.{CallSeen, ShowsAtEntry, image_at_entry}
+use Rattle.run_promise.specs.Account.{Account, end_status, AreAnswered, SaysSiteFailed, due_octets, of_first}
+use Rattle.run_promise.specs.Causes.{CameBy, TellsEnd}
+use Rattle.run_promise.specs.Ends.{RunEnds, IsRefused, due_releases}
 use Rattle.law_runs.specs.Says.{DidAll, GoesToItsEnd, EndsWithFullHistory, IsLeftRefused, IsUnhindered}
 
 -- ---- which end has which status

@@ -19,29 +19,30 @@ use Rattle.record_io.specs.Answers.{answers_octets}
 use Rattle.record_io.specs.Places.{Place, records_of}
 use Rattle.record_io.specs.declared.code.TheConstants.{ACCEPTED, NUMBER}
 use Rattle.unit_state.specs.History.{after_first}
-use Rattle.law_history.specs.Answers.{Accepts, IsCodeOf}
-use Rattle.law_history.specs.Counts.{count_at, drawers, is_of_record}
+use Rattle.run_promise.specs.Answers.{Accepts, IsCodeOf}
+use Rattle.run_promise.specs.Counts.{count_at, drawers, is_of_record}
 use Rattle.law_history.specs.Laws.{AcceptsAt}
-use Rattle.law_history.specs.Log.{entries_of}
-use Rattle.law_history.specs.Run.{IsLegalHistory, TurnIn}
-use Rattle.law_history.specs.Taken.{kept_floor}
+use Rattle.run_promise.specs.Log.{entries_of}
+use Rattle.run_promise.specs.Run.{IsLegalHistory, TurnIn}
+use Rattle.run_promise.specs.Taken.{kept_floor}
 use Rattle.law_history.proofs.Accepting.{taken_kept}
 use Rattle.law_history.proofs.Along.{of_places, accepted_taken}
 use Rattle.law_history.proofs.Codes.{accepting_opening, accepts_at, fits_code}
-use Rattle.law_workers.specs.Begin.{Begin}
+use Rattle.run_promise.specs.Begin.{Begin}
 use Rattle.law_workers.specs.Views.{log_of, entries_in, KnowsMore, IsBetween}
 use Rattle.law_workers.specs.Work.{indexed}
-use Rattle.law_workers.specs.Deeds.{Deed, Does, AllBoth, course_in, deeds_of, is_protected, tells_entry}
+use Rattle.run_promise.specs.Deed.{Deed, is_protected, tells_entry}
+use Rattle.law_workers.specs.Deeds.{Does, AllBoth, course_in, deeds_of}
 use Rattle.law_workers.specs.Order.{Layout, LiesIn, TakeTurns, Lined, Handled, ComeBefore, is_line, is_piece}
 use Rattle.law_workers.proofs.Histories.{entries_both}
 use Rattle.law_workers.proofs.Joining.{does_then, grows_further}
 use Rattle.law_workers.proofs.Logs.{entries_low, stands_both, stands_head, stands_tail, count_kept, count_one, drawers_both}
 use Rattle.law_workers.proofs.Ordering.{lined_on, lined_then}
 use Rattle.law_runs.specs.Settled.{AreSettled}
-use Rattle.law_runs.specs.Sound.{deeds_octets}
+use Rattle.run_promise.specs.Sound.{deeds_octets}
 use Rattle.law_workers.proofs.Counting.{none_failed, nothing_put}
 use Rattle.law_runs.proofs.Settling.{settle, settled_later, settled_both}
-use Rattle.law_runs.specs.Account.{deeds_from}
+use Rattle.run_promise.specs.Account.{deeds_from}
 use Rattle.law_runs.specs.Doing.{HasDone, HasSettled, IsBefore, IsFounded, IsSegment, LieIn, PutsPieces, SettlesWork, octets_put}
 use Rattle.law_runs.proofs.Placed.{deeds_all, deeds_both, deeds_of_segment, lane_at, lane_there, records_both, records_length}
 use Rattle.law_runs.proofs.Doing.{legal_so_far, lined_by, made_here}

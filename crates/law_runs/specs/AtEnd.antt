@@ -1,6 +1,6 @@
 -- What is known of a run at its end, when its book was closed and its keys were released (profile).
 use Rattle.std.specs.Prelude.{◌≡◌, ℕ, ◌+◌, ◌<◌, ◌≤◌, List, [], ◌++◌, length}
-use Rattle.std.specs.List.{AllPairs}
+use Rattle.std.specs.List.{AllPairs, All}
 use Rattle.sdls_base.specs.declared.TheConstants.{MOST_KEYS}
 use Rattle.sdls_base.specs.declared.entry.Entry.{Entry}
 use Rattle.sdls_outside.specs.Faults.{Rose}
@@ -10,16 +10,18 @@ use Rattle.record_io.specs.Places.{Place, records_of}
 use Rattle.unit_plan.specs.PlanRules.{IsPlan}
 use Rattle.unit_state.specs.State.{KeepsRules}
 use Rattle.unit_state.specs.Restart.{restarted}
-use Rattle.law_history.specs.Counts.{drawers}
-use Rattle.law_history.specs.Run.{TurnIn}
-use Rattle.law_history.specs.Fits.{Course}
-use Rattle.law_workers.specs.Begin.{Begin}
+use Rattle.run_promise.specs.Counts.{drawers}
+use Rattle.run_promise.specs.Run.{TurnIn}
+use Rattle.run_promise.specs.Fits.{Course}
+use Rattle.run_promise.specs.Begin.{Begin}
 use Rattle.law_workers.specs.Views.{log_of, entries_in}
 use Rattle.law_workers.specs.Work.{indexed}
-use Rattle.law_workers.specs.Deeds.{Deed, Does, course_in}
+use Rattle.run_promise.specs.Deed.{Deed}
+use Rattle.law_workers.specs.Deeds.{Does, course_in}
 use Rattle.law_workers.specs.Order.{Lined}
 use Rattle.law_workers.specs.Opened.{IsJustOpened}
 use Rattle.law_runs.specs.Release.{AreReleases}
+use Rattle.run_promise.specs.Sound.{IsCoveredBy}
 
 -- From the opening to the end one worker did it all, with the records of these places and these answers. The words are
 -- those that the closed counters told, and the releases went by them; once the site had failed there were none.
@@ -49,3 +51,8 @@ course_at_end begin now releases faults = record (course_in begin now) {
   entries = entries_in now
       ++ releases;
 }
+
+-- what covers an answer is covered by each later state: no mark and no floor falls below what was used or accepted
+abbrev pub StaysCovered : Begin → Course → List Deed → Type 0
+StaysCovered begin course deeds = (earlier later : ℕ) → earlier ≤ later → later ≤ length course.entries
+    → All (λ deed. IsCoveredBy begin course earlier deed → IsCoveredBy begin course later deed) deeds

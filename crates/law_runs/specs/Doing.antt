@@ -9,19 +9,21 @@ use Rattle.record_io.specs.Places.{Place, records_of}
 use Rattle.unit_plan.specs.PlanRules.{IsPlan}
 use Rattle.unit_state.specs.State.{KeepsRules}
 use Rattle.unit_state.specs.Restart.{restarted}
-use Rattle.law_history.specs.Counts.{drawers}
-use Rattle.law_history.specs.Log.{pieces_of}
-use Rattle.law_workers.specs.Begin.{Begin}
+use Rattle.run_promise.specs.Counts.{drawers}
+use Rattle.run_promise.specs.Log.{pieces_of}
+use Rattle.run_promise.specs.Begin.{Begin}
 use Rattle.law_workers.specs.Views.{entries_in, log_of}
-use Rattle.law_workers.specs.Deeds.{Deed, Does, course_in, tells_entry}
+use Rattle.run_promise.specs.Deed.{Deed, tells_entry}
+use Rattle.law_workers.specs.Deeds.{Does, course_in}
 use Rattle.law_workers.specs.Order.{Layout, TakeTurns, Lined}
-use Rattle.law_workers.specs.Serving.{ServesAll}
+use Rattle.run_promise.specs.Serving.{ServesAll}
 use Rattle.law_workers.specs.InTurn.{MadeAllLines, IsClean, IsLevel}
-use Rattle.law_workers.specs.Alone.{MovedExactly, OneLane}
+use Rattle.law_workers.specs.Alone.{MovedExactly}
+use Rattle.run_promise.specs.Alone.{OneLane}
 use Rattle.law_workers.specs.Opened.{IsJustOpened}
 use Rattle.law_runs.specs.Settled.{AreSettled}
 use Rattle.law_workers.specs.Settles.{SettlesAt}
-use Rattle.law_runs.specs.Account.{deeds_from}
+use Rattle.run_promise.specs.Account.{deeds_from}
 
 -- the octets of the pieces that a worker knows of
 abbrev pub octets_put : View → List ℕ

@@ -12,10 +12,10 @@ use Rattle.unit_book.specs.Book.{BookView, IsKept, with_put}
 use Rattle.unit_book.specs.GoesOn.{GoesOn, TellsRise}
 use Rattle.unit_book.specs.Log.{sunk_between}
 use Rattle.unit_book.specs.Numbers.{Releases}
-use Rattle.law_history.specs.Log.{entries_of}
-use Rattle.law_runs.specs.declared.end.RunEnd.{RunEnd}
-use Rattle.law_runs.specs.declared.end.RunEnd.TheVariants as ends
-use Rattle.law_runs.specs.Account.{end_answer, end_status}
+use Rattle.run_promise.specs.Log.{entries_of}
+use Rattle.run_promise.specs.declared.end.RunEnd.{RunEnd}
+use Rattle.run_promise.specs.declared.end.RunEnd.TheVariants as ends
+use Rattle.run_promise.specs.Account.{end_answer, end_status}
 
 -- The end that is told, by the site's counts of faults before the run, when all answers were put, and behind the
 -- release.

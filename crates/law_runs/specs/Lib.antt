@@ -1,12 +1,5 @@
-pub mod Sound
-pub mod Life
-pub mod Call
-pub mod Account
-pub mod Alone
-pub mod Causes
-pub mod Ends
-pub mod Lives
 pub mod Says
+pub mod Known
 pub mod Release
 pub mod Settled
 pub mod AtEnd

@@ -12,12 +12,12 @@ use Rattle.unit_plan.specs.PlanLines.{PlanLines}
 use Rattle.unit_state.specs.declared.state.State.{State}
 use Rattle.unit_image.specs.OpeningImage.{Opening}
 use Rattle.unit_image.specs.Shows.{Shows}
-use Rattle.law_history.specs.Log.{entries_of}
-use Rattle.law_history.specs.Stored.{stored_count}
+use Rattle.run_promise.specs.Log.{entries_of}
+use Rattle.run_promise.specs.Stored.{stored_count}
 use Rattle.unit_book.specs.Book.{BookView, IsKept}
-use Rattle.law_workers.specs.Begin.{Begin}
+use Rattle.run_promise.specs.Begin.{Begin}
 use Rattle.law_workers.specs.Views.{log_of}
-use Rattle.law_runs.specs.declared.end.RunEnd.{RunEnd}
+use Rattle.run_promise.specs.declared.end.RunEnd.{RunEnd}
 use Rattle.law_runs.specs.Doing.{IsFounded}
 use Rattle.law_runs.specs.Coming.{HasCome}
 

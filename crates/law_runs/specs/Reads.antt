@@ -1,5 +1,5 @@
 -- What a moment of a call leaves that reads an image and stores nothing (profile).
-use Rattle.std.specs.Prelude.{◌⊎◌, ℕ, IsTrue, List}
+use Rattle.std.specs.Prelude.{◌⊎◌, ℕ, IsTrue, List, []}
 use Rattle.sdls_outside.specs.Disk.{Leaves}
 use Rattle.sdls_outside.specs.Moments.{EachMoment}
 use Rattle.disk_journal.specs.Image.{IsOpenedForm}
@@ -7,7 +7,11 @@ use Rattle.disk_journal.specs.Forms.{Settles}
 use Rattle.unit_state.specs.declared.state.State.{State}
 use Rattle.unit_state.specs.Restart.{restarted}
 use Rattle.unit_image.specs.Shows.{Shows}
-use Rattle.law_runs.specs.Call.{CallSeen, image_at_entry}
+use Rattle.run_promise.specs.Call.{CallSeen, image_at_entry}
+use Rattle.unit_plan.specs.PlanLines.{PlanLines}
+use Rattle.run_promise.specs.Sound.{SoundMoment}
+use Rattle.run_promise.specs.declared.end.RunEnd.TheVariants.{Ended}
+use Rattle.run_promise.specs.Account.{Account, begin_of, course_of}
 
 -- the image shows what a restart leaves of a state that the image at the entry shows, and has no opened form
 abbrev pub StillShows : CallSeen → List ℕ → Type 0
@@ -23,3 +27,24 @@ IsRead call image = Leaves call.site.trace.now image ⊎ (Settles (image_at_entr
 abbrev pub ReadsAlone : CallSeen → Type 0
 ReadsAlone call = IsTrue call.site.told → EachMoment call.site.trace call.site_after.trace
     (λ image sunk. IsRead call image)
+
+-- such a call did nothing
+abbrev pub no_account : CallSeen → Account
+no_account call = record {
+  came = Ended;
+  told = Ended;
+  items = [];
+  read = [];
+  part = [];
+  handled = [];
+  answers = [];
+  last = call.site.faults;
+}
+
+-- Each moment is one that a crash at the entry may leave, or a sound one of a run without records, whose octets sunk
+-- are taken as none.
+abbrev pub ReadsSoundly : CallSeen → PlanLines → State → Type 0
+ReadsSoundly call plan state = EachMoment call.site.trace call.site_after.trace
+    (λ image sunk. Leaves call.site.trace.now image
+    ⊎ SoundMoment (begin_of call plan state) (course_of call (no_account call) plan state) [] [] (image_at_entry call)
+    image [])

@@ -11,9 +11,9 @@ use Rattle.unit_image.specs.declared.fault.OpenFault.{OpenFault}
 use Rattle.unit_image.specs.declared.fault.OpenFault.TheVariants as faults
 use Rattle.unit_image.specs.OpeningImage.{IsOpenCause, Opening}
 use Rattle.unit_image.specs.Shows.{ShowsNone}
-use Rattle.law_runs.specs.declared.end.RunEnd.{RunEnd}
-use Rattle.law_runs.specs.declared.end.RunEnd.TheVariants as ends
-use Rattle.law_runs.specs.Account.{end_answer, end_status}
+use Rattle.run_promise.specs.declared.end.RunEnd.{RunEnd}
+use Rattle.run_promise.specs.declared.end.RunEnd.TheVariants as ends
+use Rattle.run_promise.specs.Account.{end_answer, end_status}
 use Rattle.law_runs.specs.Ending.{IsToldEnd}
 
 -- why a run ends whose book was not opened

@@ -6,7 +6,7 @@ use Rattle.key_book.specs.KeyBook.{place_of}
 use Rattle.unit_state.specs.declared.state.State.{State}
 use Rattle.unit_state.specs.State.{key_row}
 use Rattle.unit_state.specs.History.{after, after_first}
-use Rattle.law_history.specs.Numbers.{release_of}
+use Rattle.run_promise.specs.Numbers.{release_of}
 
 -- The entry releases a key in the state before it, by the word of the key's row, which it had at the end of the lanes.
 pub record ReleasesKey (words : ℕ → ℕ) (at_end state : State) (entry : Entry) : Type 0 where

@@ -1,5 +1,5 @@
 -- What the statuses of a run say.
-use Rattle.std.specs.Prelude.{◌≡◌, ◌⊎◌, ℕ, ◌+◌, ◌*◌, ◌<◌, IsTrue, ◌++◌, length}
+use Rattle.std.specs.Prelude.{◌≡◌, ◌⊎◌, ℕ, ◌+◌, ◌*◌, ◌<◌, IsTrue, ◌++◌, length, ◌≢◌, List}
 use Rattle.sdls_base.specs.declared.TheConstants.{MOST_KEYS}
 use Rattle.sdls_outside.specs.Faults.{Rose}
 use Rattle.record_io.specs.declared.status.TheConstants as status
@@ -7,11 +7,14 @@ use Rattle.record_io.specs.Input.{IsInput, Whole}
 use Rattle.record_io.specs.Places.{places_of}
 use Rattle.unit_plan.specs.PlanLines.{PlanLines}
 use Rattle.unit_state.specs.declared.state.State.{State}
-use Rattle.unit_book.specs.declared.limits.TheConstants.{MOST_ENTRIES}
-use Rattle.law_runs.specs.declared.end.RunEnd.TheVariants.{Ended, Malformed, SourceFault, SessionFull}
-use Rattle.law_runs.specs.Call.{CallSeen, ShowsAtEntry, image_at_entry}
-use Rattle.law_runs.specs.Account.{AnsweredEach, HandledAll, due_octets}
-use Rattle.law_runs.specs.Ends.{RunEnds}
+use Rattle.run_promise.specs.declared.limits.TheConstants.{MOST_ENTRIES}
+use Rattle.run_promise.specs.declared.end.RunEnd.TheVariants.{Ended, Malformed, SourceFault, SessionFull}
+use Rattle.run_promise.specs.Call.{CallSeen, ShowsAtEntry, image_at_entry}
+use Rattle.run_promise.specs.Account.{AnsweredEach, HandledAll, due_octets, Account}
+use Rattle.run_promise.specs.Ends.{RunEnds}
+use Rattle.std.specs.List.{All}
+use Rattle.record_io.specs.declared.answers.Answer.{Answer}
+use Rattle.record_io.specs.declared.code.TheConstants.{NO_MEMORY}
 
 -- The whole input was read, each record was answered, End stands last, and the site has not failed.
 pub record DidAll (call : CallSeen) (ends : RunEnds call) : Type 0 where
@@ -51,3 +54,13 @@ pub record IsUnhindered (call : CallSeen) (ends : RunEnds call) (plan : PlanLine
   pub site_well : ¬ Rose call.site.faults call.site_after.faults
   pub well_formed : (items : _) × IsInput call.source.left items Whole
   pub short : 2 * length (places_of ends.account.items) + MOST_KEYS < MOST_ENTRIES
+
+-- for no record memory was wanting
+abbrev pub NoneWants : List Answer → Type 0
+NoneWants answers = All (λ answer. answer.code ≢ NO_MEMORY) answers
+
+-- Two calls did the same: their answers and their entries are the same, and so are the octets that are due, with End's.
+pub record RunsAlike (call other : CallSeen) (account again : Account) : Type 0 where
+  pub answers : again.answers ≡ account.answers
+  pub entries : other.entries ≡ call.entries
+  pub due : due_octets other again ≡ due_octets call account

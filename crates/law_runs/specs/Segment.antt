@@ -8,13 +8,14 @@ use Rattle.record_io.specs.declared.answers.Answer.{Answer}
 use Rattle.record_io.specs.declared.kinds.RecordKind.TheVariants.{Protect}
 use Rattle.record_io.specs.declared.records.Record.{Record}
 use Rattle.record_io.specs.Answers.{answers_octets}
-use Rattle.unit_book.specs.declared.limits.TheConstants.{MOST_ENTRIES}
-use Rattle.law_history.specs.Fits.{MayAppend}
-use Rattle.law_workers.specs.Begin.{Begin}
+use Rattle.run_promise.specs.declared.limits.TheConstants.{MOST_ENTRIES}
+use Rattle.run_promise.specs.Fits.{MayAppend}
+use Rattle.run_promise.specs.Begin.{Begin}
 use Rattle.law_workers.specs.Views.{IsBetween, entries_in}
 use Rattle.law_workers.specs.Deeds.{course_in, deeds_of}
 use Rattle.law_workers.specs.Order.{Layout, LiesIn, Handled}
-use Rattle.law_workers.specs.Alone.{OneLane, ServedAlone}
+use Rattle.run_promise.specs.Alone.{OneLane}
+use Rattle.law_workers.specs.Alone.{ServedAlone}
 use Rattle.law_runs.specs.Doing.{AreSettledInside, PutsPieces, SettlesWork, octets_put}
 
 -- From the first view to the second the worker handled the records; from there to the last it put the answers, or a

@@ -4,12 +4,13 @@ use Rattle.sdls_base.specs.declared.entry.Logged.{Logged}
 use Rattle.record_io.specs.declared.records.Record.{Record}
 use Rattle.record_io.specs.Answers.{answer_octets}
 use Rattle.counter_table.specs.declared.view.View.{View}
-use Rattle.law_history.specs.Log.{entries_of, pieces_of}
-use Rattle.law_history.specs.Fits.{Course}
-use Rattle.law_workers.specs.Begin.{Begin}
+use Rattle.run_promise.specs.Log.{entries_of, pieces_of}
+use Rattle.run_promise.specs.Fits.{Course}
+use Rattle.run_promise.specs.Begin.{Begin}
 use Rattle.law_workers.specs.Views.{log_of}
-use Rattle.law_workers.specs.Deeds.{Deed, Does, course_in}
-use Rattle.law_runs.specs.Sound.{deeds_octets, IsCoveredBy}
+use Rattle.run_promise.specs.Deed.{Deed}
+use Rattle.law_workers.specs.Deeds.{Does, course_in}
+use Rattle.run_promise.specs.Sound.{deeds_octets, IsCoveredBy}
 
 -- The answer was settled before an octet of it was put: so many lines of the log stood then, and so many entries were
 -- stored, whose state covers it. The first octet of the answer is the one at this place among the octets put.

@@ -1,20 +1,18 @@
-//! Runs of a unit, from the opening to the end, and its life: what one worker did segment by segment, how the run ends
-//! and what its status says, what a crash at any moment leaves, and what a call adds to a life (profile).
+//! Laws of runs: what one worker did segment by segment, from the opening to the end, what the status of a run says,
+//! what a crash at any moment leaves, and what holds of all runs of a life (profile).
 //!
-//! [`RunEnd`] names the ends. The rest is definitions, in `specs`, and laws over them: read `Lives` there, whose
-//! `EndsAndLives` is what the top call promises. [`run_ends_well`] and [`refused_run_ends`] lead to it;
+//! There is no code to run here: definitions stand in `specs`, and the functions are laws over them. What `run`
+//! promises is `EndsAndLives` of `run_promise`: [`run_ends_well`] and [`refused_run_ends`] lead to it,
 //! [`zero_says_all`], [`faults_are_told`] and [`unhindered_run_completes`] draw from it what a status says, and
 //! [`used_once_in_a_life`] what holds of all runs.
 #![tactic(auto)]
 
-mod end;
 mod life;
 mod repeated;
 mod status;
 mod under_way;
 mod whole;
 
-pub use end::RunEnd;
 pub use life::{
     covered_in_a_life, sound_call_keeps_lives, sound_reading_keeps_lives, used_once_in_a_life,
 };

@@ -2,13 +2,15 @@
 ghost use Rattle.std.specs.Prelude.{ℕ, List, []};
 ghost use Rattle.std.specs.List.{All};
 ghost use Rattle.unit_state.specs.declared.state.State.{State};
-ghost use Rattle.law_runs.specs.Life.{given_in, IsLife, IsShown, Knows, left_by, LifeRun, OnceInLife};
-ghost use Rattle.law_runs.specs.Sound.{IsSound};
+ghost use Rattle.run_promise.specs.Life.{given_in, IsLife, left_by, LifeRun, OnceInLife};
+ghost use Rattle.law_runs.specs.Known.{IsShown, Knows};
+ghost use Rattle.run_promise.specs.Sound.{IsSound};
 ghost use Rattle.unit_plan.specs.PlanLines.{PlanLines};
-ghost use Rattle.law_runs.specs.Call.{CallSeen, ShowsAtEntry};
-ghost use Rattle.law_runs.specs.Account.{Account, begin_of, course_of};
-ghost use Rattle.law_runs.specs.Ends.{IsSoundCall};
-ghost use Rattle.law_runs.specs.Lives.{KeepsLives, KeepsLivesReading, no_account, ReadsSoundly};
+ghost use Rattle.run_promise.specs.Call.{CallSeen, ShowsAtEntry};
+ghost use Rattle.run_promise.specs.Account.{Account, begin_of, course_of};
+ghost use Rattle.run_promise.specs.Ends.{IsSoundCall};
+ghost use Rattle.run_promise.specs.Lives.{KeepsLives, KeepsLivesReading};
+ghost use Rattle.law_runs.specs.Reads.{no_account, ReadsSoundly};
 
 use unit_image::shows_one;
 

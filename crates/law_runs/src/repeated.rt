@@ -4,10 +4,10 @@ ghost use Rattle.record_io.specs.Places.{records_of};
 ghost use Rattle.unit_state.specs.declared.state.State.{State};
 ghost use Rattle.record_io.specs.declared.status.TheConstants.{DONE};
 ghost use Rattle.unit_plan.specs.PlanLines.{PlanLines};
-ghost use Rattle.law_workers.specs.Alone.{OneLane};
-ghost use Rattle.law_runs.specs.Alone.{NoneWants, RunsAlike};
-ghost use Rattle.law_runs.specs.Call.{CallSeen, image_at_entry, ShowsAtEntry};
-ghost use Rattle.law_runs.specs.Ends.{RunEnds};
+ghost use Rattle.run_promise.specs.Alone.{OneLane};
+ghost use Rattle.law_runs.specs.Says.{NoneWants, RunsAlike};
+ghost use Rattle.run_promise.specs.Call.{CallSeen, image_at_entry, ShowsAtEntry};
+ghost use Rattle.run_promise.specs.Ends.{RunEnds};
 
 use crate::status::zero_says_all;
 use law_history::{releases_are_stored, rules_stay_along, stored_counts_add};

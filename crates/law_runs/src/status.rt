@@ -7,10 +7,10 @@ ghost use Rattle.record_io.specs.declared.answers.Answer.{Answer};
 ghost use Rattle.record_io.specs.declared.status.TheConstants.{DONE, SITE_FAULT, NO_MEMORY, SESSION_FULL};
 ghost use Rattle.unit_plan.specs.PlanLines.{PlanLines};
 ghost use Rattle.unit_image.specs.Shows.{ShowsNone};
-ghost use Rattle.law_runs.specs.declared.end.RunEnd.TheVariants as ends;
-ghost use Rattle.law_runs.specs.Call.{CallSeen, image_at_entry};
-ghost use Rattle.law_runs.specs.Account.{SaysSiteFailed, due_octets, end_status};
-ghost use Rattle.law_runs.specs.Ends.{RunEnds};
+ghost use Rattle.run_promise.specs.declared.end.RunEnd.TheVariants as ends;
+ghost use Rattle.run_promise.specs.Call.{CallSeen, image_at_entry};
+ghost use Rattle.run_promise.specs.Account.{SaysSiteFailed, due_octets, end_status};
+ghost use Rattle.run_promise.specs.Ends.{RunEnds};
 ghost use Rattle.law_runs.specs.Says.{DidAll, GoesToItsEnd, EndsWithFullHistory, IsLeftRefused, IsUnhindered};
 
 use record_io::input_reads_once;

@@ -13,11 +13,12 @@ use Rattle.counter_table.specs.Known.{pieces}
 use Rattle.counter_table.specs.Turn.{stands, places}
 use Rattle.counter_table.specs.Whole.{IsWhole}
 use Rattle.record_io.specs.declared.records.Record.{Record}
-use Rattle.law_history.specs.Log.{entries_of, pieces_of}
-use Rattle.law_history.specs.Counts.{count_at, is_of_record, is_of_none, is_index, reserves_of, drawers}
-use Rattle.law_workers.specs.Begin.{Begin}
+use Rattle.run_promise.specs.Log.{entries_of, pieces_of}
+use Rattle.run_promise.specs.Counts.{count_at, is_of_record, is_of_none, is_index, reserves_of, drawers}
+use Rattle.run_promise.specs.Begin.{Begin}
 use Rattle.law_workers.specs.Views.{log_of, entries_in}
-use Rattle.law_workers.specs.Deeds.{Deed, Does}
+use Rattle.run_promise.specs.Deed.{Deed}
+use Rattle.law_workers.specs.Deeds.{Does}
 use Rattle.law_workers.specs.Order.{is_piece, is_line, Lined}
 use Rattle.law_workers.proofs.Histories.{place_of_entry}
 use Rattle.law_workers.proofs.Logs.{stands_both, piece_count_both, entries_low, count_one}

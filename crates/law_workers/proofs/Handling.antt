@@ -8,11 +8,12 @@ use Rattle.sdls_base.specs.declared.entry.Logged.{Logged}
 use Rattle.counter_table.specs.declared.view.View.{View}
 use Rattle.counter_table.specs.Turn.{stands}
 use Rattle.record_io.specs.declared.records.Record.{Record}
-use Rattle.law_history.specs.Counts.{is_of_record, count_at, drawers}
-use Rattle.law_workers.specs.Begin.{Begin}
+use Rattle.run_promise.specs.Counts.{is_of_record, count_at, drawers}
+use Rattle.run_promise.specs.Begin.{Begin}
 use Rattle.law_workers.specs.Views.{Gains, keeping, starting, meeting, Meets, log_of}
 use Rattle.law_workers.specs.Work.{indexed}
-use Rattle.law_workers.specs.Deeds.{Deed, AllBoth, AtOnce}
+use Rattle.run_promise.specs.Deed.{Deed}
+use Rattle.law_workers.specs.Deeds.{AllBoth, AtOnce}
 use Rattle.law_workers.specs.Order.{Layout, TakeTurns, LiesIn, Lined, ComeBefore, AreAside, Handled}
 use Rattle.law_workers.proofs.Logs.{count_kept, drawers_both}
 use Rattle.law_workers.proofs.Joining.{does_nothing, nothing_gains, does_then, then_gains, does_beside, beside_gains}

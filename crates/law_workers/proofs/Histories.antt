@@ -10,7 +10,7 @@ use Rattle.unit_state.specs.declared.state.State.{State}
 use Rattle.unit_state.specs.Applied.{applied}
 use Rattle.unit_state.specs.History.{after, after_first, epoch_after}
 use Rattle.unit_state.proofs.StateLaws.{places_kept}
-use Rattle.law_history.specs.Log.{entries_of}
+use Rattle.run_promise.specs.Log.{entries_of}
 
 pub entries_both : (a b : List Logged) → entries_of (a ++ b) ≡ entries_of a ++ entries_of b
 entries_both [] b = refl

@@ -12,12 +12,13 @@ use Rattle.sdls_outside.specs.Faults.{Rose}
 use Rattle.counter_table.specs.Numbers.{top}
 use Rattle.counter_table.specs.Turn.{stands}
 use Rattle.record_io.specs.declared.records.Record.{Record}
-use Rattle.law_history.specs.Log.{entries_of}
-use Rattle.law_history.specs.Answers.{Uses}
-use Rattle.law_workers.specs.Begin.{Begin}
+use Rattle.run_promise.specs.Log.{entries_of}
+use Rattle.run_promise.specs.Answers.{Uses}
+use Rattle.run_promise.specs.Begin.{Begin}
 use Rattle.law_workers.specs.Views.{Gains, no_gains, both_gains, log_of, entries_in, IsRow, KnowsMore, Gained, keeping, starting, meeting, Meets}
 use Rattle.law_workers.specs.Work.{Works, Worked}
-use Rattle.law_workers.specs.Deeds.{Deed, StandsBehind, InTurn, StandsWithin, Agree, MadeLast, IsSpent, Answers, Does, AtOnce, AllBoth}
+use Rattle.run_promise.specs.Deed.{Deed, StandsBehind, InTurn}
+use Rattle.law_workers.specs.Deeds.{StandsWithin, Agree, MadeLast, IsSpent, Answers, Does, AtOnce, AllBoth}
 use Rattle.law_workers.proofs.Logs.{stands_both, times_both, piece_count_both, last_once, entries_low}
 use Rattle.law_workers.proofs.Working.{widen_works, widen_answers, merge_works, merge_answers, row_later, told_later, closed}
 

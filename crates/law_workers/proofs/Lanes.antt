@@ -6,11 +6,12 @@ use Rattle.std.proofs.lemmas.List.Elements.{All-nil, All-cons, All-append, All-f
 use Rattle.counter_table.specs.declared.view.View.{View}
 use Rattle.record_io.specs.declared.records.Record.{Record}
 use Rattle.record_io.specs.declared.answers.Answer.{Answer}
-use Rattle.law_history.specs.Counts.{draws, drawers}
-use Rattle.law_workers.specs.Begin.{Begin}
+use Rattle.run_promise.specs.Counts.{draws, drawers}
+use Rattle.run_promise.specs.Begin.{Begin}
 use Rattle.law_workers.specs.Views.{Gains, KnowsMore, IsBetween, starting, keeping, meeting, Meets}
 use Rattle.law_workers.specs.Work.{Works, indexed}
-use Rattle.law_workers.specs.Deeds.{Deed, Does, deed_of, deeds_of, AtOnce, AllBoth}
+use Rattle.run_promise.specs.Deed.{Deed, deed_of}
+use Rattle.law_workers.specs.Deeds.{Does, deeds_of, AtOnce, AllBoth}
 use Rattle.law_workers.specs.Order.{Layout, LiesIn, Handled}
 use Rattle.law_workers.specs.Lanes.{is_of_lane, of_lane, giving_shares, Part, DidPart, meeting_all, MeetAll, parts_deeds, parts_tasks}
 use Rattle.law_workers.proofs.Logs.{legal_wider}

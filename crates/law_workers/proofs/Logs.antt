@@ -17,11 +17,12 @@ use Rattle.record_io.specs.declared.kinds.RecordKind.TheVariants.{Protect, Open,
 use Rattle.unit_plan.specs.PlanLines.{PlanLines}
 use Rattle.unit_state.specs.declared.state.State.{State}
 use Rattle.unit_state.specs.History.{after, epoch_after}
-use Rattle.law_history.specs.Log.{entries_of}
-use Rattle.law_history.specs.Legal.{IsLegal, IsLegalAt}
-use Rattle.law_history.specs.Counts.{count_at, drawers}
+use Rattle.run_promise.specs.Log.{entries_of}
+use Rattle.run_promise.specs.Legal.{IsLegal, IsLegalAt}
+use Rattle.run_promise.specs.Counts.{count_at, drawers}
 use Rattle.law_workers.specs.Work.{indexed}
-use Rattle.law_workers.specs.Deeds.{is_protected, IsLastAt}
+use Rattle.run_promise.specs.Deed.{is_protected}
+use Rattle.law_workers.specs.Deeds.{IsLastAt}
 use Rattle.law_workers.proofs.Histories.{get_front}
 use Rattle.law_workers.proofs.Fitting.{seen_nearer}
 

@@ -19,17 +19,18 @@ use Rattle.counter_table.specs.declared.view.View.{View}
 use Rattle.counter_table.specs.Numbers.{amount, top}
 use Rattle.counter_table.specs.Turn.{stands}
 use Rattle.counter_table.specs.Whole.{IsWhole}
-use Rattle.law_history.specs.Entries.{IsStepOf}
-use Rattle.law_history.specs.Legal.{KeyOf}
-use Rattle.law_history.specs.Numbers.{mark_of}
-use Rattle.law_workers.specs.Begin.{Begin}
+use Rattle.run_promise.specs.Entries.{IsStepOf}
+use Rattle.run_promise.specs.Legal.{KeyOf}
+use Rattle.run_promise.specs.Numbers.{mark_of}
+use Rattle.run_promise.specs.Begin.{Begin}
 use Rattle.law_workers.specs.Views.{KnowsMore, log_of, entries_in}
-use Rattle.law_workers.specs.Deeds.{Deed}
+use Rattle.run_promise.specs.Deed.{Deed}
 use Rattle.law_workers.proofs.Histories.{get_front, row_kept}
 use Rattle.law_workers.proofs.Logs.{stands_both}
 use Rattle.law_workers.proofs.Working.{grown_entries}
-use Rattle.law_workers.specs.Machine.{Move, Kept, Found, Drew, Raised, Overdrew, adds, adds_all, IsAt, word_after, Runs}
-use Rattle.law_workers.specs.Exact.{words_in, Shown, TellsSeen, TellsProtect, TellsCommand, TellsKind, Tells, TellAll, IsOfMoves, Exact}
+use Rattle.run_promise.specs.Machine.{Move, Kept, Found, Drew, Raised, Overdrew, adds, adds_all, IsAt, word_after, Runs}
+use Rattle.law_workers.specs.Exact.{words_in, IsOfMoves, Exact}
+use Rattle.run_promise.specs.Moves.{Shown, TellsSeen, TellsProtect, TellsCommand, TellsKind, Tells, TellAll}
 
 after_both : (state : State) (es more : List Entry) → after state (es ++ more) ≡ after (after state es) more
 after_both state [] more = refl

@@ -23,14 +23,14 @@ use Rattle.record_io.specs.declared.records.Record.{Record}
 use Rattle.unit_plan.specs.PlanLines.{PlanLines}
 use Rattle.unit_state.specs.declared.state.State.{State}
 use Rattle.unit_state.specs.State.{KeepsRules}
-use Rattle.law_history.specs.Answers.{Told, told_by, counting, numbered, opened_told, replied_told, unbound_told}
-use Rattle.law_history.specs.Entries.{frame_change, frame_entry, record_entry, IsNeedOf, IsStepOf}
-use Rattle.law_history.specs.Numbers.{mark_of, reserve_of}
-use Rattle.law_history.specs.Stored.{IsStored}
-use Rattle.law_workers.specs.Begin.{Begin}
-use Rattle.law_workers.specs.Deeds.{Deed}
-use Rattle.law_workers.specs.Machine.{Move, Found, Drew, Raised, Overdrew, IsAt, word_after, Runs}
-use Rattle.law_workers.specs.Serving.{now, HasSlot, SaysFull, Funds, AloneUnbound, AloneBound, AloneProtected, AloneExhausted, AloneUnfunded, AloneOpened, AloneUnopened, AloneShows, AloneShown, AloneHandled, AloneUnhandled, AloneUnmet, ServesKind, AloneServes, ServesAll, SameTasks, AreServed}
+use Rattle.run_promise.specs.Answers.{Told, told_by, counting, numbered, opened_told, replied_told, unbound_told}
+use Rattle.run_promise.specs.Entries.{frame_change, frame_entry, record_entry, IsNeedOf, IsStepOf}
+use Rattle.run_promise.specs.Numbers.{mark_of, reserve_of}
+use Rattle.run_promise.specs.Stored.{IsStored}
+use Rattle.run_promise.specs.Begin.{Begin}
+use Rattle.run_promise.specs.Deed.{Deed}
+use Rattle.run_promise.specs.Machine.{Move, Found, Drew, Raised, Overdrew, IsAt, word_after, Runs}
+use Rattle.run_promise.specs.Serving.{now, HasSlot, SaysFull, Funds, AloneUnbound, AloneBound, AloneProtected, AloneExhausted, AloneUnfunded, AloneOpened, AloneUnopened, AloneShows, AloneShown, AloneHandled, AloneUnhandled, AloneUnmet, ServesKind, AloneServes, ServesAll, SameTasks, AreServed}
 
 same_answer : (a b : Answer) → told_by a ≡ told_by b → a.position ≡ b.position → a ≡ b
 same_answer a b told place =

@@ -17,9 +17,8 @@ use Rattle.key_book.proofs.Rows.{same_number, other_identifier}
 use Rattle.unit_state.specs.declared.state.State.{State}
 use Rattle.unit_state.specs.State.{KeepsRules}
 use Rattle.unit_state.specs.History.{after}
-use Rattle.law_history.specs.Numbers.{mark_of}
+use Rattle.run_promise.specs.Numbers.{mark_of, mark_at}
 use Rattle.law_workers.proofs.Histories.{row_kept}
-use Rattle.unit_book.specs.Marks.{mark_at}
 
 no_row : KeyRow
 no_row = record { id = 0; state = PreActive; bytes = []; digest = []; mark = 0; floor = 0 }

@@ -8,14 +8,14 @@ use Rattle.sdls_outside.specs.Faults.{Rose}
 use Rattle.counter_table.specs.Turn.{stands}
 use Rattle.unit_state.specs.History.{after}
 use Rattle.unit_state.proofs.Histories.{after_more}
-use Rattle.law_workers.specs.Begin.{Begin}
+use Rattle.run_promise.specs.Begin.{Begin}
 use Rattle.law_workers.specs.Views.{KnowsMore, IsRow, log_of, entries_in}
-use Rattle.law_workers.specs.Deeds.{Deed}
+use Rattle.run_promise.specs.Deed.{Deed}
 use Rattle.law_workers.proofs.Histories.{row_kept}
 use Rattle.law_workers.proofs.Logs.{stands_both, times_both}
 use Rattle.law_workers.proofs.Working.{grown_entries}
-use Rattle.law_workers.specs.Machine.{Move}
-use Rattle.law_workers.specs.Serving.{ServesAll}
+use Rattle.run_promise.specs.Machine.{Move}
+use Rattle.run_promise.specs.Serving.{ServesAll}
 use Rattle.law_workers.specs.InTurn.{MadeAllLines, IsClean, AreMarked, ServedBetween, ServedInTurn}
 
 either : (a b : ℕ) → 0 < a + b → (0 < a) ⊎ (0 < b)

@@ -16,22 +16,22 @@ use Rattle.record_io.specs.declared.code.TheConstants.{SITE_FAULT}
 use Rattle.sdls_base.specs.declared.states.KeyState.TheVariants.{PreActive}
 use Rattle.unit_state.specs.State.{KeepsRules}
 use Rattle.unit_state.specs.History.{after, after_first}
-use Rattle.law_history.specs.Log.{entries_of}
-use Rattle.law_history.specs.Numbers.{mark_of}
-use Rattle.law_history.specs.Legal.{AsksFor, IsLegal}
-use Rattle.law_history.specs.Run.{IsAskedFor, NearWord}
-use Rattle.law_history.specs.Counts.{is_index, is_of_record}
-use Rattle.law_history.specs.Answers.{Uses}
-use Rattle.law_history.specs.Fits.{Course, Fits}
-use Rattle.law_workers.specs.Begin.{Begin}
+use Rattle.run_promise.specs.Log.{entries_of}
+use Rattle.run_promise.specs.Numbers.{mark_of, mark_at}
+use Rattle.run_promise.specs.Legal.{AsksFor, IsLegal}
+use Rattle.run_promise.specs.Run.{IsAskedFor, NearWord}
+use Rattle.run_promise.specs.Counts.{is_index, is_of_record}
+use Rattle.run_promise.specs.Answers.{Uses}
+use Rattle.run_promise.specs.Fits.{Course, Fits}
+use Rattle.run_promise.specs.Begin.{Begin}
 use Rattle.law_workers.specs.Views.{log_of, entries_in, IsRow, IsBetween}
 use Rattle.law_workers.specs.Work.{IsAsked, indexed}
-use Rattle.law_workers.specs.Deeds.{Deed, Does, InTurn, StandsBehind, course_in, Differ}
+use Rattle.run_promise.specs.Deed.{Deed, InTurn, StandsBehind, Differ}
+use Rattle.law_workers.specs.Deeds.{Does, course_in}
 use Rattle.law_workers.proofs.Histories.{row_kept_first, place_of_entry}
 use Rattle.law_workers.proofs.Fitting.{fits_more}
 use Rattle.law_workers.proofs.Logs.{count_two, legal_wider}
 use Rattle.law_workers.proofs.Joining.{top_both}
-use Rattle.unit_book.specs.Marks.{mark_at}
 use Rattle.law_workers.specs.Opened.{IsJustOpened}
 use Rattle.law_workers.proofs.Rows.{row_named, row_one, mark_known}
 use Rattle.record_io.specs.Places.{Place, records_of}

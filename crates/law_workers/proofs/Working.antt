@@ -15,14 +15,15 @@ use Rattle.record_io.specs.declared.answers.Answer.{Answer}
 use Rattle.record_io.specs.declared.code.TheConstants.{SITE_FAULT}
 use Rattle.unit_state.specs.History.{after, after_first}
 use Rattle.unit_state.proofs.Histories.{after_more}
-use Rattle.law_history.specs.Log.{entries_of}
-use Rattle.law_history.specs.Legal.{IsLegalAt}
-use Rattle.law_history.specs.Counts.{is_of_record, is_of_none}
-use Rattle.law_history.specs.Fits.{Course, Fits, MayAppend}
-use Rattle.law_workers.specs.Begin.{Begin}
+use Rattle.run_promise.specs.Log.{entries_of}
+use Rattle.run_promise.specs.Legal.{IsLegalAt}
+use Rattle.run_promise.specs.Counts.{is_of_record, is_of_none}
+use Rattle.run_promise.specs.Fits.{Course, Fits, MayAppend}
+use Rattle.run_promise.specs.Begin.{Begin}
 use Rattle.law_workers.specs.Views.{Gains, both_gains, log_of, entries_in, IsRow, IsBetween, KnowsMore}
 use Rattle.law_workers.specs.Work.{IsAsked, Works}
-use Rattle.law_workers.specs.Deeds.{Deed, course_in, is_ordered, epoch_told, StandsBehind, StandsWithin, IsLastAt, Agree, EachTwo, AllBoth, MadeLast, IsSpent, Answers}
+use Rattle.run_promise.specs.Deed.{Deed, is_ordered, epoch_told, StandsBehind}
+use Rattle.law_workers.specs.Deeds.{course_in, StandsWithin, IsLastAt, Agree, EachTwo, AllBoth, MadeLast, IsSpent, Answers}
 use Rattle.law_workers.proofs.Histories.{entries_both, entries_counted, row_kept}
 use Rattle.law_workers.proofs.Fitting.{can_append, fits_more}
 use Rattle.law_workers.proofs.Logs.{stands_both, times_both, count_of_both, last_kept, drawers_both, indexed_both, count_at_both, count_kept, legal_more, legal_wider, told_kept}

@@ -1,17 +1,11 @@
 -- Records of one lane, which one worker handles, one after the other (profile).
 use Rattle.std.specs.Prelude.{◌≡◌, ℕ, ◌≤◌, List, [], ◌++◌, length}
-use Rattle.std.specs.List.{All}
-use Rattle.record_io.specs.declared.records.Record.{Record}
 use Rattle.counter_table.specs.declared.view.View.{View}
-use Rattle.law_workers.specs.Begin.{Begin}
-use Rattle.law_workers.specs.Deeds.{Deed}
-use Rattle.law_workers.specs.Machine.{Move}
+use Rattle.run_promise.specs.Begin.{Begin}
+use Rattle.run_promise.specs.Deed.{Deed}
+use Rattle.run_promise.specs.Machine.{Move}
 use Rattle.law_workers.specs.Exact.{Exact}
 use Rattle.law_workers.specs.InTurn.{ServedBetween, ServedInTurn}
-
--- all records are of one lane
-abbrev pub OneLane : List Record → Type 0
-OneLane tasks = (lane : ℕ) × All (λ (task : Record). task.lane ≡ lane) tasks
 
 -- Of so many records these were answered. Each of them moved the words once, as its answer tells; of a record without
 -- an answer there may be one move more. All lines that the worker made since the old view are of these records.

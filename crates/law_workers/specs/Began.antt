@@ -3,7 +3,7 @@ use Rattle.std.specs.Prelude.{◌≡◌, Bool, IsTrue, length}
 use Rattle.sdls_base.specs.declared.TheConstants.{MOST_KEYS}
 use Rattle.disk_journal.specs.Image.{records, slot_count}
 use Rattle.counter_table.specs.declared.view.Opening.{Opening}
-use Rattle.law_workers.specs.Begin.{Begin}
+use Rattle.run_promise.specs.Begin.{Begin}
 
 -- The run began with what the opening tells, on a table of MOST_KEYS rows. The slots and those used are those of the
 -- image, as far as the site tells what it holds.

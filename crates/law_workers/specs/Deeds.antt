@@ -1,34 +1,25 @@
 -- What a worker did, with the answers that it gave (profile).
-use Rattle.std.specs.Prelude.{◌≡◌, ◌≢◌, ◌⊎◌, ℕ, ◌+◌, ◌<◌, ◌≤◌, ◌&&◌, ◌||◌, not, nat_le, Bool, IsTrue, true, false}
-use Rattle.std.specs.Prelude.{if◌then◌else◌, List, [], ◌∷◌, length, take}
+use Rattle.std.specs.Prelude.{◌≡◌, ◌≢◌, ℕ, ◌+◌, ◌<◌, ◌≤◌, IsTrue, List, [], ◌∷◌, length, take}
 use Rattle.std.specs.List.{All, AllPairs}
 use Rattle.sdls_base.specs.Numbers.{times}
 use Rattle.sdls_base.specs.declared.entry.Entry.{Entry}
 use Rattle.sdls_base.specs.declared.entry.Logged.{Logged}
 use Rattle.record_io.specs.declared.records.Record.{Record}
 use Rattle.record_io.specs.declared.answers.Answer.{Answer}
-use Rattle.record_io.specs.declared.kinds.RecordKind.{RecordKind}
-use Rattle.record_io.specs.declared.kinds.RecordKind.TheVariants.{Protect, Open, Command}
-use Rattle.record_io.specs.declared.code.TheConstants.{PROTECTED, ACCEPTED, NUMBER, EXHAUSTED, SITE_FAULT}
-use Rattle.unit_state.specs.History.{epoch_after}
+use Rattle.record_io.specs.declared.code.TheConstants.{PROTECTED, SITE_FAULT}
 use Rattle.counter_table.specs.declared.view.View.{View}
 use Rattle.counter_table.specs.Known.{IsSparing}
 use Rattle.sdls_outside.specs.Faults.{Rose}
 use Rattle.counter_table.specs.Numbers.{top}
 use Rattle.counter_table.specs.Turn.{stands, epoch_seen}
-use Rattle.law_history.specs.Log.{entries_of}
-use Rattle.frame_checks.specs.ProtectingFrames.{has_channel}
-use Rattle.law_history.specs.Answers.{Uses}
-use Rattle.law_history.specs.Fits.{Course, Fits}
-use Rattle.law_workers.specs.Begin.{Begin}
+use Rattle.run_promise.specs.Log.{entries_of}
+use Rattle.run_promise.specs.Answers.{Uses}
+use Rattle.run_promise.specs.Fits.{Course, Fits}
+use Rattle.run_promise.specs.Begin.{Begin}
 use Rattle.law_workers.specs.Views.{Gains, Gained, KnowsMore, IsBetween, IsRow, log_of, entries_in}
 use Rattle.law_workers.specs.Work.{Works}
-
--- an answered record, and the number of its segment
-pub record Deed : Type 0 where
-  pub task : Record
-  pub segment : ℕ
-  pub answer : Answer
+use Rattle.run_promise.specs.Deed.{Deed, is_protected, tells_entry, epoch_told, is_ordered, StandsBehind, InTurn}
+use Rattle.run_promise.specs.Deed.{deed_of}
 
 -- what the answers of a run speak of, as the view knows it
 abbrev pub course_in : Begin → View → Course
@@ -42,49 +33,6 @@ course_in begin view = record {
   faults = view.turn.known.faults;
   entries = entries_in view;
 }
-
-abbrev pub is_protected : RecordKind → Bool
-is_protected Protect = true
-is_protected Open = false
-is_protected Command = false
-
--- the position is that of an entry: the answer is of an Open or a Command, with a code from ACCEPTED to NUMBER
-abbrev pub tells_entry : Deed → Bool
-tells_entry deed = not (is_protected deed.task.kind) &&
-    (nat_le ACCEPTED deed.answer.code && nat_le deed.answer.code NUMBER)
-
--- the position is an epoch: the answer is of a Protect, comes from its checks behind the channel, and has a code up to
--- EXHAUSTED
-abbrev pub tells_epoch : Begin → Deed → Bool
-tells_epoch begin deed =
-    is_protected deed.task.kind && (has_channel begin.plan deed.task.link deed.task.octets && nat_le deed.answer.code
-    EXHAUSTED)
-
--- the epoch that an ordered answer tells
-abbrev pub epoch_told : List Entry → Deed → ℕ
-epoch_told history deed = if is_protected deed.task.kind then deed.answer.position else epoch_after
-    (take deed.answer.position history)
-
-abbrev pub is_ordered : Begin → Deed → Bool
-is_ordered begin deed = tells_entry deed || tells_epoch begin deed
-
--- the later answer stands behind the earlier one
-pub record StandsBehind (begin : Begin) (history : List Entry) (one other : Deed) : Type 0 where
-  pub entries : IsTrue (tells_entry one) → IsTrue (tells_entry other) → one.answer.position < other.answer.position
-  pub epochs : IsTrue (is_ordered begin one) → IsTrue (is_ordered begin other)
-      → epoch_told history one ≤ epoch_told history other
-  pub numbers : (one.task.lane ≡ other.task.lane) → one.answer.code ≡ PROTECTED → other.answer.code ≡ PROTECTED
-      → IsTrue (is_protected one.task.kind)
-      → IsTrue (is_protected other.task.kind) → one.answer.key ≡ other.answer.key
-      → one.answer.number < other.answer.number
-
--- two records are handled in their order: they are of one lane, or of different segments
-abbrev pub InTurn : Deed → Deed → Type 0
-InTurn one other = (one.task.lane ≡ other.task.lane) ⊎ (one.segment ≢ other.segment)
-
--- two answers that use, or accept, a number under a key differ in key or number
-abbrev pub Differ : (Answer → ℕ → ℕ → Type 0) → Deed → Deed → Type 0
-Differ P one other = (key number : ℕ) → P one.answer key number → ¬ P other.answer key number
 
 -- where the answer stands, between what was seen before and after; an entry that it tells stands in the book
 pub record StandsWithin (begin : Begin) (old new : View) (deed : Deed) : Type 0 where
@@ -156,9 +104,6 @@ AtOnce one other = (one.task.lane ≢ other.task.lane) × (one.segment ≡ other
 -- each of the one list stands so to each of the other
 abbrev pub AllBoth : {X : Type 0} → (X → X → Type 0) → List X → List X → Type 0
 AllBoth R xs ys = All (λ x. All (R x) ys) xs
-
-abbrev pub deed_of : ℕ → Record → Answer → Deed
-deed_of segment task answer = record { task = task; segment = segment; answer = answer }
 
 -- the records with their answers, as far as there are answers
 abbrev pub deeds_of : ℕ → List Record → List Answer → List Deed

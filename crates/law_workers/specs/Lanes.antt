@@ -4,9 +4,10 @@ use Rattle.std.specs.List.{filter}
 use Rattle.counter_table.specs.declared.view.View.{View}
 use Rattle.record_io.specs.declared.records.Record.{Record}
 use Rattle.record_io.specs.declared.answers.Answer.{Answer}
-use Rattle.law_workers.specs.Begin.{Begin}
+use Rattle.run_promise.specs.Begin.{Begin}
 use Rattle.law_workers.specs.Views.{starting, meeting, Meets}
-use Rattle.law_workers.specs.Deeds.{Deed, deeds_of}
+use Rattle.run_promise.specs.Deed.{Deed}
+use Rattle.law_workers.specs.Deeds.{deeds_of}
 use Rattle.law_workers.specs.Order.{Layout, Handled}
 
 abbrev pub is_of_lane : ℕ → Record → Bool

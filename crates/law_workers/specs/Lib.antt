@@ -1,4 +1,3 @@
-pub mod Begin
 pub mod Began
 pub mod Views
 pub mod Work
@@ -8,8 +7,6 @@ pub mod Lanes
 pub mod Ends
 pub mod Opened
 pub mod Settles
-pub mod Machine
-pub mod Serving
 pub mod InTurn
 pub mod Exact
 pub mod Alone

@@ -6,11 +6,12 @@ use Rattle.sdls_base.specs.declared.entry.Logged.TheVariants as lines
 use Rattle.counter_table.specs.declared.view.View.{View}
 use Rattle.counter_table.specs.Turn.{stands}
 use Rattle.record_io.specs.declared.records.Record.{Record}
-use Rattle.law_history.specs.Counts.{is_of_record, count_at, drawers}
-use Rattle.law_workers.specs.Begin.{Begin}
+use Rattle.run_promise.specs.Counts.{is_of_record, count_at, drawers}
+use Rattle.run_promise.specs.Begin.{Begin}
 use Rattle.law_workers.specs.Views.{log_of}
 use Rattle.law_workers.specs.Work.{indexed}
-use Rattle.law_workers.specs.Deeds.{Deed, Does}
+use Rattle.run_promise.specs.Deed.{Deed}
+use Rattle.law_workers.specs.Deeds.{Does}
 
 -- Where records lie in the input, by their indexes: the lane and the segment of each.
 pub record Layout : Type 0 where

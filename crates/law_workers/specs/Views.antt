@@ -9,8 +9,8 @@ use Rattle.counter_table.specs.declared.view.View.{View}
 use Rattle.counter_table.specs.Known.{Earlier}
 use Rattle.counter_table.specs.Numbers.{top, keeper, newcomer, joined}
 use Rattle.counter_table.specs.Turn.{stands, epoch_seen, beginner, merged}
-use Rattle.law_history.specs.Log.{entries_of}
-use Rattle.law_workers.specs.Begin.{Begin}
+use Rattle.run_promise.specs.Log.{entries_of}
+use Rattle.run_promise.specs.Begin.{Begin}
 
 abbrev pub log_of : View → List Logged
 log_of view = view.turn.known.log

@@ -3,9 +3,10 @@ ghost use Rattle.std.specs.Prelude.{◌≡◌, ◌≢◌, ℕ, ◌<◌, List, []
 ghost use Rattle.std.specs.List.{AllPairs};
 ghost use Rattle.counter_table.specs.declared.view.View.{View};
 ghost use Rattle.record_io.specs.declared.records.Record.{Record};
-ghost use Rattle.law_workers.specs.Begin.{Begin};
+ghost use Rattle.run_promise.specs.Begin.{Begin};
 ghost use Rattle.law_workers.specs.Views.{KnowsMore, keeping, meeting, Meets, starting};
-ghost use Rattle.law_workers.specs.Deeds.{AllBoth, AtOnce, Deed};
+ghost use Rattle.law_workers.specs.Deeds.{AllBoth, AtOnce};
+ghost use Rattle.run_promise.specs.Deed.{Deed};
 ghost use Rattle.law_workers.specs.Order.{AreAside, ComeBefore, Handled, Layout, LiesIn, TakeTurns};
 ghost use Rattle.law_workers.specs.Lanes.{DidPart, giving_shares, MeetAll, meeting_all, Part, parts_deeds};
 

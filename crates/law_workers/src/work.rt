@@ -2,10 +2,11 @@
 ghost use Rattle.std.specs.Prelude.{◌≡◌, ℕ, ◌<◌, List, [], ◌++◌, true, false};
 ghost use Rattle.counter_table.specs.declared.view.View.{View};
 ghost use Rattle.record_io.specs.declared.records.Record.{Record};
-ghost use Rattle.law_workers.specs.Begin.{Begin};
+ghost use Rattle.run_promise.specs.Begin.{Begin};
 ghost use Rattle.law_workers.specs.Views.{keeping, meeting, Meets, starting};
 ghost use Rattle.law_workers.specs.Work.{Worked};
-ghost use Rattle.law_workers.specs.Deeds.{AllBoth, AtOnce, Deed, Does};
+ghost use Rattle.law_workers.specs.Deeds.{AllBoth, AtOnce, Does};
+ghost use Rattle.run_promise.specs.Deed.{Deed};
 
 /// Law: a worker that did nothing did so with any records, and gave no answers.
 pub fn does_nothing()

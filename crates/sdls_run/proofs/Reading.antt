@@ -2,7 +2,7 @@
 use Rattle.std.proofs.Common.{ℕ, List, inl, inr}
 use Rattle.sdls_outside.specs.Faults.{Rose}
 use Rattle.sdls_outside.proofs.Moments.{each_weaker}
-use Rattle.law_runs.specs.Call.{CallSeen}
+use Rattle.run_promise.specs.Call.{CallSeen}
 use Rattle.law_runs.specs.Reads.{IsRead, ReadsAlone}
 use Rattle.sdls_plain.specs.Stat.{EndsStat, StatMoment}
 

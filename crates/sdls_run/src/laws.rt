@@ -3,8 +3,8 @@ ghost use Rattle.std.specs.Prelude.{◌≡◌, []};
 ghost use Rattle.sdls_outside.specs.Faults.{Rose};
 ghost use Rattle.unit_plan.specs.PlanLines.{PlanLines};
 ghost use Rattle.unit_state.specs.declared.state.State.{State};
-ghost use Rattle.law_runs.specs.Call.{CallSeen, ShowsAtEntry};
-ghost use Rattle.law_runs.specs.Lives.{KeepsLivesReading};
+ghost use Rattle.run_promise.specs.Call.{CallSeen, ShowsAtEntry};
+ghost use Rattle.run_promise.specs.Lives.{KeepsLivesReading};
 ghost use Rattle.sdls_plain.specs.Stat.{EndsStat};
 
 use law_runs::reading_keeps_lives;

@@ -23,9 +23,9 @@ use Rattle.counter_table.specs.Turn.{stands, places, no_turn, filling, learning,
 use Rattle.counter_table.specs.Play.{IsAsKnown}
 use Rattle.counter_table.specs.Whole.{IsWhole}
 use Rattle.counter_table.specs.Worker.{view}
-use Rattle.law_history.specs.Log.{entries_of}
+use Rattle.run_promise.specs.Log.{entries_of}
 use Rattle.unit_book.specs.Book.{BookView, IsKept}
-use Rattle.unit_book.specs.Marks.{mark_at}
+use Rattle.run_promise.specs.Numbers.{mark_at}
 use Rattle.unit_book.proofs.KeptLaws.{bounds_of}
 use Rattle.shared_unit.specs.Told.{known_of_book}
 use Rattle.shared_unit.specs.Turn.{IsReady, TakesOnce, taking_once}

@@ -17,14 +17,15 @@ use Rattle.counter_table.specs.declared.view.Turn.{Turn}
 use Rattle.counter_table.specs.Known.{MayGive}
 use Rattle.counter_table.specs.Turn.{taking, giving, learning}
 use Rattle.counter_table.specs.Play.{Follows}
-use Rattle.law_history.specs.Entries.{IsNeedOf, record_entry}
+use Rattle.run_promise.specs.Entries.{IsNeedOf, record_entry}
 use Rattle.unit_book.specs.declared.fault.BookFault.{BookFault}
 use Rattle.unit_book.specs.declared.fault.BookFault.TheVariants.{SiteFault, Stopped, JournalFull, SessionFull, NoMemory}
-use Rattle.unit_book.specs.Marks.{KeepsMarks, marks_of}
+use Rattle.unit_book.specs.Marks.{KeepsMarks}
+use Rattle.run_promise.specs.Numbers.{marks_of}
 use Rattle.unit_book.specs.Book.{BookView, IsKept, IsUnstored}
 use Rattle.unit_book.specs.Epoch.{epoch_state}
 use Rattle.unit_book.specs.Records.{Handles, RefusesMessage}
-use Rattle.law_history.proofs.OneStep.{need_one}
+use Rattle.run_promise.proofs.Needs.{need_one}
 use Rattle.unit_book.proofs.KeptLaws.{kept_still, kept_changes}
 use Rattle.unit_book.proofs.EpochStates.{alike_served}
 use Rattle.unit_book.proofs.GoingOn.{goes_then}

@@ -13,7 +13,7 @@ use Rattle.unit_state.proofs.Histories.{at_epoch_more, epochs_more}
 use Rattle.counter_table.specs.declared.view.Known.{Known}
 use Rattle.counter_table.specs.declared.view.Opening.{Opening}
 use Rattle.counter_table.specs.Known.{entries}
-use Rattle.law_history.specs.Log.{entries_of}
+use Rattle.run_promise.specs.Log.{entries_of}
 use Rattle.shared_unit.specs.Told.{state_at}
 
 pub entries_of-append : (log rest : List Logged) → entries_of (log ++ rest) ≡ entries_of log ++ entries_of rest

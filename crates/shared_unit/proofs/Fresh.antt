@@ -4,7 +4,7 @@ use Rattle.sdls_outside.specs.Moments.{Trace}
 use Rattle.sdls_base.specs.declared.entry.Logged.{Logged}
 use Rattle.unit_state.specs.History.{epoch_after}
 use Rattle.counter_table.specs.Known.{MayFill}
-use Rattle.law_history.specs.Log.{entries_of}
+use Rattle.run_promise.specs.Log.{entries_of}
 use Rattle.unit_book.specs.Book.{BookView, IsKept}
 use Rattle.unit_book.proofs.KeptLaws.{bounds_of}
 use Rattle.shared_unit.specs.Told.{known_of_book}

@@ -5,7 +5,7 @@ use Rattle.sdls_outside.specs.Moments.{Trace}
 use Rattle.key_book.specs.KeyBook.{place_of}
 use Rattle.unit_state.specs.History.{epoch_after}
 use Rattle.frame_checks.specs.ProtectingFrames.{protect_check}
-use Rattle.law_history.specs.Log.{entries_of}
+use Rattle.run_promise.specs.Log.{entries_of}
 use Rattle.unit_book.specs.Book.{BookView, IsKept}
 use Rattle.unit_book.specs.Epoch.{epoch_state, ServesAlike, HasBounds}
 use Rattle.unit_book.proofs.KeptLaws.{kept_still, kept_changes, bounds_of}

@@ -11,7 +11,7 @@ use Rattle.counter_table.specs.Worker.{view, IsSame}
 use Rattle.unit_book.specs.declared.fault.BookFault.{BookFault}
 use Rattle.unit_book.specs.declared.fault.BookFault.TheVariants.{SiteFault, Stopped, JournalFull, SessionFull, NoMemory}
 use Rattle.unit_book.specs.Book.{BookView, IsBarred, IsUnstored, CanEnter, Made}
-use Rattle.law_history.specs.Numbers.{mark_of, reserve_of}
+use Rattle.run_promise.specs.Numbers.{mark_of, reserve_of}
 use Rattle.shared_unit.specs.declared.permit.Permit.{Permit}
 use Rattle.shared_unit.specs.Told.{known_of_book}
 use Rattle.shared_unit.specs.Turn.{IsReady, Visits, KnowsMoreOfBook, Loads}

@@ -21,7 +21,7 @@ use Rattle.shared_unit.specs.declared.permit.Protected.{Protected}
 use Rattle.shared_unit.specs.declared.permit.Protected.TheVariants as answers
 use Rattle.shared_unit.specs.declared.permit.Ready.TheVariants as readies
 use Rattle.shared_unit.specs.Told.{known_of_book, state_at, entry_count}
-use Rattle.unit_book.specs.Marks.{marks_of}
+use Rattle.run_promise.specs.Numbers.{marks_of}
 use Rattle.shared_unit.specs.Turn.{Visits, Loads, taking_once}
 use Rattle.shared_unit.specs.Going.{GoesUp}
 use Rattle.shared_unit.specs.Numbers.{Draws, ComesBack, RunsOut, UsesNumber}

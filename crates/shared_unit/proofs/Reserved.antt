@@ -8,7 +8,7 @@ use Rattle.counter_table.specs.declared.view.Numbers.{Numbers}
 use Rattle.counter_table.specs.Known.{known_mark}
 use Rattle.counter_table.specs.Numbers.{lifting, spending, returning, peeking}
 use Rattle.unit_book.specs.Book.{BookView, Made}
-use Rattle.law_history.specs.Numbers.{mark_of as held_mark, reserve_of}
+use Rattle.run_promise.specs.Numbers.{mark_of as held_mark, reserve_of}
 use Rattle.shared_unit.specs.Told.{known_of_book}
 use Rattle.shared_unit.specs.Numbers.{Lifts}
 use Rattle.shared_unit.specs.Funding.{Reserves}

@@ -14,10 +14,11 @@ use Rattle.counter_table.specs.declared.view.Turn.{Turn}
 use Rattle.counter_table.specs.Known.{Earlier, IsSparing, LowersNoMark, MayGive, pieces}
 use Rattle.counter_table.specs.Turn.{taking, giving, learning}
 use Rattle.counter_table.specs.Play.{Follows}
-use Rattle.law_history.specs.Log.{entries_of}
+use Rattle.run_promise.specs.Log.{entries_of}
 use Rattle.unit_book.specs.Book.{BookView, IsKept}
 use Rattle.shared_unit.specs.Told.{known_of_book}
-use Rattle.unit_book.specs.Marks.{marks_of, KeepsMarks as StateMarks}
+use Rattle.run_promise.specs.Numbers.{marks_of}
+use Rattle.unit_book.specs.Marks.{KeepsMarks as StateMarks}
 use Rattle.unit_book.specs.declared.fault.BookFault.{BookFault}
 use Rattle.unit_book.specs.GoesOn.{GoesOn}
 use Rattle.shared_unit.specs.Turn.{KnowsMoreOfBook, TakesOnce, Visits}

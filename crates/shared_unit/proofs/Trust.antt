@@ -11,7 +11,7 @@ use Rattle.counter_table.specs.declared.view.Turn.{Turn}
 use Rattle.counter_table.specs.Known.{Earlier, IsSparing}
 use Rattle.counter_table.specs.Turn.{epoch_seen, taking}
 use Rattle.counter_table.specs.Play.{Follows}
-use Rattle.law_history.specs.Log.{entries_of}
+use Rattle.run_promise.specs.Log.{entries_of}
 use Rattle.unit_book.specs.Book.{BookView}
 use Rattle.shared_unit.specs.declared.permit.Permit.{Permit}
 use Rattle.shared_unit.specs.declared.permit.PermitReply.{PermitReply}

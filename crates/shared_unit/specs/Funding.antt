@@ -5,11 +5,10 @@ use Rattle.counter_table.specs.declared.view.View.{View}
 use Rattle.counter_table.specs.Turn.{learning}
 use Rattle.unit_book.specs.declared.fault.BookFault.{BookFault}
 use Rattle.unit_book.specs.Book.{BookView, Made, Refuses}
-use Rattle.law_history.specs.Numbers.{mark_of, reserve_of}
+use Rattle.run_promise.specs.Numbers.{mark_of, reserve_of, marks_of}
 use Rattle.shared_unit.specs.declared.permit.Permit.{Permit}
 use Rattle.shared_unit.specs.declared.permit.Done.{Done}
 use Rattle.shared_unit.specs.Told.{known_of_book, entry_count}
-use Rattle.unit_book.specs.Marks.{marks_of}
 use Rattle.shared_unit.specs.Turn.{Visits}
 use Rattle.shared_unit.specs.Numbers.{Lifts}
 use Rattle.shared_unit.specs.Permit.{IsProtectedUnder}

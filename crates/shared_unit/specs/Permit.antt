@@ -17,7 +17,7 @@ use Rattle.frame_checks.specs.ProtectingFrames.{channel_check, protect_check}
 use Rattle.counter_table.specs.declared.view.Turn.{Turn}
 use Rattle.counter_table.specs.declared.view.View.{View}
 use Rattle.counter_table.specs.Turn.{epoch_seen}
-use Rattle.law_history.specs.Log.{entries_of}
+use Rattle.run_promise.specs.Log.{entries_of}
 use Rattle.unit_book.specs.Book.{BookView}
 use Rattle.unit_book.specs.Epoch.{binding_on}
 use Rattle.shared_unit.specs.declared.permit.Permit.{Permit}

@@ -7,12 +7,12 @@ use Rattle.unit_state.specs.History.{epoch_after}
 use Rattle.frame_shield.specs.declared.protecting_frames.ShieldFault.{ShieldFault}
 use Rattle.frame_shield.specs.Binding.{clear_fault}
 use Rattle.frame_checks.specs.ProtectingFrames.{channel_check}
-use Rattle.law_history.specs.ProtectingFrames.{protect_reply}
+use Rattle.run_promise.specs.ProtectingFrames.{protect_reply}
 use Rattle.counter_table.specs.declared.view.Turn.{Turn}
 use Rattle.counter_table.specs.declared.view.View.{View}
 use Rattle.counter_table.specs.Turn.{epoch_seen, seeing}
 use Rattle.unit_book.specs.declared.fault.BookFault.{BookFault}
-use Rattle.law_history.specs.Log.{entries_of}
+use Rattle.run_promise.specs.Log.{entries_of}
 use Rattle.unit_book.specs.Book.{BookView}
 use Rattle.shared_unit.specs.declared.permit.Permit.{Permit}
 use Rattle.shared_unit.specs.declared.permit.Done.{Done}

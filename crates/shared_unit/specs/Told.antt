@@ -5,8 +5,8 @@ use Rattle.unit_state.specs.declared.state.State.{State}
 use Rattle.unit_state.specs.History.{at_epoch}
 use Rattle.counter_table.specs.declared.view.Known.{Known}
 use Rattle.unit_book.specs.Book.{BookView}
-use Rattle.unit_book.specs.Marks.{marks_of}
-use Rattle.law_history.specs.Log.{entries_of}
+use Rattle.run_promise.specs.Numbers.{marks_of}
+use Rattle.run_promise.specs.Log.{entries_of}
 
 abbrev pub known_of_book : {O : Type 0} → (O → Trace) → (O → ℕ) → (O → ℕ) → BookView O → Known
 known_of_book trace faults puts book = record {

@@ -8,8 +8,8 @@ use Rattle.unit_book.specs.Book.{BookView}
 use Rattle.shared_unit.specs.declared.permit.Permit.{Permit}
 use Rattle.shared_unit.specs.declared.permit.Protected.{Protected}
 use Rattle.shared_unit.specs.declared.permit.Protected.TheVariants as answers
-use Rattle.law_history.specs.Log.{entries_of}
-use Rattle.unit_book.specs.Marks.{marks_of}
+use Rattle.run_promise.specs.Log.{entries_of}
+use Rattle.run_promise.specs.Numbers.{marks_of}
 use Rattle.shared_unit.specs.Numbers.{Draws, RunsOut, UsesNumber}
 use Rattle.shared_unit.specs.Permit.{IsProtectedUnder, LacksLayout}
 use Rattle.shared_unit.specs.Funding.{Reserves}

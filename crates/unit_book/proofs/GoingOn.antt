@@ -10,7 +10,7 @@ use Rattle.unit_state.specs.Applied.{applied}
 use Rattle.unit_state.proofs.StateLaws.{places_kept}
 use Rattle.unit_book.specs.declared.fault.BookFault.{BookFault}
 use Rattle.unit_book.specs.declared.fault.BookFault.TheVariants.{SiteFault, Stopped, SessionFull, JournalFull, NoMemory}
-use Rattle.law_history.specs.Log.{entries_of}
+use Rattle.run_promise.specs.Log.{entries_of}
 use Rattle.unit_book.specs.Marks.{is_release, HasNoRelease, KeepsMarks}
 use Rattle.unit_book.specs.Book.{BookView, IsBarred, IsUnstored, CanEnter, Enters, PutFails, left_out, with_put}
 use Rattle.unit_book.specs.GoesOn.{GoesOn, TellsRise}

@@ -22,10 +22,10 @@ use Rattle.unit_state.proofs.Alike.{stores_well, unstored_alike}
 use Rattle.unit_state.proofs.RulesKept.{rules_kept}
 use Rattle.unit_image.specs.Shows.{Says, Shows}
 use Rattle.unit_image.proofs.Leading.{says_grown}
-use Rattle.unit_book.specs.declared.limits.TheConstants.{MOST_ENTRIES}
-use Rattle.law_history.specs.Log.{entries_of}
+use Rattle.run_promise.specs.declared.limits.TheConstants.{MOST_ENTRIES}
+use Rattle.run_promise.specs.Log.{entries_of}
 use Rattle.unit_book.specs.Log.{sunk_between}
-use Rattle.law_history.specs.Stored.{IsStored, stored_count}
+use Rattle.run_promise.specs.Stored.{IsStored, stored_count}
 use Rattle.unit_book.specs.Marks.{is_release, HasNoRelease, KeepsMarks}
 use Rattle.unit_book.specs.Book.{BookView, IsCurrent, CountsUsedSlots, IsKept, CanEnter, Enters, entered, left_out, with_put}
 use Rattle.unit_book.proofs.MarksKept.{no_release_last, marks_then}

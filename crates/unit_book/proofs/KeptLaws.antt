@@ -15,7 +15,7 @@ use Rattle.unit_state.specs.Restart.{still}
 use Rattle.unit_state.specs.History.{after, epoch_after}
 use Rattle.unit_state.specs.Laws.{KeepsPlaces}
 use Rattle.unit_state.proofs.StateLaws.{places_kept}
-use Rattle.law_history.specs.Log.{entries_of}
+use Rattle.run_promise.specs.Log.{entries_of}
 use Rattle.unit_book.specs.Book.{BookView, IsKept, Made}
 use Rattle.unit_book.specs.Epoch.{epoch_state, HasBounds, StandsLast}
 use Rattle.unit_book.proofs.Growing.{first_all}

@@ -5,7 +5,7 @@ use Rattle.sdls_base.specs.declared.entry.Entry.{Entry}
 use Rattle.sdls_base.specs.declared.entry.Logged.{Logged}
 use Rattle.sdls_base.specs.declared.entry.Logged.TheVariants as logged
 use Rattle.sdls_outside.specs.Moments.{Between}
-use Rattle.law_history.specs.Log.{entries_of, pieces_of}
+use Rattle.run_promise.specs.Log.{entries_of, pieces_of}
 
 pub pieces_more : (log : List Logged) (line : Logged) → pieces_of (log ++ line ∷ []) ≡ pieces_of log ++ pieces_of (line ∷ [])
 pieces_more [] line = refl

@@ -31,9 +31,9 @@ use Rattle.ep_core.specs.declared.refusal.Refusal.{Refusal}
 use Rattle.ep_core.specs.declared.reply.Reply.{Reply}
 use Rattle.ep_core.specs.Refusals.{refusal_of, opened, items_of}
 use Rattle.ep_core.specs.Step.{IsDone, refused}
-use Rattle.unit_book.specs.Marks.{mark_at, is_release, HasNoRelease, KeepsMarks}
-use Rattle.law_history.specs.Numbers.{mark_of, floor_of, reserve_of, released_floor, is_released, release_of, release_at}
-use Rattle.law_history.specs.Entries.{IsStepOf}
+use Rattle.run_promise.specs.Numbers.{mark_at, mark_of, floor_of, reserve_of, released_floor, is_released, release_of, release_at}
+use Rattle.unit_book.specs.Marks.{is_release, HasNoRelease, KeepsMarks}
+use Rattle.run_promise.specs.Entries.{IsStepOf}
 use Rattle.unit_book.proofs.Places.{by_place}
 
 -- ---- lists of entries

@@ -20,8 +20,8 @@ use Rattle.unit_state.specs.declared.state.State.{State}
 use Rattle.unit_state.specs.State.{KeepsRules, key_row}
 use Rattle.unit_state.specs.Laws.{KeepsPlaces}
 use Rattle.unit_state.proofs.KeyRules.{number_test}
-use Rattle.unit_book.specs.Marks.{marks_of, mark_at, KeepsMarks, highest_mark}
-use Rattle.law_history.specs.Numbers.{mark_of}
+use Rattle.run_promise.specs.Numbers.{marks_of, mark_at, mark_of}
+use Rattle.unit_book.specs.Marks.{KeepsMarks, highest_mark}
 
 some_row : KeyRow
 some_row = record { id = 0; state = PreActive; bytes = []; digest = []; mark = 0; floor = 0 }

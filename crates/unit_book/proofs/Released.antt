@@ -10,7 +10,7 @@ use Rattle.unit_state.specs.declared.state.State.{State}
 use Rattle.unit_state.specs.Applied.{applied}
 use Rattle.unit_book.specs.declared.fault.BookFault.{BookFault}
 use Rattle.unit_book.specs.Book.{BookView, Made, Refuses}
-use Rattle.law_history.specs.Numbers.{release_of, release_at, releases}
+use Rattle.run_promise.specs.Numbers.{release_of, release_at, releases}
 use Rattle.unit_book.specs.Numbers.{EnteredInTurn, Releases}
 
 -- the releases before a place are made, and those from it on are what is left

@@ -17,7 +17,7 @@ use Rattle.unit_state.specs.Applied.{applied}
 use Rattle.unit_state.specs.Restart.{restarted}
 use Rattle.unit_state.specs.History.{after}
 use Rattle.unit_image.specs.Shows.{Says, Shows}
-use Rattle.law_history.specs.Log.{entries_of, pieces_of}
+use Rattle.run_promise.specs.Log.{entries_of, pieces_of}
 use Rattle.unit_book.specs.Log.{sunk_between}
 use Rattle.unit_book.specs.Book.{ShowsFrom, Serves, IsHistory, IsCurrent}
 use Rattle.unit_book.proofs.Lines.{pieces_more, entries_more, take_more, entries_short, between_more, take_end, take_whole}

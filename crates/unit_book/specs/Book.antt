@@ -20,11 +20,11 @@ use Rattle.unit_state.specs.History.{after, after_first, epoch_after}
 use Rattle.unit_image.specs.Shows.{Shows}
 use Rattle.unit_book.specs.declared.fault.BookFault.{BookFault}
 use Rattle.unit_book.specs.declared.fault.BookFault.TheVariants.{SiteFault, Stopped, SessionFull, JournalFull, NoMemory}
-use Rattle.unit_book.specs.declared.limits.TheConstants.{MOST_ENTRIES}
+use Rattle.run_promise.specs.declared.limits.TheConstants.{MOST_ENTRIES}
 use Rattle.unit_book.specs.declared.next.Next.{Next}
 use Rattle.unit_book.specs.declared.next.Next.TheVariants.{Here, Then}
-use Rattle.law_history.specs.Log.{entries_of, pieces_of}
-use Rattle.law_history.specs.Stored.{IsStored, stored_count}
+use Rattle.run_promise.specs.Log.{entries_of, pieces_of}
+use Rattle.run_promise.specs.Stored.{IsStored, stored_count}
 use Rattle.unit_book.specs.Marks.{HasNoRelease, KeepsMarks}
 
 -- The site, and what it was when `open` returned; the image as it was read, its plan, and the state that it showed; the

@@ -15,10 +15,10 @@ use Rattle.frame_shield.specs.declared.binding.Binding.{Binding}
 use Rattle.frame_checks.specs.Binding.{binding_of}
 use Rattle.frame_checks.specs.ProtectingFrames.{protect_check}
 use Rattle.ep_core.specs.declared.need.Need.{Need}
-use Rattle.law_history.specs.Log.{entries_of}
-use Rattle.unit_book.specs.Marks.{mark_at, highest_mark}
-use Rattle.law_history.specs.Numbers.{mark_of}
-use Rattle.law_history.specs.Entries.{IsNeedOf}
+use Rattle.run_promise.specs.Log.{entries_of}
+use Rattle.run_promise.specs.Numbers.{mark_at, mark_of}
+use Rattle.unit_book.specs.Marks.{highest_mark}
+use Rattle.run_promise.specs.Entries.{IsNeedOf}
 use Rattle.unit_book.specs.Book.{BookView}
 
 -- the state at the epoch of a book: after the last of its entries that counts

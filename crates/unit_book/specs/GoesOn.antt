@@ -5,7 +5,7 @@ use Rattle.sdls_outside.specs.Faults.{Rose}
 use Rattle.unit_state.specs.Laws.{KeepsPlaces}
 use Rattle.unit_book.specs.declared.fault.BookFault.{BookFault}
 use Rattle.unit_book.specs.declared.fault.BookFault.TheVariants.{SiteFault, Stopped, SessionFull, JournalFull, NoMemory}
-use Rattle.law_history.specs.Log.{entries_of}
+use Rattle.run_promise.specs.Log.{entries_of}
 use Rattle.unit_book.specs.Marks.{HasNoRelease, KeepsMarks}
 use Rattle.unit_book.specs.Book.{BookView}
 

@@ -1,17 +1,11 @@
 -- The marks of a state's keys, in loading order, and the entries by which they may fall (profile).
-use Rattle.std.specs.Prelude.{◌≡◌, ℕ, ◌≤◌, ◌^◌, Bool, true, false, ◌&&◌, List, map, is_none, slice_index_or}
+use Rattle.std.specs.Prelude.{◌≡◌, ℕ, ◌≤◌, ◌^◌, Bool, true, false, ◌&&◌, List, is_none}
 use Rattle.std.specs.List.{list_any}
 use Rattle.sdls_base.specs.declared.entry.Entry.{Entry}
 use Rattle.sdls_base.specs.declared.entry.Seen.{Seen}
 use Rattle.sdls_base.specs.declared.entry.Seen.TheVariants.{Nothing, Word, Number, Exhausted}
 use Rattle.unit_state.specs.declared.state.State.{State}
-
-abbrev pub marks_of : State → List ℕ
-marks_of state = map (λ row. row.mark) state.keys
-
--- the mark of the key at a place; 1 where there is none
-abbrev pub mark_at : State → ℕ → ℕ
-mark_at state place = slice_index_or (marks_of state) place 1
+use Rattle.run_promise.specs.Numbers.{mark_at}
 
 -- no mark fell, place by place
 abbrev pub KeepsMarks : State → State → Type 0

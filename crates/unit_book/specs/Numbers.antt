@@ -1,7 +1,7 @@
 -- The releases that a book makes (profile).
 use Rattle.std.specs.Prelude.{◌≡◌, ℕ, List, [], ◌∷◌, ◌++◌, Result, MatchResult}
 use Rattle.sdls_base.specs.declared.entry.Entry.{Entry}
-use Rattle.law_history.specs.Numbers.{releases}
+use Rattle.run_promise.specs.Numbers.{releases}
 use Rattle.unit_book.specs.declared.fault.BookFault.{BookFault}
 use Rattle.unit_book.specs.Book.{BookView, Made, Refuses}
 

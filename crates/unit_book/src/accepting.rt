@@ -9,7 +9,7 @@ ghost use Rattle.frame_checks.specs.Accepting.{field_in, LeavesOctets, MayBeAcce
 ghost use Rattle.unit_book.specs.Marks.{KeepsMarks};
 ghost use Rattle.unit_book.specs.Book.{IsKept};
 ghost use Rattle.unit_book.specs.GoesOn.{GoesOn, TellsRise};
-ghost use Rattle.law_history.specs.Entries.{raised_floor, frame_change};
+ghost use Rattle.run_promise.specs.Entries.{raised_floor, frame_change};
 ghost use Rattle.unit_book.specs.Records.{OpensWithEntry, RefusesFrame};
 
 use crate::book::Book;

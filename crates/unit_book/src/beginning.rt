@@ -5,12 +5,12 @@ ghost use Rattle.unit_state.specs.State.{KeepsRules};
 ghost use Rattle.unit_state.specs.Restart.{restarted};
 ghost use Rattle.unit_image.specs.OpeningImage.{SameJournal};
 ghost use Rattle.unit_image.specs.Shows.{Shows};
-ghost use Rattle.law_history.specs.Log.{entries_of};
+ghost use Rattle.run_promise.specs.Log.{entries_of};
 ghost use Rattle.unit_book.specs.Book.{IsKept, begun};
 
 use crate::book::Book;
-use crate::limits::MOST_ENTRIES;
 use crate::log::Log;
+use run_promise::MOST_ENTRIES;
 use sdls_base::Entry;
 use sdls_outside::Site;
 use std::snapshot::Snapshot;

@@ -8,7 +8,7 @@ ghost use Rattle.book_record.specs.Record.{IsRecord};
 ghost use Rattle.unit_state.specs.Applied.{applied};
 ghost use Rattle.unit_state.specs.Allows.{Allows};
 ghost use Rattle.unit_state.specs.Restart.{stored_as};
-ghost use Rattle.law_history.specs.Log.{entries_of};
+ghost use Rattle.run_promise.specs.Log.{entries_of};
 ghost use Rattle.unit_book.specs.Log.{sunk_between};
 ghost use Rattle.unit_book.specs.Marks.{is_release, KeepsMarks};
 ghost use Rattle.unit_book.specs.Book.{IsKept, CanEnter, IsBarred, IsUnstored, Enters, IsNextState, entered, left_out};
@@ -17,10 +17,10 @@ ghost use Rattle.unit_book.specs.GoesOn.{GoesOn, TellsRise};
 
 use crate::applying::{changes_of, put_next};
 use crate::fault::BookFault;
-use crate::limits::MOST_ENTRIES;
 use crate::log::{Log, with_entry, with_piece};
 use crate::next::Next;
 use disk_journal::{BODY_LENGTH, Journal, JournalFault};
+use run_promise::MOST_ENTRIES;
 use sdls_base::Entry;
 use sdls_outside::{Failed, Site};
 use std::marker::Model;
@@ -48,9 +48,9 @@ pub struct Book<O: Site> {
 
 impl<O: Site> Model for Book<O> {
     ghost use Rattle.std.specs.Prelude.{◌≡◌, ◌≤◌, length, vec_capacity};
-    ghost use Rattle.law_history.specs.Log.{entries_of};
+    ghost use Rattle.run_promise.specs.Log.{entries_of};
     ghost use Rattle.unit_book.specs.Log.{lines};
-    ghost use Rattle.unit_book.specs.declared.limits.TheConstants.{MOST_ENTRIES};
+    ghost use Rattle.run_promise.specs.declared.limits.TheConstants.{MOST_ENTRIES};
     ghost use Rattle.unit_book.specs.Book.{BookView};
 
     ghost Value = { BookView O };

@@ -17,7 +17,6 @@ mod book;
 mod commanding;
 mod fault;
 mod laws;
-mod limits;
 mod log;
 mod next;
 mod opening_image;
@@ -31,4 +30,3 @@ pub use laws::{
     calls_go_on, entries_lead, entries_stand, marks_stand, needs_name_keys, serves_at_epoch,
     states_have_bounds, states_serve_alike,
 };
-pub use limits::MOST_ENTRIES;

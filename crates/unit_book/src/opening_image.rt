@@ -11,7 +11,7 @@ ghost use Rattle.unit_image.specs.OpeningImage.{HasOpenFault, IsOpenCause, Openi
 ghost use Rattle.unit_book.specs.Book.{IsKept, begun};
 
 use crate::book::Book;
-use crate::limits::MOST_ENTRIES;
+use run_promise::MOST_ENTRIES;
 use sdls_base::Entry;
 use sdls_outside::{Failed, Site};
 use std::alloc::Global;

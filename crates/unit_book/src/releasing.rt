@@ -5,7 +5,7 @@ ghost use Rattle.std.specs.Option.{option_map};
 ghost use Rattle.sa_book.specs.SaRefusal.{receives_with, receiver_with};
 ghost use Rattle.unit_book.specs.Book.{IsKept, Made, Refuses};
 ghost use Rattle.unit_book.specs.GoesOn.{GoesOn, TellsRise};
-ghost use Rattle.law_history.specs.Numbers.{released_floor, release_of, release_at};
+ghost use Rattle.run_promise.specs.Numbers.{released_floor, release_of, release_at};
 ghost use Rattle.unit_book.specs.Numbers.{Releases};
 
 use crate::book::Book;

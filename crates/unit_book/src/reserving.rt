@@ -5,7 +5,7 @@ ghost use Rattle.unit_state.specs.State.{key_row};
 ghost use Rattle.unit_book.specs.Marks.{KeepsMarks};
 ghost use Rattle.unit_book.specs.Book.{IsKept, Made, Refuses};
 ghost use Rattle.unit_book.specs.GoesOn.{GoesOn, TellsRise};
-ghost use Rattle.law_history.specs.Numbers.{mark_of, floor_of, reserve_of};
+ghost use Rattle.run_promise.specs.Numbers.{mark_of, floor_of, reserve_of};
 
 use crate::book::Book;
 use crate::fault::BookFault;

@@ -15,7 +15,7 @@ use Rattle.counter_table.specs.Worker.{view}
 use Rattle.unit_book.specs.Book.{BookView}
 use Rattle.shared_unit.specs.Sharing.{Begins}
 use Rattle.shared_unit.specs.Sharing as sharing
-use Rattle.law_workers.specs.Begin.{Begin}
+use Rattle.run_promise.specs.Begin.{Begin}
 use Rattle.unit_drill.specs.declared.image.TheConstants.{SLOTS}
 use Rattle.law_drill.specs.Drilled.{UnitIsOpened}
 use Rattle.unit_drill.specs.Drilled.{MayServe}

@@ -1,7 +1,7 @@
 //! One chunk of frames.
 ghost use Rattle.std.specs.Prelude.{◌≡◌, ◌*◌, ◌+◌, ◌≤◌, true, IfOk};
 ghost use Rattle.counter_table.specs.Worker.{view};
-ghost use Rattle.law_workers.specs.Begin.{Begin};
+ghost use Rattle.run_promise.specs.Begin.{Begin};
 ghost use Rattle.law_workers.specs.Began.{BeganWith};
 ghost use Rattle.law_drill.specs.Drilled.{IsChunk};
 ghost use Rattle.unit_drill.specs.Drilled.{MayServe};

@@ -22,11 +22,11 @@ use Rattle.unit_book.specs.declared.fault.BookFault.{BookFault}
 use Rattle.unit_book.specs.declared.fault.BookFault.TheVariants.{SiteFault, Stopped, SessionFull, JournalFull, NoMemory}
 use Rattle.unit_book.specs.Book.{BookView, PutFails}
 use Rattle.unit_book.specs.Log.{sunk_between}
-use Rattle.law_history.specs.Log.{entries_of, pieces_of}
+use Rattle.run_promise.specs.Log.{entries_of, pieces_of}
 use Rattle.shared_unit.specs.Calls.{IsPut}
 use Rattle.shared_unit.specs.Told.{known_of_book}
 use Rattle.shared_unit.specs.Turn.{Visits}
-use Rattle.law_workers.specs.Begin.{Begin}
+use Rattle.run_promise.specs.Begin.{Begin}
 use Rattle.law_workers.specs.Views.{log_of, entries_in}
 use Rattle.law_workers.specs.Work.{Worked}
 use Rattle.law_workers.proofs.Histories.{entries_both}

@@ -18,17 +18,17 @@ use Rattle.unit_state.specs.declared.state.State.{State}
 use Rattle.unit_state.specs.Restart.{restarted}
 use Rattle.unit_image.specs.OpeningImage.{Opening}
 use Rattle.unit_image.specs.Shows.{Shows}
-use Rattle.law_history.specs.Log.{entries_of}
-use Rattle.law_history.specs.Stored.{stored_count}
+use Rattle.run_promise.specs.Log.{entries_of}
+use Rattle.run_promise.specs.Stored.{stored_count}
 use Rattle.unit_book.specs.Book.{BookView}
-use Rattle.unit_book.specs.Marks.{mark_at}
+use Rattle.run_promise.specs.Numbers.{mark_at}
 use Rattle.shared_unit.specs.Sharing.{Begins, BookIsOpened}
 use Rattle.shared_unit.specs.Told.{known_of_book}
 use Rattle.law_workers.specs.Began.{BeganWith}
 use Rattle.law_runs.specs.Coming.{HasCome}
 use Rattle.law_runs.specs.Ending.{PutsEnd}
 use Rattle.law_runs.specs.Ran.{CountsSlots, Ran, begin_by}
-use Rattle.law_runs.specs.declared.end.RunEnd.{RunEnd}
+use Rattle.run_promise.specs.declared.end.RunEnd.{RunEnd}
 use Rattle.unit_session.specs.Running.{RunsUnit}
 
 -- the octets sunk stand where they stood while the image is opened

@@ -10,8 +10,8 @@ use Rattle.record_io.specs.declared.records.SegmentEnd.TheVariants as segments
 use Rattle.record_io.specs.Input.{Item}
 use Rattle.record_io.specs.Places.{counted, first_count}
 use Rattle.record_io.specs.Reading.{HasFaultCause, Loses, ReadsTo, SourceSeen, Standing}
-use Rattle.law_workers.specs.Begin.{Begin}
-use Rattle.law_runs.specs.declared.end.RunEnd.TheVariants as ends
+use Rattle.run_promise.specs.Begin.{Begin}
+use Rattle.run_promise.specs.declared.end.RunEnd.TheVariants as ends
 use Rattle.law_runs.proofs.Looping.{Reads, badly, comes, goes_next, handled_first, last_reads, more_reads, size_all, size_few, size_most, wants, wants_reading, well}
 use Rattle.unit_session.specs.declared.serving.Stop.{Stop}
 use Rattle.unit_session.specs.declared.serving.Stop.TheVariants as stops

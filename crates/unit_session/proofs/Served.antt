@@ -10,11 +10,13 @@ use Rattle.record_io.specs.declared.answers.Answer.{Answer}
 use Rattle.record_io.specs.declared.records.Record.{Record}
 use Rattle.record_io.specs.Answers.{answers_octets}
 use Rattle.unit_book.specs.declared.fault.BookFault.{BookFault}
-use Rattle.law_workers.specs.Begin.{Begin}
-use Rattle.law_workers.specs.Deeds.{Ascend, Deed, deeds_of}
+use Rattle.run_promise.specs.Begin.{Begin}
+use Rattle.law_workers.specs.Deeds.{Ascend, deeds_of}
+use Rattle.run_promise.specs.Deed.{Deed}
 use Rattle.law_workers.specs.Order.{Handled, Layout, LiesIn}
 use Rattle.law_workers.proofs.Counting.{none_failed}
-use Rattle.law_workers.specs.Alone.{OneLane, ServedAlone}
+use Rattle.run_promise.specs.Alone.{OneLane}
+use Rattle.law_workers.specs.Alone.{ServedAlone}
 use Rattle.law_workers.specs.Began.{BeganWith}
 use Rattle.law_runs.specs.Segment.{HandlesAndPuts, PutsWell}
 use Rattle.law_workers.specs.Ends.{EndsSegment}

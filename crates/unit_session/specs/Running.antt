@@ -15,10 +15,10 @@ use Rattle.record_io.specs.Reading.{SourceSeen}
 use Rattle.unit_image.specs.declared.fault.OpenFault.{OpenFault}
 use Rattle.unit_book.specs.Book.{BookView, IsKept}
 use Rattle.shared_unit.specs.Told.{known_of_book}
-use Rattle.law_workers.specs.Begin.{Begin}
+use Rattle.run_promise.specs.Begin.{Begin}
 use Rattle.law_workers.specs.Began.{BeganWith}
-use Rattle.law_runs.specs.declared.end.RunEnd.{RunEnd}
-use Rattle.law_runs.specs.Account.{end_answer, end_status}
+use Rattle.run_promise.specs.declared.end.RunEnd.{RunEnd}
+use Rattle.run_promise.specs.Account.{end_answer, end_status}
 use Rattle.law_runs.specs.Ending.{Finishes, IsToldEnd}
 use Rattle.law_runs.specs.Refused.{refused_end}
 use Rattle.unit_session.specs.Serving.{Comes}

@@ -7,9 +7,9 @@ use Rattle.record_io.specs.declared.records.SegmentEnd.{SegmentEnd}
 use Rattle.record_io.specs.declared.records.SegmentEnd.TheVariants as segments
 use Rattle.record_io.specs.Reading.{SourceSeen, Standing}
 use Rattle.std.specs.Prelude.{Option, Some, None}
-use Rattle.law_workers.specs.Begin.{Begin}
-use Rattle.law_runs.specs.declared.end.RunEnd.{RunEnd}
-use Rattle.law_runs.specs.declared.end.RunEnd.TheVariants as ends
+use Rattle.run_promise.specs.Begin.{Begin}
+use Rattle.run_promise.specs.declared.end.RunEnd.{RunEnd}
+use Rattle.run_promise.specs.declared.end.RunEnd.TheVariants as ends
 use Rattle.law_runs.specs.Coming.{HasCome, IsUnderWay}
 use Rattle.law_runs.specs.Segment.{HandlesAndPuts, IsFullSegment, PutsBadly, PutsWell}
 use Rattle.unit_session.specs.declared.serving.Stop.{Stop}

@@ -2,12 +2,12 @@
 ghost use Rattle.std.specs.Prelude.{◌≡◌, ◌↔◌, ◌<◌, ◌≤◌, ℕ, IsTrue, length, slice_index};
 ghost use Rattle.sdls_outside.specs.Faults.{Rose};
 ghost use Rattle.unit_book.specs.Book.{BookView, IsKept};
-ghost use Rattle.law_runs.specs.Account.{end_answer};
+ghost use Rattle.run_promise.specs.Account.{end_answer};
 ghost use Rattle.law_runs.specs.Ending.{Finishes, IsToldEnd, PutsEnd};
 
-use law_runs::RunEnd;
 use record_io::status::SITE_FAULT;
 use record_io::{Answer, Outcome, answer_header, code};
+use run_promise::RunEnd;
 use sdls_base::Octets;
 use sdls_outside::Site;
 use std::alloc::Global;

@@ -7,7 +7,7 @@ ghost use Rattle.record_io.specs.Input.{Item};
 ghost use Rattle.record_io.specs.Reading.{first_standing, IsReading, SourceSeen};
 ghost use Rattle.counter_table.specs.Worker.{view};
 ghost use Rattle.counter_table.specs.declared.view.View.{View};
-ghost use Rattle.law_workers.specs.Begin.{Begin};
+ghost use Rattle.run_promise.specs.Begin.{Begin};
 ghost use Rattle.law_workers.specs.Deeds.{Ascend};
 ghost use Rattle.law_workers.specs.Began.{BeganWith};
 ghost use Rattle.unit_session.specs.Putting.{IsAlone, OfRun};
@@ -15,8 +15,8 @@ ghost use Rattle.unit_session.specs.Serving.{Comes, end_after, end_of_stop, Goes
 
 use crate::session::Session;
 use frame_workers::{Gate, run_segment};
-use law_runs::RunEnd;
 use record_io::{Reader, Record, SegmentEnd};
+use run_promise::RunEnd;
 use sdls_base::NoMemory;
 use sdls_outside::{Site, Source};
 use std::alloc::Global;

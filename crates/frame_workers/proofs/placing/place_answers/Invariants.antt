@@ -2,7 +2,8 @@ use Rattle.std.proofs.Common.{◌≡◌, ℕ, ◌<◌, ◌≤◌, ◌+◌, ◌++
 use Rattle.std.specs.List.{All, Contains}
 use Rattle.record_io.specs.declared.records.Record.{Record}
 use Rattle.record_io.specs.declared.kinds.TheConstants.{LANES}
-use Rattle.law_workers.specs.Deeds.{Deed, deeds_of}
+use Rattle.run_promise.specs.Deed.{Deed}
+use Rattle.law_workers.specs.Deeds.{deeds_of}
 use Rattle.law_workers.specs.Lanes.{of_lane}
 use Rattle.frame_workers.specs.Lanes.{AreAmong, left_at}
 use Rattle.frame_workers.proofs.placing.place_answers.Given as goal

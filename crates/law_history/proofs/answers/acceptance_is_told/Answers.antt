@@ -1,4 +1,4 @@
-use Rattle.law_history.specs.Legal.{anywhere}
+use Rattle.run_promise.specs.Legal.{anywhere}
 use Rattle.law_history.proofs.Codes.{accepting_opening, accepts_at}
 use Rattle.law_history.proofs.answers.acceptance_is_told.Goals as goal
 

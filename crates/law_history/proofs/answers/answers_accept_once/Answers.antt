@@ -1,4 +1,4 @@
-use Rattle.law_history.specs.Legal.{anywhere}
+use Rattle.run_promise.specs.Legal.{anywhere}
 use Rattle.law_history.proofs.Codes.{answers_once}
 use Rattle.law_history.proofs.answers.answers_accept_once.Goals as goal
 

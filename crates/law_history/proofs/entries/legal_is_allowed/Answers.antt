@@ -1,4 +1,4 @@
-use Rattle.law_history.specs.Legal.{anywhere}
+use Rattle.run_promise.specs.Legal.{anywhere}
 use Rattle.law_history.proofs.Legal.{legal_allowed}
 use Rattle.law_history.proofs.entries.legal_is_allowed.Goals as goal
 

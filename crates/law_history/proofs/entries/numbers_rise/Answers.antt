@@ -1,6 +1,6 @@
 use Rattle.unit_state.specs.Applied.{applied}
 use Rattle.unit_state.proofs.RulesKept.{rules_kept}
-use Rattle.law_history.specs.Legal.{anywhere}
+use Rattle.run_promise.specs.Legal.{anywhere}
 use Rattle.law_history.proofs.Legal.{legal_allowed}
 use Rattle.law_history.proofs.Marks.{numbers_up, legal_up}
 use Rattle.law_history.proofs.entries.numbers_rise.Goals as goal

@@ -1,4 +1,4 @@
-use Rattle.law_history.specs.Legal.{anywhere}
+use Rattle.run_promise.specs.Legal.{anywhere}
 use Rattle.law_history.proofs.Legal.{release_is_allowed}
 use Rattle.law_history.proofs.entries.release_is_allowed.Goals as goal
 

@@ -1,5 +1,5 @@
 use Rattle.unit_state.proofs.RulesKept.{rules_kept}
-use Rattle.law_history.specs.Legal.{anywhere}
+use Rattle.run_promise.specs.Legal.{anywhere}
 use Rattle.law_history.proofs.Legal.{release_is_allowed}
 use Rattle.law_history.proofs.Marks.{release_marks}
 use Rattle.law_history.proofs.entries.release_stays_above.Goals as goal

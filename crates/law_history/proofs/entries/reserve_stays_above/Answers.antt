@@ -1,4 +1,4 @@
-use Rattle.law_history.specs.Legal.{anywhere}
+use Rattle.run_promise.specs.Legal.{anywhere}
 use Rattle.law_history.proofs.Used.{reserve_above}
 use Rattle.law_history.proofs.entries.reserve_stays_above.Goals as goal
 

@@ -1,5 +1,5 @@
 use Rattle.std.proofs.Common.{◌++◌}
-use Rattle.law_history.specs.Run.{NearWord}
+use Rattle.run_promise.specs.Run.{NearWord}
 use Rattle.law_history.proofs.GoingOn.{near_more, fits_more}
 use Rattle.law_history.proofs.growing.fits_stays.Goals as goal
 

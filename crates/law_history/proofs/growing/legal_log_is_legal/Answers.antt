@@ -1,4 +1,4 @@
-use Rattle.law_history.specs.Legal.{anywhere}
+use Rattle.run_promise.specs.Legal.{anywhere}
 use Rattle.law_history.proofs.GoingOn.{log_legal}
 use Rattle.law_history.proofs.growing.legal_log_is_legal.Goals as goal
 

@@ -1,4 +1,4 @@
-use Rattle.law_history.specs.Legal.{anywhere}
+use Rattle.run_promise.specs.Legal.{anywhere}
 use Rattle.law_history.proofs.GoingOn.{legal_more}
 use Rattle.law_history.proofs.growing.legal_place_stays.Goals as goal
 

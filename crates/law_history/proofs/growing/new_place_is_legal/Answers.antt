@@ -1,4 +1,4 @@
-use Rattle.law_history.specs.Legal.{anywhere}
+use Rattle.run_promise.specs.Legal.{anywhere}
 use Rattle.law_history.proofs.GoingOn.{legal_new}
 use Rattle.law_history.proofs.growing.new_place_is_legal.Goals as goal
 

@@ -1,4 +1,4 @@
-use Rattle.law_history.proofs.OneStep.{need_one}
+use Rattle.run_promise.proofs.Needs.{need_one}
 use Rattle.law_history.proofs.one.messages_need_one.Goals as goal
 
 pub returns : goal.returns

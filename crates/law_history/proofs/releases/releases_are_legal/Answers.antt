@@ -1,4 +1,4 @@
-use Rattle.law_history.specs.Run.{NearWord}
+use Rattle.run_promise.specs.Run.{NearWord}
 use Rattle.law_history.proofs.Releasing.{made_release}
 use Rattle.law_history.proofs.releases.releases_are_legal.Goals as goal
 

@@ -1,5 +1,5 @@
 use Rattle.record_io.specs.Places.{records_of}
-use Rattle.law_history.specs.Run.{TurnIn}
+use Rattle.run_promise.specs.Run.{TurnIn}
 use Rattle.law_history.proofs.Ended.{run_ended}
 use Rattle.law_history.proofs.releases.run_with_releases.Goals as goal
 

@@ -1,5 +1,5 @@
 use Rattle.record_io.specs.Places.{records_of}
-use Rattle.law_history.specs.Run.{TurnIn}
+use Rattle.run_promise.specs.Run.{TurnIn}
 use Rattle.law_history.proofs.Along.{of_places, accepted_twice}
 use Rattle.law_history.proofs.runs.accepted_once.Goals as goal
 

@@ -1,6 +1,6 @@
 use Rattle.unit_state.specs.History.{after_first}
 use Rattle.record_io.specs.Places.{records_of}
-use Rattle.law_history.specs.Run.{TurnIn}
+use Rattle.run_promise.specs.Run.{TurnIn}
 use Rattle.law_history.proofs.Accepting.{taken_kept}
 use Rattle.law_history.proofs.Along.{of_places, accepted_taken}
 use Rattle.law_history.proofs.runs.accepted_stays_covered.Goals as goal

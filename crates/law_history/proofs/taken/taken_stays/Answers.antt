@@ -1,4 +1,4 @@
-use Rattle.law_history.specs.Legal.{anywhere}
+use Rattle.run_promise.specs.Legal.{anywhere}
 use Rattle.law_history.proofs.Accepting.{entry_takes}
 use Rattle.law_history.proofs.taken.taken_stays.Goals as goal
 

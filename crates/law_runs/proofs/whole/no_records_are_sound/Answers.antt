@@ -1,6 +1,6 @@
 use Rattle.std.proofs.Common.{refl}
 use Rattle.disk_journal.specs.Image.{held}
-use Rattle.law_runs.specs.Call.{image_at_entry}
+use Rattle.run_promise.specs.Call.{image_at_entry}
 use Rattle.law_runs.proofs.Resting.{no_records}
 use Rattle.law_runs.proofs.whole.no_records_are_sound.Goals as goal
 

@@ -1,4 +1,4 @@
-use Rattle.law_runs.specs.Call.{CallSeen, call_seen}
+use Rattle.run_promise.specs.Call.{CallSeen, call_seen}
 use Rattle.sdls_run.proofs.top.run.Goals as goal
 
 pub returns-in-None-clause-stat_lives : goal.returns-in-None-clause-stat_lives

@@ -1,7 +1,7 @@
 use Rattle.std.proofs.Common.{◌*◌, ◌≤◌, true, List}
 use Rattle.record_io.specs.declared.answers.Answer.{Answer}
 use Rattle.counter_table.specs.Worker.{view}
-use Rattle.law_workers.specs.Begin.{Begin}
+use Rattle.run_promise.specs.Begin.{Begin}
 use Rattle.law_workers.specs.Began.{BeganWith}
 use Rattle.law_drill.specs.Drilled.{AreChunks}
 use Rattle.unit_drill.specs.Drilled.{MayServe}

@@ -6,9 +6,9 @@ use Rattle.record_io.specs.Answers.{answer_octets}
 use Rattle.unit_book.specs.declared.fault.BookFault.{BookFault}
 use Rattle.unit_book.specs.declared.fault.BookFault.TheVariants.{SiteFault, Stopped, SessionFull, JournalFull, NoMemory}
 use Rattle.unit_book.specs.Book.{PutFails}
-use Rattle.law_history.specs.Log.{entries_of}
-use Rattle.law_runs.specs.declared.end.RunEnd.TheVariants as ends
-use Rattle.law_runs.specs.Account.{end_answer}
+use Rattle.run_promise.specs.Log.{entries_of}
+use Rattle.run_promise.specs.declared.end.RunEnd.TheVariants as ends
+use Rattle.run_promise.specs.Account.{end_answer}
 use Rattle.unit_session.proofs.ending.put_end.Goals as goal
 
 rose_of : (before now : ℕ) (fault : BookFault) → PutFails before now fault → Rose before now

@@ -2,8 +2,8 @@ use Rattle.std.proofs.Common.{◌≡◌, ℕ, List, ◌++◌, Ok, sym, ◌∙◌
 use Rattle.sdls_outside.specs.Site as sites
 use Rattle.record_io.specs.declared.answers.Answer.{Answer}
 use Rattle.record_io.specs.Answers.{answer_octets}
-use Rattle.law_runs.specs.declared.end.RunEnd.{RunEnd}
-use Rattle.law_runs.specs.Account.{end_answer}
+use Rattle.run_promise.specs.declared.end.RunEnd.{RunEnd}
+use Rattle.run_promise.specs.Account.{end_answer}
 use Rattle.law_runs.specs.Ending.{IsToldEnd}
 use Rattle.law_runs.specs.Refused.{refused_end}
 use Rattle.unit_session.proofs.running.refuse.Goals as goal

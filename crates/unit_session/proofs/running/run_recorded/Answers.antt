@@ -3,8 +3,8 @@ use Rattle.sdls_base.specs.declared.entry.Entry.{Entry}
 use Rattle.record_io.specs.Reading.{SourceSeen}
 use Rattle.counter_table.specs.declared.view.View.{View}
 use Rattle.counter_table.specs.Worker.{view}
-use Rattle.law_runs.specs.Lives.{EndsAndLives}
-use Rattle.law_runs.specs.Call.{call_seen}
+use Rattle.run_promise.specs.Lives.{EndsAndLives}
+use Rattle.run_promise.specs.Call.{call_seen}
 use Rattle.unit_session.specs.Running.{PutsRefusal, RunsUnit}
 use Rattle.unit_session.proofs.Closed.{counts, has_run}
 use Rattle.unit_session.proofs.running.run_recorded.Goals as goal

@@ -2,7 +2,7 @@ use Rattle.std.proofs.Common.{◌≡◌, ℕ, ap, sym, subst, ◌∙◌, arith, 
 use Rattle.counter_table.specs.Turn.{learning}
 use Rattle.counter_table.specs.Worker.{view}
 use Rattle.unit_book.specs.Book.{BookView}
-use Rattle.unit_book.specs.Marks.{marks_of}
+use Rattle.run_promise.specs.Numbers.{marks_of}
 use Rattle.shared_unit.specs.Commanding.{DrawsFor}
 use Rattle.shared_unit.proofs.Using.{holder_uses}
 use Rattle.shared_unit.proofs.unit.Unit.draw_and_reserve.Goals as goal

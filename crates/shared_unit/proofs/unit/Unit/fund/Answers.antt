@@ -4,7 +4,7 @@ use Rattle.counter_table.specs.declared.view.Numbers.{Numbers}
 use Rattle.counter_table.specs.Turn.{learning}
 use Rattle.counter_table.specs.Worker.{view}
 use Rattle.unit_book.specs.Book.{BookView}
-use Rattle.unit_book.specs.Marks.{marks_of}
+use Rattle.run_promise.specs.Numbers.{marks_of}
 use Rattle.shared_unit.specs.Numbers.{Lifts}
 use Rattle.shared_unit.proofs.Kept.{level_of}
 use Rattle.shared_unit.proofs.Steps.{may_give, may_give_learned, visits, visits_learned}

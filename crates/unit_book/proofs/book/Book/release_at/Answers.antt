@@ -1,8 +1,8 @@
 use Rattle.std.proofs.Common.{◌≡◌, true, sym, ap, ◌∙◌}
 use Rattle.unit_book.specs.Book.{BookView}
 use Rattle.unit_book.specs.Marks.{is_release}
-use Rattle.law_history.specs.Numbers.{release_at}
-use Rattle.law_history.proofs.Marking.{release_allowed}
+use Rattle.run_promise.specs.Numbers.{release_at}
+use Rattle.run_promise.proofs.Marking.{release_allowed}
 use Rattle.unit_book.proofs.MarksKept.{release_is}
 use Rattle.unit_book.proofs.book.Book.release_at.Goals as goal
 

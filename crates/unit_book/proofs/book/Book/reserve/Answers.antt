@@ -2,10 +2,10 @@ use Rattle.std.proofs.Common.{◌≡◌, ◌≤◌, ℕ, Result, Ok, Err, sym, a
 use Rattle.sdls_base.specs.declared.entry.Entry.{Entry}
 use Rattle.unit_state.specs.Applied.{applied}
 use Rattle.unit_state.specs.Allows.{Allows}
-use Rattle.law_history.proofs.Marking.{reserve_allowed, mark_above}
+use Rattle.run_promise.proofs.Marking.{reserve_allowed, mark_above}
 use Rattle.unit_book.specs.declared.fault.BookFault.{BookFault}
 use Rattle.unit_book.specs.Marks.{KeepsMarks}
-use Rattle.law_history.specs.Numbers.{mark_of}
+use Rattle.run_promise.specs.Numbers.{mark_of}
 use Rattle.unit_book.specs.Book.{BookView}
 use Rattle.unit_book.proofs.MarksKept.{reserve_keeps}
 use Rattle.unit_book.proofs.book.Book.reserve.Goals as goal

@@ -8,7 +8,7 @@ use Rattle.counter_table.specs.declared.view.View.{View}
 use Rattle.counter_table.specs.Whole.{IsWhole}
 use Rattle.counter_table.specs.Worker.{view}
 use Rattle.law_workers.specs.Deeds.{Ascend}
-use Rattle.law_runs.specs.declared.end.RunEnd.{RunEnd}
+use Rattle.run_promise.specs.declared.end.RunEnd.{RunEnd}
 use Rattle.law_runs.proofs.Looping.{reads_ascend, reads_lanes}
 use Rattle.unit_session.specs.Serving.{Comes, Leads, ServesSegment}
 use Rattle.unit_session.proofs.Leading.{forth_after, leads_on, leads_to_stop, leads_unread, reads_of}

@@ -1,21 +1,24 @@
 -- A run whose records are of one lane: its words and numbers are those of the machine (profile).
-use Rattle.std.specs.Prelude.{◌≡◌, ◌≢◌, ℕ, ◌+◌, ◌<◌, ◌≤◌, List, [], ◌++◌, length, take, slice_get, slice_index, Some}
+use Rattle.std.specs.Prelude.{◌≡◌, ℕ, ◌+◌, ◌<◌, ◌≤◌, List, [], ◌++◌, length, take, slice_get, slice_index, Some}
 use Rattle.std.specs.Prelude.{None, Contains}
 use Rattle.std.specs.List.{All}
 use Rattle.sdls_base.specs.declared.TheConstants.{MOST_KEYS}
 use Rattle.sdls_base.specs.declared.entry.Entry.{Entry}
 use Rattle.sdls_base.specs.declared.entry.Seen.TheVariants as seens
 use Rattle.sdls_outside.specs.Faults.{Rose}
-use Rattle.record_io.specs.declared.answers.Answer.{Answer}
-use Rattle.record_io.specs.declared.code.TheConstants.{NO_MEMORY}
-use Rattle.unit_book.specs.Marks.{mark_at}
+use Rattle.run_promise.specs.Numbers.{mark_at}
 use Rattle.unit_plan.specs.PlanLines.{PlanLines}
 use Rattle.unit_state.specs.declared.state.State.{State}
-use Rattle.law_workers.specs.Machine.{Move, Drew, adds_all, Runs}
-use Rattle.law_workers.specs.Serving.{ServesAll}
-use Rattle.law_workers.specs.Exact.{TellAll}
-use Rattle.law_runs.specs.Call.{CallSeen}
-use Rattle.law_runs.specs.Account.{Account, AnsweredEach, begin_of, deeds_in, due_octets}
+use Rattle.run_promise.specs.Machine.{Move, Drew, adds_all, Runs}
+use Rattle.run_promise.specs.Serving.{ServesAll}
+use Rattle.run_promise.specs.Moves.{TellAll}
+use Rattle.run_promise.specs.Call.{CallSeen}
+use Rattle.run_promise.specs.Account.{Account, AnsweredEach, begin_of, deeds_in}
+use Rattle.record_io.specs.declared.records.Record.{Record}
+
+-- all records are of one lane
+abbrev pub OneLane : List Record → Type 0
+OneLane tasks = (lane : ℕ) × All (λ (task : Record). task.lane ≡ lane) tasks
 
 -- The moves that the answers tell, and one more at most where a record has no answer, are those of the machine whose
 -- words begin at the marks of the image. Each reserve is of a number that was drawn so, and the words by which the keys
@@ -35,13 +38,3 @@ pub record IsExact (call : CallSeen) (account : Account) (plan : PlanLines) (sta
   pub last : (row : ℕ) → row < MOST_KEYS → slice_index words row ≡ mark_at state row + adds_all row (moves ++ beyond)
   pub served : AnsweredEach account → ¬ Rose call.site.faults account.last
       → ServesAll (begin_of call plan state) [] (deeds_in account) moves (take ends call.entries)
-
--- for no record memory was wanting
-abbrev pub NoneWants : List Answer → Type 0
-NoneWants answers = All (λ answer. answer.code ≢ NO_MEMORY) answers
-
--- Two calls did the same: their answers and their entries are the same, and so are the octets that are due, with End's.
-pub record RunsAlike (call other : CallSeen) (account again : Account) : Type 0 where
-  pub answers : again.answers ≡ account.answers
-  pub entries : other.entries ≡ call.entries
-  pub due : due_octets other again ≡ due_octets call account

@@ -9,9 +9,9 @@ use Rattle.unit_state.specs.History.{after_first}
 use Rattle.record_io.specs.declared.kinds.RecordKind.TheVariants.{Command}
 use Rattle.record_io.specs.declared.records.Record.{Record}
 use Rattle.record_io.specs.Places.{Place, records_of}
-use Rattle.law_history.specs.Numbers.{mark_of}
-use Rattle.law_history.specs.Legal.{AsksFor, IsLegal, IsRelease}
-use Rattle.law_history.specs.Counts.{drawers, reserves_of}
+use Rattle.run_promise.specs.Numbers.{mark_of}
+use Rattle.run_promise.specs.Legal.{AsksFor, IsLegal, IsRelease}
+use Rattle.run_promise.specs.Counts.{drawers, reserves_of}
 
 -- one of the records asks, in a state of the history, that the key's numbers go on from this one
 pub record IsAskedFor (start : State) (entries : List Entry) (records : List Record) (key number : ℕ) : Type 0 where

@@ -5,7 +5,7 @@ use Rattle.sha2.specs.Sha256.{sha256}
 use Rattle.sa_book.specs.SaRefusal.{receives_with}
 use Rattle.unit_state.specs.declared.state.State.{State}
 use Rattle.unit_state.specs.State.{key_row}
-use Rattle.law_history.specs.Numbers.{floor_of, released_floor}
+use Rattle.run_promise.specs.Numbers.{floor_of, released_floor}
 
 -- the floor that a release of the key leaves; 0 where the state lacks the key
 abbrev pub kept_floor : State → ℕ → ℕ

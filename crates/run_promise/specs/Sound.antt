@@ -9,13 +9,13 @@ use Rattle.record_io.specs.Answers.{answer_octets, answers_octets}
 use Rattle.unit_state.specs.Restart.{restarted}
 use Rattle.unit_state.specs.History.{after_first, epoch_after}
 use Rattle.unit_image.specs.Shows.{Shows}
-use Rattle.law_history.specs.Numbers.{mark_of, floor_of}
-use Rattle.law_history.specs.Run.{NearWord, IsLegalHistory}
-use Rattle.law_history.specs.Answers.{Uses, Accepts}
-use Rattle.law_history.specs.Fits.{Course, Fits}
-use Rattle.law_history.specs.Taken.{kept_floor}
-use Rattle.law_workers.specs.Begin.{Begin}
-use Rattle.law_workers.specs.Deeds.{Deed, Differ, InTurn, StandsBehind, tells_entry, is_ordered, epoch_told}
+use Rattle.run_promise.specs.Numbers.{mark_of, floor_of}
+use Rattle.run_promise.specs.Run.{NearWord, IsLegalHistory}
+use Rattle.run_promise.specs.Answers.{Uses, Accepts}
+use Rattle.run_promise.specs.Fits.{Course, Fits}
+use Rattle.run_promise.specs.Taken.{kept_floor}
+use Rattle.run_promise.specs.Begin.{Begin}
+use Rattle.run_promise.specs.Deed.{Deed, Differ, InTurn, StandsBehind, tells_entry, is_ordered, epoch_told}
 
 -- the octets of the answers
 abbrev pub deeds_octets : List Deed → List ℕ
@@ -46,11 +46,6 @@ pub record IsCoveredBy (begin : Begin) (course : Course) (p : ℕ) (deed : Deed)
       → number < mark_of (after_first course.start course.entries p) key
   pub accepted : (key number : ℕ) → Accepts deed.answer key number
       → number ≤ kept_floor (after_first course.start course.entries p) key
-
--- what covers an answer is covered by each later state: no mark and no floor falls below what was used or accepted
-abbrev pub StaysCovered : Begin → Course → List Deed → Type 0
-StaysCovered begin course deeds = (earlier later : ℕ) → earlier ≤ later → later ≤ length course.entries
-    → All (λ deed. IsCoveredBy begin course earlier deed → IsCoveredBy begin course later deed) deeds
 
 -- P holds of each answer of which an octet is among the first count octets of the answers
 abbrev pub EachBegun : (Deed → Type 0) → ℕ → List Deed → Type 0

@@ -1,6 +1,6 @@
 -- The entries that move marks and floors: reserves and releases (profile).
 use Rattle.std.specs.Prelude.{ℕ, ◌+◌, min, Bool, ◌&&◌, ◌==◌, if◌then◌else◌, List, [], ◌∷◌, slice_get, Option, Some}
-use Rattle.std.specs.Prelude.{None}
+use Rattle.std.specs.Prelude.{None, map, slice_index_or}
 use Rattle.std.specs.Option.{option_map_or, option_and_then}
 use Rattle.sdls_base.specs.KeyId.{end_of}
 use Rattle.sdls_base.specs.declared.change.Change.TheVariants.{Marks}
@@ -19,6 +19,14 @@ mark_of state key = option_map_or (λ row. row.mark) (key_row state key) 1
 
 abbrev pub floor_of : State → ℕ → ℕ
 floor_of state key = option_map_or (λ row. row.floor) (key_row state key) 0
+
+-- the marks of the keys, in loading order
+abbrev pub marks_of : State → List ℕ
+marks_of state = map (λ row. row.mark) state.keys
+
+-- the mark of the key at a place; 1 where there is none
+abbrev pub mark_at : State → ℕ → ℕ
+mark_at state place = slice_index_or (marks_of state) place 1
 
 -- The reserve of a number that was drawn: the mark becomes the lesser of number plus block and the key's end.
 abbrev pub reserve_of : PlanLines → State → ℕ → ℕ → Entry

@@ -20,9 +20,9 @@ use Rattle.ep_core.specs.declared.reply.Reply.{Reply}
 use Rattle.ep_core.specs.Seen.{MeetsNeed}
 use Rattle.record_io.specs.declared.kinds.RecordKind.TheVariants.{Open, Command}
 use Rattle.record_io.specs.declared.records.Record.{Record}
-use Rattle.law_history.specs.Numbers.{mark_of, reserve_of, release_of}
-use Rattle.law_history.specs.Entries.{frame_entry, IsNeedOf, IsStepOf}
-use Rattle.law_history.specs.Log.{entries_of}
+use Rattle.run_promise.specs.Numbers.{mark_of, reserve_of, release_of}
+use Rattle.run_promise.specs.Entries.{frame_entry, IsNeedOf, IsStepOf}
+use Rattle.run_promise.specs.Log.{entries_of}
 
 -- the key whose numbers are to be shown
 abbrev pub needed_key : Need → Option ℕ

@@ -19,7 +19,7 @@ use Rattle.ep_core.specs.declared.refusal.Refusal.TheVariants as refusals
 use Rattle.ep_core.specs.declared.reply.Reply.{Reply}
 use Rattle.ep_core.specs.Need.{need_of}
 use Rattle.ep_core.specs.Step.{IsStep, refused}
-use Rattle.law_history.specs.Numbers.{floor_of}
+use Rattle.run_promise.specs.Numbers.{floor_of}
 
 -- The floor of a key once a number was accepted: where the number is above it, the lesser of number plus `accept` less
 -- 1 and the last number below the key's end.

@@ -24,12 +24,12 @@ use Rattle.record_io.specs.declared.code.TheConstants.{NO_MEMORY}
 use Rattle.record_io.specs.declared.kinds.RecordKind.{RecordKind}
 use Rattle.record_io.specs.declared.kinds.RecordKind.TheVariants.{Protect, Open, Command}
 use Rattle.record_io.specs.declared.records.Record.{Record}
-use Rattle.law_history.specs.Numbers.{mark_of, floor_of}
-use Rattle.law_history.specs.Entries.{frame_entry, record_entry, IsNeedOf, IsStepOf}
-use Rattle.law_history.specs.Stored.{stored_count}
-use Rattle.law_history.specs.Legal.{KeyOf, SeesFor, SeenNear}
-use Rattle.law_history.specs.ProtectingFrames.{protect_reply}
-use Rattle.law_history.specs.Answers.{told_by, plain, counting, numbered, opened_told, replied_told, unbound_told}
+use Rattle.run_promise.specs.Numbers.{mark_of, floor_of}
+use Rattle.run_promise.specs.Entries.{frame_entry, record_entry, IsNeedOf, IsStepOf}
+use Rattle.run_promise.specs.Stored.{stored_count}
+use Rattle.run_promise.specs.Legal.{KeyOf, SeesFor, SeenNear}
+use Rattle.run_promise.specs.ProtectingFrames.{protect_reply}
+use Rattle.run_promise.specs.Answers.{told_by, plain, counting, numbered, opened_told, replied_told, unbound_told}
 
 -- What the answers of a run speak of: the plan and the state that the image shows at the start, the slots of the image
 -- and those used then, whether the site tells what it holds, its count of faults when the book was opened and as it is

@@ -24,14 +24,14 @@ use Rattle.record_io.specs.declared.kinds.RecordKind.TheVariants.{Protect, Open,
 use Rattle.record_io.specs.declared.records.Record.{Record}
 use Rattle.unit_state.specs.declared.state.State.{State}
 use Rattle.unit_state.specs.History.{after, at_epoch, epoch_after}
-use Rattle.law_history.specs.Answers.{told_by, counting, numbered, opened_told, replied_told, unbound_told}
-use Rattle.law_history.specs.Entries.{frame_entry, record_entry, IsNeedOf, IsStepOf}
-use Rattle.law_history.specs.Numbers.{mark_of, reserve_of}
-use Rattle.law_history.specs.ProtectingFrames.{protect_reply}
-use Rattle.law_history.specs.Stored.{IsStored, stored_count}
-use Rattle.law_workers.specs.Begin.{Begin}
-use Rattle.law_workers.specs.Deeds.{Deed}
-use Rattle.law_workers.specs.Machine.{Move, Kept, Found, Drew, Raised, Overdrew}
+use Rattle.run_promise.specs.Answers.{told_by, counting, numbered, opened_told, replied_told, unbound_told}
+use Rattle.run_promise.specs.Entries.{frame_entry, record_entry, IsNeedOf, IsStepOf}
+use Rattle.run_promise.specs.Numbers.{mark_of, reserve_of}
+use Rattle.run_promise.specs.ProtectingFrames.{protect_reply}
+use Rattle.run_promise.specs.Stored.{IsStored, stored_count}
+use Rattle.run_promise.specs.Begin.{Begin}
+use Rattle.run_promise.specs.Deed.{Deed}
+use Rattle.run_promise.specs.Machine.{Move, Kept, Found, Drew, Raised, Overdrew}
 
 -- the epoch that stands beside an answer of the checks of a frame that is to be protected: 0 where the plan is enough
 -- for them

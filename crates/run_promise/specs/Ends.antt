@@ -15,17 +15,16 @@ use Rattle.unit_plan.specs.PlanLines.{PlanLines}
 use Rattle.unit_state.specs.declared.state.State.{State}
 use Rattle.unit_state.specs.History.{after_first}
 use Rattle.unit_image.specs.Shows.{ShowsNone}
-use Rattle.law_history.specs.Numbers.{releases}
-use Rattle.law_history.specs.Stored.{stored_count}
-use Rattle.unit_book.specs.declared.limits.TheConstants.{MOST_ENTRIES}
-use Rattle.law_runs.specs.Sound.{IsSound, SoundMoment}
-use Rattle.law_workers.specs.Alone.{OneLane}
-use Rattle.law_runs.specs.declared.end.RunEnd.{RunEnd}
-use Rattle.law_runs.specs.declared.end.RunEnd.TheVariants.{Ended, SiteFault, NoMemory, NoState, SessionFull}
-use Rattle.law_runs.specs.Call.{CallSeen, ShowsAtEntry, image_at_entry, sunk_since}
-use Rattle.law_runs.specs.Account.{Account, AreAnswered, SaysSiteFailed, begin_of, course_of, deeds_in, end_octets}
-use Rattle.law_runs.specs.Alone.{IsExact}
-use Rattle.law_runs.specs.Causes.{CameBy, TellsEnd, PutsDue, PutsFront}
+use Rattle.run_promise.specs.Numbers.{releases}
+use Rattle.run_promise.specs.Stored.{stored_count}
+use Rattle.run_promise.specs.declared.limits.TheConstants.{MOST_ENTRIES}
+use Rattle.run_promise.specs.Sound.{IsSound, SoundMoment}
+use Rattle.run_promise.specs.Alone.{OneLane, IsExact}
+use Rattle.run_promise.specs.declared.end.RunEnd.{RunEnd}
+use Rattle.run_promise.specs.declared.end.RunEnd.TheVariants.{Ended, SiteFault, NoMemory, NoState, SessionFull}
+use Rattle.run_promise.specs.Call.{CallSeen, ShowsAtEntry, image_at_entry, sunk_since}
+use Rattle.run_promise.specs.Account.{Account, AreAnswered, SaysSiteFailed, begin_of, course_of, deeds_in, end_octets}
+use Rattle.run_promise.specs.Causes.{CameBy, TellsEnd, PutsDue, PutsFront}
 
 -- An early moment: what a crash then leaves of the image, one at the entry may leave too, and nothing but End was sunk.
 pub record IsEarly (call : CallSeen) (told : RunEnd) (image sunk : List ℕ) : Type 0 where

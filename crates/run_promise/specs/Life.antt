@@ -1,8 +1,7 @@
 -- A life of the unit: runs one after the other, each from what a crash at a moment of the one before left (profile).
-use Rattle.std.specs.Prelude.{◌≡◌, ◌≢◌, ◌⊎◌, ⊤, ℕ, ◌-◌, ◌<◌, ◌≤◌, nat_lt, if◌then◌else◌, List, [], ◌∷◌, ◌++◌, length}
+use Rattle.std.specs.Prelude.{◌≡◌, ◌≢◌, ⊤, ℕ, ◌-◌, nat_lt, if◌then◌else◌, List, [], ◌∷◌, ◌++◌, length}
 use Rattle.std.specs.Prelude.{IsSomeAnd}
 use Rattle.std.specs.List.{AllPairs}
-use Rattle.disk_journal.specs.Image.{IsOpenedForm}
 use Rattle.disk_journal.specs.Initial.{initial_image}
 use Rattle.record_io.specs.declared.kinds.RecordKind.{RecordKind}
 use Rattle.record_io.specs.declared.kinds.RecordKind.TheVariants.{Protect, Open, Command}
@@ -13,12 +12,11 @@ use Rattle.unit_plan.specs.PlanLines.{PlanLines}
 use Rattle.unit_state.specs.declared.state.State.{State}
 use Rattle.unit_state.specs.State.{key_row}
 use Rattle.unit_image.specs.Shows.{SaysPlan, Shows}
-use Rattle.law_history.specs.Answers.{Uses, Accepts}
-use Rattle.law_history.specs.Fits.{Course, state_in, state_before}
-use Rattle.law_history.specs.Numbers.{mark_of, floor_of}
-use Rattle.law_workers.specs.Begin.{Begin}
-use Rattle.law_workers.specs.Deeds.{Deed}
-use Rattle.law_runs.specs.Sound.{IsSound, SoundMoment}
+use Rattle.run_promise.specs.Answers.{Uses, Accepts}
+use Rattle.run_promise.specs.Fits.{Course, state_in, state_before}
+use Rattle.run_promise.specs.Begin.{Begin}
+use Rattle.run_promise.specs.Deed.{Deed}
+use Rattle.run_promise.specs.Sound.{IsSound, SoundMoment}
 
 -- A run of a life: the image at its start; what it began with, its course, its records, and its answers with the octets
 -- of End; the image and the octets sunk at the moment at which it ended.
@@ -57,10 +55,6 @@ pub record IsLife (image : List ℕ) (runs : List LifeRun) : Type 0 where
 abbrev pub left_by : List ℕ → List LifeRun → List ℕ
 left_by image [] = image
 left_by image (run ∷ runs) = left_by run.image runs
-
--- the image shows the state, or one of its opened forms does
-abbrev pub IsShown : List ℕ → State → Type 0
-IsShown image state = Shows image state ⊎ ((form : List ℕ) × IsOpenedForm image form × Shows form state)
 
 -- an answer of a run
 pub record Given : Type 0 where
@@ -104,8 +98,3 @@ pub record AreApart (one other : Given) : Type 0 where
 
 abbrev pub OnceInLife : List LifeRun → Type 0
 OnceInLife runs = AllPairs AreApart (given_in runs)
-
--- what a state knows of an answer: each number used is below its mark, and each accepted at most its floor
-pub record Knows (state : State) (given : Given) : Type 0 where
-  pub below : (key number : ℕ) → Uses given.deed.answer key number → number < mark_of state key
-  pub floored : (key number : ℕ) → Accepts given.deed.answer key number → number ≤ floor_of state key

@@ -10,13 +10,13 @@ use Rattle.record_io.specs.Input.{Item}
 use Rattle.record_io.specs.Places.{Place, places_of}
 use Rattle.unit_plan.specs.PlanLines.{PlanLines}
 use Rattle.unit_state.specs.declared.state.State.{State}
-use Rattle.law_history.specs.Fits.{Course}
-use Rattle.law_workers.specs.Begin.{Begin}
-use Rattle.law_workers.specs.Deeds.{Deed, deed_of}
-use Rattle.law_runs.specs.declared.end.RunEnd.{RunEnd}
-use Rattle.law_runs.specs.declared.end.RunEnd.TheVariants.{Ended, Malformed, SourceFault, SiteFault, NoMemory, NoState}
-use Rattle.law_runs.specs.declared.end.RunEnd.TheVariants.{SessionFull, PutFailed}
-use Rattle.law_runs.specs.Call.{CallSeen, image_at_entry}
+use Rattle.run_promise.specs.Fits.{Course}
+use Rattle.run_promise.specs.Begin.{Begin}
+use Rattle.run_promise.specs.Deed.{Deed, deed_of}
+use Rattle.run_promise.specs.declared.end.RunEnd.{RunEnd}
+use Rattle.run_promise.specs.declared.end.RunEnd.TheVariants.{Ended, Malformed, SourceFault, SiteFault, NoMemory}
+use Rattle.run_promise.specs.declared.end.RunEnd.TheVariants.{NoState, SessionFull, PutFailed}
+use Rattle.run_promise.specs.Call.{CallSeen, image_at_entry}
 
 -- What a run did: what ended it and the end that it told; the items that it read, with their octets and those taken of
 -- a part behind them; the records that it handled and its one list of answers; and the site's count of faults when the

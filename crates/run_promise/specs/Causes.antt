@@ -9,14 +9,14 @@ use Rattle.record_io.specs.Places.{Place, records_of}
 use Rattle.unit_plan.specs.PlanLines.{PlanLines}
 use Rattle.unit_state.specs.declared.state.State.{State}
 use Rattle.unit_image.specs.Shows.{ShowsNone}
-use Rattle.law_history.specs.Run.{NearWord}
-use Rattle.law_history.specs.Fits.{MayAppend}
-use Rattle.unit_book.specs.declared.limits.TheConstants.{MOST_ENTRIES}
-use Rattle.law_runs.specs.declared.end.RunEnd.{RunEnd}
-use Rattle.law_runs.specs.declared.end.RunEnd.TheVariants.{Ended, Malformed, SourceFault, SiteFault, NoMemory, NoState}
-use Rattle.law_runs.specs.declared.end.RunEnd.TheVariants.{SessionFull, PutFailed}
-use Rattle.law_runs.specs.Call.{CallSeen, ShowsAtEntry, image_at_entry}
-use Rattle.law_runs.specs.Account.{Account, end_status, due_octets, course_of}
+use Rattle.run_promise.specs.Run.{NearWord}
+use Rattle.run_promise.specs.Fits.{MayAppend}
+use Rattle.run_promise.specs.declared.limits.TheConstants.{MOST_ENTRIES}
+use Rattle.run_promise.specs.declared.end.RunEnd.{RunEnd}
+use Rattle.run_promise.specs.declared.end.RunEnd.TheVariants.{Ended, Malformed, SourceFault, SiteFault, NoMemory}
+use Rattle.run_promise.specs.declared.end.RunEnd.TheVariants.{NoState, SessionFull, PutFailed}
+use Rattle.run_promise.specs.Call.{CallSeen, ShowsAtEntry, image_at_entry}
+use Rattle.run_promise.specs.Account.{Account, end_status, due_octets, course_of}
 
 -- The history is full, and the first record without an answer needs an entry, or may need one.
 pub record IsFullAt (call : CallSeen) (account : Account) : Type 0 where

@@ -1,6 +1,6 @@
 // Why a run ends.
 ghost use Rattle.std.specs.Prelude.{◌≡◌};
-ghost use Rattle.law_runs.specs.Account.{end_number, end_status};
+ghost use Rattle.run_promise.specs.Account.{end_number, end_status};
 
 use record_io::status::{
     DONE, MALFORMED, NO_MEMORY, NO_STATE, SESSION_FULL, SITE_FAULT, SOURCE_FAULT,

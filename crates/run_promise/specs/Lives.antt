@@ -4,13 +4,10 @@ use Rattle.sdls_outside.specs.Disk.{Leaves}
 use Rattle.sdls_outside.specs.Moments.{EachMoment}
 use Rattle.unit_plan.specs.PlanLines.{PlanLines}
 use Rattle.unit_state.specs.declared.state.State.{State}
-use Rattle.law_runs.specs.Sound.{SoundMoment}
-use Rattle.law_runs.specs.Life.{LifeRun, IsLife, left_by, OnceInLife}
-use Rattle.law_runs.specs.declared.end.RunEnd.{RunEnd}
-use Rattle.law_runs.specs.declared.end.RunEnd.TheVariants.{Ended}
-use Rattle.law_runs.specs.Call.{CallSeen, ShowsAtEntry, image_at_entry, sunk_since}
-use Rattle.law_runs.specs.Account.{Account, begin_of, course_of}
-use Rattle.law_runs.specs.Ends.{IsEarly, RunEnds}
+use Rattle.run_promise.specs.Life.{LifeRun, IsLife, left_by, OnceInLife}
+use Rattle.run_promise.specs.declared.end.RunEnd.{RunEnd}
+use Rattle.run_promise.specs.Call.{CallSeen, ShowsAtEntry, image_at_entry, sunk_since}
+use Rattle.run_promise.specs.Ends.{IsEarly, RunEnds}
 
 -- The moment adds a run to the life, after which still no two uses and no two acceptances are of one key and number.
 pub record LivesOn (image : List ℕ) (runs : List LifeRun) (left sunk : List ℕ) : Type 0 where
@@ -34,28 +31,7 @@ pub record EndsAndLives (call : CallSeen) : Type 0 where
 
 -- ---- calls that read an image and store nothing
 
--- such a call did nothing
-abbrev pub no_account : CallSeen → Account
-no_account call = record {
-  came = Ended;
-  told = Ended;
-  items = [];
-  read = [];
-  part = [];
-  handled = [];
-  answers = [];
-  last = call.site.faults;
-}
-
--- Each moment is one that a crash at the entry may leave, or a sound one of a run without records, whose octets sunk
--- are taken as none.
-abbrev pub ReadsSoundly : CallSeen → PlanLines → State → Type 0
-ReadsSoundly call plan state = EachMoment call.site.trace call.site_after.trace
-    (λ image sunk. Leaves call.site.trace.now image
-    ⊎ SoundMoment (begin_of call plan state) (course_of call (no_account call) plan state) [] [] (image_at_entry call)
-    image [])
-
--- The same of a life: such a call stands in it as a run without records, which sinks nothing.
+-- Such a call stands in a life as a run without records, which sinks nothing.
 abbrev pub KeepsLivesReading : CallSeen → Type 0
 KeepsLivesReading call = IsTrue call.site.told → (image : List ℕ) (runs : List LifeRun) → IsLife image runs
     → left_by image runs ≡ image_at_entry call

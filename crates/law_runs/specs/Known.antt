@@ -1,0 +1,17 @@
+-- What a state that a life left knows of its answers (profile).
+use Rattle.std.specs.Prelude.{◌⊎◌, ℕ, ◌<◌, ◌≤◌, List}
+use Rattle.disk_journal.specs.Image.{IsOpenedForm}
+use Rattle.unit_state.specs.declared.state.State.{State}
+use Rattle.unit_image.specs.Shows.{Shows}
+use Rattle.run_promise.specs.Answers.{Uses, Accepts}
+use Rattle.run_promise.specs.Numbers.{mark_of, floor_of}
+use Rattle.run_promise.specs.Life.{Given}
+
+-- the image shows the state, or one of its opened forms does
+abbrev pub IsShown : List ℕ → State → Type 0
+IsShown image state = Shows image state ⊎ ((form : List ℕ) × IsOpenedForm image form × Shows form state)
+
+-- what a state knows of an answer: each number used is below its mark, and each accepted at most its floor
+pub record Knows (state : State) (given : Given) : Type 0 where
+  pub below : (key number : ℕ) → Uses given.deed.answer key number → number < mark_of state key
+  pub floored : (key number : ℕ) → Accepts given.deed.answer key number → number ≤ floor_of state key
