@@ -4,7 +4,7 @@ use crate::associations;
 use replay_window::{Verdict, Window};
 use sa_book::{SaBook, SaRefusal, SaRow};
 use sdls_base::ChannelId;
-use std::alloc::Global;
+use std::alloc::{AllocError, Global};
 use std::str::SplitWhitespace;
 
 /// An association book, and the channels of the unit.
@@ -14,10 +14,25 @@ pub struct AssociationTable {
     known: Vec<ChannelId>,
 }
 
+/// What a call answered that may be refused, and whether the rows are as they were.
+fn change_text(
+    alloc: Global,
+    answer: Result<(), SaRefusal>,
+    kept: bool,
+) -> Result<String, AllocError> {
+    match answer {
+        Ok(()) => format!(in alloc; "ok"),
+        Err(refusal) => format!(in alloc; "{refusal}; rows kept: {kept}"),
+    }
+}
+
 fn row_text(alloc: Global, row: &SaRow) -> anyhow::Result<String> {
     let spi = row.spi.get();
     let (direction, suite, state) = (row.direction, row.suite, row.state);
-    let key = row.key.map_or(0, |key| key.get());
+    let key = match row.key {
+        Some(key) => key.get(),
+        None => 0,
+    };
     let channels = hex::encode(alloc, row.channels.as_slice())?;
     let (high, width) = (row.window.high, row.window.width);
     Ok(format!(in alloc;
@@ -39,6 +54,18 @@ fn judge(alloc: Global, words: &mut SplitWhitespace<'_>) -> anyhow::Result<Strin
     }
 }
 
+/// The indices of the rows, in their order.
+fn rows_text(alloc: Global, rows: &[SaRow]) -> anyhow::Result<String> {
+    let count = rows.len();
+    let mut text = format!(in alloc; "{count} rows")?;
+    for row in rows {
+        let spi = row.spi.get();
+        let shown = format!(in alloc; ", {spi}")?;
+        text.push_str(shown.as_str())?;
+    }
+    Ok(text)
+}
+
 impl AssociationTable {
     /// An empty book.
     pub fn new(alloc: Global) -> AssociationTable {
@@ -48,42 +75,49 @@ impl AssociationTable {
         }
     }
 
-    /// Makes the change of a step.
-    fn make(&mut self, alloc: Global, step: &str) -> Option<Result<(), SaRefusal>> {
-        let mut words = step.split_whitespace();
-        match words.next()? {
-            "create" => associations::create(alloc, &mut self.book, &mut words, &self.known),
-            "rekey" => associations::rekey(&mut self.book, &mut words),
-            "start" => Some(self.book.start(case_lines::spi(&mut words)?)),
-            "stop" => Some(self.book.stop(case_lines::spi(&mut words)?)),
-            "expire" => Some(self.book.expire(case_lines::spi(&mut words)?)),
-            "delete" => Some(self.book.delete(case_lines::spi(&mut words)?)),
-            "number" => associations::set_number(&mut self.book, &mut words),
-            "window" => associations::set_window(&mut self.book, &mut words),
+    /// Makes the change of a step, none where the word names another.
+    fn make(
+        &mut self,
+        alloc: Global,
+        word: &str,
+        words: &mut SplitWhitespace<'_>,
+    ) -> Option<Result<(), SaRefusal>> {
+        match word {
+            "create" => associations::create(alloc, &mut self.book, words, &self.known),
+            "rekey" => associations::rekey(&mut self.book, words),
+            "start" => associations::start(&mut self.book, words),
+            "stop" => associations::stop(&mut self.book, words),
+            "expire" => associations::expire(&mut self.book, words),
+            "delete" => associations::delete(&mut self.book, words),
+            "number" => associations::set_number(&mut self.book, words),
+            "window" => associations::set_window(&mut self.book, words),
             _ => None,
         }
     }
 
-    /// What a step that changes the book answers, and whether the rows are as they were.
-    fn change(&mut self, alloc: Global, step: &str) -> anyhow::Result<Option<String>> {
-        let before = self.book.copy()?;
-        let answer = self.make(alloc, step);
-        let kept = self.book.rows() == before.rows();
-        match answer {
-            Some(Ok(())) => Ok(Some(format!(in alloc; "ok")?)),
-            Some(Err(refusal)) => Ok(Some(format!(in alloc; "{refusal}; rows kept: {kept}")?)),
-            None => Ok(None),
-        }
+    /// What a step that may be refused answers, none where the word names another.
+    fn change(&mut self, alloc: Global, word: &str, rest: &str) -> anyhow::Result<Option<String>> {
+        let before = associations::copy(&self.book)?;
+        let Some(answer) = self.make(alloc, word, &mut rest.split_whitespace()) else {
+            return Ok(None);
+        };
+        let kept = associations::same_rows(&self.book, &before);
+        Ok(Some(change_text(alloc, answer, kept)?))
     }
 
-    fn know(&mut self, words: &mut SplitWhitespace<'_>) -> anyhow::Result<()> {
+    fn know(&mut self, alloc: Global, words: &mut SplitWhitespace<'_>) -> anyhow::Result<String> {
         self.known.clear();
         for word in words {
-            if let Some(channel) = word.parse().ok().and_then(ChannelId::new) {
+            if let Some(channel) = case_lines::channel(&mut word.split_whitespace()) {
                 self.known.push(channel)?;
             }
         }
-        Ok(())
+        Ok(format!(in alloc; "ok")?)
+    }
+
+    fn accept(&mut self, alloc: Global, words: &mut SplitWhitespace<'_>) -> anyhow::Result<String> {
+        let accepted = associations::accept(&mut self.book, words).is_some();
+        Ok(format!(in alloc; "{accepted}")?)
     }
 
     fn next_text(&self, alloc: Global, words: &mut SplitWhitespace<'_>) -> anyhow::Result<String> {
@@ -99,7 +133,7 @@ impl AssociationTable {
         alloc: Global,
         words: &mut SplitWhitespace<'_>,
     ) -> anyhow::Result<String> {
-        match case_lines::channel(words).and_then(|channel| self.book.sender_on(channel)) {
+        match associations::sender(&self.book, words) {
             Some(row) => row_text(alloc, row),
             None => Ok(format!(in alloc; "none")?),
         }
@@ -110,7 +144,7 @@ impl AssociationTable {
         alloc: Global,
         words: &mut SplitWhitespace<'_>,
     ) -> anyhow::Result<String> {
-        match case_lines::spi(words).map(|spi| self.book.status(spi)) {
+        match associations::status(&self.book, words) {
             Some(Ok(row)) => row_text(alloc, row),
             Some(Err(refusal)) => Ok(format!(in alloc; "{refusal}")?),
             None => Ok(format!(in alloc; "no index")?),
@@ -118,7 +152,7 @@ impl AssociationTable {
     }
 
     fn in_use_text(&self, alloc: Global) -> anyhow::Result<String> {
-        let pairs = self.book.in_use()?;
+        let pairs = associations::in_use(&self.book)?;
         let mut text = format!(in alloc; "in use")?;
         for (key, spi) in pairs.iter() {
             let (key, spi) = (key.get(), spi.get());
@@ -128,54 +162,40 @@ impl AssociationTable {
         Ok(text)
     }
 
-    /// The indices of the rows, in their order.
-    fn rows_text(&self, alloc: Global) -> anyhow::Result<String> {
-        let rows = self.book.rows();
-        let count = rows.len();
-        let mut text = format!(in alloc; "{count} rows")?;
-        for row in rows {
-            let spi = row.spi.get();
-            let shown = format!(in alloc; ", {spi}")?;
-            text.push_str(shown.as_str())?;
-        }
-        Ok(text)
+    /// Whether the rows make an equal book.
+    fn again_text(&self, alloc: Global) -> anyhow::Result<String> {
+        let again = associations::made_again(alloc, &self.book)?;
+        let same = associations::same_rows(&again, &self.book);
+        Ok(format!(in alloc; "{same}")?)
     }
 
-    /// What a step answers that tells of the rows.
-    fn look(&self, alloc: Global, step: &str) -> anyhow::Result<Option<String>> {
-        let mut words = step.split_whitespace();
-        match words.next() {
-            Some("next") => Ok(Some(self.next_text(alloc, &mut words)?)),
-            Some("sender") => Ok(Some(self.sender_text(alloc, &mut words)?)),
-            Some("status") => Ok(Some(self.status_text(alloc, &mut words)?)),
-            Some("in_use") => Ok(Some(self.in_use_text(alloc)?)),
-            Some("rows") => Ok(Some(self.rows_text(alloc)?)),
-            Some("judge") => Ok(Some(judge(alloc, &mut words)?)),
-            Some("rows_again") => {
-                let again = associations::made_again(alloc, &self.book)?;
-                let same = again.rows() == self.book.rows();
-                Ok(Some(format!(in alloc; "{same}")?))
-            }
-            _ => Ok(None),
+    /// What a step answers that accepts a number or changes no row. None where the word names another.
+    fn look(&mut self, alloc: Global, word: &str, rest: &str) -> Option<anyhow::Result<String>> {
+        let mut words = rest.split_whitespace();
+        match word {
+            "known" => Some(self.know(alloc, &mut words)),
+            "accept" => Some(self.accept(alloc, &mut words)),
+            "next" => Some(self.next_text(alloc, &mut words)),
+            "sender" => Some(self.sender_text(alloc, &mut words)),
+            "status" => Some(self.status_text(alloc, &mut words)),
+            "in_use" => Some(self.in_use_text(alloc)),
+            "rows" => Some(rows_text(alloc, associations::rows(&self.book))),
+            "judge" => Some(judge(alloc, &mut words)),
+            "rows_again" => Some(self.again_text(alloc)),
+            _ => None,
         }
     }
 
     /// What a step answers, none where it is no step on associations.
-    pub fn answer(&mut self, alloc: Global, step: &str) -> anyhow::Result<Option<String>> {
-        let mut words = step.split_whitespace();
-        match words.next() {
-            Some("known") => {
-                self.know(&mut words)?;
-                Ok(Some(format!(in alloc; "ok")?))
-            }
-            Some("accept") => {
-                let accepted = associations::accept(&mut self.book, &mut words).is_some();
-                Ok(Some(format!(in alloc; "{accepted}")?))
-            }
-            _ => match self.change(alloc, step)? {
-                Some(answer) => Ok(Some(answer)),
-                None => self.look(alloc, step),
-            },
+    pub fn answer(
+        &mut self,
+        alloc: Global,
+        word: &str,
+        rest: &str,
+    ) -> anyhow::Result<Option<String>> {
+        match self.look(alloc, word, rest) {
+            Some(answer) => Ok(Some(answer?)),
+            None => self.change(alloc, word, rest),
         }
     }
 }

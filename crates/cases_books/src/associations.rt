@@ -1,34 +1,75 @@
 // Calls on an association book, with their conditions looked at. A call is none where its words are not there, or its
-// conditions do not hold.
+// conditions do not hold. Each has a function of its own, mostly without a clause: what the clauses of several calls
+// say together takes long to prove.
+ghost use Rattle.std.specs.Prelude.{◌≡◌, ◌≤◌, true, IfSome, All};
+ghost use Rattle.sdls_base.specs.Bounds.{AreChannels, IsWidth};
+ghost use Rattle.std.specs.Option.{ForSome};
+ghost use Rattle.sdls_base.specs.declared.states.Direction.TheVariants.{Receive};
+ghost use Rattle.sa_book.specs.SaRow.{MayAccept};
+ghost use Rattle.sa_book.specs.SaBook.{row_of};
+
 use replay_window::Verdict;
-use sa_book::{SaBook, SaRefusal, rows_may_follow};
-use sdls_base::{ChannelId, Direction, MOST_WINDOW, NewSa, NoMemory, Octets, SaState, Suite};
+use sa_book::{SaBook, SaRefusal, SaRow, rows_may_follow};
+use sdls_base::{
+    ChannelId, Direction, KeyId, KeyState, MOST_WINDOW, NewSa, NoMemory, Octets, SaState, Spi,
+    Suite,
+};
 use std::alloc::Global;
 use std::str::SplitWhitespace;
 
-/// Creates a CMAC association of two channels, with a window of 5: `SPI DIRECTION LOW HIGH`.
+/// Two channels, the lower one first.
+fn two_channels(alloc: Global, low: u8, high: u8) -> Option<Octets>
+    ensures ascending { IfSome result AreChannels }
+    ensures numbers { IfSome result (All (λ channel. channel ≤ 63)) }
+{
+    if low < high && high <= 63 {
+        Some(Octets::new(vec![in alloc; low, high].ok()?))
+    } else {
+        None
+    }
+}
+
+/// A CMAC association of two channels, with a window of 5: `SPI DIRECTION LOW HIGH`.
+fn new_association(alloc: Global, words: &mut SplitWhitespace<'_>) -> Option<NewSa>
+    ensures window { IfSome result (λ new. IsWidth new.window) }
+    ensures ascending { IfSome result (λ new. AreChannels new.channels) }
+    ensures numbers { IfSome result (λ new. All (λ channel. channel ≤ 63) new.channels) }
+{
+    let spi = case_lines::spi(words)?;
+    let direction = case_lines::direction(words)?;
+    let low = case_lines::channel(words)?.get();
+    let high = case_lines::channel(words)?.get();
+    Some(NewSa {
+        spi,
+        direction,
+        suite: Suite::Cmac,
+        window: 5,
+        channels: two_channels(alloc, low, high)?,
+    })
+}
+
+/// Creates an association of the words.
 pub fn create(
     alloc: Global,
     book: &mut SaBook,
     words: &mut SplitWhitespace<'_>,
     known: &[ChannelId],
 ) -> Option<Result<(), SaRefusal>> {
-    let spi = case_lines::spi(words)?;
-    let direction = case_lines::direction(words)?;
-    let low = case_lines::channel(words)?.get();
-    let high = case_lines::channel(words)?.get();
-    let new = NewSa {
-        spi,
-        direction,
-        suite: Suite::Cmac,
-        window: 5,
-        channels: Octets::new(vec![in alloc; low, high].ok()?),
-    };
-    if low < high && high <= 63 {
-        Some(book.create(&new, known))
-    } else {
-        None
+    let new = new_association(alloc, words)?;
+    Some(book.create(&new, known))
+}
+
+fn give_key(
+    book: &mut SaBook,
+    spi: Spi,
+    (key, state): (KeyId, KeyState),
+    number: u64,
+    floor: u64,
+) -> Option<Result<(), SaRefusal>> {
+    if floor < 1 {
+        return None;
     }
+    Some(book.rekey(spi, key, state, number, floor))
 }
 
 /// Gives a key: `SPI KEY STATE NUMBER FLOOR`.
@@ -38,10 +79,27 @@ pub fn rekey(book: &mut SaBook, words: &mut SplitWhitespace<'_>) -> Option<Resul
     let state = case_lines::key_state(words)?;
     let number = case_lines::number(words)?;
     let floor = case_lines::number(words)?;
-    if floor < 1 {
-        return None;
-    }
-    Some(book.rekey(spi, key, state, number, floor))
+    give_key(book, spi, (key, state), number, floor)
+}
+
+/// Starts an association: `SPI`.
+pub fn start(book: &mut SaBook, words: &mut SplitWhitespace<'_>) -> Option<Result<(), SaRefusal>> {
+    Some(book.start(case_lines::spi(words)?))
+}
+
+/// Stops an association: `SPI`.
+pub fn stop(book: &mut SaBook, words: &mut SplitWhitespace<'_>) -> Option<Result<(), SaRefusal>> {
+    Some(book.stop(case_lines::spi(words)?))
+}
+
+/// Takes the key of an association away: `SPI`.
+pub fn expire(book: &mut SaBook, words: &mut SplitWhitespace<'_>) -> Option<Result<(), SaRefusal>> {
+    Some(book.expire(case_lines::spi(words)?))
+}
+
+/// Deletes an association: `SPI`.
+pub fn delete(book: &mut SaBook, words: &mut SplitWhitespace<'_>) -> Option<Result<(), SaRefusal>> {
+    Some(book.delete(case_lines::spi(words)?))
 }
 
 /// Sets the next number: `SPI NUMBER FLOOR`.
@@ -71,34 +129,86 @@ pub fn set_window(
     Some(book.set_window(spi, width))
 }
 
+/// Whether the association is operational and receives, and the number is fresh on it.
+fn may_accept(row: &SaRow, number: u64) -> bool
+    ensures { result ≡ true → MayAccept row.now number }
+{
+    let Some(key) = row.key else {
+        return false;
+    };
+    row.state == SaState::Operational
+        && row.direction == Direction::Receive
+        && row.window.judge(number, key.end()) == Verdict::Fresh
+}
+
 /// Accepts a number where it is fresh on an operational receiving association: `SPI NUMBER`.
 pub fn accept(book: &mut SaBook, words: &mut SplitWhitespace<'_>) -> Option<()> {
     let spi = case_lines::spi(words)?;
     let number = case_lines::number(words)?;
-    let row = book.status(spi).ok()?;
-    let key = row.key?;
-    let operational = row.state == SaState::Operational;
-    let receives = row.direction == Direction::Receive;
-    let fresh = row.window.judge(number, key.end()) == Verdict::Fresh;
-    if operational && receives && fresh {
-        book.accept(spi, number);
-        return Some(());
+    if !may_accept(book.status(spi).ok()?, number) {
+        return None;
     }
-    None
+    book.accept(spi, number);
+    Some(())
 }
 
-/// The next number of an association that receives: `SPI`.
+/// Whether there is no association of the index that sends.
+fn sends_none(book: &SaBook, spi: Spi) -> bool
+    ensures { result ≡ true → ForSome (row_of book.now spi) (λ row. row.direction ≡ Receive) }
+{
+    match book.status(spi) {
+        Ok(row) => match row.direction {
+            Direction::Send => false,
+            Direction::Receive => true,
+        },
+        Err(_) => true,
+    }
+}
+
+/// The next number of an association that does not send: `SPI`.
 pub fn next_number(
     book: &SaBook,
     words: &mut SplitWhitespace<'_>,
 ) -> Option<Result<u64, SaRefusal>> {
     let spi = case_lines::spi(words)?;
-    if let Ok(row) = book.status(spi) {
-        if row.direction == Direction::Send {
-            return None;
-        }
+    if sends_none(book, spi) {
+        Some(book.read_number(spi))
+    } else {
+        None
     }
-    Some(book.read_number(spi))
+}
+
+/// The operational sending association that covers a channel: `CHANNEL`.
+pub fn sender<'a>(book: &'a SaBook, words: &mut SplitWhitespace<'_>) -> Option<&'a SaRow> {
+    book.sender_on(case_lines::channel(words)?)
+}
+
+/// The row of an association: `SPI`.
+pub fn status<'a>(
+    book: &'a SaBook,
+    words: &mut SplitWhitespace<'_>,
+) -> Option<Result<&'a SaRow, SaRefusal>> {
+    Some(book.status(case_lines::spi(words)?))
+}
+
+/// The keys that associations hold.
+pub fn in_use(book: &SaBook) -> Result<Vec<(KeyId, Spi)>, NoMemory> {
+    book.in_use()
+}
+
+/// The rows.
+pub fn rows(book: &SaBook) -> &[SaRow] {
+    book.rows()
+}
+
+/// An equal book.
+pub fn copy(book: &SaBook) -> Result<SaBook, NoMemory> {
+    book.copy()
+}
+
+/// Whether two books have the same rows.
+pub fn same_rows(one: &SaBook, other: &SaBook) -> bool {
+    one.rows() == other.rows()
 }
 
 /// The rows put into an empty book, in order.

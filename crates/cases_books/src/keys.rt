@@ -1,9 +1,10 @@
-// Calls on a key book, with their conditions looked at.
+// Calls on a key book, with their conditions looked at. Each has a function of its own, mostly without a clause: what
+// the clauses of several calls say together takes long to prove.
 ghost use Rattle.std.specs.Prelude.{◌≡◌, IfOk, IfSome, All, length};
 
-use key_book::{KeyBook, KeyRefusal, rows_may_follow};
-use sdls_base::{KeyId, KeyItem, KeyList, NoMemory, Octets, Spi};
-use std::alloc::Global;
+use key_book::{Inventory, KeyBook, KeyRefusal, KeyRow, rows_may_follow};
+use sdls_base::{KeyId, KeyItem, KeyList, KeyState, NoMemory, Octets, Spi};
+use std::alloc::{AllocError, Global};
 use std::str::SplitWhitespace;
 
 /// A key of 16 octets, the first ones given and the others 0: `ID FIRST`.
@@ -11,11 +12,8 @@ fn item(alloc: Global, words: &mut SplitWhitespace<'_>) -> Option<KeyItem>
     ensures { IfSome result (λ item. length item.bytes ≡ 16) }
 {
     let id = case_lines::key(words)?;
-    let front = hex::decode(alloc, words.next()?).ok()?;
-    let mut octets = vec![in alloc; 0; 16].ok()?;
-    for (octet, given) in octets.iter_mut().zip(front.iter()) {
-        *octet = *given;
-    }
+    let mut octets = hex::decode(alloc, words.next()?).ok()?;
+    octets.resize(16, 0).ok()?;
     Some(KeyItem {
         id,
         bytes: Octets::new(octets),
@@ -23,7 +21,7 @@ fn item(alloc: Global, words: &mut SplitWhitespace<'_>) -> Option<KeyItem>
 }
 
 /// The keys of the words.
-fn items(alloc: Global, words: &mut SplitWhitespace<'_>) -> anyhow::Result<Vec<KeyItem>>
+fn items(alloc: Global, words: &mut SplitWhitespace<'_>) -> Result<Vec<KeyItem>, AllocError>
     ensures { IfOk result (λ items. All (λ item. length item.bytes ≡ 16) items.items) }
 {
     let mut items = Vec::new(alloc);
@@ -45,22 +43,53 @@ pub fn load(
     Ok(book.load(&items))
 }
 
-/// Loads the keys 1 to `count`, one at a time, each with its identifier as its first octets.
+/// Loads one key, with its identifier as its first octets.
+fn load_one(
+    alloc: Global,
+    book: &mut KeyBook,
+    number: u16,
+) -> anyhow::Result<Result<(), KeyRefusal>> {
+    let text = format!(in alloc; "{number} {number:04x}")?;
+    load(alloc, book, &mut text.as_str().split_whitespace())
+}
+
+/// Loads the keys 1 to the number of the words, one at a time.
 pub fn fill(
     alloc: Global,
     book: &mut KeyBook,
-    count: u16,
+    words: &mut SplitWhitespace<'_>,
 ) -> anyhow::Result<Result<(), KeyRefusal>> {
+    let count = case_lines::short(words).unwrap_or(0);
     for number in 1..=count {
-        let text = format!(in alloc; "{number} {number:04x}")?;
-        if let Err(refusal) = load(alloc, book, &mut text.as_str().split_whitespace())? {
+        if let Err(refusal) = load_one(alloc, book, number)? {
             return Ok(Err(refusal));
         }
     }
     Ok(Ok(()))
 }
 
-/// Takes keys a state on: `STATE ID ..`.
+/// The identifiers of the words.
+fn ids(alloc: Global, words: &mut SplitWhitespace<'_>) -> Result<KeyList, AllocError> {
+    let mut ids = Vec::new(alloc);
+    for word in words {
+        if let Some(id) = case_lines::key(&mut word.split_whitespace()) {
+            ids.push(id)?;
+        }
+    }
+    Ok(KeyList::new(ids))
+}
+
+/// Takes keys a state on.
+fn take_on(
+    book: &mut KeyBook,
+    ids: &KeyList,
+    to: KeyState,
+    in_use: &[(KeyId, Spi)],
+) -> Result<(), KeyRefusal> {
+    book.set_state(ids, to, in_use)
+}
+
+/// The same of the words: `STATE ID ..`.
 pub fn set_state(
     alloc: Global,
     book: &mut KeyBook,
@@ -70,32 +99,87 @@ pub fn set_state(
     let Some(to) = case_lines::key_state(words) else {
         return Ok(None);
     };
-    let mut ids = Vec::new(alloc);
-    for word in words {
-        if let Some(id) = word.parse().ok().and_then(KeyId::new) {
-            ids.push(id)?;
-        }
-    }
-    Ok(Some(book.set_state(&KeyList::new(ids), to, in_use)))
+    let ids = ids(alloc, words)?;
+    Ok(Some(take_on(book, &ids, to, in_use)))
 }
 
-/// Sets or raises mark and floor of a key, where the conditions hold: `ID MARK FLOOR`. Says whether they do.
-pub fn move_marks(book: &mut KeyBook, words: &mut SplitWhitespace<'_>, sets: bool) -> Option<()> {
-    let id = case_lines::key(words)?;
-    let mark = case_lines::number(words)?;
-    let floor = case_lines::number(words)?;
+/// Sets mark and floor of a key, where the conditions hold.
+fn set_both(book: &mut KeyBook, id: KeyId, mark: u64, floor: u64) -> Option<()> {
     if book.mark(id).is_none() || mark < 1 || mark > id.end() || floor >= id.end() {
         return None;
     }
-    if sets {
-        book.set_marks(id, mark, floor);
-    } else {
-        book.raise_mark(id, mark);
-        if book.mark(id).is_some() {
-            book.raise_floor(id, floor);
-        }
-    }
+    book.set_marks(id, mark, floor);
     Some(())
+}
+
+/// Raises the mark of a key, where the conditions hold.
+fn raise_mark(book: &mut KeyBook, id: KeyId, mark: u64) -> Option<()> {
+    if book.mark(id).is_none() || mark < 1 || mark > id.end() {
+        return None;
+    }
+    book.raise_mark(id, mark);
+    Some(())
+}
+
+/// Raises the floor of a key, where the conditions hold.
+fn raise_floor(book: &mut KeyBook, id: KeyId, floor: u64) -> Option<()> {
+    if book.mark(id).is_none() || floor >= id.end() {
+        return None;
+    }
+    book.raise_floor(id, floor);
+    Some(())
+}
+
+/// Sets mark and floor of a key, where the conditions hold: `ID MARK FLOOR`. Says whether they do.
+pub fn set_marks(book: &mut KeyBook, words: &mut SplitWhitespace<'_>) -> Option<()> {
+    let id = case_lines::key(words)?;
+    let mark = case_lines::number(words)?;
+    let floor = case_lines::number(words)?;
+    set_both(book, id, mark, floor)
+}
+
+/// The same, but raises them.
+pub fn raise_marks(book: &mut KeyBook, words: &mut SplitWhitespace<'_>) -> Option<()> {
+    let id = case_lines::key(words)?;
+    let mark = case_lines::number(words)?;
+    let floor = case_lines::number(words)?;
+    if floor >= id.end() {
+        return None;
+    }
+    raise_mark(book, id, mark)?;
+    raise_floor(book, id, floor)
+}
+
+/// The mark of a key: `ID`.
+pub fn mark(book: &KeyBook, words: &mut SplitWhitespace<'_>) -> Option<u64> {
+    book.mark(case_lines::key(words)?)
+}
+
+/// The floor of a key: `ID`.
+pub fn floor(book: &KeyBook, words: &mut SplitWhitespace<'_>) -> Option<u64> {
+    book.receive_floor(case_lines::key(words)?)
+}
+
+/// The row of a key and its place: `ID`.
+pub fn find<'a>(book: &'a KeyBook, words: &mut SplitWhitespace<'_>) -> Option<(usize, &'a KeyRow)> {
+    book.find(case_lines::key(words)?)
+}
+
+/// The keys of a range: `FIRST LAST`.
+pub fn inventory(book: &KeyBook, words: &mut SplitWhitespace<'_>) -> Result<Inventory, NoMemory> {
+    let first = case_lines::short(words).unwrap_or(0);
+    let last = case_lines::short(words).unwrap_or(0);
+    book.inventory(first, last)
+}
+
+/// An equal book.
+pub fn copy(book: &KeyBook) -> Result<KeyBook, NoMemory> {
+    book.copy()
+}
+
+/// Whether two books have the same rows.
+pub fn same_rows(one: &KeyBook, other: &KeyBook) -> bool {
+    one.rows() == other.rows()
 }
 
 /// The rows put into an empty book, in order.

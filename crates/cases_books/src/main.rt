@@ -1,59 +1,85 @@
-//! Tables of calls on the two books of a unit, and on the window of an association. A line of standard input is a step,
-//! which is printed with what the call answers. `new` empties both books, and `#` and a title is printed as it is.
+//! Tables of the two books of a unit, of the window of an association, of plans, and of records. A line of standard
+//! input is a step, and what it answers is printed; `#` and a title is printed as it is. `new` empties both books, and
+//! begins an empty text.
 //!
-//! A call that may be refused answers `ok`, or the refusal and whether the rows are as they were. The steps of each
-//! book stand in a module of their own.
+//! A step on a book or a window is printed with what the call answers. A call that may be refused answers `ok`, or the
+//! refusal and whether the rows are as they were.
+//!
+//! `: LINE` adds a line and its line feed to the text before the place of the case, and `; LINE` a line feed and a line
+//! behind it. `fill N` adds number signs before the place, up to N octets. `plan LINE` writes the line into the place,
+//! and prints what `Plan::read` answers to the whole; `show` prints what it reads of the text without a case, and
+//! `place LINK SPACECRAFT CHANNEL MAP` the channel that lies there. In a line `\` and two hexadecimal digits stand for
+//! an octet.
+//!
+//! `record BODY` prints what is read of the body of a record, and whether the record of that is the body again. A body
+//! is hexadecimal words, with zeros where no word stands; `@510` before a word says the place where it stands.
 #![tactic(auto)]
 
 mod association_steps;
 mod associations;
 mod key_steps;
 mod keys;
+mod plans;
+mod records;
+mod text;
 
 use association_steps::AssociationTable;
 use case_lines::{Answers, print_answers};
 use key_steps::KeyTable;
 use std::alloc::Global;
+use text::Text;
 
-/// The two books.
+/// The two books, and the text of a plan.
 #[derive(Drop)]
-struct Books {
+struct Table {
     keys: KeyTable,
     associations: AssociationTable,
+    text: Text,
 }
 
-impl Books {
-    /// Two empty books.
-    fn new(alloc: Global) -> Books {
-        Books {
+impl Table {
+    /// Two empty books, and an empty text.
+    fn new(alloc: Global) -> Table {
+        Table {
             keys: KeyTable::new(alloc),
             associations: AssociationTable::new(alloc),
+            text: Text::new(alloc),
         }
     }
 
-    /// What the step answers: that of the first table that knows it.
-    fn step(&mut self, alloc: Global, step: &str) -> anyhow::Result<String> {
-        if let Some(answer) = self.keys.answer(alloc, step)? {
+    /// What a step on a book answers: that of the first table that knows it.
+    fn step(&mut self, alloc: Global, word: &str, rest: &str) -> anyhow::Result<String> {
+        if let Some(answer) = self.keys.answer(alloc, word, rest)? {
             return Ok(answer);
         }
-        match self.associations.answer(alloc, step)? {
+        match self.associations.answer(alloc, word, rest)? {
             Some(answer) => Ok(answer),
             None => Ok(format!(in alloc; "no step")?),
         }
     }
 }
 
-impl Answers for Books {
+impl Answers for Table {
     fn answer(&mut self, alloc: Global, line: &str) -> anyhow::Result<Option<String>> {
-        if line == "new" {
-            *self = Books::new(alloc);
+        let (word, rest) = line.split_once(' ').unwrap_or((line, ""));
+        if word == "new" {
+            *self = Table::new(alloc);
             return Ok(None);
         }
-        let answer = self.step(alloc, line)?;
+        if self.text.takes(alloc, word, rest)? {
+            return Ok(None);
+        }
+        if word == "record" {
+            return Ok(Some(records::answer(alloc, rest)?));
+        }
+        if let Some(answer) = plans::answer(alloc, &self.text, word, rest) {
+            return Ok(Some(answer?));
+        }
+        let answer = self.step(alloc, word, rest)?;
         Ok(Some(format!(in alloc; "{line}: {answer}")?))
     }
 }
 
 fn main(rt: HostRuntime) -> anyhow::Result<()> {
-    print_answers(&rt, &mut Books::new(rt.alloc()))
+    print_answers(&rt, &mut Table::new(rt.alloc()))
 }

@@ -1,9 +1,10 @@
-// What is read of a plan, a line for each of its lines.
+// What is read of a text as a plan, a line for each of its lines.
 use crate::text::Text;
 use case_lines::{Gathered, octet, short};
-use sdls_base::{AnyLayout, Link};
+use sdls_base::{AnyLayout, ChannelId, Link};
 use std::alloc::{AllocError, Global};
-use unit_plan::{Plan, PlanKey, PlanSa};
+use std::str::SplitWhitespace;
+use unit_plan::{Plan, PlanError, PlanKey, PlanSa};
 
 /// The words for a layout.
 fn layout_text(alloc: Global, layout: &AnyLayout) -> Result<String, AllocError> {
@@ -53,13 +54,18 @@ fn heads_text(alloc: Global, plan: &Plan) -> Result<String, AllocError> {
     format!(in alloc; "device {device} slots {slots} block {block} accept {accept}")
 }
 
-/// Gathers the links of a plan, and its channels.
-fn push_places(alloc: Global, lines: &mut Gathered, plan: &Plan) -> Result<(), AllocError> {
+/// Gathers the links of a plan.
+fn push_links(alloc: Global, lines: &mut Gathered, plan: &Plan) -> Result<(), AllocError> {
     for number in 0..=u8::MAX {
         if let Some(link) = plan.link(number) {
             lines.push(link_text(alloc, number, link)?.as_str())?;
         }
     }
+    Ok(())
+}
+
+/// Gathers the channels of a plan.
+fn push_channels(alloc: Global, lines: &mut Gathered, plan: &Plan) -> Result<(), AllocError> {
     for channel in plan.channels() {
         let channel = channel.get();
         lines.push(format!(in alloc; "channel {channel}")?.as_str())?;
@@ -67,33 +73,75 @@ fn push_places(alloc: Global, lines: &mut Gathered, plan: &Plan) -> Result<(), A
     Ok(())
 }
 
-/// All that is read of the text, a line for each of its lines.
-pub fn plan_text(alloc: Global, text: &Text) -> anyhow::Result<String> {
-    let plan = Plan::read(alloc, text.with(alloc, "")?.as_slice())?;
-    let mut lines = Gathered::new(alloc);
-    lines.push(heads_text(alloc, &plan)?.as_str())?;
-    push_places(alloc, &mut lines, &plan)?;
+/// Gathers the keys of a plan, and its associations.
+fn push_known(alloc: Global, lines: &mut Gathered, plan: &Plan) -> Result<(), AllocError> {
     for key in plan.keys() {
         lines.push(key_text(alloc, key)?.as_str())?;
     }
     for known in plan.associations() {
         lines.push(association_text(alloc, known)?.as_str())?;
     }
-    Ok(String::from_str(alloc, lines.as_str().trim_end())?)
+    Ok(())
+}
+
+fn lines_text(alloc: Global, plan: &Plan) -> Result<String, AllocError> {
+    let mut lines = Gathered::new(alloc);
+    lines.push(heads_text(alloc, plan)?.as_str())?;
+    push_links(alloc, &mut lines, plan)?;
+    push_channels(alloc, &mut lines, plan)?;
+    push_known(alloc, &mut lines, plan)?;
+    String::from_str(alloc, lines.as_str().trim_end())
+}
+
+/// What the reader answers to the text with a case in its place.
+fn read(alloc: Global, text: &Text, case: &str) -> anyhow::Result<Result<Plan, PlanError>> {
+    let octets = text.with(alloc, case)?;
+    Ok(Plan::read(alloc, octets.as_slice()))
+}
+
+fn plan(alloc: Global, text: &Text, case: &str) -> anyhow::Result<String> {
+    match read(alloc, text, case)? {
+        Ok(_) => Ok(format!(in alloc; "plan")?),
+        Err(error) => Ok(format!(in alloc; "{error}")?),
+    }
+}
+
+/// All that is read of the text, a line for each of its lines.
+fn show(alloc: Global, text: &Text) -> anyhow::Result<String> {
+    Ok(lines_text(alloc, &read(alloc, text, "")??)?)
+}
+
+/// The channel of link, spacecraft, channel and MAP.
+fn channel(plan: &Plan, words: &mut SplitWhitespace<'_>) -> Option<ChannelId> {
+    let link = octet(words)?;
+    let spacecraft = short(words)?;
+    let channel = octet(words)?;
+    plan.channel_of(link, spacecraft, channel, octet(words))
 }
 
 /// The channel of a place, which is given in words.
-pub fn channel_text(alloc: Global, text: &Text, place: &str) -> anyhow::Result<String> {
-    let plan = Plan::read(alloc, text.with(alloc, "")?.as_slice())?;
-    let mut words = place.split_whitespace();
-    let link = octet(&mut words).unwrap_or(0);
-    let spacecraft = short(&mut words).unwrap_or(0);
-    let channel = octet(&mut words).unwrap_or(0);
-    match plan.channel_of(link, spacecraft, channel, octet(&mut words)) {
+fn place(alloc: Global, text: &Text, words: &str) -> anyhow::Result<String> {
+    let plan = read(alloc, text, "")??;
+    match channel(&plan, &mut words.split_whitespace()) {
         Some(channel) => {
             let channel = channel.get();
-            Ok(format!(in alloc; "{place}: channel {channel}")?)
+            Ok(format!(in alloc; "{words}: channel {channel}")?)
         }
-        None => Ok(format!(in alloc; "{place}: none")?),
+        None => Ok(format!(in alloc; "{words}: none")?),
+    }
+}
+
+/// What a step on the text answers, none where the word names another.
+pub fn answer(
+    alloc: Global,
+    text: &Text,
+    word: &str,
+    rest: &str,
+) -> Option<anyhow::Result<String>> {
+    match word {
+        "plan" => Some(plan(alloc, text, rest)),
+        "show" => Some(show(alloc, text)),
+        "place" => Some(place(alloc, text, rest)),
+        _ => None,
     }
 }
