@@ -10,9 +10,10 @@ pub struct Text {
 
 /// Puts the octet of two digits, and what stands behind them.
 fn put_digits(alloc: Global, out: &mut Vec<u8>, part: &str) -> anyhow::Result<()> {
-    let (digits, rest) = part.split_at_checked(2).unwrap_or(("", part));
+    let octets = part.as_bytes();
+    let (digits, rest) = octets.split_at_checked(2).unwrap_or((&[], octets));
     out.extend_from_slice(&hex::decode(alloc, digits)?)?;
-    out.extend_from_slice(rest.as_bytes())?;
+    out.extend_from_slice(rest)?;
     Ok(())
 }
 
