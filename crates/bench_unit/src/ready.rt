@@ -4,6 +4,7 @@ ghost use Rattle.std.specs.Prelude.{◌≡◌, ◌<◌, IfSome};
 ghost use Rattle.counter_table.specs.Worker.{view};
 ghost use Rattle.shared_unit.specs.Turn.{IsReady};
 
+use crate::rate::nanos_since;
 use disk_journal::create;
 use sdls_outside::MemSite;
 use shared_unit::{PermitReply, Protected, Ready, Unit, Worker};
@@ -132,6 +133,62 @@ fn ready_on_four<R: Threads + Wait + Sync>(
     one.min(two)
 }
 
+/// How many permits were given, and the nanoseconds of all that were asked for.
+fn time_permits<R: Wait + Clock>(
+    rt: &R,
+    unit: &Unit<MemSite>,
+    worker: Worker<MemSite>,
+) -> io::Result<(u64, u128)>
+    requires { IsReady unit.now.counters unit.now.plan worker }
+{
+    let start = Instant::now(rt)?;
+    let given = permit_many(rt, unit, worker);
+    Ok((given, nanos_since(rt, start)?))
+}
+
+/// How many frames were protected on one thread, and the nanoseconds of all.
+fn time_alone<R: Wait + Clock>(
+    rt: &R,
+    unit: &Unit<MemSite>,
+    worker: Worker<MemSite>,
+) -> io::Result<(u64, u128)>
+    requires { IsReady unit.now.counters unit.now.plan worker }
+{
+    let start = Instant::now(rt)?;
+    let done = ready_many(rt, unit, worker);
+    Ok((done, nanos_since(rt, start)?))
+}
+
+/// The same on each of four threads at once.
+fn time_four<R: Threads + Wait + Sync + Clock>(
+    rt: &R,
+    unit: &Unit<MemSite>,
+    worker: Worker<MemSite>,
+) -> io::Result<(u64, u128)>
+    requires ready { IsReady unit.now.counters unit.now.plan worker }
+    requires four { 3 < (view worker).numbers.shares }
+{
+    let start = Instant::now(rt)?;
+    let done = ready_on_four(rt, unit, worker);
+    Ok((done, nanos_since(rt, start)?))
+}
+
+fn print_permits<R: Eprint>(rt: &R, permits: (u64, u128), funded: bool) -> io::Result<()> {
+    let (given, asking) = (permits.0, permits.1 / u128::from(PERMITS));
+    eprintln!(rt; "a permit: {asking} ns ({given} given, block reserved: {funded})")
+}
+
+fn print_ready<R: Eprint>(rt: &R, alone: (u64, u128), four: (u64, u128)) -> io::Result<()> {
+    let frames = u128::from(FRAMES);
+    let (one, each) = (alone.1 / frames, four.1 / frames);
+    eprintln!(rt;
+        "protect_ready, TC frame of {} octets, CMAC: {one} ns on one thread ({} done), {each} ns on each of four ({} done by each)",
+        CLEAR.len(),
+        alone.0,
+        four.0
+    )
+}
+
 pub fn measure_ready<R: Threads + Wait + Sync + Clock + Eprint>(
     rt: &R,
     alloc: Global,
@@ -142,18 +199,9 @@ pub fn measure_ready<R: Threads + Wait + Sync + Clock + Eprint>(
     let funded = fund(rt, &unit, &mut first);
     let second = unit.split(&mut first);
     let third = unit.split(&mut first);
-    let start = Instant::now(rt)?;
-    let permits = permit_many(rt, &unit, second);
-    let asking = start.elapsed(rt)?.as_nanos() / u128::from(PERMITS);
-    let start = Instant::now(rt)?;
-    let alone = ready_many(rt, &unit, third);
-    let one = start.elapsed(rt)?.as_nanos() / u128::from(FRAMES);
-    let start = Instant::now(rt)?;
-    let together = ready_on_four(rt, &unit, first);
-    let four = start.elapsed(rt)?.as_nanos() / u128::from(FRAMES);
-    eprintln!(rt; "a permit: {asking} ns ({permits} given, block reserved: {funded})")?;
-    eprintln!(rt;
-        "protect_ready, TC frame of {} octets, CMAC: {one} ns on one thread ({alone} done), {four} ns on each of four ({together} done by each)",
-        CLEAR.len()
-    )
+    let permits = time_permits(rt, &unit, second)?;
+    let alone = time_alone(rt, &unit, third)?;
+    let four = time_four(rt, &unit, first)?;
+    print_permits(rt, permits, funded)?;
+    print_ready(rt, alone, four)
 }
