@@ -32,7 +32,10 @@ launch() {
     find_program
     # the lock is taken when the program is there: a build may take long, and needs none
     case "$name $# ${1-}" in
-    "sdls 1 init" | "sdls 1 run" | "sdls 1 stat") keep_others_out ;;
+    "sdls 1 init" | "sdls 1 run" | "sdls 1 stat")
+        find_closed
+        keep_others_out
+        ;;
     esac
     run_through exec "$program" "$@"
     [ "$name" = sdls ] && explain "${1-}"
@@ -64,7 +67,7 @@ run_through() {
         trap "hand_on $signal" "$signal"
     done
     # bash has a command in the background ignore SIGINT and SIGQUIT, and read nothing, unless it is given the opposite
-    if { true <&0; } 2>/dev/null; then
+    if [ -e /dev/fd/0 ]; then
         (trap - $signals && "$@") <&0 &
     else
         (trap - $signals && "$@") <&- &
@@ -114,6 +117,13 @@ keep_others_out() {
     fi
     had_image=
     [ -s unit.img ] && had_image=1
+}
+
+# Notes which stream is closed: the image would then be opened by its number, which the program refuses.
+find_closed() {
+    closed=
+    [ -e /dev/fd/0 ] || closed="standard input"
+    [ -e /dev/fd/1 ] || closed="standard output"
 }
 
 # Locks the open file with this number.
@@ -175,6 +185,8 @@ site_fault() {
         echo "you may not write unit.img: call again as its owner, on a file system that can be written"
     elif [ "$1" = init ] && [ ! -e unit.img ] && [ ! -w . ]; then
         echo "you may not write in this folder: call init again in a folder of your own"
+    elif [ -n "$closed" ] && [ -e unit.img ] && [ "$1 $had_image" != "init " ]; then
+        echo "$closed is closed, so unit.img was not opened and is as it was: call again with that stream open"
     elif [ "$1" = init ] && [ -n "$had_image" ]; then
         echo "the disk or standard output failed, and the image that was here before was left as it is: do not" \
             "remove it"
