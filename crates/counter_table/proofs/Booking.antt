@@ -96,8 +96,24 @@ module _ {B : Type 0} (told : B → Known) (count : ℕ) (words : List ℕ) (hom
   home_free free full =
       ⊎_elim (λ h. h) (λ k. ⊎_elim (λ h. absurd (false≢true (sym h.filled ∙ full))) (λ o. absurd (let t = o.turn in omega arith)) k) fits.place
 
-  pub word_taken : word ≢ 0 → word ≡ 2
-  word_taken n = ⊎_elim (λ h. absurd (n h.turn)) (λ k. ⊎_elim (λ h. absurd (n h.turn)) (λ o. o.turn) k) fits.place
+  pub out_where : word ≢ 0 → IsOut told word homes turns book filled
+  out_where n = ⊎_elim (λ h. absurd (n h.turn)) (λ k. ⊎_elim (λ h. absurd (n h.turn)) (λ o. o) k) fits.place
+
+  -- another word of the turn that is not 0
+  pub again_fits : (words' : List ℕ) → 0 < get_or words' 0 0 → get_or words' 1 0 ≡ get_or words 1 0
+      → ((row : ℕ) → row < count → get_or words' (limit_at row) 0 ≡ get_or words (limit_at row) 0)
+      → word ≢ 0 → TurnFits told count words' homes turns book filled
+  again_fits words' turn same_epoch same_limits n =
+      let o = out_where n in
+      record {
+        place = inr (inr record { turn = turn; out = o.out; held = o.held; holder = o.holder; book = o.book });
+        epoch = same_epoch ∙ fits.epoch;
+        limits = λ row b. let l = fits.limits row b in let e = same_limits row b in omega arith;
+        made = fits.made;
+        known = fits.known;
+        reached = fits.reached;
+        each = fits.each;
+      }
 
   module _ (id : ℕ) (v : Turn) (at : get_elem? turns id ≡ some v) where
     -- who holds the turn holds it alone, and knows the book
@@ -141,7 +157,7 @@ module _ {B : Type 0} (told : B → Known) (count : ℕ) (words : List ℕ) (hom
               (let k = fits.each id v at in record { earlier = k.earlier; sparing = k.sparing; epoch = let e = fits.epoch in omega arith; opening = k.opening; blank = k.blank; made = k.made; one = k.one; other = k.other }) fits.each;
         }
 
-    pub take_fits : (words' : List ℕ) (b : B) → get_or words' 0 0 ≡ 2 → get_or words' 1 0 ≡ get_or words 1 0
+    pub take_fits : (words' : List ℕ) (b : B) → 0 < get_or words' 0 0 → get_or words' 1 0 ≡ get_or words 1 0
         → ((row : ℕ) → row < count → get_or words' (limit_at row) 0 ≡ get_or words (limit_at row) 0)
         → v.filled ≡ true → IsAtHome told word homes turns book filled → told b ≡ book → homes ≡ some (Some b) ∷ []
         → TurnFits told count words' (set homes 0 slot.none) (set turns id (taking (told b) v)) book filled
@@ -371,7 +387,7 @@ module _ {B : Type 0} (told : B → Known) (count : ℕ) (words : List ℕ) (hom
           sum : holders turns ≡ 0
           sum = total_only (λ u. one_if u.holds) turns id v at (λ j u e n. ap (λ z. one_if z.holds) (alone j u e n)) ∙ is_zero v.holds free
 
-      pub empty_fits : (words' : List ℕ) → get_or words' 0 0 ≡ 2 → get_or words' 1 0 ≡ get_or words 1 0
+      pub empty_fits : (words' : List ℕ) → 0 < get_or words' 0 0 → get_or words' 1 0 ≡ get_or words 1 0
           → ((row : ℕ) → row < count → get_or words' (limit_at row) 0 ≡ get_or words (limit_at row) 0)
           → v.holds ≡ false
           → TurnFits told count words' (set homes 0 slot.none) (set turns id (record v { holds = true })) book filled

@@ -20,9 +20,9 @@ use Rattle.counter_table.specs.Rule.{next_at, limit_at, NumbersFit, TurnFits, Is
 use Rattle.counter_table.specs.Play.{no_view, takes, IsAsKnown, IsCovered, gives, empties, fills, lifts, sees, turns, looks}
 use Rattle.counter_table.proofs.Fitting.{limit_apart, limit_set, drawn_once, lift_fits as numbers_lift}
 use Rattle.counter_table.proofs.Sharing.{cut_fits, met_fits}
-use Rattle.counter_table.proofs.Booking.{home_free, word_taken, holder_knows, see_fits, take_fits, give_fits, lift_fits, turn_fits, empty_fits, fill_fits, free_of, beginner_fits, united_fits}
+use Rattle.counter_table.proofs.Booking.{home_free, again_fits, holder_knows, see_fits, take_fits, give_fits, lift_fits, turn_fits, empty_fits, fill_fits, free_of, beginner_fits, united_fits}
 use Rattle.counter_table.proofs.Alone.{as_known, covers, alone, is_whole, look}
-use Rattle.counter_table.proofs.Keeping.{numbers_of, turns_of, words_fit, at_numbers, at_turn, both_parts}
+use Rattle.counter_table.proofs.Keeping.{numbers_of, turns_of, at_numbers, at_turn, both_parts}
 use Rattle.counter_table.specs.declared.drawing.TheConstants.{ROW_WORDS}
 
 map-snoc : {A C : Type 0} (f : A → C) (l : List A) (a : A) → map f (l ++ a ∷ []) ≡ map f l ++ f a ∷ []
@@ -81,8 +81,8 @@ module _ {B : Type 0} (told : B → Known) (count : ℕ) where
   same_slot b c e = let f : List (ℕ × Option B) → Option B = first_slot in let h : Some b ≡ Some c = ap f e in cc
 
   module _ (slots id : ℕ) where
-    pub take_allows : (m : Me (Option B) View) → 0 < m.0.numbers.shares → m.0.turn.filled ≡ true → Allows (IsKept told count) slots id m 0 (λ _. 2) (takes told count m)
-    take_allows m alive full s kept size at bound = dite (ℕ_discrete (get_or s.words 0 0) 0) free taken
+    pub take_allows : (t : ℕ) → 0 < t → (m : Me (Option B) View) → 0 < m.0.numbers.shares → m.0.turn.filled ≡ true → Allows (IsKept told count) slots id m 0 (λ _. t) (takes told count m)
+    take_allows t some_turn m alive full s kept size at bound = dite (ℕ_discrete (get_or s.words 0 0) 0) free taken
       where
         fits : TurnFits told count s.words s.homes (turns_of s.views) kept.book kept.filled
         fits = kept.turn
@@ -91,9 +91,9 @@ module _ {B : Type 0} (told : B → Known) (count : ℕ) where
         mine = turn_at s id m.0 at kept
 
         words' : List ℕ
-        words' = set s.words 0 2
+        words' = set s.words 0 t
 
-        free : get_or s.words 0 0 ≡ 0 → (w : View) × (a : act.Act (Option B)) × act.Valid s.homes m.1 a × IsKept told count (act.stepped s 0 2 id m.1 w a) × takes told count m (get_or s.words 0 0) (w, act.carried_after m.1 a)
+        free : get_or s.words 0 0 ≡ 0 → (w : View) × (a : act.Act (Option B)) × act.Valid s.homes m.1 a × IsKept told count (act.stepped s 0 t id m.1 w a) × takes told count m (get_or s.words 0 0) (w, act.carried_after m.1 a)
         free zero_word =
             let k = fits.each id m.0.turn mine in
             let home = home_free told count s.words s.homes (turns_of s.views) kept.book kept.filled fits zero_word (k.opening full).0 in
@@ -102,9 +102,9 @@ module _ {B : Type 0} (told : B → Known) (count : ℕ) where
               w,
               act.takes 0 (Some b),
               ap (λ z. get_elem? z 0) home.book.1,
-              low_step s id m.0 at kept 0 2 (omega arith) (set s.homes 0 slot.none) (taking (told b) m.0.turn) kept.book kept.filled alive
-                  (take_fits told count s.words s.homes (turns_of s.views) kept.book kept.filled fits id m.0.turn mine (set s.words 0 2) b
-                  (first_set s.words kept.numbers.size 2) (get_or-set_other s.words 0 1 2 0 (λ e. omega arith)) (low_limits count s.words 0 2 (omega arith)) full home home.book.2 home.book.1),
+              low_step s id m.0 at kept 0 t (omega arith) (set s.homes 0 slot.none) (taking (told b) m.0.turn) kept.book kept.filled alive
+                  (take_fits told count s.words s.homes (turns_of s.views) kept.book kept.filled fits id m.0.turn mine (set s.words 0 t) b
+                  (let e = first_set s.words kept.numbers.size t in omega arith) (get_or-set_other s.words 0 1 t 0 (λ e. omega arith)) (low_limits count s.words 0 t (omega arith)) full home home.book.2 home.book.1),
               (
                 (λ z. (
                   b,
@@ -123,18 +123,17 @@ module _ {B : Type 0} (told : B → Known) (count : ℕ) where
               ),
             )
 
-        taken : (get_or s.words 0 0 ≢ 0) → (w : View) × (a : act.Act (Option B)) × act.Valid s.homes m.1 a × IsKept told count (act.stepped s 0 2 id m.1 w a) × takes told count m (get_or s.words 0 0) (w, act.carried_after m.1 a)
-        taken some_word =
-            let two = word_taken told count s.words s.homes (turns_of s.views) kept.book kept.filled fits some_word in (
-              m.0,
-              keeps,
-              tt,
-              low_step s id m.0 at kept 0 2 (omega arith) s.homes m.0.turn kept.book kept.filled alive
-                  (subst (λ z. TurnFits told count (set s.words 0 2) s.homes z kept.book kept.filled) (sym (set_again (turns_of s.views) id m.0.turn mine))
-                  (words_fit told count s.words (set s.words 0 2) s.homes (turns_of s.views) kept.book kept.filled (first_set s.words kept.numbers.size 2 ∙ sym two)
-                  (get_or-set_other s.words 0 1 2 0 (λ e. omega arith)) (λ row b. let l = low_limits count s.words 0 2 (omega arith) row b in let o = fits.limits row b in omega arith) fits)),
-              ((λ z. absurd (some_word z)), (λ n. refl)),
-            )
+        taken : (get_or s.words 0 0 ≢ 0) → (w : View) × (a : act.Act (Option B)) × act.Valid s.homes m.1 a × IsKept told count (act.stepped s 0 t id m.1 w a) × takes told count m (get_or s.words 0 0) (w, act.carried_after m.1 a)
+        taken some_word = (
+          m.0,
+          keeps,
+          tt,
+          low_step s id m.0 at kept 0 t (omega arith) s.homes m.0.turn kept.book kept.filled alive
+              (subst (λ z. TurnFits told count (set s.words 0 t) s.homes z kept.book kept.filled) (sym (set_again (turns_of s.views) id m.0.turn mine))
+              (again_fits told count s.words s.homes (turns_of s.views) kept.book kept.filled fits (set s.words 0 t)
+              (let e = first_set s.words kept.numbers.size t in omega arith) (get_or-set_other s.words 0 1 t 0 (λ e. omega arith)) (low_limits count s.words 0 t (omega arith)) some_word)),
+          ((λ z. absurd (some_word z)), (λ n. refl)),
+        )
 
     pub give_allows : (v : View) (b : B) → 0 < v.numbers.shares → v.turn.holds ≡ true → v.turn.filled ≡ true → MayGive v.turn.known (told b)
         → Allows (IsKept told count) slots id (v, (0, Some b) ∷ []) 0 (λ _. 0) (gives told (v, (0, Some b) ∷ []))
@@ -162,7 +161,7 @@ module _ {B : Type 0} (told : B → Known) (count : ℕ) where
           ap (λ z. get_elem? z 0) u.none,
           low_step s id v at kept 0 2 (omega arith) (set s.homes 0 slot.none) (record v.turn { holds = true }) kept.book kept.filled (omega arith)
               (empty_fits told count s.words s.homes (turns_of s.views) kept.book kept.filled kept.turn id v.turn mine others blank (set s.words 0 2)
-              (first_set s.words kept.numbers.size 2) (get_or-set_other s.words 0 1 2 0 (λ e. omega arith)) (low_limits count s.words 0 2 (omega arith)) free),
+              (let e = first_set s.words kept.numbers.size 2 in omega arith) (get_or-set_other s.words 0 1 2 0 (λ e. omega arith)) (low_limits count s.words 0 2 (omega arith)) free),
           (refl, refl),
         )
 

@@ -1,5 +1,6 @@
 -- Profile: the rule of the counters, which holds between any two steps of any workers.
--- The words are the turn (0 free, 2 taken), the epoch, and from word ROW_WORDS on ROW_WORDS words for each row.
+-- The words are the turn (0 free; else taken, and 3 if a worker waits for it), the epoch, and from word ROW_WORDS on
+-- ROW_WORDS words for each row.
 -- The first of these is `next`, and the second `limit`.
 use Rattle.std.specs.Prelude.{◌≡◌, ◌⊎◌, ℕ, ◌+◌, ◌*◌, ◌^◌, ◌<◌, ◌≤◌, max, Bool, true, false, List, [], ◌∷◌, length, map}
 use Rattle.std.specs.Prelude.{slice_index, Some, None, Option}
@@ -103,7 +104,7 @@ module _ {B : Type 0} (told : B → Known) where
 
   pub record IsOut (word : ℕ) (homes : List (slot.Option (Option B))) (views : List Turn) (known : Known)
       (full : Bool) : Type 0 where
-    pub turn : word ≡ 2
+    pub turn : 0 < word
     pub out : homes ≡ slot.none ∷ []
     pub held : total (λ v. one_if v.holds) views ≡ 1
     pub holder : (id : ℕ) (v : Turn) → get_elem? views id ≡ slot.some v → v.holds ≡ true → v.known ≡ known

@@ -21,6 +21,9 @@ const FREE: u64 = 0;
 
 const TAKEN: u64 = 2;
 
+// Taken, and waited for.
+const WAITED: u64 = 3;
+
 const EPOCH: usize = 1;
 
 impl<B: Counted> Counters<B> {
@@ -73,8 +76,9 @@ impl<B: Counted> Counters<B> {
         let Held { book } = held;
         self.put_in(&mut worker.seat, book);
         let shared = &self.table.shared;
-        shared.swap::<Gives>(&mut worker.seat, TURN, FREE);
-        shared.wake_one(TURN);
+        if shared.swap::<Gives>(&mut worker.seat, TURN, FREE) == WAITED {
+            shared.wake_one(TURN);
+        }
     }
 
     /// Lifts the row's limit to the mark of the held book, by one fetch-max.
@@ -196,11 +200,13 @@ impl<B: Counted> Counters<B> {
         // For contracts alone.
         let _rows = rows;
         let shared = &self.table.shared;
+        let mut taken = TAKEN;
         for _ in rt.forever() {
-            if shared.swap::<Takes<T>>(seat, TURN, TAKEN) == FREE {
+            if shared.swap::<Takes<T>>(seat, TURN, taken) == FREE {
                 return;
             }
-            shared.park(rt, TURN, TAKEN as u32);
+            taken = WAITED;
+            shared.park(rt, TURN, WAITED as u32);
         }
         unreachable!()
     }

@@ -1,4 +1,4 @@
-use Rattle.std.proofs.Common.{◌≡◌}
+use Rattle.std.proofs.Common.{◌≡◌, ◌<◌}
 use Rattle.counter_table.proofs.counters.Counters.seize.Given as goal
 
 abbrev pub invariant-loop : goal.invariant-loop
@@ -6,4 +6,5 @@ invariant-loop g l = record {
   table : l.seat.table_id ≡ l.initial.seat.table_id;
   id : l.seat.id ≡ l.initial.seat.id;
   me : l.seat.me ≡ l.initial.seat.me;
+  some : 0 < l.taken;
 }
