@@ -216,6 +216,7 @@ fn answer_done(done: Done, mut room: Vec<u8>) -> Answer
         done.epoch }
 {
     room.truncate(done.length);
+    room.shrink_to_fit();
     answer_under_key(code::PROTECTED, done.key, done.number, done.epoch, room)
 }
 

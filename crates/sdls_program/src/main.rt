@@ -19,7 +19,17 @@ fn words<R: Env + AllocGlobal>(rt: &R) -> Result<Vec<String>, AllocError> {
     }
 }
 
+/// The octets of a room that is taken and given back before anything else.
+const WARMING: usize = 16_777_216;
+
+/// Takes a large room, and gives it back untouched. The C library then keeps up to twice as much of what is given back,
+/// and what is taken next is found there. Else each segment's pages would go back to the system, and come anew.
+fn warm_up<R: AllocGlobal>(rt: &R) {
+    let _room: Result<Vec<u8>, AllocError> = Vec::with_capacity(rt.alloc(), WARMING);
+}
+
 fn main(rt: HostRuntime) -> ExitCode {
+    warm_up(&rt);
     let Ok(words) = words(&rt) else {
         return ExitCode::from(status::NO_MEMORY);
     };
