@@ -1,11 +1,12 @@
--- In every life no two answers use one number under one key, by identifier or by octets, and none accept one.
+-- In every life no two answers use one number under one key, and no two accept one, by identifier or by octets; and each
+-- image that it left shows a state.
 use Rattle.std.proofs.Common.{◌≡◌, ◌≢◌, ◌⊎◌, ℕ, zero, suc, ◌+◌, ◌-◌, ◌<◌, ◌≤◌, nat_lt, List, [], ◌∷◌, ◌++◌, length, take, Some, None, Option, IsSomeAnd, Bool, true, false, refl, sym, ◌∙◌, ap, subst, inl, inr, arith, append_assoc, append-nil, if◌then◌else◌}
 use Rattle.std.specs.List.{All, AllPairs, slice_index_or}
 use Rattle.std.proofs.lemmas.List.Elements.{All-append}
 use Rattle.std.proofs.lemmas.List.Kept.{AllPairs-cons}
 use Rattle.std.proofs.lemmas.Bool.Decides.{nat_tests}
 use Rattle.sdls_base.specs.declared.entry.Entry.{Entry}
-use Rattle.disk_journal.specs.Image.{held}
+use Rattle.disk_journal.specs.Image.{held, IsOpenedForm}
 use Rattle.disk_journal.specs.Forms.{Settles, StaysWithin}
 use Rattle.disk_journal.proofs.Becoming.{stays_opened}
 use Rattle.key_book.specs.declared.key_row.KeyRow.{KeyRow}
@@ -50,10 +51,11 @@ use Rattle.record_io.specs.declared.code.TheConstants.{PROTECTED, DONE}
 use Rattle.unit_plan.specs.PlanLines.{PlanLines, link_of}
 use Rattle.run_promise.specs.ProtectingFrames.{protect_reply, layout_check}
 use Rattle.run_promise.specs.Begin.{Begin}
-use Rattle.run_promise.specs.Deed.{is_protected, Deed, is_ordered, Differ}
+use Rattle.run_promise.specs.Deed.{is_protected, Deed, is_ordered, tells_entry, Differ}
 use Rattle.run_promise.specs.Sound.{EachBegun, IsCoveredBy}
-use Rattle.run_promise.specs.Life.{LifeRun, IsRun, FollowFrom, IsLife, left_by, Given, answers_begun, given_of, given_in, state_told, UsesOctets, AreApart, OnceInLife}
-use Rattle.law_runs.specs.Known.{IsShown, Knows}
+use Rattle.run_promise.specs.Life.{LifeRun, IsRun, FollowFrom, IsLife, left_by, Given, answers_begun, given_of, given_in, state_told, UsesOctets, AcceptsOctets, AreApart, OnceInLife}
+use Rattle.law_runs.specs.Known.{IsShown, Knows, ShowsKnowing, LeavesKnowing}
+use Rattle.law_runs.proofs.Initials.{initial_shows, initial_rests}
 
 all_cons : {X : Type 0} (P : X → Type 0) (x : X) (xs : List X) → P x → All P xs → All P (x ∷ xs)
 all_cons P x xs h t zero d low = h
@@ -122,6 +124,7 @@ pub record IsKnown (state : State) (given : Given) : Type 0 where
   pub below : (key number : ℕ) → Uses given.deed.answer key number → number < mark_of state key
   pub floored : (key number : ℕ) → Accepts given.deed.answer key number → number ≤ floor_of state key
   pub named : (key : ℕ) (octets : List ℕ) (number : ℕ) → UsesOctets given key octets number → IsLoadedWith state key octets
+  pub opened : (key : ℕ) (octets : List ℕ) (number : ℕ) → AcceptsOctets given key octets number → IsLoadedWith state key octets
 
 -- an image whose gate was being closed shows what it showed before, or what its opened form showed
 shown_before : (start image : List ℕ) (at_start state : State) → Shows start at_start → Settles start image → IsShown image state → IsShown start state
@@ -247,8 +250,14 @@ module _ (near : ℕ → ℕ → Type 0) (begin : Begin) (course : Course) (same
 abbrev pub ShowsOnce : Type 0
 ShowsOnce = (image : List ℕ) (one other : State) → Shows image one → Shows image other → one ≡ other
 
+-- the image shows a state
+abbrev pub ShowsSome : List ℕ → Type 0
+ShowsSome image = (state : State) × Shows image state
+
 -- what runs leave: an image, and the answers so far
 pub record IsLeft (image : List ℕ) (given : List Given) : Type 0 where
+  pub image_shows : ShowsSome image
+  pub forms_show : (form : List ℕ) → IsOpenedForm image form → ShowsSome form
   pub apart : AllPairs AreApart given
   pub known : (state : State) → IsShown image state → All (IsKnown state) given
 
@@ -299,10 +308,11 @@ module _ (once : ShowsOnce) (run : LifeRun) (is_run : IsRun run) where
         let f = kept_along run.course.plan start (records_of run.places) (TurnIn run.places) entries of 0 p key (omega arith) within in
         let s = kept_at_start key in let l = kept_low p key within in let old = h.floored key number a in omega arith;
     named = λ key octets number u. loaded_later start entries 0 p key octets (omega arith) (h.named key octets number u);
+    opened = λ key octets number u. loaded_later start entries 0 p key octets (omega arith) (h.opened key octets number u);
   }
 
   restarted_knows : (s : State) (g : Given) → IsKnown s g → IsKnown (restarted s) g
-  restarted_knows s g h = record { below = h.below; floored = h.floored; named = h.named }
+  restarted_knows s g h = record { below = h.below; floored = h.floored; named = h.named; opened = h.opened }
 
   octets_at : (k key : ℕ) (octets : List ℕ) → k ≤ length entries → octets ≢ [] → IsSomeAnd (key_row (after_first start entries k) key) (λ (held : KeyRow). held.bytes ≡ octets)
       → IsLoadedWith (after_first start entries k) key octets
@@ -359,6 +369,15 @@ module _ (once : ShowsOnce) (run : LifeRun) (is_run : IsRun run) where
           only (inl e) c = absurd (let z : false ≡ true = subst (IsCodeOf Command) e c in cc)
           only (inr e) c = e.0
 
+  -- an answer that accepts tells an entry
+  tells : (d : Deed) → Fits (NearWord start entries (records_of run.places)) run.course d.task d.answer → d.answer.code ≡ 1 → tells_entry d ≡ true
+  tells d fit code = by_kind d.task.kind refl (fits_code (NearWord start entries (records_of run.places)) run.course d.task d.answer fit)
+    where
+      by_kind : (kind : RecordKind) → d.task.kind ≡ kind → IsCodeOf d.task.kind d.answer.code → tells_entry d ≡ true
+      by_kind Protect is of = absurd (let z : false ≡ true = subst (IsCodeOf Protect) code (subst (λ (k : RecordKind). IsCodeOf k d.answer.code) is of) in cc)
+      by_kind Open is of = rw is (rw code refl)
+      by_kind Command is of = absurd (let z : false ≡ true = subst (IsCodeOf Command) code (subst (λ (k : RecordKind). IsCodeOf k d.answer.code) is of) in cc)
+
   covered_known : (p : ℕ) → p ≤ length entries → (d : Deed) → Fits (NearWord start entries (records_of run.places)) run.course d.task d.answer
       → IsCoveredBy run.begin run.course p d → IsKnown (after_first start entries p) (record { course = run.course; deed = d })
   covered_known p within d fit h = record {
@@ -368,6 +387,10 @@ module _ (once : ShowsOnce) (run : LifeRun) (is_run : IsRun run) where
         let (k, low, is) = told_before p within d fit h key number u.uses_number in
         loaded_later start entries k p key octets low
         (octets_at k key octets (omega arith) u.some (subst (λ (s : State). IsSomeAnd (key_row s key) (λ (held : KeyRow). held.bytes ≡ octets)) is u.has));
+    opened = λ key octets number u.
+        let at : d.answer.position ≤ p = h.entry (tells d fit u.accepts_number.0) in
+        loaded_later start entries (d.answer.position - 1) p key octets (omega arith)
+        (octets_at (d.answer.position - 1) key octets (omega arith) u.some u.has);
   }
 
   -- the answers that were begun fit, as all do
@@ -414,6 +437,9 @@ module _ (once : ShowsOnce) (run : LifeRun) (is_run : IsRun run) where
           let one : k ≡ l = one_key state k l octets rules (x.named k octets number u) (y.named l octets number v) in
           pairs l number (subst (λ (key : ℕ). Uses a.deed.answer key number) one u.uses_number) v.uses_number;
       accepted = accepts;
+      accepted_octets = λ k l octets number u v.
+          let one : k ≡ l = one_key state k l octets rules (x.opened k octets number u) (y.opened l octets number v) in
+          accepts l number (subst (λ (key : ℕ). Accepts a.deed.answer key number) one u.accepts_number) v.accepts_number;
     }
 
     apart_after : AllPairs AreApart (given ++ new)
@@ -452,8 +478,34 @@ module _ (once : ShowsOnce) (run : LifeRun) (is_run : IsRun run) where
           is_run.sound.accepted_above j d in' key number v in omega arith)))
     ]
 
+    -- while it was opened, the image shows what that at the start shows, or what an opened form of it shows
+    shown_after : ShowsSome run.image
+    shown_after = elim is_run.moment.image_shows [
+      | inl opening ↦ elim (stays_opened run.start run.image is_run.shows.holds.opens opening.1).holds [
+        | inl same ↦ (
+          start,
+          record {
+            what = held run.start;
+            holds = same;
+            says = subst (λ (what : _). Says what start) (sym is_run.shows.holds.is) is_run.shows.says;
+          },
+        )
+        | inr opened ↦ left.forms_show run.image opened
+      ]
+      | inr served ↦ (restarted (after_first start entries served.p), served.shows)
+    ]
+
+    forms_after : (form : List ℕ) → IsOpenedForm run.image form → ShowsSome form
+    forms_after form opened = elim is_run.moment.image_shows [
+      | inl opening ↦ elim ((stays_opened run.start run.image is_run.shows.holds.opens opening.1).forms form opened) [
+        | inl is ↦ (start, subst (λ (i : List ℕ). Shows i start) (sym is) is_run.shows)
+        | inr before ↦ left.forms_show form before
+      ]
+      | inr served ↦ let (q, above, within, shows, covers) = served.forms form opened in (restarted (after_first start entries q), shows)
+    ]
+
     pub one_more : IsLeft run.image (given ++ new)
-    one_more = record { apart = apart_after; known = known_after }
+    one_more = record { image_shows = shown_after; forms_show = forms_after; apart = apart_after; known = known_after }
 
 -- each life leaves such an image
 pub lives : ShowsOnce → (image : List ℕ) (given : List Given) (runs : List LifeRun) → IsLeft image given → FollowFrom image runs
@@ -466,7 +518,12 @@ lives once image given (run ∷ runs) left (start, is_run, follow) =
 
 life_left : ShowsOnce → (image : List ℕ) (runs : List LifeRun) → IsLife image runs → IsLeft (left_by image runs) (given_in runs)
 life_left once image runs life =
-    lives once image [] runs (record { apart = λ i j d lt low. absurd (omega arith); known = λ s shown k d low. absurd (omega arith) }) life.follow
+    lives once image [] runs (record {
+      image_shows = initial_shows image life.initial;
+      forms_show = λ form opened. absurd (initial_rests image life.initial form opened);
+      apart = λ i j d lt low. absurd (omega arith);
+      known = λ s shown k d low. absurd (omega arith);
+    }) life.follow
 
 -- no two uses of all runs have one key, by identifier or by octets, and one number, and no two acceptances
 pub once_in_life : ShowsOnce → (image : List ℕ) (runs : List LifeRun) → IsLife image runs → OnceInLife runs
@@ -478,3 +535,23 @@ pub known_in_life : ShowsOnce → (image : List ℕ) (runs : List LifeRun) → I
 known_in_life once image runs life state shown k d low =
     let known = (life_left once image runs life).known state shown k d low in
     record { below = known.below; floored = known.floored }
+
+-- the image left shows a state that knows each answer of the life, and so does each of its opened forms
+pub shown_in_life : ShowsOnce → (image : List ℕ) (runs : List LifeRun) → IsLife image runs
+    → LeavesKnowing (left_by image runs) (given_in runs)
+shown_in_life once image runs life =
+    let left : IsLeft (left_by image runs) (given_in runs) = life_left once image runs life in
+    record {
+      image_shows = record {
+        state = left.image_shows.0;
+        shows = left.image_shows.1;
+        knows = known_in_life once image runs life left.image_shows.0 (inl left.image_shows.1);
+      };
+      forms_show = λ form opened.
+          let shown = left.forms_show form opened in
+          record {
+            state = shown.0;
+            shows = shown.1;
+            knows = known_in_life once image runs life shown.0 (inr (form, opened, shown.1));
+          };
+    }

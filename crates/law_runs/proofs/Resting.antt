@@ -15,7 +15,8 @@ use Rattle.run_promise.specs.Begin.{Begin}
 use Rattle.run_promise.specs.Sound.{IsSound, SoundMoment}
 use Rattle.run_promise.specs.Call.{CallSeen, ShowsAtEntry, image_at_entry}
 use Rattle.run_promise.specs.Account.{begin_of, course_of}
-use Rattle.law_runs.specs.Reads.{ReadsSoundly, no_account, IsRead, ReadsAlone, StillShows}
+use Rattle.run_promise.specs.Lives.{no_account}
+use Rattle.law_runs.specs.Reads.{ReadsSoundly, IsRead, ReadsAlone, StillShows}
 
 none_sound : (begin : Begin) (course : Course) → begin.plan ≡ course.plan → IsPlan course.plan → KeepsRules course.start
     → IsSound begin (record course { entries = [] }) [] []

@@ -1,5 +1,6 @@
 -- What a state that a life left knows of its answers (profile).
 use Rattle.std.specs.Prelude.{◌⊎◌, ℕ, ◌<◌, ◌≤◌, List}
+use Rattle.std.specs.List.{All}
 use Rattle.disk_journal.specs.Image.{IsOpenedForm}
 use Rattle.unit_state.specs.declared.state.State.{State}
 use Rattle.unit_image.specs.Shows.{Shows}
@@ -15,3 +16,14 @@ IsShown image state = Shows image state ⊎ ((form : List ℕ) × IsOpenedForm i
 pub record Knows (state : State) (given : Given) : Type 0 where
   pub below : (key number : ℕ) → Uses given.deed.answer key number → number < mark_of state key
   pub floored : (key number : ℕ) → Accepts given.deed.answer key number → number ≤ floor_of state key
+
+-- the image shows a state, which knows each of these answers
+pub record ShowsKnowing (image : List ℕ) (given : List Given) : Type 0 where
+  pub state : State
+  pub shows : Shows image state
+  pub knows : All (Knows state) given
+
+-- so does the image, and each of its opened forms
+pub record LeavesKnowing (image : List ℕ) (given : List Given) : Type 0 where
+  pub image_shows : ShowsKnowing image given
+  pub forms_show : (form : List ℕ) → IsOpenedForm image form → ShowsKnowing form given

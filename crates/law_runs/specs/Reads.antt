@@ -10,8 +10,8 @@ use Rattle.unit_image.specs.Shows.{Shows}
 use Rattle.run_promise.specs.Call.{CallSeen, image_at_entry}
 use Rattle.unit_plan.specs.PlanLines.{PlanLines}
 use Rattle.run_promise.specs.Sound.{SoundMoment}
-use Rattle.run_promise.specs.declared.end.RunEnd.TheVariants.{Ended}
-use Rattle.run_promise.specs.Account.{Account, begin_of, course_of}
+use Rattle.run_promise.specs.Account.{begin_of, course_of}
+use Rattle.run_promise.specs.Lives.{no_account}
 
 -- the image shows what a restart leaves of a state that the image at the entry shows, and has no opened form
 abbrev pub StillShows : CallSeen → List ℕ → Type 0
@@ -27,19 +27,6 @@ IsRead call image = Leaves call.site.trace.now image ⊎ (Settles (image_at_entr
 abbrev pub ReadsAlone : CallSeen → Type 0
 ReadsAlone call = IsTrue call.site.told → EachMoment call.site.trace call.site_after.trace
     (λ image sunk. IsRead call image)
-
--- such a call did nothing
-abbrev pub no_account : CallSeen → Account
-no_account call = record {
-  came = Ended;
-  told = Ended;
-  items = [];
-  read = [];
-  part = [];
-  handled = [];
-  answers = [];
-  last = call.site.faults;
-}
 
 -- Each moment is one that a crash at the entry may leave, or a sound one of a run without records, whose octets sunk
 -- are taken as none.

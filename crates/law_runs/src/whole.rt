@@ -58,7 +58,7 @@ pub fn run_stands()
 {}
 
 /// Law: a call whose book was opened, whose records one worker served, and which released its keys and put End, ends as
-/// a run ends, and goes on with each life that left the image at its entry.
+/// a run ends, and continues each life that left the image at its entry.
 pub fn run_ends_well<O: Site>()
     ensures { (site after : O) (source source_after : SourceSeen) (first now : View) (came : RunEnd) (book : BookView O)
         (words : List ℕ) (entries : List Entry) (status : ℕ)
@@ -73,7 +73,7 @@ pub fn run_ends_well<O: Site>()
 }
 
 /// Law: a call whose book was not opened, which took nothing of its source and put End alone, ends as a run ends, and
-/// goes on with each life that left the image at its entry.
+/// continues each life that left the image at its entry.
 pub fn refused_run_ends<O: Site>()
     ensures { (site back after : O) (source : SourceSeen) (fault : OpenFault) (status : ℕ)
         → Refused O.told O.trace O.faults O.put_faults site back after fault status
@@ -93,11 +93,10 @@ pub fn no_records_are_sound()
     shown_keeps_rules();
 }
 
-/// Law: a call that reads an image and stores nothing goes on with each life that left the image at its entry, as a run
+/// Law: a call that reads an image and stores nothing continues each life that left the image at its entry, as a run
 /// without records.
 pub fn reading_keeps_lives()
-    ensures { (call : CallSeen) (plan : PlanLines) (state : State) → ShowsAtEntry call plan state → call.entries ≡ []
-        → ReadsAlone call → KeepsLivesReading call }
+    ensures { (call : CallSeen) → call.entries ≡ [] → ReadsAlone call → KeepsLivesReading call }
 {
     shows_one();
     no_records_are_sound();

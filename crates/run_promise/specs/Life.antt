@@ -1,13 +1,16 @@
 -- A life of the unit: runs one after the other, each from what a crash at a moment of the one before left (profile).
-use Rattle.std.specs.Prelude.{◌≡◌, ◌≢◌, ⊤, ℕ, ◌-◌, nat_lt, if◌then◌else◌, List, [], ◌∷◌, ◌++◌, length}
-use Rattle.std.specs.Prelude.{IsSomeAnd}
+use Rattle.std.specs.Prelude.{◌≡◌, ◌≢◌, ◌⊎◌, ⊤, ℕ, ◌-◌, nat_lt, if◌then◌else◌, List, [], ◌∷◌, ◌++◌, length}
+use Rattle.std.specs.Prelude.{IsSomeAnd, Ok}
 use Rattle.std.specs.List.{AllPairs}
+use Rattle.disk_journal.specs.Image.{held}
 use Rattle.disk_journal.specs.Initial.{initial_image}
 use Rattle.record_io.specs.declared.kinds.RecordKind.{RecordKind}
 use Rattle.record_io.specs.declared.kinds.RecordKind.TheVariants.{Protect, Open, Command}
 use Rattle.record_io.specs.declared.answers.Answer.{Answer}
+use Rattle.record_io.specs.declared.code.TheConstants.{END}
 use Rattle.record_io.specs.Answers.{answer_octets}
 use Rattle.record_io.specs.Places.{Place}
+use Rattle.unit_plan.specs.Plan.{plan_of}
 use Rattle.unit_plan.specs.PlanLines.{PlanLines}
 use Rattle.unit_state.specs.declared.state.State.{State}
 use Rattle.unit_state.specs.State.{key_row}
@@ -30,9 +33,16 @@ pub record LifeRun : Type 0 where
   pub image : List ℕ
   pub sunk : List ℕ
 
--- the image at its start shows the state that it began with; the run is sound, and so is the moment at which it ended
+-- the octets of one End, or none
+abbrev pub AreEnd : List ℕ → Type 0
+AreEnd octets = (octets ≡ []) ⊎ ((end : Answer) × (end.code ≡ END) × (octets ≡ answer_octets end))
+
+-- The image at its start says the plan and shows the state that it began with; behind its answers the octets of one End
+-- are due, or none; the run is sound, and so is the moment at which it ended.
 pub record IsRun (run : LifeRun) : Type 0 where
+  pub says : plan_of (held run.start).plan ≡ Ok run.course.plan
   pub shows : Shows run.start run.course.start
+  pub ended : AreEnd run.ends
   pub sound : IsSound run.begin run.course run.places run.deeds
   pub moment : SoundMoment run.begin run.course run.deeds run.ends run.start run.image run.sunk
 
@@ -89,12 +99,20 @@ pub record UsesOctets (given : Given) (key : ℕ) (octets : List ℕ) (number : 
   pub has : IsSomeAnd (key_row (state_told given.deed.task.kind given.course given.deed.answer) key)
       (λ held. held.bytes ≡ octets)
 
--- Two answers of a life: they use no number under one key, by identifier or by octets, and accept none under one key.
+-- the answer accepts the number under a key that had these octets
+pub record AcceptsOctets (given : Given) (key : ℕ) (octets : List ℕ) (number : ℕ) : Type 0 where
+  pub accepts_number : Accepts given.deed.answer key number
+  pub some : octets ≢ []
+  pub has : IsSomeAnd (key_row (state_before given.course given.deed.answer) key) (λ held. held.bytes ≡ octets)
+
+-- Two answers of a life: they use no number under one key, and accept none under one key, by identifier or by octets.
 pub record AreApart (one other : Given) : Type 0 where
   pub by_identifier : (key number : ℕ) → Uses one.deed.answer key number → Uses other.deed.answer key number → ⊥
   pub by_octets : (a b : ℕ) (octets : List ℕ) (number : ℕ) → UsesOctets one a octets number
       → UsesOctets other b octets number → ⊥
   pub accepted : (key number : ℕ) → Accepts one.deed.answer key number → Accepts other.deed.answer key number → ⊥
+  pub accepted_octets : (a b : ℕ) (octets : List ℕ) (number : ℕ) → AcceptsOctets one a octets number
+      → AcceptsOctets other b octets number → ⊥
 
 abbrev pub OnceInLife : List LifeRun → Type 0
 OnceInLife runs = AllPairs AreApart (given_in runs)

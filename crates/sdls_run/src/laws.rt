@@ -1,20 +1,18 @@
 //! The law that joins `stat` to the lives of a unit.
 ghost use Rattle.std.specs.Prelude.{◌≡◌, []};
 ghost use Rattle.sdls_outside.specs.Faults.{Rose};
-ghost use Rattle.unit_plan.specs.PlanLines.{PlanLines};
-ghost use Rattle.unit_state.specs.declared.state.State.{State};
-ghost use Rattle.run_promise.specs.Call.{CallSeen, ShowsAtEntry};
+ghost use Rattle.run_promise.specs.Call.{CallSeen};
 ghost use Rattle.run_promise.specs.Lives.{KeepsLivesReading};
 ghost use Rattle.sdls_plain.specs.Stat.{EndsStat};
 
 use law_runs::reading_keeps_lives;
 
-/// Law: a call that ends as `stat` does, and makes no entry, goes on with each life that left the image at its entry.
+/// Law: a call that ends as `stat` does, and makes no entry, continues each life that left the image at its entry.
 pub fn stat_keeps_lives()
     ensures { (call : CallSeen) → call.entries ≡ []
         → EndsStat call.site.told call.site.trace call.site_after.trace (Rose call.site.faults call.site_after.faults)
         call.status
-        → (plan : PlanLines) (state : State) → ShowsAtEntry call plan state → KeepsLivesReading call }
+        → KeepsLivesReading call }
 {
     reading_keeps_lives();
 }

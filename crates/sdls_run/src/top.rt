@@ -2,9 +2,7 @@ ghost use Rattle.std.specs.Prelude.{◌≡◌, ◌≢◌, ℕ, List, [], IsTrue}
 ghost use Rattle.sdls_outside.specs.Faults.{Rose};
 ghost use Rattle.sdls_outside.specs.Output.{OnlySinks};
 ghost use Rattle.record_io.specs.Reading.{SourceSeen};
-ghost use Rattle.unit_plan.specs.PlanLines.{PlanLines};
-ghost use Rattle.unit_state.specs.declared.state.State.{State};
-ghost use Rattle.run_promise.specs.Call.{CallSeen, ShowsAtEntry, call_seen};
+ghost use Rattle.run_promise.specs.Call.{CallSeen, call_seen};
 ghost use Rattle.run_promise.specs.Lives.{EndsAndLives, KeepsLivesReading};
 ghost use Rattle.sdls_plain.specs.Answer.{EndsCheck, usage_text};
 ghost use Rattle.record_io.specs.Outcome.{Ends};
@@ -46,8 +44,8 @@ pub fn run<R: Threads + Wait + Sync, S: Source, O: Site + Send, G: Gate + Sync>(
     site: O,
     gate: &G,
 ) -> Outcome<O>
-    // Each moment of the run is early or sound, and goes on with each life that left the image at the entry; why it
-    // ends is told.
+    // Each moment of the run is early or sound, and adds the run itself to each life that left the image at the entry; why
+    // it ends has its cause.
     ensures run { IsRunWord words.now →
         let before : SourceSeen = record { told = S.told; left = S.left source.old; faults = S.faults source.old } in
         let after : SourceSeen = record { told = S.told; left = S.left source.new; faults = S.faults source.new } in
@@ -71,13 +69,13 @@ pub fn run<R: Threads + Wait + Sync, S: Source, O: Site + Send, G: Gate + Sync>(
         → EndsStat O.told (O.trace site) (O.trace result.site) (Rose (O.faults site) (O.faults result.site))
         result.status }
     ensures unread { IsStat words.now → source.new ≡ source.old }
-    // It goes on with each life that left the image at the entry, as a run without records.
-    ensures stat_lives { IsStat words.now → (plan : PlanLines) (state : State) →
+    // It continues each life that left the image at the entry, as a run without records.
+    ensures stat_lives { IsStat words.now →
         let before : SourceSeen = record { told = S.told; left = S.left source.old; faults = S.faults source.old } in
         let after : SourceSeen = record { told = S.told; left = S.left source.new; faults = S.faults source.new } in
         let call : CallSeen = call_seen O.told O.trace O.faults O.put_faults site result.site before after result.status
         result.entries.items in
-        ShowsAtEntry call plan state → KeepsLivesReading call }
+        KeepsLivesReading call }
 
     // A drill puts the counts of the answers of its own two units, which are all frames where no answer tells want of
     // memory. To the site nothing is done but to put, and the image stays.

@@ -7,9 +7,8 @@ returns g c = λ site back after source fault status refused.
       ends = refused_ends g.O.Site.told g.O.Site.trace g.O.Site.faults g.O.Site.put_faults site back after source fault status refused
           (λ o is_told. g.met.O.Site.image_may_stay o is_told) c.refused_with_one.ensures.one
           c.shown_keeps_rules.ensures.plan c.shown_keeps_rules.ensures.state c.shown_keeps_rules.ensures.left;
-      lives = λ plan state shows is_told.
-          c.sound_call_keeps_lives.ensures _ _ plan state shows
+      lives = c.sound_call_keeps_lives.ensures _ _ (λ is_told plan state shows.
           ((refused_ends g.O.Site.told g.O.Site.trace g.O.Site.faults g.O.Site.put_faults site back after source fault status refused
           (λ o is_told. g.met.O.Site.image_may_stay o is_told) c.refused_with_one.ensures.one
-          c.shown_keeps_rules.ensures.plan c.shown_keeps_rules.ensures.state c.shown_keeps_rules.ensures.left).sound is_told plan state shows).sound is_told;
+          c.shown_keeps_rules.ensures.plan c.shown_keeps_rules.ensures.state c.shown_keeps_rules.ensures.left).sound is_told plan state shows).sound);
     }

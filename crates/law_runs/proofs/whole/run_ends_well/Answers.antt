@@ -7,8 +7,7 @@ returns g c = λ site after source source_after first now came book words entrie
     record {
       ends = run_ends_so told g.O.Site.trace g.O.Site.faults g.O.Site.put_faults site after source source_after first now came book words entries status ran end
           c.shows_one.ensures c.refused_with_one.ensures.none slots;
-      lives = λ plan state shows is_told.
-          c.sound_call_keeps_lives.ensures _ _ plan state shows
+      lives = c.sound_call_keeps_lives.ensures _ _ (λ is_told plan state shows.
           ((run_ends_so told g.O.Site.trace g.O.Site.faults g.O.Site.put_faults site after source source_after first now came book words entries status ran end
-          c.shows_one.ensures c.refused_with_one.ensures.none slots).sound is_told plan state shows).sound is_told;
+          c.shows_one.ensures c.refused_with_one.ensures.none slots).sound is_told plan state shows).sound);
     }
