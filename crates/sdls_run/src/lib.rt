@@ -13,7 +13,6 @@
 mod laws;
 mod top;
 
-pub use frame_workers::{Gate, OpenGate};
 // The laws on what `run` promises: of lives, of what a status says, and of one lane alone.
 pub use law_runs::{
     covered_in_a_life, due_is_put, faults_are_told, full_is_told, goes_to_its_end,
@@ -23,3 +22,4 @@ pub use law_runs::{
 pub use record_io::{Outcome, status};
 pub use sdls_plain::{InitEnd, Refusal, check_frame, run_plain};
 pub use top::run;
+pub use unit_session::{Gate, OpenGate};

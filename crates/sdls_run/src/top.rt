@@ -14,7 +14,6 @@ ghost use Rattle.unit_drill.specs.Drilled.{EndsDrill};
 ghost use Rattle.unit_drill.specs.Words.{IsDrill};
 
 use crate::laws::stat_keeps_lives;
-use frame_workers::Gate;
 use record_io::Outcome;
 use record_io::status::USAGE;
 use sdls_outside::{Site, Source};
@@ -23,7 +22,7 @@ use std::alloc::Global;
 use std::sync::Wait;
 use std::thread::Threads;
 use unit_drill::{drill, drill_number};
-use unit_session::run_recorded;
+use unit_session::{Gate, run_recorded};
 
 /// Serves the words after the program's name, and answers the status, the site and the run's entries.
 ///

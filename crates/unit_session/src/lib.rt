@@ -9,6 +9,7 @@ mod serving;
 mod session;
 
 pub use ending::finish;
+pub use frame_workers::{Gate, OpenGate};
 pub use running::run_recorded;
 pub use serving::Stop;
 pub use session::Session;
