@@ -1,11 +1,12 @@
 -- All lanes of a segment, split off, run and joined.
-use Rattle.std.proofs.Common.{◌≡◌, ℕ, zero, suc, ◌+◌, ◌-◌, ◌<◌, ◌≤◌, ◌==◌, ◌⊎◌, List, [], ◌∷◌, ◌++◌, length, take, drop, get_or, Bool, true, false, cond, if◌then◌else◌, ◌||◌, Some, None, Option, refl, sym, ◌∙◌, ap, subst, inl, inr, arith, length-append, append-nil}
+use Rattle.std.proofs.Common.{◌≡◌, ◌≢◌, ℕ, zero, suc, ◌+◌, ◌-◌, ◌<◌, ◌≤◌, ◌==◌, ◌⊎◌, List, [], ◌∷◌, ◌++◌, length, take, drop, get_or, Bool, true, false, cond, if◌then◌else◌, ◌||◌, Some, None, Option, refl, sym, ◌∙◌, ap, subst, inl, inr, arith, length-append, append-nil, append_assoc}
 use Rattle.std.specs.List.{All, AllPairs, Contains, list_any, slice_get, slice_index_or}
-use Rattle.std.proofs.lemmas.Bool.{cases_eq}
+use Rattle.std.proofs.lemmas.Bool.{cases_eq, cases_lt}
 use Rattle.std.proofs.lemmas.Bool.Decides.{nat_tests}
-use Rattle.std.proofs.lemmas.List.{take_all, drop_all, length-take}
+use Rattle.std.proofs.lemmas.List.{take_all, drop_all, length-take, get_or_default}
 use Rattle.std.proofs.lemmas.List.Elements.{All-contains}
 use Rattle.sdls_base.specs.declared.TheConstants.{MOST_KEYS}
+use Rattle.sdls_base.specs.declared.entry.Logged.{Logged}
 use Rattle.counter_table.specs.declared.counters.Worker.{Worker}
 use Rattle.counter_table.specs.declared.view.View.{View}
 use Rattle.counter_table.specs.Worker.{view}
@@ -13,20 +14,23 @@ use Rattle.record_io.specs.declared.records.Record.{Record}
 use Rattle.record_io.specs.declared.answers.Answer.{Answer}
 use Rattle.record_io.specs.declared.kinds.TheConstants.{LANES}
 use Rattle.run_promise.specs.Begin.{Begin}
-use Rattle.law_workers.specs.Views.{KnowsMore, keeping, starting, meeting, Meets}
-use Rattle.law_workers.specs.Deeds.{deeds_of}
+use Rattle.run_promise.specs.Counts.{is_of_record, count_at}
+use Rattle.law_workers.specs.Views.{KnowsMore, keeping, starting, meeting, Meets, log_of}
+use Rattle.law_workers.specs.Work.{indexed}
+use Rattle.law_workers.specs.Deeds.{deeds_of, Ascend}
 use Rattle.law_workers.specs.Order.{Layout, LiesIn, Handled}
 use Rattle.law_workers.specs.Lanes.{is_of_lane, of_lane, giving_shares, Part, DidPart, meeting_all, MeetAll, parts_deeds}
 use Rattle.law_workers.proofs.Joining.{grows_itself, grows_further}
-use Rattle.law_workers.proofs.Handling.{handled_nothing}
-use Rattle.law_workers.proofs.Lanes.{lanes_handled, lanes_grow}
+use Rattle.law_workers.proofs.Logs.{count_at_both, count_kept, same_behind}
+use Rattle.law_workers.proofs.Handling.{handled_nothing, record_indexed}
+use Rattle.law_workers.proofs.Lanes.{lanes_handled, lanes_grow, tasks_are, of_lane_within}
 use Rattle.frame_workers.specs.declared.lane.Lane.{Lane}
 use Rattle.law_workers.specs.Alone.{MovedInTurn, ServedAlone}
 use Rattle.law_workers.specs.Ends.{IsFullFor, EndsSegment}
 use Rattle.law_workers.specs.Began.{BeganWith}
 use Rattle.frame_workers.specs.Lanes.{HasRun, IsSplit, part_of, parts_of, answers_of, HaveOwnNumbers, IsThere, StopsAt}
 use Rattle.frame_workers.proofs.Keeping.{begun_at, began_at}
-use Rattle.frame_workers.proofs.Steps.{lane_next, lane_whole}
+use Rattle.frame_workers.proofs.Steps.{lane_next, lane_whole, none_of_it}
 use Rattle.frame_workers.proofs.Fulls.{full_stays, looked_back}
 use Rattle.frame_workers.proofs.Exactly.{looked, none_exactly, joined_exactly}
 use Rattle.frame_workers.proofs.Joins.{parts_all, parts_apart, parts_counted, part_among, answers_found}
@@ -121,6 +125,46 @@ few_of begin v w ts xs true (task, there, is) = let low = (found ts (length xs) 
 none_of : (xs : List Answer) → length xs ≡ 0 → xs ≡ []
 none_of [] h = refl
 none_of (x ∷ xs) h = absurd (omega arith)
+
+-- the places that lanes made
+made_of : List Part → List ℕ
+made_of [] = []
+made_of (p ∷ parts) = p.knows.turn.made ++ made_of parts
+
+made_met : (now : View) (parts : List Part) → (meeting_all now parts).turn.made ≡ now.turn.made ++ made_of parts
+unfolding made_of
+made_met now [] = sym (append-nil now.turn.made)
+made_met now (p ∷ parts) = made_met (meeting now p.knows) parts ∙ append_assoc now.turn.made p.knows.turn.made (made_of parts)
+
+none_of_parts : (test : Option Logged → Bool) (log : List Logged) (parts : List Part) → All (λ (p : Part). count_at test log p.knows.turn.made ≡ 0) parts
+    → count_at test log (made_of parts) ≡ 0
+unfolding made_of
+none_of_parts test log [] none = refl
+none_of_parts test log (p ∷ parts) none =
+    let first : count_at test log p.knows.turn.made ≡ 0 = none 0 p (omega arith) in
+    let rest = none_of_parts test log parts (λ k d low. none (suc k) d (omega arith)) in
+    let both = count_at_both test log p.knows.turn.made (made_of parts) in omega arith
+
+-- no record of another lane has the number
+none_elsewhere : (n : ℕ) (rs : List Record) (r : Record) (p : ℕ) → slice_get rs p ≡ Some r → Ascend rs → r.lane ≢ n → indexed r.index (of_lane n rs) ≡ 0
+none_elsewhere n rs r p at up off = none_of_it (indexed r.index (of_lane n rs)) (λ some.
+    let (t, there, same) = record_indexed r.index (of_lane n rs) some in
+    let lane : t.lane ≡ n = All-contains (λ (t : Record). t.lane ≡ n) (of_lane n rs) t (tasks_are n rs) there in
+    let (q, inside, here) = All-contains (Contains rs) (of_lane n rs) t (of_lane_within n rs) there in
+    let (low, is) = found rs p r at in
+    let one : slice_index_or rs p t ≡ r = get_or_default rs p t r low ∙ sym is in
+    let first : (slice_index_or rs p t).index ≡ r.index = ap (λ (x : Record). x.index) one in
+    let other : (slice_index_or rs q t).index ≡ t.index = ap (λ (x : Record). x.index) here in
+    elim (cases_lt p q) [
+      | inl less ↦ let a = up p q t less inside in omega arith
+      | inr le ↦ elim (cases_lt q p) [
+        | inl less ↦ let a = up q p t less low in omega arith
+        | inr ge ↦
+            let places : p ≡ q = omega arith in
+            let are : r ≡ t = sym one ∙ (ap (λ (k : ℕ). slice_index_or rs k t) places ∙ here) in
+            off (ap (λ (x : Record). x.lane) are ∙ lane)
+      ]
+    ])
 
 module _ {B : Type 0} (ready : Worker B → Type 0) (told : Bool) (rs : List Record) (base : View) (old new : List (Lane B))
     (split : All (IsSplit ready rs base) old) (apart : AllPairs HaveOwnNumbers old)
@@ -312,22 +356,34 @@ module _ {B : Type 0} (ready : Worker B → Type 0) (told : Bool) (rs : List Rec
       starts : KnowsMore base (starting base)
       starts = record { nexts = λ r. omega arith; earlier = (grows_itself base).earlier; opening = refl; epochs = omega arith }
 
-      -- the first record without an answer is one for which the history is full
-      pub all_ends : (begin : Begin) → BeganWith told begin base.turn.known.opening → All (λ (t : Record). t.lane < LANES) rs → (answers : List Answer)
+      -- a worker of a lane knew no more than the last one
+      lane_grows : (k : ℕ) (lane : Lane B) → k < length old → KnowsMore (view (slice_index_or new k lane).worker) last
+      lane_grows k lane low = grows_further (view (slice_index_or new k lane).worker) joined last
+          (All-contains (λ (p : Part). KnowsMore p.knows joined) (parts_of new) (part_of (slice_index_or new k lane)) joined_grows (part_among new k lane (omega arith))) last_grows
+
+      -- what the lanes made, the last one made, and the one that they were split from
+      last_made : last.turn.made ≡ base.turn.made ++ made_of (parts_of new)
+      last_made = append-nil (meeting_all now (parts_of new)).turn.made
+          ∙ (made_met now (parts_of new) ∙ ap (λ (v : View). v.turn.made ++ made_of (parts_of new)) given)
+
+      -- the first record without an answer is one for which the history is full, and none of the lines made is its entry
+      pub all_ends : (begin : Begin) → BeganWith told begin base.turn.known.opening → All (λ (t : Record). t.lane < LANES) rs → Ascend rs → (answers : List Answer)
           → StopsAt rs (λ n. answers_of n (parts_of new)) (length answers) → EndsSegment begin base last rs answers true
-      all_ends begin b lanes answers stop =
+      all_ends begin b lanes up answers stop =
           let r : Record = stop.task in
           let place = found rs (length answers) r stop.there in
           let below : r.lane < LANES = subst (λ (t : Record). t.lane < LANES) (sym place.1) (lanes (length answers) r place.0) in
           let there = each r.lane below (used rs (length answers) r stop.there) in
-          go stop place there
+          go stop there
         where
-          go : (stop : StopsAt rs (λ n. answers_of n (parts_of new)) (length answers)) → (length answers < length rs) × (stop.task ≡ get_or rs (length answers) stop.task)
-              → IsThere stop.task.lane old → EndsSegment begin base last rs answers true
-          go stop place (lane, (k, low, here), number) =
+          -- the lane of the record stopped there
+          lane_full : (stop : StopsAt rs (λ n. answers_of n (parts_of new)) (length answers)) → (k : ℕ) (lane : Lane B) → k < length old
+              → (slice_index_or old k lane).number ≡ stop.task.lane
+              → IsFullFor begin (view (slice_index_or old k lane).worker) (view (slice_index_or new k lane).worker) stop.task
+          lane_full stop k lane low at_old =
               let r : Record = stop.task in
+              let place = found rs (length answers) stop.task stop.there in
               let run = ran k lane low in
-              let at_old : (slice_index_or old k lane).number ≡ r.lane = ap (λ (l : Lane B). l.number) here ∙ number in
               let at_new : (slice_index_or new k lane).number ≡ r.lane = run.number ∙ at_old in
               let its = answers_found new k lane new_apart (omega arith) in
               let size : length (slice_index_or new k lane).answers.items ≡ length (of_lane r.lane (take (length answers) rs)) =
@@ -337,18 +393,56 @@ module _ {B : Type 0} (ready : Worker B → Type 0) (told : Bool) (rs : List Rec
               let ends : EndsSegment begin v w (of_lane r.lane rs) (slice_index_or new k lane).answers.items (slice_index_or new k lane).full =
               subst (λ (n : ℕ). EndsSegment begin v w (of_lane n rs) (slice_index_or new k lane).answers.items (slice_index_or new k lane).full) at_old
               (run.ends begin (began begin b k lane low)) in
-              let low_grows : KnowsMore base v = subst (KnowsMore base) (sym (split k lane low).from) starts in
-              let high_grows : KnowsMore w last = grows_further w joined last
-              (All-contains (λ (p : Part). KnowsMore p.knows joined) (parts_of new) (part_of (slice_index_or new k lane)) joined_grows (part_among new k lane (omega arith))) last_grows in
               let next = lane_next r.lane rs (length answers) r place.1 place.0 own in
               let whole = ap length (lane_whole r.lane rs (length answers) r place.1 place.0 own) ∙ length-append (of_lane r.lane (take (length answers) rs)) _ in
-              cases r stop.there v w low_grows high_grows (of_lane r.lane rs) (slice_index_or new k lane).answers.items (length (of_lane r.lane (take (length answers) rs)))
+              cases r v w (of_lane r.lane rs) (slice_index_or new k lane).answers.items (length (of_lane r.lane (take (length answers) rs)))
               size next (omega arith) (slice_index_or new k lane).full ends
             where
-              cases : (r : Record) → slice_get rs (length answers) ≡ Some r → (v w : View) → KnowsMore base v → KnowsMore w last → (own : List Record) (xs : List Answer) (m : ℕ)
-                  → length xs ≡ m → slice_get own m ≡ Some r → m < length own → (full : Bool) → EndsSegment begin v w own xs full → EndsSegment begin base last rs answers true
-              cases r there v w low_grows high_grows own xs m size next more false e = absurd (let f : length xs ≡ length own = e in omega arith)
-              cases r there v w low_grows high_grows own xs m size next more true (task, at, full) =
+              cases : (r : Record) (v w : View) (own : List Record) (xs : List Answer) (m : ℕ)
+                  → length xs ≡ m → slice_get own m ≡ Some r → m < length own → (full : Bool) → EndsSegment begin v w own xs full → IsFullFor begin v w r
+              cases r v w own xs m size next more false e = absurd (let f : length xs ≡ length own = e in omega arith)
+              cases r v w own xs m size next more true (task, at, full) =
                   let other : Some task ≡ Some r = sym at ∙ (ap (slice_get own) size ∙ next) in
                   let same : task ≡ r = cc in
-                  (r, there, full_stays begin base v w last r low_grows high_grows (subst (IsFullFor begin v w) same full))
+                  subst (IsFullFor begin v w) same full
+
+          -- no lane made an entry of it
+          lane_none : (stop : StopsAt rs (λ n. answers_of n (parts_of new)) (length answers)) → (k : ℕ) (lane : Lane B) → k < length old
+              → count_at (is_of_record stop.task.index) (log_of last) (view (slice_index_or new k lane).worker).turn.made ≡ 0
+          lane_none stop k lane low =
+              let r : Record = stop.task in
+              let w : View = view (slice_index_or new k lane).worker in
+              let layout : Layout = record { lane_of = λ i. 0; segment_of = λ i. 0 } in
+              let h = (ran k lane low).handled begin layout 0 (began begin b k lane low) in
+              let grows = lane_grows k lane low in
+              let none_old : (view (slice_index_or old k lane).worker).turn.made ≡ [] = ap (λ (v : View). v.turn.made) (split k lane low).from in
+              let made_is : w.turn.made ≡ h.does.gains.made = h.does.gained.made ∙ ap (λ (l : List ℕ). l ++ h.does.gains.made) none_old in
+              let kept : count_at (is_of_record stop.task.index) (log_of last) h.does.gains.made ≡ count_at (is_of_record stop.task.index) (log_of w) h.does.gains.made =
+              ap (λ (l : List Logged). count_at (is_of_record stop.task.index) l h.does.gains.made) grows.earlier.log.1
+              ∙ count_kept (is_of_record stop.task.index) (log_of w) grows.earlier.log.0 h.does.gains.made (λ x there. (h.does.works.made x there).1) in
+              let all : count_at (is_of_record stop.task.index) (log_of last) w.turn.made ≡ count_at (is_of_record stop.task.index) (log_of w) h.does.gains.made =
+              ap (count_at (is_of_record stop.task.index) (log_of last)) made_is ∙ kept in
+              elim (cases_eq (slice_index_or old k lane).number r.lane) [
+                | inl own ↦ all ∙ (lane_full stop k lane low own).unmade h.does.gains.made h.does.gained.made
+                | inr off ↦
+                    let few = h.does.works.one_entry stop.task.index in
+                    let none = none_elsewhere (slice_index_or old k lane).number rs stop.task (length answers) stop.there up (λ same. off (sym same)) in
+                    omega arith
+              ]
+
+          go : (stop : StopsAt rs (λ n. answers_of n (parts_of new)) (length answers)) → IsThere stop.task.lane old → EndsSegment begin base last rs answers true
+          go stop (lane, (k, low, here), number) =
+              let r : Record = stop.task in
+              let at_old : (slice_index_or old k lane).number ≡ r.lane = ap (λ (l : Lane B). l.number) here ∙ number in
+              let v : View = view (slice_index_or old k lane).worker in let w : View = view (slice_index_or new k lane).worker in
+              let low_grows : KnowsMore base v = subst (KnowsMore base) (sym (split k lane low).from) starts in (
+                stop.task,
+                stop.there,
+                full_stays begin base v w last stop.task low_grows (lane_grows k lane low) (lane_full stop k lane low at_old)
+                    (λ made is.
+                    let same : made ≡ made_of (parts_of new) = same_behind base.turn.made made (made_of (parts_of new)) (sym is ∙ last_made) in
+                    ap (count_at (is_of_record stop.task.index) (log_of last)) same
+                    ∙ none_of_parts (is_of_record stop.task.index) (log_of last) (parts_of new)
+                    (parts_all (λ (p : Part). count_at (is_of_record stop.task.index) (log_of last) p.knows.turn.made ≡ 0) new
+                    (λ j d inside. lane_none stop j d (omega arith)))),
+              )

@@ -1,5 +1,5 @@
 -- A lane's records, handled one after the other.
-use Rattle.std.proofs.Common.{◌≡◌, ℕ, suc, ◌+◌, ◌<◌, ◌≤◌, List, [], ◌∷◌, ◌++◌, length, take, drop, get_or, Bool, true, false, cond, Some, refl, sym, ◌∙◌, ap, subst, arith, append_assoc, append-nil, length-append}
+use Rattle.std.proofs.Common.{◌≡◌, ℕ, zero, suc, eqb, eq-eqb, ◌+◌, ◌<◌, ◌≤◌, List, [], ◌∷◌, ◌++◌, length, take, drop, get_or, Bool, true, false, cond, Some, refl, sym, ◌∙◌, ap, subst, arith, append_assoc, append-nil, length-append}
 use Rattle.std.specs.List.{All, filter, slice_get, slice_index_or}
 use Rattle.std.proofs.lemmas.List.{take-append-drop, length-take, get_or_append_left, get_or-append-add, get_or_default}
 use Rattle.std.proofs.Math.Seq.{drop-cons}
@@ -10,6 +10,7 @@ use Rattle.record_io.specs.declared.records.Record.{Record}
 use Rattle.record_io.specs.declared.answers.Answer.{Answer}
 use Rattle.run_promise.specs.Begin.{Begin}
 use Rattle.run_promise.specs.Deed.{Deed, deed_of}
+use Rattle.law_workers.specs.Work.{indexed}
 use Rattle.law_workers.specs.Deeds.{deeds_of, Ascend}
 use Rattle.law_workers.specs.Order.{Layout, Handled, ComeBefore}
 use Rattle.law_workers.specs.Lanes.{is_of_lane, of_lane}
@@ -84,6 +85,11 @@ module _ (layout : Layout) (begin : Begin) (u v w : View) (s : ℕ) (ts us : Lis
       subst (λ (l : List Record). Handled layout begin u w l (deeds_of s (ts ++ r ∷ us) xs)) (append_assoc ts (r ∷ []) us)
       (subst (Handled layout begin u w ((ts ++ r ∷ []) ++ us)) (sym (deeds_short s ts (r ∷ us) xs size)) all)
 
+-- what is not above zero is zero
+pub none_of_it : (n : ℕ) → (0 < n → ⊥) → n ≡ 0
+none_of_it zero none = refl
+none_of_it (suc n) none = absurd (none (omega arith))
+
 filtered_short : {X : Type 0} (p : X → Bool) (xs : List X) → length (filter p xs) ≤ length xs
 filtered_short p [] = omega arith
 filtered_short p (x ∷ xs) = let h = filtered_short p xs in go (p x) h
@@ -124,6 +130,14 @@ module _ (n : ℕ) (rs : List Record) (k : ℕ) (r : Record) (here : r ≡ get_o
 
   ascends : Ascend rs → is_of_lane n r ≡ true → Ascend (of_lane n (take k rs) ++ r ∷ of_lane n (drop (suc k) rs))
   ascends up is = subst Ascend (lane_whole is) (AllPairs-filter (λ (x y : Record). x.index < y.index) (is_of_lane n) rs up)
+
+  -- none of the records of the lane before it has its number
+  pub lane_first : Ascend rs → is_of_lane n r ≡ true → indexed r.index (of_lane n (take k rs)) ≡ 0
+  lane_first up is =
+      let own : eqb r.index r.index ≡ true = eq-eqb r.index r.index refl in
+      let there : 0 < indexed r.index (r ∷ of_lane n (drop (suc k) rs)) = rw own (omega arith) in
+      none_of_it (indexed r.index (of_lane n (take k rs))) (λ some.
+      let less = first_before (of_lane n (take k rs)) (r ∷ of_lane n (drop (suc k) rs)) (ascends up is) r.index r.index some there in omega arith)
 
   module _ (layout : Layout) (begin : Begin) (u v w : View) (s : ℕ) (xs : List Answer) (is : is_of_lane n r ≡ true) (up : Ascend rs)
       (size : length xs ≡ length (of_lane n (take k rs))) where

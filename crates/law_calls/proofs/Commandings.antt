@@ -18,7 +18,7 @@ use Rattle.key_book.specs.KeyBook.{place_of}
 use Rattle.record_io.specs.declared.kinds.RecordKind.{RecordKind}
 use Rattle.record_io.specs.declared.kinds.RecordKind.TheVariants.{Protect, Command}
 use Rattle.record_io.specs.declared.records.Record.{Record}
-use Rattle.record_io.specs.declared.code.TheConstants.{SITE_FAULT}
+use Rattle.record_io.specs.declared.code.TheConstants.{SITE_FAULT, JOURNAL_FULL, NO_MEMORY}
 use Rattle.unit_state.specs.declared.state.State.{State}
 use Rattle.unit_state.specs.State.{key_row}
 use Rattle.unit_state.specs.History.{after}
@@ -55,7 +55,8 @@ use Rattle.law_calls.specs.Answering.{Answered, answer_of, fault_answer, command
 use Rattle.law_calls.proofs.Counting.{Shows, counted_none, raise_shows, draws_shows, uses_shows, out_shows}
 use Rattle.law_calls.proofs.Fitted.{commanded_fits}
 use Rattle.law_calls.proofs.Visit.{row_below, row_known, led_known, found_within}
-use Rattle.law_calls.proofs.Stages.{Call, Stage, Added, stage_found, barred, unstored, made, wanting}
+use Rattle.law_calls.proofs.OneRecord.{answered_so}
+use Rattle.law_calls.proofs.Stages.{Call, Stage, Added, stage_found, barred, unstored, made, wanting, low_made}
 use Rattle.law_calls.proofs.Reserves.{reserved, refused}
 
 not_protect : (kind : RecordKind) → kind ≡ Command → kind ≢ Protect
@@ -256,17 +257,24 @@ module _ {O : Type 0} (told : Bool) (trace : O → Trace) (faults puts : O → �
     plain (replies.Done key n pdu) is = absurd (omega arith)
     plain (replies.Refused code value) is = absurd (omega arith)
 
+    low : (reply : Reply) → (replied_told reply).code < JOURNAL_FULL
+    low (replies.Done key n pdu) = omega arith
+    low (replies.Refused code value) = omega arith
+
     own_few : 0 + length s.es ≤ drawers (c.task ∷ [])
     own_few = let f = s.stage.few in omega arith
 
     handled : (reply : Reply) (position : ℕ) → Handles faults c.task.index c.task.octets seen middle c.given reply position
         → Answered c.layout c.begin c.segment c.old_view c.new_view c.task (Some (answer_of (replied_told reply) position))
     handled reply position h =
-        made told trace faults puts c middle s.es s.stage (record_entry c.task.index seen h.change) s.numbers h.made.0
+        let below = low reply in
+        answered_so c.begin c.layout c.segment c.old_view c.new_view c.task (answer_of (replied_told reply) position) (λ code. absurd (omega arith))
+        (made told trace faults puts c middle s.es s.stage (record_entry c.task.index seen h.change) s.numbers h.made.0
         (legal h.made.0 h.change reply h.step) (λ index. omega arith) own_few (replied_told reply) position h.made.1 (not_protect c.task.kind commands)
         (λ known at. commanded_fits (IsBetween c.begin c.old_view c.new_view) (course_in c.begin c.new_view) c.task (entries_of middle.log) middle.state
         (record_entry c.task.index seen h.change) position known (s.stage.state h.made.0.0) at commands seen h.change reply h.step refl)
         (λ key number uses. used_here h.change reply position h.step key number uses) (plain reply)
+        (low_made (replied_told reply).code below))
 
     refuses : (fault : BookFault) (position : ℕ) → position ≡ entry_count (known_of_book trace faults puts c.given)
         → RefusesMessage faults c.task.index c.task.octets seen middle c.given fault
@@ -275,7 +283,7 @@ module _ {O : Type 0} (told : Bool) (trace : O → Trace) (faults puts : O → �
         barred told trace faults puts c middle s.es s.stage s.numbers same fault position at is_barred (inl (not_protect c.task.kind commands))
     refuses fault position at (inr (inl (none, same))) =
         subst (λ (f : BookFault). Answered c.layout c.begin c.segment c.old_view c.new_view c.task (fault_answer f position)) (sym none)
-        (wanting told trace faults puts c middle s.es s.stage s.numbers same)
+        (wanting told trace faults puts c middle s.es s.stage s.numbers same commands)
     refuses fault position at (inr (inr (can, ((change, reply), step, fails)))) =
         unstored told trace faults puts c middle s.es s.stage (record_entry c.task.index seen change) s.numbers can
         (legal can change reply step) (λ index. omega arith) own_few fault position at fails
@@ -308,7 +316,7 @@ module _ {O : Type 0} (told : Bool) (trace : O → Trace) (faults puts : O → �
   commanded (Err (fault, position)) (inl (none, same, numbers), at) =
       subst (λ (f : BookFault). Answered c.layout c.begin c.segment c.old_view c.new_view c.task (fault_answer f position)) (sym none)
       (wanting told trace faults puts c c.found [] (stage_found told trace faults puts c)
-      (record { drawn = []; spent = []; raised = []; added = []; counted = counted_none c.begin c.task c.old_view c.new_view numbers }) same)
+      (record { drawn = []; spent = []; raised = []; added = []; counted = counted_none c.begin c.task c.old_view c.new_view numbers }) same commands)
   commanded (Err (fault, position)) (inr (need, needed, inl f), at) = fails need fault position at needed f
   commanded (Err (fault, position)) (inr (need, needed, inr (seen, middle, shows, r)), at) =
       refuses need seen middle needed (satisfied need seen middle needed shows) fault position at r

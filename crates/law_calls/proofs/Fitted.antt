@@ -1,5 +1,5 @@
 -- When an answer of a call fits its record, by what the run's history was then.
-use Rattle.std.proofs.Common.{◌≡◌, ◌≢◌, ◌⊎◌, ℕ, ◌+◌, ◌-◌, ◌≤◌, IsTrue, List, [], ◌∷◌, ◌++◌, length, Some, refl, sym, ◌∙◌, ap, subst, arith, inl, inr}
+use Rattle.std.proofs.Common.{◌≡◌, ◌≢◌, ◌⊎◌, ℕ, ◌+◌, ◌-◌, ◌≤◌, IsTrue, List, [], ◌∷◌, ◌++◌, length, Some, None, length-append, refl, sym, ◌∙◌, ap, subst, arith, inl, inr}
 use Rattle.std.specs.List.{slice_get}
 use Rattle.std.proofs.lemmas.List.{take-append-le, take_all}
 use Rattle.sdls_base.specs.declared.change.Change.{Change}
@@ -99,9 +99,21 @@ module _ (near : ℕ → ℕ → Type 0) (course : Course) (task : Record) where
   tells code count position is rose low = record { told = refl; rose = rose; counted = low; position_is = is }
 
   pub faulted_fits : (count position : ℕ) → position ≡ length course.entries → Rose course.faults_before count → count ≤ course.faults
-      → MayAppendOnce near course task → Fits near course task (answer_of (counting SITE_FAULT 0 count) position)
-  faulted_fits count position is rose low may = fits_any (answer_of (counting SITE_FAULT 0 count) position)
-      (inr (inl (record { tells = tells SITE_FAULT count position is rose low; may = may })))
+      → MayAppendOnce near course task → (front : List Entry) (entry : Entry) → course.entries ≡ front ++ entry ∷ []
+      → (entry.index ≡ None) ⊎ (entry.index ≡ Some task.index) → Fits near course task (answer_of (counting SITE_FAULT 0 count) position)
+  faulted_fits count position is rose low may front entry entries own =
+      let size : length course.entries ≡ length front + 1 = ap length entries ∙ length-append front (entry ∷ []) in
+      let before : position - 1 ≡ length front = omega arith in
+      fits_any (answer_of (counting SITE_FAULT 0 count) position) (inr (inl (record {
+        tells = tells SITE_FAULT count position is rose low;
+        may = may;
+        entry = entry;
+        last = record {
+          least = omega arith;
+          there = ap (slice_get course.entries) before ∙ ap (λ (es : List Entry). slice_get es (length front)) entries ∙ behind front entry;
+        };
+        own = own;
+      })))
 
   pub stopped_fits : (count position : ℕ) → position ≡ length course.entries → Rose course.faults_before count → count ≤ course.faults
       → (task.kind ≢ Protect) ⊎ MayAppendOnce near course task → Fits near course task (answer_of (counting STOPPED 0 count) position)

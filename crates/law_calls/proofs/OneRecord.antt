@@ -1,5 +1,5 @@
 -- What was done for one record, put together: numbers, entries behind the log that was found, and the answer.
-use Rattle.std.proofs.Common.{◌≡◌, ◌⊎◌, ℕ, zero, suc, ◌+◌, ◌<◌, ◌≤◌, ◌==◌, Bool, false, List, [], ◌∷◌, ◌++◌, length, Option, refl, sym, ◌∙◌, ap, subst, arith, inl, inr, length-append, if◌then◌else◌, eqb}
+use Rattle.std.proofs.Common.{◌≡◌, ◌≢◌, ◌⊎◌, Some, ℕ, zero, suc, ◌+◌, ◌<◌, ◌≤◌, ◌==◌, Bool, false, List, [], ◌∷◌, ◌++◌, length, Option, refl, sym, ◌∙◌, ap, subst, arith, inl, inr, length-append, if◌then◌else◌, eqb, eq-eqb, true}
 use Rattle.std.specs.List.{All}
 use Rattle.std.proofs.lemmas.Bool.{cases_eq}
 use Rattle.std.proofs.lemmas.Bool.Decides.{nat_tests}
@@ -8,7 +8,7 @@ use Rattle.sdls_base.specs.declared.entry.Entry.{Entry}
 use Rattle.sdls_base.specs.declared.entry.Logged.{Logged}
 use Rattle.record_io.specs.declared.records.Record.{Record}
 use Rattle.record_io.specs.declared.answers.Answer.{Answer}
-use Rattle.record_io.specs.declared.code.TheConstants.{SITE_FAULT}
+use Rattle.record_io.specs.declared.code.TheConstants.{SITE_FAULT, NO_MEMORY}
 use Rattle.unit_state.specs.History.{after}
 use Rattle.counter_table.specs.declared.view.Turn.{Turn}
 use Rattle.counter_table.specs.declared.view.View.{View}
@@ -16,6 +16,7 @@ use Rattle.counter_table.specs.Known.{Earlier, IsSparing}
 use Rattle.counter_table.specs.Numbers.{count_of, top}
 use Rattle.counter_table.specs.Turn.{places, epoch_seen}
 use Rattle.run_promise.specs.Log.{entries_of}
+use Rattle.run_promise.specs.Answers.{IsUnmade}
 use Rattle.run_promise.specs.Legal.{IsLegalAt}
 use Rattle.run_promise.specs.Counts.{is_of_record, is_of_none, count_at, drawers}
 use Rattle.run_promise.specs.Fits.{Fits}
@@ -23,9 +24,10 @@ use Rattle.run_promise.specs.Begin.{Begin}
 use Rattle.law_workers.specs.Views.{Gains, Gained, KnowsMore, IsBetween, log_of, entries_in}
 use Rattle.law_workers.specs.Work.{indexed, IsAsked, Works}
 use Rattle.run_promise.specs.Deed.{Deed, deed_of}
-use Rattle.law_workers.specs.Deeds.{course_in, StandsWithin, Agree, IsSpent, MadeLast}
+use Rattle.law_workers.specs.Deeds.{course_in, StandsWithin, Agree, IsSpent, MadeLast, IsWithoutEntry}
 use Rattle.law_workers.specs.Order.{Layout, TakeTurns, is_line, is_piece, Lined, Handled}
-use Rattle.law_workers.proofs.Logs.{count_one}
+use Rattle.law_workers.proofs.Logs.{count_one, same_behind}
+use Rattle.law_calls.specs.Answering.{Answered}
 use Rattle.law_calls.proofs.Behind.{lines_of, tested, lines_length, places_within, count_behind, all_lines, no_pieces, LegalInTurn, legal_behind}
 
 pub one_all : {X : Type 0} (P : X → Type 0) (x : X) → P x → All P (x ∷ [])
@@ -47,7 +49,7 @@ pub record Turned (log : List Logged) (es : List Entry) (v w : Turn) : Type 0 wh
   pub holds : w.holds ≡ v.holds
   pub filled : w.filled ≡ v.filled
 
-own_index : (own i : ℕ) → 1 ≤ (if own == i then 1 else 0) + 0 → own ≡ i
+pub own_index : (own i : ℕ) → 1 ≤ (if own == i then 1 else 0) + 0 → own ≡ i
 own_index own i h = elim (cases_eq own i) [
   | inl is ↦ is
   | inr off ↦
@@ -128,6 +130,19 @@ module _ (begin : Begin) (task : Record) (v w : View) where
       few_pieces = let c = count_is is_piece in let none = no_pieces es in omega arith;
     }
 
+    -- none of the entries is the record's
+    without : tested (is_of_record task.index) es ≡ 0 → IsWithoutEntry w gains (task ∷ []) task.index
+    without none =
+        let c = count_is (is_of_record task.index) in
+        let own : eqb task.index task.index ≡ true = eq-eqb task.index task.index refl in
+        let alone : indexed task.index (task ∷ []) ≡ 1 = ap (λ (b : Bool). (if b then 1 else 0) + 0) own in omega arith
+
+    pub none_made : tested (is_of_record task.index) es ≡ 0 → (made : List ℕ) → w.turn.made ≡ v.turn.made ++ made
+        → count_at (is_of_record task.index) (log_of w) made ≡ 0
+    none_made none made is =
+        let same : made ≡ places (length log) (length es) = same_behind v.turn.made made (places (length log) (length es)) (sym is ∙ turned.made) in
+        ap (count_at (is_of_record task.index) (log_of w)) same ∙ count_is (is_of_record task.index) ∙ none
+
     -- the record was handled, and has no answer
     pub handled_unanswered : Handled layout begin v w (task ∷ []) []
     handled_unanswered = record {
@@ -144,6 +159,7 @@ module _ (begin : Begin) (task : Record) (v w : View) where
           used = none_all _;
           failed = none_all _;
         };
+        unmade = none_all _;
       };
       lined = lined;
     }
@@ -151,8 +167,9 @@ module _ (begin : Begin) (task : Record) (v w : View) where
     -- the record was handled, and has this answer
     pub handled_answered : (answer : Answer) → Fits (IsBetween begin v w) (course_in begin w) task answer
         → StandsWithin begin v w (deed_of segment task answer) → IsSpent begin w gains (deed_of segment task answer)
-        → (answer.code ≡ SITE_FAULT → MadeLast w gains) → Handled layout begin v w (task ∷ []) (deed_of segment task answer ∷ [])
-    handled_answered answer fits stands_there used failed = record {
+        → (answer.code ≡ SITE_FAULT → MadeLast w gains) → (IsUnmade answer.code → tested (is_of_record task.index) es ≡ 0)
+        → Handled layout begin v w (task ∷ []) (deed_of segment task answer ∷ [])
+    handled_answered answer fits stands_there used failed unmade = record {
       does = record {
         gains = gains;
         gained = gained;
@@ -170,6 +187,13 @@ module _ (begin : Begin) (task : Record) (v w : View) where
           used = one_all (IsSpent begin w gains) (deed_of segment task answer) used;
           failed = one_all (λ (d : Deed). d.answer.code ≡ SITE_FAULT → MadeLast w gains) (deed_of segment task answer) failed;
         };
+        unmade = one_all (λ (d : Deed). IsUnmade d.answer.code → IsWithoutEntry w gains (task ∷ []) d.task.index) (deed_of segment task answer)
+            (λ code. without (unmade code));
       };
       lined = lined;
     }
+
+-- an answer that does not say that memory ran out
+pub answered_so : (begin : Begin) (layout : Layout) (segment : ℕ) (v w : View) (task : Record) (answer : Answer) → answer.code ≢ NO_MEMORY
+    → Handled layout begin v w (task ∷ []) (deed_of segment task answer ∷ []) → Answered layout begin segment v w task (Some answer)
+answered_so begin layout segment v w task answer other handled = (handled, λ code. absurd (other code))

@@ -9,7 +9,7 @@ use Rattle.frame_checks.specs.OpeningFrames.{IsOpenReply}
 use Rattle.record_io.specs.declared.kinds.RecordKind.{RecordKind}
 use Rattle.record_io.specs.declared.kinds.RecordKind.TheVariants.{Protect, Open}
 use Rattle.record_io.specs.declared.records.Record.{Record}
-use Rattle.record_io.specs.declared.code.TheConstants.{PROTECTED, DONE, SITE_FAULT}
+use Rattle.record_io.specs.declared.code.TheConstants.{PROTECTED, DONE, SITE_FAULT, JOURNAL_FULL, NO_MEMORY}
 use Rattle.unit_plan.specs.PlanLines.{PlanLines}
 use Rattle.unit_state.specs.declared.state.State.{State}
 use Rattle.unit_state.specs.History.{after}
@@ -40,7 +40,8 @@ use Rattle.law_calls.proofs.Behind.{tested}
 use Rattle.law_calls.proofs.Counting.{counted_none}
 use Rattle.law_calls.proofs.Fitted.{opened_fits}
 use Rattle.law_calls.proofs.Visit.{plan_is, whole}
-use Rattle.law_calls.proofs.Stages.{Call, Added, stage_found, barred, unstored, made}
+use Rattle.law_calls.proofs.OneRecord.{answered_so}
+use Rattle.law_calls.proofs.Stages.{Call, Added, stage_found, barred, unstored, made, low_made}
 
 -- no answer to an opening uses a number, or tells that the site failed
 opened_plain : (reply : OpenReply) (field : List ℕ) → let code : ℕ = (opened_told reply field).code in (code ≢ PROTECTED) × (code ≢ DONE) × (code ≢ SITE_FAULT)
@@ -54,6 +55,18 @@ opened_plain (opens.State held) field = (λ is. absurd (omega arith), λ is. abs
 opened_plain opens.Coverage field = (λ is. absurd (omega arith), λ is. absurd (omega arith), λ is. absurd (omega arith))
 opened_plain opens.Mac field = (λ is. absurd (omega arith), λ is. absurd (omega arith), λ is. absurd (omega arith))
 opened_plain (opens.Number key number high width) field = (λ is. absurd (omega arith), λ is. absurd (omega arith), λ is. absurd (omega arith))
+
+opened_low : (reply : OpenReply) (field : List ℕ) → (opened_told reply field).code < JOURNAL_FULL
+opened_low (opens.Accepted spi key number from to) field = omega arith
+opened_low opens.Clear field = omega arith
+opened_low (opens.Layout number) field = omega arith
+opened_low opens.Channel field = omega arith
+opened_low opens.Spi field = omega arith
+opened_low opens.Direction field = omega arith
+opened_low (opens.State held) field = omega arith
+opened_low opens.Coverage field = omega arith
+opened_low opens.Mac field = omega arith
+opened_low (opens.Number key number high width) field = omega arith
 
 unused : (reply : OpenReply) (field : List ℕ) (position key number : ℕ) → Uses (answer_of (opened_told reply field) position) key number → ⊥
 unused reply field position key number (inl is, of_key, of_number) = (opened_plain reply field).0 is
@@ -150,7 +163,9 @@ module _ {O : Type 0} (told : Bool) (trace : O → Trace) (faults puts : O → �
       let field : List ℕ = field_in reply left in
       let can : CanEnter faults found = opened.made.0 in
       let front : List Entry = entries_of found.log in
-      made told trace faults puts call
+      let low = opened_low reply field in
+      answered_so begin layout segment v w task (answer_of (opened_told reply field) position) (λ code. absurd (omega arith))
+      (made told trace faults puts call
       found [] (stage_found told trace faults puts call)
       (frame_entry found.plan found.state task.index reply) none_added can
       (legal reply field opened.reply_is can) (one reply field opened.reply_is can) (omega arith)
@@ -159,6 +174,7 @@ module _ {O : Type 0} (told : Bool) (trace : O → Trace) (faults puts : O → �
       (frame_entry found.plan found.state task.index reply) position known refl at opens_it reply field
       (replies_then reply field opened.reply_is can) (entry_then reply field opened.reply_is can))
       (λ key number uses. absurd (unused reply field position key number uses)) (opened_plain reply field).2
+      (low_made (opened_told reply field).code low))
   opening_answers left (Err (fault, position)) (inl (is_barred, same), at) =
       barred told trace faults puts call
       found [] (stage_found told trace faults puts call)

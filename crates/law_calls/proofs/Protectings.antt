@@ -9,7 +9,7 @@ use Rattle.record_io.specs.declared.answers.Answer.{Answer}
 use Rattle.record_io.specs.declared.kinds.RecordKind.{RecordKind}
 use Rattle.record_io.specs.declared.kinds.RecordKind.TheVariants.{Protect, Open, Command}
 use Rattle.record_io.specs.declared.records.Record.{Record}
-use Rattle.record_io.specs.declared.code.TheConstants.{PROTECTED, CLEAR, EXHAUSTED, ACCEPTED, DONE, NUMBER, SITE_FAULT}
+use Rattle.record_io.specs.declared.code.TheConstants.{PROTECTED, CLEAR, EXHAUSTED, ACCEPTED, DONE, NUMBER, SITE_FAULT, NO_MEMORY}
 use Rattle.unit_plan.specs.PlanLines.{PlanLines, link_of}
 use Rattle.unit_state.specs.declared.state.State.{State}
 use Rattle.unit_state.specs.History.{after, at_epoch, epoch_after}
@@ -48,7 +48,7 @@ use Rattle.law_workers.specs.Order.{Layout, Handled}
 use Rattle.law_workers.specs.Began.{BeganWith}
 use Rattle.law_calls.specs.Answering.{Answered, answer_of, fault_answer, protected_answer}
 use Rattle.law_calls.proofs.Behind.{LegalInTurn}
-use Rattle.law_calls.proofs.OneRecord.{Turned, Counted, handled_answered}
+use Rattle.law_calls.proofs.OneRecord.{Turned, Counted, handled_answered, answered_so}
 use Rattle.law_calls.proofs.Counting.{Shows, counted_none, draws_shows, back_shows, uses_shows, out_shows}
 use Rattle.law_calls.proofs.Permitted.{bound_reply, planned_reply, clear_reply, channel_passed, began_before, row_before, row_last}
 use Rattle.law_calls.proofs.Visit.{changes_are, standing_found, led_known}
@@ -105,7 +105,7 @@ module _ {O : Type 0} (told : Bool) (trace : O → Trace) (faults puts : O → �
   looks_finish : (drawn spent raised added : List (ℕ × ℕ)) → Counted begin task v w drawn spent raised added → Looks v.turn w.turn → Finishes spent
   looks_finish drawn spent raised added counted l answer fits within used plain =
       handled_answered begin task v w layout segment v.turn.known.log [] drawn spent raised added (looked l) counted tt (λ index. omega arith)
-      (omega arith) (omega arith) answer fits within used (λ is. absurd (plain is))
+      (omega arith) (omega arith) answer fits within used (λ is. absurd (plain is)) (λ _. refl)
 
   -- the call that took the turn behind a look at the epoch
   abbrev pub call_of : (done : BookView O → BookView O → Type 0) → TakesTurn told trace faults puts done v.turn w.turn → Call told trace faults puts
@@ -145,7 +145,7 @@ module _ {O : Type 0} (told : Bool) (trace : O → Trace) (faults puts : O → �
       (record { drawn = drawn; spent = spent; raised = raised; added = added; counted = counted })
       (subst (λ (l : List Entry). LegalInTurn (IsBetween begin v w) begin.plan begin.start (task ∷ []) (after begin.start (entries_of t.found.log)) l)
       (sym (append-nil es)) stage.legal)
-      (λ index. omega arith) (let f = stage.few in omega arith) (omega arith) answer fits within used (λ is. absurd (plain is))
+      (λ index. omega arith) (let f = stage.few in omega arith) (omega arith) answer fits within used (λ is. absurd (plain is)) (λ _. refl)
 
   rests_finish : (drawn spent raised added : List (ℕ × ℕ)) → Counted begin task v w drawn spent raised added
       → MayTakeTurn told trace faults puts Rests v.turn w.turn → Finishes spent
@@ -425,21 +425,33 @@ module _ {O : Type 0} (told : Bool) (trace : O → Trace) (faults puts : O → �
       (λ channel there. let no = sym check ∙ there in cc) (refusal_code fault) numbers same
   refuses_at plan planned_is fault epoch (inr (f, low, turn)) numbers = fails_at fault epoch f low turn numbers
 
+  so : (fields : Told) (position : ℕ) → fields.code ≢ NO_MEMORY
+      → Handled layout begin v w (task ∷ []) (deed_of segment task (answer_of fields position) ∷ [])
+      → Answered layout begin segment v w task (Some (answer_of fields position))
+  so fields position other handled = answered_so begin layout segment v w task (answer_of fields position) other handled
+
+  refusal_other : (fault : ShieldFault) → (fault_told fault).code ≢ NO_MEMORY
+  refusal_other (shield_faults.Layout number) code = omega arith
+  refusal_other shield_faults.Channel code = omega arith
+  refusal_other shield_faults.State code = omega arith
+
   pub protecting_answers : (plan : PlanLines) (kept : Option Permit) (out : List ℕ) (result : Protected) → v.turn.known.opening.plan ≡ plan
       → IsProtectStep told trace faults puts plan task.link task.octets out kept result v w
       → Answered layout begin segment v w task (protected_answer result out)
   protecting_answers plan kept out (protecteds.Done d) planned_is (p, kept_is, used, (is, turn)) =
-      done p (subst (λ (q : PlanLines). IsUsed q task.link task.octets p w.turn) (sym planned_is) used) out d is turn
+      so (numbered PROTECTED d.key d.number (take d.length out)) d.epoch (λ code. absurd (omega arith))
+      (done p (subst (λ (q : PlanLines). IsUsed q task.link task.octets p w.turn) (sym planned_is) used) out d is turn)
   protecting_answers plan kept out protecteds.Clear planned_is (sent_clear, numbers, same) =
       let check : channel_check begin.plan task.link task.octets ≡ Ok None =
       subst (λ (q : PlanLines). channel_check q task.link task.octets ≡ Ok None) (sym planned_is ∙ began.plan) sent_clear in
-      planned (plain CLEAR 0) 0 refl
+      so (plain CLEAR 0) 0 (λ code. absurd (omega arith)) (planned (plain CLEAR 0) 0 refl
       (ap unbound_told (clear_reply begin.plan (at_epoch begin.start (entries_in w) 0) task.link task.octets check))
       (λ channel there. let no = sym check ∙ there in cc)
-      (λ code. absurd (omega arith), λ code. absurd (omega arith), λ code. absurd (omega arith)) numbers same
+      (λ code. absurd (omega arith), λ code. absurd (omega arith), λ code. absurd (omega arith)) numbers same)
   protecting_answers plan kept out (protecteds.Refused fault epoch) planned_is (refused_it, numbers) =
-      refuses_at plan planned_is fault epoch refused_it numbers
+      so (fault_told fault) epoch (refusal_other fault) (refuses_at plan planned_is fault epoch refused_it numbers)
   protecting_answers plan kept out (protecteds.Exhausted key n epoch) planned_is (p, used, (is, turn)) =
-      exhausted p (subst (λ (q : PlanLines). IsUsed q task.link task.octets p w.turn) (sym planned_is) used) key n epoch is turn
+      so (numbered EXHAUSTED key n []) epoch (λ code. absurd (omega arith))
+      (exhausted p (subst (λ (q : PlanLines). IsUsed q task.link task.octets p w.turn) (sym planned_is) used) key n epoch is turn)
   protecting_answers plan kept out (protecteds.Fault fault position) planned_is (p, used, (fits, later, at, (n, below, drawn, t))) =
       failed p (subst (λ (q : PlanLines). IsUsed q task.link task.octets p w.turn) (sym planned_is) used) fault position n fits at below drawn t

@@ -1,5 +1,5 @@
 -- The book at a stage of a call that handles a record, and the answer where the call is refused there.
-use Rattle.std.proofs.Common.{◌≡◌, ◌≢◌, ◌⊎◌, ℕ, ◌+◌, ◌-◌, ◌<◌, ◌≤◌, min, ◌&&◌, ◌||◌, not, Bool, IsTrue, true, false, List, [], ◌∷◌, ◌++◌, length, take, Some, refl, sym, ◌∙◌, ap, subst, arith, inl, inr, ⊎_elim, nat_le, ◌^◌, append-nil, length-append, if◌then◌else◌}
+use Rattle.std.proofs.Common.{◌≡◌, ◌≢◌, ◌⊎◌, ℕ, ◌+◌, ◌-◌, ◌<◌, ◌≤◌, min, ◌&&◌, ◌||◌, not, Bool, IsTrue, true, false, List, [], ◌∷◌, ◌++◌, length, take, Some, None, Option, refl, sym, ◌∙◌, ap, subst, arith, inl, inr, ⊎_elim, nat_le, ◌^◌, append-nil, length-append, if◌then◌else◌, eqb, eq-eqb}
 use Rattle.std.proofs.lemmas.Bool.{cases_lt}
 use Rattle.std.proofs.lemmas.List.{take_all}
 use Rattle.sdls_base.specs.Numbers.{times}
@@ -21,8 +21,8 @@ use Rattle.counter_table.specs.declared.view.Opening.{Opening}
 use Rattle.counter_table.specs.declared.view.Turn.{Turn}
 use Rattle.counter_table.specs.declared.view.View.{View}
 use Rattle.counter_table.specs.Turn.{epoch_seen, places}
-use Rattle.run_promise.specs.Answers.{Told, counting, plain, Uses}
-use Rattle.run_promise.specs.Counts.{is_of_record, is_of_none, drawers}
+use Rattle.run_promise.specs.Answers.{Told, counting, plain, Uses, IsUnmade}
+use Rattle.run_promise.specs.Counts.{is_index, is_of_record, is_of_none, count_at, drawers}
 use Rattle.run_promise.specs.Fits.{Course, Fits, MayAppend, state_after}
 use Rattle.run_promise.specs.Legal.{IsLegal}
 use Rattle.run_promise.specs.Log.{entries_of}
@@ -34,7 +34,7 @@ use Rattle.unit_book.specs.Book.{BookView, CanEnter, Enters, IsBarred, IsUnstore
 use Rattle.shared_unit.specs.Told.{known_of_book, entry_count}
 use Rattle.shared_unit.specs.Turn.{Visits}
 use Rattle.run_promise.specs.Begin.{Begin}
-use Rattle.law_workers.specs.Views.{Gains, IsBetween, IsRow, entries_in}
+use Rattle.law_workers.specs.Views.{Gains, IsBetween, IsRow, log_of, entries_in}
 use Rattle.law_workers.specs.Work.{indexed}
 use Rattle.run_promise.specs.Deed.{deed_of, is_protected, epoch_told}
 use Rattle.law_workers.specs.Deeds.{course_in, StandsWithin, IsLastAt, IsSpent, MadeLast}
@@ -43,7 +43,7 @@ use Rattle.law_workers.specs.Order.{Layout, Handled}
 use Rattle.law_workers.specs.Began.{BeganWith}
 use Rattle.law_calls.specs.Answering.{answer_of, unserved_answer, fault_answer, Answered}
 use Rattle.law_calls.proofs.Behind.{lines_of, tested, lines_length, lines_entries, lines_more, tested_more, tested_few, LegalInTurn, legal_then, after_both, places_stand, last_behind}
-use Rattle.law_calls.proofs.OneRecord.{Turned, Counted, handled_answered, handled_unanswered}
+use Rattle.law_calls.proofs.OneRecord.{Turned, Counted, own_index, answered_so, none_made, handled_answered, handled_unanswered}
 use Rattle.law_calls.proofs.Fitted.{after_front, wanting_fits, full_fits, faulted_fits, stopped_fits}
 use Rattle.law_calls.proofs.Visit.{entries_low, epoch_low, epoch_high, log_is, faults_are, began_faults, risen_found, known_entries, turned, whole}
 
@@ -94,6 +94,29 @@ unprotected : (kind : RecordKind) → kind ≢ Protect → is_protected kind ≡
 unprotected Protect other = absurd (other refl)
 unprotected Open other = refl
 unprotected Command other = refl
+
+-- who answers that an entry could not be stored does not say that none was made
+not_unmade : IsUnmade SITE_FAULT → ⊥
+not_unmade (inl is) = omega arith
+not_unmade (inr (inl is)) = omega arith
+not_unmade (inr (inr is)) = omega arith
+
+-- nor does a code below those that say so
+pub low_made : (code : ℕ) → code < JOURNAL_FULL → IsUnmade code → ⊥
+low_made code low (inl is) = omega arith
+low_made code low (inr (inl is)) = omega arith
+low_made code low (inr (inr is)) = omega arith
+
+-- an entry that no other record has is the record's, or of none
+pub own_entry : (entry : Entry) (task : Record) → ((index : ℕ) → tested (is_of_record index) (entry ∷ []) ≤ indexed index (task ∷ []))
+    → (entry.index ≡ None) ⊎ (entry.index ≡ Some task.index)
+own_entry entry task one = by_index entry.index one where
+  by_index : (own : Option ℕ) → ((index : ℕ) → (if is_index index own then 1 else 0) + 0 ≤ indexed index (task ∷ [])) → (own ≡ None) ⊎ (own ≡ Some task.index)
+  by_index None one = inl refl
+  by_index (Some index) one =
+      let itself : eqb index index ≡ true = eq-eqb index index refl in
+      let low : (if true then 1 else 0) + 0 ≤ indexed index (task ∷ []) = subst (λ (b : Bool). (if b then 1 else 0) + 0 ≤ indexed index (task ∷ [])) itself (one index) in
+      inr (ap (λ (n : ℕ). Some n) (sym (own_index task.index index (omega arith))))
 
 -- A call that handles a record: the worker's views before and after it, and the books that it found and gave back when it took
 -- the turn. The turn that it took may be seen as of a later epoch than the view before.
@@ -204,24 +227,35 @@ module _ {O : Type 0} (told : Bool) (trace : O → Trace) (faults puts : O → �
       made = places (length found.log) (length (es ++ own));
     }
 
+    -- none of the entries is the record's
+    none_own : own ≡ [] → tested (is_of_record task.index) (es ++ own) ≡ 0
+    none_own none =
+        let m = tested_more (is_of_record task.index) es own in let n = stage.none task.index in
+        let o : tested (is_of_record task.index) own ≡ 0 = ap (tested (is_of_record task.index)) none in omega arith
+
+    none_of_it : own ≡ [] → (made : List ℕ) → w.turn.made ≡ v.turn.made ++ made → count_at (is_of_record task.index) (log_of w) made ≡ 0
+    none_of_it none made is = none_made begin task v w layout segment found.log (es ++ own) numbers.drawn numbers.spent numbers.raised numbers.added
+        passed numbers.counted legal one_among reserve_among few_among (none_own none) made is
+
     pub unanswered : Handled layout begin v w (task ∷ []) []
     unanswered = handled_unanswered begin task v w layout segment found.log (es ++ own) numbers.drawn numbers.spent numbers.raised numbers.added
         passed numbers.counted legal one_among reserve_among few_among
 
     pub answered : (answer : Answer) → Fits near course task answer → StandsWithin begin v w (deed_of segment task answer)
         → IsSpent begin w gains_are (deed_of segment task answer) → (answer.code ≡ SITE_FAULT → MadeLast w gains_are)
-        → Handled layout begin v w (task ∷ []) (deed_of segment task answer ∷ [])
-    answered answer fits within used failed =
+        → (IsUnmade answer.code → own ≡ []) → Handled layout begin v w (task ∷ []) (deed_of segment task answer ∷ [])
+    answered answer fits within used failed unmade =
         handled_answered begin task v w layout segment found.log (es ++ own) numbers.drawn numbers.spent numbers.raised numbers.added
         passed numbers.counted legal one_among reserve_among few_among answer fits within used failed
+        (λ code. none_own (unmade code))
 
     -- a code from JOURNAL_FULL on, but for that of a failed entry
     pub answered_late : (code n position : ℕ) → Fits near course task (answer_of (counting code 0 n) position) → nat_le code NUMBER ≡ false
         → nat_le code EXHAUSTED ≡ false → code ≢ PROTECTED → code ≢ DONE → (code ≡ SITE_FAULT → MadeLast w gains_are)
-        → Handled layout begin v w (task ∷ []) (deed_of segment task (answer_of (counting code 0 n) position) ∷ [])
-    answered_late code n position fits p q some other failed =
+        → (IsUnmade code → own ≡ []) → Handled layout begin v w (task ∷ []) (deed_of segment task (answer_of (counting code 0 n) position) ∷ [])
+    answered_late code n position fits p q some other failed unmade =
         answered (answer_of (counting code 0 n) position) fits (late_stands begin segment task v w code n position p q some)
-        (λ key number uses. absurd (unused_late code n position key number some other uses)) failed
+        (λ key number uses. absurd (unused_late code n position key number some other uses)) failed unmade
 
   -- the call ended at the stage
   module _ (old : BookView O) (es : List Entry) (stage : Stage old es) (numbers : Added) (same : given ≡ old) where
@@ -242,10 +276,13 @@ module _ {O : Type 0} (told : Bool) (trace : O → Trace) (faults puts : O → �
         → Handled layout begin v w (task ∷ []) (deed_of segment task (answer_of (counting code 0 n) position) ∷ [])
     left_late code n position fits p q some other plain =
         answered_late old es stage [] left numbers legal_left (λ index. omega arith) reserves_left (omega arith)
-        code n position fits p q some other (λ is. absurd (plain is))
+        code n position fits p q some other (λ is. absurd (plain is)) (λ _. refl)
 
-    pub wanting : Answered layout begin segment v w task (Some unserved_answer)
-    wanting = left_late NO_MEMORY 0 0 (wanting_fits near course task) refl refl (λ is. absurd (omega arith)) (λ is. absurd (omega arith)) (λ is. absurd (omega arith))
+    wanting_handled : Handled layout begin v w (task ∷ []) (deed_of segment task unserved_answer ∷ [])
+    wanting_handled = left_late NO_MEMORY 0 0 (wanting_fits near course task) refl refl (λ is. absurd (omega arith)) (λ is. absurd (omega arith)) (λ is. absurd (omega arith))
+
+    pub wanting : task.kind ≡ Command → Answered layout begin segment v w task (Some unserved_answer)
+    wanting commands = (wanting_handled, λ code other. absurd (other commands))
 
     known_of_old : w.turn.known.log ≡ old.log
     known_of_old = log_is told trace faults puts begin found given u w.turn c.began c.free c.visits ∙ ap (λ (b : BookView O). b.log) same
@@ -264,12 +301,12 @@ module _ {O : Type 0} (told : Bool) (trace : O → Trace) (faults puts : O → �
         let known_is : entries_in w ≡ entries_of old.log = ap entries_of known_of_old in
         let size : length (entries_in w) ≡ length (entries_of old.log) = ap length known_is in
         let low = stage.standing in
-        left_late STOPPED count position
+        answered_so begin layout segment v w task (answer_of (counting STOPPED 0 count) position) (λ is. absurd (omega arith)) (left_late STOPPED count position
         (stopped_fits near course task count position at
         (subst (λ (n : ℕ). Rose n count) (sym before_old) (subst (λ (n : ℕ). Rose (faults old.opened) n) (sym count_is) rose))
         (let f = faults_of_old in omega arith)
         (⊎_elim inl (λ may. inr (record { p = old.standing; within = omega arith; may = may })) due))
-        refl refl (λ is. absurd (omega arith)) (λ is. absurd (omega arith)) (λ is. absurd (omega arith))
+        refl refl (λ is. absurd (omega arith)) (λ is. absurd (omega arith)) (λ is. absurd (omega arith)))
     barred refusals.SessionFull position is (not, full) due =
         let size : length (entries_in w) ≡ length (entries_of old.log) = ap (λ (l : List Logged). length (entries_of l)) known_of_old in (
           left_unanswered,
@@ -278,6 +315,7 @@ module _ {O : Type 0} (told : Bool) (trace : O → Trace) (faults puts : O → �
             not_failed = λ risen. stage.clean not (risen_found told trace faults puts begin found given u w.turn c.began c.free c.visits
                 (subst (λ (k : Known). Rose k.opening.faults k.faults) (sym c.known) risen));
             due = ⊎_elim inl (λ may. inr (subst (λ (p : ℕ). MayAppend near course p task) (full_stand not full) may)) due;
+            unmade = none_of_it old es stage [] left numbers legal_left (λ index. omega arith) reserves_left (omega arith) refl;
           },
         ) where
           full_stand : ¬ Rose (faults old.opened) (faults old.site) → length (entries_of old.log) ≡ MOST_ENTRIES → old.standing ≡ MOST_ENTRIES
@@ -352,7 +390,8 @@ module _ {O : Type 0} (told : Bool) (trace : O → Trace) (faults puts : O → �
         subst (λ (n : ℕ). Rose n count) (sym (before ∙ sym opened)) (subst (λ (n : ℕ). Rose (faults given.opened) n) (sym count_is) rose) in
         answered_late old es stage (entry ∷ []) added numbers legal_more one reserves (omega arith) SITE_FAULT count position
         (faulted_fits near course task count position (position_known position is) risen (omega arith)
-        (record { p = length (entries_of old.log); within = omega arith; may = may (state_then (entry ∷ []) entries_known) }))
+        (record { p = length (entries_of old.log); within = omega arith; may = may (state_then (entry ∷ []) entries_known) })
+        (entries_of old.log) entry entries_known (own_entry entry task one))
         refl refl (λ is. absurd (omega arith)) (λ is. absurd (omega arith)) (λ _. record {
           place = length old.log;
           is_made =
@@ -362,18 +401,20 @@ module _ {O : Type 0} (told : Bool) (trace : O → Trace) (faults puts : O → �
               places_stand (length found.log) (length (es ++ entry ∷ [])) (length old.log) (omega arith) (omega arith);
           last = subst (λ (l : List Logged). IsLastAt l (length old.log)) (sym log_known) (last_behind old.log entry);
           risen = subst (λ (n : ℕ). Rose course.faults_before n) (count_is ∙ sym now) risen;
-        })
+        }) (λ code. absurd (not_unmade code))
 
     pub unstored : (fault : BookFault) (position : ℕ) → position ≡ entry_count (known_of_book trace faults puts given) → IsUnstored faults entry old given fault
         → (state_after course (length (entries_of old.log)) ≡ old.state → IsTrue (IsStored old.state entry)
         → MayAppend near course (length (entries_of old.log)) task)
         → Answered layout begin segment v w task (fault_answer fault position)
     unstored (refusals.SiteFault count) position is h may =
-        faulted count position is (ap (λ (b : BookView O). b.log) h.4) (ap (λ (b : BookView O). b.standing) h.4) h.3 (λ same. may same h.0)
+        answered_so begin layout segment v w task (answer_of (counting SITE_FAULT 0 count) position) (λ code. absurd (omega arith))
+        (faulted count position is (ap (λ (b : BookView O). b.log) h.4) (ap (λ (b : BookView O). b.standing) h.4) h.3 (λ same. may same h.0))
     unstored (refusals.JournalFull slots) position is h may =
         let known_is : entries_in w ≡ entries_of old.log ++ [] =
         ap (λ (l : List Logged). entries_of l) (known_of_old old es stage numbers h.3) ∙ sym (append-nil (entries_of old.log)) in
-        journal_full old es stage numbers h.3 slots position is can.0 h.1 h.2 (may (state_then [] known_is) h.0)
+        answered_so begin layout segment v w task (answer_of (counting JOURNAL_FULL 0 slots) position) (λ code. absurd (omega arith))
+        (journal_full old es stage numbers h.3 slots position is can.0 h.1 h.2 (may (state_then [] known_is) h.0))
     unstored (refusals.Stopped count) position is h may = absurd h
     unstored refusals.SessionFull position is h may = absurd h
     unstored refusals.NoMemory position is h may = absurd h
@@ -384,8 +425,9 @@ module _ {O : Type 0} (told : Bool) (trace : O → Trace) (faults puts : O → �
         → Fits near course task (answer_of fields position))
         → ((key number : ℕ) → Uses (answer_of fields position) key number
         → (row : ℕ) × (row < begin.rows) × IsRow begin w key row × (0 < times row number numbers.spent))
-        → fields.code ≢ SITE_FAULT → Handled layout begin v w (task ∷ []) (deed_of segment task (answer_of fields position) ∷ [])
-    made fields position enters kind fits used plain =
+        → fields.code ≢ SITE_FAULT → (IsUnmade fields.code → ⊥)
+        → Handled layout begin v w (task ∷ []) (deed_of segment task (answer_of fields position) ∷ [])
+    made fields position enters kind fits used plain makes =
         let added : given.log ≡ old.log ++ lines.Entry entry ∷ [] = ap (λ (b : BookView O). b.log) enters.is in
         let log_known : w.turn.known.log ≡ old.log ++ lines.Entry entry ∷ [] = log_is told trace faults puts begin found given u w.turn c.began c.free c.visits ∙ added in
         let entries_known : entries_in w ≡ entries_of old.log ++ entry ∷ [] = ap entries_of log_known ∙ lines_entries old.log (entry ∷ []) in
@@ -421,7 +463,7 @@ module _ {O : Type 0} (told : Bool) (trace : O → Trace) (faults puts : O → �
               let grown = c.visits.takes.earlier.changes in
               (omega arith, omega arith);
           number = λ _ protected. let both : true ≡ false = sym protected ∙ none in absurd (let b = both in cc);
-        }) used (λ is. absurd (plain is))
+        }) used (λ is. absurd (plain is)) (λ code. absurd (makes code))
 
   -- the book as it was found
   pub stage_found : Stage found []

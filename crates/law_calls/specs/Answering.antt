@@ -1,5 +1,5 @@
 -- The answers to records, by what the calls on the unit answered (profile).
-use Rattle.std.specs.Prelude.{ℕ, Bool, List, [], ◌∷◌, take, Option, Some, None, Result, Ok, Err, MatchResult}
+use Rattle.std.specs.Prelude.{◌≡◌, ◌≢◌, ℕ, Bool, List, [], ◌∷◌, take, Option, Some, None, Result, Ok, Err, MatchResult}
 use Rattle.sdls_outside.specs.Moments.{Trace}
 use Rattle.frame_checks.specs.declared.open_reply.OpenReply.{OpenReply}
 use Rattle.frame_checks.specs.Accepting.{LeavesOctets, field_in}
@@ -7,6 +7,7 @@ use Rattle.ep_core.specs.declared.reply.Reply.{Reply}
 use Rattle.record_io.specs.declared.answers.Answer.{Answer}
 use Rattle.record_io.specs.declared.code.TheConstants.{PROTECTED, CLEAR, EXHAUSTED, JOURNAL_FULL, SITE_FAULT, STOPPED}
 use Rattle.record_io.specs.declared.code.TheConstants.{NO_MEMORY}
+use Rattle.record_io.specs.declared.kinds.RecordKind.TheVariants.{Command}
 use Rattle.record_io.specs.declared.records.Record.{Record}
 use Rattle.counter_table.specs.declared.view.View.{View}
 use Rattle.run_promise.specs.Answers.{Told, counting, plain, numbered, opened_told, replied_told, fault_told}
@@ -70,10 +71,14 @@ protected_answer (protecteds.Fault fault position) out = fault_answer fault posi
 
 -- ---- what became of a record
 
+-- where memory ran out for a frame, no line was made for it; for a command there may be the reserve that it needed
+abbrev pub LeavesLog : View → View → Record → Answer → Type 0
+LeavesLog old new task answer = answer.code ≡ NO_MEMORY → task.kind ≢ Command → new.turn.made ≡ old.turn.made
+
 -- the record was handled and has this answer; or it has none, since the history is full
 abbrev pub Answered : Layout → Begin → ℕ → View → View → Record → Option Answer → Type 0
 Answered layout begin segment old new task (Some answer) = Handled layout begin old new (task ∷ [])
-    (deed_of segment task answer ∷ [])
+    (deed_of segment task answer ∷ []) × LeavesLog old new task answer
 Answered layout begin segment old new task None = Handled layout begin old new (task ∷ []) []
     × IsFullFor begin old new task
 

@@ -258,6 +258,12 @@ module _ (near wider : ℕ → ℕ → Type 0) (nearer : (key number : ℕ) → 
         position_is = tells.position_is ∙ ap (λ (entries : List Entry). length entries) (sym (append-nil course.entries) ∙ ap (λ (rest : List Entry). course.entries ++ rest) (sym (closed rose)));
       }
 
+  stands_more : (answer : Answer) (entry : Entry) → StandsAt course answer entry → StandsAt new answer entry
+  stands_more answer entry is = record {
+    least = is.least;
+    there = get_front course.entries more (answer.position - 1) (slice_get_within course.entries (answer.position - 1) entry is.there) ∙ is.there;
+  }
+
   any_more : (task : Record) (answer : Answer) → FitsAny near course task answer → FitsAny wider new task answer
   any_more task answer (inl is) = inl (record {
     told = is.told;
@@ -266,7 +272,13 @@ module _ (near wider : ℕ → ℕ → Type 0) (nearer : (key number : ℕ) → 
     full = λ told. ap (λ (entries : List Entry). course.used + stored_count course.start entries) (take-append-le answer.position course.entries more is.within) ∙ is.full told;
     may = append_more task.kind answer.position task is.within is.may;
   })
-  any_more task answer (inr (inl is)) = inr (inl (record { tells = tells_more SITE_FAULT answer is.tells; may = once_more task is.may }))
+  any_more task answer (inr (inl is)) = inr (inl (record {
+    tells = tells_more SITE_FAULT answer is.tells;
+    may = once_more task is.may;
+    entry = is.entry;
+    last = stands_more answer is.entry is.last;
+    own = is.own;
+  }))
   any_more task answer (inr (inr (inl is))) = inr (inr (inl (record {
     tells = tells_more STOPPED answer is.tells;
     may = ⊎_elim (λ other. inl other) (λ once. inr (once_more task once)) is.may;
@@ -279,12 +291,6 @@ module _ (near wider : ℕ → ℕ → Type 0) (nearer : (key number : ℕ) → 
     binding = is.binding;
     bound = subst (λ (s : State). protect_reply course.plan s task.link task.octets ≡ Ok (Some is.binding)) (sym (epoch_stays answer.position is.reached)) is.bound;
     key_is = is.key_is;
-  }
-
-  stands_more : (answer : Answer) (entry : Entry) → StandsAt course answer entry → StandsAt new answer entry
-  stands_more answer entry is = record {
-    least = is.least;
-    there = get_front course.entries more (answer.position - 1) (slice_get_within course.entries (answer.position - 1) entry is.there) ∙ is.there;
   }
 
   before_stays : (answer : Answer) (entry : Entry) → StandsAt course answer entry → state_before new answer ≡ state_before course answer

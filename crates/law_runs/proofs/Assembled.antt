@@ -26,8 +26,8 @@ use Rattle.law_workers.specs.Opened.{IsJustOpened}
 use Rattle.law_runs.specs.Release.{AreReleases}
 use Rattle.run_promise.specs.Sound.{IsSound}
 use Rattle.law_runs.specs.AtEnd.{StaysCovered}
-use Rattle.law_workers.proofs.WholeRun.{rules_at_end, pairs, pairs_above, one_fault, order, answers_fit}
-use Rattle.law_runs.proofs.Released.{legal_run, below_releases, fits_ended}
+use Rattle.law_workers.proofs.WholeRun.{rules_at_end, pairs, pairs_above, one_fault, order, none_made, answers_fit}
+use Rattle.law_runs.proofs.Released.{legal_run, none_of_lanes, below_releases, fits_ended}
 use Rattle.law_runs.proofs.Accepting.{accepts_differ, accepts_above}
 use Rattle.law_runs.proofs.Covering.{stays_covered}
 
@@ -84,6 +84,8 @@ module _ (begin : Begin) (first now : View) (places : List Place) (deeds : List 
     one_fault = one_fault begin first now (records_of places) deeds is_opened d whole rows started kept ascend;
     order = λ i j a lt low turn. behind_ended begin first now (entries_in now) releases _ _ refl (d.answers.stand i a (omega arith)) (d.answers.stand j a low)
         (order begin first now (records_of places) deeds is_opened d whole rows started kept ascend i j a lt low turn);
+    none_made = λ k a low code. none_of_lanes begin first now (records_of places) deeds is_opened d whole rows started kept words stand releases are
+        (slice_index_or deeds k a).task.index (none_made begin first now (records_of places) deeds is_opened d whole rows started kept once k a low code);
   }
 
   -- and what covers an answer covers it to the end, over the releases

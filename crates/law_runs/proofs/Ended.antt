@@ -39,6 +39,7 @@ use Rattle.law_runs.proofs.Placed.{IsBefore, places_ascend}
 use Rattle.law_runs.specs.AtEnd.{EndsRun, course_at_end, StaysCovered}
 use Rattle.law_runs.specs.Release.{AreReleases}
 use Rattle.law_runs.specs.Settled.{AreSettled}
+use Rattle.run_promise.specs.Answers.{IsUnmade}
 use Rattle.run_promise.specs.Sound.{IsSound, deeds_octets}
 use Rattle.law_runs.proofs.Stepping.{octets_of}
 use Rattle.run_promise.specs.Alone.{OneLane, IsExact}
@@ -60,7 +61,7 @@ use Rattle.unit_state.specs.declared.state.State.{State}
 use Rattle.unit_state.specs.State.{KeepsRules}
 use Rattle.unit_state.specs.History.{after_first}
 use Rattle.unit_state.specs.History as histories
-use Rattle.run_promise.specs.Run.{LegalRun, NearWord, TurnIn}
+use Rattle.run_promise.specs.Run.{LegalRun, NearWord, TurnIn, HasNoEntry}
 use Rattle.std.specs.List.{All, AllPairs, slice_index}
 use Rattle.std.proofs.lemmas.Option.{slice_get_within, get_or_from_slice_get}
 use Rattle.std.proofs.lemmas.Bool.{cases_lt}
@@ -513,6 +514,8 @@ module _ {O : Type 0} (told : Bool) (trace : O → Trace) (faults puts : O → �
       one_fault = sound_so.one_fault;
       order = subst (λ (c : Course). AllPairs (λ one other. InTurn one other → StandsBehind (begin_by told (trace site).now.image book.plan book.start) c.entries one other)
           (deeds_from (places_of ran.come.of) ran.come.answers)) course_is sound_so.order;
+      none_made = subst (λ (c : Course). All (λ deed. IsUnmade deed.answer.code → HasNoEntry c.entries deed.task.index)
+          (deeds_from (places_of ran.come.of) ran.come.answers)) course_is sound_so.none_made;
     }
 
     -- ---- its moments
@@ -717,6 +720,7 @@ module _ {O : Type 0} (told : Bool) (trace : O → Trace) (faults puts : O → �
           place = f.place;
           first = f.first_without;
           due = λ is_told plan state shows. due_at f same is_told plan state shows f.due;
+          unmade = subst (λ (es : List Entry). HasNoEntry es f.place.task.index) (sym same) f.unmade;
         }
       where
         due_at : (f : StopsAtFullHistory (begin_by told (trace site).now.image book.plan book.start) first now (places_of ran.come.of) ran.come.answers) → entries ≡ entries_in now

@@ -17,6 +17,8 @@ use Rattle.record_io.specs.Input.{Item, IsItem, LacksNext, beginning}
 use Rattle.record_io.specs.Places.{Place, Count, counted, first_count, places_from, places_of, records_of}
 use Rattle.record_io.specs.Reading.{SourceSeen, Standing, IsReading, Loses, ReadsMore, ReadsLast, HasTaken, first_standing}
 use Rattle.record_io.proofs.Placing.{places-append, counted-append}
+use Rattle.run_promise.specs.Counts.{is_of_record, count_at}
+use Rattle.run_promise.specs.Run.{HasNoEntry}
 use Rattle.run_promise.specs.Fits.{MayAppend}
 use Rattle.run_promise.specs.declared.limits.TheConstants.{MOST_ENTRIES}
 use Rattle.run_promise.specs.Begin.{Begin}
@@ -37,7 +39,7 @@ use Rattle.law_runs.specs.Coming.{HasBroken, HasCome, HasPut, StopsAtFullHistory
 use Rattle.law_runs.specs.Segment.{HandlesAndPuts, IsFullSegment, PutsBadly, PutsWell}
 use Rattle.law_runs.proofs.Appending.{may_append}
 use Rattle.law_runs.proofs.Exacting.{alone_nothing, moved_on}
-use Rattle.law_runs.proofs.Stepping.{goes_on, own_does, quiet, settled_on}
+use Rattle.law_runs.proofs.Stepping.{goes_on, none_at_all, own_does, quiet, settled_on}
 
 -- ---- the records of one segment
 
@@ -170,6 +172,12 @@ place_of_task [] k task is = absurd (let low = slice_get_within [] k task is in 
 place_of_task (place ∷ places) zero task is = (place, refl, same_Some place.task task is)
 place_of_task (place ∷ places) (suc k) task is = place_of_task places k task is
 
+-- what holds of all holds of one
+all_at : (P : Place → Type 0) (places : List Place) (k : ℕ) (place : Place) → slice_get places k ≡ Some place → All P places → P place
+all_at P [] k place is all = absurd (let low = slice_get_within [] k place is in omega arith)
+all_at P (x ∷ places) zero place is all = subst P (same_Some x place is) (all 0 x (omega arith))
+all_at P (x ∷ places) (suc k) place is all = all_at P places k place is (λ j d low. all (suc j) d (omega arith))
+
 get_behind : (xs ys : List Place) (k : ℕ) → slice_get (xs ++ ys) (length xs + k) ≡ slice_get ys k
 get_behind [] ys k = let e : 0 + k ≡ k = omega arith in ap (slice_get ys) e
 get_behind (x ∷ xs) ys k = let e : suc (length xs) + k ≡ suc (length xs + k) = omega arith in
@@ -299,6 +307,11 @@ module _ (start before now : SourceSeen) (standing : Standing) (begin : Begin) (
               ∙ get_behind (places_of way.items) (places_from (counted first_count way.items) r.more) (length next) ∙ there;
           full = (let a = f.full in let b = ap length h.puts.entries in omega arith);
           due = subst (λ (t : Record). (t.kind ≢ Protect) ⊎ MayAppend (IsBetween begin first w) (course_in begin w) MOST_ENTRIES t) (sym same) (due f.due);
+          unmade = subst (λ (es : List Entry). HasNoEntry es place.task.index) (sym h.puts.entries)
+              (none_at_all begin first v mid w (places_of way.items) (places_from (counted first_count way.items) r.more) way.answers next
+              (counted first_count way.items).segment way.done way.each whole_v segment handled h.puts h.whole_mid place.task.index
+              (all_at (λ (p : Place). segment.next ≤ p.task.index) (places_from (counted first_count way.items) r.more) (length next) place there segment.high)
+              (subst (λ (t : Record). (made : List ℕ) → mid.turn.made ≡ v.turn.made ++ made → count_at (is_of_record t.index) (log_of mid) made ≡ 0) (sym same) f.unmade));
         }
       where
         due : (f.task.kind ≢ Protect) ⊎ MayAppend (IsBetween begin v mid) (course_in begin mid) MOST_ENTRIES f.task

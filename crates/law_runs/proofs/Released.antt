@@ -20,7 +20,7 @@ use Rattle.unit_state.specs.State.{KeepsRules}
 use Rattle.unit_state.specs.History.{after, after_first}
 use Rattle.run_promise.specs.Numbers.{release_of, is_released, released_floor}
 use Rattle.run_promise.specs.Legal.{AsksFor, IsLegal, IsRelease}
-use Rattle.run_promise.specs.Run.{NearWord, LegalRun}
+use Rattle.run_promise.specs.Run.{NearWord, LegalRun, HasNoEntry}
 use Rattle.run_promise.specs.Counts.{drawers, reserves_of}
 use Rattle.run_promise.specs.Answers.{Uses}
 use Rattle.run_promise.specs.Fits.{Course, Fits}
@@ -114,6 +114,10 @@ module _ (begin : Begin) (first now : View) (records : List Record) (deeds : Lis
     | inl lt ↦ (lt, sym (get_front (entries_in now) releases p lt) ∙ there)
     | inr ge ↦ let r = are p entry ge there in absurd (none_some index entry.index (release_unrecorded (after_first begin.start whole_entries p) (words r.row) r.held entry r.releases) own)
   ]
+
+  -- so a record that has no entry of the lanes has none
+  pub none_of_lanes : (index : ℕ) → HasNoEntry (entries_in now) index → HasNoEntry whole_entries index
+  none_of_lanes index none p entry there own = let x = of_lanes p index entry there own in none p entry x.1 own
 
   -- the history of the whole run is legal
   unfoldable pub legal_run : (in_turn : ℕ → ℕ → Type 0) (pieces : ℕ) → Lined in_turn (log_of now) d.gains.made (length records + drawers records) pieces

@@ -43,6 +43,7 @@ none_sound begin course same plan_is rules = record {
   accepted_above = λ k d low. absurd (omega arith);
   one_fault = λ i j d less low. absurd (omega arith);
   order = λ i j d less low. absurd (omega arith);
+  none_made = λ k d low. absurd (omega arith);
 }
 
 -- a run without records and without entries is sound

@@ -1,5 +1,5 @@
 -- One segment more of a run: its records were handled, and its answers put.
-use Rattle.std.proofs.Common.{◌≡◌, ◌⊎◌, ℕ, suc, zero, ◌+◌, ◌-◌, ◌<◌, ◌≤◌, eqb, IsTrue, Bool, true, false, List, [], ◌∷◌, ◌++◌, length, Option, refl, sym, ◌∙◌, ap, subst, inl, inr, arith, cond, append-nil, length-append}
+use Rattle.std.proofs.Common.{◌≡◌, ◌⊎◌, ℕ, suc, zero, ◌+◌, ◌-◌, ◌<◌, ◌≤◌, eqb, eq-eqb, IsTrue, Bool, true, false, List, [], ◌∷◌, ◌++◌, length, Option, refl, sym, ◌∙◌, ap, subst, inl, inr, arith, cond, append-nil, length-append}
 use Rattle.std.specs.Prelude.{◌&&◌, not, nat_le, map}
 use Rattle.std.specs.List.{All, AllPairs, Contains, slice_index_or, slice_get}
 use Rattle.std.proofs.lemmas.Bool.Decides.{nat_tests}
@@ -20,10 +20,10 @@ use Rattle.record_io.specs.Places.{Place, records_of}
 use Rattle.record_io.specs.declared.code.TheConstants.{ACCEPTED, NUMBER}
 use Rattle.unit_state.specs.History.{after_first}
 use Rattle.run_promise.specs.Answers.{Accepts, IsCodeOf}
-use Rattle.run_promise.specs.Counts.{count_at, drawers, is_of_record}
+use Rattle.run_promise.specs.Counts.{count_at, drawers, is_index, is_of_record}
 use Rattle.law_history.specs.Laws.{AcceptsAt}
 use Rattle.run_promise.specs.Log.{entries_of}
-use Rattle.run_promise.specs.Run.{IsLegalHistory, TurnIn}
+use Rattle.run_promise.specs.Run.{HasNoEntry, IsLegalHistory, TurnIn}
 use Rattle.run_promise.specs.Taken.{kept_floor}
 use Rattle.law_history.proofs.Accepting.{taken_kept}
 use Rattle.law_history.proofs.Along.{of_places, accepted_taken}
@@ -34,9 +34,9 @@ use Rattle.law_workers.specs.Work.{indexed}
 use Rattle.run_promise.specs.Deed.{Deed, is_protected, tells_entry}
 use Rattle.law_workers.specs.Deeds.{Does, AllBoth, course_in, deeds_of}
 use Rattle.law_workers.specs.Order.{Layout, LiesIn, TakeTurns, Lined, Handled, ComeBefore, is_line, is_piece}
-use Rattle.law_workers.proofs.Histories.{entries_both}
+use Rattle.law_workers.proofs.Histories.{entries_both, place_of_entry}
 use Rattle.law_workers.proofs.Joining.{does_then, grows_further}
-use Rattle.law_workers.proofs.Logs.{entries_low, stands_both, stands_head, stands_tail, count_kept, count_one, drawers_both}
+use Rattle.law_workers.proofs.Logs.{entries_low, stands_both, stands_head, stands_tail, count_at_both, count_kept, count_one, drawers_both}
 use Rattle.law_workers.proofs.Ordering.{lined_on, lined_then}
 use Rattle.law_runs.specs.Settled.{AreSettled}
 use Rattle.run_promise.specs.Sound.{deeds_octets}
@@ -344,6 +344,24 @@ module _ (begin : Begin) (first v mid w : View) (places more : List Place) (answ
 
   pub own_does : Does begin v mid (records_of more) (deeds_from more next)
   own_does = here (record { lane_of = lane_at more; segment_of = λ index. number }) own_lies
+
+  -- a record of which the segment made no entry has none, since those before it have other numbers
+  pub none_at_all : IsWhole begin.rows mid → (index : ℕ) → segment.next ≤ index
+      → ((made : List ℕ) → mid.turn.made ≡ v.turn.made ++ made → count_at (is_of_record index) (log_of mid) made ≡ 0) → HasNoEntry (entries_in mid) index
+  none_at_all whole_mid index high unmade p entry there is =
+      let d : Does begin v mid (records_of more) (deeds_from more next) = own_does in
+      let (x, low, at, same) = place_of_entry (log_of mid) p entry there in
+      let all = whole_mid.made x in
+      let stands_there : 0 < stands x mid.turn.made = grind (arith, nat_tests) in
+      let one = count_one (is_of_record index) (log_of mid) x mid.turn.made stands_there
+      (ap (is_of_record index) at ∙ (ap (is_index index) is ∙ eq-eqb index index refl)) in
+      let split : count_at (is_of_record index) (log_of mid) mid.turn.made ≡ count_at (is_of_record index) (log_of mid) (v.turn.made ++ d.gains.made) =
+      ap (count_at (is_of_record index) (log_of mid)) d.gained.made in
+      let both = count_at_both (is_of_record index) (log_of mid) v.turn.made d.gains.made in
+      let new = unmade d.gains.made d.gained.made in
+      let old = old_entries (record { lane_of = lane_at more; segment_of = λ index. number }) own_lies index in
+      let none : (0 < indexed index (records_of places)) → ⊥ = λ some. (let less = indexed_high segment.next index places segment.low some in omega arith) in
+      none (omega arith)
 
   -- and its answers are settled at the first put behind it
   module _ (founded : IsFounded begin first) (whole_mid : IsWhole begin.rows mid) (whole_w : IsWhole begin.rows w) (up : AllPairs IsBefore (places ++ more))

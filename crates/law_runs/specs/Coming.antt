@@ -10,6 +10,7 @@ use Rattle.record_io.specs.Input.{Item, IsInput, Whole, MalformedAt}
 use Rattle.record_io.specs.Places.{Place, places_of}
 use Rattle.record_io.specs.Reading.{SourceSeen, Standing, IsReading, HasTaken}
 use Rattle.run_promise.specs.declared.limits.TheConstants.{MOST_ENTRIES}
+use Rattle.run_promise.specs.Run.{HasNoEntry}
 use Rattle.run_promise.specs.Fits.{MayAppend}
 use Rattle.run_promise.specs.Begin.{Begin}
 use Rattle.law_workers.specs.Views.{IsBetween, entries_in}
@@ -68,7 +69,7 @@ PutsBy begin now failed_before failed answers (ends.NoState offset) = ⊥
 PutsBy begin now failed_before failed answers ends.SessionFull = HasPut begin now failed_before failed answers
 PutsBy begin now failed_before failed answers ends.PutFailed = HasBroken begin now failed_before failed answers
 
--- the history is full, and the first record without an answer needs an entry, or may need one
+-- the history is full, and the first record without an answer, of which no entry was made, needs one, or may need one
 pub record StopsAtFullHistory (begin : Begin) (first now : View) (places : List Place)
     (answers : List Answer) : Type 0 where
   pub place : Place
@@ -76,6 +77,7 @@ pub record StopsAtFullHistory (begin : Begin) (first now : View) (places : List 
   pub full : MOST_ENTRIES ≤ length (entries_in now)
   pub due : (place.task.kind ≢ Protect) ⊎ MayAppend (IsBetween begin first now) (course_in begin now) MOST_ENTRIES
       place.task
+  pub unmade : HasNoEntry (entries_in now) place.task.index
 
 -- The reading and the serving came to this end. The records handled are those of a front of the items.
 pub record HasCome (start source : SourceSeen) (begin : Begin) (first now : View) (failed_before failed stored : ℕ)

@@ -9,9 +9,10 @@ use Rattle.record_io.specs.declared.kinds.RecordKind.TheVariants.{Protect}
 use Rattle.record_io.specs.declared.records.Record.{Record}
 use Rattle.record_io.specs.Answers.{answers_octets}
 use Rattle.run_promise.specs.declared.limits.TheConstants.{MOST_ENTRIES}
+use Rattle.run_promise.specs.Counts.{is_of_record, count_at}
 use Rattle.run_promise.specs.Fits.{MayAppend}
 use Rattle.run_promise.specs.Begin.{Begin}
-use Rattle.law_workers.specs.Views.{IsBetween, entries_in}
+use Rattle.law_workers.specs.Views.{IsBetween, log_of, entries_in}
 use Rattle.law_workers.specs.Deeds.{course_in, deeds_of}
 use Rattle.law_workers.specs.Order.{Layout, LiesIn, Handled}
 use Rattle.run_promise.specs.Alone.{OneLane}
@@ -47,9 +48,11 @@ pub record PutsBadly (begin : Begin) (mid w : View) (answers : List Answer) (fai
   pub one_failed : failed ≡ failed_before + 1
   pub rose : Rose w.turn.known.opening.faults w.turn.known.faults
 
--- the history is full for the first record without an answer
+-- the history is full for the first record without an answer, and the worker made no entry of it
 pub record IsFullSegment (begin : Begin) (v mid : View) (records : List Record) (answers : List Answer) : Type 0 where
   pub task : Record
   pub first_without : slice_get records (length answers) ≡ Some task
   pub full : MOST_ENTRIES ≤ length (entries_in mid)
   pub due : (task.kind ≢ Protect) ⊎ MayAppend (IsBetween begin v mid) (course_in begin mid) MOST_ENTRIES task
+  pub unmade : (made : List ℕ) → mid.turn.made ≡ v.turn.made ++ made
+      → count_at (is_of_record task.index) (log_of mid) made ≡ 0

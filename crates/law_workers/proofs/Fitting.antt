@@ -114,6 +114,12 @@ module _ (near far : ℕ → ℕ → Type 0) (more : (k n : ℕ) → near k n �
     position_is = h.position_is ∙ sym (closed (let a = h.rose in let b = h.counted in omega arith));
   }
 
+  stands_more : (x : Answer) (e : Entry) → StandsAt old x e → StandsAt new x e
+  stands_more x e h = record {
+    least = h.least;
+    there = get_front es rest (x.position - 1) (slice_get_within es (x.position - 1) e h.there) ∙ h.there;
+  }
+
   fits_any : (t : Record) (x : Answer) → FitsAny near old t x → FitsAny far new t x
   fits_any t x (inl h) = inl (record {
     told = h.told;
@@ -122,16 +128,16 @@ module _ (near far : ℕ → ℕ → Type 0) (more : (k n : ℕ) → near k n �
     full = λ is_told. rw (take-append-le x.position es rest h.within) (h.full is_told);
     may = can_append t.kind x.position t h.within h.may;
   })
-  fits_any t x (inr (inl h)) = inr (inl (record { tells = tells_more _ x h.tells; may = once_more t h.may }))
+  fits_any t x (inr (inl h)) = inr (inl (record {
+    tells = tells_more _ x h.tells;
+    may = once_more t h.may;
+    entry = h.entry;
+    last = stands_more x h.entry h.last;
+    own = h.own;
+  }))
   fits_any t x (inr (inr (inl h))) =
       inr (inr (inl (record { tells = tells_more _ x h.tells; may = ⊎_elim inl (λ m. inr (once_more t m)) h.may })))
   fits_any t x (inr (inr (inr h))) = inr (inr (inr h))
-
-  stands_more : (x : Answer) (e : Entry) → StandsAt old x e → StandsAt new x e
-  stands_more x e h = record {
-    least = h.least;
-    there = get_front es rest (x.position - 1) (slice_get_within es (x.position - 1) e h.there) ∙ h.there;
-  }
 
   before_kept : (x : Answer) (e : Entry) → StandsAt old x e → after_first start (es ++ rest) (x.position - 1) ≡ after_first start es (x.position - 1)
   before_kept x e h = let low = slice_get_within es (x.position - 1) e h.there in first_kept (x.position - 1) (omega arith)

@@ -20,7 +20,7 @@ use Rattle.law_workers.specs.Work.{Works, Worked}
 use Rattle.run_promise.specs.Deed.{Deed, StandsBehind, InTurn}
 use Rattle.law_workers.specs.Deeds.{StandsWithin, Agree, MadeLast, IsSpent, Answers, Does, AtOnce, AllBoth}
 use Rattle.law_workers.proofs.Logs.{stands_both, times_both, piece_count_both, last_once, entries_low}
-use Rattle.law_workers.proofs.Working.{widen_works, widen_answers, merge_works, merge_answers, row_later, told_later, closed}
+use Rattle.law_workers.proofs.Working.{widen_works, widen_answers, merge_works, merge_answers, merge_unmade, widen_unmade, row_later, told_later, closed}
 
 pub top_both : (row : ℕ) (a b : List (ℕ × ℕ)) → top row (a ++ b) ≡ max (top row a) (top row b)
 top_both row [] b = omega arith
@@ -103,6 +103,7 @@ does_nothing begin v tasks = record {
   sparing = omega arith;
   works = works_nothing begin v tasks;
   answers = no_answers begin v v no_gains;
+  unmade = λ k d l. absurd (omega arith);
 }
 
 pub nothing_gains : (begin : Begin) (v : View) (tasks : List Record) → (does_nothing begin v tasks).gains ≡ no_gains
@@ -118,6 +119,7 @@ does_unanswered begin v w tasks d = record {
   sparing = d.sparing;
   works = d.works;
   answers = no_answers begin v w d.gains;
+  unmade = λ k e l. absurd (omega arith);
 }
 
 gained_then : (u v w : View) (g h : Gains) → Gained u v g → Gained v w h → Gained u w (both_gains g h)
@@ -202,6 +204,8 @@ module _ (begin : Begin) (u v w : View) (ts us : List Record) (ds es : List Deed
         works = merge_works begin u w a.gains b.gains ts us first second;
         answers = merge_answers begin u w a.gains b.gains ds es early late cross
             (λ j e m i d l. agree_back begin w (slice_index_or ds i d) (slice_index_or es j e) (turns i d l j e m) (cross i d l j e m));
+        unmade = merge_unmade begin u w a.gains b.gains ts us ds es first second
+            (widen_unmade begin u u v w (grows_itself u) b.grows a.gains ts ds (λ x h. (a.works.made x h).1) a.unmade) b.unmade;
       }
 
   pub then_gains : does_then.gains ≡ both_gains a.gains b.gains
@@ -317,6 +321,12 @@ module _ (begin : Begin) (u v w : View) (ts us : List Record) (ds es : List Deed
       let failed : z.turn.known.put_faults ≡ max v.turn.known.put_faults w.turn.known.put_faults = ap (λ (k : Known). k.put_faults) known in
       omega arith
 
+  works_left : Works begin u z a.gains ts
+  works_left = widen_works begin u (keeping u) v z from_left grows_left a.gains ts a.works
+
+  works_right : Works begin u z b.gains us
+  works_right = widen_works begin u (starting u) w z from_right grows_right b.gains us b.works
+
   -- what was done by two workers at once, of which one was split from the other
   pub does_beside : Does begin u z (ts ++ us) (ds ++ es)
   does_beside =
@@ -335,10 +345,11 @@ module _ (begin : Begin) (u v w : View) (ts us : List Record) (ds es : List Deed
         gained = beside;
         grows = grows_further u (keeping u) z from_left (grows_further (keeping u) v z a.grows grows_left);
         sparing = sparing_both;
-        works = merge_works begin u z a.gains b.gains ts us
-            (widen_works begin u (keeping u) v z from_left grows_left a.gains ts a.works)
-            (widen_works begin u (starting u) w z from_right grows_right b.gains us b.works);
+        works = merge_works begin u z a.gains b.gains ts us works_left works_right;
         answers = merge_answers begin u z a.gains b.gains ds es left right cross back;
+        unmade = merge_unmade begin u z a.gains b.gains ts us ds es works_left works_right
+            (widen_unmade begin u (keeping u) v z from_left grows_left a.gains ts ds (λ x h. (a.works.made x h).1) a.unmade)
+            (widen_unmade begin u (starting u) w z from_right grows_right b.gains us es (λ x h. (b.works.made x h).1) b.unmade);
       }
 
   pub beside_gains : does_beside.gains ≡ both_gains a.gains b.gains

@@ -15,7 +15,7 @@ use Rattle.law_workers.specs.Deeds.{Does, deeds_of, AtOnce, AllBoth}
 use Rattle.law_workers.specs.Order.{Layout, LiesIn, Handled}
 use Rattle.law_workers.specs.Lanes.{is_of_lane, of_lane, giving_shares, Part, DidPart, meeting_all, MeetAll, parts_deeds, parts_tasks}
 use Rattle.law_workers.proofs.Logs.{legal_wider}
-use Rattle.law_workers.proofs.Working.{raised_among, reorder}
+use Rattle.law_workers.proofs.Working.{raised_among, reorder, unmade_among}
 use Rattle.law_workers.proofs.Joining.{top_both, grows_itself, grows_further, known_after}
 use Rattle.law_workers.proofs.Handling.{handled_nothing, handled_beside, set_aside}
 
@@ -34,7 +34,7 @@ deeds_are s n (t ∷ ts) xs = go (is_of_lane n t) refl xs (λ ys. deeds_are s n 
     go true is (y ∷ ys) rest = let own : t.lane ≡ n = grind (arith, nat_tests) in
         All-cons (λ (d : Deed). IsOf s n d) (deed_of s t y) (deeds_of s (of_lane n ts) ys) (refl, own) (rest ys)
 
-tasks_are : (n : ℕ) (ts : List Record) → All (λ (t : Record). t.lane ≡ n) (of_lane n ts)
+pub tasks_are : (n : ℕ) (ts : List Record) → All (λ (t : Record). t.lane ≡ n) (of_lane n ts)
 tasks_are n [] = All-nil (λ (t : Record). t.lane ≡ n)
 tasks_are n (t ∷ ts) = go (is_of_lane n t) refl (tasks_are n ts)
   where
@@ -43,7 +43,7 @@ tasks_are n (t ∷ ts) = go (is_of_lane n t) refl (tasks_are n ts)
     go false is rest = rest
     go true is rest = let own : t.lane ≡ n = grind (arith, nat_tests) in All-cons (λ (t : Record). t.lane ≡ n) t (of_lane n ts) own rest
 
-of_lane_within : (n : ℕ) (tasks : List Record) → All (Contains tasks) (of_lane n tasks)
+pub of_lane_within : (n : ℕ) (tasks : List Record) → All (Contains tasks) (of_lane n tasks)
 of_lane_within n tasks = All-filter (is_of_lane n) (Contains tasks) tasks (All-contains_itself tasks)
 
 -- the answered records are of the segment and of none of these lanes, and so are the records
@@ -240,6 +240,9 @@ lanes_handled layout begin base now s tasks parts deeds lies few free filled is 
     let drawn : drawers (parts_tasks tasks parts) ≤ drawers tasks =
     (let a = drawers_sum (parts_tasks tasks parts) in let b = drawers_sum tasks in
     let c = sum_lanes (λ (t : Record). if draws t.kind then 1 else 0) tasks parts apart in omega arith) in
+    let each : (i : ℕ) → indexed i (parts_tasks tasks parts) ≤ indexed i tasks = λ i.
+    let a = indexed_sum i (parts_tasks tasks parts) in let b = indexed_sum i tasks in
+    let c = sum_lanes (λ (t : Record). if eqb t.index i then 1 else 0) tasks parts apart in omega arith in
     let size : length (parts_tasks tasks parts) ≤ length tasks =
     (let a = length_sum (parts_tasks tasks parts) in let b = length_sum tasks in let c = sum_lanes (λ (t : Record). 1) tasks parts apart in omega arith) in
     record {
@@ -249,10 +252,9 @@ lanes_handled layout begin base now s tasks parts deeds lies few free filled is 
         grows = d.grows;
         sparing = d.sparing;
         works = works_among begin base (meeting_all now parts) d.gains (parts_tasks tasks parts) tasks drawn
-            (λ i. let a = indexed_sum i (parts_tasks tasks parts) in let b = indexed_sum i tasks in
-            let c = sum_lanes (λ (t : Record). if eqb t.index i then 1 else 0) tasks parts apart in omega arith)
-            (λ t c. All-contains (Contains tasks) (parts_tasks tasks parts) t (parts_within tasks parts) c) d.works;
+            each (λ t c. All-contains (Contains tasks) (parts_tasks tasks parts) t (parts_within tasks parts) c) d.works;
         answers = reorder begin base (meeting_all now parts) d.gains (parts_deeds s tasks parts) deeds in' d.answers;
+        unmade = unmade_among (meeting_all now parts) d.gains (parts_tasks tasks parts) tasks (parts_deeds s tasks parts) deeds each in' d.unmade;
       };
       lined = record {
         in_order = all.lined.in_order;

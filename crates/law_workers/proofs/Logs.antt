@@ -26,6 +26,15 @@ use Rattle.law_workers.specs.Deeds.{IsLastAt}
 use Rattle.law_workers.proofs.Histories.{get_front}
 use Rattle.law_workers.proofs.Fitting.{seen_nearer}
 
+-- what stands behind the same front is the same
+pub same_behind : {X : Type 0} (front one other : List X) → front ++ one ≡ front ++ other → one ≡ other
+same_behind [] one other is = is
+same_behind {X} (x ∷ front) one other is = same_behind front one other (ap rest is)
+  where
+    rest : List X → List X
+    rest [] = []
+    rest (y ∷ ys) = ys
+
 pub stands_both : (x : ℕ) (a b : List ℕ) → stands x (a ++ b) ≡ stands x a + stands x b
 stands_both x [] b = omega arith
 stands_both x (y ∷ a) b = let h = stands_both x a b in omega arith

@@ -19,9 +19,9 @@ use Rattle.unit_state.specs.History.{after, after_first}
 use Rattle.run_promise.specs.Log.{entries_of}
 use Rattle.run_promise.specs.Numbers.{mark_of, mark_at}
 use Rattle.run_promise.specs.Legal.{AsksFor, IsLegal}
-use Rattle.run_promise.specs.Run.{IsAskedFor, NearWord}
+use Rattle.run_promise.specs.Run.{IsAskedFor, NearWord, HasNoEntry}
 use Rattle.run_promise.specs.Counts.{is_index, is_of_record}
-use Rattle.run_promise.specs.Answers.{Uses}
+use Rattle.run_promise.specs.Answers.{Uses, IsUnmade}
 use Rattle.run_promise.specs.Fits.{Course, Fits}
 use Rattle.run_promise.specs.Begin.{Begin}
 use Rattle.law_workers.specs.Views.{log_of, entries_in, IsRow, IsBetween}
@@ -30,7 +30,7 @@ use Rattle.run_promise.specs.Deed.{Deed, InTurn, StandsBehind, Differ}
 use Rattle.law_workers.specs.Deeds.{Does, course_in}
 use Rattle.law_workers.proofs.Histories.{row_kept_first, place_of_entry}
 use Rattle.law_workers.proofs.Fitting.{fits_more}
-use Rattle.law_workers.proofs.Logs.{count_two, legal_wider}
+use Rattle.law_workers.proofs.Logs.{count_one, count_two, legal_wider}
 use Rattle.law_workers.proofs.Joining.{top_both}
 use Rattle.law_workers.specs.Opened.{IsJustOpened}
 use Rattle.law_workers.proofs.Rows.{row_named, row_one, mark_known}
@@ -184,6 +184,15 @@ module _ (begin : Begin) (v w : View) (tasks : List Record) (deeds : List Deed) 
   pub order : AllPairs (λ (a b : Deed). a.task.index < b.task.index) deeds
       → AllPairs (λ (a b : Deed). InTurn a b → StandsBehind begin (entries_in w) a b) deeds
   order up i j e lt within turn = (d.answers.agree i e (omega arith) j e within).order (up i j e lt within) turn
+
+  -- no entry is of a record whose answer says that none was made
+  pub none_made : ((i : ℕ) → indexed i tasks ≤ 1) → All (λ (a : Deed). IsUnmade a.answer.code → HasNoEntry (entries_in w) a.task.index) deeds
+  none_made few k e l code p entry there is =
+      let index : ℕ = (slice_index_or deeds k e).task.index in
+      let (place, low, at, same) = place_of_entry (log_of w) p entry there in
+      let one = count_one (is_of_record index) (log_of w) place d.gains.made (made_since begin v w tasks deeds opened d whole place low)
+      (ap (is_of_record index) at ∙ (ap (is_index index) is ∙ eq-eqb index index refl)) in
+      let less = d.unmade k e l code in let alone = few index in omega arith
 
   -- each answer fits its record, by the numbers that are near in the whole run
   pub answers_fit : All (λ (a : Deed). Fits (NearWord begin.start (entries_in w) tasks) (course_in begin w) a.task a.answer) deeds

@@ -17,13 +17,14 @@ use Rattle.unit_state.specs.History.{after, after_first}
 use Rattle.unit_state.proofs.Histories.{after_more}
 use Rattle.run_promise.specs.Log.{entries_of}
 use Rattle.run_promise.specs.Legal.{IsLegalAt}
+use Rattle.run_promise.specs.Answers.{IsUnmade}
 use Rattle.run_promise.specs.Counts.{is_of_record, is_of_none}
 use Rattle.run_promise.specs.Fits.{Course, Fits, MayAppend}
 use Rattle.run_promise.specs.Begin.{Begin}
 use Rattle.law_workers.specs.Views.{Gains, both_gains, log_of, entries_in, IsRow, IsBetween, KnowsMore}
-use Rattle.law_workers.specs.Work.{IsAsked, Works}
+use Rattle.law_workers.specs.Work.{IsAsked, Works, indexed}
 use Rattle.run_promise.specs.Deed.{Deed, is_ordered, epoch_told, StandsBehind}
-use Rattle.law_workers.specs.Deeds.{course_in, StandsWithin, IsLastAt, Agree, EachTwo, AllBoth, MadeLast, IsSpent, Answers}
+use Rattle.law_workers.specs.Deeds.{course_in, StandsWithin, IsLastAt, Agree, EachTwo, AllBoth, MadeLast, IsSpent, Answers, IsWithoutEntry, AreUnmade}
 use Rattle.law_workers.proofs.Histories.{entries_both, entries_counted, row_kept}
 use Rattle.law_workers.proofs.Fitting.{can_append, fits_more}
 use Rattle.law_workers.proofs.Logs.{stands_both, times_both, count_of_both, last_kept, drawers_both, indexed_both, count_at_both, count_kept, legal_more, legal_wider, told_kept}
@@ -195,6 +196,18 @@ module _ (begin : Begin) (u v w z : View) (low : KnowsMore u v) (high : KnowsMor
     failed = λ k e h c. last_later gains below (d.failed k e h c);
   }
 
+  -- and that a record has no entry stays so
+  without_later : (gains : Gains) (tasks : List Record) (index : ℕ) → ((x : ℕ) → 0 < stands x gains.made → x < length (log_of w))
+      → IsWithoutEntry w gains tasks index → IsWithoutEntry z gains tasks index
+  without_later gains tasks index below h =
+      let rest : List Logged = high.earlier.log.0 in
+      let log_is : log_of z ≡ log_of w ++ rest = high.earlier.log.1 in
+      rw (log_is, count_kept (is_of_record index) (log_of w) rest gains.made below) h
+
+  pub widen_unmade : (gains : Gains) (tasks : List Record) (deeds : List Deed) → ((x : ℕ) → 0 < stands x gains.made → x < length (log_of w))
+      → AreUnmade w gains tasks deeds → AreUnmade z gains tasks deeds
+  widen_unmade gains tasks deeds below d = λ k e h code. without_later gains tasks (slice_index_or deeds k e).task.index below (d k e h code)
+
 either : (a b : ℕ) → 0 < a + b → (0 < a) ⊎ (0 < b)
 either zero b h = inr (omega arith)
 either (suc a) b h = inl (omega arith)
@@ -278,6 +291,25 @@ module _ (begin : Begin) (u z : View) where
         (λ k d l c. last_left g h (a.failed k d l c)) (λ k d l c. last_right g h (b.failed k d l c));
   }
 
+  without_left : (g h : Gains) (ts us : List Record) → Works begin u z h us → (index : ℕ) → IsWithoutEntry z g ts index
+      → IsWithoutEntry z (both_gains g h) (ts ++ us) index
+  without_left g h ts us other index less =
+      let few = other.one_entry index in
+      let c = count_at_both (is_of_record index) (log_of z) g.made h.made in let d = indexed_both index ts us in omega arith
+
+  without_right : (g h : Gains) (ts us : List Record) → Works begin u z g ts → (index : ℕ) → IsWithoutEntry z h us index
+      → IsWithoutEntry z (both_gains g h) (ts ++ us) index
+  without_right g h ts us other index less =
+      let few = other.one_entry index in
+      let c = count_at_both (is_of_record index) (log_of z) g.made h.made in let d = indexed_both index ts us in omega arith
+
+  pub merge_unmade : (g h : Gains) (ts us : List Record) (ds es : List Deed) → Works begin u z g ts → Works begin u z h us
+      → AreUnmade z g ts ds → AreUnmade z h us es → AreUnmade z (both_gains g h) (ts ++ us) (ds ++ es)
+  merge_unmade g h ts us ds es a b one other =
+      All-append (λ (x : Deed). IsUnmade x.answer.code → IsWithoutEntry z (both_gains g h) (ts ++ us) x.task.index) ds es
+      (λ k d l code. without_left g h ts us b (slice_index_or ds k d).task.index (one k d l code))
+      (λ k d l code. without_right g h ts us a (slice_index_or es k d).task.index (other k d l code))
+
 -- the same answers in another order, or some of them
 pub reorder : (begin : Begin) (u z : View) (g : Gains) (ds es : List Deed) → All (Contains ds) es → Answers begin u z g ds → Answers begin u z g es
 reorder begin u z g ds es in' a = record {
@@ -288,3 +320,11 @@ reorder begin u z g ds es in' a = record {
   used = λ k d l. All-contains (IsSpent begin z g) ds _ a.used (in' k d l);
   failed = λ k d l. All-contains (λ (x : Deed). x.answer.code ≡ SITE_FAULT → MadeLast z g) ds _ a.failed (in' k d l);
 }
+
+-- so of the answers that say that no entry was made, with other records that are no fewer
+pub unmade_among : (z : View) (g : Gains) (ts us : List Record) (ds es : List Deed) → ((i : ℕ) → indexed i ts ≤ indexed i us) → All (Contains ds) es
+    → AreUnmade z g ts ds → AreUnmade z g us es
+unmade_among z g ts us ds es each in' a k d l code =
+    let less : IsWithoutEntry z g ts (slice_index_or es k d).task.index =
+    All-contains (λ (x : Deed). IsUnmade x.answer.code → IsWithoutEntry z g ts x.task.index) ds (slice_index_or es k d) a (in' k d l) code in
+    let more = each (slice_index_or es k d).task.index in omega arith

@@ -13,11 +13,12 @@ use Rattle.sdls_outside.specs.Faults.{Rose}
 use Rattle.counter_table.specs.Numbers.{top}
 use Rattle.counter_table.specs.Turn.{stands, epoch_seen}
 use Rattle.run_promise.specs.Log.{entries_of}
-use Rattle.run_promise.specs.Answers.{Uses}
+use Rattle.run_promise.specs.Answers.{Uses, IsUnmade}
+use Rattle.run_promise.specs.Counts.{is_of_record, count_at}
 use Rattle.run_promise.specs.Fits.{Course, Fits}
 use Rattle.run_promise.specs.Begin.{Begin}
 use Rattle.law_workers.specs.Views.{Gains, Gained, KnowsMore, IsBetween, IsRow, log_of, entries_in}
-use Rattle.law_workers.specs.Work.{Works}
+use Rattle.law_workers.specs.Work.{Works, indexed}
 use Rattle.run_promise.specs.Deed.{Deed, is_protected, tells_entry, epoch_told, is_ordered, StandsBehind, InTurn}
 use Rattle.run_promise.specs.Deed.{deed_of}
 
@@ -87,8 +88,17 @@ pub record Answers (begin : Begin) (old new : View) (gains : Gains) (deeds : Lis
   -- who answers that the site failed made the last entry
   pub failed : All (λ deed. deed.answer.code ≡ SITE_FAULT → MadeLast new gains) deeds
 
+-- Fewer entries with this number were made than there are records with it. Where one record has the number, none was.
+abbrev pub IsWithoutEntry : View → Gains → List Record → ℕ → Type 0
+IsWithoutEntry new gains tasks index = count_at (is_of_record index) (log_of new) gains.made < indexed index tasks
+
+-- so it is of each record whose answer says that it made no entry
+abbrev pub AreUnmade : View → Gains → List Record → List Deed → Type 0
+AreUnmade new gains tasks deeds =
+    All (λ deed. IsUnmade deed.answer.code → IsWithoutEntry new gains tasks deed.task.index) deeds
+
 -- What a worker did from the old view to the new one with these records, and the answers that it gave. No more puts
--- failed than pieces were put.
+-- failed than pieces were put. A record whose answer says that it made no entry made none.
 pub record Does (begin : Begin) (old new : View) (tasks : List Record) (deeds : List Deed) : Type 0 where
   pub gains : Gains
   pub gained : Gained old new gains
@@ -96,6 +106,7 @@ pub record Does (begin : Begin) (old new : View) (tasks : List Record) (deeds : 
   pub sparing : IsSparing old.turn.known new.turn.known
   pub works : Works begin old new gains tasks
   pub answers : Answers begin old new gains deeds
+  pub unmade : AreUnmade new gains tasks deeds
 
 -- records that are handled at the same time: of one segment, on different lanes
 abbrev pub AtOnce : Deed → Deed → Type 0

@@ -96,3 +96,7 @@ Uses answer key number = ((answer.code ≡ PROTECTED) ⊎ ((answer.code ≡ DONE
 -- the answer accepts the number under the key
 abbrev pub Accepts : Answer → ℕ → ℕ → Type 0
 Accepts answer key number = (answer.code ≡ ACCEPTED) × (answer.key ≡ key) × (answer.number ≡ number)
+
+-- The code says that the record made no entry: no slot was left for it, the site had failed before, or memory ran out.
+abbrev pub IsUnmade : ℕ → Type 0
+IsUnmade code = (code ≡ JOURNAL_FULL) ⊎ ((code ≡ STOPPED) ⊎ (code ≡ NO_MEMORY))

@@ -9,7 +9,7 @@ use Rattle.record_io.specs.Places.{Place, records_of}
 use Rattle.unit_plan.specs.PlanLines.{PlanLines}
 use Rattle.unit_state.specs.declared.state.State.{State}
 use Rattle.unit_image.specs.Shows.{ShowsNone}
-use Rattle.run_promise.specs.Run.{NearWord}
+use Rattle.run_promise.specs.Run.{NearWord, HasNoEntry}
 use Rattle.run_promise.specs.Fits.{MayAppend}
 use Rattle.run_promise.specs.declared.limits.TheConstants.{MOST_ENTRIES}
 use Rattle.run_promise.specs.declared.end.RunEnd.{RunEnd}
@@ -18,7 +18,7 @@ use Rattle.run_promise.specs.declared.end.RunEnd.TheVariants.{NoState, SessionFu
 use Rattle.run_promise.specs.Call.{CallSeen, ShowsAtEntry, image_at_entry}
 use Rattle.run_promise.specs.Account.{Account, end_status, due_octets, course_of}
 
--- The history is full, and the first record without an answer needs an entry, or may need one.
+-- The history is full, and the first record without an answer needs an entry, or may need one. None was made of it.
 pub record IsFullAt (call : CallSeen) (account : Account) : Type 0 where
   pub full : length call.entries ≡ MOST_ENTRIES
   pub place : Place
@@ -27,6 +27,7 @@ pub record IsFullAt (call : CallSeen) (account : Account) : Type 0 where
       → (place.task.kind ≢ Protect)
       ⊎ MayAppend (NearWord state call.entries (records_of account.handled)) (course_of call account plan state)
       MOST_ENTRIES place.task
+  pub unmade : HasNoEntry call.entries place.task.index
 
 -- Why the reading ended. If the unit was not opened, nothing was entered, and nothing was taken of the source.
 abbrev pub CameBy : CallSeen → Account → RunEnd → Type 0

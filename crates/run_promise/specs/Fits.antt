@@ -1,6 +1,6 @@
 -- When an answer fits the record that it answers (profile).
 use Rattle.std.specs.Prelude.{◌≡◌, ◌≢◌, ℕ, ◌+◌, ◌-◌, ◌<◌, ◌≤◌, ◌⊎◌, Bool, IsTrue, List, [], ◌++◌, length, take}
-use Rattle.std.specs.Prelude.{slice_get, Some, Ok}
+use Rattle.std.specs.Prelude.{slice_get, Some, None, Ok}
 use Rattle.sdls_base.specs.KeyId.{end_of}
 use Rattle.sdls_base.specs.declared.change.Change.{Change}
 use Rattle.sdls_base.specs.declared.change.Change.TheVariants as changes
@@ -196,10 +196,14 @@ pub record TellsRisenCount (course : Course) (code : ℕ) (answer : Answer) : Ty
   pub counted : answer.number ≤ course.faults
   pub position_is : answer.position ≡ length course.entries
 
--- the site failed while an entry was stored
+-- The site failed while an entry was stored. That entry is the last of all. It is of this record, or of none, as the
+-- reserve of a number that the record drew is.
 pub record IsFaulted (near : ℕ → ℕ → Type 0) (course : Course) (task : Record) (answer : Answer) : Type 0 where
   pub tells : TellsRisenCount course SITE_FAULT answer
   pub may : MayAppendOnce near course task
+  pub entry : Entry
+  pub last : StandsAt course answer entry
+  pub own : (entry.index ≡ None) ⊎ (entry.index ≡ Some task.index)
 
 -- the site had failed before
 pub record IsStopped (near : ℕ → ℕ → Type 0) (course : Course) (task : Record) (answer : Answer) : Type 0 where

@@ -64,6 +64,10 @@ pub record IsLegalHistory (plan : PlanLines) (start : State) (places : List Plac
   pub rules : KeepsRules start
   pub run : LegalRun plan start (records_of places) (TurnIn places) entries
 
+-- no entry is of the record with this number
+abbrev pub HasNoEntry : List Entry → ℕ → Type 0
+HasNoEntry entries index = (p : ℕ) (entry : Entry) → slice_get entries p ≡ Some entry → entry.index ≢ Some index
+
 -- the record is one of those of these places, and the only one with its number
 pub record IsOneOf (places : List Place) (task : Record) : Type 0 where
   pub there : Contains (records_of places) task

@@ -10,8 +10,8 @@ use Rattle.unit_state.specs.Restart.{restarted}
 use Rattle.unit_state.specs.History.{after_first, epoch_after}
 use Rattle.unit_image.specs.Shows.{Shows}
 use Rattle.run_promise.specs.Numbers.{mark_of, floor_of}
-use Rattle.run_promise.specs.Run.{NearWord, IsLegalHistory}
-use Rattle.run_promise.specs.Answers.{Uses, Accepts}
+use Rattle.run_promise.specs.Run.{NearWord, IsLegalHistory, HasNoEntry}
+use Rattle.run_promise.specs.Answers.{Uses, Accepts, IsUnmade}
 use Rattle.run_promise.specs.Fits.{Course, Fits}
 use Rattle.run_promise.specs.Taken.{kept_floor}
 use Rattle.run_promise.specs.Begin.{Begin}
@@ -22,7 +22,8 @@ abbrev pub deeds_octets : List Deed → List ℕ
 deeds_octets deeds = answers_octets (map (λ deed. deed.answer) deeds)
 
 -- The run is sound: its history is legal, each answer fits its record, no number is used or accepted twice under a key,
--- at most one answer says that the site failed while an entry was stored, and the answers stand in order.
+-- at most one answer says that the site failed while an entry was stored, the answers stand in order, and no entry is of
+-- a record whose answer says that it made none.
 pub record IsSound (begin : Begin) (course : Course) (places : List Place) (deeds : List Deed) : Type 0 where
   pub begins : begin.plan ≡ course.plan
   pub history : IsLegalHistory course.plan course.start places course.entries
@@ -36,6 +37,7 @@ pub record IsSound (begin : Begin) (course : Course) (places : List Place) (deed
       → floor_of course.start key < number) deeds
   pub one_fault : AllPairs (λ one other. one.answer.code ≡ SITE_FAULT → other.answer.code ≢ SITE_FAULT) deeds
   pub order : AllPairs (λ one other. InTurn one other → StandsBehind begin course.entries one other) deeds
+  pub none_made : All (λ deed. IsUnmade deed.answer.code → HasNoEntry course.entries deed.task.index) deeds
 
 -- The answer is covered by the state after the first p entries: its own entry, its epoch, its number and what it
 -- accepted are among what that state knows.

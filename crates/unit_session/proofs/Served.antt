@@ -125,7 +125,7 @@ module _ (told : Bool) (v mid w : View) (tasks : List Record) (up : Ascend tasks
           answers = answers;
           handles = handles true (task, there, is);
           stands = stands;
-          so = (well done p, record { task = task; first_without = there; full = is.full; due = is.due });
+          so = (well done p, record { task = task; first_without = there; full = is.full; due = is.due; unmade = is.unmade });
         }
         go (Err fault) f ends p = record {
           mid = mid;

@@ -16,9 +16,9 @@ use Rattle.law_workers.proofs.Alone.{turns_nothing}
 use Rattle.law_calls.specs.Answering.{Answered, AnsweredExactly}
 use Rattle.law_workers.specs.Began.{BeganWith}
 use Rattle.law_workers.specs.Ends.{EndsSegment}
-use Rattle.frame_workers.proofs.Steps.{lane_own, lane_other, lane_short, lane_whole, lane_next, lane_step, lane_stop}
+use Rattle.frame_workers.proofs.Steps.{lane_own, lane_other, lane_short, lane_whole, lane_next, lane_first, lane_step, lane_stop}
 use Rattle.frame_workers.proofs.Exactly.{next_exactly, stop_exactly}
-use Rattle.frame_workers.proofs.Fulls.{full_stays}
+use Rattle.frame_workers.proofs.Fulls.{full_stays, none_before}
 use Rattle.frame_workers.proofs.lane.run_lane.Goals as goal
 
 pub loop-task-init : goal.loop-task-init
@@ -99,7 +99,10 @@ returns-in-None g c =
             let y : Answered layout begin 0 v w r None = subst (Answered layout begin 0 v w r) c.in-None.is (c.handle-answer.ensures.answered layout begin 0 b') in (
               r,
               subst (λ (m : ℕ). slice_get (of_lane n rs) m ≡ Some r) (sym inv.count) (lane_next n rs k r c.task-item.is within own),
-              full_stays begin u v w w r x.does.grows (grows_itself w) y.1,
+              full_stays begin u v w w r x.does.grows (grows_itself w) y.1
+                  (none_before begin u v w (of_lane n (take k rs)) (deeds_of 0 (of_lane n (take k rs)) xs) r.index x.does y.0.does.grows
+                  y.0.does.gains.made y.0.does.gained.made (lane_first n rs k r c.task-item.is within inv.ascend own)
+                  (y.1.unmade y.0.does.gains.made y.0.does.gained.made)),
             );
         exactly = λ begin s b.
             let layout : Layout = record { lane_of = λ i. 0; segment_of = λ i. 0 } in
@@ -140,7 +143,7 @@ loop-task-preserved g c =
           let y : Answered layout begin s v w r (Some c.in-Some.answer) =
           subst (Answered layout begin s v w r) c.in-Some.is (c.handle-answer.ensures.answered layout begin s b') in
           subst (λ (l : List Answer). Handled layout begin u w (of_lane n (take (k + 1) rs)) (deeds_of s (of_lane n (take (k + 1) rs)) l)) (sym pushed.items)
-          (lane_step n rs k r c.task-item.is within layout begin u v w s xs own inv.ascend inv.count c.in-Some.answer x y);
+          (lane_step n rs k r c.task-item.is within layout begin u v w s xs own inv.ascend inv.count c.in-Some.answer x y.0);
       exactly = λ begin s b.
           let layout : Layout = record { lane_of = λ i. 0; segment_of = λ i. 0 } in
           let x = inv.handled begin layout s b in
@@ -151,7 +154,7 @@ loop-task-preserved g c =
           subst (AnsweredExactly begin s v w r) c.in-Some.is (c.handle-answer.ensures.exactly begin s b') in
           subst (λ (l : List Answer). MovedInTurn begin u w (length (of_lane n (take (k + 1) rs))) (deeds_of s (of_lane n (take (k + 1) rs)) l)) (sym pushed.items)
           (subst (λ (l : List Record). MovedInTurn begin u w (length l) (deeds_of s l (xs ++ c.in-Some.answer ∷ []))) (sym taken)
-          (next_exactly begin s u v w (of_lane n (take k rs)) xs inv.count x.does y.does.grows (inv.exactly begin s b) r c.in-Some.answer z));
+          (next_exactly begin s u v w (of_lane n (take k rs)) xs inv.count x.does y.0.does.grows (inv.exactly begin s b) r c.in-Some.answer z));
     }
 
 pub returns : goal.returns

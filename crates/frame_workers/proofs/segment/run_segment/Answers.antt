@@ -127,7 +127,7 @@ returns-clause-full g c begin b =
     λ n. ap (left_at n) (c.as_mut_slice-3.ensures.value ∙ rooms) ∙ (c.join_lanes.ensures.parts n ∙ ap (λ l. answers_of n (parts_of l)) whole) in
     by_flag begin base (view c.look_back.new.worker) rs c.place_answers-full.new.answers.items c.place_answers-full.result c.place_answers-full.ensures.all
     (λ full. subst (λ (v : View). EndsSegment begin base v rs c.place_answers-full.new.answers.items true) (sym last_is)
-    (all_ends (IsReady c.args.unit.now.counters c.args.unit.now.plan) g.O.Site.told rs base old new c.split_lanes.ensures.split c.split_lanes.ensures.apart c.split_lanes.ensures.each many ran now c.split_lanes.ensures.given few c.requires.ready.free c.requires.ready.filled meet two back begin b c.requires.lanes c.place_answers-full.new.answers.items
+    (all_ends (IsReady c.args.unit.now.counters c.args.unit.now.plan) g.O.Site.told rs base old new c.split_lanes.ensures.split c.split_lanes.ensures.apart c.split_lanes.ensures.each many ran now c.split_lanes.ensures.given few c.requires.ready.free c.requires.ready.filled meet two back begin b c.requires.lanes c.requires.ascend c.place_answers-full.new.answers.items
     (stops_same rs (length c.place_answers-full.new.answers.items) (λ n. left_at n c.as_mut_slice-3.result.now) (λ n. answers_of n (parts_of new)) left
     (c.place_answers-full.ensures.stops full))))
 
