@@ -1,5 +1,5 @@
 -- What a segment says of the whole input (profile).
-use Rattle.std.specs.Prelude.{◌≡◌, ℕ, ◌+◌, ◌≤◌, ⊤, Bool, IsTrue, List, [], ◌++◌, length}
+use Rattle.std.specs.Prelude.{◌≡◌, ℕ, ◌+◌, ◌≤◌, Bool, IsTrue, List, [], ◌++◌, length}
 use Rattle.std.specs.List.{All}
 use Rattle.sdls_outside.specs.Faults.{Rose}
 use Rattle.record_io.specs.declared.records.Record.{Record}
@@ -76,9 +76,10 @@ pub record Loses (start now : SourceSeen) (items : List Item) : Type 0 where
   pub part : List ℕ
   pub takes : HasTaken start now (items ++ more) read part
 
--- a fault of the source comes with its count, and only where that rose
+-- A fault of the source comes with its count, and only if that rose. At every other end it stands where it was: a
+-- source that failed is not asked again.
 abbrev pub HasFaultCause : ℕ → ℕ → SegmentEnd → Type 0
-HasFaultCause before now More = ⊤
-HasFaultCause before now End = ⊤
-HasFaultCause before now (Malformed offset) = ⊤
+HasFaultCause before now More = now ≡ before
+HasFaultCause before now End = now ≡ before
+HasFaultCause before now (Malformed offset) = now ≡ before
 HasFaultCause before now (SourceFault count) = (count ≡ now) × Rose before now

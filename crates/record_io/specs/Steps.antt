@@ -109,9 +109,9 @@ abbrev pub Wants : Bool → ℕ → List ℕ → List ℕ → Type 0
 Wants told taken left_old left_new = (items : List Item) × (part : List ℕ)
     × Took told items part taken left_old left_new
 
--- a fault that was read has its cause
+-- a fault that was read has its cause, and a record comes only if the source did not fail
 abbrev pub IsFaultRead : ℕ → ℕ → Read → Type 0
-IsFaultRead before now (reads.Next kind lane link octets) = ⊤
+IsFaultRead before now (reads.Next kind lane link octets) = now ≡ before
 IsFaultRead before now (reads.Ends end) = HasFaultCause before now end
 
 -- the count of records stays, and where a record was read there are octets enough for one more

@@ -251,6 +251,7 @@ impl Reader {
         ensures same_records { self.new.records ≡ self.old.records }
         ensures later { S.faults source.old ≤ S.faults source.new }
         ensures cause { IfSome result (HasFaultCause (S.faults source.old) (S.faults source.new)) }
+        ensures stood { IfNone result (S.faults source.new ≡ S.faults source.old) }
     {
         if self.taken > 0 {
             return None;

@@ -1,4 +1,4 @@
-use Rattle.std.proofs.Common.{◌≡◌, ◌+◌, ◌≤◌, List, [], ◌∷◌, ◌++◌, length, ap, sym, subst, ◌∙◌, arith, length-append}
+use Rattle.std.proofs.Common.{◌≡◌, ◌+◌, ◌≤◌, List, [], ◌∷◌, ◌++◌, length, refl, ap, sym, subst, ◌∙◌, arith, length-append}
 use Rattle.record_io.specs.declared.records.Record.{Record}
 use Rattle.record_io.specs.Input.{items_octets}
 use Rattle.record_io.specs.Steps.{AreNumbered, Took, items_of}
@@ -14,9 +14,9 @@ items-init g c =
     × (c.args.self.now.records ≡ c.args.self.now.records + length records)
     × Took g.S.Source.told (items_of records) [] c.args.self.now.taken left left
     × (c.args.self.now.taken ≡ c.args.self.now.taken + length (items_octets (items_of records)))
-    × (g.S.Source.faults c.args.source.now ≤ g.S.Source.faults c.args.source.now) in
+    × (g.S.Source.faults c.args.source.now ≡ g.S.Source.faults c.args.source.now) in
     subst P (sym c.new-records.ensures.items)
-    (omega arith, tt, omega arith, took_none g.S.Source.told c.args.self.now.taken left c.requires, omega arith, omega arith)
+    (omega arith, tt, omega arith, took_none g.S.Source.told c.args.self.now.taken left c.requires, omega arith, refl)
 
 pub returns-in_err-kind-clause-wants : goal.returns-in_err-kind-clause-wants
 returns-in_err-kind-clause-wants g c =
@@ -28,6 +28,7 @@ items-preserved g c =
     let r : Record = record { index = c.number-index.result; kind = c.in-Next.kind; lane = c.in-Next.lane; link = c.in-Next.link; octets = c.in-Next.octets } in
     let read = rw c.in-Next.is at c.in_ok-kind.ensures.read in
     let counted = rw c.in-Next.is at c.in_ok-kind.ensures.counted in
+    let cause = rw c.in-Next.is at c.in_ok-kind.ensures.cause in
     let pushed : c.push.new.self.items ≡ c.items.records.items ++ r ∷ [] = c.in_ok-push-in-Next.ensures.items in
     let longer : length c.push.new.self.items ≡ length c.items.records.items + 1 = ap length pushed ∙ length-append c.items.records.items (r ∷ []) in
     let index : r.index ≡ c.args.self.now.records + length c.items.records.items = omega (arith, counted.0, c.number-index.ensures.number, c.items.invariant.2) in
@@ -37,7 +38,7 @@ items-preserved g c =
       omega (arith, longer, counted.0, ap (λ p. p.records) c.number-index.ensures.counted, c.items.invariant.2),
       took_record g.S.Source.told c.items.records.items c.push.new.self.items r _ _ _ _ _ pushed c.items.invariant.3 c.items.invariant.4 read.0,
       omega (arith, length-record c.items.records.items c.push.new.self.items r pushed, read.1, c.items.invariant.4, ap (λ p. p.taken) c.number-index.ensures.counted),
-      omega (arith, c.items.invariant.5, c.in_ok-kind.ensures.later),
+      cause ∙ c.items.invariant.5,
     )
 
 pub returns-in_err-push-in-Next-clause-wants : goal.returns-in_err-push-in-Next-clause-wants

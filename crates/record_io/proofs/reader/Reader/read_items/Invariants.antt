@@ -11,7 +11,7 @@ invariant-items g l =
     × (l.self.records ≡ l.initial.self.records + length l.records.items)
     × Took g.S.Source.told (items_of l.records.items) [] l.initial.self.taken (g.S.Source.left l.initial.source) (g.S.Source.left l.source)
     × (l.self.taken ≡ l.initial.self.taken + length (items_octets (items_of l.records.items)))
-    × (g.S.Source.faults l.initial.source ≤ g.S.Source.faults l.source)
+    × (g.S.Source.faults l.source ≡ g.S.Source.faults l.initial.source)
 
 abbrev pub decreases-items : goal.decreases-items
 decreases-items g l = SEGMENT_RECORDS - length l.records.items
