@@ -1,4 +1,4 @@
-ghost use Rattle.std.specs.Prelude.{◌≡◌, ℕ, ◌+◌, IsTrue, List};
+ghost use Rattle.std.specs.Prelude.{◌≡◌, ◌≢◌, ℕ, ◌+◌, IfOk, IsTrue, List};
 ghost use Rattle.sdls_outside.specs.Faults.{HasCause, Rose};
 ghost use Rattle.sdls_plain.specs.Answer.{DeliversText, CheckDue};
 ghost use Rattle.sdls_outside.specs.Intake.{TakesAtMost};
@@ -24,6 +24,7 @@ pub(crate) fn put_check<S: Source, O: Site>(
         × DeliversText O.told text due result (O.trace site.old) (O.trace site.new) }
     ensures taken { IsTrue S.told → TakesAtMost (GREATEST_LENGTH + 1) (S.left source.old) (S.left source.new) }
     ensures cause { HasCause (O.faults site.old) (O.faults site.new) result }
+    ensures heard { IfOk result (λ status. status ≢ SOURCE_FAULT → S.faults source.new ≡ S.faults source.old) }
 {
     let mut buffer = [0; GREATEST_LENGTH + 1];
     match collect(source, &mut buffer) {

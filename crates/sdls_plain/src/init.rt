@@ -62,6 +62,7 @@ fn make_image<O: Site>(alloc: Global, site: &mut O, text: &[u8]) -> InitEnd
     ensures ends { InitEnds (λ input. input ≡ text.now) ⊥ ⊥ O.told (Rose (O.faults site.old) (O.faults site.new))
         (O.trace site.old) (O.trace site.new) result }
     ensures later { O.faults site.old ≤ O.faults site.new }
+    ensures quiet { result ≢ InitEnd.SiteFault → O.faults site.new ≡ O.faults site.old }
 {
     let plan = match plan_of(alloc, text) {
         Ok(plan) => plan,
@@ -96,6 +97,8 @@ fn collect_and_make<S: Source, O: Site>(
         (O.trace site.old) (O.trace site.new) result }
     ensures taken { IsTrue S.told → TakesAtMost (MOST_OCTETS + 1) (S.left source.old) (S.left source.new) }
     ensures later { O.faults site.old ≤ O.faults site.new }
+    ensures quiet { result ≢ InitEnd.SiteFault → O.faults site.new ≡ O.faults site.old }
+    ensures heard { result ≢ InitEnd.SourceFault → S.faults source.new ≡ S.faults source.old }
 {
     match collect(source, room) {
         Ok(count) => make_image(alloc, site, &room[..count]),
@@ -111,6 +114,8 @@ fn read_and_make<S: Source, O: Site>(alloc: Global, source: &mut S, site: &mut O
         (O.trace site.old) (O.trace site.new) result }
     ensures taken { IsTrue S.told → TakesAtMost (MOST_OCTETS + 1) (S.left source.old) (S.left source.new) }
     ensures later { O.faults site.old ≤ O.faults site.new }
+    ensures quiet { result ≢ InitEnd.SiteFault → O.faults site.new ≡ O.faults site.old }
+    ensures heard { result ≢ InitEnd.SourceFault → S.faults source.new ≡ S.faults source.old }
 {
     let Ok(mut room) = zeros(alloc, MOST_OCTETS + 1) else {
         return InitEnd::NoMemory;
@@ -126,6 +131,8 @@ fn initialize<S: Source, O: Site>(alloc: Global, source: &mut S, site: &mut O) -
     ensures untouched { IsTrue O.told → (O.trace site.old).now.image ≢ [] → O.trace site.new ≡ O.trace site.old }
     ensures taken { IsTrue S.told → TakesAtMost (MOST_OCTETS + 1) (S.left source.old) (S.left source.new) }
     ensures later { O.faults site.old ≤ O.faults site.new }
+    ensures quiet { result ≢ InitEnd.SiteFault → O.faults site.new ≡ O.faults site.old }
+    ensures heard { result ≢ InitEnd.SourceFault → S.faults source.new ≡ S.faults source.old }
 {
     match site.begin() {
         Ok(0) => read_and_make(alloc, source, site),
@@ -207,6 +214,9 @@ pub(crate) fn run_init<S: Source, O: Site>(alloc: Global, source: &mut S, mut si
         (Rose (O.faults site) (O.faults result.site)) result.status }
     ensures untouched { IsTrue O.told → (O.trace site).now.image ≢ [] → OnlySinks (O.trace site) (O.trace result.site) }
     ensures taken { IsTrue S.told → TakesAtMost (MOST_OCTETS + 1) (S.left source.old) (S.left source.new) }
+    ensures quiet { result.status ≢ SITE_FAULT → O.faults result.site ≡ O.faults site }
+    ensures heard { result.status ≢ SOURCE_FAULT → result.status ≢ SITE_FAULT
+        → S.faults source.new ≡ S.faults source.old }
     ensures no_history { result.entries.items ≡ [] }
 {
     let end = initialize(alloc, source, &mut site);

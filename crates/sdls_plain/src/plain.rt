@@ -5,6 +5,7 @@ ghost use Rattle.sdls_outside.specs.Intake.{TakesAtMost};
 ghost use Rattle.sdls_outside.specs.Output.{OnlySinks};
 ghost use Rattle.sdls_plain.specs.Answer.{EndsCheck, usage_text};
 ghost use Rattle.record_io.specs.Outcome.{Ends};
+ghost use Rattle.record_io.specs.declared.status.TheConstants.{SOURCE_FAULT};
 ghost use Rattle.sdls_plain.specs.Init.{EndsInit};
 ghost use Rattle.sdls_plain.specs.Stat.{EndsStat};
 ghost use Rattle.sdls_plain.specs.Taking.{TakesFew};
@@ -35,6 +36,9 @@ fn run_check<S: Source, O: Site>(
         (λ input. IsTrue S.told → input ≡ S.left source.old) (Rose (S.faults source.old) (S.faults source.new))
         O.told (O.trace site) (O.trace result.site) (Rose (O.faults site) (O.faults result.site)) result.status }
     ensures taken { IsTrue S.told → TakesAtMost (GREATEST_LENGTH + 1) (S.left source.old) (S.left source.new) }
+    ensures quiet { result.status ≢ SITE_FAULT → O.faults result.site ≡ O.faults site }
+    ensures heard { result.status ≢ SOURCE_FAULT → result.status ≢ SITE_FAULT
+        → S.faults source.new ≡ S.faults source.old }
     ensures no_history { result.entries.items ≡ [] }
 {
     match put_check(key, source, &mut site) {
@@ -55,6 +59,7 @@ fn run_check<S: Source, O: Site>(
 fn run_usage<O: Site>(alloc: Global, mut site: O) -> Outcome<O>
     ensures ends { Ends O.told (O.trace site) (O.trace result.site) (Rose (O.faults site) (O.faults result.site))
         usage_text USAGE result.status }
+    ensures quiet { result.status ≢ SITE_FAULT → O.faults result.site ≡ O.faults site }
     ensures no_history { result.entries.items ≡ [] }
 {
     match put_text(&mut site, USAGE_TEXT) {
@@ -111,6 +116,10 @@ pub fn run_plain<S: Source, O: Site>(
         → Ends O.told (O.trace site) (O.trace result.site) (Rose (O.faults site) (O.faults result.site))
         usage_text USAGE result.status }
     ensures untouched { IsNoCommand words.now → source.new ≡ source.old }
+    // A fault is never hidden: with another status the counts stood.
+    ensures quiet { result.status ≢ SITE_FAULT → O.faults result.site ≡ O.faults site }
+    ensures heard { result.status ≢ SOURCE_FAULT → result.status ≢ SITE_FAULT
+        → S.faults source.new ≡ S.faults source.old }
     ensures no_history { result.entries.items ≡ [] }
 {
     if is_init(words) {

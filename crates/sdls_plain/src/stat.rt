@@ -1,5 +1,5 @@
 //! The word `stat`.
-ghost use Rattle.std.specs.Prelude.{◌≡◌, ◌≤◌, ◌++◌, [], ℕ, List, IsTrue, decimal};
+ghost use Rattle.std.specs.Prelude.{◌≡◌, ◌≢◌, ◌≤◌, ◌++◌, [], ℕ, List, IsTrue, decimal};
 ghost use Rattle.sdls_outside.specs.Faults.{HasCause, Rose};
 ghost use Rattle.sdls_outside.specs.Moments.{EachMoment};
 ghost use Rattle.unit_book.specs.Book.{IsKept, with_put};
@@ -55,6 +55,7 @@ fn put_through<O: Site>(book: &mut Book<O>, text: &[u8], status: u8) -> u8
     ensures put { PutsText O.told text.now status result (O.trace book.old.site) (O.trace book.new.site)
         (Rose (O.faults book.old.site) (O.faults book.new.site)) }
     ensures later { O.faults book.old.site ≤ O.faults book.new.site }
+    ensures quiet { result ≢ SITE_FAULT → O.faults book.new.site ≡ O.faults book.old.site }
 {
     match book.put(text) {
         Ok(()) => status,
@@ -71,6 +72,7 @@ fn put_state<O: Site>(alloc: Global, book: &mut Book<O>) -> u8
         × PutsText O.told text (stat_status end) result (O.trace book.old.site) (O.trace book.new.site)
         (Rose (O.faults book.old.site) (O.faults book.new.site)) }
     ensures later { O.faults book.old.site ≤ O.faults book.new.site }
+    ensures quiet { result ≢ SITE_FAULT → O.faults book.new.site ≡ O.faults book.old.site }
 {
     match status_text(alloc, book.state(), book.used(), book.plan().slots()) {
         Ok(text) => put_through(book, &text, DONE),
@@ -88,6 +90,7 @@ fn tell_state<O: Site>(alloc: Global, mut book: Book<O>) -> Outcome<O>
     ensures moments { IsTrue O.told → EachMoment (O.trace book.site) (O.trace result.site)
         (λ image sunk. ShowsAlone book.start image) }
     ensures later { O.faults book.site ≤ O.faults result.site }
+    ensures quiet { result.status ≢ SITE_FAULT → O.faults result.site ≡ O.faults book.site }
     ensures no_history { result.entries.items ≡ [] }
 {
     let status = put_state(alloc, &mut book);
@@ -146,6 +149,8 @@ fn tell_fault<O: Site>(alloc: Global, fault: OpenFault, mut site: O) -> Outcome<
     ensures ends { Ends O.told (O.trace site) (O.trace result.site) (Rose (O.faults site) (O.faults result.site))
         (fault_text (end_of_open fault)) (stat_status (end_of_open fault)) result.status }
     ensures later { O.faults site ≤ O.faults result.site }
+    ensures quiet { result.status ≢ SITE_FAULT → O.faults result.site ≡ O.faults site }
+    ensures site_fault { (count : ℕ) → fault ≡ OpenFault.SiteFault count → result.status ≡ SITE_FAULT }
     ensures no_history { result.entries.items ≡ [] }
 {
     let end = end_of(fault);
@@ -164,6 +169,7 @@ fn tell_fault<O: Site>(alloc: Global, fault: OpenFault, mut site: O) -> Outcome<
 pub(crate) fn run_stat<O: Site>(alloc: Global, site: O) -> Outcome<O>
     ensures ends { EndsStat O.told (O.trace site) (O.trace result.site) (Rose (O.faults site) (O.faults result.site))
         result.status }
+    ensures quiet { result.status ≢ SITE_FAULT → O.faults result.site ≡ O.faults site }
     ensures no_history { result.entries.items ≡ [] }
 {
     match Book::open(alloc, site) {

@@ -6,6 +6,7 @@ ghost use Rattle.run_promise.specs.Call.{CallSeen, call_seen};
 ghost use Rattle.run_promise.specs.Lives.{EndsAndLives, KeepsLivesReading};
 ghost use Rattle.sdls_plain.specs.Answer.{EndsCheck, usage_text};
 ghost use Rattle.record_io.specs.Outcome.{Ends};
+ghost use Rattle.record_io.specs.declared.status.TheConstants.{SITE_FAULT, SOURCE_FAULT};
 ghost use Rattle.sdls_plain.specs.Init.{EndsInit};
 ghost use Rattle.sdls_plain.specs.Stat.{EndsStat};
 ghost use Rattle.sdls_plain.specs.Taking.{TakesFew};
@@ -85,6 +86,11 @@ pub fn run<R: Threads + Wait + Sync, S: Source, O: Site + Send, G: Gate + Sync>(
         → Ends O.told (O.trace site) (O.trace result.site) (Rose (O.faults site) (O.faults result.site))
         usage_text USAGE result.status }
     ensures untouched { IsNoCommand words.now → ¬ IsRunWord words.now → source.new ≡ source.old }
+    // With words other than `run` a fault is never hidden: with another status the counts stood. Of `run` its own clause
+    // says so.
+    ensures quiet { ¬ IsRunWord words.now → result.status ≢ SITE_FAULT → O.faults result.site ≡ O.faults site }
+    ensures heard { ¬ IsRunWord words.now → result.status ≢ SOURCE_FAULT → result.status ≢ SITE_FAULT
+        → S.faults source.new ≡ S.faults source.old }
     ensures no_history { ¬ IsRunWord words.now → result.entries.items ≡ [] }
 {
     if is_run(words) {

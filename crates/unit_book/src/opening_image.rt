@@ -7,7 +7,8 @@ ghost use Rattle.disk_journal.specs.Journal.{IsSettled};
 ghost use Rattle.unit_plan.specs.Plan.{plan_of};
 ghost use Rattle.unit_state.specs.State.{KeepsRules};
 ghost use Rattle.unit_image.specs.Shows.{Shows, ShowsNone};
-ghost use Rattle.unit_image.specs.OpeningImage.{HasOpenFault, IsOpenCause, Opening, SameJournal};
+ghost use Rattle.unit_image.specs.OpeningImage.{HasOpenFault, IsOpenCause, Opening};
+ghost use Rattle.unit_image.specs.OpeningImage.{SameJournal, StandsUnlessFailed};
 ghost use Rattle.unit_book.specs.Book.{IsKept, begun};
 
 use crate::book::Book;
@@ -78,6 +79,8 @@ impl<O: Site> Book<O> {
         ensures later { MatchResult result (λ book. O.faults site ≤ O.faults book.site)
             (λ refused. O.faults site ≤ O.faults refused.1) }
         ensures stood { IfOk result (λ book. O.faults book.site ≡ O.faults site) }
+        // The site's count of faults rises only if a fault of the site is answered.
+        ensures calm { IfErr result (λ refused. StandsUnlessFailed (O.faults site) (O.faults refused.1) refused.0) }
     {
         let taken = Snapshot::of(&site);
         match start(alloc, &mut site) {

@@ -1,5 +1,5 @@
 //! The drill.
-ghost use Rattle.std.specs.Prelude.{◌≡◌, ◌+◌, ◌*◌, ◌≤◌, min, List, [], ◌++◌, IfOk};
+ghost use Rattle.std.specs.Prelude.{◌≡◌, ◌≢◌, ◌+◌, ◌*◌, ◌≤◌, min, List, [], ◌++◌, IfOk};
 ghost use Rattle.sdls_outside.specs.Faults.{Rose};
 ghost use Rattle.record_io.specs.Outcome.{Ends};
 ghost use Rattle.drill_frames.specs.declared.counts.Counts.{Counts};
@@ -73,8 +73,9 @@ fn line_of<R: Threads + Wait + Sync, G: Gate + Sync>(
 
 /// Puts a text, and answers the status: this one, or that of a put that failed.
 fn put_text<O: Site>(site: &mut O, text: &[u8], status: u8) -> u8
-    ensures { Ends O.told (O.trace site.old) (O.trace site.new) (Rose (O.faults site.old) (O.faults site.new)) text.now
+    ensures ends { Ends O.told (O.trace site.old) (O.trace site.new) (Rose (O.faults site.old) (O.faults site.new)) text.now
         status result }
+    ensures quiet { result ≢ SITE_FAULT → O.faults site.new ≡ O.faults site.old }
 {
     match site.put(text) {
         Ok(()) => status,
@@ -98,6 +99,7 @@ pub fn drill<R: Threads + Wait + Sync, O: Site, G: Gate + Sync>(
     requires { number ≤ MOST_FRAMES }
     ensures ends { EndsDrill number O.told (O.trace site) (O.trace result.site)
         (Rose (O.faults site) (O.faults result.site)) result.status }
+    ensures quiet { result.status ≢ SITE_FAULT → O.faults result.site ≡ O.faults site }
     ensures no_history { result.entries.items ≡ [] }
 {
     let status = match line_of(rt, alloc, number, gate) {

@@ -27,12 +27,20 @@ IsOpenCause before now refused (SiteFault count) = Rose before now × (count ≡
 IsOpenCause before now refused (Image offset) = refused offset
 IsOpenCause before now refused NoMemory = ⊤
 
--- the count of faults never falls, and stands after an Ok; a fault that is answered has its cause
+-- the count of faults stands where it was, unless a fault of the site is answered
+abbrev pub StandsUnlessFailed : ℕ → ℕ → OpenFault → Type 0
+StandsUnlessFailed before now (SiteFault count) = ⊤
+StandsUnlessFailed before now (Image offset) = now ≡ before
+StandsUnlessFailed before now NoMemory = now ≡ before
+
+-- The count of faults never falls, and stands after an Ok and after each fault that is not one of the site; a fault that
+-- is answered has its cause.
 pub record HasOpenFault {T : Type 0} (before now : ℕ) (refused : ℕ → Type 0)
     (result : Result T OpenFault) : Type 0 where
   pub later : before ≤ now
   pub stood : OnOk result (now ≡ before)
   pub cause : IfErr result (IsOpenCause before now refused)
+  pub calm : IfErr result (StandsUnlessFailed before now)
 
 -- a fault of a journal that is opened or read; it is never full
 abbrev pub as_open_fault : JournalFault → OpenFault
