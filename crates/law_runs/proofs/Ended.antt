@@ -1,5 +1,5 @@
 -- A run whose book was opened, from the close of its counters to its end: for `run_ends_well`.
-use Rattle.std.proofs.Common.{◌≡◌, ◌≢◌, ◌⊎◌, ℕ, suc, zero, ◌+◌, ◌-◌, ◌≤◌, Bool, IsTrue, List, [], ◌∷◌, ◌++◌, length, take, drop, min, get_or, Result, Ok, Err, refl, sym, ◌∙◌, ap, subst, inl, inr, arith, append-nil, append_assoc, length-append}
+use Rattle.std.proofs.Common.{◌≡◌, ◌≢◌, ◌⊎◌, ℕ, suc, zero, ◌+◌, ◌-◌, ◌<◌, ◌≤◌, Bool, IsTrue, List, [], ◌∷◌, ◌++◌, length, take, drop, min, get_or, Some, Result, Ok, Err, refl, sym, ◌∙◌, ap, subst, inl, inr, arith, append-nil, append_assoc, length-append}
 use Rattle.std.specs.Prelude.{MatchResult}
 use Rattle.std.proofs.Math.Seq.{drop-append_seam, take-append-add}
 use Rattle.std.proofs.lemmas.List.{length-take, take-append-le, take_all, take_at}
@@ -23,8 +23,8 @@ use Rattle.unit_book.specs.Log.{sunk_between}
 use Rattle.law_workers.proofs.Histories.{entries_both}
 use Rattle.run_promise.specs.declared.end.RunEnd.{RunEnd}
 use Rattle.run_promise.specs.declared.end.RunEnd.TheVariants as ends
-use Rattle.run_promise.specs.Call.{CallSeen, ShowsAtEntry, SiteSeen}
-use Rattle.run_promise.specs.Account.{Account, SaysSiteFailed, begin_of, course_of, deeds_from, due_octets, end_answer, end_octets, end_status}
+use Rattle.run_promise.specs.Call.{CallSeen, ShowsAtEntry, SiteSeen, sunk_since}
+use Rattle.run_promise.specs.Account.{Account, SaysSiteFailed, answers_of_first, begin_of, course_of, deeds_from, due_octets, end_answer, end_octets, end_status}
 use Rattle.run_promise.specs.Causes.{CameBy, PutsDue, PutsFront, TellsEnd}
 use Rattle.law_runs.specs.Doing.{IsFounded, octets_put}
 use Rattle.law_runs.specs.Coming.{HasBroken, HasPut, StopsAtFullHistory, PutsBy, EndsReading}
@@ -34,7 +34,7 @@ use Rattle.law_runs.proofs.Faults.{told_rose}
 use Rattle.law_runs.proofs.Doing.{ends_run}
 use Rattle.law_runs.proofs.Moved.{moved_run, settled_more}
 use Rattle.law_runs.proofs.Moments.{all_moments}
-use Rattle.law_runs.proofs.Releases.{AreAdded, AreWords, IsRefusedRelease, are_added, are_releases, released_full, released_pieces}
+use Rattle.law_runs.proofs.Releases.{AreAdded, AreWords, IsRefusedRelease, are_added, are_releases, released_full, released_pieces, released_quietly}
 use Rattle.law_runs.proofs.Placed.{IsBefore, places_ascend}
 use Rattle.law_runs.specs.AtEnd.{EndsRun, course_at_end, StaysCovered}
 use Rattle.law_runs.specs.Release.{AreReleases}
@@ -56,13 +56,15 @@ use Rattle.disk_journal.proofs.Images.{records_of as image_records}
 use Rattle.run_promise.specs.Fits.{MayAppend, Course, Fits}
 use Rattle.record_io.specs.declared.kinds.RecordKind.TheVariants.{Protect}
 use Rattle.law_runs.proofs.Assembled.{sound_run, covered_run}
-use Rattle.law_runs.proofs.Released.{legal_run}
+use Rattle.law_runs.proofs.Released.{legal_run, used_below, word_near}
 use Rattle.unit_state.specs.declared.state.State.{State}
 use Rattle.unit_state.specs.State.{KeepsRules}
 use Rattle.unit_state.specs.History.{after_first}
 use Rattle.unit_state.specs.History as histories
 use Rattle.run_promise.specs.Run.{LegalRun, NearWord, TurnIn, HasNoEntry}
-use Rattle.std.specs.List.{All, AllPairs, slice_index}
+use Rattle.std.specs.List.{All, AllPairs, Contains, slice_index}
+use Rattle.key_book.specs.KeyBook.{place_of}
+use Rattle.run_promise.specs.Answers.{Uses}
 use Rattle.std.proofs.lemmas.Option.{slice_get_within, get_or_from_slice_get}
 use Rattle.std.proofs.lemmas.Bool.{cases_lt}
 use Rattle.record_io.specs.declared.answers.Answer.{Answer}
@@ -125,7 +127,7 @@ failed_put octets old new (inr sank) = sank.sunk
 pieces_more : (log : List Logged) (piece : List ℕ) → pieces_of (log ++ lines.Piece piece ∷ []) ≡ pieces_of log ++ piece
 pieces_more log piece = pieces_both log (lines.Piece piece ∷ []) ∙ ap (λ (l : List ℕ). pieces_of log ++ l) (append-nil piece)
 
-same_count : (a b : ℕ) → a ≤ b → ¬ Rose a b → b ≡ a
+pub same_count : (a b : ℕ) → a ≤ b → ¬ Rose a b → b ≡ a
 same_count a b low stood = elim (cases_lt a b) [
   | inl lt ↦ absurd (stood (omega arith))
   | inr ge ↦ omega arith
@@ -220,6 +222,27 @@ module _ {O : Type 0} (told : Bool) (trace : O → Trace) (faults puts : O → �
   end_is : answer_octets (end_answer end.end (length (entries_of end.released.log))) ≡ end_octets call end.end
   end_is = ap (λ (es : List Entry). answer_octets (end_answer end.end (length es))) (sym entries_known)
 
+  since : IsTrue told → sunk_since call (trace after).now.sunk ≡ pieces_of end.last.log
+  since is_told = ap (drop (length (trace site).now.sunk)) (sunk_is is_told) ∙ drop-append_seam (trace site).now.sunk (pieces_of end.last.log)
+
+  more_put : length (octets_put now) ≤ length (pieces_of end.last.log)
+  more_put = elim end.puts_end [
+    | inl broken ↦ (let a = ap length (ap (λ (b : BookView O). pieces_of b.log) broken.1 ∙ released_put) in omega arith)
+    | inr put ↦ (
+      let a = ap length (ap (λ (b : BookView O). pieces_of b.log) put.1.made ∙ pieces_more end.released.log (sunk_between (trace end.released.site) (trace end.last.site))) in
+      let b = ap length released_put in
+      let c = length-append (pieces_of end.released.log) (sunk_between (trace end.released.site) (trace end.last.site)) in omega arith
+    )
+  ]
+
+  -- all answers of the segments before that of a record that was handled were put
+  earlier_so : IsTrue told → (place : Place) → Contains (places_of ran.come.of) place
+      → length (answers_octets (answers_of_first place.segment (places_of ran.come.of) ran.come.answers)) ≤ length (sunk_since call (trace after).now.sunk)
+  earlier_so is_told place there =
+      let a = ran.come.earlier is_told place there in
+      let b = ap length (since is_told) in
+      let c = more_put in omega arith
+
   puts_answers : PutsDue call account ⊎ PutsFront call account
   puts_answers = elim end.puts_end [
     | inl broken ↦
@@ -238,6 +261,7 @@ module _ {O : Type 0} (told : Bool) (trace : O → Trace) (faults puts : O → �
               subst (Between (trace site).now.sunk ((trace site).now.sunk ++ due_octets call account))
               (sym (sunk_is is_told ∙ ap (λ (l : List ℕ). (trace site).now.sunk ++ l) pieces))
               (front_between (trace site).now.sunk (answers_octets ran.come.answers) (end_octets call end.end) (octets_put now) (h.octets is_told));
+          earlier = earlier_so;
         })
     | inr put ↦ go put.1.put put.1 (has_put came put.0 ran.come.put) put.1.counted put.1.sinks put.1.status_is
   ]
@@ -291,6 +315,7 @@ module _ {O : Type 0} (told : Bool) (trace : O → Trace) (faults puts : O → �
                 (sym (sunk_is is_told ∙ ap (λ (l : List ℕ). (trace site).now.sunk ++ l) pieces))
                 (subst (λ (l : List ℕ). Between (trace site).now.sunk ((trace site).now.sunk ++ (answers_octets ran.come.answers ++ l))
                 ((trace site).now.sunk ++ (answers_octets ran.come.answers ++ sunk_between (trace end.released.site) (trace end.last.site)))) end_is here);
+            earlier = earlier_so;
           })
 
   -- ---- the end that is told
@@ -340,43 +365,51 @@ module _ {O : Type 0} (told : Bool) (trace : O → Trace) (faults puts : O → �
     ]
   ]
 
-  zero_is : (e : RunEnd) → end_status e ≡ 0 → e ≡ ends.Ended
-  zero_is ends.Ended h = refl
-  zero_is (ends.Malformed offset) h = absurd (omega arith)
-  zero_is (ends.SourceFault count) h = absurd (omega arith)
-  zero_is (ends.SiteFault count) h = absurd (omega arith)
-  zero_is ends.NoMemory h = absurd (omega arith)
-  zero_is (ends.NoState offset) h = absurd (omega arith)
-  zero_is ends.SessionFull h = absurd (omega arith)
-  zero_is ends.PutFailed h = absurd (omega arith)
-
-  -- status 0 comes only where the count stood to the end
-  quiet : status ≡ 0 → faults after ≡ faults site
-  quiet zero_status = elim end.puts_end [
-    | inl broken ↦ absurd (let a = broken.2 in omega arith)
+  -- with another status than that of a fault of the site the count stood until all answers were put, and behind the release
+  calm : status ≢ SITE_FAULT → (¬ Rose (faults site) (faults book.site)) × (faults after ≡ faults end.released.site) × (status ≡ end_status end.end)
+  calm other = elim end.puts_end [
+    | inl broken ↦ absurd (other broken.2)
     | inr put ↦ go put.1.put put.1.status_is
   ]
     where
-      stood : end.end ≡ ends.Ended → faults end.released.site ≡ faults site
-      stood is = elim end.end_is [
-        | inl failed ↦ absurd (let s : end_status (ends.SiteFault (faults book.site)) ≡ end_status ends.Ended = ap end_status (sym failed.1 ∙ is) in omega arith)
+      calm_then : status ≡ end_status end.end → ¬ Rose (faults site) (faults book.site)
+      calm_then is = elim end.end_is [
+        | inl failed ↦ absurd (other (is ∙ ap end_status failed.1))
+        | inr well ↦ well.0
+      ]
+
+      go : (r : Result (Unit {0}) BookFault) → MatchResult r (λ _. (status ≡ end_status end.end) × (faults end.last.site ≡ faults end.released.site))
+          (λ _. (status ≡ SITE_FAULT) × Rose (faults end.released.site) (faults end.last.site))
+          → (¬ Rose (faults site) (faults book.site)) × (faults after ≡ faults end.released.site) × (status ≡ end_status end.end)
+      go (Ok done) is = (calm_then is.0, after_faults ∙ is.1, is.0)
+      go (Err fault) is = absurd (other is.0)
+
+  stood_before : status ≢ SITE_FAULT → faults book.site ≡ faults site
+  stood_before other =
+      let b = ran.kept.later in let c = ran.same_faults in
+      same_count (faults site) (faults book.site) (omega arith) (calm other).0
+
+  -- behind an input that ended it stood to the end
+  quiet : status ≢ SITE_FAULT → (faults after ≡ faults site) ⊎ (came ≢ ends.Ended)
+  quiet other =
+      let c = calm other in
+      elim end.end_is [
+        | inl failed ↦ absurd (c.0 failed.0)
         | inr well ↦ elim well.1 [
-          | inl other ↦ absurd (other.0 (sym other.1 ∙ is))
+          | inl off ↦ inr off.0
           | inr ended ↦ elim ended.1 [
-            | inl rose ↦ absurd (let s : end_status (ends.SiteFault (faults end.released.site)) ≡ end_status ends.Ended = ap end_status (sym rose.1 ∙ is) in omega arith)
-            | inr calm ↦
-                let a = well.0 in let b = calm.0 in let c = end.goes_on.later in let d = ran.kept.later in let e = ran.same_faults in
-                let first_same : faults book.site ≡ faults site = same_count (faults site) (faults book.site) (omega arith) a in
-                let then_same : faults end.released.site ≡ faults book.site = same_count (faults book.site) (faults end.released.site) c b in
-                then_same ∙ first_same
+            | inl rose ↦ absurd (other (c.2 ∙ ap end_status rose.1))
+            | inr stood ↦ inl (c.1 ∙ same_count (faults book.site) (faults end.released.site) end.goes_on.later stood.0 ∙ stood_before other)
           ]
         ]
       ]
 
-      go : (r : Result (Unit {0}) BookFault) → MatchResult r (λ _. (status ≡ end_status end.end) × (faults end.last.site ≡ faults end.released.site))
-          (λ _. (status ≡ SITE_FAULT) × Rose (faults end.released.site) (faults end.last.site)) → faults after ≡ faults site
-      go (Ok done) is = after_faults ∙ is.1 ∙ stood (zero_is end.end (sym is.0 ∙ zero_status))
-      go (Err fault) is = absurd (let a = is.0 in omega arith)
+  -- where it did not stand, a release was entered
+  heard : status ≢ SITE_FAULT → faults after ≢ faults site → length (entries_in now) < length entries
+  heard other moved = elim (released_quietly faults words book end.released end.answer end.releases) [
+    | inl same ↦ absurd (moved ((calm other).1 ∙ same ∙ stood_before other))
+    | inr more ↦ let a = ap length entries_known in let b = ap (λ (l : List Logged). length (entries_of l)) ran.log in omega arith
+  ]
 
   faults_told : All (λ (answer : Answer). SaysSiteFailed answer → Rose (faults site) (faults book.site)) ran.come.answers
   faults_told k d low fault =
@@ -625,6 +658,36 @@ module _ {O : Type 0} (told : Bool) (trace : O → Trace) (faults puts : O → �
       ap (λ (st : State). stored_count st (entries_of end.last.log)) (started is_told) ∙ ap (stored_count book.start) (sym end.entries_are) in
       let a = counted.0 in let b = counted.1 in let c = journal.slots in let d = journal.used in omega arith
 
+  -- the state behind the entries of the lanes
+  at_close : after_first book.start entries (length (entries_in now)) ≡ histories.after book.start (entries_in now)
+  at_close =
+      ap (λ (l : List Entry). histories.after book.start (take (length (entries_in now)) l)) entries_split
+      ∙ ap (histories.after book.start) (take_at (entries_in now) (take entries_added.count (releases book.state 0 words)) (length (entries_in now)) refl)
+
+  near_so : IsTrue told → (key row : ℕ) → place_of (after_first book.start entries (length (entries_in now))).keys key ≡ Some row
+      → NearWord book.start entries (records_of (places_of ran.come.of)) key (slice_index words row)
+  near_so is_told key row is =
+      let e = known_end is_told in
+      subst (λ (l : List Entry). NearWord book.start l (records_of (places_of ran.come.of)) key (slice_index words row)) (sym entries_split)
+      (word_near (begin_by told (trace site).now.image book.plan book.start) first now (records_of (places_of ran.come.of)) (deeds_from (places_of ran.come.of) ran.come.answers)
+      e.opened e.does e.whole e.rows e.rules
+      (rules_at_end (begin_by told (trace site).now.image book.plan book.start) first now (places_of ran.come.of) (deeds_from (places_of ran.come.of) ran.come.answers)
+      e.opened e.does e.whole e.plan_is e.rules)
+      (λ row. slice_index words row) e.words_are (take entries_added.count (releases book.state 0 words)) e.releases_are key row
+      (ap (λ (st : State). place_of st.keys key) (sym at_close) ∙ is))
+
+  above_so : IsTrue told → All (λ (deed : Deed). (key number row : ℕ) → Uses deed.answer key number
+      → place_of (after_first book.start entries (length (entries_in now))).keys key ≡ Some row → number < slice_index words row)
+      (deeds_from (places_of ran.come.of) ran.come.answers)
+  above_so is_told k x low key number row uses is =
+      let e = known_end is_told in
+      used_below (begin_by told (trace site).now.image book.plan book.start) first now (records_of (places_of ran.come.of)) (deeds_from (places_of ran.come.of) ran.come.answers)
+      e.opened e.does e.whole e.rows e.rules
+      (rules_at_end (begin_by told (trace site).now.image book.plan book.start) first now (places_of ran.come.of) (deeds_from (places_of ran.come.of) ran.come.answers)
+      e.opened e.does e.whole e.plan_is e.rules)
+      (λ row. slice_index words row) e.words_are (take entries_added.count (releases book.state 0 words)) e.releases_are k x low key number row uses
+      (ap (λ (st : State). place_of st.keys key) (sym at_close) ∙ is)
+
   released_so : CountsSlots told faults (trace site).now.image end.last → IsTrue told
       → (r : IsReleased call account book.start (length (entries_in now))) × (r.words ≡ words)
   released_so slots is_told = elim rose_or [
@@ -637,6 +700,9 @@ module _ {O : Type 0} (told : Bool) (trace : O → Trace) (faults puts : O → �
         stopped = λ r. ap length entries_split ∙ ap (λ (l : List Entry). length (entries_in now ++ l)) (none_released rose) ∙ ap length (append-nil (entries_in now));
         refused = λ few. inl (rose_to_end rose);
         full = λ is_ended full. absurd ((full_answer is_ended full).1 (let a = ran.same_faults in let r = rose in omega arith));
+        heard = heard;
+        near = near_so is_told;
+        above = above_so is_told;
         room = room_so slots is_told;
       },
       refl,
@@ -658,6 +724,9 @@ module _ {O : Type 0} (told : Bool) (trace : O → Trace) (faults puts : O → �
                 let c = length-append (entries_of book.log) (take entries_added.count (releases book.state 0 words)) in
                 let d = length-take entries_added.count (releases book.state 0 words) in
                 omega arith;
+            heard = heard;
+            near = near_so is_told;
+            above = above_so is_told;
             room = room_so slots is_told;
           },
           refl,

@@ -1,6 +1,8 @@
 -- One segment more in the loop of a run, whatever its end.
 use Rattle.std.proofs.Common.{◌≡◌, ◌≢◌, ◌⊎◌, ℕ, suc, zero, ◌+◌, ◌<◌, ◌≤◌, nat_lt, IsTrue, Bool, true, false, List, [], ◌∷◌, ◌++◌, length, take, Some, refl, sym, ◌∙◌, ap, subst, inl, inr, arith, cond, append-nil, append_assoc, length-append}
-use Rattle.std.specs.List.{All, AllPairs, slice_index_or, slice_get}
+use Rattle.std.specs.List.{All, AllPairs, Contains, slice_index_or, slice_get}
+use Rattle.std.proofs.lemmas.List.{take-append-le}
+use Rattle.std.proofs.lemmas.List.Elements.{All-append}
 use Rattle.std.proofs.lemmas.Bool.Decides.{nat_tests}
 use Rattle.std.proofs.lemmas.Option.{slice_get_within, same_Some}
 use Rattle.counter_table.specs.declared.view.View.{View}
@@ -25,13 +27,14 @@ use Rattle.run_promise.specs.Begin.{Begin}
 use Rattle.law_workers.specs.Views.{IsBetween, entries_in, log_of}
 use Rattle.law_workers.specs.Deeds.{Ascend, course_in, deeds_of}
 use Rattle.law_workers.specs.Order.{Layout, LiesIn, Handled, Lined, TakeTurns}
+use Rattle.law_workers.proofs.Counting.{pieces_both}
 use Rattle.law_workers.proofs.Joining.{does_nothing}
 use Rattle.run_promise.specs.Alone.{OneLane}
 use Rattle.law_workers.specs.Alone.{ServedAlone}
 use Rattle.run_promise.specs.Log.{pieces_of}
 use Rattle.run_promise.specs.declared.end.RunEnd.{RunEnd}
 use Rattle.run_promise.specs.declared.end.RunEnd.TheVariants as ends
-use Rattle.run_promise.specs.Account.{AreAnswered, of_first}
+use Rattle.run_promise.specs.Account.{AreAnswered, answers_of_first, of_first}
 use Rattle.law_runs.proofs.Placed.{IsBefore, deeds_of_segment, places_ascend, records_length}
 use Rattle.law_runs.proofs.Segments.{all_first, are_placed, first_segments, have_lanes}
 use Rattle.law_runs.specs.Doing.{AreSettledInside, HasDone, HasSettled, IsFounded, IsSegment, MovedAlone, octets_put}
@@ -183,6 +186,26 @@ get_behind [] ys k = let e : 0 + k ≡ k = omega arith in ap (slice_get ys) e
 get_behind (x ∷ xs) ys k = let e : suc (length xs) + k ≡ suc (length xs + k) = omega arith in
     ap (slice_get (x ∷ xs ++ ys)) e ∙ get_behind xs ys k
 
+-- ---- the answers of the first segments
+
+few_of_first : (a b : ℕ) (places : List Place) → a ≤ b → length (of_first a places) ≤ length (of_first b places)
+few_of_first a b [] low = omega arith
+few_of_first a b (place ∷ places) low = go (nat_lt place.segment a) (nat_lt place.segment b) refl refl (few_of_first a b places low)
+  where
+    go : (x y : Bool) → nat_lt place.segment a ≡ x → nat_lt place.segment b ≡ y → length (of_first a places) ≤ length (of_first b places)
+        → length (cond x (place ∷ of_first a places) []) ≤ length (cond y (place ∷ of_first b places) [])
+    go false y is other rest = omega arith
+    go true true is other rest = omega arith
+    go true false is other rest = absurd (grind (arith, nat_tests))
+
+octets_of_take : (n : ℕ) (answers : List Answer) → length (answers_octets (take n answers)) ≤ length (answers_octets answers)
+octets_of_take zero answers = omega arith
+octets_of_take (suc n) [] = omega arith
+octets_of_take (suc n) (answer ∷ answers) =
+    let a = length-append (answer_octets answer) (answers_octets (take n answers)) in
+    let b = length-append (answer_octets answer) (answers_octets answers) in
+    let c = octets_of_take n answers in omega arith
+
 -- ---- one segment more
 
 module _ (start before now : SourceSeen) (standing : Standing) (begin : Begin) (first v : View) (failed_before failed stored : ℕ)
@@ -207,6 +230,12 @@ module _ (start before now : SourceSeen) (standing : Standing) (begin : Begin) (
       let d = ap length r.records_are in
       let e = way.each in omega arith
 
+  -- no record is of a segment behind this one
+  low_segments : All (λ (place : Place). place.segment ≤ (counted first_count way.items).segment) (places_of (way.items ++ r.more))
+  low_segments = subst (All (λ (place : Place). place.segment ≤ (counted first_count way.items).segment)) (sym all_places)
+      (All-append (λ (place : Place). place.segment ≤ (counted first_count way.items).segment) (places_of way.items) (places_from (counted first_count way.items) r.more)
+      (λ k d low. (are_placed first_count way.items k d low).segment_high) (λ k d low. let e = r.of k d low in omega arith))
+
   -- memory was wanting: the records of the segments before are handled
   pub wants : HasCome start now begin first v failed_before failed stored ends.NoMemory
   wants = record {
@@ -224,6 +253,9 @@ module _ (start before now : SourceSeen) (standing : Standing) (begin : Begin) (
     settled = way.settled;
     exactly = way.exactly;
     full = λ is. absurd (let t : ends.NoMemory ≡ ends.SessionFull = is in cc);
+    earlier = λ is_told place there.
+        let a = octets_of_take (length (of_first place.segment (places_of way.items))) way.answers in
+        let b = ap length (way.put.octets is_told) in omega arith;
   }
 
   module _ (mid w : View) (next : List Answer) (stored_now : ℕ) (fewer : stored ≤ stored_now) (whole_v : IsWhole begin.rows v)
@@ -320,6 +352,27 @@ module _ (start before now : SourceSeen) (standing : Standing) (begin : Begin) (
         due (inr may) = inr (subst (λ (es : List Entry). MayAppend (IsBetween begin first w) (record (course_in begin w) { entries = es }) MOST_ENTRIES f.task) (sym h.puts.entries)
             (may_append (IsBetween begin v mid) (IsBetween begin first w) between_on begin.plan begin.start (entries_in mid) _ _ _ _ _ _ _ _ _ _ MOST_ENTRIES f.task may))
 
+    more_put : length (octets_put mid) ≤ length (octets_put w)
+    more_put =
+        let a = ap length (ap pieces_of h.puts.does.grows.earlier.log.1 ∙ pieces_both (log_of mid) h.puts.does.grows.earlier.log.0) in
+        let b = length-append (octets_put mid) (pieces_of h.puts.does.grows.earlier.log.0) in omega arith
+
+    earlier_put : IsTrue begin.told → (place : Place) → Contains (places_of (way.items ++ r.more)) place
+        → length (answers_octets (answers_of_first place.segment (places_of (way.items ++ r.more)) (way.answers ++ next))) ≤ length (octets_put w)
+    earlier_put is_told place (k, inside, is) =
+        let low : place.segment ≤ (counted first_count way.items).segment =
+        subst (λ (p : Place). p.segment ≤ (counted first_count way.items).segment) is (low_segments k place inside) in
+        let few = few_of_first place.segment (counted first_count way.items).segment (places_of (way.items ++ r.more)) low in
+        let first = ap length (first_segments first_count way.items r.more way.reading.closed) in
+        let each = way.each in
+        let front : take (length (of_first place.segment (places_of (way.items ++ r.more)))) (way.answers ++ next)
+        ≡ take (length (of_first place.segment (places_of (way.items ++ r.more)))) way.answers =
+        take-append-le (length (of_first place.segment (places_of (way.items ++ r.more)))) way.answers next (omega arith) in
+        let a = octets_of_take (length (of_first place.segment (places_of (way.items ++ r.more)))) way.answers in
+        let b = ap (λ (l : List Answer). length (answers_octets l)) front in
+        let c = ap length (still ∙ way.put.octets is_told) in
+        let d = more_put in omega arith
+
     -- the run came to an end with this segment
     pub comes : (came : RunEnd) (failed_now : ℕ) → EndsReading start now (way.items ++ r.more) r.read r.part came
         → ((told : RunEnd) (last : ℕ) → AreAnswered (record {
@@ -349,6 +402,7 @@ module _ (start before now : SourceSeen) (standing : Standing) (begin : Begin) (
       settled = settled_then;
       exactly = exactly_on;
       full = λ is. full_on (full is);
+      earlier = earlier_put;
     }
 
     pub size_all : length next ≡ length records → length (way.answers ++ next) ≡ length (places_of (way.items ++ r.more))
@@ -369,15 +423,15 @@ pub goes_next : (start before now : SourceSeen) (standing standing_now : Standin
     (way : IsUnderWay start before standing begin first v failed_before failed stored) (records : List Record) (m : ReadsMore start now standing_now way.items records)
     (mid w : View) (next : List Answer) (stored_now : ℕ) (fewer : stored ≤ stored_now) (whole_v : IsWhole begin.rows v)
     (h : HandlesAndPuts begin v mid w records next stored_now) (failed_now : ℕ) → PutsWell begin mid w next failed failed_now → length next ≡ length records
-    → before.faults ≤ now.faults → IsUnderWay start now standing_now begin first w failed_before failed_now stored_now
-goes_next start before now standing standing_now begin first v failed_before failed stored way records m mid w next stored_now fewer whole_v h failed_now put same later =
+    → now.faults ≡ before.faults → IsUnderWay start now standing_now begin first w failed_before failed_now stored_now
+goes_next start before now standing standing_now begin first v failed_before failed stored way records m mid w next stored_now fewer whole_v h failed_now put same stood =
     let r : Reads start now way.items records = more_reads start now standing_now way.items records m in
     record {
       items = way.items ++ m.more;
       read = m.read;
       answers = way.answers ++ next;
       reading = m.reading;
-      later = (let a = way.later in omega arith);
+      stood = stood ∙ way.stood;
       done = done_on start before now standing begin first v failed_before failed stored way records (more_reads start now standing_now way.items records m) mid w next stored_now fewer whole_v h;
       each = size_all start before now standing begin first v failed_before failed stored way records (more_reads start now standing_now way.items records m) mid w next stored_now fewer whole_v h same;
       put = well start before now standing begin first v failed_before failed stored way records (more_reads start now standing_now way.items records m) mid w next stored_now fewer whole_v h failed_now put;
@@ -404,6 +458,9 @@ wants_reading start before now standing begin first v failed_before failed store
   settled = way.settled;
   exactly = way.exactly;
   full = λ is. absurd (let t : ends.NoMemory ≡ ends.SessionFull = is in cc);
+  earlier = λ is_told place there.
+      let a = octets_of_take (length (of_first place.segment (places_of way.items))) way.answers in
+      let b = ap length (way.put.octets is_told) in omega arith;
 }
 
 -- nothing was read yet
@@ -423,7 +480,7 @@ begins_way start begin first failed stored none none_made = record {
     records_are = refl;
     closed = refl;
   };
-  later = omega arith;
+  stood = refl;
   done = record {
     none_made = none_made;
     does = does_nothing begin first [];

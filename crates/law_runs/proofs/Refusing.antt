@@ -1,5 +1,5 @@
 -- A call whose book was not opened ends as a run ends: for `refused_run_ends`.
-use Rattle.std.proofs.Common.{◌≡◌, ◌⊎◌, ℕ, zero, suc, ◌+◌, ◌-◌, ◌<◌, ◌≤◌, Bool, IsTrue, true, min, nat_eq, eq-eqb, eqb, List, [], ◌∷◌, ◌++◌, length, take, drop, Option, Some, None, Result, Ok, Err, refl, sym, ◌∙◌, ap, subst, inl, inr, arith}
+use Rattle.std.proofs.Common.{◌≡◌, ◌≢◌, ◌⊎◌, ℕ, zero, suc, ◌+◌, ◌-◌, ◌<◌, ◌≤◌, Bool, IsTrue, true, min, nat_eq, eq-eqb, eqb, List, [], ◌∷◌, ◌++◌, length, take, drop, Option, Some, None, Result, Ok, Err, refl, sym, ◌∙◌, ap, subst, inl, inr, arith}
 use Rattle.std.specs.Prelude.{MatchResult, map, slice_index}
 use Rattle.std.specs.List.{position_or_len, slice_get, slice_index_or}
 use Rattle.std.specs.Option.{option_and_then, option_map_or}
@@ -37,19 +37,20 @@ use Rattle.unit_image.specs.declared.fault.OpenFault.{OpenFault}
 use Rattle.unit_image.specs.declared.fault.OpenFault.TheVariants as openings
 use Rattle.unit_image.specs.OpeningImage.{IsOpenCause}
 use Rattle.unit_image.specs.Shows.{Shows, ShowsNone}
-use Rattle.run_promise.specs.Numbers.{release_at, release_of, released_floor, releases, mark_at}
+use Rattle.run_promise.specs.Numbers.{release_at, release_of, released_floor, releases, mark_at, mark_of}
 use Rattle.run_promise.specs.Taken.{kept_floor}
 use Rattle.law_history.proofs.Accepting.{kept_restarted}
 use Rattle.run_promise.specs.Alone.{IsExact}
 use Rattle.run_promise.specs.Sound.{IsSound}
-use Rattle.law_workers.proofs.Rows.{row_placed}
+use Rattle.law_workers.proofs.Rows.{mark_known, row_named, row_placed}
+use Rattle.sdls_base.specs.declared.states.KeyState.TheVariants.{PreActive}
 use Rattle.run_promise.specs.declared.end.RunEnd.TheVariants as ends
 use Rattle.run_promise.specs.Call.{CallSeen, sunk_since, call_seen}
 use Rattle.run_promise.specs.Account.{Account, AreAnswered, begin_of, course_of, end_answer, end_octets, end_status}
 use Rattle.run_promise.specs.Causes.{CameBy, PutsDue, PutsFront, TellsEnd}
 use Rattle.run_promise.specs.Ends.{IsEarly, IsOpenRefusal, IsRefused, IsReleased, IsServed, IsSoundCall, IsUnopened, RunEnds}
 use Rattle.law_runs.specs.Refused.{Refused, refused_end}
-use Rattle.law_runs.proofs.Ended.{failed_put}
+use Rattle.law_runs.proofs.Ended.{failed_put, same_count}
 use Rattle.law_runs.proofs.Resting.{no_records}
 
 -- ---- no release is due in a state that a restart left
@@ -214,22 +215,16 @@ module _ {O : Type 0} (told : Bool) (trace : O → Trace) (faults puts : O → �
     )
   ]
 
-  -- the end that is told is not that of an input that ended
-  told_not_done : end_status refused.end ≡ DONE → ⊥
-  told_not_done is = elim refused.end_is [
-    | inl before ↦ let s = ap end_status before.1 in omega arith
-    | inr well ↦ elim well.1 [
-      | inl other ↦ not_done fault (sym (ap end_status other.1) ∙ is)
-      | inr ended ↦ not_ended fault ended.0
-    ]
-  ]
-
-  quiet : status ≡ DONE → faults after ≡ faults site
-  quiet is = go refused.put refused.status_is
+  quiet : status ≢ SITE_FAULT → faults after ≡ faults site
+  quiet other = go refused.put refused.status_is refused.put_cause
     where
-      go : (r : Result (Unit {0}) Failed) → MatchResult r (λ _. status ≡ end_status refused.end) (λ _. status ≡ SITE_FAULT) → faults after ≡ faults site
-      go (Ok done) status_is = absurd (told_not_done (sym status_is ∙ is))
-      go (Err failed) status_is = absurd (omega arith)
+      go : (r : Result (Unit {0}) Failed) → MatchResult r (λ _. status ≡ end_status refused.end) (λ _. status ≡ SITE_FAULT) → HasCause (faults back) (faults after) r
+          → faults after ≡ faults site
+      go (Ok done) status_is cause = elim refused.end_is [
+        | inl before ↦ absurd (other (status_is ∙ ap end_status before.1))
+        | inr well ↦ cause.stood ∙ same_count (faults site) (faults back) refused.later well.0
+      ]
+      go (Err failed) status_is cause = absurd (other status_is)
 
   module _ (stays : (o : O) → IsTrue told → Leaves (trace o).now (trace o).now.image) where
     sunk_same : IsTrue told → (trace back).now.sunk ≡ (trace site).now.sunk
@@ -255,6 +250,7 @@ module _ {O : Type 0} (told : Bool) (trace : O → Trace) (faults puts : O → �
           sunk = λ is_told.
               subst (λ (base : List ℕ). Between base (base ++ answer_octets (end_answer refused.end 0)) (trace after).now.sunk) (sunk_same is_told)
               (failed_put (answer_octets (end_answer refused.end 0)) (trace back) (trace after) (sinks is_told));
+          earlier = λ is_told place (k, low, is). absurd (omega arith);
         })
 
     -- ---- its moments
@@ -325,6 +321,14 @@ module _ {O : Type 0} (told : Bool) (trace : O → Trace) (faults puts : O → �
               stopped = λ rose. refl;
               refused = λ few. let due = ap length (none_due state rules left 0 MOST_KEYS) in absurd (omega arith);
               full = λ is_ended full. absurd (not_ended fault is_ended);
+              heard = λ other moved. absurd (moved (quiet other));
+              near = λ key row is.
+                  let in_keys = (row_named state.keys key row (record { id = 0; state = PreActive; bytes = []; digest = []; mark = 0; floor = 0 }) is).0 in
+                  let most = rules.keys.most in
+                  let word : slice_index (marks_from state 0 MOST_KEYS) row ≡ mark_of state key =
+                  marks_found state 0 MOST_KEYS row (omega arith) ∙ ap (mark_at state) (let e : 0 + row ≡ row = omega arith in e) ∙ mark_known state [] key row rules is in
+                  record { least = omega arith; base = mark_of state key; is_base = inl refl; most = omega arith };
+              above = λ k d few. absurd (omega arith);
               room = λ stood. let few = (records_of (trace site).now.image).within in omega arith;
             },
             refl,
@@ -390,7 +394,7 @@ module _ {O : Type 0} (told : Bool) (trace : O → Trace) (faults puts : O → �
         faults_told = λ k d low. absurd (omega arith);
         last_later = refused.later;
         after_later = refused.put_cause.later;
-        quiet = quiet;
+        quiet = λ other. inl (quiet other);
         bounded = omega arith;
         sound = λ is_told plan state shows.
             let is_plan = plans (held (trace site).now.image).plan plan shows.says in

@@ -168,6 +168,19 @@ module _ (begin : Begin) (first now : View) (records : List Record) (deeds : Lis
       let st = (stand row few).seen in
       omega arith
 
+  -- each number used is below the word of its key's row
+  pub used_below : All (λ (deed : Deed). (key number row : ℕ) → Uses deed.answer key number
+      → place_of (after begin.start (entries_in now)).keys key ≡ Some row → number < words row) deeds
+  used_below k x low key number row uses_it at =
+      let (own, few, is, in') = d.answers.used k x low key number uses_it in
+      let s = d.works.spent own number in
+      let below = (d.works.drawn own number (omega arith)).1 in
+      let one : Some own ≡ Some row = sym is ∙ at in
+      let rows_are : own ≡ row = (let o = one in cc) in
+      let to : words own ≡ words row = ap words rows_are in
+      let st = (stand own few).seen in
+      omega arith
+
 -- Each answer fits at the end, where no entry was added once the count of faults had risen.
 pub fits_ended : (records : List Record) (course : Course) (faults : ℕ) (releases : List Entry) (deeds : List Deed) → course.faults ≤ faults
     → (Rose course.faults_before course.faults → releases ≡ [])

@@ -203,6 +203,44 @@ pub released_pieces : {O : Type 0} (faults : O → ℕ) (words : List ℕ) (old 
     → Releases faults words old new result → pieces_of new.log ≡ pieces_of old.log
 released_pieces {O} faults words old new result r = end_pieces faults r.rest r.mid new result r.ends ∙ made_pieces faults r.made old r.mid r.are_made
 
+-- the book that the releases left is the one found, or has more entries
+ends_quietly : {O : Type 0} (faults : O → ℕ) (rest : List Entry) (mid new : BookView O) (result : Result (Unit {0}) BookFault)
+    → EndsReleases faults rest mid new result → (new ≡ mid) ⊎ (length (entries_of mid.log) < length (entries_of new.log))
+ends_quietly faults [] mid new (Ok done) is = inl is
+ends_quietly faults [] mid new (Err fault) is = absurd is
+ends_quietly faults (entry ∷ rest) mid new (Ok done) is = absurd is
+ends_quietly faults (entry ∷ rest) mid new (Err fault) (inl (h, eq)) = inl eq
+ends_quietly {O} faults (entry ∷ rest) mid new (Err fault) (inr (can, h)) = go fault h
+  where
+    go : (f : BookFault) → IsUnstored faults entry mid new f → (new ≡ mid) ⊎ (length (entries_of mid.log) < length (entries_of new.log))
+    go (SiteFault count) (due, room, rose, told, eq) = inr (
+      let a = ap (λ (b : BookView O). length (entries_of b.log)) eq in
+      let b = ap length (entries_both mid.log (lines.Entry entry ∷ [])) in
+      let c = length-append (entries_of mid.log) (entry ∷ []) in omega arith
+    )
+    go (JournalFull slots) (due, used, told, eq) = inl eq
+    go (Stopped count) h = absurd h
+    go SessionFull h = absurd h
+    go NoMemory h = absurd h
+
+pub released_quietly : {O : Type 0} (faults : O → ℕ) (words : List ℕ) (old new : BookView O) (result : Result (Unit {0}) BookFault)
+    → Releases faults words old new result → (faults new.site ≡ faults old.site) ⊎ (length (entries_of old.log) < length (entries_of new.log))
+released_quietly {O} faults words old new result r = go r.made r.are_made (ends_quietly faults r.rest r.mid new result r.ends)
+  where
+    go : (made : List Entry) → EnteredInTurn faults made old r.mid → (new ≡ r.mid) ⊎ (length (entries_of r.mid.log) < length (entries_of new.log))
+        → (faults new.site ≡ faults old.site) ⊎ (length (entries_of old.log) < length (entries_of new.log))
+    go [] is (inl same) = inl (ap (λ (b : BookView O). faults b.site) (same ∙ is))
+    go [] is (inr more) = inr (let a = ap (λ (b : BookView O). length (entries_of b.log)) is in omega arith)
+    go (entry ∷ made) is (inl same) = inr (
+      let a = ap length (made_all faults (entry ∷ made) old r.mid is).0 in
+      let b = length-append (entries_of old.log) (entry ∷ made) in
+      let c = ap (λ (b : BookView O). length (entries_of b.log)) same in omega arith
+    )
+    go (entry ∷ made) is (inr more) = inr (
+      let a = ap length (made_all faults (entry ∷ made) old r.mid is).0 in
+      let b = length-append (entries_of old.log) (entry ∷ made) in omega arith
+    )
+
 -- where the history was found full, a release was due and not made
 full_ends : {O : Type 0} (faults : O → ℕ) (words : List ℕ) (old new : BookView O) (made rest : List Entry) (mid : BookView O) (result : Result (Unit {0}) BookFault)
     → made ++ rest ≡ releases old.state 0 words → EndsReleases faults rest mid new result → result ≡ Err SessionFull

@@ -90,7 +90,7 @@ module _ (call : CallSeen) (run : RunEnds call) where
           whole = (cause_of Ended ended).1;
           handled = (answered_of Ended ended).0;
           answered = (answered_of Ended ended).1;
-          no_fault = run.quiet zero_status;
+          no_fault = elim (run.quiet (λ five. absurd (omega arith))) [ inl same ↦ same | inr off ↦ absurd (off ended) ];
           none_failed = put.none_failed;
           sunk = put.sunk;
         }

@@ -1,5 +1,6 @@
 -- How the reading and the serving of a run came to an end (profile).
 use Rattle.std.specs.Prelude.{◌≡◌, ◌≢◌, ◌⊎◌, ⊤, ℕ, ◌+◌, ◌≤◌, IsTrue, List, [], length, slice_get, Some}
+use Rattle.std.specs.Prelude.{Contains}
 use Rattle.sdls_outside.specs.Faults.{Rose}
 use Rattle.sdls_outside.specs.Moments.{Between}
 use Rattle.counter_table.specs.declared.view.View.{View}
@@ -17,7 +18,7 @@ use Rattle.law_workers.specs.Views.{IsBetween, entries_in}
 use Rattle.law_workers.specs.Deeds.{course_in}
 use Rattle.run_promise.specs.declared.end.RunEnd.{RunEnd}
 use Rattle.run_promise.specs.declared.end.RunEnd.TheVariants as ends
-use Rattle.run_promise.specs.Account.{AreAnswered}
+use Rattle.run_promise.specs.Account.{AreAnswered, answers_of_first}
 use Rattle.law_runs.specs.Doing.{HasDone, HasSettled, IsFounded, MovedAlone, octets_put}
 
 -- no put failed, and the answers were put; so many puts had failed before and have now
@@ -31,14 +32,15 @@ pub record HasBroken (begin : Begin) (now : View) (failed_before failed : ℕ) (
   pub one_failed : failed ≡ failed_before + 1
   pub rose : Rose now.turn.known.opening.faults now.turn.known.faults
 
--- Between two segments: the items so far end with a segment, and each record of them was answered.
+-- Between two segments: the items so far end with a segment, the source did not fail, and each record of the items was
+-- answered.
 pub record IsUnderWay (start source : SourceSeen) (standing : Standing) (begin : Begin) (first now : View)
     (failed_before failed stored : ℕ) : Type 0 where
   pub items : List Item
   pub read : List ℕ
   pub answers : List Answer
   pub reading : IsReading start source standing items read
-  pub later : start.faults ≤ source.faults
+  pub stood : source.faults ≡ start.faults
   pub done : HasDone begin first now (places_of items) answers
   pub each : length answers ≡ length (places_of items)
   pub put : HasPut begin now failed_before failed answers
@@ -48,8 +50,10 @@ pub record IsUnderWay (start source : SourceSeen) (standing : Standing) (begin :
 -- why the reading ended
 abbrev pub EndsReading : SourceSeen → SourceSeen → List Item → List ℕ → List ℕ → RunEnd → Type 0
 EndsReading start source items read part ends.Ended = (part ≡ []) × (IsTrue start.told → IsInput start.left items Whole)
+    × (source.faults ≡ start.faults)
 EndsReading start source items read part (ends.Malformed offset) =
     (offset ≡ length read) × (IsTrue start.told → IsInput start.left items (MalformedAt offset))
+    × (source.faults ≡ start.faults)
 EndsReading start source items read part (ends.SourceFault count) = Rose start.faults source.faults
     × (count ≡ source.faults)
 EndsReading start source items read part (ends.SiteFault count) = ⊥
@@ -105,3 +109,6 @@ pub record HasCome (start source : SourceSeen) (begin : Begin) (first now : View
   pub settled : IsTrue begin.told → IsFounded begin first → HasSettled begin now stored (places_of of) answers
   pub exactly : MovedAlone begin first now (places_of of) answers
   pub full : came ≡ ends.SessionFull → StopsAtFullHistory begin first now (places_of of) answers
+  -- all answers of the segments before that of a record that was handled were put
+  pub earlier : IsTrue begin.told → (place : Place) → Contains (places_of of) place
+      → length (answers_octets (answers_of_first place.segment (places_of of) answers)) ≤ length (octets_put now)

@@ -1,5 +1,6 @@
 -- What a run did, and what it began with (profile).
 use Rattle.std.specs.Prelude.{◌≡◌, ◌⊎◌, ℕ, ◌<◌, ◌≤◌, nat_lt, if◌then◌else◌, List, [], ◌∷◌, ◌++◌, length}
+use Rattle.std.specs.Prelude.{take}
 use Rattle.sdls_base.specs.declared.TheConstants.{MOST_KEYS}
 use Rattle.disk_journal.specs.Image.{records, slot_count}
 use Rattle.record_io.specs.declared.answers.Answer.{Answer}
@@ -85,6 +86,10 @@ deeds_in account = deeds_from account.handled account.answers
 abbrev pub of_first : ℕ → List Place → List Place
 of_first segments [] = []
 of_first segments (place ∷ places) = if nat_lt place.segment segments then place ∷ of_first segments places else []
+
+-- the answers to the places of the first segments
+abbrev pub answers_of_first : ℕ → List Place → List Answer → List Answer
+answers_of_first segments places answers = take (length (of_first segments places)) answers
 
 -- all records of the items were handled
 abbrev pub HandledAll : Account → Type 0

@@ -1,9 +1,11 @@
 -- Why a run ends, and the end that it tells (profile).
 use Rattle.std.specs.Prelude.{◌≡◌, ◌≢◌, ◌⊎◌, ⊤, ℕ, ◌<◌, ◌≤◌, IsTrue, [], ◌++◌, length, slice_get, Some}
+use Rattle.std.specs.Prelude.{Contains}
 use Rattle.sdls_outside.specs.Faults.{Rose}
 use Rattle.sdls_outside.specs.Moments.{Between}
 use Rattle.record_io.specs.declared.kinds.RecordKind.TheVariants.{Protect}
 use Rattle.record_io.specs.declared.status.TheConstants as status
+use Rattle.record_io.specs.Answers.{answers_octets}
 use Rattle.record_io.specs.Input.{IsInput, Whole, MalformedAt}
 use Rattle.record_io.specs.Places.{Place, records_of}
 use Rattle.unit_plan.specs.PlanLines.{PlanLines}
@@ -15,8 +17,8 @@ use Rattle.run_promise.specs.declared.limits.TheConstants.{MOST_ENTRIES}
 use Rattle.run_promise.specs.declared.end.RunEnd.{RunEnd}
 use Rattle.run_promise.specs.declared.end.RunEnd.TheVariants.{Ended, Malformed, SourceFault, SiteFault, NoMemory}
 use Rattle.run_promise.specs.declared.end.RunEnd.TheVariants.{NoState, SessionFull, PutFailed}
-use Rattle.run_promise.specs.Call.{CallSeen, ShowsAtEntry, image_at_entry}
-use Rattle.run_promise.specs.Account.{Account, end_status, due_octets, course_of}
+use Rattle.run_promise.specs.Call.{CallSeen, ShowsAtEntry, image_at_entry, sunk_since}
+use Rattle.run_promise.specs.Account.{Account, answers_of_first, end_status, due_octets, course_of}
 
 -- The history is full, and the first record without an answer needs an entry, or may need one. None was made of it.
 pub record IsFullAt (call : CallSeen) (account : Account) : Type 0 where
@@ -29,13 +31,16 @@ pub record IsFullAt (call : CallSeen) (account : Account) : Type 0 where
       MOST_ENTRIES place.task
   pub unmade : HasNoEntry call.entries place.task.index
 
--- Why the reading ended. If the unit was not opened, nothing was entered, and nothing was taken of the source.
+-- Why the reading ended. At the end of the input, or of its well-formed part, the source's count of faults stands where
+-- it was. If the unit was not opened, nothing was entered, and nothing was taken of the source.
 abbrev pub CameBy : CallSeen → Account → RunEnd → Type 0
 CameBy call account Ended = (account.part ≡ []) ×
     (IsTrue call.source.told → IsInput call.source.left account.items Whole)
+    × (call.source_after.faults ≡ call.source.faults)
 CameBy call account (Malformed offset) =
     (offset ≡ length account.read) × (IsTrue call.source.told
     → IsInput call.source.left account.items (MalformedAt offset))
+    × (call.source_after.faults ≡ call.source.faults)
 CameBy call account (SourceFault count) = Rose call.source.faults call.source_after.faults
     × (count ≡ call.source_after.faults)
 CameBy call account (SiteFault count) = Rose call.site.faults account.last × (count ≡ account.last)
@@ -66,7 +71,8 @@ pub record PutsDue (call : CallSeen) (account : Account) : Type 0 where
   pub sunk : IsTrue call.site.told
       → call.site_after.trace.now.sunk ≡ call.site.trace.now.sunk ++ due_octets call account
 
--- a put failed: a front of what is due was put, and the status is that of a fault of the site
+-- A put failed: a front of what is due was put, and the status is that of a fault of the site. A record was handled only
+-- once all answers of the segments before its own were put.
 pub record PutsFront (call : CallSeen) (account : Account) : Type 0 where
   pub one_failed : call.site.put_faults < call.site_after.put_faults
   pub status_is : call.status ≡ status.SITE_FAULT
@@ -74,3 +80,6 @@ pub record PutsFront (call : CallSeen) (account : Account) : Type 0 where
   pub sunk : IsTrue call.site.told
       → Between call.site.trace.now.sunk (call.site.trace.now.sunk ++ due_octets call account)
       call.site_after.trace.now.sunk
+  pub earlier : IsTrue call.site.told → (place : Place) → Contains account.handled place
+      → length (answers_octets (answers_of_first place.segment account.handled account.answers))
+      ≤ length (sunk_since call call.site_after.trace.now.sunk)

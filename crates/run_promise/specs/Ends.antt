@@ -1,5 +1,6 @@
 -- How a run ends, and that it is sound (profile).
-use Rattle.std.specs.Prelude.{◌≡◌, ◌⊎◌, ℕ, ◌+◌, ◌<◌, ◌≤◌, IsTrue, List, [], length, take, drop}
+use Rattle.std.specs.Prelude.{◌≡◌, ◌≢◌, ◌⊎◌, ℕ, ◌+◌, ◌<◌, ◌≤◌, IsTrue, List, [], length, take, drop}
+use Rattle.std.specs.Prelude.{slice_index, Some}
 use Rattle.std.specs.List.{All}
 use Rattle.sdls_base.specs.declared.TheConstants.{MOST_KEYS}
 use Rattle.sdls_base.specs.declared.entry.Entry.{Entry}
@@ -8,6 +9,7 @@ use Rattle.sdls_outside.specs.Disk.{Leaves}
 use Rattle.sdls_outside.specs.Moments.{EachMoment}
 use Rattle.disk_journal.specs.Image.{records, slot_count}
 use Rattle.disk_journal.specs.Forms.{Settles}
+use Rattle.key_book.specs.KeyBook.{place_of}
 use Rattle.record_io.specs.declared.status.TheConstants as status
 use Rattle.record_io.specs.Places.{records_of}
 use Rattle.record_io.specs.Reading.{HasTaken}
@@ -17,6 +19,8 @@ use Rattle.unit_state.specs.History.{after_first}
 use Rattle.unit_image.specs.Shows.{ShowsNone}
 use Rattle.run_promise.specs.Numbers.{releases}
 use Rattle.run_promise.specs.Stored.{stored_count}
+use Rattle.run_promise.specs.Answers.{Uses}
+use Rattle.run_promise.specs.Run.{NearWord}
 use Rattle.run_promise.specs.declared.limits.TheConstants.{MOST_ENTRIES}
 use Rattle.run_promise.specs.Sound.{IsSound, SoundMoment}
 use Rattle.run_promise.specs.Alone.{OneLane, IsExact}
@@ -63,6 +67,15 @@ pub record IsReleased (call : CallSeen) (account : Account) (state : State) (end
       → Rose call.site.faults call.site_after.faults ⊎ (IsJournalFull call state ⊎ (length call.entries ≡ MOST_ENTRIES))
   -- where all records were answered, a full history is told of a release that is due
   pub full : account.came ≡ Ended → account.told ≡ SessionFull → count < length (due_releases call state ends words)
+  -- a fault of the site that the status does not tell is one of a release, which was entered
+  pub heard : call.status ≢ status.SITE_FAULT → call.site_after.faults ≢ call.site.faults → ends < length call.entries
+  -- Each word can have stood in its row: it is no lower than the key's mark at the start, and above it, or above a number
+  -- that was asked for, by no more than one a record that can draw. It is above each number that an answer used.
+  pub near : (key row : ℕ) → place_of (after_first state call.entries ends).keys key ≡ Some row
+      → NearWord state call.entries (records_of account.handled) key (slice_index words row)
+  pub above : All (λ deed. (key number row : ℕ) → Uses deed.answer key number
+      → place_of (after_first state call.entries ends).keys key ≡ Some row → number < slice_index words row)
+      (deeds_in account)
   -- no more slots are used than there are, where the site did not fail
   pub room : ¬ Rose call.site.faults call.site_after.faults
       → length (records (image_at_entry call)) + stored_count state call.entries ≤ slot_count (image_at_entry call)
@@ -106,10 +119,12 @@ pub record RunEnds (call : CallSeen) : Type 0 where
   pub tells : TellsEnd call account
   pub put : PutsDue call account ⊎ PutsFront call account
   pub faults_told : All (λ answer. SaysSiteFailed answer → Rose call.site.faults account.last) account.answers
-  -- the counts of faults in their order; status 0 comes only where the site's stood
+  -- The counts of faults in their order. With another status than that of a fault of the site its count stood, unless
+  -- the reading ended otherwise than with the whole input: then a release may have met a fault (`heard` says so of it).
   pub last_later : call.site.faults ≤ account.last
   pub after_later : account.last ≤ call.site_after.faults
-  pub quiet : call.status ≡ status.DONE → call.site_after.faults ≡ call.site.faults
+  pub quiet : call.status ≢ status.SITE_FAULT
+      → (call.site_after.faults ≡ call.site.faults) ⊎ (account.came ≢ Ended)
   pub bounded : length call.entries ≤ MOST_ENTRIES
   pub sound : IsTrue call.site.told → (plan : PlanLines) (state : State) → ShowsAtEntry call plan state
       → ServesSoundly call account plan state

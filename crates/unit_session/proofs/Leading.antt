@@ -1,5 +1,5 @@
 -- One segment read and served: the run goes on, or came to its end: for `serve_next`.
-use Rattle.std.proofs.Common.{◌≡◌, ℕ, ◌+◌, ◌<◌, ◌≤◌, List, ◌++◌, length, Ok, Err, refl, sym, subst, arith}
+use Rattle.std.proofs.Common.{◌≡◌, ℕ, ◌+◌, ◌<◌, ◌≤◌, List, ◌++◌, length, Ok, Err, refl, sym, ◌∙◌, subst, arith}
 use Rattle.std.specs.Prelude.{IfNone}
 use Rattle.std.proofs.lemmas.Option.{slice_get_within}
 use Rattle.counter_table.specs.declared.view.View.{View}
@@ -25,17 +25,17 @@ reads_of start now standing items records (segments.Malformed offset) h = last_r
 reads_of start now standing items records (segments.SourceFault count) h = last_reads start now items records h.0
 
 module _ (start before now : SourceSeen) (standing standing_now : Standing) (begin : Begin) (first v w : View) (way : Goes start before standing begin first v)
-    (records : List Record) (later : before.faults ≤ now.faults) (whole : IsWhole begin.rows v) where
+    (records : List Record) (whole : IsWhole begin.rows v) where
   -- all was put
   pub leads_on : (end : SegmentEnd) → ReadsTo start now standing_now way.items records end → HasFaultCause before.faults now.faults end
       → ServesSegment begin records (Ok tt) v w → Leads start now standing_now begin first w (end_after end)
   leads_on segments.More h cause s =
       goes_next start before now standing standing_now begin first v first.turn.known.put_faults v.turn.known.put_faults v.turn.known.standing way records h
-      s.mid w s.answers w.turn.known.standing s.stands whole s.handles w.turn.known.put_faults s.so.0 s.so.1 later
+      s.mid w s.answers w.turn.known.standing s.stands whole s.handles w.turn.known.put_faults s.so.0 s.so.1 cause
   leads_on segments.End h cause s =
       comes start before now standing begin first v first.turn.known.put_faults v.turn.known.put_faults v.turn.known.standing way records
       (last_reads start now way.items records h.0) s.mid w s.answers w.turn.known.standing s.stands whole s.handles ends.Ended w.turn.known.put_faults
-      (h.1, h.2)
+      (h.1, h.2, cause ∙ way.stood)
       (λ told last. (
         refl,
         size_all start before now standing begin first v first.turn.known.put_faults v.turn.known.put_faults v.turn.known.standing way records
@@ -47,7 +47,7 @@ module _ (start before now : SourceSeen) (standing standing_now : Standing) (beg
   leads_on (segments.Malformed offset) h cause s =
       comes start before now standing begin first v first.turn.known.put_faults v.turn.known.put_faults v.turn.known.standing way records
       (last_reads start now way.items records h.0) s.mid w s.answers w.turn.known.standing s.stands whole s.handles (ends.Malformed offset) w.turn.known.put_faults
-      (h.1, h.2)
+      (h.1, h.2, cause ∙ way.stood)
       (λ told last. (
         refl,
         size_all start before now standing begin first v first.turn.known.put_faults v.turn.known.put_faults v.turn.known.standing way records
@@ -59,7 +59,7 @@ module _ (start before now : SourceSeen) (standing standing_now : Standing) (beg
   leads_on (segments.SourceFault count) h cause s =
       comes start before now standing begin first v first.turn.known.put_faults v.turn.known.put_faults v.turn.known.standing way records
       (last_reads start now way.items records h.0) s.mid w s.answers w.turn.known.standing s.stands whole s.handles (ends.SourceFault count) w.turn.known.put_faults
-      ((let a = cause.1 in let b = way.later in omega arith), cause.0)
+      ((let a = cause.1 in let b = way.stood in omega arith), cause.0)
       (λ told last. (
         refl,
         size_all start before now standing begin first v first.turn.known.put_faults v.turn.known.put_faults v.turn.known.standing way records

@@ -54,7 +54,7 @@ returns-in-Ok-serve-clause-leads g c = λ start begin first began way.
     let w : View = view c.serve.new.self.worker in
     let records : List Record = c.in-Ok.read.0.items in
     subst (λ (r : Option RunEnd). Leads start now c.next_segment.new.self begin first w r) (sym c.end_after.ensures)
-    (leads_on start before now c.args.reader.now c.next_segment.new.self begin first v w way records c.in-Ok.ensures.later
+    (leads_on start before now c.args.reader.now c.next_segment.new.self begin first v w way records
     (subst (λ (rows : ℕ). IsWhole rows v) (sym began.rows) c.requires.alone.whole) c.in-Ok.read.1
     (c.in-Ok.ensures.reads start way.items way.read way.reading) c.in-Ok.ensures.cause
     (subst (λ (rs : List Record). ServesSegment begin rs (Ok c.in-Ok-serve.field-0) v w) c.deref.ensures.value (c.in-Ok-serve.ensures.serves begin began)))
@@ -68,7 +68,7 @@ returns-clause-leads g c = λ start begin first began way.
     let w : View = view c.serve.new.self.worker in
     let records : List Record = c.in-Ok.read.0.items in
     subst (λ (e : RunEnd). Comes start now begin first w e) (sym c.end_of.ensures)
-    (leads_to_stop start before now c.args.reader.now c.next_segment.new.self begin first v w way records c.in-Ok.ensures.later
+    (leads_to_stop start before now c.args.reader.now c.next_segment.new.self begin first v w way records
     (subst (λ (rows : ℕ). IsWhole rows v) (sym began.rows) c.requires.alone.whole)
     (reads_of start now c.next_segment.new.self way.items records c.in-Ok.read.1 (c.in-Ok.ensures.reads start way.items way.read way.reading))
     c.in-Err-serve.stop
