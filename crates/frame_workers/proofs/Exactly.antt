@@ -118,10 +118,12 @@ module _ (begin : Begin) (n : ℕ) (base : View) where
     between = record {
       spent_is = refl;
       level = λ clean level. let e = looked_epoch (giving_shares n base) in let l = ap (λ (log : List Logged). epoch_after (entries_of log)) (looked_log (giving_shares n base)) in omega arith;
-      served = λ none all clean level marks. (
+      served = λ all clean level marks. (
+        [],
         [],
         ap entries_of (looked_log (giving_shares n base)) ∙ sym (append-nil (entries_in base)),
         refl,
+        (λ none. refl, omega arith),
       );
     };
   }
@@ -147,14 +149,14 @@ module _ (begin : Begin) (n : ℕ) (base : View) where
           level = λ clean level.
               let w_level : IsLevel w = h.in_turn.between.level (clean_before w (looked (meeting (giving_shares n base) w)) grows clean) level in
               let e = grows.epochs in let l = ap epoch_after same_entries in omega arith;
-          served = λ none all clean level marks.
-              let (own, is, served) = h.in_turn.between.served none
+          served = λ all clean level marks.
+              let (own, rest, is, served, behind) = h.in_turn.between.served
               (λ place low high. all place low (let s = ap length same_log in omega arith))
               (clean_before w (looked (meeting (giving_shares n base) w)) grows clean) level
               (λ key row number few there in'.
               subst (λ (l : List Entry). number < mark_of (after begin.start l) key) same_entries
               (marks key row number few (row_on begin w (looked (meeting (giving_shares n base) w)) grows key row there) in')) in
-              (own, same_entries ∙ is, served);
+              (own, rest, same_entries ∙ is, served, behind);
         });
   }
     where

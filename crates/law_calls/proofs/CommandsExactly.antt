@@ -171,7 +171,7 @@ module _ {O : Type 0} (told : Bool) (trace : O → Trace) (faults puts : O → �
   saw (needs.Look key) (sights.Word n) middle need (same, r) = record {
     move = Raised r.row n 1;
     moves = moves_raised c.begin c.old_view c.new_view c.task r.row (low_row key r.row r.place) n 1 r.later r.is;
-    tells = λ state on. inl (key, r.row, (needs.Look key, on (needs.Look key) need, refl), has_row key r.row r.place, refl);
+    tells = λ state on. inl (key, r.row, on (needs.Look key) need, has_row key r.row r.place, refl);
     number = λ n sees. absurd (let no = sees in cc);
     stands = stands_same middle same;
     shown = λ clean es is. (none_more middle same es is, (r.row, place_now key r.row r.place clean, refl));
@@ -189,7 +189,7 @@ module _ {O : Type 0} (told : Bool) (trace : O → Trace) (faults puts : O → �
       record {
         move = Drew d.row n;
         moves = moves_drew c.begin c.old_view c.new_view c.task d.row (low_row key d.row d.place) n ((d.row, n) ∷ []) shows;
-        tells = λ state on. (key, d.row, (needs.Number key, on (needs.Number key) need, refl), has_row key d.row d.place, refl);
+        tells = λ state on. (key, d.row, on (needs.Number key) need, has_row key d.row d.place, refl);
         number = λ m sees. (d.row, ap (λ (x : ℕ). Drew d.row x) (same_number n m sees));
         stands = stands_reserved key n d.mark middle d.reserved;
         shown = λ clean es is. (d.below, funds_now key n d.mark middle d.reserved clean es is, (d.row, place_now key d.row d.place clean, refl));
@@ -203,7 +203,7 @@ module _ {O : Type 0} (told : Bool) (trace : O → Trace) (faults puts : O → �
       move = Found f.row n;
       moves = moves_found c.begin c.old_view c.new_view c.task f.row (low_row key f.row f.place) n
           (found_shows c.begin c.task c.old_view c.new_view f.row (end_of key) n least is);
-      tells = λ state on. inl (key, f.row, (needs.Number key, on (needs.Number key) need, refl), has_row key f.row f.place, refl);
+      tells = λ state on. inl (key, f.row, on (needs.Number key) need, has_row key f.row f.place, refl);
       number = λ m sees. absurd (let no = sees in cc);
       stands = stands_same middle same;
       shown = λ clean es is. (f.out.0, none_more middle same es is, (f.row, place_now key f.row f.place clean, inl refl));
@@ -212,7 +212,7 @@ module _ {O : Type 0} (told : Bool) (trace : O → Trace) (faults puts : O → �
       move = Overdrew f.row n;
       moves = moves_over c.begin c.old_view c.new_view c.task f.row (low_row key f.row f.place) (end_of key) n f.out.0 d
           (draws_shows c.begin c.task c.old_view c.new_view (one_drawer c.task commands) f.row (end_of key) n d);
-      tells = λ state on. inr (key, f.row, (needs.Number key, on (needs.Number key) need, refl), has_row key f.row f.place, refl);
+      tells = λ state on. inr (key, f.row, on (needs.Number key) need, has_row key f.row f.place, refl);
       number = λ m sees. absurd (let no = sees in cc);
       stands = stands_same middle same;
       shown = λ clean es is. (f.out.0, none_more middle same es is, (f.row, place_now key f.row f.place clean, inr refl));
@@ -371,15 +371,22 @@ module _ {O : Type 0} (told : Bool) (trace : O → Trace) (faults puts : O → �
     left : c.given ≡ middle → c.given.log ≡ c.found.log ++ lines_of s.es
     left same = ap (λ (b : BookView O). b.log) same ∙ s.stage.log
 
+    few_es : length s.es ≤ 1
+    few_es = by_es s.es_are where
+      by_es : (s.es ≡ []) ⊎ ((key : ℕ) × (n : ℕ) × (seen ≡ sights.Number n) × (s.es ≡ reserve_of c.found.plan c.found.state key n ∷ [])) → length s.es ≤ 1
+      by_es (inl is) = let size = ap length is in omega arith
+      by_es (inr (key, n, sees, is)) = let size = ap length is in omega arith
+
     refused : (es : List Entry) → c.given.log ≡ c.found.log ++ lines_of es → AreDrawn (m.move ∷ []) es → (fault : BookFault) (position : ℕ)
+        → (fault ≡ refusals.SessionFull → length es ≤ 1)
         → ((slots : ℕ) → fault ≡ refusals.JournalFull slots
         → Tells c.begin.start (entries_in c.new_view) (deed_of c.segment c.task (answer_of (counting JOURNAL_FULL 0 slots) position)) m.move
         × (IsClean c.new_view
         → machine.AloneServes c.begin (entries_of c.found.log) c.task (answer_of (counting JOURNAL_FULL 0 slots) position) es m.move))
         → AnsweredExactly c.begin c.segment c.old_view c.new_view c.task (fault_answer fault position)
-    refused es is are fault position full =
+    refused es is are fault position few full =
         refused_exactly c.begin c.segment c.task c.old_view c.new_view m.move m.moves c.found.log es (by_lines es is) are
-        s.numbers.spent (passes es is s.numbers.spent s.numbers.counted.spent_is) (not_open m.move) fault position
+        s.numbers.spent (passes es is s.numbers.spent s.numbers.counted.spent_is) (not_open m.move) fault position few
         (λ slots same. ((full slots same).0, λ here clean level marks. (full slots same).1 clean))
 
     same_slots : (one other : ℕ) → refusals.JournalFull one ≡ refusals.JournalFull other → other ≡ one
@@ -392,11 +399,11 @@ module _ {O : Type 0} (told : Bool) (trace : O → Trace) (faults puts : O → �
     unfolding is_shown
     unstored change reply step can (refusals.SiteFault count) position at h =
         refused (s.es ++ record_entry c.task.index seen change ∷ []) (with_own change (ap (λ (b : BookView O). b.log) h.4)) (own_drawn change)
-        (refusals.SiteFault count) position (λ slots same. absurd (let no = same in cc))
+        (refusals.SiteFault count) position (λ full. absurd (let no = full in cc)) (λ slots same. absurd (let no = same in cc))
     unstored change reply step can (refusals.JournalFull slots) position at h =
         let here = known_length position at in
         let state = state_at_end middle h.3 (s.stage.state can.0) position here in
-        refused s.es (left h.3) drawn (refusals.JournalFull slots) position
+        refused s.es (left h.3) drawn (refusals.JournalFull slots) position (λ full. few_es)
         (λ others same. (
           full_tells others position m.move (omega arith) (inl (
             seen,
@@ -420,9 +427,9 @@ module _ {O : Type 0} (told : Bool) (trace : O → Trace) (faults puts : O → �
         → RefusesMessage faults c.task.index c.task.octets seen middle c.given fault
         → AnsweredExactly c.begin c.segment c.old_view c.new_view c.task (fault_answer fault position)
     refuses fault position at (inl (is_barred, same)) =
-        refused s.es (left same) drawn fault position (λ slots is. absurd (subst (IsBarred faults middle) is is_barred))
+        refused s.es (left same) drawn fault position (λ full. few_es) (λ slots is. absurd (subst (IsBarred faults middle) is is_barred))
     refuses fault position at (inr (inl (none, same))) =
-        refused s.es (left same) drawn fault position (λ slots is. absurd (let no = sym none ∙ is in cc))
+        refused s.es (left same) drawn fault position (λ full. few_es) (λ slots is. absurd (let no = sym none ∙ is in cc))
     refuses fault position at (inr (inr (can, ((change, reply), step, fails)))) = unstored change reply step can fault position at fails
 
   -- the reserve was refused
@@ -436,15 +443,15 @@ module _ {O : Type 0} (told : Bool) (trace : O → Trace) (faults puts : O → �
     moves : Moves c.begin c.old_view c.new_view (Drew f.row f.n)
     moves = moves_drew c.begin c.old_view c.new_view c.task f.row (low_row f.key f.row f.place) f.n [] shows
 
-    ends : (es : List Entry) → c.given.log ≡ c.found.log ++ lines_of es → AreDrawn (Drew f.row f.n ∷ []) es → (other : BookFault)
+    ends : (es : List Entry) → c.given.log ≡ c.found.log ++ lines_of es → AreDrawn (Drew f.row f.n ∷ []) es → (other : BookFault) → length es ≤ 1
         → ((slots : ℕ) → other ≡ refusals.JournalFull slots
         → Tells c.begin.start (entries_in c.new_view) (deed_of c.segment c.task (answer_of (counting JOURNAL_FULL 0 slots) position)) (Drew f.row f.n)
         × (IsClean c.new_view
         → machine.AloneServes c.begin (entries_of c.found.log) c.task (answer_of (counting JOURNAL_FULL 0 slots) position) es (Drew f.row f.n)))
         → AnsweredExactly c.begin c.segment c.old_view c.new_view c.task (fault_answer other position)
-    ends es is are other full =
+    ends es is are other few full =
         refused_exactly c.begin c.segment c.task c.old_view c.new_view (Drew f.row f.n) moves c.found.log es (by_lines es is) are
-        [] (passes es is [] shows.counted.spent_is) (not_open (Drew f.row f.n)) other position
+        [] (passes es is [] shows.counted.spent_is) (not_open (Drew f.row f.n)) other position (λ none. few)
         (λ slots same. ((full slots same).0, λ here clean level marks. (full slots same).1 clean))
 
     same_slots : (one other : ℕ) → refusals.JournalFull one ≡ refusals.JournalFull other → other ≡ one
@@ -456,14 +463,14 @@ module _ {O : Type 0} (told : Bool) (trace : O → Trace) (faults puts : O → �
     by_refusal : (other : BookFault) → Reserves faults f.key f.n (Err other) c.found c.given
         → AnsweredExactly c.begin c.segment c.old_view c.new_view c.task (fault_answer other position)
     by_refusal other (unmarked, inl (is_barred, same)) =
-        ends [] (none_left same) tt other (λ slots is. absurd (subst (IsBarred faults c.found) is is_barred))
+        ends [] (none_left same) tt other (omega arith) (λ slots is. absurd (subst (IsBarred faults c.found) is is_barred))
     by_refusal (refusals.SiteFault count) (unmarked, inr (can, h)) =
         ends (reserve_of c.found.plan c.found.state f.key f.n ∷ []) (ap (λ (b : BookView O). b.log) h.4)
-        (reserve_drawn f.row f.n (reserve_of c.found.plan c.found.state f.key f.n) refl, tt) (refusals.SiteFault count) (λ slots same. absurd (let no = same in cc))
+        (reserve_drawn f.row f.n (reserve_of c.found.plan c.found.state f.key f.n) refl, tt) (refusals.SiteFault count) (omega arith) (λ slots same. absurd (let no = same in cc))
     by_refusal (refusals.JournalFull slots) (unmarked, inr (can, h)) =
         let here = known_length position at in
         let state = state_at_end c.found h.3 ((whole told trace faults puts c.begin c.found c.given c.taken c.new_view.turn c.began c.free c.visits can.0).0) position here in
-        ends [] (none_left h.3) tt (refusals.JournalFull slots)
+        ends [] (none_left h.3) tt (refusals.JournalFull slots) (omega arith)
         (λ others same. (
           full_tells others position (Drew f.row f.n) (omega arith) (inr (
             f.key,
@@ -502,7 +509,7 @@ module _ {O : Type 0} (told : Bool) (trace : O → Trace) (faults puts : O → �
       refused_exactly c.begin c.segment c.task c.old_view c.new_view Kept (moves_none c.begin c.old_view c.new_view numbers) c.found.log []
       (by_lines [] (ap (λ (b : BookView O). b.log) same ∙ sym (append-nil c.found.log))) tt []
       (passes [] (ap (λ (b : BookView O). b.log) same ∙ sym (append-nil c.found.log)) []
-      (ap (λ (k : Numbers). k.spent) numbers ∙ sym (append-nil c.old_view.numbers.spent))) (λ _. refl) fault position
+      (ap (λ (k : Numbers). k.spent) numbers ∙ sym (append-nil c.old_view.numbers.spent))) (λ _. refl) fault position (λ full. omega arith)
       (λ slots is. absurd (let no = sym none ∙ is in cc))
   commands_exactly (Err (fault, position)) (inr (need, needed, inl f), at) = fails need fault position at needed f
   commands_exactly (Err (fault, position)) (inr (need, needed, inr (seen, middle, shows, r)), at) = refuses need seen middle needed shows fault position at r

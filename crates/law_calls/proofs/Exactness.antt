@@ -89,8 +89,8 @@ module _ (begin : Begin) (segment : ℕ) (task : Record) (v w : View) (move : Mo
         (served_turn begin v w log es turned segment task move spent passes answer serves);
   }
 
-  pub untold_exactly : AnsweredExactly begin segment v w task None
-  untold_exactly = record {
+  pub untold_exactly : length es ≤ 1 → AnsweredExactly begin segment v w task None
+  untold_exactly few = record {
     moved = record {
       made = places (length log) (length es);
       made_is = turned.made;
@@ -107,7 +107,7 @@ module _ (begin : Begin) (segment : ℕ) (task : Record) (v w : View) (move : Mo
       };
     };
     spent = spent;
-    in_turn = unserved_turn begin v w log es turned segment task move spent passes;
+    in_turn = unserved_turn begin v w log es turned segment task move spent passes few;
   }
 
   -- codes behind JOURNAL_FULL tell nothing of the move, but that a frame that is opened makes none
@@ -134,18 +134,18 @@ module _ (begin : Begin) (segment : ℕ) (task : Record) (v w : View) (move : Mo
   pub wanting_exactly : (task.kind ≡ Open → move ≡ Kept) → AnsweredExactly begin segment v w task (Some unserved_answer)
   wanting_exactly kept = told_exactly unserved_answer (late_tells task.kind kept NO_MEMORY 0 0 (omega arith)) (late NO_MEMORY 0 0 (omega arith))
 
-  pub refused_exactly : (task.kind ≡ Open → move ≡ Kept) → (fault : BookFault) (position : ℕ)
+  pub refused_exactly : (task.kind ≡ Open → move ≡ Kept) → (fault : BookFault) (position : ℕ) → (fault ≡ refusals.SessionFull → length es ≤ 1)
       → ((slots : ℕ) → fault ≡ refusals.JournalFull slots
       → Tells begin.start (entries_in w) (deed_of segment task (answer_of (counting JOURNAL_FULL 0 slots) position)) move
       × IsServed (answer_of (counting JOURNAL_FULL 0 slots) position))
       → AnsweredExactly begin segment v w task (fault_answer fault position)
-  refused_exactly kept (refusals.SiteFault count) position full =
+  refused_exactly kept (refusals.SiteFault count) position few full =
       told_exactly (answer_of (counting SITE_FAULT 0 count) position) (late_tells task.kind kept SITE_FAULT count position (omega arith))
       (late SITE_FAULT count position (omega arith))
-  refused_exactly kept (refusals.Stopped count) position full =
+  refused_exactly kept (refusals.Stopped count) position few full =
       told_exactly (answer_of (counting STOPPED 0 count) position) (late_tells task.kind kept STOPPED count position (omega arith))
       (late STOPPED count position (omega arith))
-  refused_exactly kept (refusals.JournalFull slots) position full =
+  refused_exactly kept (refusals.JournalFull slots) position few full =
       told_exactly (answer_of (counting JOURNAL_FULL 0 slots) position) (full slots refl).0 (full slots refl).1
-  refused_exactly kept refusals.SessionFull position full = untold_exactly
-  refused_exactly kept refusals.NoMemory position full = wanting_exactly kept
+  refused_exactly kept refusals.SessionFull position few full = untold_exactly (few refl)
+  refused_exactly kept refusals.NoMemory position few full = wanting_exactly kept

@@ -99,10 +99,11 @@ module _ (begin : Begin) (v w : View) (log : List Logged) (es : List Entry) (tur
       between = record {
         spent_is = passes.spent_is;
         level = passes.level;
-        served = λ none all clean level marks.
+        served = λ all clean level marks.
             let same = known_log all in (
               es,
-              entries_are ∙ ap (λ (l : List Logged). entries_of l ++ es) same,
+              [],
+              entries_are ∙ ap (λ (l : List Logged). entries_of l ++ es) same ∙ ap (λ (l : List Entry). entries_in v ++ l) (sym (append-nil es)),
               (
                 es,
                 [],
@@ -110,19 +111,27 @@ module _ (begin : Begin) (v w : View) (log : List Logged) (es : List Entry) (tur
                 subst (λ (l : List Logged). AloneServes begin (entries_of l) task answer es move) same (serves same clean level marks),
                 refl,
               ),
+              (λ none. refl, omega arith),
             );
       };
     }
 
-    -- it has none
-    pub unserved_turn : ServedInTurn begin v w (places (length log) (length es)) spent [] [] (move ∷ [])
-    unserved_turn = record {
+    -- it has none, and made an entry at most
+    pub unserved_turn : length es ≤ 1 → ServedInTurn begin v w (places (length log) (length es)) spent [] [] (move ∷ [])
+    unserved_turn few = record {
       above = above;
       marked = passes.marked;
       between = record {
         spent_is = passes.spent_is;
         level = passes.level;
-        served = λ none. absurd (let n : length (move ∷ []) ≡ 0 = ap length none in omega arith);
+        served = λ all clean level marks.
+            let same = known_log all in (
+              [],
+              es,
+              entries_are ∙ ap (λ (l : List Logged). entries_of l ++ es) same,
+              refl,
+              (λ none. absurd (let n : length (move ∷ []) ≡ 0 = ap length none in omega arith), few),
+            );
       };
     }
 

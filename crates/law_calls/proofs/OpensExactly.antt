@@ -1,5 +1,5 @@
 -- A frame that is opened moves no word.
-use Rattle.std.proofs.Common.{◌≡◌, ◌⊎◌, ℕ, Bool, false, List, [], ◌∷◌, ◌++◌, length, length-append, refl, sym, ◌∙◌, ap, subst, inl, inr, append-nil, Result, Ok, Err, MatchResult}
+use Rattle.std.proofs.Common.{◌≡◌, ◌⊎◌, ℕ, ◌≤◌, Bool, false, List, [], ◌∷◌, ◌++◌, length, length-append, refl, sym, ◌∙◌, ap, subst, inl, inr, arith, append-nil, Result, Ok, Err, MatchResult}
 use Rattle.sdls_base.specs.declared.entry.Entry.{Entry}
 use Rattle.sdls_outside.specs.Moments.{Trace}
 use Rattle.frame_checks.specs.declared.open_reply.OpenReply.{OpenReply}
@@ -86,12 +86,12 @@ module _ {O : Type 0} (told : Bool) (trace : O → Trace) (faults puts : O → �
       → AloneServes begin (entries_of found.log) task answer es Kept
   by_kind answer es h = inr (subst (λ (k : RecordKind). ServesKind begin (entries_of found.log) k task answer es Kept) (sym opens_it) h)
 
-  refused : (es : List Entry) → given.log ≡ found.log ++ lines_of es → AreDrawn (Kept ∷ []) es → (fault : BookFault) (position : ℕ)
+  refused : (es : List Entry) → given.log ≡ found.log ++ lines_of es → AreDrawn (Kept ∷ []) es → (fault : BookFault) (position : ℕ) → length es ≤ 1
       → ((slots : ℕ) → fault ≡ refusals.JournalFull slots → IsClean w
       → AloneServes begin (entries_of found.log) task (answer_of (counting JOURNAL_FULL 0 slots) position) es Kept)
       → AnsweredExactly begin segment v w task (fault_answer fault position)
-  refused es is drawn fault position full =
-      refused_exactly begin segment task v w Kept (moves_none begin v w numbers) found.log es (by_lines es is) drawn [] (passes es is) (λ _. refl) fault position
+  refused es is drawn fault position few full =
+      refused_exactly begin segment task v w Kept (moves_none begin v w numbers) found.log es (by_lines es is) drawn [] (passes es is) (λ _. refl) fault position (λ none. few)
       (λ slots same. (tells (answer_of (counting JOURNAL_FULL 0 slots) position), λ here clean level marks. full slots same clean))
 
   unstored : (reply : OpenReply) (field : List ℕ) → IsOpenReply found.plan found.state task.link task.octets reply field → (fault : BookFault) (position : ℕ)
@@ -99,9 +99,9 @@ module _ {O : Type 0} (told : Bool) (trace : O → Trace) (faults puts : O → �
       → IsUnstored faults (frame_entry found.plan found.state task.index reply) found given fault
       → AnsweredExactly begin segment v w task (fault_answer fault position)
   unstored reply field replies (refusals.SiteFault count) position at h =
-      refused (frame_entry found.plan found.state task.index reply ∷ []) (ap (λ (b : BookView O). b.log) h.4) (of_frame reply) (refusals.SiteFault count) position
+      refused (frame_entry found.plan found.state task.index reply ∷ []) (ap (λ (b : BookView O). b.log) h.4) (of_frame reply) (refusals.SiteFault count) position (omega arith)
       (λ slots same. absurd (let no = same in cc))
-  unstored reply field replies (refusals.JournalFull slots) position at h = refused [] (none_left h.3) tt (refusals.JournalFull slots) position
+  unstored reply field replies (refusals.JournalFull slots) position at h = refused [] (none_left h.3) tt (refusals.JournalFull slots) position (omega arith)
       (λ others same clean. by_kind (answer_of (counting JOURNAL_FULL 0 others) position) [] (inr (record {
         reply = reply;
         field = field;
@@ -144,6 +144,6 @@ module _ {O : Type 0} (told : Bool) (trace : O → Trace) (faults puts : O → �
         own_is = ap (λ (e : Entry). e ∷ []) (entry_is reply clean);
         move_is = refl;
       })))
-  opens_exactly left (Err (fault, position)) (inl (is_barred, same), at) = refused [] (none_left same) tt fault position
+  opens_exactly left (Err (fault, position)) (inl (is_barred, same), at) = refused [] (none_left same) tt fault position (omega arith)
       (λ slots is. absurd (subst (IsBarred faults found) is is_barred))
   opens_exactly left (Err (fault, position)) (inr (can, (reply, field, replies, fails)), at) = unstored reply field replies fault position at fails

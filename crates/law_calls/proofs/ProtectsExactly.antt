@@ -337,16 +337,16 @@ module _ {O : Type 0} (told : Bool) (trace : O → Trace) (faults puts : O → �
       opening : w.turn.known.opening ≡ v.turn.known.opening
       opening = opening_taken told trace faults puts begin layout segment task v w began free protects (Reserves faults p.binding.key n (Err other)) k
 
-      ends : (es : List Entry) → k.given.log ≡ k.found.log ++ lines_of es → AreDrawn (Drew p.row n ∷ []) es
+      ends : (es : List Entry) → k.given.log ≡ k.found.log ++ lines_of es → AreDrawn (Drew p.row n ∷ []) es → length es ≤ 1
           → ((slots : ℕ) → other ≡ refusals.JournalFull slots
           → Tells begin.start (entries_in w) (deed_of segment task (answer_of (counting JOURNAL_FULL 0 slots) position)) (Drew p.row n)
           × (k.found.log ≡ log_of v → IsServedHere (answer_of (counting JOURNAL_FULL 0 slots) position) es [] (Drew p.row n)))
           → AnsweredExactly begin segment v w task (fault_answer other position)
-      ends es is are full = refused_exactly begin segment task v w (Drew p.row n)
+      ends es is are few full = refused_exactly begin segment task v w (Drew p.row n)
           (moves_drew begin v w task p.row (row_below told trace faults puts begin layout segment task v w began free protects p used opening) n [] (shows n drawn))
           k.found.log es (by_lines (Reserves faults p.binding.key n (Err other)) k es is) are
           [] (passes (Reserves faults p.binding.key n (Err other)) k es is [] (shows n drawn).counted.spent_is)
-          (not_open (Drew p.row n)) other position (λ slots here. (
+          (not_open (Drew p.row n)) other position (λ none. few) (λ slots here. (
             (full slots here).0,
             λ same clean level marks.
                 subst (λ (l : List Logged). machine.AloneServes begin (entries_of l) task (answer_of (counting JOURNAL_FULL 0 slots) position) es (Drew p.row n)) (sym same)
@@ -409,15 +409,15 @@ module _ {O : Type 0} (told : Bool) (trace : O → Trace) (faults puts : O → �
 
       by_case : Reserves faults p.binding.key n (Err other) k.found k.given → AnsweredExactly begin segment v w task (fault_answer other position)
       by_case (unmarked, inl (is_barred, same)) =
-          ends [] (none_left k.found k.given same) tt (λ slots is. absurd (subst (IsBarred faults k.found) is is_barred))
+          ends [] (none_left k.found k.given same) tt (omega arith) (λ slots is. absurd (subst (IsBarred faults k.found) is is_barred))
       by_case (unmarked, inr (can, h)) = by_fault other refl h where
         by_fault : (f : BookFault) → other ≡ f → IsUnstored faults (reserve_of k.found.plan k.found.state p.binding.key n) k.found k.given f
             → AnsweredExactly begin segment v w task (fault_answer other position)
         by_fault (refusals.SiteFault count) is u =
             ends (reserve_of k.found.plan k.found.state p.binding.key n ∷ []) (ap (λ (b : BookView O). b.log) u.4)
-            (reserve_drawn p.row n (reserve_of k.found.plan k.found.state p.binding.key n) refl, tt)
+            (reserve_drawn p.row n (reserve_of k.found.plan k.found.state p.binding.key n) refl, tt) (omega arith)
             (λ slots same. absurd (let no = sym is ∙ same in cc))
-        by_fault (refusals.JournalFull slots) is u = ends [] (none_left k.found k.given u.3) tt
+        by_fault (refusals.JournalFull slots) is u = ends [] (none_left k.found k.given u.3) tt (omega arith)
             (λ others same. (full_tells others u.3 can.0 unmarked, full_serves slots others (same_count slots others (sym is ∙ same)) u.3 unmarked u.0 u.1 u.2))
         by_fault (refusals.Stopped count) is u = absurd u
         by_fault refusals.SessionFull is u = absurd u

@@ -1,5 +1,6 @@
--- Two runs of one lane over one image, with one input, that nothing kept from their end did the same.
-use Rattle.std.proofs.Common.{◌≡◌, ◌⊎◌, ℕ, zero, suc, ◌+◌, ◌<◌, ◌≤◌, ◌==◌, Bool, IsTrue, true, false, List, [], ◌∷◌, ◌++◌, length, map, take, drop, refl, sym, ◌∙◌, ap, subst, inl, inr, arith, append_assoc, append-nil, length-append, eqb, Ok}
+-- Two runs of one lane over one image that handled the same records, and answered each, did the same, where no fault of the site
+-- was met and memory was not wanting.
+use Rattle.std.proofs.Common.{◌≡◌, ◌≢◌, ◌⊎◌, ℕ, zero, suc, ◌+◌, ◌<◌, ◌≤◌, ◌==◌, Bool, IsTrue, true, false, List, [], ◌∷◌, ◌++◌, length, map, take, drop, refl, sym, ◌∙◌, ap, subst, inl, inr, arith, append_assoc, append-nil, length-append, eqb, Ok}
 use Rattle.std.specs.Bool.{⊤}
 use Rattle.std.specs.List.{All, list_any, slice_index}
 use Rattle.std.proofs.lemmas.Bool.{cases_eq, cases_lt}
@@ -11,6 +12,7 @@ use Rattle.sdls_outside.specs.Faults.{Rose}
 use Rattle.disk_journal.specs.Image.{held, records, slot_count}
 use Rattle.record_io.specs.declared.answers.Answer.{Answer}
 use Rattle.record_io.specs.declared.code.TheConstants.{NO_MEMORY, JOURNAL_FULL, SITE_FAULT, STOPPED}
+use Rattle.record_io.specs.declared.status.TheConstants as status
 use Rattle.record_io.specs.declared.kinds.RecordKind.{RecordKind}
 use Rattle.record_io.specs.declared.kinds.RecordKind.TheVariants.{Protect, Open, Command}
 use Rattle.record_io.specs.Answers.{answer_octets, answers_octets}
@@ -36,10 +38,10 @@ use Rattle.run_promise.specs.Alone.{OneLane, IsExact}
 use Rattle.run_promise.specs.declared.end.RunEnd.{RunEnd}
 use Rattle.run_promise.specs.declared.end.RunEnd.TheVariants.{Ended, SiteFault}
 use Rattle.run_promise.specs.Call.{CallSeen, ShowsAtEntry, image_at_entry}
-use Rattle.run_promise.specs.Account.{Account, SaysSiteFailed, begin_of, course_of, deeds_from, deeds_in, end_answer, end_octets}
+use Rattle.run_promise.specs.Account.{Account, SaysSiteFailed, begin_of, course_of, deeds_from, deeds_in, end_answer, end_octets, end_status}
 use Rattle.run_promise.specs.Causes.{TellsEnd}
 use Rattle.run_promise.specs.Ends.{IsJournalFull, IsReleased, IsSoundCall, RunEnds, due_releases}
-use Rattle.law_runs.specs.Says.{NoneWants, RunsAlike, DidAll}
+use Rattle.law_runs.specs.Says.{AnswersAlike, NoneWants}
 
 -- ---- codes
 
@@ -99,9 +101,19 @@ are_served near course (place ∷ places) (answer ∷ answers) fit none wants =
 
 -- ---- a run that ended well
 
-not_rose : (call : CallSeen) (account : Account) → TellsEnd call account → account.told ≡ Ended → ¬ Rose call.site.faults account.last
+pub not_rose : (call : CallSeen) (account : Account) → TellsEnd call account → account.told ≡ Ended → ¬ Rose call.site.faults account.last
 not_rose call account (inl (rose, told)) is = absurd (let both : Ended ≡ SiteFault account.last = sym is ∙ told in let b = both in cc)
 not_rose call account (inr (not, rest)) is = not
+
+-- with another status than that of a fault of the site its count stood until all answers were put
+pub not_failed : (call : CallSeen) (run : RunEnds call) → call.status ≢ status.SITE_FAULT → ¬ Rose call.site.faults run.account.last
+not_failed call run other rose = elim run.put [
+  | inr broken ↦ other broken.status_is
+  | inl put ↦ elim run.tells [
+    | inl failed ↦ other (put.status_is ∙ ap end_status failed.1)
+    | inr well ↦ well.0 rose
+  ]
+]
 
 front_is : (xs front rest : List Entry) → xs ≡ front ++ rest → take (length front) xs ≡ front
 front_is xs front rest is =
@@ -163,9 +175,11 @@ began_with told image plan state =
     record { rows = MOST_KEYS; told = told; plan = plan; start = state; slots = slot_count image; used = length (records image) }
 
 module _ (call other : CallSeen) (run : RunEnds call) (again : RunEnds other) (plan : PlanLines) (state : State)
-    (did : DidAll call run) (redid : DidAll other again) (told : IsTrue call.site.told) (tells : IsTrue other.site.told)
+    (quiet : ¬ Rose call.site.faults run.account.last) (requiet : ¬ Rose other.site.faults again.account.last)
+    (stands : call.site_after.faults ≡ call.site.faults) (restands : other.site_after.faults ≡ other.site.faults)
+    (each : length run.account.answers ≡ length run.account.handled) (reach : length again.account.answers ≡ length again.account.handled) (told : IsTrue call.site.told) (tells : IsTrue other.site.told)
     (image : image_at_entry other ≡ image_at_entry call) (shows : ShowsAtEntry call plan state)
-    (handled : again.account.handled ≡ run.account.handled) (counted : length again.account.answers ≡ length run.account.answers)
+    (handled : again.account.handled ≡ run.account.handled)
     (one : OneLane (records_of run.account.handled)) (wants : NoneWants run.account.answers) (rewants : NoneWants again.account.answers)
     (once : (begin : Begin) (rows : ℕ) (words : ℕ → ℕ) (history : List Entry) (deeds others : List Deed) (moves more : List Move)
     (own entries : List Entry) → IsTrue begin.told
@@ -185,21 +199,23 @@ module _ (call other : CallSeen) (run : RunEnds call) (again : RunEnds other) (p
     shows = subst (λ (i : List ℕ). Shows i state) (sym image) shows.shows;
   }
 
-  quiet : ¬ Rose call.site.faults run.account.last
-  quiet = not_rose call run.account run.tells did.told_is
-
-  requiet : ¬ Rose other.site.faults again.account.last
-  requiet = not_rose other again.account again.tells redid.told_is
+  -- where each record has its answer the records made all entries of the lane
+  served_whole : (c : CallSeen) (account : Account) (ends : ℕ) (words : List ℕ) (e : IsExact c account plan state words ends) → ¬ Rose c.site.faults account.last
+      → length account.answers ≡ length account.handled → ServesAll (begin_of c plan state) [] (deeds_in account) e.moves (take ends c.entries)
+  served_whole c account ends words e calm all =
+      let (own, rest, is, serves, none, few) = e.served calm in
+      let same : take ends c.entries ≡ own = is ∙ ap (λ (l : List Entry). own ++ l) (none all) ∙ append-nil own in
+      subst (λ (l : List Entry). ServesAll (begin_of c plan state) [] (deeds_in account) e.moves l) (sym same) serves
 
   still : ¬ Rose call.site.faults call.site_after.faults
   still rose =
-      let a = run.last_later in let b = run.after_later in let c = did.no_fault in
+      let a = run.last_later in let b = run.after_later in let c = stands in
       let same : run.account.last ≡ call.site_after.faults = omega arith in
       quiet (subst (λ (n : ℕ). Rose call.site.faults n) (sym same) rose)
 
   restill : ¬ Rose other.site.faults other.site_after.faults
   restill rose =
-      let a = again.last_later in let b = again.after_later in let c = redid.no_fault in
+      let a = again.last_later in let b = again.after_later in let c = restands in
       let same : again.account.last ≡ other.site_after.faults = omega arith in
       requiet (subst (λ (n : ℕ). Rose other.site.faults n) (sym same) rose)
 
@@ -209,11 +225,11 @@ module _ (call other : CallSeen) (run : RunEnds call) (again : RunEnds other) (p
       ∙ ap (λ (i : List ℕ). began_with call.site.told i plan state) image
 
   recounted : length again.account.answers ≡ length run.account.handled
-  recounted = counted ∙ did.answered
+  recounted = reach ∙ ap length handled
 
   tasks : SameTasks (deeds_in run.account) (deeds_in again.account)
   tasks = subst (λ (places : List Place). SameTasks (deeds_in run.account) (deeds_from places again.account.answers)) (sym handled)
-      (same_tasks run.account.handled run.account.answers again.account.answers did.answered recounted)
+      (same_tasks run.account.handled run.account.answers again.account.answers each recounted)
 
   module _ (s : IsSoundCall call run.account plan state) (t : IsSoundCall other again.account plan state)
       (r : IsReleased call run.account state s.run.history.run.ends) (q : IsReleased other again.account state t.run.history.run.ends)
@@ -233,14 +249,15 @@ module _ (call other : CallSeen) (run : RunEnds call) (again : RunEnds other) (p
         (λ k d low fault. quiet (run.faults_told k d low fault)) wants)
         (are_served (NearWord state other.entries (records_of again.account.handled)) (course_of other again.account plan state) again.account.handled again.account.answers t.run.answers
         (λ k d low fault. requiet (again.faults_told k d low fault)) rewants)
-        (e.served did.answered quiet)
-        (subst (λ (b : Begin). ServesAll b [] (deeds_in again.account) f.moves (take t.run.history.run.ends other.entries)) begins (f.served redid.answered requiet))
-        (no_more_moves MOST_KEYS (mark_at state) e.moves e.beyond (e.each did.answered) e.runs)
-        (no_more_moves MOST_KEYS (mark_at state) f.moves f.beyond (f.each redid.answered) f.runs)
+        (served_whole call run.account s.run.history.run.ends r.words e quiet each)
+        (subst (λ (b : Begin). ServesAll b [] (deeds_in again.account) f.moves (take t.run.history.run.ends other.entries)) begins
+        (served_whole other again.account t.run.history.run.ends q.words f requiet reach))
+        (no_more_moves MOST_KEYS (mark_at state) e.moves e.beyond (e.each each) e.runs)
+        (no_more_moves MOST_KEYS (mark_at state) f.moves f.beyond (f.each reach) f.runs)
 
     same_answers : again.account.answers ≡ run.account.answers
-    same_answers = sym (answers_of_deeds again.account.handled again.account.answers redid.answered) ∙ sym all_same.0
-        ∙ answers_of_deeds run.account.handled run.account.answers did.answered
+    same_answers = sym (answers_of_deeds again.account.handled again.account.answers reach) ∙ sym all_same.0
+        ∙ answers_of_deeds run.account.handled run.account.answers each
 
     same_words : q.words ≡ r.words
     same_words = ext_get_or 0 q.words r.words (q.rows ∙ sym r.rows) (λ row low.
@@ -248,7 +265,7 @@ module _ (call other : CallSeen) (run : RunEnds call) (again : RunEnds other) (p
         let a : slice_index q.words row ≡ mark_at state row + adds_all row (f.moves ++ f.beyond) = f.last row (omega arith) in
         let b : slice_index r.words row ≡ mark_at state row + adds_all row (e.moves ++ e.beyond) = e.last row (omega arith) in
         let beyond : f.moves ++ f.beyond ≡ e.moves ++ e.beyond =
-        ap (λ (l : List Move). f.moves ++ l) (f.each redid.answered ∙ sym (e.each did.answered)) ∙ ap (λ (l : List Move). l ++ e.beyond) (sym all_same.2) in
+        ap (λ (l : List Move). f.moves ++ l) (f.each reach ∙ sym (e.each each)) ∙ ap (λ (l : List Move). l ++ e.beyond) (sym all_same.2) in
         a ∙ ap (λ (l : List Move). mark_at state row + adds_all row l) beyond ∙ sym b)
 
     same_due : due_releases other state t.run.history.run.ends q.words ≡ due_releases call state s.run.history.run.ends r.words
@@ -304,16 +321,16 @@ module _ (call other : CallSeen) (run : RunEnds call) (again : RunEnds other) (p
         let c = no_fewer state base due used slots adds releases_stored q.count r.count rerefused room (let b = run.bounded in let l = ap length entries_are in omega arith) in
         others_are ∙ ap (λ (l : List Entry). base ++ l) (same_front state base due used slots adds releases_stored r.count q.count (omega arith)) ∙ sym entries_are
 
-    alike_so : RunsAlike call other run.account again.account
+    alike_so : AnswersAlike call other run.account again.account
     alike_so = record {
       answers = same_answers;
       entries = same_entries;
-      due = ap (λ (l : List Answer). answers_octets l ++ end_octets other again.account.told) same_answers
-          ∙ ap (λ (end : RunEnd). answers_octets run.account.answers ++ end_octets other end) (redid.told_is ∙ sym did.told_is)
+      due = λ ends. ap (λ (l : List Answer). answers_octets l ++ end_octets other again.account.told) same_answers
+          ∙ ap (λ (end : RunEnd). answers_octets run.account.answers ++ end_octets other end) ends
           ∙ ap (λ (l : List Entry). answers_octets run.account.answers ++ answer_octets (end_answer run.account.told (length l))) same_entries;
     }
 
-  pub alike : RunsAlike call other run.account again.account
+  pub alike : AnswersAlike call other run.account again.account
   alike =
       let one_serves = run.sound told plan state shows in
       let other_serves = again.sound tells plan state reshows in

@@ -32,7 +32,7 @@ use Rattle.law_workers.proofs.Joining.{grows_further}
 use Rattle.law_workers.proofs.Logs.{count_one, stands_both, times_both}
 use Rattle.run_promise.specs.Machine.{Move, Runs}
 use Rattle.run_promise.specs.Serving.{ServesAll}
-use Rattle.law_workers.specs.InTurn.{MadeAllLines, IsClean, IsLevel, AreMarked}
+use Rattle.law_workers.specs.InTurn.{MadeAllLines, IsClean, IsLeftBehind, IsLevel, AreMarked}
 use Rattle.law_workers.specs.Exact.{words_in, Exact, IsOfMoves}
 use Rattle.run_promise.specs.Moves.{TellAll}
 use Rattle.law_workers.specs.Alone.{MovedExactly, ServedAlone}
@@ -142,8 +142,9 @@ module _ (begin : Begin) (first v mid w : View) (places more : List Place) (answ
   -- what was served before, once each record has its answer
   Before : List Move → Type 0
   Before last = (e : Exact begin first v a.moved.made (deeds_from places answers) last)
-      × (last ≡ [] → MadeAllLines first v a.moved.made → IsClean v → IsLevel first
-      → (own : List Entry) × (entries_in v ≡ entries_in first ++ own) × ServesAll begin (entries_in first) (deeds_from places answers) e.moves own)
+      × (MadeAllLines first v a.moved.made → IsClean v → IsLevel first
+      → (own : List Entry) × (rest : List Entry) × (entries_in v ≡ entries_in first ++ (own ++ rest))
+      × ServesAll begin (entries_in first) (deeds_from places answers) e.moves own × IsLeftBehind last rest)
 
   before : Before []
   unfolding Before
@@ -173,30 +174,36 @@ module _ (begin : Begin) (first v mid w : View) (places more : List Place) (answ
 
   both_served : (e : Exact begin first v a.moved.made (deeds_from places answers) []) (moves : List Move) → moves ≡ e.moves ++ b.moved.exact.moves
       → (MadeAllLines first v a.moved.made → IsClean v → IsLevel first
-      → (own : List Entry) × (entries_in v ≡ entries_in first ++ own) × ServesAll begin (entries_in first) (deeds_from places answers) e.moves own)
-      → b.moved.last ≡ [] → MadeAllLines first w (a.moved.made ++ (b.moved.made ++ puts.does.gains.made)) → IsClean w → IsLevel first
-      → (own : List Entry) × (entries_in w ≡ entries_in first ++ own)
-      × ServesAll begin (entries_in first) (deeds_from places answers ++ deeds_from more next) moves own
-  both_served e moves is served none all clean level =
+      → (own : List Entry) × (rest : List Entry) × (entries_in v ≡ entries_in first ++ (own ++ rest))
+      × ServesAll begin (entries_in first) (deeds_from places answers) e.moves own × IsLeftBehind [] rest)
+      → MadeAllLines first w (a.moved.made ++ (b.moved.made ++ puts.does.gains.made)) → IsClean w → IsLevel first
+      → (own : List Entry) × (rest : List Entry) × (entries_in w ≡ entries_in first ++ (own ++ rest))
+      × ServesAll begin (entries_in first) (deeds_from places answers ++ deeds_from more next) moves own × IsLeftBehind b.moved.last rest
+  both_served e moves is served all clean level =
       let clean_mid = clean_before mid w puts.does.grows clean in
       let clean_v = clean_before v mid here.grows clean_mid in
-      let rest = made_rest first v w a.moved.made (b.moved.made ++ puts.does.gains.made) does.grows below all in
-      let (own, own_is, one) = served (made_first first v w a.moved.made (b.moved.made ++ puts.does.gains.made) grows above_rest all) clean_v level in
-      let (more_own, more_is, two) = b.between.served none (made_first v mid w b.moved.made puts.does.gains.made puts.does.grows above_put rest) clean_mid
+      let lines_rest = made_rest first v w a.moved.made (b.moved.made ++ puts.does.gains.made) does.grows below all in
+      let (own, none, all_is, one, left) = served (made_first first v w a.moved.made (b.moved.made ++ puts.does.gains.made) grows above_rest all) clean_v level in
+      let own_is : entries_in v ≡ entries_in first ++ own =
+      all_is ∙ ap (λ (l : List Entry). entries_in first ++ (own ++ l)) (left.0 refl) ∙ ap (λ (l : List Entry). entries_in first ++ l) (append-nil own) in
+      let (more_own, rest, more_is, two, behind) = b.between.served (made_first v mid w b.moved.made puts.does.gains.made puts.does.grows above_put lines_rest) clean_mid
       (a.level clean_v level) (marked clean) in (
         own ++ more_own,
-        puts.entries ∙ more_is ∙ ap (λ (l : List Entry). l ++ more_own) own_is ∙ append_assoc (entries_in first) own more_own,
+        rest,
+        puts.entries ∙ more_is ∙ ap (λ (l : List Entry). l ++ (more_own ++ rest)) own_is ∙ append_assoc (entries_in first) own (more_own ++ rest)
+            ∙ ap (λ (l : List Entry). entries_in first ++ l) (sym (append_assoc own more_own rest)),
         subst (λ (l : List Move). ServesAll begin (entries_in first) (deeds_from places answers ++ deeds_from more next) l (own ++ more_own)) (sym is)
             (serves_both begin (entries_in first) (deeds_from places answers) (deeds_from more next) e.moves b.moved.exact.moves own more_own one
             (subst (λ (l : List Entry). ServesAll begin l (deeds_from more next) b.moved.exact.moves more_own) own_is two)),
+        behind,
       )
 
   -- a segment behind those before
   alone_then : (moved : MovedExactly begin first w (length places + length more) (deeds_from places answers ++ deeds_from more next))
       × (IsClean w → IsLevel first → IsLevel w)
-      × (moved.last ≡ [] → MadeAllLines first w moved.made → IsClean w → IsLevel first
-      → (own : List Entry) × (entries_in w ≡ entries_in first ++ own)
-      × ServesAll begin (entries_in first) (deeds_from places answers ++ deeds_from more next) moved.exact.moves own)
+      × (MadeAllLines first w moved.made → IsClean w → IsLevel first
+      → (own : List Entry) × (rest : List Entry) × (entries_in w ≡ entries_in first ++ (own ++ rest))
+      × ServesAll begin (entries_in first) (deeds_from places answers ++ deeds_from more next) moved.exact.moves own × IsLeftBehind moved.last rest)
   unfolding before Before c moved_put
   alone_then =
       let (e, served) = before in (
@@ -217,23 +224,26 @@ module _ (begin : Begin) (first v mid w : View) (places more : List Place) (answ
             (exact_then begin first v w a.moved.made c.made (deeds_from places answers) (deeds_from more next) c.last e below grows c.exact).moves
             (then_moves begin first v w a.moved.made c.made (deeds_from places answers) (deeds_from more next) c.last e below grows c.exact
             ∙ ap (λ (l : List Move). e.moves ++ l) (put_moves begin v mid w (records_of more) (length more) (deeds_from more next) here b.moved puts same))
-            (served refl),
+            served,
       )
 
 -- a run whose records are of one lane, with these deeds, where they are so many
 alone_as : (begin : Begin) (first w : View) (places : List Place) (answers : List Answer) (n : ℕ) (deeds : List Deed) → length places ≡ n
     → deeds_from places answers ≡ deeds
     → (moved : MovedExactly begin first w n deeds) × (IsClean w → IsLevel first → IsLevel w)
-    × (moved.last ≡ [] → MadeAllLines first w moved.made → IsClean w → IsLevel first
-    → (own : List Entry) × (entries_in w ≡ entries_in first ++ own) × ServesAll begin (entries_in first) deeds moved.exact.moves own)
+    × (MadeAllLines first w moved.made → IsClean w → IsLevel first
+    → (own : List Entry) × (rest : List Entry) × (entries_in w ≡ entries_in first ++ (own ++ rest)) × ServesAll begin (entries_in first) deeds moved.exact.moves own
+    × IsLeftBehind moved.last rest)
     → RunAlone begin first w places answers
 alone_as begin first w places answers n deeds size is h =
     let (moved, level, served) = subst (λ (k : ℕ). (moved : MovedExactly begin first w k (deeds_from places answers)) × (IsClean w → IsLevel first → IsLevel w)
-    × (moved.last ≡ [] → MadeAllLines first w moved.made → IsClean w → IsLevel first
-    → (own : List Entry) × (entries_in w ≡ entries_in first ++ own) × ServesAll begin (entries_in first) (deeds_from places answers) moved.exact.moves own)) (sym size)
+    × (MadeAllLines first w moved.made → IsClean w → IsLevel first
+    → (own : List Entry) × (rest : List Entry) × (entries_in w ≡ entries_in first ++ (own ++ rest)) × ServesAll begin (entries_in first) (deeds_from places answers) moved.exact.moves own
+    × IsLeftBehind moved.last rest)) (sym size)
     (subst (λ (ds : List Deed). (moved : MovedExactly begin first w n ds) × (IsClean w → IsLevel first → IsLevel w)
-    × (moved.last ≡ [] → MadeAllLines first w moved.made → IsClean w → IsLevel first
-    → (own : List Entry) × (entries_in w ≡ entries_in first ++ own) × ServesAll begin (entries_in first) ds moved.exact.moves own)) (sym is) h) in
+    × (MadeAllLines first w moved.made → IsClean w → IsLevel first
+    → (own : List Entry) × (rest : List Entry) × (entries_in w ≡ entries_in first ++ (own ++ rest)) × ServesAll begin (entries_in first) ds moved.exact.moves own
+    × IsLeftBehind moved.last rest)) (sym is) h) in
     record { moved = moved; level = level; served = served }
 
 pub moved_on : (begin : Begin) (first v mid w : View) (places more : List Place) (answers next : List Answer) (number stored entries lines : ℕ)
@@ -264,10 +274,12 @@ alone_nothing begin first = record {
     exact = exact_nothing begin first;
   };
   level = λ clean level. level;
-  served = λ none all clean level. (
+  served = λ all clean level. (
+    [],
     [],
     sym (append-nil (entries_in first)),
     subst (λ (moves : List Move). ServesAll begin (entries_in first) [] moves []) (sym (nothing_moves begin first)) refl,
+    (λ none. refl, omega arith),
   );
 }
 
@@ -300,19 +312,23 @@ exact_call call account plan begin first now words releases begins opened whole 
       let o = opened.added row (omega arith) in
       let n = opened.nexts row (omega arith) in
       let a = alone_run.moved.exact.added row in omega arith;
-  served = λ all quiet.
-      let none : alone_run.moved.last ≡ [] = alone_run.moved.each (deeds_length account.handled account.answers all) in
+  served = λ quiet.
       let clean : IsClean now = (λ risen. quiet (subst (λ (n : ℕ). Rose n account.last) faults_before
       (subst (λ (n : ℕ). Rose now.turn.known.opening.faults n) faults_last risen))) in
       let empty : entries_in first ≡ [] = ap entries_of opened.no_log in
       let level : IsLevel first = (let counted = ap epoch_after empty in omega arith) in
-      let (own, own_is, served) = alone_run.served none (λ place low high. all_made place high) clean level in
-      let front : take (length (entries_in now)) call.entries ≡ own =
+      let (own, rest, own_is, served, behind) = alone_run.served (λ place low high. all_made place high) clean level in
+      let front : take (length (entries_in now)) call.entries ≡ own ++ rest =
       ap (take (length (entries_in now))) is ∙ take-append-le (length (entries_in now)) (entries_in now) releases (omega arith)
-      ∙ take_all (length (entries_in now)) (entries_in now) (omega arith) ∙ own_is ∙ ap (λ (l : List Entry). l ++ own) empty in
-      subst (λ (l : List Entry). ServesAll (begin_of call plan begin.start) [] (deeds_in account) alone_run.moved.exact.moves l) (sym front)
-      (subst (λ (b : Begin). ServesAll b [] (deeds_in account) alone_run.moved.exact.moves own) begins
-      (subst (λ (l : List Entry). ServesAll begin l (deeds_in account) alone_run.moved.exact.moves own) empty served));
+      ∙ take_all (length (entries_in now)) (entries_in now) (omega arith) ∙ own_is ∙ ap (λ (l : List Entry). l ++ (own ++ rest)) empty in (
+        own,
+        rest,
+        front,
+        subst (λ (b : Begin). ServesAll b [] (deeds_in account) alone_run.moved.exact.moves own) begins
+            (subst (λ (l : List Entry). ServesAll begin l (deeds_in account) alone_run.moved.exact.moves own) empty served),
+        (λ all. behind.0 (alone_run.moved.each (deeds_length account.handled account.answers all))),
+        behind.1,
+      );
 } where
   rows : begin.rows ≡ MOST_KEYS
   rows = ap (λ (b : Begin). b.rows) begins

@@ -59,6 +59,12 @@ pub record IsUnhindered (call : CallSeen) (ends : RunEnds call) (plan : PlanLine
 abbrev pub NoneWants : List Answer → Type 0
 NoneWants answers = All (λ answer. answer.code ≢ NO_MEMORY) answers
 
+-- Two calls gave the same answers and made the same entries; if they name one end, the same octets are due.
+pub record AnswersAlike (call other : CallSeen) (account again : Account) : Type 0 where
+  pub answers : again.answers ≡ account.answers
+  pub entries : other.entries ≡ call.entries
+  pub due : again.told ≡ account.told → due_octets other again ≡ due_octets call account
+
 -- Two calls did the same: their answers and their entries are the same, and so are the octets that are due, with End's.
 pub record RunsAlike (call other : CallSeen) (account again : Account) : Type 0 where
   pub answers : again.answers ≡ account.answers

@@ -19,6 +19,8 @@ use Rattle.counter_table.specs.declared.view.View.{View}
 use Rattle.counter_table.specs.Numbers.{amount, top}
 use Rattle.counter_table.specs.Turn.{stands}
 use Rattle.counter_table.specs.Whole.{IsWhole}
+use Rattle.ep_core.specs.declared.need.Need.{Need}
+use Rattle.ep_core.specs.declared.need.Need.TheVariants as needs
 use Rattle.run_promise.specs.Entries.{IsStepOf}
 use Rattle.run_promise.specs.Legal.{KeyOf}
 use Rattle.run_promise.specs.Numbers.{mark_of}
@@ -82,16 +84,17 @@ module _ (start : State) (es rest : List Entry) where
   state_on : (p : ℕ) → p ≤ length es → after_first start (es ++ rest) p ≡ after_first start es p
   state_on p low = ap (after start) (take-append-le p es rest low)
 
-  shown_on : (state : State) (task : Record) (of : ℕ → Move) (move : Move) → Shown start es state task of move → Shown start (es ++ rest) state task of move
-  shown_on state task of move (key, row, of_key, is_row, is) = (key, row, of_key, row_on key row is_row, is)
+  shown_on : (state : State) (task : Record) (need : ℕ → Need) (of : ℕ → Move) (move : Move) → Shown start es state task need of move
+      → Shown start (es ++ rest) state task need of move
+  shown_on state task need of move (key, row, of_key, is_row, is) = (key, row, of_key, row_on key row is_row, is)
 
   seen_on : (state : State) (task : Record) (seen : Seen) (move : Move) → TellsSeen start es state task seen move → TellsSeen start (es ++ rest) state task seen move
   seen_on state task seens.Nothing move h = h
-  seen_on state task (seens.Word word) move (inl h) = inl (shown_on state task (λ row. Raised row word 1) move h)
+  seen_on state task (seens.Word word) move (inl h) = inl (shown_on state task (λ key. needs.Look key) (λ row. Raised row word 1) move h)
   seen_on state task (seens.Word word) move (inr (key, row, number, asks, is_row, is)) = inr (key, row, number, asks, row_on key row is_row, is)
-  seen_on state task (seens.Number number) move h = shown_on state task (λ row. Drew row number) move h
-  seen_on state task (seens.Exhausted number) move (inl h) = inl (shown_on state task (λ row. Found row number) move h)
-  seen_on state task (seens.Exhausted number) move (inr h) = inr (shown_on state task (λ row. Overdrew row number) move h)
+  seen_on state task (seens.Number number) move h = shown_on state task (λ key. needs.Number key) (λ row. Drew row number) move h
+  seen_on state task (seens.Exhausted number) move (inl h) = inl (shown_on state task (λ key. needs.Number key) (λ row. Found row number) move h)
+  seen_on state task (seens.Exhausted number) move (inr h) = inr (shown_on state task (λ key. needs.Number key) (λ row. Overdrew row number) move h)
 
   protect_on : (d : Deed) (m : Move) → TellsProtect start es d m → TellsProtect start (es ++ rest) d m
   protect_on d m h = record {

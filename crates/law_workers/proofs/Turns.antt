@@ -89,14 +89,19 @@ pub between_then : (begin : Begin) (u v w : View) (m n : List ℕ) (s t : List (
 between_then begin u v w m n s t ds es a b last low high below above x y marked = record {
   spent_is = y.spent_is ∙ (ap (λ (l : List (ℕ × ℕ)). l ++ t) x.spent_is ∙ append_assoc u.numbers.spent s t);
   level = λ clean level. y.level clean (x.level (clean_before v w high clean) level);
-  served = λ none all clean level marks.
+  served = λ all clean level marks.
       let all_rest = made_rest u v w m n low below all in
       let before = clean_before v w high clean in
-      let (own, own_is, one) = x.served refl (made_first u v w m n high above all) before level (marked all_rest clean marks) in
-      let (more, more_is, two) = y.served none all_rest clean (x.level before level) (marked_back begin w s t marks) in (
+      let (own, none, all_is, one, left) = x.served (made_first u v w m n high above all) before level (marked all_rest clean marks) in
+      let own_is : entries_in v ≡ entries_in u ++ own =
+      all_is ∙ ap (λ (l : List Entry). entries_in u ++ (own ++ l)) (left.0 refl) ∙ ap (λ (l : List Entry). entries_in u ++ l) (append-nil own) in
+      let (more, rest, more_is, two, behind) = y.served all_rest clean (x.level before level) (marked_back begin w s t marks) in (
         own ++ more,
-        more_is ∙ (ap (λ (l : List Entry). l ++ more) own_is ∙ append_assoc (entries_in u) own more),
+        rest,
+        more_is ∙ (ap (λ (l : List Entry). l ++ (more ++ rest)) own_is ∙ append_assoc (entries_in u) own (more ++ rest))
+            ∙ ap (λ (l : List Entry). entries_in u ++ l) (sym (append_assoc own more rest)),
         serves_both begin (entries_in u) ds es a b own more one (subst (λ (l : List Entry). ServesAll begin l es b more) own_is two),
+        behind,
       );
 }
 
@@ -139,6 +144,6 @@ in_turn_nothing begin v = record {
   between = record {
     spent_is = sym (append-nil v.numbers.spent);
     level = λ clean level. level;
-    served = λ none all clean level marks. ([], sym (append-nil (entries_in v)), refl);
+    served = λ all clean level marks. ([], [], sym (append-nil (entries_in v)), refl, (λ none. refl, omega arith));
   };
 }

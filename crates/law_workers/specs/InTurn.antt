@@ -36,15 +36,22 @@ AreMarked begin view numbers =
     (key row number : ℕ) → row < begin.rows → IsRow begin view key row → 0 < times row number numbers
     → IsMarked begin view key number
 
--- Where no other worker made a line meanwhile, and the site did not fail, the records were served in turn from the
--- history of the old view, once each number that they spent is known to be below its mark; they made all entries of the
--- new view behind those of the old one. Last is empty where each record has its answer.
+-- what a record without an answer left behind the entries of those before it: an entry at most, and none where each
+-- record has its answer
+abbrev pub IsLeftBehind : List Move → List Entry → Type 0
+IsLeftBehind last rest = (last ≡ [] → rest ≡ []) × (length rest ≤ 1)
+
+-- Where no other worker made a line meanwhile, and the site did not fail, the answered records were served in turn from
+-- the history of the old view, once each number that was spent is known to be below its mark; they made all entries of
+-- the new view behind those of the old one, but for what a record without an answer left. Last is empty where each
+-- record has its answer.
 pub record ServedBetween (begin : Begin) (old new : View) (made : List ℕ) (spent : List (ℕ × ℕ)) (deeds : List Deed)
     (moves last : List Move) : Type 0 where
   pub spent_is : new.numbers.spent ≡ old.numbers.spent ++ spent
   pub level : IsClean new → IsLevel old → IsLevel new
-  pub served : last ≡ [] → MadeAllLines old new made → IsClean new → IsLevel old → AreMarked begin new spent
-      → (own : List Entry) × (entries_in new ≡ entries_in old ++ own) × ServesAll begin (entries_in old) deeds moves own
+  pub served : MadeAllLines old new made → IsClean new → IsLevel old → AreMarked begin new spent
+      → (own : List Entry) × (rest : List Entry) × (entries_in new ≡ entries_in old ++ (own ++ rest))
+      × ServesAll begin (entries_in old) deeds moves own × IsLeftBehind last rest
 
 -- The same of a worker that began with the old view: a number that it had spent before is known to be below its mark at
 -- the old view where it is at the new one, since the turn was taken wherever a line was made.

@@ -5,6 +5,8 @@ use Rattle.sdls_base.specs.declared.entry.Entry.{Entry}
 use Rattle.sdls_base.specs.declared.entry.Seen.{Seen}
 use Rattle.sdls_base.specs.declared.entry.Seen.TheVariants as seens
 use Rattle.key_book.specs.KeyBook.{place_of}
+use Rattle.ep_core.specs.declared.need.Need.{Need}
+use Rattle.ep_core.specs.declared.need.Need.TheVariants as needs
 use Rattle.ep_core.specs.declared.reply.Reply.{Reply}
 use Rattle.record_io.specs.declared.code.TheConstants.{PROTECTED, CLEAR, DONE, REFUSED, LAYOUT, STATE, EXHAUSTED}
 use Rattle.record_io.specs.declared.code.TheConstants.{JOURNAL_FULL}
@@ -13,7 +15,7 @@ use Rattle.record_io.specs.declared.kinds.RecordKind.TheVariants.{Protect, Open,
 use Rattle.record_io.specs.declared.records.Record.{Record}
 use Rattle.unit_state.specs.declared.state.State.{State}
 use Rattle.unit_state.specs.History.{after, after_first}
-use Rattle.run_promise.specs.Entries.{IsStepOf}
+use Rattle.run_promise.specs.Entries.{IsNeedOf, IsStepOf}
 use Rattle.run_promise.specs.Legal.{AsksFor, KeyOf}
 use Rattle.run_promise.specs.Numbers.{mark_of}
 use Rattle.run_promise.specs.Deed.{Deed}
@@ -28,20 +30,25 @@ module _ (start : State) (entries : List Entry) where
   abbrev pub HasRow : ℕ → ℕ → Type 0
   HasRow key row = place_of (after start entries).keys key ≡ Some row
 
-  -- a move of this kind, on the row of the key that the message needs
-  abbrev pub Shown : State → Record → (ℕ → Move) → Move → Type 0
-  Shown state task of move = (key : ℕ) × (row : ℕ) × KeyOf state task.octets key × HasRow key row × (move ≡ of row)
+  -- a move of this kind, on the row of the key for which the message needs this
+  abbrev pub Shown : State → Record → (ℕ → Need) → (ℕ → Move) → Move → Type 0
+  Shown state task need of move = (key : ℕ) × (row : ℕ) × IsNeedOf state task.octets (need key) × HasRow key row
+      × (move ≡ of row)
 
-  -- What a command saw tells its move: a word was found, and left or raised, by 1 at least, or to what was asked for; a
-  -- number was drawn; the key had none left.
+  -- What a command saw tells its move: a word that was only looked at was left, or raised to 1; a word from which the
+  -- message asks that the numbers go on was raised to the number asked for, or left above it; a number was drawn; the
+  -- key had none left.
   abbrev pub TellsSeen : State → Record → Seen → Move → Type 0
   TellsSeen state task seens.Nothing move = move ≡ Kept
-  TellsSeen state task (seens.Word word) move = Shown state task (λ row. Raised row word 1) move
+  TellsSeen state task (seens.Word word) move =
+      Shown state task (λ key. needs.Look key) (λ row. Raised row word 1) move
       ⊎ ((key : ℕ) × (row : ℕ) × (number : ℕ) × AsksFor state task.octets key number × HasRow key row
       × (move ≡ Raised row word number))
-  TellsSeen state task (seens.Number number) move = Shown state task (λ row. Drew row number) move
+  TellsSeen state task (seens.Number number) move =
+      Shown state task (λ key. needs.Number key) (λ row. Drew row number) move
   TellsSeen state task (seens.Exhausted number) move =
-      Shown state task (λ row. Found row number) move ⊎ Shown state task (λ row. Overdrew row number) move
+      Shown state task (λ key. needs.Number key) (λ row. Found row number) move
+      ⊎ Shown state task (λ key. needs.Number key) (λ row. Overdrew row number) move
 
   -- the answer to a frame that is protected tells its move: the number used, the word or number at the end, none where
   -- it is not bound, and where the journal is full a number that is not funded
