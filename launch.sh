@@ -242,18 +242,20 @@ Recorded input and answers of `sdls run`, as text.
   show         reads recorded input, and prints its lines
   answers      reads answers, and prints a line for each
   --help       prints this page
-  --version    prints the commit and the kit that the program is built from
+  --version    prints the version
 
 Lines of text: fence; protect LANE LINK OCTETS; open LANE LINK OCTETS; command LANE octets OCTETS;
-command LANE PROCEDURE VALUE.. Empty lines and lines that begin with # are skipped.
+command LANE PROCEDURE VALUE.. The procedures are rekeying, activate, deactivate, verify, destroy, inventory, compose,
+read-number, create, delete, set-window, rekey, expire, set-number, start, stop and status; FORMATS.md has their values.
+Spaces or commas part words, letters count in either case, and a word that begins with # begins a comment.
 
 Status: 0 done; 1 a line, an item or an answer is at fault; 2 other words; 4 standard input could not be read;
 5 standard output could not be written; 6 out of memory. Of the launcher: 70 the program could not be built.
 
-Example:
+Examples:
   echo 'protect 0 0 002a140509c3' | sdls_text records > input.bin
-  sdls run < input.bin > answers.bin
-  sdls_text answers < answers.bin
+  sdls_text show < input.bin
+  sdls run < input.bin | sdls_text answers
 HELP
     else
         cat <<'HELP'

@@ -1,5 +1,5 @@
 -- The words of the commands (profile).
-use Rattle.std.specs.Prelude.{⊤, ℕ, decimal, codes, map, List, [], ◌∷◌}
+use Rattle.std.specs.Prelude.{⊤, ℕ, decimal, map, List, [], ◌∷◌}
 use Rattle.hex.specs.Hex.{encode_lower, IsBytes}
 use Rattle.sdls_base.specs.declared.change.NewSa.{NewSa}
 use Rattle.ep_codec.specs.Command.{IsInBounds, HasTypes}

@@ -1,3 +1,4 @@
+pub mod Plain
 pub mod Fields
 pub mod Name
 pub mod Command

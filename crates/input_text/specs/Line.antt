@@ -1,6 +1,5 @@
 -- Recorded input as text, a line an item (profile).
-use Rattle.std.specs.Prelude.{◌≡◌, ⊤, ℕ, ◌^◌, ◌<◌, ◌==◌, decimal, codes, Bool, true, List, [], ◌∷◌}
-use Rattle.unit_plan.specs.Lines.{words_of}
+use Rattle.std.specs.Prelude.{◌≡◌, ⊤, ℕ, ◌^◌, ◌<◌, decimal, codes, List, [], ◌∷◌}
 use Rattle.record_io.specs.Input.{Item}
 use Rattle.record_io.specs.declared.kinds.ItemKind.TheVariants as items
 use Rattle.record_io.specs.declared.kinds.RecordKind.TheVariants as records
@@ -9,6 +8,7 @@ use Rattle.ep_codec.specs.Command.{command_octets}
 use Rattle.input_text.specs.declared.line.Line.{Line}
 use Rattle.input_text.specs.declared.line.Line.TheVariants.{Fence, Protect, Open, Command, Message}
 use Rattle.text_words.specs.Words.{octets_word}
+use Rattle.input_text.specs.Plain.{line_said}
 use Rattle.input_text.specs.Fields.{AreRecorded}
 use Rattle.input_text.specs.Command.{command_words, IsCommand}
 
@@ -32,15 +32,10 @@ IsLine (Open lane link octets) = IsLane lane × (link < 2 ^ 8) × AreRecorded oc
 IsLine (Command lane command) = IsLane lane × IsCommand command
 IsLine (Message lane octets) = IsLane lane × AreRecorded octets
 
--- The text says this line: its words, with one space between two of them.
+-- The text says this line: its words are those of the line.
 pub record Says (text : List ℕ) (line : Line) : Type 0 where
   pub bounds : IsLine line
-  pub words : words_of text ≡ line_words line
-
--- an empty line, or a comment, says nothing
-abbrev pub is_skipped : List ℕ → Bool
-is_skipped [] = true
-is_skipped (octet ∷ octets) = octet == 35
+  pub words : line_said text ≡ line_words line
 
 -- the item of a line; what is not looked at is 0
 unfoldable pub line_item : Line → Item

@@ -1,6 +1,7 @@
 ghost use Rattle.std.specs.Prelude.{◌≡◌};
 ghost use Rattle.input_text.specs.declared.fault.LineError.TheVariants.{NoMemory};
 
+use crate::seen::Seen;
 use std::alloc::{AllocError, AllocFailed};
 use thiserror::Error;
 
@@ -13,7 +14,8 @@ pub enum Expected {
     Lane,
     #[error("a link, 0 to 255")]
     Link,
-    #[error("a procedure or octets")]
+    #[error("octets or a procedure, which are rekeying, activate, deactivate, verify, destroy, inventory, compose, \
+         read-number, create, delete, set-window, rekey, expire, set-number, start, stop and status")]
     Procedure,
     #[error("an index, 1 to 65534")]
     Spi,
@@ -33,28 +35,37 @@ pub enum Expected {
     Window,
     #[error("a channel, 0 to 63")]
     Channel,
-    #[error("1 to 8 channels in ascending order")]
+    #[error("a channel above the one before it")]
     Channels,
-    #[error("12 octets in lower-case digits")]
+    #[error("12 octets, two hexadecimal digits each")]
     Vector,
-    #[error("16 octets in lower-case digits")]
+    #[error("16 octets, two hexadecimal digits each")]
     Block,
-    #[error("19 to 280 octets in lower-case digits")]
+    #[error("19 to 280 octets, two hexadecimal digits each")]
     Sealed,
-    #[error("1 to 2048 octets in lower-case digits, or -")]
+    #[error("1 to 2048 octets, two hexadecimal digits each, or - for none")]
     Octets,
-    #[error("a line feed alone at the end, which is CR LF")]
+    #[error("a line feed alone, but the line ends with CR LF")]
     LineFeed,
+    #[error("a line without a byte order mark before it")]
+    NoMark,
+    #[error("at most 8 keys")]
+    EndOfKeys,
+    #[error("at most 8 channels")]
+    EndOfChannels,
     #[error("the end of the line")]
     End,
 }
 
-/// The word of a line at which no line goes on as these words do, and what was expected there.
+/// The first word of a line that does not continue it, and what was expected there.
 #[derive(Clone, Copy, Debug, PartialEq, Eq, Error)]
-#[error("word {word}: expected {expected}")]
+#[error("column {column}, word {word}{seen}: expected {expected}")]
 pub struct LineFault {
-    /// Its place among the words, from 1; one more than there are where a word is wanting.
+    /// The place of the word among the words, from 1; one more than there are if a word is missing.
     pub word: usize,
+    /// The octet of the line with which it begins, from 1; if a word is missing, that behind the line or of a comment.
+    pub column: usize,
+    pub seen: Seen,
     pub expected: Expected,
 }
 
@@ -64,8 +75,8 @@ pub enum LineError {
     /// The line says nothing.
     #[error("{0}")]
     Fault(LineFault),
-    /// Memory was wanting.
-    #[error("no memory")]
+    /// Memory ran out.
+    #[error("out of memory")]
     NoMemory,
 }
 

@@ -4,10 +4,12 @@ ghost use Rattle.std.specs.Prelude.{Some, MatchOption, MatchResult, IsTrue};
 ghost use Rattle.hex.specs.Hex.{encode_lower, IsBytes};
 ghost use Rattle.ep_codec.specs.Field.{is_key, is_spi};
 ghost use Rattle.unit_plan.specs.Lines.{words_of};
+ghost use Rattle.input_text.specs.Plain.{said_words};
 ghost use Rattle.text_words.specs.Words.{octets_word};
 ghost use Rattle.input_text.specs.Fields.{AnswersField, IsFault, IsNoMemory, AreRecorded};
 
 use crate::fault::{Expected, LineError, LineFault};
+use crate::seen::Seen;
 use hex::FromHexError;
 use itoa::Buffer;
 use record_io::MOST_RECORD_OCTETS;
@@ -17,19 +19,70 @@ use std::marker::Model;
 use std::str;
 use unit_plan::Words;
 
-/// The words that are left of a line. It counts those that were taken.
+/// Where a part of a line stands, for messages.
+#[derive(Clone, Copy, Drop)]
+struct Place {
+    /// How many octets stand before it, and how many it has.
+    at: usize,
+    len: usize,
+    /// How many octets stand before the part behind it.
+    next: usize,
+}
+
+impl Place {
+    /// Passes to the next part, which has so many octets.
+    fn pass(&mut self, len: usize) {
+        self.at = self.next;
+        self.len = len;
+        self.next = self.next.saturating_add(len).saturating_add(1);
+    }
+
+    /// Passes to the end of the line.
+    fn end(&mut self) {
+        self.at = self.next.saturating_sub(1);
+        self.len = 0;
+    }
+}
+
+/// Takes the next word from these, if there is one, and passes to it.
+fn take_word<'a>(words: &mut Words<'a>, place: &mut Place) -> Option<&'a [u8]>
+    ensures { MatchOption result ((said_words words.old ≡ []) × (said_words words.new ≡ []))
+        (λ word. said_words words.old ≡ word.now ∷ said_words words.new) }
+{
+    while let Some(part) = words.next() {
+        place.pass(part.len());
+        match part.first() {
+            None => {}
+            Some(b'#') => {
+                place.len = 0;
+                *words = Words::of(&[]);
+                return None;
+            }
+            Some(_) => return Some(part),
+        }
+    }
+    place.end();
+    None
+}
+
+/// The words that are left of a line, which it takes from the line as it is read. It counts those that were taken, and
+/// knows where the last one stands, for messages.
 #[derive(Drop)]
 pub(crate) struct Fields<'a> {
+    line: &'a [u8],
+    plain: &'a [u8],
     words: Words<'a>,
     taken: usize,
+    place: Place,
 }
 
 impl<'a> Model for Fields<'a> {
     ghost use Rattle.std.specs.Prelude.{List, ℕ};
+    ghost use Rattle.input_text.specs.Plain.{said_words};
 
     ghost Value = { List (List ℕ) };
 
-    ghost view = { λ fields. fields.words };
+    ghost view = { λ fields. said_words fields.words };
 }
 
 /// The number that the word spells in decimal digits.
@@ -92,12 +145,20 @@ fn record_of(alloc: Global, word: &[u8]) -> Result<Option<Octets>, AllocError>
 }
 
 impl<'a> Fields<'a> {
-    pub fn of(line: &'a [u8]) -> Fields<'a>
-        ensures { result ≡ words_of line.now }
+    /// The words of a line, and of the line as it is read.
+    pub fn of(line: &'a [u8], plain: &'a [u8]) -> Fields<'a>
+        ensures { result ≡ said_words (words_of plain.now) }
     {
         Fields {
-            words: Words::of(line),
+            line,
+            plain,
+            words: Words::of(plain),
             taken: 0,
+            place: Place {
+                at: 0,
+                len: 0,
+                next: 0,
+            },
         }
     }
 
@@ -105,18 +166,33 @@ impl<'a> Fields<'a> {
     pub fn fault(&self, expected: Expected) -> LineError
         ensures { IsFault result }
     {
+        let end = self.place.at.saturating_add(self.place.len);
+        let word = self.line.get(self.place.at..end).unwrap_or(&[]);
         LineError::Fault(LineFault {
             word: self.taken,
+            column: self.place.at.saturating_add(1),
+            seen: Seen::of(word),
             expected,
         })
     }
 
-    /// Takes the next word, where there is one.
+    /// The fault of the word that is the last but so many, the end counted.
+    pub fn fault_before(&self, back: usize, expected: Expected) -> LineError
+        ensures { IsFault result }
+    {
+        let mut fields = Fields::of(self.line, self.plain);
+        for _ in 0..self.taken.saturating_sub(back) {
+            let _ = fields.next();
+        }
+        fields.fault(expected)
+    }
+
+    /// Takes the next word, if there is one.
     pub fn next(&mut self) -> Option<&'a [u8]>
         ensures { MatchOption result ((self.old ≡ []) × (self.new ≡ [])) (λ word. self.old ≡ word.now ∷ self.new) }
     {
         self.taken = self.taken.saturating_add(1);
-        self.words.next()
+        take_word(&mut self.words, &mut self.place)
     }
 
     /// Takes a number.
@@ -263,13 +339,13 @@ impl<'a> Fields<'a> {
     }
 
     /// Says that no word is left.
-    pub fn end(&mut self) -> Result<(), LineError>
+    pub fn end(&mut self, expected: Expected) -> Result<(), LineError>
         ensures read { IfOk result (λ _. self.old ≡ []) }
         ensures only { self.old ≡ [] → IsOk result }
     {
         match self.next() {
             None => Ok(()),
-            Some(_) => Err(self.fault(Expected::End)),
+            Some(_) => Err(self.fault(expected)),
         }
     }
 
@@ -284,7 +360,7 @@ impl<'a> Fields<'a> {
         ensures only { (n : ℕ) → least ≤ n → n ≤ most → self.old ≡ decimal n ∷ [] → AnswersField result n }
     {
         let n = self.bounded(expected, least, most)?;
-        self.end()?;
+        self.end(Expected::End)?;
         Ok(n)
     }
 
@@ -294,7 +370,7 @@ impl<'a> Fields<'a> {
         ensures only { (n : ℕ) → IsTrue (is_spi n) → self.old ≡ decimal n ∷ [] → AnswersField result n }
     {
         let spi = self.spi()?;
-        self.end()?;
+        self.end(Expected::End)?;
         Ok(spi)
     }
 
@@ -305,7 +381,7 @@ impl<'a> Fields<'a> {
             → self.old ≡ encode_lower octets ∷ [] → AnswersField result octets }
     {
         let block = self.array(alloc, Expected::Block)?;
-        self.end()?;
+        self.end(Expected::End)?;
         Ok(block)
     }
 
@@ -316,7 +392,7 @@ impl<'a> Fields<'a> {
             → self.old ≡ octets_word octets ∷ [] → AnswersField result octets }
     {
         let octets = self.record(alloc)?;
-        self.end()?;
+        self.end(Expected::End)?;
         Ok(octets)
     }
 }

@@ -1,6 +1,6 @@
 //! The recorded input of `run` as text, a line an item (profile).
 //!
-//! [`read_line`] says what a line says, and [`put_item`] puts its octets.
+//! [`read_line`] says what a line says, and [`put_item`] adds its octets to a text.
 #![tactic(auto)]
 
 mod commands;
@@ -10,8 +10,11 @@ mod item;
 mod line;
 mod lists;
 mod names;
+mod plain;
+mod seen;
 mod values;
 
 pub use fault::{Expected, LineError, LineFault};
 pub use item::put_item;
 pub use line::{Line, read_line};
+pub use seen::Seen;

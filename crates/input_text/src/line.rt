@@ -8,12 +8,14 @@ ghost use Rattle.input_text.specs.declared.line.Line.TheVariants as lines;
 ghost use Rattle.text_words.specs.Words.{octets_word};
 ghost use Rattle.input_text.specs.Fields.{AnswersField, AreRecorded};
 ghost use Rattle.input_text.specs.Command.{command_words, IsCommand};
-ghost use Rattle.input_text.specs.Line.{IsLane, IsLine, Says, is_skipped, line_words};
+ghost use Rattle.input_text.specs.Plain.{is_skipped};
+ghost use Rattle.input_text.specs.Line.{IsLane, IsLine, Says, line_words};
 
 use crate::commands::command_named;
 use crate::fault::{Expected, LineError, LineFault};
 use crate::fields::Fields;
 use crate::names::named;
+use crate::plain::{is_skipped, plain};
 use ep_codec::Command;
 use record_io::LANES;
 use sdls_base::Octets;
@@ -129,7 +131,7 @@ fn said(alloc: Global, fields: &mut Fields<'_>) -> Result<Line, LineError>
 {
     match fields.next() {
         Some(word) if word == b"fence".as_slice() => {
-            fields.end()?;
+            fields.end(Expected::End)?;
             Ok(Line::Fence)
         }
         Some(word) if word == b"protect".as_slice() => {
@@ -145,34 +147,25 @@ fn said(alloc: Global, fields: &mut Fields<'_>) -> Result<Line, LineError>
     }
 }
 
-fn is_skipped(text: &[u8]) -> bool
-    ensures { result ≡ is_skipped text.now }
-{
-    match text.first() {
-        None => true,
-        Some(octet) => *octet == b'#',
-    }
+/// The same fault; if the line begins with a byte order mark or ends with CR LF, that is what is named.
+fn name_mark(text: &[u8], fault: LineFault) -> LineFault {
+    let expected = if text.starts_with(&[0xef, 0xbb, 0xbf]) {
+        Expected::NoMark
+    } else if text.ends_with(b"\r") {
+        Expected::LineFeed
+    } else {
+        fault.expected
+    };
+    LineFault { expected, ..fault }
 }
 
-/// The same fault, at a line that ends with CR LF told as such.
-fn name_line_feed(text: &[u8], fault: LineFault) -> LineFault {
-    match text.last() {
-        Some(b'\r') => LineFault {
-            word: fault.word,
-            expected: Expected::LineFeed,
-        },
-        _ => fault,
-    }
-}
-
-/// What the line says, without its line feed: an item, or nothing where it is empty or begins with `#`.
+/// What the line says, without its line feed: an item, or nothing if it is empty or a comment, perhaps behind spaces.
 ///
-/// A `Fault` tells the first word with which the line says nothing any more, counted from 1, and what was expected
-/// there.
+/// A `Fault` names the first word with which the line says nothing any more, and what was expected there.
 pub fn read_line(alloc: Global, text: &[u8]) -> Result<Option<Line>, LineError>
-    // What is read is what the line says, and nothing is read where it is skipped.
+    // What is read is what the line says, and nothing is read if it is skipped.
     ensures read { IfOk result (λ read. MatchOption read (IsTrue (is_skipped text.now)) (Says text.now)) }
-    // What a line says is read, unless memory runs out: so it says one thing at most, and a fault comes where it says
+    // What a line says is read, unless memory runs out: so it says one thing at most, and a fault comes only if it says
     // nothing.
     ensures only { (line : Line) → Says text.now line → AnswersField result (Some line) }
     ensures skipped { IsTrue (is_skipped text.now) → result ≡ Ok None }
@@ -180,9 +173,10 @@ pub fn read_line(alloc: Global, text: &[u8]) -> Result<Option<Line>, LineError>
     if is_skipped(text) {
         return Ok(None);
     }
-    match said(alloc, &mut Fields::of(text)) {
+    let plain = plain(alloc, text)?;
+    match said(alloc, &mut Fields::of(text, plain.as_slice())) {
         Ok(line) => Ok(Some(line)),
-        Err(LineError::Fault(fault)) => Err(LineError::Fault(name_line_feed(text, fault))),
+        Err(LineError::Fault(fault)) => Err(LineError::Fault(name_mark(text, fault))),
         Err(LineError::NoMemory) => Err(LineError::NoMemory),
     }
 }

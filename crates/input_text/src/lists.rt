@@ -27,7 +27,7 @@ pub(crate) fn keys(alloc: Global, fields: &mut Fields<'_>) -> Result<KeyList, Li
         let key = fields.key_of(word)?;
         keys.push(key)?;
     }
-    fields.end()?;
+    fields.end(Expected::EndOfKeys)?;
     Ok(KeyList::new(keys))
 }
 
@@ -48,8 +48,18 @@ fn channel_numbers(alloc: Global, fields: &mut Fields<'_>) -> Result<Octets, Lin
         let number = fields.channel_of(word)?;
         numbers.push(number)?;
     }
-    fields.end()?;
+    fields.end(Expected::EndOfChannels)?;
     Ok(Octets::new(numbers))
+}
+
+/// The place of the first number that is not above the one before it, for a message.
+fn place_of_fall(numbers: &[u8]) -> usize {
+    for at in 1..numbers.len() {
+        if numbers[at] <= numbers[at - 1] {
+            return at;
+        }
+    }
+    numbers.len()
 }
 
 /// Takes the channels that are left, 1 to 8 ascending numbers.
@@ -63,6 +73,10 @@ pub(crate) fn channels(alloc: Global, fields: &mut Fields<'_>) -> Result<Octets,
     if are_channels(numbers.as_slice()) {
         Ok(numbers)
     } else {
-        Err(fields.fault(Expected::Channels))
+        let back = numbers
+            .as_slice()
+            .len()
+            .saturating_sub(place_of_fall(numbers.as_slice()));
+        Err(fields.fault_before(back, Expected::Channels))
     }
 }

@@ -1,5 +1,5 @@
 -- The words of a line in bounds have no space, for `line_says_itself` and `put_line`.
-use Rattle.std.proofs.Common.{◌≡◌, ℕ, ◌^◌, ◌<◌, ◌≤◌, IsTrue, List, [], ◌∷◌, ◌++◌, map, codes, refl, sym, ap, ◌∙◌, arith}
+use Rattle.std.proofs.Common.{◌≡◌, ℕ, ◌^◌, ◌<◌, ◌≤◌, IsTrue, List, [], ◌∷◌, ◌++◌, length, map, codes, refl, sym, ap, ◌∙◌, arith}
 use Rattle.std.specs.Fmt.{decimal}
 use Rattle.std.proofs.lemmas.Bool.Decides.{nat_tests}
 use Rattle.record_io.specs.declared.kinds.TheConstants.{LANES}
@@ -9,7 +9,7 @@ use Rattle.sdls_base.specs.declared.states.Suite.{Suite}
 use Rattle.sdls_base.specs.declared.states.Suite.TheVariants.{Cmac, Gcm}
 use Rattle.sdls_base.specs.Bounds.{IsWidth}
 use Rattle.ep_codec.specs.Field.{is_key, is_spi}
-use Rattle.ep_codec.specs.Command.{IsInBounds, HasTypes, AreKeys}
+use Rattle.ep_codec.specs.Command.{IsInBounds, HasTypes, AreKeys, IsSealedLength}
 use Rattle.ep_codec.specs.declared.command.Command.{Command}
 use Rattle.ep_codec.specs.declared.command.Command.TheVariants.{Rekeying, Activate, Deactivate, Verify, Destroy, Inventory, Compose, ReadNumber, Create, Delete, SetWindow, Rekey, Expire, SetNumber, Start, Stop, Status}
 use Rattle.input_text.specs.declared.line.Line.{Line}
@@ -18,8 +18,9 @@ use Rattle.text_words.specs.Words.{direction_word, octets_word, suite_word}
 use Rattle.input_text.specs.Command.{value_words, command_words}
 use Rattle.input_text.specs.Line.{IsLine, line_words}
 use Rattle.unit_plan.specs.Lines.{words_of, lines_of}
+use Rattle.input_text.specs.Plain.{line_said, said_words}
 use Rattle.item_text.specs.Spelling.{joined, line_text}
-use Rattle.item_text.proofs.PlainWords.{IsPlain, ArePlain, joined_read, joined_line, decimal_plain, decimals_plain, digits_plain, octets_plain}
+use Rattle.item_text.proofs.PlainWords.{IsPlain, ArePlain, all_said, joined_kept, joined_read, joined_line, decimal_plain, decimals_plain, digits_plain, octets_plain}
 
 key_small : (key : ℕ) → IsTrue (is_key key) → key < 2 ^ 64
 key_small key is = grind (arith, nat_tests)
@@ -37,20 +38,28 @@ keys_plain : (keys : List ℕ) → AreKeys keys → ArePlain (map decimal keys)
 keys_plain keys are = decimals_plain (λ key. IsTrue (is_key key)) keys key_small are
 
 direction_plain : (direction : Direction) → IsPlain (direction_word direction)
-direction_plain Send = (refl, refl)
-direction_plain Receive = (refl, refl)
+direction_plain Send = (refl, refl, refl, refl)
+direction_plain Receive = (refl, refl, refl, refl)
 
 suite_plain : (suite : Suite) → IsPlain (suite_word suite)
-suite_plain Cmac = (refl, refl)
-suite_plain Gcm = (refl, refl)
+suite_plain Cmac = (refl, refl, refl, refl)
+suite_plain Gcm = (refl, refl, refl, refl)
+
+sealed_some : (sealed : List ℕ) → IsSealedLength sealed → 0 < length sealed
+sealed_some sealed is = grind (arith, nat_tests)
 
 values_plain : (command : Command) → IsInBounds command → HasTypes command → ArePlain (value_words command)
 unfolding value_words IsInBounds HasTypes
-values_plain (Rekeying master vector sealed tag) bounds types =
-    (key_plain master types.0, (digits_plain vector, (digits_plain sealed, (digits_plain tag, tt))))
+values_plain (Rekeying master vector sealed tag) bounds types = (
+  key_plain master types.0,
+  (
+    digits_plain vector (let long = types.1 in omega (arith, long)),
+    (digits_plain sealed (sealed_some sealed bounds), (digits_plain tag (let long = types.2 in omega (arith, long)), tt)),
+  ),
+)
 values_plain (Activate keys) bounds types = keys_plain keys types
 values_plain (Deactivate keys) bounds types = keys_plain keys types
-values_plain (Verify key challenge) bounds types = (key_plain key types.0, (digits_plain challenge, tt))
+values_plain (Verify key challenge) bounds types = (key_plain key types.0, (digits_plain challenge (let long = types.1 in omega (arith, long)), tt))
 values_plain (Destroy keys) bounds types = keys_plain keys types
 values_plain (Inventory first last) bounds types =
     let low = types.0 in let high = types.1 in
@@ -81,23 +90,23 @@ values_plain (Stop spi) bounds types = (spi_plain spi types, tt)
 values_plain (Status spi) bounds types = (spi_plain spi types, tt)
 
 command_plain : (command : Command) → IsInBounds command → HasTypes command → ArePlain (command_words command)
-command_plain (Rekeying master vector sealed tag) bounds types = ((refl, refl), values_plain (Rekeying master vector sealed tag) bounds types)
-command_plain (Activate keys) bounds types = ((refl, refl), values_plain (Activate keys) bounds types)
-command_plain (Deactivate keys) bounds types = ((refl, refl), values_plain (Deactivate keys) bounds types)
-command_plain (Verify key challenge) bounds types = ((refl, refl), values_plain (Verify key challenge) bounds types)
-command_plain (Destroy keys) bounds types = ((refl, refl), values_plain (Destroy keys) bounds types)
-command_plain (Inventory first last) bounds types = ((refl, refl), values_plain (Inventory first last) bounds types)
-command_plain (Compose master keys) bounds types = ((refl, refl), values_plain (Compose master keys) bounds types)
-command_plain (ReadNumber spi) bounds types = ((refl, refl), values_plain (ReadNumber spi) bounds types)
-command_plain (Create sa) bounds types = ((refl, refl), values_plain (Create sa) bounds types)
-command_plain (Delete spi) bounds types = ((refl, refl), values_plain (Delete spi) bounds types)
-command_plain (SetWindow spi window) bounds types = ((refl, refl), values_plain (SetWindow spi window) bounds types)
-command_plain (Rekey spi key number) bounds types = ((refl, refl), values_plain (Rekey spi key number) bounds types)
-command_plain (Expire spi) bounds types = ((refl, refl), values_plain (Expire spi) bounds types)
-command_plain (SetNumber spi number) bounds types = ((refl, refl), values_plain (SetNumber spi number) bounds types)
-command_plain (Start spi) bounds types = ((refl, refl), values_plain (Start spi) bounds types)
-command_plain (Stop spi) bounds types = ((refl, refl), values_plain (Stop spi) bounds types)
-command_plain (Status spi) bounds types = ((refl, refl), values_plain (Status spi) bounds types)
+command_plain (Rekeying master vector sealed tag) bounds types = ((refl, refl, refl, refl), values_plain (Rekeying master vector sealed tag) bounds types)
+command_plain (Activate keys) bounds types = ((refl, refl, refl, refl), values_plain (Activate keys) bounds types)
+command_plain (Deactivate keys) bounds types = ((refl, refl, refl, refl), values_plain (Deactivate keys) bounds types)
+command_plain (Verify key challenge) bounds types = ((refl, refl, refl, refl), values_plain (Verify key challenge) bounds types)
+command_plain (Destroy keys) bounds types = ((refl, refl, refl, refl), values_plain (Destroy keys) bounds types)
+command_plain (Inventory first last) bounds types = ((refl, refl, refl, refl), values_plain (Inventory first last) bounds types)
+command_plain (Compose master keys) bounds types = ((refl, refl, refl, refl), values_plain (Compose master keys) bounds types)
+command_plain (ReadNumber spi) bounds types = ((refl, refl, refl, refl), values_plain (ReadNumber spi) bounds types)
+command_plain (Create sa) bounds types = ((refl, refl, refl, refl), values_plain (Create sa) bounds types)
+command_plain (Delete spi) bounds types = ((refl, refl, refl, refl), values_plain (Delete spi) bounds types)
+command_plain (SetWindow spi window) bounds types = ((refl, refl, refl, refl), values_plain (SetWindow spi window) bounds types)
+command_plain (Rekey spi key number) bounds types = ((refl, refl, refl, refl), values_plain (Rekey spi key number) bounds types)
+command_plain (Expire spi) bounds types = ((refl, refl, refl, refl), values_plain (Expire spi) bounds types)
+command_plain (SetNumber spi number) bounds types = ((refl, refl, refl, refl), values_plain (SetNumber spi number) bounds types)
+command_plain (Start spi) bounds types = ((refl, refl, refl, refl), values_plain (Start spi) bounds types)
+command_plain (Stop spi) bounds types = ((refl, refl, refl, refl), values_plain (Stop spi) bounds types)
+command_plain (Status spi) bounds types = ((refl, refl, refl, refl), values_plain (Status spi) bounds types)
 
 lane_plain : (lane : ℕ) → lane < LANES → IsPlain (decimal lane)
 lane_plain lane few = decimal_plain lane (omega arith)
@@ -115,41 +124,44 @@ pub record HasPlainWords (line : Line) : Type 0 where
 
 plain_words : (line : Line) → IsLine line → HasPlainWords line
 unfolding IsLine line_words
-plain_words lines.Fence is = record { word = codes "fence"; words = []; are = refl; plain = (refl, refl); each = tt }
+plain_words lines.Fence is = record { word = codes "fence"; words = []; are = refl; plain = (refl, refl, refl, refl); each = tt }
 plain_words (lines.Protect lane link octets) is = record {
   word = codes "protect";
   words = decimal lane ∷ decimal link ∷ octets_word octets ∷ [];
   are = refl;
-  plain = (refl, refl);
+  plain = (refl, refl, refl, refl);
   each = (lane_plain lane is.0, (link_plain link is.1, (octets_plain octets, tt)));
 }
 plain_words (lines.Open lane link octets) is = record {
   word = codes "open";
   words = decimal lane ∷ decimal link ∷ octets_word octets ∷ [];
   are = refl;
-  plain = (refl, refl);
+  plain = (refl, refl, refl, refl);
   each = (lane_plain lane is.0, (link_plain link is.1, (octets_plain octets, tt)));
 }
 plain_words (lines.Command lane command) is = record {
   word = codes "command";
   words = decimal lane ∷ command_words command;
   are = refl;
-  plain = (refl, refl);
+  plain = (refl, refl, refl, refl);
   each = (lane_plain lane is.0, command_plain command is.1.bounds is.1.types);
 }
 plain_words (lines.Message lane octets) is = record {
   word = codes "command";
   words = decimal lane ∷ codes "octets" ∷ octets_word octets ∷ [];
   are = refl;
-  plain = (refl, refl);
-  each = (lane_plain lane is.0, ((refl, refl), (octets_plain octets, tt)));
+  plain = (refl, refl, refl, refl);
+  each = (lane_plain lane is.0, ((refl, refl, refl, refl), (octets_plain octets, tt)));
 }
 
 -- the words of a line are read again
-pub line_read : (line : Line) → IsLine line → words_of (joined (line_words line)) ≡ line_words line
+pub line_read : (line : Line) → IsLine line → line_said (joined (line_words line)) ≡ line_words line
 line_read line is =
     let has = plain_words line is in
-    ap (λ words. words_of (joined words)) has.are ∙ joined_read has.word has.words has.plain has.each ∙ sym has.are
+    ap (λ words. line_said (joined words)) has.are
+    ∙ ap (λ text. said_words (words_of text)) (joined_kept has.word has.words has.plain has.each)
+    ∙ ap said_words (joined_read has.word has.words has.plain has.each)
+    ∙ all_said (has.word ∷ has.words) (has.plain, has.each) ∙ sym has.are
 
 -- and with a line feed they are one line
 pub one_line : (line : Line) → IsLine line → (rest : List ℕ) → lines_of (line_text line ++ rest) ≡ joined (line_words line) ∷ lines_of rest

@@ -1,14 +1,15 @@
 -- Words without a mark, joined by it, are read as these words, for `line_says_itself`.
-use Rattle.std.proofs.Common.{◌≡◌, ℕ, zero, suc, ◌+◌, ◌/◌, ◌%◌, ◌^◌, ◌<◌, Bool, true, false, List, [], ◌∷◌, ◌++◌, map, get_or, refl, ap, ◌∙◌, arith, append_assoc}
+use Rattle.std.proofs.Common.{◌≡◌, ℕ, zero, suc, ◌+◌, ◌/◌, ◌%◌, ◌^◌, ◌<◌, Bool, true, false, List, [], ◌∷◌, ◌++◌, length, map, get_or, refl, ap, ◌∙◌, arith, append_assoc}
 use Rattle.std.specs.Prelude.{◌==◌, if◌then◌else◌, codes}
 use Rattle.std.specs.Fmt.{decimal}
 use Rattle.std.specs.List.{AllByRecursion, onto_first}
-use Rattle.std.proofs.lemmas.List.{append-nil}
+use Rattle.std.proofs.lemmas.List.{append-nil, map-append}
 use Rattle.std.proofs.lemmas.Bool.Decides.{nat_tests}
 use Rattle.std.proofs.lemmas.Fmt.{decimal_by_steps}
 use Rattle.hex.specs.Hex.{encode_lower, encode_with, lower_digits}
 use Rattle.unit_plan.specs.Lines.{parts, words_of, lines_of}
 use Rattle.text_words.specs.Words.{octets_word}
+use Rattle.input_text.specs.Plain.{plain_octet, said_words}
 use Rattle.item_text.specs.Spelling.{joined, spaced}
 
 -- no octet is the mark
@@ -16,9 +17,18 @@ abbrev pub lacks : ℕ → List ℕ → Bool
 lacks mark [] = true
 lacks mark (x ∷ xs) = if x == mark then false else lacks mark xs
 
--- the word has no space and no line feed
+-- the word begins with an octet that begins no comment
+abbrev pub IsBegun : List ℕ → Type 0
+IsBegun [] = ⊥
+IsBegun (octet ∷ octets) = (octet == 35) ≡ false
+
+-- the word is read as it stands
+abbrev pub IsKept : List ℕ → Type 0
+IsKept word = map plain_octet word ≡ word
+
+-- the word has no space and no line feed, begins no comment, and is read as it stands
 abbrev pub IsPlain : List ℕ → Type 0
-IsPlain word = (lacks 32 word ≡ true) × (lacks 10 word ≡ true)
+IsPlain word = (lacks 32 word ≡ true) × (lacks 10 word ≡ true) × IsBegun word × IsKept word
 
 abbrev pub ArePlain : List (List ℕ) → Type 0
 ArePlain words = AllByRecursion IsPlain words
@@ -77,6 +87,30 @@ spaced_lacks : (words : List (List ℕ)) → ArePlain words → lacks 10 (spaced
 spaced_lacks [] each = refl
 spaced_lacks (word ∷ words) each = lacks_append 10 word (spaced words) each.0.1 (spaced_lacks words each.1)
 
+spaced_kept : (words : List (List ℕ)) → ArePlain words → IsKept (spaced words)
+spaced_kept [] each = refl
+spaced_kept (word ∷ words) each =
+    ap (λ octets. 32 ∷ octets) (map-append plain_octet word (spaced words)
+    ∙ ap (λ front. front ++ map plain_octet (spaced words)) each.0.3 ∙ ap (λ behind. word ++ behind) (spaced_kept words each.1))
+
+-- they are read as they stand
+pub joined_kept : (word : List ℕ) (words : List (List ℕ)) → IsPlain word → ArePlain words → IsKept (joined (word ∷ words))
+joined_kept word words plain each =
+    map-append plain_octet word (spaced words) ∙ ap (λ front. front ++ map plain_octet (spaced words)) plain.3
+    ∙ ap (λ behind. word ++ behind) (spaced_kept words each)
+
+one_said : (b : Bool) (octet : ℕ) (word : List ℕ) (words : List (List ℕ)) → b ≡ false
+    → (if b then [] else (octet ∷ word) ∷ words) ≡ (octet ∷ word) ∷ words
+one_said true octet word words apart = absurd cc
+one_said false octet word words apart = refl
+
+-- and each of them counts
+pub all_said : (words : List (List ℕ)) → ArePlain words → said_words words ≡ words
+all_said [] each = refl
+all_said ([] ∷ words) each = absurd each.0.2
+all_said ((octet ∷ word) ∷ words) each =
+    one_said (octet == 35) octet word (said_words words) each.0.2 ∙ ap (λ more. (octet ∷ word) ∷ more) (all_said words each.1)
+
 -- and they are one line
 pub joined_line : (word : List ℕ) (words : List (List ℕ)) (rest : List ℕ) → IsPlain word → ArePlain words
     → lines_of ((joined (word ∷ words) ++ codes "\n") ++ rest) ≡ joined (word ∷ words) ∷ lines_of rest
@@ -97,8 +131,34 @@ decimal_lacks mark n low small = decimal_by_steps (λ n digits. lacks mark digit
     (λ n one. from_both ((48 + n) == mark) true (digit_is_no_mark mark n low) refl)
     (λ n digits more plain. lacks_more mark digits (48 + n % 10) plain (digit_is_no_mark mark (n % 10) low)) n small
 
+digit_kept : (n : ℕ) → n < 10 → plain_octet (48 + n) ≡ 48 + n
+digit_kept n one = grind (arith, nat_tests)
+
+kept_more : (xs : List ℕ) (x : ℕ) → IsKept xs → plain_octet x ≡ x → IsKept (xs ++ x ∷ [])
+kept_more xs x kept same =
+    map-append plain_octet xs (x ∷ []) ∙ ap (λ front. front ++ plain_octet x ∷ []) kept ∙ ap (λ last. xs ++ last ∷ []) same
+
+decimal_kept : (n : ℕ) → n < 2 ^ 64 → IsKept (decimal n)
+decimal_kept n small = decimal_by_steps (λ n digits. IsKept digits)
+    (λ n one. ap (λ digit. digit ∷ []) (digit_kept n one))
+    (λ n digits more kept. kept_more digits (48 + n % 10) kept (digit_kept (n % 10) (omega arith))) n small
+
+begun_more : (xs : List ℕ) (x : ℕ) → IsBegun xs → IsBegun (xs ++ x ∷ [])
+begun_more [] x begun = absurd begun
+begun_more (y ∷ ys) x begun = begun
+
+decimal_begun : (n : ℕ) → n < 2 ^ 64 → IsBegun (decimal n)
+decimal_begun n small = decimal_by_steps (λ n digits. IsBegun digits)
+    (λ n one. digit_is_no_mark 35 n (omega arith))
+    (λ n digits more begun. begun_more digits (48 + n % 10) begun) n small
+
 pub decimal_plain : (n : ℕ) → n < 2 ^ 64 → IsPlain (decimal n)
-decimal_plain n small = (decimal_lacks 32 n (omega arith) small, decimal_lacks 10 n (omega arith) small)
+decimal_plain n small = (
+  decimal_lacks 32 n (omega arith) small,
+  decimal_lacks 10 n (omega arith) small,
+  decimal_begun n small,
+  decimal_kept n small,
+)
 
 pub decimals_plain : (P : ℕ → Type 0) (ns : List ℕ) → ((n : ℕ) → P n → n < 2 ^ 64) → AllByRecursion P ns → ArePlain (map decimal ns)
 decimals_plain P [] small each = tt
@@ -120,9 +180,36 @@ digits_lack mark some apart (octet ∷ octets) =
     let low = no_mark_at mark lower_digits some apart (octet % 16) in
     from_both _ _ high (from_both _ _ low (digits_lack mark some apart octets))
 
-pub digits_plain : (octets : List ℕ) → IsPlain (encode_lower octets)
-digits_plain octets = (digits_lack 32 refl refl octets, digits_lack 10 refl refl octets)
+first_of : {x y : ℕ} {xs ys : List ℕ} → x ∷ xs ≡ y ∷ ys → x ≡ y
+first_of is = cc
+
+behind_of : {x y : ℕ} {xs ys : List ℕ} → x ∷ xs ≡ y ∷ ys → xs ≡ ys
+behind_of is = cc
+
+three : {high high_new low low_new : ℕ} {digits digits_new : List ℕ} → high ≡ high_new → low ≡ low_new → digits ≡ digits_new
+    → high ∷ low ∷ digits ≡ high_new ∷ low_new ∷ digits_new
+three high low digits = cc
+
+kept_at : (xs : List ℕ) → IsKept xs → (k : ℕ) → plain_octet (get_or xs k 0) ≡ get_or xs k 0
+kept_at [] kept k = refl
+kept_at (x ∷ xs) kept zero = first_of kept
+kept_at (x ∷ xs) kept (suc k) = kept_at xs (behind_of kept) k
+
+digits_kept : (octets : List ℕ) → IsKept (encode_lower octets)
+unfolding encode_with
+digits_kept [] = refl
+digits_kept (octet ∷ octets) =
+    three (kept_at lower_digits refl (octet / 16)) (kept_at lower_digits refl (octet % 16)) (digits_kept octets)
+
+digits_begun : (octets : List ℕ) → 0 < length octets → IsBegun (encode_lower octets)
+unfolding encode_with
+digits_begun [] some = absurd (omega arith)
+digits_begun (octet ∷ octets) some = no_mark_at 35 lower_digits refl refl (octet / 16)
+
+pub digits_plain : (octets : List ℕ) → 0 < length octets → IsPlain (encode_lower octets)
+digits_plain octets some =
+    (digits_lack 32 refl refl octets, digits_lack 10 refl refl octets, digits_begun octets some, digits_kept octets)
 
 pub octets_plain : (octets : List ℕ) → IsPlain (octets_word octets)
-octets_plain [] = (refl, refl)
-octets_plain (octet ∷ octets) = digits_plain (octet ∷ octets)
+octets_plain [] = (refl, refl, refl, refl)
+octets_plain (octet ∷ octets) = digits_plain (octet ∷ octets) (omega arith)

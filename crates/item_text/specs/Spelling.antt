@@ -10,7 +10,8 @@ use Rattle.ep_codec.specs.declared.command.Command.{Command}
 use Rattle.ep_codec.specs.Command.{IsCommandPdu}
 use Rattle.input_text.specs.declared.line.Line.{Line}
 use Rattle.input_text.specs.declared.line.Line.TheVariants as lines
-use Rattle.input_text.specs.Line.{Says, is_skipped, line_item, line_words}
+use Rattle.input_text.specs.Plain.{is_skipped}
+use Rattle.input_text.specs.Line.{Says, line_item, line_words}
 
 -- words, a space before each
 abbrev pub spaced : List (List ℕ) → List ℕ

@@ -1,6 +1,6 @@
 //! The program `sdls_text`: recorded input and answers as text. `sdls_text records` reads lines from standard input and
-//! puts the recorded input that they say; `sdls_text show` puts the lines of recorded input; `sdls_text answers` reads
-//! answers and puts their lines. What is put is the matter of `text_streams`.
+//! writes the recorded input that they say; `sdls_text show` prints the lines of recorded input; `sdls_text answers`
+//! reads answers and prints their lines. `text_streams` decides what is written.
 #![tactic(auto)]
 
 use sdls_outside::{FileSite, StdSource};
@@ -10,20 +10,34 @@ use std::rt::Env;
 use std::{env, io};
 use text_streams::{End, put_answers, put_lines, put_records};
 
-const USAGE: &str = "usage: sdls_text records < TEXT > INPUT
+/// The page of help, which launch.sh prints too.
+const HELP: &str = "\
+usage: sdls_text records < TEXT > INPUT
        sdls_text show < INPUT > TEXT
        sdls_text answers < ANSWERS > TEXT
-records puts the recorded input of `sdls run` that the lines of the text say:
-  fence
-  protect LANE LINK OCTETS
-  open LANE LINK OCTETS
-  command LANE octets OCTETS
-  command LANE PROCEDURE VALUE..
-An empty line and a line that begins with # are skipped.
-show puts the lines of recorded input.
-answers puts a line for each answer of `sdls run`, with the number of its record.
-docs/FORMATS.md has the procedures, and the lines of answers.
-Status: 0 done, 1 a line, an item or an answer is at fault, 2 usage, 4 the input failed, 5 the output failed, 6 no memory.";
+Recorded input and answers of `sdls run`, as text.
+
+  records      reads lines of text, and writes the recorded input that they say
+  show         reads recorded input, and prints its lines
+  answers      reads answers, and prints a line for each
+  --help       prints this page
+  --version    prints the version
+
+Lines of text: fence; protect LANE LINK OCTETS; open LANE LINK OCTETS; command LANE octets OCTETS;
+command LANE PROCEDURE VALUE.. The procedures are rekeying, activate, deactivate, verify, destroy, inventory, compose,
+read-number, create, delete, set-window, rekey, expire, set-number, start, stop and status; FORMATS.md has their values.
+Spaces or commas part words, letters count in either case, and a word that begins with # begins a comment.
+
+Status: 0 done; 1 a line, an item or an answer is at fault; 2 other words; 4 standard input could not be read;
+5 standard output could not be written; 6 out of memory. Of the launcher: 70 the program could not be built.
+
+Examples:
+  echo 'protect 0 0 002a140509c3' | sdls_text records > input.bin
+  sdls_text show < input.bin
+  sdls run < input.bin | sdls_text answers";
+
+/// What the program is; from what it was built its launcher says.
+const VERSION: &str = "sdls_text for recorded input SDLSREC1";
 
 /// What the words ask for.
 #[derive(Clone, Copy)]
@@ -31,6 +45,8 @@ enum Mode {
     Records,
     Show,
     Answers,
+    Help,
+    Version,
 }
 
 /// The words after the program's name. Words that are not text are no command, so they are read as no words.
@@ -51,6 +67,8 @@ fn asked(words: &[String]) -> Option<Mode> {
         "records" => Some(Mode::Records),
         "show" => Some(Mode::Show),
         "answers" => Some(Mode::Answers),
+        "--help" => Some(Mode::Help),
+        "--version" => Some(Mode::Version),
         _ => None,
     }
 }
@@ -59,16 +77,24 @@ fn asked(words: &[String]) -> Option<Mode> {
 fn print_end(rt: &HostRuntime, end: End) -> io::Result<u8> {
     match end {
         End::Done => return Ok(0),
-        End::LineFault(line, fault) => eprintln!(rt; "sdls_text: line {line}: {fault}")?,
+        End::LineFault(line, fault) => eprintln!(rt; "sdls_text: line {line}, {fault}")?,
         End::LongLine(line) => eprintln!(rt; "sdls_text: line {line}: more than 8192 octets")?,
         End::CutAnswer(offset) => eprintln!(rt; "sdls_text: the answer at octet {offset} is cut")?,
         End::NoAnswer(offset) => eprintln!(rt; "sdls_text: no answer at octet {offset}")?,
         End::NoItem(offset) => eprintln!(rt; "sdls_text: no item at octet {offset}")?,
-        End::SourceFault => eprintln!(rt; "sdls_text: the input failed")?,
-        End::OutputFault => eprintln!(rt; "sdls_text: the output failed")?,
-        End::NoMemory => eprintln!(rt; "sdls_text: no memory")?,
+        End::SourceFault => eprintln!(rt; "sdls_text: standard input could not be read")?,
+        End::OutputFault => eprintln!(rt; "sdls_text: standard output could not be written")?,
+        End::NoMemory => eprintln!(rt; "sdls_text: out of memory")?,
     }
     Ok(end.status())
+}
+
+/// Prints a page on standard output, and answers the status.
+fn print_page(rt: &HostRuntime, page: &str) -> u8 {
+    match println!(rt; "{page}") {
+        Ok(()) => 0,
+        Err(_) => 5,
+    }
 }
 
 fn main(rt: HostRuntime) -> ExitCode {
@@ -76,17 +102,18 @@ fn main(rt: HostRuntime) -> ExitCode {
         return ExitCode::from(6);
     };
     let Some(mode) = asked(words.as_slice()) else {
-        let _ = eprintln!(rt; "{USAGE}");
+        let _ = eprintln!(rt; "{HELP}");
         return ExitCode::from(2);
     };
     let alloc = rt.alloc();
     let mut source = StdSource::new(rt.stdin());
-    // of this site nothing but its sink is used, which is standard output
-    let mut sink = FileSite::new(rt);
     let end = match mode {
-        Mode::Records => put_records(alloc, &mut source, &mut sink),
-        Mode::Show => put_lines(alloc, &mut source, &mut sink),
-        Mode::Answers => put_answers(alloc, &mut source, &mut sink),
+        Mode::Help => return ExitCode::from(print_page(&rt, HELP)),
+        Mode::Version => return ExitCode::from(print_page(&rt, VERSION)),
+        // of this site nothing but its sink is used, which is standard output
+        Mode::Records => put_records(alloc, &mut source, &mut FileSite::new(rt)),
+        Mode::Show => put_lines(alloc, &mut source, &mut FileSite::new(rt)),
+        Mode::Answers => put_answers(alloc, &mut source, &mut FileSite::new(rt)),
     };
     let status = end.status();
     match print_end(&rt, end) {

@@ -4,7 +4,8 @@ use Rattle.std.proofs.lemmas.List.{append-nil}
 use Rattle.unit_plan.specs.Lines.{lines_of}
 use Rattle.record_io.specs.Input.{Item, item_octets, items_octets}
 use Rattle.input_text.specs.declared.line.Line.{Line}
-use Rattle.input_text.specs.Line.{Says, is_skipped, line_item}
+use Rattle.input_text.specs.Plain.{is_skipped}
+use Rattle.input_text.specs.Line.{Says, line_item}
 use Rattle.item_text.specs.Spelling.{SayItems}
 use Rattle.text_streams.specs.TextLine.{AddsNext, Reads}
 

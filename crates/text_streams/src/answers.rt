@@ -1,11 +1,12 @@
 //! Answers in, text out.
 use crate::ends::End;
-use crate::putting::{put_full, put_rest};
+use crate::putting::{put_made, put_rest};
 use answer_text::{AnswersEnd, Listing};
 use sdls_outside::{Failed, Site, Source};
 use std::alloc::Global;
 
-/// Puts the lines of the answers up to the end or the first that is none, in pieces. The rest stands in the buffer.
+/// Puts the lines of the answers up to the end or the first that is none, each before it takes the next answer. The
+/// rest stands in the buffer.
 fn list<S: Source, O: Site>(alloc: Global, source: &mut S, sink: &mut O, out: &mut Vec<u8>) -> End {
     let mut listing = Listing::new();
     for _ in 0..u64::MAX {
@@ -17,7 +18,7 @@ fn list<S: Source, O: Site>(alloc: Global, source: &mut S, sink: &mut O, out: &m
             Some(AnswersEnd::SourceFault) => return End::SourceFault,
             Some(AnswersEnd::NoMemory) => return End::NoMemory,
         }
-        if let Err(Failed) = put_full(sink, out) {
+        if let Err(Failed) = put_made(sink, out) {
             return End::OutputFault;
         }
     }

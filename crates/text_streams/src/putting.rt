@@ -1,4 +1,4 @@
-//! What is put on a sink, in pieces.
+//! What is put on a sink.
 ghost use Rattle.std.specs.Prelude.{◌≡◌, ◌≤◌, ◌⊎◌, ◌++◌, [], length, IsTrue, OnErr, OnOk};
 ghost use Rattle.sdls_outside.specs.Faults.{HasCause, Rose};
 ghost use Rattle.sdls_outside.specs.Moments.{Between};
@@ -6,9 +6,6 @@ ghost use Rattle.text_streams.specs.TextLine.{PutsRest};
 
 use crate::ends::End;
 use sdls_outside::{Failed, Site};
-
-/// So many octets are put together, or a few more.
-const PIECE: usize = 4096;
 
 /// Puts octets. After `Failed` a front of them was put.
 pub fn put_octets<O: Site>(sink: &mut O, octets: &[u8]) -> Result<(), Failed>
@@ -35,8 +32,8 @@ fn put<O: Site>(sink: &mut O, out: &mut Vec<u8>) -> Result<(), Failed>
     Ok(())
 }
 
-/// Puts what stands in the buffer where that is a piece.
-pub fn put_full<O: Site>(sink: &mut O, out: &mut Vec<u8>) -> Result<(), Failed>
+/// Puts what stands in the buffer, if anything does: who reads has it before the next line comes.
+pub fn put_made<O: Site>(sink: &mut O, out: &mut Vec<u8>) -> Result<(), Failed>
     ensures put { IsTrue O.told → OnOk result
         ((O.trace sink.new).now.sunk ++ out.new.items ≡ (O.trace sink.old).now.sunk ++ out.old.items) }
     ensures least { IsTrue O.told → OnOk result (length (O.trace sink.old).now.sunk
@@ -45,7 +42,7 @@ pub fn put_full<O: Site>(sink: &mut O, out: &mut Vec<u8>) -> Result<(), Failed>
         ((O.trace sink.old).now.sunk ++ out.old.items) (O.trace sink.new).now.sunk) }
     ensures cause { HasCause (O.faults sink.old) (O.faults sink.new) result }
 {
-    if out.len() < PIECE {
+    if out.is_empty() {
         return Ok(());
     }
     put(sink, out)

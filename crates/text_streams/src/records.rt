@@ -7,7 +7,7 @@ ghost use Rattle.text_streams.specs.TextLine.{Adds, AddsNext, EndsAt, EndsNext, 
 
 use crate::ends::End;
 use crate::lines::{NextLine, next_line};
-use crate::putting::{put_full, put_octets, put_rest};
+use crate::putting::{put_made, put_octets, put_rest};
 use input_text::{Line, LineError, put_item, read_line};
 use sdls_base::NoMemory;
 use sdls_outside::{Failed, Site, Source};
@@ -66,7 +66,8 @@ fn take_next<S: Source>(
     }
 }
 
-/// Reads the lines up to the end or the first fault, and puts the pieces that are full. The rest stands in the buffer.
+/// Reads the lines up to the end or the first fault, and puts what each says before it reads the next. The rest stands
+/// in the buffer.
 fn read_lines<S: Source, O: Site>(
     alloc: Global,
     source: &mut S,
@@ -83,7 +84,7 @@ fn read_lines<S: Source, O: Site>(
         if let Some(end) = take_next(alloc, source, out, number) {
             return end;
         }
-        if let Err(Failed) = put_full(sink, out) {
+        if let Err(Failed) = put_made(sink, out) {
             return End::OutputFault;
         }
     }

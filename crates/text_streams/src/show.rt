@@ -1,6 +1,6 @@
 //! Recorded input in, text out.
 use crate::ends::End;
-use crate::putting::{put_full, put_rest};
+use crate::putting::{put_made, put_rest};
 use item_text::{put_fence, put_record};
 use record_io::{Reader, Record, SEGMENT_RECORDS, SegmentEnd};
 use sdls_base::NoMemory;
@@ -18,7 +18,7 @@ fn show_records<O: Site>(
         if put_record(alloc, out, record).is_err() {
             return Some(End::NoMemory);
         }
-        if let Err(Failed) = put_full(sink, out) {
+        if let Err(Failed) = put_made(sink, out) {
             return Some(End::OutputFault);
         }
     }

@@ -16,10 +16,10 @@ returns-in-Err-clause-reads g c told sunk =
 pub lines-preserved : goal.lines-preserved
 lines-preserved g c = (
   (let low = c.lines.invariant.0 in let more = c.take_next.ensures.later in omega arith),
-  (let low = c.lines.invariant.1 in let more = c.put_full.ensures.cause.later in omega arith),
+  (let low = c.lines.invariant.1 in let more = c.put_made.ensures.cause.later in omega arith),
   λ told sunk.
       let so_far = c.lines.invariant.2 told sunk in
       let more = forth _ _ _ _ _ _ _ _ so_far.0 so_far.2 (c.in_default.ensures.adds told) in
-      let put = c.in_default-put_full.ensures in
+      let put = c.in_default-put_made.ensures in
       (so_far.0 + 1, ap (λ n. n + 1) so_far.1, put_on _ _ _ _ _ _ _ _ (so_far.0 + 1) more (put.least sunk) (put.put sunk)),
 )
