@@ -49,3 +49,11 @@ EndsAt offset left left_new (CutAt at) = (at ≡ offset) × (left ≢ []) × ((l
 EndsAt offset left left_new (NoAnswerAt at) = (at ≡ offset) × (Stands left left_new Long ⊎ StandsForeign left left_new)
 EndsAt offset left left_new SourceFault = ⊤
 EndsAt offset left left_new NoMemory = ⊤
+
+-- where the source failed this holds
+abbrev pub IfEndFault : Type 0 → AnswersEnd → Type 0
+IfEndFault P Whole = ⊤
+IfEndFault P (CutAt at) = ⊤
+IfEndFault P (NoAnswerAt at) = ⊤
+IfEndFault P SourceFault = P
+IfEndFault P NoMemory = ⊤

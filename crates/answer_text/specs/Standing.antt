@@ -33,3 +33,11 @@ Stands old new nexts.Cut = (old ≢ []) × ((last : Option Cut) × EndsWith old 
 Stands old new nexts.Long = (header : Header) × (rest : List ℕ) × (old ≡ header_octets header ++ rest)
     × (MOST_BODY < header.octets)
 Stands old new nexts.SourceFault = ⊤
+
+-- where the source failed this holds
+abbrev pub IfFault : Type 0 → NextAnswer → Type 0
+IfFault P (nexts.Answer answer) = ⊤
+IfFault P nexts.End = ⊤
+IfFault P nexts.Cut = ⊤
+IfFault P nexts.Long = ⊤
+IfFault P nexts.SourceFault = P

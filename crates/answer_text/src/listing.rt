@@ -1,8 +1,9 @@
 //! The lines of the answers of a source.
-ghost use Rattle.std.specs.Prelude.{◌≡◌, ◌++◌, IsTrue, IfErr, IfNone, IfSome, OnErr, OnOk};
+ghost use Rattle.std.specs.Prelude.{◌≡◌, ◌≤◌, ◌++◌, IsTrue, IfErr, IfNone, IfSome, OnErr, OnOk};
+ghost use Rattle.sdls_outside.specs.Faults.{Rose};
 ghost use Rattle.answer_text.specs.Words.{line_octets};
 ghost use Rattle.answer_text.specs.Line.{HasLine, LacksLine};
-ghost use Rattle.answer_text.specs.Listing.{AddsLine, EndsAt, Place, behind};
+ghost use Rattle.answer_text.specs.Listing.{AddsLine, EndsAt, IfEndFault, Place, behind};
 
 use crate::error::TextError;
 use crate::line::put_answer;
@@ -97,6 +98,8 @@ impl Listing {
         ensures ends { IsTrue S.told
             → IfSome result (EndsAt self.old.offset (S.left source.old) (S.left source.new)) }
         ensures kept { IfSome result (λ _. text.new.items ≡ text.old.items) }
+        ensures cause { IfSome result (IfEndFault (Rose (S.faults source.old) (S.faults source.new))) }
+        ensures later { S.faults source.old ≤ S.faults source.new }
     {
         let answer = match next_answer(alloc, source) {
             Ok(NextAnswer::Answer(answer)) => answer,

@@ -1,7 +1,8 @@
 //! The answers of a source.
 ghost use Rattle.std.specs.Prelude.{◌≡◌, ◌≤◌, IsTrue, IfOk, length};
 ghost use Rattle.record_io.specs.Answers.{HasWidths, header_octets};
-ghost use Rattle.answer_text.specs.Standing.{Stands, StandsBehind, header_of_head};
+ghost use Rattle.sdls_outside.specs.Faults.{Rose};
+ghost use Rattle.answer_text.specs.Standing.{IfFault, Stands, StandsBehind, header_of_head};
 
 use ep_codec::{double_word_at, number_at, word_at};
 use record_io::{ANSWER_HEADER, Answer};
@@ -55,7 +56,10 @@ fn head_of(header: &[u8]) -> Head
 /// Takes the body of an answer.
 fn take_body<S: Source>(alloc: Global, source: &mut S, head: Head) -> Result<NextAnswer, NoMemory>
     requires { head.len ≤ MOST_BODY }
-    ensures { IsTrue S.told → IfOk result (StandsBehind (header_of_head head) (S.left source.old) (S.left source.new)) }
+    ensures stands { IsTrue S.told
+        → IfOk result (StandsBehind (header_of_head head) (S.left source.old) (S.left source.new)) }
+    ensures cause { IfOk result (IfFault (Rose (S.faults source.old) (S.faults source.new))) }
+    ensures later { S.faults source.old ≤ S.faults source.new }
 {
     let mut body = vec![in alloc; 0; head.len as usize]?;
     match collect(source, body.as_mut_slice()) {
@@ -75,7 +79,10 @@ fn take_body<S: Source>(alloc: Global, source: &mut S, head: Head) -> Result<Nex
 /// Takes the next answer. Of octets that are no answer's it takes the header at most.
 pub fn next_answer<S: Source>(alloc: Global, source: &mut S) -> Result<NextAnswer, NoMemory>
     // What is told stands next in the source, and what was taken is no more than a whole answer.
-    ensures { IsTrue S.told → IfOk result (Stands (S.left source.old) (S.left source.new)) }
+    ensures stands { IsTrue S.told → IfOk result (Stands (S.left source.old) (S.left source.new)) }
+    // A fault of the source is told only if its count rose.
+    ensures cause { IfOk result (IfFault (Rose (S.faults source.old) (S.faults source.new))) }
+    ensures later { S.faults source.old ≤ S.faults source.new }
 {
     let mut header = [0; ANSWER_HEADER];
     match collect(source, &mut header) {

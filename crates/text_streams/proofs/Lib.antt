@@ -1,3 +1,5 @@
 pub mod FirstLines
 pub mod Items
 pub mod Progress
+mod AnswerProgress
+mod ItemProgress

@@ -1,2 +1,5 @@
 pub mod TextLine
+pub mod AnswerLines
+pub mod NextItem
+pub mod ItemLines
 pub mod Status

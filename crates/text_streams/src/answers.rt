@@ -1,34 +1,67 @@
 //! Answers in, text out.
+ghost use Rattle.std.specs.Prelude.{◌≡◌, ◌≤◌, IsTrue, IfNone, IfSome};
+ghost use Rattle.sdls_outside.specs.Faults.{Rose};
+ghost use Rattle.text_streams.specs.TextLine.{IsFaultCause};
+ghost use Rattle.text_streams.specs.AnswerLines.{FailsNext, PutsAnswers, PutsLine, end_of};
+
 use crate::ends::End;
-use crate::putting::{put_made, put_rest};
+use crate::putting::put_octets;
 use answer_text::{AnswersEnd, Listing};
 use sdls_outside::{Failed, Site, Source};
 use std::alloc::Global;
 
-/// Puts the lines of the answers up to the end or the first that is none, each before it takes the next answer. The
-/// rest stands in the buffer.
-fn list<S: Source, O: Site>(alloc: Global, source: &mut S, sink: &mut O, out: &mut Vec<u8>) -> End {
+/// How the run ends if no line follows.
+fn end_of(end: AnswersEnd) -> End
+    ensures { result ≡ end_of end }
+{
+    match end {
+        AnswersEnd::Whole => End::Done,
+        AnswersEnd::CutAt(offset) => End::CutAnswer(offset),
+        AnswersEnd::NoAnswerAt(offset) => End::NoAnswer(offset),
+        AnswersEnd::SourceFault => End::SourceFault,
+        AnswersEnd::NoMemory => End::NoMemory,
+    }
+}
+
+/// Takes the next answer and puts its line, or says why no line follows.
+fn put_next<S: Source, O: Site>(
+    alloc: Global,
+    source: &mut S,
+    sink: &mut O,
+    listing: &mut Listing,
+) -> Option<End>
+    ensures puts { IsTrue S.told → IsTrue O.told → IfNone result (PutsLine listing.old listing.new
+        (S.left source.old) (S.left source.new) (O.trace sink.old).now.sunk (O.trace sink.new).now.sunk) }
+    ensures fails { IsTrue S.told → IsTrue O.told → IfSome result (FailsNext listing.old (S.left source.old)
+        (O.trace sink.old).now.sunk (O.trace sink.new).now.sunk) }
+    ensures fault { IfSome result (IsFaultCause (Rose (S.faults source.old) (S.faults source.new))
+        (Rose (O.faults sink.old) (O.faults sink.new))) }
+    ensures later { S.faults source.old ≤ S.faults source.new }
+    ensures later_sink { O.faults sink.old ≤ O.faults sink.new }
+{
+    let mut line = Vec::new(alloc);
+    match listing.next_line(alloc, source, &mut line) {
+        None => match put_octets(sink, line.as_slice()) {
+            Ok(()) => None,
+            Err(Failed) => Some(End::OutputFault),
+        },
+        Some(end) => Some(end_of(end)),
+    }
+}
+
+/// Puts the line of each answer of the source before it takes the next one. If an answer is cut, or octets are none, the
+/// lines before it are put.
+pub fn put_answers<S: Source, O: Site>(alloc: Global, source: &mut S, sink: &mut O) -> End
+    ensures put { IsTrue S.told → IsTrue O.told
+        → PutsAnswers (S.left source.old) (O.trace sink.old).now.sunk (O.trace sink.new).now.sunk result }
+    ensures fault { IsFaultCause (Rose (S.faults source.old) (S.faults source.new))
+        (Rose (O.faults sink.old) (O.faults sink.new)) result }
+{
     let mut listing = Listing::new();
-    for _ in 0..u64::MAX {
-        match listing.next_line(alloc, source, out) {
-            None => {}
-            Some(AnswersEnd::Whole) => return End::Done,
-            Some(AnswersEnd::CutAt(offset)) => return End::CutAnswer(offset),
-            Some(AnswersEnd::NoAnswerAt(offset)) => return End::NoAnswer(offset),
-            Some(AnswersEnd::SourceFault) => return End::SourceFault,
-            Some(AnswersEnd::NoMemory) => return End::NoMemory,
-        }
-        if let Err(Failed) = put_made(sink, out) {
-            return End::OutputFault;
+    'answers: for _ in 0..u64::MAX {
+        if let Some(end) = put_next(alloc, source, sink, &mut listing) {
+            return end;
         }
     }
     End::Done
-}
-
-/// Puts the lines of the answers of the source. Where an answer is cut, or octets are none, the lines before it are
-/// put.
-pub fn put_answers<S: Source, O: Site>(alloc: Global, source: &mut S, sink: &mut O) -> End {
-    let mut out = Vec::new(alloc);
-    let end = list(alloc, source, sink, &mut out);
-    put_rest(sink, out, end)
 }

@@ -9,6 +9,7 @@ mod answers;
 mod ends;
 mod lines;
 mod putting;
+mod reading;
 mod records;
 mod show;
 

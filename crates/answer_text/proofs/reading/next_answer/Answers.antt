@@ -3,36 +3,36 @@ use Rattle.answer_text.specs.Standing.{Stands, StandsBehind, header_of_head}
 use Rattle.answer_text.proofs.Fronts.{short_left, filled_left, nothing_left, some_left, stands_behind, ok_more}
 use Rattle.answer_text.proofs.reading.next_answer.Goals as goal
 
-pub returns-in-Err : goal.returns-in-Err
+pub returns-in-Err-clause-stands : goal.returns-in-Err-clause-stands
 unfolding Stands
-returns-in-Err g c told = tt
+returns-in-Err-clause-stands g c told = tt
 
-pub returns-in-Ok-eq0 : goal.returns-in-Ok-eq0
+pub returns-in-Ok-eq0-clause-stands : goal.returns-in-Ok-eq0-clause-stands
 unfolding Stands
-returns-in-Ok-eq0 g c told =
+returns-in-Ok-eq0-clause-stands g c told =
     let taken = c.in-Ok-eq0.ensures.collected told in
     search (rules, nothing_left, taken)
 
-pub returns-in-Ok : goal.returns-in-Ok
+pub returns-in-Ok-clause-stands : goal.returns-in-Ok-clause-stands
 unfolding Stands
-returns-in-Ok g c told =
+returns-in-Ok-clause-stands g c told =
     let taken = c.in-Ok.ensures.collected told in
     let short : c.in-Ok.count < length c.collect.new.buffer = search rules in
     let left = short_left _ _ _ _ taken short in
     let some : 0 < c.in-Ok.count = search rules in
     (some_left _ _ left some, (None, search (rules, left)))
 
-pub returns-then-head-gt-MOST_BODY : goal.returns-then-head-gt-MOST_BODY
+pub returns-then-head-gt-MOST_BODY-clause-stands : goal.returns-then-head-gt-MOST_BODY-clause-stands
 unfolding Stands
-returns-then-head-gt-MOST_BODY g c told =
+returns-then-head-gt-MOST_BODY-clause-stands g c told =
     let taken = c.in-Ok.ensures.collected told in
     let filled : length c.collect.new.buffer ≤ c.in-Ok.count = search rules in
     let left = filled_left _ _ _ _ taken filled in
     let rest = g.S.Source.left c.collect.new.source in
     (header_of_head c.head_of-head.result, rest, left ∙ ap (λ xs. xs ++ rest) c.head_of-head.ensures.spelled, c.if-head-gt-MOST_BODY.true)
 
-pub returns-else-head-gt-MOST_BODY : goal.returns-else-head-gt-MOST_BODY
-returns-else-head-gt-MOST_BODY g c told =
+pub returns-else-head-gt-MOST_BODY-clause-stands : goal.returns-else-head-gt-MOST_BODY-clause-stands
+returns-else-head-gt-MOST_BODY-clause-stands g c told =
     let taken = c.in-Ok.ensures.collected told in
     let filled : length c.collect.new.buffer ≤ c.in-Ok.count = search rules in
     let left = filled_left _ _ _ _ taken filled in
@@ -43,4 +43,4 @@ returns-else-head-gt-MOST_BODY g c told =
     let front = left ∙ ap (λ xs. xs ++ middle) c.head_of-head.ensures.spelled in
     ok_more c.take_body.result (StandsBehind header middle new) (Stands old new)
     (λ next behind. stands_behind header old middle new next c.head_of-head.ensures.widths c.if-head-gt-MOST_BODY.false front behind)
-    (c.take_body.ensures told)
+    (c.take_body.ensures.stands told)

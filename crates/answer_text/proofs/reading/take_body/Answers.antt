@@ -4,21 +4,21 @@ use Rattle.answer_text.specs.Standing.{StandsBehind}
 use Rattle.answer_text.proofs.Fronts.{short_left, filled_left}
 use Rattle.answer_text.proofs.reading.take_body.Goals as goal
 
-pub returns-in-Err : goal.returns-in-Err
+pub returns-in-Err-clause-stands : goal.returns-in-Err-clause-stands
 unfolding StandsBehind
-returns-in-Err g c told = tt
+returns-in-Err-clause-stands g c told = tt
 
-pub returns-in-Ok : goal.returns-in-Ok
+pub returns-in-Ok-clause-stands : goal.returns-in-Ok-clause-stands
 unfolding StandsBehind
-returns-in-Ok g c told =
+returns-in-Ok-clause-stands g c told =
     let taken = c.in-Ok.ensures.collected told in
     let short : c.in-Ok.count < length c.collect.new.buffer = search rules in
     let left = short_left _ _ _ _ taken short in
     search (rules, left)
 
-pub returns-in-Ok-2 : goal.returns-in-Ok-2
+pub returns-in-Ok-2-clause-stands : goal.returns-in-Ok-2-clause-stands
 unfolding StandsBehind
-returns-in-Ok-2 g c told =
+returns-in-Ok-2-clause-stands g c told =
     let taken = c.in-Ok.ensures.collected told in
     let filled : length c.collect.new.buffer ≤ c.in-Ok.count = search rules in
     let left = filled_left _ _ _ _ taken filled in

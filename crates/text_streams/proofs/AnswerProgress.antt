@@ -1,0 +1,157 @@
+-- The lines of answers, one after the other, for `put_next` and `put_answers`.
+use Rattle.std.proofs.Common.{◌≡◌, ℕ, ◌+◌, ◌++◌, List, [], ◌∷◌, length, take, inl, refl, sym, ap, ◌∙◌, arith, append_assoc, length-append}
+use Rattle.std.proofs.lemmas.List.{append-nil}
+use Rattle.sdls_outside.specs.Moments.{Between}
+use Rattle.record_io.specs.declared.answers.Answer.{Answer}
+use Rattle.record_io.specs.Answers.{answer_octets, answers_octets}
+use Rattle.answer_text.specs.declared.listing.AnswersEnd.{AnswersEnd}
+use Rattle.answer_text.specs.declared.listing.AnswersEnd.TheVariants as ends
+use Rattle.answer_text.specs.Words.{line_octets}
+use Rattle.answer_text.specs.Line.{HasLine}
+use Rattle.answer_text.specs.Listing.{EndsAt, Place, behind}
+use Rattle.text_streams.specs.declared.ends.End.{End}
+use Rattle.text_streams.specs.declared.ends.End.TheVariants.{Done, LineFault, LongLine, CutAnswer, NoAnswer, NoItem, SourceFault, OutputFault, NoMemory}
+use Rattle.text_streams.specs.AnswerLines.{AreLines, FailsNext, PutsAnswers, PutsLine, TakesLine, end_of, first_place}
+
+pub fails_of : (end : AnswersEnd) (place : Place) (left left_new old new : List ℕ) → EndsAt place.offset left left_new end
+    → new ≡ old → FailsNext place left old new (end_of end)
+fails_of ends.Whole place left left_new old new is same = (is, same)
+fails_of (ends.CutAt at) place left left_new old new is same = (is, same)
+fails_of (ends.NoAnswerAt at) place left left_new old new is same = ((is.0, (left_new, is.1)), same)
+fails_of ends.SourceFault place left left_new old new is same = same
+fails_of ends.NoMemory place left left_new old new is same = same
+
+-- ---- one line more
+
+lines_more : (place last : Place) (answers : List Answer) (answer : Answer) (text line : List ℕ) → AreLines place answers last text
+    → HasLine last.index answer (λ words. line ≡ line_octets words)
+    → AreLines place (answers ++ answer ∷ []) (behind last answer) (text ++ line)
+lines_more place last [] answer text line (at, none) has =
+    rw (at, none) (line, [], rw at at has, (refl, refl), sym (append-nil line))
+lines_more place last (first ∷ answers) answer text line (front, rest, has_front, more, is) has = (
+  front,
+  rest ++ line,
+  has_front,
+  lines_more (behind place first) last answers answer rest line more has,
+  ap (λ text. text ++ line) is ∙ append_assoc front rest line,
+)
+
+octets_more : (answers : List Answer) (answer : Answer) → answers_octets (answers ++ answer ∷ []) ≡ answers_octets answers ++ answer_octets answer
+octets_more [] answer = append-nil (answer_octets answer)
+octets_more (first ∷ answers) answer =
+    ap (λ octets. answer_octets first ++ octets) (octets_more answers answer)
+    ∙ sym (append_assoc (answer_octets first) (answers_octets answers) (answer_octets answer))
+
+-- the lines of so many answers
+pub record Lines (left left_now : List ℕ) (place : Place) (count : ℕ) (text : List ℕ) : Type 0 where
+  pub answers : List Answer
+  pub taken : left ≡ answers_octets answers ++ left_now
+  pub counted : length answers ≡ count
+  pub lines : AreLines first_place answers place text
+
+more_lines : (left left_now left_next text line : List ℕ) (place place_next : Place) (count : ℕ) → Lines left left_now place count text
+    → TakesLine place place_next left_now left_next line → Lines left left_next place_next (count + 1) (text ++ line)
+more_lines left left_now left_next text line place place_next count so_far takes =
+    let longer = length-append so_far.answers (takes.answer ∷ []) in let counted = so_far.counted in
+    record {
+      answers = so_far.answers ++ takes.answer ∷ [];
+      taken = so_far.taken ∙ ap (λ left. answers_octets so_far.answers ++ left) takes.taken
+          ∙ sym (append_assoc (answers_octets so_far.answers) (answer_octets takes.answer) left_next)
+          ∙ ap (λ octets. octets ++ left_next) (sym (octets_more so_far.answers takes.answer));
+      counted = omega (arith, longer, counted);
+      lines = rw takes.passed (lines_more first_place place so_far.answers takes.answer text line so_far.lines takes.put);
+    }
+
+-- they were put
+pub record Progress (left old left_now now : List ℕ) (place : Place) (count : ℕ) : Type 0 where
+  pub text : List ℕ
+  pub lines : Lines left left_now place count text
+  pub put : now ≡ old ++ text
+
+pub forth : (left old left_now now left_next next : List ℕ) (place place_next : Place) (count : ℕ)
+    → Progress left old left_now now place count → PutsLine place place_next left_now left_next now next
+    → Progress left old left_next next place_next (count + 1)
+forth left old left_now now left_next next place place_next count so_far (line, takes, put) = record {
+  text = so_far.text ++ line;
+  lines = more_lines left left_now left_next so_far.text line place place_next count so_far.lines takes;
+  put = put ∙ ap (λ octets. octets ++ line) so_far.put ∙ append_assoc old so_far.text line;
+}
+
+-- ---- the ends
+
+between_on : (old text line now new : List ℕ) → now ≡ old ++ text → Between now (now ++ line) new
+    → Between old (old ++ (text ++ line)) new
+between_on old text line now new is between =
+    let longer = length-append old text in let same = ap length is in let least = between.least in
+    record {
+      least = omega (arith, longer, same, least);
+      prefix = between.prefix ∙ ap (λ octets. take (length new) octets) (ap (λ octets. octets ++ line) is ∙ append_assoc old text line);
+    }
+
+pub ends_as : (end : End) (left old left_now now new : List ℕ) (place : Place) (count : ℕ)
+    → Progress left old left_now now place count → FailsNext place left_now now new end → PutsAnswers left old new end
+ends_as Done left old left_now now new place count so_far fails = record {
+  answers = so_far.lines.answers;
+  left_new = left_now;
+  taken = so_far.lines.taken;
+  place = place;
+  text = so_far.text;
+  lines = so_far.lines.lines;
+  ends = inl fails.0;
+  put_is = fails.1 ∙ so_far.put;
+}
+ends_as (LineFault at fault) left old left_now now new place count so_far fails = absurd fails
+ends_as (LongLine at) left old left_now now new place count so_far fails = absurd fails
+ends_as (CutAnswer at) left old left_now now new place count so_far fails = record {
+  answers = so_far.lines.answers;
+  left_new = left_now;
+  taken = so_far.lines.taken;
+  place = place;
+  text = so_far.text;
+  lines = so_far.lines.lines;
+  ends = fails.0;
+  put_is = fails.1 ∙ so_far.put;
+}
+ends_as (NoAnswer at) left old left_now now new place count so_far fails = record {
+  answers = so_far.lines.answers;
+  left_new = left_now;
+  taken = so_far.lines.taken;
+  place = place;
+  text = so_far.text;
+  lines = so_far.lines.lines;
+  ends = fails.0;
+  put_is = fails.1 ∙ so_far.put;
+}
+ends_as (NoItem at) left old left_now now new place count so_far fails = absurd fails
+ends_as SourceFault left old left_now now new place count so_far fails = record {
+  answers = so_far.lines.answers;
+  left_new = left_now;
+  taken = so_far.lines.taken;
+  place = place;
+  text = so_far.text;
+  lines = so_far.lines.lines;
+  ends = tt;
+  put_is = fails ∙ so_far.put;
+}
+ends_as OutputFault left old left_now now new place count so_far (place_next, left_next, line, takes, between) =
+    let more = more_lines left left_now left_next so_far.text line place place_next count so_far.lines takes in
+    record {
+      answers = more.answers;
+      left_new = left_next;
+      taken = more.taken;
+      place = place_next;
+      text = so_far.text ++ line;
+      lines = more.lines;
+      ends = tt;
+      put_is = between_on old so_far.text line now new so_far.put between;
+    }
+ends_as NoMemory left old left_now now new place count so_far fails = record {
+  answers = so_far.lines.answers;
+  left_new = left_now;
+  taken = so_far.lines.taken;
+  place = place;
+  text = so_far.text;
+  lines = so_far.lines.lines;
+  ends = tt;
+  put_is = fails ∙ so_far.put;
+}

@@ -1,0 +1,104 @@
+-- The lines that are printed of the answers of a source (profile).
+use Rattle.std.specs.Prelude.{◌≡◌, ◌≢◌, ⊤, ℕ, ◌-◌, ◌^◌, ◌++◌, ◌∷◌, ◌⊎◌, [], List, length, Option}
+use Rattle.sdls_outside.specs.Moments.{Between}
+use Rattle.record_io.specs.declared.answers.Answer.{Answer}
+use Rattle.record_io.specs.Answers.{Cut, EndsWith, answers_octets}
+use Rattle.answer_text.specs.declared.listing.AnswersEnd.{AnswersEnd}
+use Rattle.answer_text.specs.declared.listing.AnswersEnd.TheVariants as ends
+use Rattle.answer_text.specs.declared.listing.AnswersEnd.TheVariants.{Whole, CutAt, NoAnswerAt}
+use Rattle.answer_text.specs.declared.reading.NextAnswer.TheVariants as next
+use Rattle.answer_text.specs.Standing.{Stands}
+use Rattle.answer_text.specs.Words.{line_octets}
+use Rattle.answer_text.specs.Line.{HasLine}
+use Rattle.answer_text.specs.Listing.{AddsLine, Place, StandsForeign, behind}
+use Rattle.text_streams.specs.declared.ends.End.{End}
+use Rattle.text_streams.specs.declared.ends.End.TheVariants.{Done, LineFault, LongLine, CutAnswer, NoAnswer, NoItem}
+use Rattle.text_streams.specs.declared.ends.End.TheVariants.{SourceFault, OutputFault, NoMemory}
+use Rattle.text_streams.specs.TextLine.{WasPut}
+
+-- before the first answer
+abbrev pub first_place : Place
+first_place = record { index = 0; offset = 0 }
+
+-- the text is the lines of these answers, one after the other, from one place to another
+abbrev pub AreLines : Place → List Answer → Place → List ℕ → Type 0
+AreLines place [] last text = (last ≡ place) × (text ≡ [])
+AreLines place (answer ∷ answers) last text = (line rest : List ℕ)
+    × HasLine place.index answer (λ words. line ≡ line_octets words)
+    × AreLines (behind place answer) answers last rest × (text ≡ line ++ rest)
+
+-- what is left begins with an answer that is none of the formats, or with a header that says too many octets
+abbrev pub BeginsForeign : List ℕ → Type 0
+BeginsForeign left = (left_new : List ℕ) × (Stands left left_new next.Long ⊎ StandsForeign left left_new)
+
+-- Why no line follows: nothing is left; what is left is cut; or what is left begins with what is no answer. Each is told
+-- with its offset.
+abbrev pub EndsNextAnswer : Place → List ℕ → End → Type 0
+EndsNextAnswer place left Done = left ≡ []
+EndsNextAnswer place left (LineFault at fault) = ⊥
+EndsNextAnswer place left (LongLine at) = ⊥
+EndsNextAnswer place left (CutAnswer at) = (at ≡ place.offset) × (left ≢ []) × ((last : Option Cut) × EndsWith left last)
+EndsNextAnswer place left (NoAnswer at) = (at ≡ place.offset) × BeginsForeign left
+EndsNextAnswer place left (NoItem at) = ⊥
+EndsNextAnswer place left SourceFault = ⊤
+EndsNextAnswer place left OutputFault = ⊥
+EndsNextAnswer place left NoMemory = ⊤
+
+-- the next answer was taken, and its line is this
+abbrev pub TakesLine : Place → Place → List ℕ → List ℕ → List ℕ → Type 0
+TakesLine place place_new left left_new line = AddsLine place place_new left left_new [] line
+
+-- the next answer was taken, and its line put
+abbrev pub PutsLine : Place → Place → List ℕ → List ℕ → List ℕ → List ℕ → Type 0
+PutsLine place place_new left left_new old new = (line : List ℕ) × TakesLine place place_new left left_new line
+    × (new ≡ old ++ line)
+
+-- the next answer was taken, and of its line a front was put; or no line follows
+abbrev pub FailsNext : Place → List ℕ → List ℕ → List ℕ → End → Type 0
+FailsNext place left old new OutputFault = (place_new : Place) × (left_new line : List ℕ)
+    × TakesLine place place_new left left_new line × Between old (old ++ line) new
+FailsNext place left old new Done = EndsNextAnswer place left Done × (new ≡ old)
+FailsNext place left old new (LineFault at fault) = ⊥
+FailsNext place left old new (LongLine at) = ⊥
+FailsNext place left old new (CutAnswer at) = EndsNextAnswer place left (CutAnswer at) × (new ≡ old)
+FailsNext place left old new (NoAnswer at) = EndsNextAnswer place left (NoAnswer at) × (new ≡ old)
+FailsNext place left old new (NoItem at) = ⊥
+FailsNext place left old new SourceFault = new ≡ old
+FailsNext place left old new NoMemory = new ≡ old
+
+-- how a run ends if no line follows
+abbrev pub end_of : AnswersEnd → End
+end_of Whole = Done
+end_of (CutAt offset) = CutAnswer offset
+end_of (NoAnswerAt offset) = NoAnswer offset
+end_of ends.SourceFault = SourceFault
+end_of ends.NoMemory = NoMemory
+
+-- So many answers are read: there they count as ended.
+abbrev pub MOST_ANSWERS : ℕ
+MOST_ANSWERS = 2 ^ 64 - 1
+
+-- Why no line follows behind so many answers: as for the next one; the output may have failed, and 2^64 - 1 answers
+-- count as ended.
+abbrev pub EndsBehindAnswers : ℕ → Place → List ℕ → End → Type 0
+EndsBehindAnswers count place left Done = (left ≡ []) ⊎ (count ≡ MOST_ANSWERS)
+EndsBehindAnswers count place left (LineFault at fault) = ⊥
+EndsBehindAnswers count place left (LongLine at) = ⊥
+EndsBehindAnswers count place left (CutAnswer at) = EndsNextAnswer place left (CutAnswer at)
+EndsBehindAnswers count place left (NoAnswer at) = EndsNextAnswer place left (NoAnswer at)
+EndsBehindAnswers count place left (NoItem at) = ⊥
+EndsBehindAnswers count place left SourceFault = ⊤
+EndsBehindAnswers count place left OutputFault = ⊤
+EndsBehindAnswers count place left NoMemory = ⊤
+
+-- The text that was put is the lines of the answers, in their order, up to the end of the octets, or to the first that
+-- are no whole answer, whose offset is told; if the output failed, a front of these lines was put.
+pub record PutsAnswers (left old new : List ℕ) (end : End) : Type 0 where
+  pub answers : List Answer
+  pub left_new : List ℕ
+  pub taken : left ≡ answers_octets answers ++ left_new
+  pub place : Place
+  pub text : List ℕ
+  pub lines : AreLines first_place answers place text
+  pub ends : EndsBehindAnswers (length answers) place left_new end
+  pub put_is : WasPut end text old new
