@@ -79,7 +79,7 @@ same_tasks (place ∷ places) (answer ∷ answers) [] one two = absurd (omega ar
 same_tasks (place ∷ places) (answer ∷ answers) (other ∷ others) one two = (refl, same_tasks places answers others (omega arith) (omega arith))
 
 -- where the site did not fail and memory was not wanting, no answer has a code from 31 on
-are_served : (near : ℕ → ℕ → Type 0) (course : Course) (places : List Place) (answers : List Answer)
+pub are_served : (near : ℕ → ℕ → Type 0) (course : Course) (places : List Place) (answers : List Answer)
     → All (λ (deed : Deed). Fits near course deed.task deed.answer) (deeds_from places answers)
     → All (λ (answer : Answer). SaysSiteFailed answer → ⊥) answers → NoneWants answers → AreServed (deeds_from places answers)
 are_served near course [] answers fit none wants = tt
@@ -120,7 +120,7 @@ front_is xs front rest is =
     ap (take (length front)) is ∙ take-append-le (length front) front rest (omega arith) ∙ take_all (length front) front (omega arith)
 
 -- the states after the entries of the lane keep the rules
-rules_front : (state : State) (entries : List Entry) (ends : ℕ) → ((p : ℕ) → p ≤ length entries → KeepsRules (after_first state entries p))
+pub rules_front : (state : State) (entries : List Entry) (ends : ℕ) → ((p : ℕ) → p ≤ length entries → KeepsRules (after_first state entries p))
     → (front rest : List Entry) → take ends entries ≡ front ++ rest → KeepsRules (after state ([] ++ front))
 rules_front state entries ends rules front rest is =
     let whole : entries ≡ front ++ (rest ++ drop ends entries) =
@@ -174,6 +174,13 @@ began_with : Bool → List ℕ → PlanLines → State → Begin
 began_with told image plan state =
     record { rows = MOST_KEYS; told = told; plan = plan; start = state; slots = slot_count image; used = length (records image) }
 
+-- two calls over one image began with the same
+pub began_alike : (call other : CallSeen) (plan : PlanLines) (state : State) → IsTrue call.site.told → IsTrue other.site.told
+    → image_at_entry other ≡ image_at_entry call → begin_of other plan state ≡ begin_of call plan state
+unfolding began_with
+began_alike call other plan state told tells image = ap (λ (b : Bool). began_with b (image_at_entry other) plan state) (tells ∙ sym told)
+    ∙ ap (λ (i : List ℕ). began_with call.site.told i plan state) image
+
 module _ (call other : CallSeen) (run : RunEnds call) (again : RunEnds other) (plan : PlanLines) (state : State)
     (quiet : ¬ Rose call.site.faults run.account.last) (requiet : ¬ Rose other.site.faults again.account.last)
     (stands : call.site_after.faults ≡ call.site.faults) (restands : other.site_after.faults ≡ other.site.faults)
@@ -220,9 +227,7 @@ module _ (call other : CallSeen) (run : RunEnds call) (again : RunEnds other) (p
       requiet (subst (λ (n : ℕ). Rose other.site.faults n) (sym same) rose)
 
   begins : begin_of other plan state ≡ begin_of call plan state
-  unfolding began_with
-  begins = ap (λ (b : Bool). began_with b (image_at_entry other) plan state) (tells ∙ sym told)
-      ∙ ap (λ (i : List ℕ). began_with call.site.told i plan state) image
+  begins = began_alike call other plan state told tells image
 
   recounted : length again.account.answers ≡ length run.account.handled
   recounted = reach ∙ ap length handled

@@ -44,7 +44,7 @@ use Rattle.run_promise.specs.Sound.{IsSound, deeds_octets}
 use Rattle.law_runs.proofs.Stepping.{octets_of}
 use Rattle.run_promise.specs.Alone.{OneLane, IsExact}
 use Rattle.law_runs.proofs.Exacting.{exact_call}
-use Rattle.run_promise.specs.Ends.{ServesSoundly, IsEarly, IsJournalFull, IsReleased, IsServed, IsSoundCall, RunEnds}
+use Rattle.run_promise.specs.Ends.{ServesSoundly, IsEarly, IsJournalFull, IsReleased, IsServed, RunEnds}
 use Rattle.law_runs.proofs.Appending.{may_append}
 use Rattle.law_workers.proofs.WholeRun.{near, rules_at_end}
 use Rattle.unit_image.specs.Shows.{Shows, ShowsNone}
@@ -229,10 +229,10 @@ module _ {O : Type 0} (told : Bool) (trace : O → Trace) (faults puts : O → �
   more_put = elim end.puts_end [
     | inl broken ↦ (let a = ap length (ap (λ (b : BookView O). pieces_of b.log) broken.1 ∙ released_put) in omega arith)
     | inr put ↦ (
-      let a = ap length (ap (λ (b : BookView O). pieces_of b.log) put.1.made ∙ pieces_more end.released.log (sunk_between (trace end.released.site) (trace end.last.site))) in
-      let b = ap length released_put in
-      let c = length-append (pieces_of end.released.log) (sunk_between (trace end.released.site) (trace end.last.site)) in omega arith
-    )
+        let a = ap length (ap (λ (b : BookView O). pieces_of b.log) put.1.made ∙ pieces_more end.released.log (sunk_between (trace end.released.site) (trace end.last.site))) in
+        let b = ap length released_put in
+        let c = length-append (pieces_of end.released.log) (sunk_between (trace end.released.site) (trace end.last.site)) in omega arith
+        )
   ]
 
   -- all answers of the segments before that of a record that was handled were put

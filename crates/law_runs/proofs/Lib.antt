@@ -11,6 +11,7 @@ pub mod Segments
 pub mod Placed
 pub mod Living
 pub mod Alike
+pub mod Fronts
 pub mod Doing
 pub mod Stepping
 pub mod Exacting

@@ -214,10 +214,10 @@ ends_quietly {O} faults (entry ∷ rest) mid new (Err fault) (inr (can, h)) = go
   where
     go : (f : BookFault) → IsUnstored faults entry mid new f → (new ≡ mid) ⊎ (length (entries_of mid.log) < length (entries_of new.log))
     go (SiteFault count) (due, room, rose, told, eq) = inr (
-      let a = ap (λ (b : BookView O). length (entries_of b.log)) eq in
-      let b = ap length (entries_both mid.log (lines.Entry entry ∷ [])) in
-      let c = length-append (entries_of mid.log) (entry ∷ []) in omega arith
-    )
+        let a = ap (λ (b : BookView O). length (entries_of b.log)) eq in
+        let b = ap length (entries_both mid.log (lines.Entry entry ∷ [])) in
+        let c = length-append (entries_of mid.log) (entry ∷ []) in omega arith
+        )
     go (JournalFull slots) (due, used, told, eq) = inl eq
     go (Stopped count) h = absurd h
     go SessionFull h = absurd h
@@ -232,14 +232,14 @@ released_quietly {O} faults words old new result r = go r.made r.are_made (ends_
     go [] is (inl same) = inl (ap (λ (b : BookView O). faults b.site) (same ∙ is))
     go [] is (inr more) = inr (let a = ap (λ (b : BookView O). length (entries_of b.log)) is in omega arith)
     go (entry ∷ made) is (inl same) = inr (
-      let a = ap length (made_all faults (entry ∷ made) old r.mid is).0 in
-      let b = length-append (entries_of old.log) (entry ∷ made) in
-      let c = ap (λ (b : BookView O). length (entries_of b.log)) same in omega arith
-    )
+        let a = ap length (made_all faults (entry ∷ made) old r.mid is).0 in
+        let b = length-append (entries_of old.log) (entry ∷ made) in
+        let c = ap (λ (b : BookView O). length (entries_of b.log)) same in omega arith
+        )
     go (entry ∷ made) is (inr more) = inr (
-      let a = ap length (made_all faults (entry ∷ made) old r.mid is).0 in
-      let b = length-append (entries_of old.log) (entry ∷ made) in omega arith
-    )
+        let a = ap length (made_all faults (entry ∷ made) old r.mid is).0 in
+        let b = length-append (entries_of old.log) (entry ∷ made) in omega arith
+        )
 
 -- where the history was found full, a release was due and not made
 full_ends : {O : Type 0} (faults : O → ℕ) (words : List ℕ) (old new : BookView O) (made rest : List Entry) (mid : BookView O) (result : Result (Unit {0}) BookFault)

@@ -16,7 +16,9 @@ mod whole;
 pub use life::{
     covered_in_a_life, sound_call_keeps_lives, sound_reading_keeps_lives, used_once_in_a_life,
 };
-pub use repeated::{one_input_is_handled_alike, one_lane_answers_alike, one_lane_runs_alike};
+pub use repeated::{
+    one_input_is_handled_alike, one_lane_answers_alike, one_lane_fronts_alike, one_lane_runs_alike,
+};
 pub use status::{
     due_is_put, faults_are_told, full_is_told, goes_to_its_end, refused_stays,
     status_five_has_a_fault, status_tells_what_came, unhindered_run_completes, zero_says_all,

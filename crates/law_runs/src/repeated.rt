@@ -1,5 +1,5 @@
 //! Laws of calls that did the same.
-ghost use Rattle.std.specs.Prelude.{◌≡◌, ◌≢◌, IsTrue, length};
+ghost use Rattle.std.specs.Prelude.{◌≡◌, ◌≢◌, ℕ, ◌≤◌, IsTrue, length, take};
 ghost use Rattle.record_io.specs.Places.{records_of};
 ghost use Rattle.unit_state.specs.declared.state.State.{State};
 ghost use Rattle.record_io.specs.declared.status.TheConstants.{DONE, SITE_FAULT};
@@ -42,6 +42,23 @@ pub fn one_lane_answers_alike()
     rules_stay_along();
     releases_are_stored();
     stored_counts_add();
+}
+
+/// Law: two calls over one image that handled the same records, all of one lane, give the same answers as far as both
+/// have answers, if neither has the status of a fault of the site, and memory was not wanting for a record. So it is
+/// also where a full history left records without answers.
+pub fn one_lane_fronts_alike()
+    ensures { (call other : CallSeen) (run : RunEnds call) (again : RunEnds other) (plan : PlanLines) (state : State)
+        → call.status ≢ SITE_FAULT → other.status ≢ SITE_FAULT
+        → IsTrue call.site.told → IsTrue other.site.told
+        → image_at_entry other ≡ image_at_entry call → ShowsAtEntry call plan state
+        → again.account.handled ≡ run.account.handled → OneLane (records_of run.account.handled)
+        → NoneWants run.account.answers → NoneWants again.account.answers
+        → (n : ℕ) → n ≤ length run.account.answers → n ≤ length again.account.answers
+        → take n again.account.answers ≡ take n run.account.answers }
+{
+    served_once();
+    rules_stay_along();
 }
 
 /// Law: two calls over one image with one input, all of one lane, both with status 0 and none wanting memory for a

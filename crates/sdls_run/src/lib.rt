@@ -16,9 +16,9 @@ mod top;
 // The laws on what `run` promises: of lives, of what a status says, and of one lane alone.
 pub use law_runs::{
     covered_in_a_life, due_is_put, faults_are_told, full_is_told, goes_to_its_end,
-    one_input_is_handled_alike, one_lane_answers_alike, one_lane_runs_alike, refused_stays,
-    status_five_has_a_fault, status_tells_what_came, unhindered_run_completes, used_once_in_a_life,
-    zero_says_all,
+    one_input_is_handled_alike, one_lane_answers_alike, one_lane_fronts_alike, one_lane_runs_alike,
+    refused_stays, status_five_has_a_fault, status_tells_what_came, unhindered_run_completes,
+    used_once_in_a_life, zero_says_all,
 };
 pub use record_io::{Outcome, status};
 pub use sdls_plain::{InitEnd, Refusal, check_frame, run_plain};

@@ -1,0 +1,142 @@
+-- Two runs of one lane over one image that handled the same records: as far as both have answers, these are the same.
+use Rattle.std.proofs.Common.{◌≡◌, ℕ, zero, suc, ◌≤◌, IsTrue, List, [], ◌∷◌, ◌++◌, length, map, take, Ok, refl, sym, ◌∙◌, ap, subst, arith, append_assoc}
+use Rattle.sdls_base.specs.declared.TheConstants.{MOST_KEYS}
+use Rattle.sdls_base.specs.declared.entry.Entry.{Entry}
+use Rattle.sdls_outside.specs.Faults.{Rose}
+use Rattle.disk_journal.specs.Image.{held}
+use Rattle.record_io.specs.declared.answers.Answer.{Answer}
+use Rattle.record_io.specs.Places.{Place, records_of}
+use Rattle.unit_plan.specs.Plan.{plan_of}
+use Rattle.unit_image.specs.Shows.{Shows}
+use Rattle.unit_plan.specs.PlanLines.{PlanLines}
+use Rattle.unit_state.specs.declared.state.State.{State}
+use Rattle.unit_state.specs.State.{KeepsRules}
+use Rattle.unit_state.specs.History.{after, after_first}
+use Rattle.run_promise.specs.Numbers.{mark_at}
+use Rattle.run_promise.specs.Run.{IsLegalHistory, NearWord}
+use Rattle.run_promise.specs.Begin.{Begin}
+use Rattle.run_promise.specs.Deed.{Deed}
+use Rattle.run_promise.specs.Machine.{Move, Runs, word_after}
+use Rattle.run_promise.specs.Serving.{AreServed, SameTasks, ServesAll}
+use Rattle.run_promise.specs.Alone.{OneLane, IsExact}
+use Rattle.run_promise.specs.declared.end.RunEnd.{RunEnd}
+use Rattle.run_promise.specs.declared.end.RunEnd.TheVariants as ends
+use Rattle.run_promise.specs.Call.{CallSeen, ShowsAtEntry, image_at_entry}
+use Rattle.run_promise.specs.Account.{Account, AreAnswered, begin_of, course_of, deeds_from, deeds_in}
+use Rattle.run_promise.specs.Ends.{IsSoundCall, RunEnds}
+use Rattle.law_runs.specs.Says.{NoneWants}
+use Rattle.law_runs.proofs.Alike.{are_served, began_alike, rules_front}
+
+-- ---- fronts
+
+front_serves : (begin : Begin) (history : List Entry) (n : ℕ) (deeds : List Deed) (moves : List Move) (own : List Entry) → ServesAll begin history deeds moves own
+    → (front : List Entry) × (rest : List Entry) × (own ≡ front ++ rest) × ServesAll begin history (take n deeds) (take n moves) front
+front_serves begin history zero deeds moves own h = ([], own, refl, refl)
+front_serves begin history (suc n) [] [] own h = ([], own, refl, refl)
+front_serves begin history (suc n) [] (move ∷ moves) own h = absurd h
+front_serves begin history (suc n) (deed ∷ deeds) [] own h = absurd h
+front_serves begin history (suc n) (deed ∷ deeds) (move ∷ moves) own (first, others, is, one, all) =
+    let (front, rest, split, served) = front_serves begin (history ++ first) n deeds moves others all in (
+      first ++ front,
+      rest,
+      is ∙ ap (λ (l : List Entry). first ++ l) split ∙ sym (append_assoc first front rest),
+      (first, front, refl, one, served),
+    )
+
+front_runs : (rows : ℕ) (words : ℕ → ℕ) (n : ℕ) (moves beyond : List Move) → Runs rows words (moves ++ beyond) → Runs rows words (take n moves)
+front_runs rows words zero moves beyond h = tt
+front_runs rows words (suc n) [] beyond h = tt
+front_runs rows words (suc n) (move ∷ moves) beyond h = (h.0, front_runs rows (word_after words move) n moves beyond h.1)
+
+front_tasks : (n : ℕ) (places : List Place) (answers others : List Answer) → n ≤ length answers → n ≤ length others
+    → SameTasks (take n (deeds_from places answers)) (take n (deeds_from places others))
+front_tasks zero places answers others one two = tt
+front_tasks (suc n) [] answers others one two = tt
+front_tasks (suc n) (place ∷ places) [] others one two = absurd (omega arith)
+front_tasks (suc n) (place ∷ places) (answer ∷ answers) [] one two = absurd (omega arith)
+front_tasks (suc n) (place ∷ places) (answer ∷ answers) (other ∷ others) one two = (refl, front_tasks n places answers others (omega arith) (omega arith))
+
+front_served : (n : ℕ) (deeds : List Deed) → AreServed deeds → AreServed (take n deeds)
+front_served zero deeds h = tt
+front_served (suc n) [] h = tt
+front_served (suc n) (deed ∷ deeds) h = (h.0, front_served n deeds h.1)
+
+front_answers : (n : ℕ) (places : List Place) (answers : List Answer) → length answers ≤ length places
+    → map (λ (d : Deed). d.answer) (take n (deeds_from places answers)) ≡ take n answers
+front_answers zero places answers few = refl
+front_answers (suc n) [] [] few = refl
+front_answers (suc n) [] (answer ∷ answers) few = absurd (omega arith)
+front_answers (suc n) (place ∷ places) [] few = refl
+front_answers (suc n) (place ∷ places) (answer ∷ answers) few = ap (λ (l : List Answer). answer ∷ l) (front_answers n places answers (omega arith))
+
+-- no more answers than records
+few_answers : (account : Account) (came : RunEnd) → AreAnswered account came → length account.answers ≤ length account.handled
+few_answers account ends.Ended h = let e = h.1 in omega arith
+few_answers account (ends.Malformed offset) h = let e = h.1 in omega arith
+few_answers account (ends.SourceFault count) h = let e = h.1 in omega arith
+few_answers account ends.NoMemory h = let e = h.1 in omega arith
+few_answers account ends.SessionFull h = let e = h.1 in omega arith
+few_answers account ends.PutFailed h = let e = h.1 in omega arith
+few_answers account (ends.SiteFault count) h = let e = ap length h.1 in omega arith
+few_answers account (ends.NoState offset) h = let e = ap length h.1 in omega arith
+
+-- ---- two calls
+
+module _ (call other : CallSeen) (run : RunEnds call) (again : RunEnds other) (plan : PlanLines) (state : State)
+    (quiet : ¬ Rose call.site.faults run.account.last) (requiet : ¬ Rose other.site.faults again.account.last)
+    (told : IsTrue call.site.told) (tells : IsTrue other.site.told)
+    (image : image_at_entry other ≡ image_at_entry call) (shows : ShowsAtEntry call plan state)
+    (handled : again.account.handled ≡ run.account.handled)
+    (one : OneLane (records_of run.account.handled)) (wants : NoneWants run.account.answers) (rewants : NoneWants again.account.answers)
+    (once : (begin : Begin) (rows : ℕ) (words : ℕ → ℕ) (history : List Entry) (deeds others : List Deed) (moves more : List Move)
+    (own entries : List Entry) → IsTrue begin.told
+    → ((front rest : List Entry) → own ≡ front ++ rest → KeepsRules (after begin.start (history ++ front)))
+    → SameTasks deeds others → AreServed deeds → AreServed others
+    → ServesAll begin history deeds moves own → ServesAll begin history others more entries
+    → Runs rows words moves → Runs rows words more
+    → (map (λ (deed : Deed). deed.answer) deeds ≡ map (λ (deed : Deed). deed.answer) others) × (own ≡ entries) × (moves ≡ more))
+    (along : (plan : PlanLines) (start : State) (places : List Place) (entries : List Entry) → IsLegalHistory plan start places entries
+    → (p : ℕ) → p ≤ length entries → KeepsRules (after_first start entries p)) where
+  reshows : ShowsAtEntry other plan state
+  reshows = record {
+    says = subst (λ (i : List ℕ). plan_of (held i).plan ≡ Ok plan) (sym image) shows.says;
+    shows = subst (λ (i : List ℕ). Shows i state) (sym image) shows.shows;
+  }
+
+  module _ (n : ℕ) (low : n ≤ length run.account.answers) (small : n ≤ length again.account.answers) where
+    tasks : SameTasks (take n (deeds_in run.account)) (take n (deeds_in again.account))
+    tasks = subst (λ (places : List Place). SameTasks (take n (deeds_in run.account)) (take n (deeds_from places again.account.answers))) (sym handled)
+        (front_tasks n run.account.handled run.account.answers again.account.answers low small)
+
+    module _ (s : IsSoundCall call run.account plan state) (t : IsSoundCall other again.account plan state) (words others : List ℕ)
+        (e : IsExact call run.account plan state words s.run.history.run.ends) (f : IsExact other again.account plan state others t.run.history.run.ends) where
+      same : take n again.account.answers ≡ take n run.account.answers
+      same =
+          let (own, rest, is, serves, none, few) = e.served quiet in
+          let (entries, left, at, reserves, zero_left, few_left) = f.served requiet in
+          let (front, more, split, served) = front_serves (begin_of call plan state) [] n (deeds_in run.account) e.moves own serves in
+          let (back, most, cut, reserved) = front_serves (begin_of call plan state) [] n (deeds_in again.account) f.moves entries
+          (subst (λ (b : Begin). ServesAll b [] (deeds_in again.account) f.moves entries) (began_alike call other plan state told tells image) reserves) in
+          let both = once (begin_of call plan state) MOST_KEYS (mark_at state) [] (take n (deeds_in run.account)) (take n (deeds_in again.account))
+          (take n e.moves) (take n f.moves) front back told
+          (λ (some : List Entry) (behind : List Entry) there.
+          rules_front state call.entries s.run.history.run.ends (along plan state run.account.handled call.entries s.run.history) some (behind ++ (more ++ rest))
+          (is ∙ ap (λ (l : List Entry). l ++ rest) split ∙ append_assoc front more rest ∙ ap (λ (l : List Entry). l ++ (more ++ rest)) there
+          ∙ append_assoc some behind (more ++ rest)))
+          tasks
+          (front_served n (deeds_in run.account) (are_served (NearWord state call.entries (records_of run.account.handled)) (course_of call run.account plan state)
+          run.account.handled run.account.answers s.run.answers (λ k d inside fault. quiet (run.faults_told k d inside fault)) wants))
+          (front_served n (deeds_in again.account) (are_served (NearWord state other.entries (records_of again.account.handled)) (course_of other again.account plan state)
+          again.account.handled again.account.answers t.run.answers (λ k d inside fault. requiet (again.faults_told k d inside fault)) rewants))
+          served reserved
+          (front_runs MOST_KEYS (mark_at state) n e.moves e.beyond e.runs) (front_runs MOST_KEYS (mark_at state) n f.moves f.beyond f.runs) in
+          sym (front_answers n again.account.handled again.account.answers (few_answers again.account again.account.came again.answered)) ∙ sym both.0
+          ∙ front_answers n run.account.handled run.account.answers (few_answers run.account run.account.came run.answered)
+
+  pub fronts_alike : (n : ℕ) → n ≤ length run.account.answers → n ≤ length again.account.answers
+      → take n again.account.answers ≡ take n run.account.answers
+  fronts_alike n low small =
+      let one_serves = run.sound told plan state shows in
+      let other_serves = again.sound tells plan state reshows in
+      same n low small one_serves.sound other_serves.sound one_serves.released.words other_serves.released.words (one_serves.exact one)
+      (other_serves.exact (subst (λ (places : List Place). OneLane (records_of places)) (sym handled) one))
