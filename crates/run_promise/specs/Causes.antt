@@ -71,8 +71,8 @@ pub record PutsDue (call : CallSeen) (account : Account) : Type 0 where
   pub sunk : IsTrue call.site.told
       → call.site_after.trace.now.sunk ≡ call.site.trace.now.sunk ++ due_octets call account
 
--- A put failed: a front of what is due was put, and the status is that of a fault of the site. A record was handled only
--- once all answers of the segments before its own were put.
+-- A put failed: a front of what is due was put, and the status is that of a fault of the site. A record was handled
+-- only once all answers of the segments before its own were put.
 pub record PutsFront (call : CallSeen) (account : Account) : Type 0 where
   pub one_failed : call.site.put_faults < call.site_after.put_faults
   pub status_is : call.status ≡ status.SITE_FAULT

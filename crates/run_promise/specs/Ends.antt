@@ -69,8 +69,8 @@ pub record IsReleased (call : CallSeen) (account : Account) (state : State) (end
   pub full : account.came ≡ Ended → account.told ≡ SessionFull → count < length (due_releases call state ends words)
   -- a fault of the site that the status does not tell is one of a release, which was entered
   pub heard : call.status ≢ status.SITE_FAULT → call.site_after.faults ≢ call.site.faults → ends < length call.entries
-  -- Each word can have stood in its row: it is no lower than the key's mark at the start, and above it, or above a number
-  -- that was asked for, by no more than one a record that can draw. It is above each number that an answer used.
+  -- Each word can have stood in its row: it is no lower than the key's mark at the start, and above it, or above a
+  -- number that was asked for, by no more than one a record that can draw. It is above each number that an answer used.
   pub near : (key row : ℕ) → place_of (after_first state call.entries ends).keys key ≡ Some row
       → NearWord state call.entries (records_of account.handled) key (slice_index words row)
   pub above : All (λ deed. (key number row : ℕ) → Uses deed.answer key number

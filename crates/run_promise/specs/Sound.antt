@@ -22,8 +22,8 @@ abbrev pub deeds_octets : List Deed → List ℕ
 deeds_octets deeds = answers_octets (map (λ deed. deed.answer) deeds)
 
 -- The run is sound: its history is legal, each answer fits its record, no number is used or accepted twice under a key,
--- at most one answer says that the site failed while an entry was stored, the answers stand in order, and no entry is of
--- a record whose answer says that it made none.
+-- at most one answer says that the site failed while an entry was stored, the answers stand in order, and no entry is
+-- of a record whose answer says that it made none.
 pub record IsSound (begin : Begin) (course : Course) (places : List Place) (deeds : List Deed) : Type 0 where
   pub begins : begin.plan ≡ course.plan
   pub history : IsLegalHistory course.plan course.start places course.entries

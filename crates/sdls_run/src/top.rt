@@ -44,8 +44,8 @@ pub fn run<R: Threads + Wait + Sync, S: Source, O: Site + Send, G: Gate + Sync>(
     site: O,
     gate: &G,
 ) -> Outcome<O>
-    // Each moment of the run is early or sound, and adds the run itself to each life that left the image at the entry; why
-    // it ends has its cause.
+    // Each moment of the run is early or sound, and adds the run itself to each life that left the image at the entry;
+    // why it ends has its cause.
     ensures run { IsRunWord words.now →
         let before : SourceSeen = record { told = S.told; left = S.left source.old; faults = S.faults source.old } in
         let after : SourceSeen = record { told = S.told; left = S.left source.new; faults = S.faults source.new } in
@@ -86,8 +86,8 @@ pub fn run<R: Threads + Wait + Sync, S: Source, O: Site + Send, G: Gate + Sync>(
         → Ends O.told (O.trace site) (O.trace result.site) (Rose (O.faults site) (O.faults result.site))
         usage_text USAGE result.status }
     ensures untouched { IsNoCommand words.now → ¬ IsRunWord words.now → source.new ≡ source.old }
-    // With words other than `run` a fault is never hidden: with another status the counts stood. Of `run` its own clause
-    // says so.
+    // With words other than `run` a fault is never hidden: with another status the counts stood. Of `run` its own
+    // clause says so.
     ensures quiet { ¬ IsRunWord words.now → result.status ≢ SITE_FAULT → O.faults result.site ≡ O.faults site }
     ensures heard { ¬ IsRunWord words.now → result.status ≢ SOURCE_FAULT → result.status ≢ SITE_FAULT
         → S.faults source.new ≡ S.faults source.old }

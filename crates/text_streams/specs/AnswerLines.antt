@@ -31,13 +31,14 @@ AreLines place (answer ∷ answers) last text = (line rest : List ℕ)
 abbrev pub BeginsForeign : List ℕ → Type 0
 BeginsForeign left = (left_new : List ℕ) × (Stands left left_new next.Long ⊎ StandsForeign left left_new)
 
--- Why no line follows: nothing is left; what is left is cut; or what is left begins with what is no answer. Each is told
--- with its offset.
+-- Why no line follows: nothing is left; what is left is cut; or what is left begins with what is no answer. Each is
+-- told with its offset.
 abbrev pub EndsNextAnswer : Place → List ℕ → End → Type 0
 EndsNextAnswer place left Done = left ≡ []
 EndsNextAnswer place left (LineFault at fault) = ⊥
 EndsNextAnswer place left (LongLine at) = ⊥
-EndsNextAnswer place left (CutAnswer at) = (at ≡ place.offset) × (left ≢ []) × ((last : Option Cut) × EndsWith left last)
+EndsNextAnswer place left (CutAnswer at) = (at ≡ place.offset) × (left ≢ [])
+    × ((last : Option Cut) × EndsWith left last)
 EndsNextAnswer place left (NoAnswer at) = (at ≡ place.offset) × BeginsForeign left
 EndsNextAnswer place left (NoItem at) = ⊥
 EndsNextAnswer place left SourceFault = ⊤

@@ -1,5 +1,6 @@
 -- The lines that are printed of the items of recorded input (profile).
-use Rattle.std.specs.Prelude.{◌≡◌, ◌≢◌, ⊤, ℕ, ◌+◌, ◌-◌, ◌^◌, ◌++◌, ◌⊎◌, [], ◌∷◌, min, List, length, map, Option, Some, None}
+use Rattle.std.specs.Prelude.{◌≡◌, ◌≢◌, ⊤, ℕ, ◌+◌, ◌-◌, ◌^◌, ◌++◌, ◌⊎◌, [], ◌∷◌, min, List, length, map}
+use Rattle.std.specs.Prelude.{Option, Some, None}
 use Rattle.std.specs.List.{AllByRecursion}
 use Rattle.sdls_outside.specs.Moments.{Between}
 use Rattle.record_io.specs.Input.{IsItem, Item, LacksBeginning, LacksItem, beginning, item_octets, items_octets}
@@ -78,8 +79,8 @@ EndsBehindItems count offset left SourceFault = ⊤
 EndsBehindItems count offset left OutputFault = ⊤
 EndsBehindItems count offset left NoMemory = ⊤
 
--- Behind the beginning, the text that was put is the lines of the items, in their order, up to the end of the octets, or
--- to the first that are no item, whose offset is told; if the output failed, a front of these lines was put.
+-- Behind the beginning, the text that was put is the lines of the items, in their order, up to the end of the octets,
+-- or to the first that are no item, whose offset is told; if the output failed, a front of these lines was put.
 pub record PutsItemLines (left old new : List ℕ) (end : End) : Type 0 where
   pub items : List Item
   pub are_items : AllByRecursion IsItem items

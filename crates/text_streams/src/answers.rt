@@ -49,8 +49,8 @@ fn put_next<S: Source, O: Site>(
     }
 }
 
-/// Puts the line of each answer of the source before it takes the next one. If an answer is cut, or octets are none, the
-/// lines before it are put.
+/// Puts the line of each answer of the source before it takes the next one. If an answer is cut, or octets are none,
+/// the lines before it are put.
 pub fn put_answers<S: Source, O: Site>(alloc: Global, source: &mut S, sink: &mut O) -> End
     ensures put { IsTrue S.told → IsTrue O.told
         → PutsAnswers (S.left source.old) (O.trace sink.old).now.sunk (O.trace sink.new).now.sunk result }

@@ -73,8 +73,8 @@ fn line_of<R: Threads + Wait + Sync, G: Gate + Sync>(
 
 /// Puts a text, and answers the status: this one, or that of a put that failed.
 fn put_text<O: Site>(site: &mut O, text: &[u8], status: u8) -> u8
-    ensures ends { Ends O.told (O.trace site.old) (O.trace site.new) (Rose (O.faults site.old) (O.faults site.new)) text.now
-        status result }
+    ensures ends { Ends O.told (O.trace site.old) (O.trace site.new)
+        (Rose (O.faults site.old) (O.faults site.new)) text.now status result }
     ensures quiet { result ≢ SITE_FAULT → O.faults site.new ≡ O.faults site.old }
 {
     match site.put(text) {
