@@ -1,5 +1,5 @@
 -- A history that is full stays so while the views grow apart; and a worker that was split off and joined at once.
-use Rattle.std.proofs.Common.{◌≡◌, ℕ, ◌+◌, ◌<◌, ◌≤◌, List, [], ◌++◌, length, sym, ◌∙◌, ap, subst, inl, inr, ⊎_elim, arith, append-nil, append_assoc, length-append, true, false}
+use Rattle.std.proofs.Common.{◌≡◌, ℕ, ◌+◌, ◌<◌, List, [], ◌++◌, length, sym, ◌∙◌, ap, subst, inl, inr, ⊎_elim, arith, append-nil, append_assoc, length-append, true, false}
 use Rattle.sdls_base.specs.declared.entry.Logged.{Logged}
 use Rattle.counter_table.specs.declared.view.Opening.{Opening}
 use Rattle.counter_table.specs.declared.view.View.{View}

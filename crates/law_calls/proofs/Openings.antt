@@ -9,7 +9,7 @@ use Rattle.frame_checks.specs.OpeningFrames.{IsOpenReply}
 use Rattle.record_io.specs.declared.kinds.RecordKind.{RecordKind}
 use Rattle.record_io.specs.declared.kinds.RecordKind.TheVariants.{Protect, Open}
 use Rattle.record_io.specs.declared.records.Record.{Record}
-use Rattle.record_io.specs.declared.code.TheConstants.{PROTECTED, DONE, SITE_FAULT, JOURNAL_FULL, NO_MEMORY}
+use Rattle.record_io.specs.declared.code.TheConstants.{PROTECTED, DONE, SITE_FAULT, JOURNAL_FULL}
 use Rattle.unit_plan.specs.PlanLines.{PlanLines}
 use Rattle.unit_state.specs.declared.state.State.{State}
 use Rattle.unit_state.specs.History.{after}
