@@ -11,7 +11,7 @@ mod gathered;
 mod names;
 mod words;
 
-pub use answers::{Answers, print_answers};
+pub use answers::{Answers, print_answers, said};
 pub use digits::{number_of, octets, part_of, piece, set_part_of};
 pub use gathered::Gathered;
 pub use names::{direction_name, key_state_name, sa_state_name, suite_name};
