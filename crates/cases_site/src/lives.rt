@@ -4,7 +4,7 @@ use sdls_outside::{Crash, MemSite, Site};
 use std::alloc::{AllocError, Global};
 use std::str::SplitWhitespace;
 
-// Each call has a function of its own, without a clause: what five contracts say together takes long to prove.
+// Each call has a function of its own, without a clause: what several contracts say together takes long to prove.
 fn begins(site: &mut MemSite) -> bool {
     site.begin().is_ok()
 }
@@ -13,7 +13,7 @@ fn writes(site: &mut MemSite) -> bool {
     site.write_at(0, b"aXY").is_ok()
 }
 
-fn syncs(site: &mut MemSite) -> bool {
+pub fn syncs(site: &mut MemSite) -> bool {
     site.sync().is_ok()
 }
 
@@ -24,6 +24,11 @@ fn puts(site: &mut MemSite) -> bool {
 fn reads(site: &mut MemSite) -> bool {
     let mut into = [0; 2];
     site.image().len() >= 2 && site.read_at(0, &mut into).is_ok()
+}
+
+/// The site after a crash.
+pub fn crashed(site: MemSite, how: Crash) -> MemSite {
+    site.crashed(how)
 }
 
 /// Whether each of the five calls is Ok.
@@ -51,21 +56,24 @@ fn held(alloc: Global, site: &MemSite) -> Result<String, AllocError> {
     format!(in alloc; "image {image} sunk {sunk} faults {faults}")
 }
 
+fn shown(alloc: Global, done: &[bool; 5], site: &MemSite) -> anyhow::Result<String> {
+    let done = pattern(alloc, done)?;
+    let held = held(alloc, site)?;
+    Ok(format!(in alloc; "{done} {held}")?)
+}
+
 /// A site of which one call fails, and what it then holds.
 pub fn failing(alloc: Global, words: &mut SplitWhitespace<'_>) -> anyhow::Result<String> {
-    let mut calls = Vec::new(alloc);
-    calls.push(case_lines::number(words).unwrap_or(0))?;
-    let mut site = MemSite::new(alloc, b"ab".to_vec(alloc)?, calls, None);
-    let done = pattern(alloc, &lived(&mut site))?;
-    let held = held(alloc, &site)?;
-    Ok(format!(in alloc; "{done} {held}")?)
+    let call = case_lines::number(words).unwrap_or(0);
+    let mut site = MemSite::new(alloc, b"ab".to_vec(alloc)?, vec![in alloc; call]?, None);
+    let done = lived(&mut site);
+    shown(alloc, &done, &site)
 }
 
 /// A site that is dead from a call on, and what it holds after a crash.
 pub fn dead(alloc: Global, words: &mut SplitWhitespace<'_>) -> anyhow::Result<String> {
     let from = case_lines::number(words).unwrap_or(0);
     let mut site = MemSite::new(alloc, b"ab".to_vec(alloc)?, Vec::new(alloc), Some(from));
-    let done = pattern(alloc, &lived(&mut site))?;
-    let held = held(alloc, &site.crashed(Crash::Lost))?;
-    Ok(format!(in alloc; "{done} {held}")?)
+    let done = lived(&mut site);
+    shown(alloc, &done, &crashed(site, Crash::Lost))
 }

@@ -17,53 +17,72 @@ mod lives;
 mod takes;
 mod words;
 
+use case_lines::said;
 use sdls_outside::{Failed, Source, StdSource};
 use std::alloc::Global;
 use std::io;
 use std::str::SplitWhitespace;
 
+/// Takes a piece of standard input, of 700 octets at most. Says whether there was one.
+fn take(source: &mut StdSource, octets: &mut Vec<u8>) -> io::Result<bool> {
+    let mut piece = [b'~'; 700];
+    match source.take(&mut piece) {
+        Ok(count) => {
+            octets.extend_from_slice(&piece[..count])?;
+            Ok(count > 0)
+        }
+        Err(Failed) => Err(io::ErrorKind::BrokenPipe.into()),
+    }
+}
+
 /// The whole of standard input.
 fn input(rt: &HostRuntime) -> io::Result<String> {
     let mut source = StdSource::new(rt.stdin());
     let mut octets = Vec::new(rt.alloc());
-    let mut piece = [b'~'; 700];
     for _ in 0..u64::MAX {
-        match source.take(&mut piece) {
-            Ok(0) => break,
-            Ok(count) => octets.extend_from_slice(&piece[..count])?,
-            Err(Failed) => return Err(io::ErrorKind::BrokenPipe.into()),
+        if !take(&mut source, &mut octets)? {
+            break;
         }
     }
     Ok(words::text(rt.alloc(), octets.as_slice())?)
 }
 
 /// What a case in memory answers.
-fn answer(alloc: Global, words: &mut SplitWhitespace<'_>) -> anyhow::Result<String> {
+fn answer_in_memory(alloc: Global, words: &mut SplitWhitespace<'_>) -> anyhow::Result<String> {
     match words.next() {
         Some("crash") => crashes::answer(alloc, words),
         Some("failing") => lives::failing(alloc, words),
         Some("dead") => lives::dead(alloc, words),
         Some("source") => takes::in_pieces(alloc, words),
         Some("sure") => takes::sure(alloc, words),
-        _ => Ok(format!(in alloc; "no case")?),
+        _ => said(alloc, "no case"),
     }
+}
+
+/// What a case answers.
+fn answer(rt: HostRuntime, case: &str) -> anyhow::Result<String> {
+    match case {
+        "file" => file::answer(rt),
+        "empty" => file::fill_empty(rt),
+        _ => answer_in_memory(rt.alloc(), &mut case.split_whitespace()),
+    }
+}
+
+/// What is printed for a line: a title as it is, a case with what it answers.
+fn shown(rt: HostRuntime, line: &str) -> anyhow::Result<String> {
+    let alloc = rt.alloc();
+    if line.starts_with("#") {
+        return Ok(String::from_str(alloc, line)?);
+    }
+    let answer = answer(rt, line)?;
+    Ok(format!(in alloc; "{line}: {answer}")?)
 }
 
 fn main(rt: HostRuntime) -> anyhow::Result<()> {
     let text = input(&rt)?;
-    for case in text.as_str().lines() {
-        if case.starts_with("#") {
-            println!(rt; "{case}")?;
-        } else if case == "file" {
-            let answer = file::answer(rt)?;
-            println!(rt; "{case}: {answer}")?;
-        } else if case == "empty" {
-            let answer = file::fill_empty(rt)?;
-            println!(rt; "{case}: {answer}")?;
-        } else {
-            let answer = answer(rt.alloc(), &mut case.split_whitespace())?;
-            println!(rt; "{case}: {answer}")?;
-        }
+    for line in text.as_str().lines() {
+        let shown = shown(rt, line)?;
+        println!(rt; "{shown}")?;
     }
     Ok(())
 }
