@@ -1,6 +1,7 @@
 //! Steps on an association book, and on a window. `known CHANNEL ..` says which channels the unit has, for the steps
 //! behind it.
 use crate::associations;
+use case_lines::said;
 use replay_window::{Verdict, Window};
 use sa_book::{SaBook, SaRefusal, SaRow};
 use sdls_base::ChannelId;
@@ -49,7 +50,7 @@ fn judge(alloc: Global, words: &mut SplitWhitespace<'_>) -> anyhow::Result<Strin
     let number = case_lines::number(words).unwrap_or(0);
     let end = case_lines::number(words).unwrap_or(0);
     match window.judge(number, end) {
-        Verdict::Fresh => Ok(format!(in alloc; "fresh")?),
+        Verdict::Fresh => said(alloc, "fresh"),
         Verdict::Refused { high, width } => Ok(format!(in alloc; "refused {high} {width}")?),
     }
 }
@@ -112,7 +113,7 @@ impl AssociationTable {
                 self.known.push(channel)?;
             }
         }
-        Ok(format!(in alloc; "ok")?)
+        said(alloc, "ok")
     }
 
     fn accept(&mut self, alloc: Global, words: &mut SplitWhitespace<'_>) -> anyhow::Result<String> {
@@ -124,7 +125,7 @@ impl AssociationTable {
         match associations::next_number(&self.book, words) {
             Some(Ok(number)) => Ok(format!(in alloc; "{number}")?),
             Some(Err(refusal)) => Ok(format!(in alloc; "{refusal}")?),
-            None => Ok(format!(in alloc; "no condition")?),
+            None => said(alloc, "no condition"),
         }
     }
 
@@ -135,7 +136,7 @@ impl AssociationTable {
     ) -> anyhow::Result<String> {
         match associations::sender(&self.book, words) {
             Some(row) => row_text(alloc, row),
-            None => Ok(format!(in alloc; "none")?),
+            None => said(alloc, "none"),
         }
     }
 
@@ -147,7 +148,7 @@ impl AssociationTable {
         match associations::status(&self.book, words) {
             Some(Ok(row)) => row_text(alloc, row),
             Some(Err(refusal)) => Ok(format!(in alloc; "{refusal}")?),
-            None => Ok(format!(in alloc; "no index")?),
+            None => said(alloc, "no index"),
         }
     }
 

@@ -1,5 +1,6 @@
 //! Steps on a key book. `held ID SPI ..` says which associations hold which keys, for the steps behind it.
 use crate::keys;
+use case_lines::said;
 use key_book::{Inventory, KeyBook, KeyRefusal, KeyRow, digest};
 use sdls_base::{KeyId, Spi};
 use std::alloc::{AllocError, Global};
@@ -77,13 +78,13 @@ impl KeyTable {
                 self.held.push(held)?;
             }
         }
-        Ok(format!(in alloc; "ok")?)
+        said(alloc, "ok")
     }
 
     fn find(&self, alloc: Global, words: &mut SplitWhitespace<'_>) -> anyhow::Result<String> {
         match keys::find(&self.book, words) {
             Some((place, row)) => row_text(alloc, place, row),
-            None => Ok(format!(in alloc; "none")?),
+            None => said(alloc, "none"),
         }
     }
 
@@ -114,7 +115,7 @@ impl KeyTable {
     fn moved(&self, alloc: Global, moved: Option<()>, rest: &str) -> anyhow::Result<String> {
         match moved {
             Some(()) => self.marks(alloc, rest),
-            None => Ok(format!(in alloc; "no condition")?),
+            None => said(alloc, "no condition"),
         }
     }
 

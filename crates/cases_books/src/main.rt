@@ -24,7 +24,7 @@ mod records;
 mod text;
 
 use association_steps::AssociationTable;
-use case_lines::{Answers, print_answers};
+use case_lines::{Answers, print_answers, said};
 use key_steps::KeyTable;
 use std::alloc::Global;
 use text::Text;
@@ -47,6 +47,19 @@ impl Table {
         }
     }
 
+    /// Empties both books, and begins an empty text.
+    fn clear(&mut self, alloc: Global) {
+        *self = Table::new(alloc);
+    }
+
+    /// What a line answers that is no step on a book, none where the word names another.
+    fn read(&self, alloc: Global, word: &str, rest: &str) -> Option<anyhow::Result<String>> {
+        match word {
+            "record" => Some(records::answer(alloc, rest)),
+            _ => plans::answer(alloc, &self.text, word, rest),
+        }
+    }
+
     /// What a step on a book answers: that of the first table that knows it.
     fn step(&mut self, alloc: Global, word: &str, rest: &str) -> anyhow::Result<String> {
         if let Some(answer) = self.keys.answer(alloc, word, rest)? {
@@ -54,8 +67,20 @@ impl Table {
         }
         match self.associations.answer(alloc, word, rest)? {
             Some(answer) => Ok(answer),
-            None => Ok(format!(in alloc; "no step")?),
+            None => said(alloc, "no step"),
         }
+    }
+
+    /// A step on a book, and what it answers.
+    fn stepped(
+        &mut self,
+        alloc: Global,
+        line: &str,
+        word: &str,
+        rest: &str,
+    ) -> anyhow::Result<String> {
+        let answer = self.step(alloc, word, rest)?;
+        Ok(format!(in alloc; "{line}: {answer}")?)
     }
 }
 
@@ -63,20 +88,16 @@ impl Answers for Table {
     fn answer(&mut self, alloc: Global, line: &str) -> anyhow::Result<Option<String>> {
         let (word, rest) = line.split_once(' ').unwrap_or((line, ""));
         if word == "new" {
-            *self = Table::new(alloc);
+            self.clear(alloc);
             return Ok(None);
         }
         if self.text.takes(alloc, word, rest)? {
             return Ok(None);
         }
-        if word == "record" {
-            return Ok(Some(records::answer(alloc, rest)?));
+        match self.read(alloc, word, rest) {
+            Some(answer) => Ok(Some(answer?)),
+            None => Ok(Some(self.stepped(alloc, line, word, rest)?)),
         }
-        if let Some(answer) = plans::answer(alloc, &self.text, word, rest) {
-            return Ok(Some(answer?));
-        }
-        let answer = self.step(alloc, word, rest)?;
-        Ok(Some(format!(in alloc; "{line}: {answer}")?))
     }
 }
 

@@ -1,6 +1,6 @@
 // What is read of a text as a plan, a line for each of its lines.
 use crate::text::Text;
-use case_lines::{Gathered, octet, short};
+use case_lines::{Gathered, octet, said, short};
 use sdls_base::{AnyLayout, ChannelId, Link};
 use std::alloc::{AllocError, Global};
 use std::str::SplitWhitespace;
@@ -101,7 +101,7 @@ fn read(alloc: Global, text: &Text, case: &str) -> anyhow::Result<Result<Plan, P
 
 fn plan(alloc: Global, text: &Text, case: &str) -> anyhow::Result<String> {
     match read(alloc, text, case)? {
-        Ok(_) => Ok(format!(in alloc; "plan")?),
+        Ok(_) => said(alloc, "plan"),
         Err(error) => Ok(format!(in alloc; "{error}")?),
     }
 }
@@ -119,10 +119,15 @@ fn channel(plan: &Plan, words: &mut SplitWhitespace<'_>) -> Option<ChannelId> {
     plan.channel_of(link, spacecraft, channel, octet(words))
 }
 
+/// The channel of a place that the text says.
+fn channel_at(alloc: Global, text: &Text, words: &str) -> anyhow::Result<Option<ChannelId>> {
+    let plan = read(alloc, text, "")??;
+    Ok(channel(&plan, &mut words.split_whitespace()))
+}
+
 /// The channel of a place, which is given in words.
 fn place(alloc: Global, text: &Text, words: &str) -> anyhow::Result<String> {
-    let plan = read(alloc, text, "")??;
-    match channel(&plan, &mut words.split_whitespace()) {
+    match channel_at(alloc, text, words)? {
         Some(channel) => {
             let channel = channel.get();
             Ok(format!(in alloc; "{words}: channel {channel}")?)
