@@ -20,12 +20,17 @@ pub fn joined(alloc: Global, pieces: &[&[u8]]) -> Result<Vec<u8>, AllocError> {
     Ok(octets)
 }
 
-/// Appends a recorded telecommand frame on this lane.
-pub fn push_frame(input: &mut Vec<u8>, lane: u8) -> Result<(), AllocError> {
+/// Appends this record, moved to this lane.
+pub fn push_on_lane(input: &mut Vec<u8>, record: &[u8], lane: u8) -> Result<(), AllocError> {
     let at = input.len() + 1;
-    input.extend_from_slice(TELECOMMAND)?;
+    input.extend_from_slice(record)?;
     if let Some(octet) = input.get_mut(at) {
         *octet = lane;
     }
     Ok(())
+}
+
+/// Appends a recorded telecommand frame on this lane.
+pub fn push_frame(input: &mut Vec<u8>, lane: u8) -> Result<(), AllocError> {
+    push_on_lane(input, TELECOMMAND, lane)
 }

@@ -3,4 +3,4 @@
 
 mod inputs;
 
-pub use inputs::{BEGINNING, FENCE, TELECOMMAND, joined, push_frame};
+pub use inputs::{BEGINNING, FENCE, TELECOMMAND, joined, push_frame, push_on_lane};

@@ -1,8 +1,8 @@
 // A drill, as its gate sees it.
-use case_lines::words_of;
+use crate::runs::call;
 use sdls_outside::{MemSite, SureSource};
+use sdls_run::Gate;
 use sdls_run::status::DONE;
-use sdls_run::{Gate, Outcome, run};
 use std::sync::atomic::{AtomicU64, Ordering};
 use std::test::Fail;
 
@@ -28,19 +28,14 @@ impl Gate for Counting {
 #[test]
 fn a_drill_handles_its_records(rt: HostRuntime) -> Result<(), Fail> {
     let alloc = rt.alloc();
-    let words = words_of(alloc, "drill 1000")?;
     let gate = Counting {
         passed: AtomicU64::new(0),
         done: AtomicU64::new(0),
     };
     let mut source = SureSource::new(Vec::new(alloc));
     let site = MemSite::new(alloc, Vec::new(alloc), Vec::new(alloc), None);
-    let Outcome {
-        status,
-        site,
-        entries,
-    } = run(&rt, alloc, words.as_slice(), &mut source, site, &gate);
-    assert_eq!(rt; (status, entries.len()), (DONE, 0));
+    let (status, entries, site) = call(&rt, alloc, "drill 1000", &mut source, site, &gate)?;
+    assert_eq!(rt; (status, entries), (DONE, 0));
     assert_eq!(rt;
         site.sunk(),
         b"drill 1000 protected 1000 accepted 1000 rejected 4\n".as_slice()

@@ -4,11 +4,11 @@ ghost use Rattle.sdls_outside.specs.contracts.mem_site.MemSiteSite.TheImpl.Laws 
 
 use crate::answers::heads;
 use crate::meeting::STOP;
-use crate::support::life;
+use crate::runs::call;
 use crate::waits::Flag;
-use case_runs::{BEGINNING, TELECOMMAND};
+use case_runs::{BEGINNING, TELECOMMAND, joined};
 use case_units::{TWO_SENDERS, image_of_sender};
-use sdls_outside::{Failed, MemSite, Site};
+use sdls_outside::{Failed, MemSite, Site, SureSource};
 use sdls_run::Gate;
 use sdls_run::status::DONE;
 use std::test::Fail;
@@ -32,6 +32,14 @@ impl Watch {
             second_done: Flag::new(),
             missed: Flag::new(),
         }
+    }
+
+    /// Whether each step was seen, and no wait ended before what it was for.
+    fn has_held(&self) -> bool {
+        self.stop_begun.is_set()
+            && self.syncing.is_set()
+            && self.second_done.is_set()
+            && !self.missed.is_set()
     }
 
     /// Holds the first sync of the stop until the second frame is done.
@@ -116,18 +124,16 @@ impl<'a> Site for Watched<'a> {
 #[test]
 fn a_lane_with_a_permit_takes_no_turn(rt: HostRuntime) -> Result<(), Fail> {
     let alloc = rt.alloc();
-    let mut input = Vec::from_slice(alloc, BEGINNING)?;
-    for record in [TELECOMMAND, STOP, TELECOMMAND] {
-        input.extend_from_slice(record)?;
-    }
+    let input = joined(alloc, &[BEGINNING, TELECOMMAND, STOP, TELECOMMAND])?;
     let image = image_of_sender(alloc, 16, 64, TWO_SENDERS).ok_or("no image")?;
     let watch = Watch::new();
     let site = Watched {
         inside: MemSite::new(alloc, image, Vec::new(alloc), None),
         watch: &watch,
     };
-    let (status, entries, site) = life(&rt, alloc, input, site, &watch)?;
-    assert!(rt; !watch.missed.is_set());
+    let mut source = SureSource::new(input);
+    let (status, entries, site) = call(&rt, alloc, "run", &mut source, site, &watch)?;
+    assert!(rt; watch.has_held());
     // a reserve, the stop, and a release
     assert_eq!(rt; (status, entries), (DONE, 3));
     let heads = heads(alloc, site.inside.sunk(), 4)?;

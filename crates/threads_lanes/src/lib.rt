@@ -14,7 +14,13 @@ mod kept;
 #[cfg(test)]
 mod meeting;
 #[cfg(test)]
+mod opens;
+#[cfg(test)]
 mod order;
+#[cfg(test)]
+mod pairs;
+#[cfg(test)]
+mod runs;
 #[cfg(test)]
 mod stops;
 #[cfg(test)]

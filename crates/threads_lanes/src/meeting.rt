@@ -1,27 +1,43 @@
 // Lanes beside each other, seen by a gate that holds a lane until another was seen.
-use crate::answers::heads;
-use crate::support::life;
+use crate::answers::Head;
+use crate::support::told;
 use crate::waits::Flag;
 use case_runs::{BEGINNING, TELECOMMAND};
 use case_units::{TWO_SENDERS, image_of_sender};
-use sdls_outside::MemSite;
 use sdls_run::Gate;
 use sdls_run::status::DONE;
+use std::alloc::{AllocError, Global};
+use std::process::Abort;
 use std::test::Fail;
 
 /// The stop of association 9, on lane 1.
 pub(crate) const STOP: &[u8] = b"\x03\x01\x00\x00\x00\x05\x1e\x00\x10\x00\x09";
 
 /// A frame to be protected on link 1, on lane 1.
-const TELEMETRY: &[u8] =
+pub(crate) const TELEMETRY: &[u8] =
     b"\x01\x01\x01\x00\x00\x20\x02\xa5\x11\x22\x98\x00\x03\xaa\xbb\xcc\x40\x41\x42\x43\x44\x45\x46\x47\x48\x49\x4a\x4b\x4c\x4d\x4e\x4f\x50\x51\x0a\x0b\x0c\x0d";
 
 /// A gate at which the first records of two lanes wait for each other.
 #[derive(Drop)]
-struct Meeting {
+pub(crate) struct Meeting {
     first: Flag,
     second: Flag,
     missed: Flag,
+}
+
+impl Meeting {
+    pub(crate) fn new() -> Self {
+        Meeting {
+            first: Flag::new(),
+            second: Flag::new(),
+            missed: Flag::new(),
+        }
+    }
+
+    /// Whether both lanes came, and each saw the other.
+    pub(crate) fn has_held(&self) -> bool {
+        self.first.is_set() && self.second.is_set() && !self.missed.is_set()
+    }
 }
 
 impl Gate for Meeting {
@@ -42,11 +58,8 @@ impl Gate for Meeting {
     fn done(&self, _lane: u8, _index: u64) {}
 }
 
-/// The lanes of a segment run at the same time: one thread would wait for itself. A stop on one lane stops no frame on
-/// the other, and each frame behind it on its own.
-#[test]
-fn two_lanes_run_beside_each_other(rt: HostRuntime) -> Result<(), Fail> {
-    let alloc = rt.alloc();
+/// A frame on lane 0 and the stop on lane 1, then 49 frames on each.
+fn records(alloc: Global) -> Result<Vec<u8>, AllocError> {
     let mut input = Vec::from_slice(alloc, BEGINNING)?;
     input.extend_from_slice(TELECOMMAND)?;
     input.extend_from_slice(STOP)?;
@@ -54,30 +67,45 @@ fn two_lanes_run_beside_each_other(rt: HostRuntime) -> Result<(), Fail> {
         input.extend_from_slice(TELECOMMAND)?;
         input.extend_from_slice(TELEMETRY)?;
     }
-    let gate = Meeting {
-        first: Flag::new(),
-        second: Flag::new(),
-        missed: Flag::new(),
+    Ok(input)
+}
+
+/// The answer has the code, the length and the number that are due.
+fn judge(rt: &impl Abort, index: u64, head: &Head) {
+    let wanted = match index {
+        1 => (0x03, 3, 0),
+        100 => (0xff, 0, 0),
+        index if index % 2 == 0 => (0x00, 28, index / 2 + 1),
+        _ => (0x14, 0, 0),
     };
+    assert_eq!(rt;
+        (head.code, head.length, head.number),
+        wanted,
+        "answer {index}"
+    );
+}
+
+/// The lanes of a segment run at the same time: one thread would wait for itself. A stop on one lane stops no frame on
+/// the other, and each frame behind it on its own.
+#[test]
+fn two_lanes_run_beside_each_other(rt: HostRuntime) -> Result<(), Fail> {
+    let alloc = rt.alloc();
+    let gate = Meeting::new();
     let image = image_of_sender(alloc, 16, 64, TWO_SENDERS).ok_or("no image")?;
-    let site = MemSite::new(alloc, image, Vec::new(alloc), None);
-    let (status, entries, site) = life(&rt, alloc, input, site, &gate)?;
-    assert!(rt; !gate.missed.is_set());
+    let told = told(
+        &rt,
+        alloc,
+        image,
+        Vec::new(alloc),
+        records(alloc)?,
+        &gate,
+        101,
+    )?;
+    assert!(rt; gate.has_held());
     // a reserve, the stop, and a release
-    assert_eq!(rt; (status, entries), (DONE, 3));
-    let heads = heads(alloc, site.sunk(), 101)?;
-    for (i, head) in (0..101u64).zip(heads.iter()) {
-        let (code, length, number) = match i {
-            1 => (0x03, 3, 0),
-            100 => (0xff, 0, 0),
-            i if i % 2 == 0 => (0x00, 28, i / 2 + 1),
-            _ => (0x14, 0, 0),
-        };
-        assert_eq!(rt;
-            (head.code, head.length, head.number),
-            (code, length, number),
-            "answer {i}"
-        );
+    assert_eq!(rt; (told.status, told.entries), (DONE, 3));
+    for (index, head) in (0..101).zip(told.heads.iter()) {
+        judge(&rt, index, head);
     }
     Ok(())
 }

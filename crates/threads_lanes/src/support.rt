@@ -1,25 +1,37 @@
 // What the tests share.
-use case_lines::words_of;
-use sdls_outside::{Site, SureSource};
-use sdls_run::{Gate, Outcome, run};
-use std::alloc::{AllocError, Global};
+use crate::answers::{Head, heads};
+use crate::runs::life;
+use sdls_outside::MemSite;
+use sdls_run::Gate;
+use std::alloc::Global;
 use std::sync::Wait;
+use std::test::Fail;
 use std::thread::Threads;
 
-/// A run over an input: its status, the count of its entries, and the site.
-pub(crate) fn life<R: Threads + Wait + Sync, O: Site + Send + Drop, G: Gate + Sync>(
+/// What a run told: its status, the count of its entries, and its answers.
+#[derive(Drop)]
+pub(crate) struct Heard {
+    pub(crate) status: u8,
+    pub(crate) entries: usize,
+    pub(crate) heads: Vec<Head>,
+}
+
+/// A run over an input, on a site that holds this image and fails at these calls. It puts so many answers.
+pub(crate) fn told<R: Threads + Wait + Sync, G: Gate + Sync>(
     rt: &R,
     alloc: Global,
+    image: Vec<u8>,
+    failing: Vec<u64>,
     input: Vec<u8>,
-    site: O,
     gate: &G,
-) -> Result<(u8, usize, O), AllocError> {
-    let words = words_of(alloc, "run")?;
-    let mut source = SureSource::new(input);
-    let Outcome {
+    count: u64,
+) -> Result<Heard, Fail> {
+    let site = MemSite::new(alloc, image, failing, None);
+    let (status, entries, site) = life(rt, alloc, input, site, gate)?;
+    let heads = heads(alloc, site.sunk(), count)?;
+    Ok(Heard {
         status,
-        site,
         entries,
-    } = run(rt, alloc, words.as_slice(), &mut source, site, gate);
-    Ok((status, entries.len(), site))
+        heads,
+    })
 }
