@@ -235,12 +235,12 @@ print_help() {
         cat <<'HELP'
 usage: sdls_text records < TEXT > INPUT
        sdls_text show < INPUT > TEXT
-       sdls_text answers < ANSWERS > TEXT
+       sdls_text answers [--json] < ANSWERS > TEXT
 Recorded input and answers of `sdls run`, as text.
 
   records      reads lines of text, and writes the recorded input that they say
   show         reads recorded input, and prints its lines
-  answers      reads answers, and prints a line for each
+  answers      reads answers, and prints a line for each; with --json each line is a JSON object
   --help       prints this page
   --version    prints the version
 
@@ -256,6 +256,7 @@ Examples:
   echo 'protect 0 0 002a140509c3' | sdls_text records > input.bin
   sdls_text show < input.bin
   sdls run < input.bin | sdls_text answers
+  sdls run < input.bin | sdls_text answers --json
 HELP
     else
         cat <<'HELP'

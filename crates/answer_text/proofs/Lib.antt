@@ -1,3 +1,4 @@
-pub mod Spacing
-pub mod ValueWords
+pub mod Behind
+pub mod ValueParts
 pub mod Fronts
+pub mod PlainStrings

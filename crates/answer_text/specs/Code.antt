@@ -1,5 +1,5 @@
 -- The codes of answers, and what their details name (profile).
-use Rattle.std.specs.Prelude.{ℕ, ◌==◌, codes, List, [], ◌∷◌, Option, find}
+use Rattle.std.specs.Prelude.{ℕ, ◌==◌, if◌then◌else◌, codes, List, [], ◌∷◌, Option, Some, None, find}
 use Rattle.record_io.specs.declared.code.TheConstants.{ACCEPTED, CHANNEL, CLEAR, COVERAGE, DIRECTION, DONE, END}
 use Rattle.record_io.specs.declared.code.TheConstants.{EXHAUSTED, JOURNAL_FULL, LAYOUT, MAC, NO_MEMORY, NUMBER}
 use Rattle.record_io.specs.declared.code.TheConstants.{PROTECTED, REFUSED, SITE_FAULT, SPI, STATE, STOPPED}
@@ -59,6 +59,11 @@ all_codes = Protected ∷ Accepted ∷ Clear ∷ Done ∷ Refused ∷ Layout ∷
 -- the code with this octet
 unfoldable pub code_at : ℕ → Option Code
 code_at octet = find (λ code. code_octet code == octet) all_codes
+
+-- the word that a table has for an octet
+abbrev pub word_of : List (ℕ × List ℕ) → ℕ → Option (List ℕ)
+word_of [] octet = None
+word_of (row ∷ rows) octet = if row.0 == octet then Some row.1 else word_of rows octet
 
 -- the details of a frame that breaks its layout: the checks of the layouts, or that the plan has no such link
 abbrev pub layout_details : List (ℕ × List ℕ)

@@ -1,4 +1,4 @@
--- Answers as text, a line an answer (profile).
+-- Answers as text, a line an answer, as words or as a JSON object (profile).
 use Rattle.std.specs.Prelude.{◌≡◌, ⊤, ℕ, ◌≤◌, ◌==◌, if◌then◌else◌, codes, decimal, List, [], ◌∷◌, ◌++◌, length}
 use Rattle.std.specs.Prelude.{IsSomeAnd, MatchOption}
 use Rattle.record_io.specs.declared.answers.Answer.{Answer}
@@ -12,15 +12,18 @@ use Rattle.answer_text.specs.declared.codes.Code.TheVariants.{Channel, Spi, Dire
 use Rattle.answer_text.specs.declared.codes.Code.TheVariants.{Exhausted, JournalFull, SiteFault, Stopped, NoMemory, End}
 use Rattle.answer_text.specs.declared.error.TextError.{TextError}
 use Rattle.answer_text.specs.declared.error.TextError.TheVariants as errors
+use Rattle.answer_text.specs.declared.form.Form.{Form}
+use Rattle.answer_text.specs.declared.form.Form.TheVariants as forms
 use Rattle.answer_text.specs.Code.{code_at, code_word, layout_details, state_details, refusal_details, end_numbers}
+use Rattle.answer_text.specs.Code.{word_of}
+use Rattle.answer_text.specs.Part.{Part, member, parts_text, quoted, spaced}
+use Rattle.answer_text.specs.Part.Part.{named, number, word, octets}
 use Rattle.answer_text.specs.Reply.{reply_name, reply_values}
-use Rattle.text_words.specs.Words.{octets_word}
-use Rattle.answer_text.specs.Words.{named, word_of}
 
 -- a number of a key, and the position by its name
-abbrev pub numbered : Answer → List ℕ → List (List ℕ)
-numbered answer position = named (codes "key") answer.key
-    ++ (named (codes "number") answer.number ++ named position answer.position)
+abbrev pub numbered : Answer → List ℕ → List Part
+numbered answer position =
+    named (codes "key") answer.key ∷ named (codes "number") answer.number ∷ named position answer.position ∷ []
 
 -- there is neither a key nor a body
 pub record IsBare (answer : Answer) : Type 0 where
@@ -34,17 +37,17 @@ pub record IsPlain (answer : Answer) : Type 0 where
   pub bare : IsBare answer
 
 -- the number that was drawn for a command, with its key; where there is no key there is no number
-abbrev pub drawn : Answer → List (List ℕ)
-drawn answer = if answer.key == 0 then [] else codes "drawn" ∷ decimal answer.key ∷ decimal answer.number ∷ []
+abbrev pub drawn : Answer → List Part
+drawn answer = if answer.key == 0 then [] else Part.drawn answer.key answer.number ∷ []
 
 -- the highest number that was accepted, and the width of the window
-unfoldable pub window_words : List ℕ → List (List ℕ)
-window_words body = named (codes "high") (number_at 0 body) ++ named (codes "width") (number_at 8 body)
+unfoldable pub window_parts : List ℕ → List Part
+window_parts body = named (codes "high") (number_at 0 body) ∷ named (codes "width") (number_at 8 body) ∷ []
 
 -- of a command that was done: the reply, and between its name and its values the position and what was drawn
-abbrev pub done_words : Answer → ReplyPdu → List (List ℕ)
-done_words answer reply = reply_name reply ++ (named (codes "entry") answer.position
-    ++ (drawn answer ++ reply_values reply))
+abbrev pub done_parts : Answer → ReplyPdu → List Part
+done_parts answer reply =
+    reply_name reply ++ (named (codes "entry") answer.position ∷ (drawn answer ++ reply_values reply))
 
 -- there is nothing but a number and a position
 pub record IsCounting (answer : Answer) : Type 0 where
@@ -52,51 +55,68 @@ pub record IsCounting (answer : Answer) : Type 0 where
   pub bare : IsBare answer
 
 -- the number by its name, and the count of entries
-abbrev pub counting_words : Answer → List ℕ → List (List ℕ)
-counting_words answer name = named name answer.number ++ named (codes "entries") answer.position
+abbrev pub counting_parts : Answer → List ℕ → List Part
+counting_parts answer name = named name answer.number ∷ named (codes "entries") answer.position ∷ []
 
--- The answer is one of this code, and P holds of the words of its values.
-unfoldable pub HasValues : Code → Answer → (List (List ℕ) → Type 0) → Type 0
+-- The answer is one of this code, and P holds of the parts that its line says.
+unfoldable pub HasValues : Code → Answer → (List Part → Type 0) → Type 0
 HasValues Protected answer P =
-    (answer.detail ≡ 0) × P (numbered answer (codes "epoch") ++ codes "frame" ∷ octets_word answer.body ∷ [])
+    (answer.detail ≡ 0) × P (numbered answer (codes "epoch") ++ octets (codes "frame") answer.body ∷ [])
 HasValues Accepted answer P =
-    (answer.detail ≡ 0) × P (numbered answer (codes "entry") ++ codes "data" ∷ octets_word answer.body ∷ [])
-HasValues Clear answer P = IsPlain answer × P (named (codes "position") answer.position)
+    (answer.detail ≡ 0) × P (numbered answer (codes "entry") ++ octets (codes "data") answer.body ∷ [])
+HasValues Clear answer P = IsPlain answer × P (named (codes "position") answer.position ∷ [])
 HasValues Done answer P = (answer.detail ≡ 0) × (answer.key ≡ 0 → answer.number ≡ 0)
     × ((reply : ReplyPdu) × IsReplyPdu reply answer.body
-    × P (done_words answer reply))
+    × P (done_parts answer reply))
 HasValues Refused answer P = IsBare answer × IsSomeAnd (word_of refusal_details answer.detail)
-    (λ refusal. P (named refusal answer.number ++ named (codes "entry") answer.position))
+    (λ refusal. P (word (codes "refusal") refusal ∷ number (codes "number") answer.number
+    ∷ named (codes "entry") answer.position ∷ []))
 HasValues Layout answer P = IsBare answer × (answer.number ≡ 0) × IsSomeAnd (word_of layout_details answer.detail)
-    (λ fault. P (fault ∷ named (codes "position") answer.position))
-HasValues Channel answer P = IsPlain answer × P (named (codes "position") answer.position)
-HasValues Spi answer P = IsPlain answer × P (named (codes "entry") answer.position)
-HasValues Direction answer P = IsPlain answer × P (named (codes "entry") answer.position)
+    (λ fault. P (word (codes "fault") fault ∷ named (codes "position") answer.position ∷ []))
+HasValues Channel answer P = IsPlain answer × P (named (codes "position") answer.position ∷ [])
+HasValues Spi answer P = IsPlain answer × P (named (codes "entry") answer.position ∷ [])
+HasValues Direction answer P = IsPlain answer × P (named (codes "entry") answer.position ∷ [])
 HasValues State answer P = IsBare answer × (answer.number ≡ 0) × IsSomeAnd (word_of state_details answer.detail)
-    (λ state. P (state ∷ named (codes "position") answer.position))
-HasValues Coverage answer P = IsPlain answer × P (named (codes "entry") answer.position)
-HasValues Mac answer P = IsPlain answer × P (named (codes "entry") answer.position)
+    (λ state. P (word (codes "state") state ∷ named (codes "position") answer.position ∷ []))
+HasValues Coverage answer P = IsPlain answer × P (named (codes "entry") answer.position ∷ [])
+HasValues Mac answer P = IsPlain answer × P (named (codes "entry") answer.position ∷ [])
 HasValues Number answer P = (answer.detail ≡ 0) × (length answer.body ≡ 16)
-    × P (numbered answer (codes "entry") ++ window_words answer.body)
+    × P (numbered answer (codes "entry") ++ window_parts answer.body)
 HasValues Exhausted answer P = (answer.detail ≡ 0) × (answer.body ≡ []) × P (numbered answer (codes "epoch"))
-HasValues JournalFull answer P = IsCounting answer × P (counting_words answer (codes "slots"))
-HasValues SiteFault answer P = IsCounting answer × P (counting_words answer (codes "faults"))
-HasValues Stopped answer P = IsCounting answer × P (counting_words answer (codes "faults"))
+HasValues JournalFull answer P = IsCounting answer × P (counting_parts answer (codes "slots"))
+HasValues SiteFault answer P = IsCounting answer × P (counting_parts answer (codes "faults"))
+HasValues Stopped answer P = IsCounting answer × P (counting_parts answer (codes "faults"))
 HasValues NoMemory answer P = IsPlain answer × (answer.position ≡ 0) × P []
 HasValues End answer P = IsBare answer × (answer.detail ≤ SESSION_FULL)
-    × (let words = named (codes "status") answer.detail ++ named (codes "entries") answer.position in
-    MatchOption (word_of end_numbers answer.detail) ((answer.number ≡ 0) × P words)
-    (λ name. P (words ++ named name answer.number)))
+    × (let known = named (codes "status") answer.detail ∷ named (codes "entries") answer.position ∷ [] in
+    MatchOption (word_of end_numbers answer.detail) ((answer.number ≡ 0) × P known)
+    (λ name. P (known ++ named name answer.number ∷ [])))
 
--- the first words: the number of the record and the code, and of End the code alone
-abbrev pub first_words : ℕ → Code → List (List ℕ)
-first_words index End = codes "end" ∷ []
-first_words index code = decimal index ∷ code_word code ∷ []
+-- the answer is one of the formats
+abbrev pub IsOfFormats : Answer → Type 0
+IsOfFormats answer = MatchOption (code_at answer.code) ⊥ (λ code. HasValues code answer (λ _. ⊤))
 
--- The answer is one of the formats, and P holds of the words of its line.
-abbrev pub HasLine : ℕ → Answer → (List (List ℕ) → Type 0) → Type 0
-HasLine index answer P = MatchOption (code_at answer.code) ⊥
-    (λ code. HasValues code answer (λ values. P (first_words index code ++ values)))
+-- how a line begins: the number of the record and the code, and of End the code alone
+abbrev pub front_text : Form → ℕ → Code → List ℕ
+front_text forms.Words index End = codes "end"
+front_text forms.Words index code = decimal index ++ spaced (code_word code)
+front_text forms.Json index End = codes "{" ++ member (codes "code") (quoted (codes "end"))
+front_text forms.Json index code = codes "{" ++ (member (codes "record") (decimal index)
+    ++ (codes "," ++ member (codes "code") (quoted (code_word code))))
+
+-- how a line ends: a line feed, and before it what closes an object
+abbrev pub end_text : Form → List ℕ
+end_text forms.Words = codes "\n"
+end_text forms.Json = codes "}\n"
+
+-- a line in a form: how it begins, its parts, and how it ends
+abbrev pub line_text : Form → ℕ → Code → List Part → List ℕ
+line_text form index code values = front_text form index code ++ (parts_text form values ++ end_text form)
+
+-- The answer is one of the formats, and P holds of its line in this form.
+abbrev pub HasLine : Form → ℕ → Answer → (List ℕ → Type 0) → Type 0
+HasLine form index answer P = MatchOption (code_at answer.code) ⊥
+    (λ code. HasValues code answer (λ values. P (line_text form index code values)))
 
 -- what is answered is want of memory, or that the fact does not hold
 abbrev pub LacksUnlessNoMemory : Type 0 → TextError → Type 0
@@ -108,5 +128,5 @@ abbrev pub LacksValues : Code → Answer → TextError → Type 0
 LacksValues code answer error = LacksUnlessNoMemory (HasValues code answer (λ _. ⊤)) error
 
 -- the answer is none of the formats, or memory was wanting
-abbrev pub LacksLine : ℕ → Answer → TextError → Type 0
-LacksLine index answer error = LacksUnlessNoMemory (HasLine index answer (λ _. ⊤)) error
+abbrev pub LacksLine : Answer → TextError → Type 0
+LacksLine answer error = LacksUnlessNoMemory (IsOfFormats answer) error

@@ -9,8 +9,8 @@ use Rattle.answer_text.specs.declared.listing.AnswersEnd.{AnswersEnd}
 use Rattle.answer_text.specs.declared.listing.AnswersEnd.TheVariants.{Whole, CutAt, NoAnswerAt, SourceFault, NoMemory}
 use Rattle.answer_text.specs.declared.reading.NextAnswer.TheVariants.{Long}
 use Rattle.answer_text.specs.Standing.{Stands}
-use Rattle.answer_text.specs.Words.{line_octets}
-use Rattle.answer_text.specs.Line.{HasLine}
+use Rattle.answer_text.specs.declared.form.Form.{Form}
+use Rattle.answer_text.specs.Line.{HasLine, IsOfFormats}
 
 -- how far a listing has come: the number of the next answer's record, and how many octets stand before it
 pub record Place : Type 0 where
@@ -28,18 +28,18 @@ behind place answer = record {
   offset = counted place.offset (ANSWER_HEADER + length answer.body);
 }
 
--- one answer was taken, and its line put behind what there was
-pub record AddsLine (place place_new : Place) (left left_new text text_new : List ℕ) : Type 0 where
+-- one answer was taken, and its line in this form put behind what there was
+pub record AddsLine (form : Form) (place place_new : Place) (left left_new text text_new : List ℕ) : Type 0 where
   pub answer : Answer
   pub taken : left ≡ answer_octets answer ++ left_new
-  pub put : HasLine place.index answer (λ words. text_new ≡ text ++ line_octets words)
+  pub put : HasLine form place.index answer (λ line. text_new ≡ text ++ line)
   pub passed : place_new ≡ behind place answer
 
 -- a whole answer stands at the front, and is none of the formats
 pub record StandsForeign (left left_new : List ℕ) : Type 0 where
   pub answer : Answer
   pub taken : left ≡ answer_octets answer ++ left_new
-  pub foreign : (index : ℕ) → ¬ HasLine index answer (λ _. ⊤)
+  pub foreign : ¬ IsOfFormats answer
 
 -- Why no line follows: nothing is left; what is left is cut; or what is left begins with an answer that is none of the
 -- formats, or with a header that says too many octets. Cut answers and others are told with their offset.

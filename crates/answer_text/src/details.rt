@@ -1,8 +1,7 @@
 //! What the details of answers name.
 ghost use Rattle.std.specs.Prelude.{◌≡◌};
 ghost use Rattle.std.specs.Option.{option_copied};
-ghost use Rattle.answer_text.specs.Words.{word_of};
-ghost use Rattle.answer_text.specs.Code.{layout_details, state_details, refusal_details, end_numbers};
+ghost use Rattle.answer_text.specs.Code.{layout_details, state_details, refusal_details, end_numbers, word_of};
 
 use record_io::status::{MALFORMED, NO_STATE, SITE_FAULT, SOURCE_FAULT};
 

@@ -1,19 +1,25 @@
-//! The answers of `run` as text, a line an answer (profile).
+//! The answers of `run` as text, a line an answer, as words or as a JSON object (profile).
 //!
 //! [`put_answer`] puts the line of an answer. [`Listing::next_line`] takes an answer from a source and puts its line.
+//! [`strings_need_no_escape`] is the law that each string of a JSON object may stand there as it is.
 #![tactic(auto)]
 
 mod codes;
 mod details;
 mod error;
+mod form;
+mod laws;
 mod line;
 mod listing;
 mod putting;
 mod reading;
 mod reply;
+mod rows;
 mod values;
 
 pub use error::TextError;
+pub use form::Form;
+pub use laws::strings_need_no_escape;
 pub use line::put_answer;
 pub use listing::{AnswersEnd, Listing};
 pub use reading::{NextAnswer, next_answer};

@@ -1,28 +1,46 @@
 //! The line of an answer.
 ghost use Rattle.std.specs.Prelude.{◌≡◌, ◌++◌, OnOk, IfErr};
-ghost use Rattle.answer_text.specs.Words.{joined, line_octets};
-ghost use Rattle.answer_text.specs.Line.{HasLine, LacksLine, first_words};
+ghost use Rattle.answer_text.specs.Line.{HasLine, LacksLine, end_text, front_text};
 
 use crate::codes::Code;
 use crate::error::TextError;
-use crate::putting::put_word;
+use crate::form::Form;
+use crate::putting::{put_number_member, put_spaced, put_word_member};
 use crate::values::put_values;
 use record_io::Answer;
 use sdls_base::NoMemory;
 use std::alloc::Global;
 use text_words::{put_decimal, put_octets};
 
-/// Puts the first words of a line: the number of the record and the code, and of End the code alone.
-fn put_first(text: &mut Vec<u8>, index: u64, code: Code) -> Result<(), NoMemory>
-    ensures { OnOk result (text.new.items ≡ text.old.items ++ joined (first_words index code)) }
+/// Puts how a line begins: the number of the record and the code, and of End the code alone.
+fn put_front(text: &mut Vec<u8>, form: Form, index: u64, code: Code) -> Result<(), NoMemory>
+    ensures { OnOk result (text.new.items ≡ text.old.items ++ front_text form index code) }
 {
-    match code {
-        Code::End => put_octets(text, b"end"),
-        _ => {
+    match (form, code) {
+        (Form::Words, Code::End) => put_octets(text, b"end"),
+        (Form::Words, _) => {
             put_decimal(text, index)?;
-            put_word(text, code.word())?;
-            Ok(())
+            put_spaced(text, code.word())
         }
+        (Form::Json, Code::End) => {
+            put_octets(text, b"{")?;
+            put_word_member(text, b"code", b"end")
+        }
+        (Form::Json, _) => {
+            put_octets(text, b"{")?;
+            put_number_member(text, b"record", index)?;
+            put_octets(text, b",")?;
+            put_word_member(text, b"code", code.word())
+        }
+    }
+}
+
+fn put_end(text: &mut Vec<u8>, form: Form) -> Result<(), NoMemory>
+    ensures { OnOk result (text.new.items ≡ text.old.items ++ end_text form) }
+{
+    match form {
+        Form::Words => put_octets(text, b"\n"),
+        Form::Json => put_octets(text, b"}\n"),
     }
 }
 
@@ -31,20 +49,20 @@ fn put_first(text: &mut Vec<u8>, index: u64, code: Code) -> Result<(), NoMemory>
 pub fn put_answer(
     alloc: Global,
     text: &mut Vec<u8>,
+    form: Form,
     index: u64,
     answer: &Answer,
 ) -> Result<(), TextError>
-    // What is put is the line of the answer's words.
-    ensures put { OnOk result (HasLine index answer.now
-        (λ words. text.new.items ≡ text.old.items ++ line_octets words)) }
+    // What is put is the line of the answer in this form.
+    ensures put { OnOk result (HasLine form index answer.now (λ line. text.new.items ≡ text.old.items ++ line)) }
     // Only an answer that is none of the formats has no line, but for want of memory.
-    ensures lacks { IfErr result (LacksLine index answer.now) }
+    ensures lacks { IfErr result (LacksLine answer.now) }
 {
     let Some(code) = Code::of(answer.code) else {
         return Err(TextError::NoAnswer);
     };
-    put_first(text, index, code)?;
-    put_values(alloc, text, code, answer)?;
-    put_octets(text, b"\n")?;
+    put_front(text, form, index, code)?;
+    put_values(alloc, text, form, code, answer)?;
+    put_end(text, form)?;
     Ok(())
 }

@@ -1,11 +1,11 @@
 //! The lines of the answers of a source.
 ghost use Rattle.std.specs.Prelude.{◌≡◌, ◌≤◌, ◌++◌, IsTrue, IfErr, IfNone, IfSome, OnErr, OnOk};
 ghost use Rattle.sdls_outside.specs.Faults.{Rose};
-ghost use Rattle.answer_text.specs.Words.{line_octets};
 ghost use Rattle.answer_text.specs.Line.{HasLine, LacksLine};
 ghost use Rattle.answer_text.specs.Listing.{AddsLine, EndsAt, IfEndFault, Place, behind};
 
 use crate::error::TextError;
+use crate::form::Form;
 use crate::line::put_answer;
 use crate::reading::{NextAnswer, next_answer};
 use record_io::{ANSWER_HEADER, Answer, code};
@@ -46,16 +46,16 @@ impl Model for Listing {
 fn put_whole(
     alloc: Global,
     text: &mut Vec<u8>,
+    form: Form,
     index: u64,
     answer: &Answer,
 ) -> Result<(), TextError>
-    ensures put { OnOk result (HasLine index answer.now
-        (λ words. text.new.items ≡ text.old.items ++ line_octets words)) }
-    ensures lacks { IfErr result (LacksLine index answer.now) }
+    ensures put { OnOk result (HasLine form index answer.now (λ line. text.new.items ≡ text.old.items ++ line)) }
+    ensures lacks { IfErr result (LacksLine answer.now) }
     ensures kept { OnErr result (text.new.items ≡ text.old.items) }
 {
     let mut line = Vec::new(alloc);
-    put_answer(alloc, &mut line, index, answer)?;
+    put_answer(alloc, &mut line, form, index, answer)?;
     text.extend_from_slice(&line)?;
     Ok(())
 }
@@ -89,11 +89,12 @@ impl Listing {
     pub fn next_line<S: Source>(
         &mut self,
         alloc: Global,
+        form: Form,
         source: &mut S,
         text: &mut Vec<u8>,
     ) -> Option<AnswersEnd>
         ensures adds { IsTrue S.told
-            → IfNone result (AddsLine self.old self.new (S.left source.old) (S.left source.new) text.old.items
+            → IfNone result (AddsLine form self.old self.new (S.left source.old) (S.left source.new) text.old.items
             text.new.items) }
         ensures ends { IsTrue S.told
             → IfSome result (EndsAt self.old.offset (S.left source.old) (S.left source.new)) }
@@ -109,7 +110,7 @@ impl Listing {
             Ok(NextAnswer::SourceFault) => return Some(AnswersEnd::SourceFault),
             Err(NoMemory) => return Some(AnswersEnd::NoMemory),
         };
-        match put_whole(alloc, text, self.index, &answer) {
+        match put_whole(alloc, text, form, self.index, &answer) {
             Ok(()) => {
                 self.pass(&answer);
                 None

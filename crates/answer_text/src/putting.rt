@@ -1,56 +1,203 @@
-//! Words, each put behind a text.
-ghost use Rattle.std.specs.Prelude.{◌≡◌, ◌++◌, [], ◌∷◌, decimal, OnOk};
-ghost use Rattle.text_words.specs.Words.{octets_word};
-ghost use Rattle.answer_text.specs.Words.{named, spaced};
+//! The parts of a line, each put behind a text in either form.
+#![tactic(auto, unfolding(crate::specs::Part::part_text))]
 
+ghost use Rattle.std.specs.Prelude.{◌≡◌, ◌++◌, codes, decimal, OnOk};
+ghost use Rattle.hex.specs.Hex.{encode_lower};
+ghost use Rattle.text_words.specs.Words.{octets_word};
+ghost use Rattle.answer_text.specs.Part.{Part, drawn_object, member, part_text, quoted, spaced};
+
+use crate::form::Form;
 use sdls_base::NoMemory;
 use std::alloc::Global;
 use text_words::{put_decimal, put_octets};
 
 /// Puts a word behind a space.
-pub(crate) fn put_word(text: &mut Vec<u8>, word: &[u8]) -> Result<(), NoMemory>
-    ensures { OnOk result (text.new.items ≡ text.old.items ++ spaced (word.now ∷ [])) }
+pub(crate) fn put_spaced(text: &mut Vec<u8>, word: &[u8]) -> Result<(), NoMemory>
+    ensures { OnOk result (text.new.items ≡ text.old.items ++ spaced word.now) }
 {
     put_octets(text, b" ")?;
     put_octets(text, word)
 }
 
 /// Puts a number behind a space.
-pub(crate) fn put_number(text: &mut Vec<u8>, number: u64) -> Result<(), NoMemory>
-    ensures { OnOk result (text.new.items ≡ text.old.items ++ spaced (decimal number ∷ [])) }
+pub(crate) fn put_spaced_number(text: &mut Vec<u8>, number: u64) -> Result<(), NoMemory>
+    ensures { OnOk result (text.new.items ≡ text.old.items ++ spaced (decimal number)) }
 {
     put_octets(text, b" ")?;
     put_decimal(text, number)
 }
 
-/// Puts a number behind its name.
-pub(crate) fn put_named(text: &mut Vec<u8>, name: &[u8], number: u64) -> Result<(), NoMemory>
-    ensures { OnOk result (text.new.items ≡ text.old.items ++ spaced (named name.now number)) }
-{
-    put_word(text, name)?;
-    put_number(text, number)
-}
-
-/// Puts octets as a word: hexadecimal digits, or - for none.
-fn put_digits(alloc: Global, text: &mut Vec<u8>, octets: &[u8]) -> Result<(), NoMemory>
-    ensures { OnOk result (text.new.items ≡ text.old.items ++ spaced (octets_word octets.now ∷ [])) }
+/// Puts octets as a word behind a space: hexadecimal digits, or - for none.
+fn put_spaced_octets(alloc: Global, text: &mut Vec<u8>, octets: &[u8]) -> Result<(), NoMemory>
+    ensures { OnOk result (text.new.items ≡ text.old.items ++ spaced (octets_word octets.now)) }
 {
     if octets.is_empty() {
-        return put_word(text, b"-");
+        return put_spaced(text, b"-");
     }
     let digits = hex::encode(alloc, octets)?;
-    put_word(text, digits.as_bytes())
+    put_spaced(text, digits.as_bytes())
 }
 
-/// Puts octets behind their name.
-pub(crate) fn put_named_octets(
+/// Puts a text between quotation marks. None that is put has a mark of its own.
+pub(crate) fn put_quoted(text: &mut Vec<u8>, word: &[u8]) -> Result<(), NoMemory>
+    ensures { OnOk result (text.new.items ≡ text.old.items ++ quoted word.now) }
+{
+    put_octets(text, b"\"")?;
+    put_octets(text, word)?;
+    put_octets(text, b"\"")
+}
+
+/// Puts the name of a member, and the colon.
+pub(crate) fn put_name(text: &mut Vec<u8>, name: &[u8]) -> Result<(), NoMemory>
+    ensures { OnOk result (text.new.items ≡ text.old.items ++ (codes "\"" ++ (name.now ++ codes "\":"))) }
+{
+    put_octets(text, b"\"")?;
+    put_octets(text, name)?;
+    put_octets(text, b"\":")
+}
+
+/// Puts a member whose value is a number.
+pub(crate) fn put_number_member(
+    text: &mut Vec<u8>,
+    name: &[u8],
+    number: u64,
+) -> Result<(), NoMemory>
+    ensures { OnOk result (text.new.items ≡ text.old.items ++ member name.now (decimal number)) }
+{
+    put_name(text, name)?;
+    put_decimal(text, number)
+}
+
+/// Puts a member whose value is a string.
+pub(crate) fn put_word_member(text: &mut Vec<u8>, name: &[u8], word: &[u8]) -> Result<(), NoMemory>
+    ensures { OnOk result (text.new.items ≡ text.old.items ++ member name.now (quoted word.now)) }
+{
+    put_name(text, name)?;
+    put_quoted(text, word)
+}
+
+/// Puts a member whose value are hexadecimal digits.
+fn put_octets_member(
     alloc: Global,
     text: &mut Vec<u8>,
     name: &[u8],
     octets: &[u8],
 ) -> Result<(), NoMemory>
-    ensures { OnOk result (text.new.items ≡ text.old.items ++ spaced (name.now ∷ octets_word octets.now ∷ [])) }
+    ensures { OnOk result (text.new.items ≡ text.old.items ++ member name.now (quoted (encode_lower octets.now))) }
 {
-    put_word(text, name)?;
-    put_digits(alloc, text, octets)
+    let digits = hex::encode(alloc, octets)?;
+    put_word_member(text, name, digits.as_bytes())
+}
+
+/// Puts a number by its name.
+pub(crate) fn put_named(
+    text: &mut Vec<u8>,
+    form: Form,
+    name: &[u8],
+    number: u64,
+) -> Result<(), NoMemory>
+    ensures { OnOk result (text.new.items ≡ text.old.items ++ part_text form (Part.named name.now number)) }
+{
+    match form {
+        Form::Words => {
+            put_spaced(text, name)?;
+            put_spaced_number(text, number)
+        }
+        Form::Json => {
+            put_octets(text, b",")?;
+            put_number_member(text, name, number)
+        }
+    }
+}
+
+/// Puts a number whose name the words leave out.
+pub(crate) fn put_number(
+    text: &mut Vec<u8>,
+    form: Form,
+    name: &[u8],
+    number: u64,
+) -> Result<(), NoMemory>
+    ensures { OnOk result (text.new.items ≡ text.old.items ++ part_text form (Part.number name.now number)) }
+{
+    match form {
+        Form::Words => put_spaced_number(text, number),
+        Form::Json => {
+            put_octets(text, b",")?;
+            put_number_member(text, name, number)
+        }
+    }
+}
+
+/// Puts a word whose name the words leave out.
+pub(crate) fn put_word(
+    text: &mut Vec<u8>,
+    form: Form,
+    name: &[u8],
+    word: &[u8],
+) -> Result<(), NoMemory>
+    ensures { OnOk result (text.new.items ≡ text.old.items ++ part_text form (Part.word name.now word.now)) }
+{
+    match form {
+        Form::Words => put_spaced(text, word),
+        Form::Json => {
+            put_octets(text, b",")?;
+            put_word_member(text, name, word)
+        }
+    }
+}
+
+/// Puts octets by their name.
+pub(crate) fn put_named_octets(
+    alloc: Global,
+    text: &mut Vec<u8>,
+    form: Form,
+    name: &[u8],
+    octets: &[u8],
+) -> Result<(), NoMemory>
+    ensures { OnOk result (text.new.items ≡ text.old.items ++ part_text form (Part.octets name.now octets.now)) }
+{
+    match form {
+        Form::Words => {
+            put_spaced(text, name)?;
+            put_spaced_octets(alloc, text, octets)
+        }
+        Form::Json => {
+            put_octets(text, b",")?;
+            put_octets_member(alloc, text, name, octets)
+        }
+    }
+}
+
+/// Puts a number with its key as a JSON object.
+fn put_drawn_object(text: &mut Vec<u8>, key: u64, number: u64) -> Result<(), NoMemory>
+    ensures { OnOk result (text.new.items ≡ text.old.items ++ drawn_object key number) }
+{
+    put_octets(text, b"{")?;
+    put_number_member(text, b"key", key)?;
+    put_octets(text, b",")?;
+    put_number_member(text, b"number", number)?;
+    put_octets(text, b"}")
+}
+
+/// Puts the number that was drawn for a command, and its key.
+pub(crate) fn put_drawn(
+    text: &mut Vec<u8>,
+    form: Form,
+    key: u64,
+    number: u64,
+) -> Result<(), NoMemory>
+    ensures { OnOk result (text.new.items ≡ text.old.items ++ part_text form (Part.drawn key number)) }
+{
+    match form {
+        Form::Words => {
+            put_spaced(text, b"drawn")?;
+            put_spaced_number(text, key)?;
+            put_spaced_number(text, number)
+        }
+        Form::Json => {
+            put_octets(text, b",")?;
+            put_name(text, b"drawn")?;
+            put_drawn_object(text, key, number)
+        }
+    }
 }

@@ -1,16 +1,17 @@
 //! The values of answers, by their codes.
 #![tactic(auto, unfolding(crate::specs::Line::HasValues))]
 
-ghost use Rattle.std.specs.Prelude.{◌≡◌, ◌++◌, ◌↔◌, IsTrue, OnOk, IfErr, length};
+ghost use Rattle.std.specs.Prelude.{◌≡◌, ◌++◌, ◌∷◌, [], ◌↔◌, IsTrue, OnOk, IfErr, length};
 ghost use Rattle.answer_text.specs.declared.codes.Code.TheVariants as codes;
-ghost use Rattle.answer_text.specs.Words.{named, spaced};
+ghost use Rattle.answer_text.specs.Part.{Part, parts_text};
 ghost use Rattle.answer_text.specs.Line.{HasValues, IsBare, IsCounting, IsPlain, LacksUnlessNoMemory, LacksValues};
-ghost use Rattle.answer_text.specs.Line.{counting_words, done_words, drawn, numbered, window_words};
+ghost use Rattle.answer_text.specs.Line.{counting_parts, done_parts, drawn, numbered, window_parts};
 
 use crate::codes::Code;
 use crate::details::{end_number, layout_detail, refusal_detail, state_detail};
 use crate::error::TextError;
-use crate::putting::{put_named, put_named_octets, put_number, put_word};
+use crate::form::Form;
+use crate::putting::{put_drawn, put_named, put_named_octets, put_number, put_word};
 use crate::reply::{put_reply_name, put_reply_values};
 use ep_codec::{PduError, ReplyPdu, number_at, read_reply};
 use record_io::Answer;
@@ -31,84 +32,93 @@ fn is_plain(answer: &Answer) -> bool
 }
 
 /// Puts the number of a key, and the position by its name.
-fn put_numbered(text: &mut Vec<u8>, answer: &Answer, position: &[u8]) -> Result<(), NoMemory>
-    ensures { OnOk result (text.new.items ≡ text.old.items ++ spaced (numbered answer.now position.now)) }
+fn put_numbered(
+    text: &mut Vec<u8>,
+    form: Form,
+    answer: &Answer,
+    position: &[u8],
+) -> Result<(), NoMemory>
+    ensures { OnOk result (text.new.items ≡ text.old.items ++ parts_text form (numbered answer.now position.now)) }
 {
-    put_named(text, b"key", u64::from(answer.key))?;
-    put_named(text, b"number", answer.number)?;
-    put_named(text, position, answer.position)
+    put_named(text, form, b"key", u64::from(answer.key))?;
+    put_named(text, form, b"number", answer.number)?;
+    put_named(text, form, position, answer.position)
 }
 
-fn protected(alloc: Global, text: &mut Vec<u8>, answer: &Answer) -> Result<(), TextError>
+fn protected(
+    alloc: Global,
+    text: &mut Vec<u8>,
+    form: Form,
+    answer: &Answer,
+) -> Result<(), TextError>
     ensures put { OnOk result (HasValues codes.Protected answer.now
-        (λ values. text.new.items ≡ text.old.items ++ spaced values)) }
+        (λ values. text.new.items ≡ text.old.items ++ parts_text form values)) }
     ensures lacks { IfErr result (LacksValues codes.Protected answer.now) }
 {
     if answer.detail != 0 {
         return Err(TextError::NoAnswer);
     }
-    put_numbered(text, answer, b"epoch")?;
-    put_named_octets(alloc, text, b"frame", answer.body.as_slice())?;
+    put_numbered(text, form, answer, b"epoch")?;
+    put_named_octets(alloc, text, form, b"frame", answer.body.as_slice())?;
     Ok(())
 }
 
-fn accepted(alloc: Global, text: &mut Vec<u8>, answer: &Answer) -> Result<(), TextError>
+fn accepted(alloc: Global, text: &mut Vec<u8>, form: Form, answer: &Answer) -> Result<(), TextError>
     ensures put { OnOk result (HasValues codes.Accepted answer.now
-        (λ values. text.new.items ≡ text.old.items ++ spaced values)) }
+        (λ values. text.new.items ≡ text.old.items ++ parts_text form values)) }
     ensures lacks { IfErr result (LacksValues codes.Accepted answer.now) }
 {
     if answer.detail != 0 {
         return Err(TextError::NoAnswer);
     }
-    put_numbered(text, answer, b"entry")?;
-    put_named_octets(alloc, text, b"data", answer.body.as_slice())?;
+    put_numbered(text, form, answer, b"entry")?;
+    put_named_octets(alloc, text, form, b"data", answer.body.as_slice())?;
     Ok(())
 }
 
 /// Puts the position of an answer that has nothing else, by its name.
-fn plain(text: &mut Vec<u8>, answer: &Answer, position: &[u8]) -> Result<(), TextError>
+fn plain(text: &mut Vec<u8>, form: Form, answer: &Answer, position: &[u8]) -> Result<(), TextError>
     ensures put { OnOk result (IsPlain answer.now ×
-        (text.new.items ≡ text.old.items ++ spaced (named position.now answer.now.position))) }
+        (text.new.items ≡ text.old.items ++ parts_text form (Part.named position.now answer.now.position ∷ []))) }
     ensures lacks { IfErr result (LacksUnlessNoMemory (IsPlain answer.now)) }
 {
     if !is_plain(answer) {
         return Err(TextError::NoAnswer);
     }
-    put_named(text, position, answer.position)?;
+    put_named(text, form, position, answer.position)?;
     Ok(())
 }
 
 /// Puts the number that was drawn for a command.
-fn put_drawn(text: &mut Vec<u8>, answer: &Answer) -> Result<(), NoMemory>
-    ensures { OnOk result (text.new.items ≡ text.old.items ++ spaced (drawn answer.now)) }
+fn put_drawn_of(text: &mut Vec<u8>, form: Form, answer: &Answer) -> Result<(), NoMemory>
+    ensures { OnOk result (text.new.items ≡ text.old.items ++ parts_text form (drawn answer.now)) }
 {
     if answer.key == 0 {
         return Ok(());
     }
-    put_word(text, b"drawn")?;
-    put_number(text, u64::from(answer.key))?;
-    put_number(text, answer.number)
+    put_drawn(text, form, u64::from(answer.key), answer.number)
 }
 
 /// Puts a reply, and between its name and its values what the answer says.
 fn put_done(
     alloc: Global,
     text: &mut Vec<u8>,
+    form: Form,
     answer: &Answer,
     reply: &ReplyPdu,
 ) -> Result<(), NoMemory>
-    ensures { OnOk result (text.new.items ≡ text.old.items ++ spaced (done_words answer.now reply.now)) }
+    ensures { OnOk result (text.new.items ≡ text.old.items ++ parts_text form (done_parts answer.now reply.now)) }
 {
-    put_reply_name(text, reply)?;
-    put_named(text, b"entry", answer.position)?;
-    put_drawn(text, answer)?;
-    put_reply_values(alloc, text, reply)?;
+    put_reply_name(text, form, reply)?;
+    put_named(text, form, b"entry", answer.position)?;
+    put_drawn_of(text, form, answer)?;
+    put_reply_values(alloc, text, form, reply)?;
     Ok(())
 }
 
-fn done(alloc: Global, text: &mut Vec<u8>, answer: &Answer) -> Result<(), TextError>
+fn done(alloc: Global, text: &mut Vec<u8>, form: Form, answer: &Answer) -> Result<(), TextError>
     ensures put { OnOk result (HasValues codes.Done answer.now
-        (λ values. text.new.items ≡ text.old.items ++ spaced values)) }
+        (λ values. text.new.items ≡ text.old.items ++ parts_text form values)) }
     ensures lacks { IfErr result (LacksValues codes.Done answer.now) }
 {
     if answer.detail != 0 || answer.key == 0 && answer.number != 0 {
@@ -116,7 +126,7 @@ fn done(alloc: Global, text: &mut Vec<u8>, answer: &Answer) -> Result<(), TextEr
     }
     match read_reply(alloc, answer.body.as_slice()) {
         Ok(reply) => {
-            put_done(alloc, text, answer, &reply)?;
+            put_done(alloc, text, form, answer, &reply)?;
             Ok(())
         }
         Err(PduError::Fault(_)) => Err(TextError::NoAnswer),
@@ -124,9 +134,9 @@ fn done(alloc: Global, text: &mut Vec<u8>, answer: &Answer) -> Result<(), TextEr
     }
 }
 
-fn refused(text: &mut Vec<u8>, answer: &Answer) -> Result<(), TextError>
+fn refused(text: &mut Vec<u8>, form: Form, answer: &Answer) -> Result<(), TextError>
     ensures put { OnOk result (HasValues codes.Refused answer.now
-        (λ values. text.new.items ≡ text.old.items ++ spaced values)) }
+        (λ values. text.new.items ≡ text.old.items ++ parts_text form values)) }
     ensures lacks { IfErr result (LacksValues codes.Refused answer.now) }
 {
     if !is_bare(answer) {
@@ -135,14 +145,15 @@ fn refused(text: &mut Vec<u8>, answer: &Answer) -> Result<(), TextError>
     let Some(refusal) = refusal_detail(answer.detail) else {
         return Err(TextError::NoAnswer);
     };
-    put_named(text, refusal, answer.number)?;
-    put_named(text, b"entry", answer.position)?;
+    put_word(text, form, b"refusal", refusal)?;
+    put_number(text, form, b"number", answer.number)?;
+    put_named(text, form, b"entry", answer.position)?;
     Ok(())
 }
 
-fn layout(text: &mut Vec<u8>, answer: &Answer) -> Result<(), TextError>
+fn layout(text: &mut Vec<u8>, form: Form, answer: &Answer) -> Result<(), TextError>
     ensures put { OnOk result (HasValues codes.Layout answer.now
-        (λ values. text.new.items ≡ text.old.items ++ spaced values)) }
+        (λ values. text.new.items ≡ text.old.items ++ parts_text form values)) }
     ensures lacks { IfErr result (LacksValues codes.Layout answer.now) }
 {
     if !is_bare(answer) || answer.number != 0 {
@@ -151,14 +162,14 @@ fn layout(text: &mut Vec<u8>, answer: &Answer) -> Result<(), TextError>
     let Some(fault) = layout_detail(answer.detail) else {
         return Err(TextError::NoAnswer);
     };
-    put_word(text, fault)?;
-    put_named(text, b"position", answer.position)?;
+    put_word(text, form, b"fault", fault)?;
+    put_named(text, form, b"position", answer.position)?;
     Ok(())
 }
 
-fn state(text: &mut Vec<u8>, answer: &Answer) -> Result<(), TextError>
+fn state(text: &mut Vec<u8>, form: Form, answer: &Answer) -> Result<(), TextError>
     ensures put { OnOk result (HasValues codes.State answer.now
-        (λ values. text.new.items ≡ text.old.items ++ spaced values)) }
+        (λ values. text.new.items ≡ text.old.items ++ parts_text form values)) }
     ensures lacks { IfErr result (LacksValues codes.State answer.now) }
 {
     if !is_bare(answer) || answer.number != 0 {
@@ -167,60 +178,60 @@ fn state(text: &mut Vec<u8>, answer: &Answer) -> Result<(), TextError>
     let Some(state) = state_detail(answer.detail) else {
         return Err(TextError::NoAnswer);
     };
-    put_word(text, state)?;
-    put_named(text, b"position", answer.position)?;
+    put_word(text, form, b"state", state)?;
+    put_named(text, form, b"position", answer.position)?;
     Ok(())
 }
 
 /// Puts the highest number that was accepted, and the width of the window.
-fn put_window(text: &mut Vec<u8>, body: &[u8]) -> Result<(), NoMemory>
+fn put_window(text: &mut Vec<u8>, form: Form, body: &[u8]) -> Result<(), NoMemory>
     requires { length body.now ≡ 16 }
-    ensures { OnOk result (text.new.items ≡ text.old.items ++ spaced (window_words body.now)) }
+    ensures { OnOk result (text.new.items ≡ text.old.items ++ parts_text form (window_parts body.now)) }
 {
     let high = number_at(body, 0);
     let width = number_at(body, 8);
-    put_named(text, b"high", high)?;
-    put_named(text, b"width", width)?;
+    put_named(text, form, b"high", high)?;
+    put_named(text, form, b"width", width)?;
     Ok(())
 }
 
-fn number(text: &mut Vec<u8>, answer: &Answer) -> Result<(), TextError>
+fn number(text: &mut Vec<u8>, form: Form, answer: &Answer) -> Result<(), TextError>
     ensures put { OnOk result (HasValues codes.Number answer.now
-        (λ values. text.new.items ≡ text.old.items ++ spaced values)) }
+        (λ values. text.new.items ≡ text.old.items ++ parts_text form values)) }
     ensures lacks { IfErr result (LacksValues codes.Number answer.now) }
 {
     let body = answer.body.as_slice();
     if answer.detail != 0 || body.len() != 16 {
         return Err(TextError::NoAnswer);
     }
-    put_numbered(text, answer, b"entry")?;
-    put_window(text, body)?;
+    put_numbered(text, form, answer, b"entry")?;
+    put_window(text, form, body)?;
     Ok(())
 }
 
-fn exhausted(text: &mut Vec<u8>, answer: &Answer) -> Result<(), TextError>
+fn exhausted(text: &mut Vec<u8>, form: Form, answer: &Answer) -> Result<(), TextError>
     ensures put { OnOk result (HasValues codes.Exhausted answer.now
-        (λ values. text.new.items ≡ text.old.items ++ spaced values)) }
+        (λ values. text.new.items ≡ text.old.items ++ parts_text form values)) }
     ensures lacks { IfErr result (LacksValues codes.Exhausted answer.now) }
 {
     if answer.detail != 0 || !answer.body.as_slice().is_empty() {
         return Err(TextError::NoAnswer);
     }
-    put_numbered(text, answer, b"epoch")?;
+    put_numbered(text, form, answer, b"epoch")?;
     Ok(())
 }
 
 /// Puts the number by its name, and the count of entries.
-fn counting(text: &mut Vec<u8>, answer: &Answer, name: &[u8]) -> Result<(), TextError>
+fn counting(text: &mut Vec<u8>, form: Form, answer: &Answer, name: &[u8]) -> Result<(), TextError>
     ensures put { OnOk result (IsCounting answer.now
-        × (text.new.items ≡ text.old.items ++ spaced (counting_words answer.now name.now))) }
+        × (text.new.items ≡ text.old.items ++ parts_text form (counting_parts answer.now name.now))) }
     ensures lacks { IfErr result (LacksUnlessNoMemory (IsCounting answer.now)) }
 {
     if answer.detail != 0 || !is_bare(answer) {
         return Err(TextError::NoAnswer);
     }
-    put_named(text, name, answer.number)?;
-    put_named(text, b"entries", answer.position)?;
+    put_named(text, form, name, answer.number)?;
+    put_named(text, form, b"entries", answer.position)?;
     Ok(())
 }
 
@@ -235,9 +246,9 @@ fn no_memory(answer: &Answer) -> Result<(), TextError>
     }
 }
 
-fn end(text: &mut Vec<u8>, answer: &Answer) -> Result<(), TextError>
+fn end(text: &mut Vec<u8>, form: Form, answer: &Answer) -> Result<(), TextError>
     ensures put { OnOk result (HasValues codes.End answer.now
-        (λ values. text.new.items ≡ text.old.items ++ spaced values)) }
+        (λ values. text.new.items ≡ text.old.items ++ parts_text form values)) }
     ensures lacks { IfErr result (LacksValues codes.End answer.now) }
 {
     if !is_bare(answer) || answer.detail > SESSION_FULL {
@@ -247,11 +258,11 @@ fn end(text: &mut Vec<u8>, answer: &Answer) -> Result<(), TextError>
     if name.is_none() && answer.number != 0 {
         return Err(TextError::NoAnswer);
     }
-    put_named(text, b"status", u64::from(answer.detail))?;
-    put_named(text, b"entries", answer.position)?;
+    put_named(text, form, b"status", u64::from(answer.detail))?;
+    put_named(text, form, b"entries", answer.position)?;
     match name {
         Some(name) => {
-            put_named(text, name, answer.number)?;
+            put_named(text, form, name, answer.number)?;
             Ok(())
         }
         None => Ok(()),
@@ -262,26 +273,30 @@ fn end(text: &mut Vec<u8>, answer: &Answer) -> Result<(), TextError>
 pub(crate) fn put_values(
     alloc: Global,
     text: &mut Vec<u8>,
+    form: Form,
     code: Code,
     answer: &Answer,
 ) -> Result<(), TextError>
-    ensures put { OnOk result (HasValues code answer.now (λ values. text.new.items ≡ text.old.items ++ spaced values)) }
+    ensures put { OnOk result (HasValues code answer.now
+        (λ values. text.new.items ≡ text.old.items ++ parts_text form values)) }
     ensures lacks { IfErr result (LacksValues code answer.now) }
 {
     match code {
-        Code::Protected => protected(alloc, text, answer),
-        Code::Accepted => accepted(alloc, text, answer),
-        Code::Done => done(alloc, text, answer),
-        Code::Refused => refused(text, answer),
-        Code::Layout => layout(text, answer),
-        Code::State => state(text, answer),
-        Code::Number => number(text, answer),
-        Code::Exhausted => exhausted(text, answer),
-        Code::Clear | Code::Channel => plain(text, answer, b"position"),
-        Code::Spi | Code::Direction | Code::Coverage | Code::Mac => plain(text, answer, b"entry"),
-        Code::JournalFull => counting(text, answer, b"slots"),
-        Code::SiteFault | Code::Stopped => counting(text, answer, b"faults"),
+        Code::Protected => protected(alloc, text, form, answer),
+        Code::Accepted => accepted(alloc, text, form, answer),
+        Code::Done => done(alloc, text, form, answer),
+        Code::Refused => refused(text, form, answer),
+        Code::Layout => layout(text, form, answer),
+        Code::State => state(text, form, answer),
+        Code::Number => number(text, form, answer),
+        Code::Exhausted => exhausted(text, form, answer),
+        Code::Clear | Code::Channel => plain(text, form, answer, b"position"),
+        Code::Spi | Code::Direction | Code::Coverage | Code::Mac => plain(
+            text, form, answer, b"entry",
+        ),
+        Code::JournalFull => counting(text, form, answer, b"slots"),
+        Code::SiteFault | Code::Stopped => counting(text, form, answer, b"faults"),
         Code::NoMemory => no_memory(answer),
-        Code::End => end(text, answer),
+        Code::End => end(text, form, answer),
     }
 }

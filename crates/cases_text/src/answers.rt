@@ -1,27 +1,28 @@
 // Answers, as lines.
-use answer_text::{AnswersEnd, Listing};
+use answer_text::{AnswersEnd, Form, Listing};
 use case_lines::octets;
 use sdls_outside::MemSource;
 use std::alloc::Global;
 use std::str;
 
 /// Puts the lines of the octets, which come in pieces of 7, and answers why no line follows.
-fn put_lines(alloc: Global, text: &mut Vec<u8>, octets: Vec<u8>) -> AnswersEnd {
+fn put_lines(alloc: Global, form: Form, text: &mut Vec<u8>, octets: Vec<u8>) -> AnswersEnd {
     let mut source = MemSource::new(octets, 7, Vec::new(alloc));
     let mut listing = Listing::new();
     for _ in 0..u64::MAX {
-        if let Some(end) = listing.next_line(alloc, &mut source, text) {
+        if let Some(end) = listing.next_line(alloc, form, &mut source, text) {
             return end;
         }
     }
     AnswersEnd::Whole
 }
 
-/// The lines of a case, one behind the other with `|` where one ends, and its end.
-pub fn answer(alloc: Global, case: &str) -> anyhow::Result<String> {
+/// The lines of a case in this form, one behind the other with `|` where one ends, and its end.
+pub fn answer(alloc: Global, form: Form, case: &str) -> anyhow::Result<String> {
     let mut text = Vec::new(alloc);
     let end = put_lines(
         alloc,
+        form,
         &mut text,
         octets(alloc, &mut case.split_whitespace())?,
     );

@@ -4,7 +4,7 @@ use sdls_outside::{MemSite, MemSource};
 use sha2::{Digest, Sha256};
 use std::alloc::Global;
 use std::str::SplitWhitespace;
-use text_streams::{End, put_answers, put_lines, put_records};
+use text_streams::{End, Form, put_answers, put_lines, put_records};
 
 /// The call that is to fail, as a list.
 fn failing(alloc: Global, words: &mut SplitWhitespace<'_>) -> anyhow::Result<Vec<u64>> {
@@ -28,7 +28,8 @@ pub fn answer(alloc: Global, case: &str) -> anyhow::Result<String> {
     let end = match call {
         "records" => put_records(alloc, &mut source, &mut sink),
         "show" => put_lines(alloc, &mut source, &mut sink),
-        _ => put_answers(alloc, &mut source, &mut sink),
+        "json" => put_answers(alloc, Form::Json, &mut source, &mut sink),
+        _ => put_answers(alloc, Form::Words, &mut source, &mut sink),
     };
     let end = told(alloc, end)?;
     let put = sink.sunk();

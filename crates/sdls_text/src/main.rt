@@ -1,6 +1,7 @@
 //! The program `sdls_text`: recorded input and answers as text. `sdls_text records` reads lines from standard input and
 //! writes the recorded input that they say; `sdls_text show` prints the lines of recorded input; `sdls_text answers`
-//! reads answers and prints their lines. `text_streams` decides what is written.
+//! reads answers and prints their lines, and behind `--json` each as a JSON object. `text_streams` decides what is
+//! written.
 #![tactic(auto)]
 
 use sdls_outside::{FileSite, StdSource};
@@ -8,18 +9,18 @@ use std::alloc::AllocError;
 use std::process::ExitCode;
 use std::rt::Env;
 use std::{env, io};
-use text_streams::{End, put_answers, put_lines, put_records};
+use text_streams::{End, Form, put_answers, put_lines, put_records};
 
 /// The page of help, which launch.sh prints too.
 const HELP: &str = "\
 usage: sdls_text records < TEXT > INPUT
        sdls_text show < INPUT > TEXT
-       sdls_text answers < ANSWERS > TEXT
+       sdls_text answers [--json] < ANSWERS > TEXT
 Recorded input and answers of `sdls run`, as text.
 
   records      reads lines of text, and writes the recorded input that they say
   show         reads recorded input, and prints its lines
-  answers      reads answers, and prints a line for each
+  answers      reads answers, and prints a line for each; with --json each line is a JSON object
   --help       prints this page
   --version    prints the version
 
@@ -34,7 +35,8 @@ Status: 0 done; 1 a line, an item or an answer is at fault; 2 other words; 4 sta
 Examples:
   echo 'protect 0 0 002a140509c3' | sdls_text records > input.bin
   sdls_text show < input.bin
-  sdls run < input.bin | sdls_text answers";
+  sdls run < input.bin | sdls_text answers
+  sdls run < input.bin | sdls_text answers --json";
 
 /// What the program is; from what it was built its launcher says.
 const VERSION: &str = "sdls_text for recorded input SDLSREC1";
@@ -44,7 +46,7 @@ const VERSION: &str = "sdls_text for recorded input SDLSREC1";
 enum Mode {
     Records,
     Show,
-    Answers,
+    Answers(Form),
     Help,
     Version,
 }
@@ -58,15 +60,18 @@ fn words<R: Env + AllocGlobal>(rt: &R) -> Result<Vec<String>, AllocError> {
     }
 }
 
-/// What is asked for by the one word that there is to be.
+/// What is asked for by the one word that there is to be; `answers` may have an option behind it.
 fn asked(words: &[String]) -> Option<Mode> {
+    if words.len() == 2 && words[0].as_str() == "answers" && words[1].as_str() == "--json" {
+        return Some(Mode::Answers(Form::Json));
+    }
     if words.len() != 1 {
         return None;
     }
     match words[0].as_str() {
         "records" => Some(Mode::Records),
         "show" => Some(Mode::Show),
-        "answers" => Some(Mode::Answers),
+        "answers" => Some(Mode::Answers(Form::Words)),
         "--help" => Some(Mode::Help),
         "--version" => Some(Mode::Version),
         _ => None,
@@ -113,7 +118,7 @@ fn main(rt: HostRuntime) -> ExitCode {
         // of this site nothing but its sink is used, which is standard output
         Mode::Records => put_records(alloc, &mut source, &mut FileSite::new(rt)),
         Mode::Show => put_lines(alloc, &mut source, &mut FileSite::new(rt)),
-        Mode::Answers => put_answers(alloc, &mut source, &mut FileSite::new(rt)),
+        Mode::Answers(form) => put_answers(alloc, form, &mut source, &mut FileSite::new(rt)),
     };
     let status = end.status();
     match print_end(&rt, end) {

@@ -6,33 +6,33 @@ use Rattle.record_io.specs.declared.answers.Answer.{Answer}
 use Rattle.record_io.specs.Answers.{answer_octets, answers_octets}
 use Rattle.answer_text.specs.declared.listing.AnswersEnd.{AnswersEnd}
 use Rattle.answer_text.specs.declared.listing.AnswersEnd.TheVariants as ends
-use Rattle.answer_text.specs.Words.{line_octets}
+use Rattle.answer_text.specs.declared.form.Form.{Form}
 use Rattle.answer_text.specs.Line.{HasLine}
 use Rattle.answer_text.specs.Listing.{EndsAt, Place, behind}
 use Rattle.text_streams.specs.declared.ends.End.{End}
 use Rattle.text_streams.specs.declared.ends.End.TheVariants.{Done, LineFault, LongLine, CutAnswer, NoAnswer, NoItem, SourceFault, OutputFault, NoMemory}
 use Rattle.text_streams.specs.AnswerLines.{AreLines, FailsNext, PutsAnswers, PutsLine, TakesLine, end_of, first_place}
 
-pub fails_of : (end : AnswersEnd) (place : Place) (left left_new old new : List ℕ) → EndsAt place.offset left left_new end
-    → new ≡ old → FailsNext place left old new (end_of end)
-fails_of ends.Whole place left left_new old new is same = (is, same)
-fails_of (ends.CutAt at) place left left_new old new is same = (is, same)
-fails_of (ends.NoAnswerAt at) place left left_new old new is same = ((is.0, (left_new, is.1)), same)
-fails_of ends.SourceFault place left left_new old new is same = same
-fails_of ends.NoMemory place left left_new old new is same = same
+pub fails_of : (form : Form) (end : AnswersEnd) (place : Place) (left left_new old new : List ℕ) → EndsAt place.offset left left_new end
+    → new ≡ old → FailsNext form place left old new (end_of end)
+fails_of form ends.Whole place left left_new old new is same = (is, same)
+fails_of form (ends.CutAt at) place left left_new old new is same = (is, same)
+fails_of form (ends.NoAnswerAt at) place left left_new old new is same = ((is.0, (left_new, is.1)), same)
+fails_of form ends.SourceFault place left left_new old new is same = same
+fails_of form ends.NoMemory place left left_new old new is same = same
 
 -- ---- one line more
 
-lines_more : (place last : Place) (answers : List Answer) (answer : Answer) (text line : List ℕ) → AreLines place answers last text
-    → HasLine last.index answer (λ words. line ≡ line_octets words)
-    → AreLines place (answers ++ answer ∷ []) (behind last answer) (text ++ line)
-lines_more place last [] answer text line (at, none) has =
+lines_more : (form : Form) (place last : Place) (answers : List Answer) (answer : Answer) (text line : List ℕ) → AreLines form place answers last text
+    → HasLine form last.index answer (λ its. line ≡ its)
+    → AreLines form place (answers ++ answer ∷ []) (behind last answer) (text ++ line)
+lines_more form place last [] answer text line (at, none) has =
     rw (at, none) (line, [], rw at at has, (refl, refl), sym (append-nil line))
-lines_more place last (first ∷ answers) answer text line (front, rest, has_front, more, is) has = (
+lines_more form place last (first ∷ answers) answer text line (front, rest, has_front, more, is) has = (
   front,
   rest ++ line,
   has_front,
-  lines_more (behind place first) last answers answer rest line more has,
+  lines_more form (behind place first) last answers answer rest line more has,
   ap (λ text. text ++ line) is ∙ append_assoc front rest line,
 )
 
@@ -43,15 +43,15 @@ octets_more (first ∷ answers) answer =
     ∙ sym (append_assoc (answer_octets first) (answers_octets answers) (answer_octets answer))
 
 -- the lines of so many answers
-pub record Lines (left left_now : List ℕ) (place : Place) (count : ℕ) (text : List ℕ) : Type 0 where
+pub record Lines (form : Form) (left left_now : List ℕ) (place : Place) (count : ℕ) (text : List ℕ) : Type 0 where
   pub answers : List Answer
   pub taken : left ≡ answers_octets answers ++ left_now
   pub counted : length answers ≡ count
-  pub lines : AreLines first_place answers place text
+  pub lines : AreLines form first_place answers place text
 
-more_lines : (left left_now left_next text line : List ℕ) (place place_next : Place) (count : ℕ) → Lines left left_now place count text
-    → TakesLine place place_next left_now left_next line → Lines left left_next place_next (count + 1) (text ++ line)
-more_lines left left_now left_next text line place place_next count so_far takes =
+more_lines : (form : Form) (left left_now left_next text line : List ℕ) (place place_next : Place) (count : ℕ) → Lines form left left_now place count text
+    → TakesLine form place place_next left_now left_next line → Lines form left left_next place_next (count + 1) (text ++ line)
+more_lines form left left_now left_next text line place place_next count so_far takes =
     let longer = length-append so_far.answers (takes.answer ∷ []) in let counted = so_far.counted in
     record {
       answers = so_far.answers ++ takes.answer ∷ [];
@@ -59,21 +59,21 @@ more_lines left left_now left_next text line place place_next count so_far takes
           ∙ sym (append_assoc (answers_octets so_far.answers) (answer_octets takes.answer) left_next)
           ∙ ap (λ octets. octets ++ left_next) (sym (octets_more so_far.answers takes.answer));
       counted = omega (arith, longer, counted);
-      lines = rw takes.passed (lines_more first_place place so_far.answers takes.answer text line so_far.lines takes.put);
+      lines = rw takes.passed (lines_more form first_place place so_far.answers takes.answer text line so_far.lines takes.put);
     }
 
 -- they were put
-pub record Progress (left old left_now now : List ℕ) (place : Place) (count : ℕ) : Type 0 where
+pub record Progress (form : Form) (left old left_now now : List ℕ) (place : Place) (count : ℕ) : Type 0 where
   pub text : List ℕ
-  pub lines : Lines left left_now place count text
+  pub lines : Lines form left left_now place count text
   pub put : now ≡ old ++ text
 
-pub forth : (left old left_now now left_next next : List ℕ) (place place_next : Place) (count : ℕ)
-    → Progress left old left_now now place count → PutsLine place place_next left_now left_next now next
-    → Progress left old left_next next place_next (count + 1)
-forth left old left_now now left_next next place place_next count so_far (line, takes, put) = record {
+pub forth : (form : Form) (left old left_now now left_next next : List ℕ) (place place_next : Place) (count : ℕ)
+    → Progress form left old left_now now place count → PutsLine form place place_next left_now left_next now next
+    → Progress form left old left_next next place_next (count + 1)
+forth form left old left_now now left_next next place place_next count so_far (line, takes, put) = record {
   text = so_far.text ++ line;
-  lines = more_lines left left_now left_next so_far.text line place place_next count so_far.lines takes;
+  lines = more_lines form left left_now left_next so_far.text line place place_next count so_far.lines takes;
   put = put ∙ ap (λ octets. octets ++ line) so_far.put ∙ append_assoc old so_far.text line;
 }
 
@@ -88,9 +88,9 @@ between_on old text line now new is between =
       prefix = between.prefix ∙ ap (λ octets. take (length new) octets) (ap (λ octets. octets ++ line) is ∙ append_assoc old text line);
     }
 
-pub ends_as : (end : End) (left old left_now now new : List ℕ) (place : Place) (count : ℕ)
-    → Progress left old left_now now place count → FailsNext place left_now now new end → PutsAnswers left old new end
-ends_as Done left old left_now now new place count so_far fails = record {
+pub ends_as : (form : Form) (end : End) (left old left_now now new : List ℕ) (place : Place) (count : ℕ)
+    → Progress form left old left_now now place count → FailsNext form place left_now now new end → PutsAnswers form left old new end
+ends_as form Done left old left_now now new place count so_far fails = record {
   answers = so_far.lines.answers;
   left_new = left_now;
   taken = so_far.lines.taken;
@@ -100,9 +100,9 @@ ends_as Done left old left_now now new place count so_far fails = record {
   ends = inl fails.0;
   put_is = fails.1 ∙ so_far.put;
 }
-ends_as (LineFault at fault) left old left_now now new place count so_far fails = absurd fails
-ends_as (LongLine at) left old left_now now new place count so_far fails = absurd fails
-ends_as (CutAnswer at) left old left_now now new place count so_far fails = record {
+ends_as form (LineFault at fault) left old left_now now new place count so_far fails = absurd fails
+ends_as form (LongLine at) left old left_now now new place count so_far fails = absurd fails
+ends_as form (CutAnswer at) left old left_now now new place count so_far fails = record {
   answers = so_far.lines.answers;
   left_new = left_now;
   taken = so_far.lines.taken;
@@ -112,7 +112,7 @@ ends_as (CutAnswer at) left old left_now now new place count so_far fails = reco
   ends = fails.0;
   put_is = fails.1 ∙ so_far.put;
 }
-ends_as (NoAnswer at) left old left_now now new place count so_far fails = record {
+ends_as form (NoAnswer at) left old left_now now new place count so_far fails = record {
   answers = so_far.lines.answers;
   left_new = left_now;
   taken = so_far.lines.taken;
@@ -122,8 +122,8 @@ ends_as (NoAnswer at) left old left_now now new place count so_far fails = recor
   ends = fails.0;
   put_is = fails.1 ∙ so_far.put;
 }
-ends_as (NoItem at) left old left_now now new place count so_far fails = absurd fails
-ends_as SourceFault left old left_now now new place count so_far fails = record {
+ends_as form (NoItem at) left old left_now now new place count so_far fails = absurd fails
+ends_as form SourceFault left old left_now now new place count so_far fails = record {
   answers = so_far.lines.answers;
   left_new = left_now;
   taken = so_far.lines.taken;
@@ -133,8 +133,8 @@ ends_as SourceFault left old left_now now new place count so_far fails = record 
   ends = tt;
   put_is = fails ∙ so_far.put;
 }
-ends_as OutputFault left old left_now now new place count so_far (place_next, left_next, line, takes, between) =
-    let more = more_lines left left_now left_next so_far.text line place place_next count so_far.lines takes in
+ends_as form OutputFault left old left_now now new place count so_far (place_next, left_next, line, takes, between) =
+    let more = more_lines form left left_now left_next so_far.text line place place_next count so_far.lines takes in
     record {
       answers = more.answers;
       left_new = left_next;
@@ -145,7 +145,7 @@ ends_as OutputFault left old left_now now new place count so_far (place_next, le
       ends = tt;
       put_is = between_on old so_far.text line now new so_far.put between;
     }
-ends_as NoMemory left old left_now now new place count so_far fails = record {
+ends_as form NoMemory left old left_now now new place count so_far fails = record {
   answers = so_far.lines.answers;
   left_new = left_now;
   taken = so_far.lines.taken;

@@ -8,7 +8,7 @@ use Rattle.answer_text.specs.declared.listing.AnswersEnd.TheVariants as ends
 use Rattle.answer_text.specs.declared.listing.AnswersEnd.TheVariants.{Whole, CutAt, NoAnswerAt}
 use Rattle.answer_text.specs.declared.reading.NextAnswer.TheVariants as next
 use Rattle.answer_text.specs.Standing.{Stands}
-use Rattle.answer_text.specs.Words.{line_octets}
+use Rattle.answer_text.specs.declared.form.Form.{Form}
 use Rattle.answer_text.specs.Line.{HasLine}
 use Rattle.answer_text.specs.Listing.{AddsLine, Place, StandsForeign, behind}
 use Rattle.text_streams.specs.declared.ends.End.{End}
@@ -20,12 +20,12 @@ use Rattle.text_streams.specs.TextLine.{WasPut}
 abbrev pub first_place : Place
 first_place = record { index = 0; offset = 0 }
 
--- the text is the lines of these answers, one after the other, from one place to another
-abbrev pub AreLines : Place → List Answer → Place → List ℕ → Type 0
-AreLines place [] last text = (last ≡ place) × (text ≡ [])
-AreLines place (answer ∷ answers) last text = (line rest : List ℕ)
-    × HasLine place.index answer (λ words. line ≡ line_octets words)
-    × AreLines (behind place answer) answers last rest × (text ≡ line ++ rest)
+-- the text is the lines of these answers in this form, one after the other, from one place to another
+abbrev pub AreLines : Form → Place → List Answer → Place → List ℕ → Type 0
+AreLines form place [] last text = (last ≡ place) × (text ≡ [])
+AreLines form place (answer ∷ answers) last text = (line rest : List ℕ)
+    × HasLine form place.index answer (λ its. line ≡ its)
+    × AreLines form (behind place answer) answers last rest × (text ≡ line ++ rest)
 
 -- what is left begins with an answer that is none of the formats, or with a header that says too many octets
 abbrev pub BeginsForeign : List ℕ → Type 0
@@ -46,26 +46,26 @@ EndsNextAnswer place left OutputFault = ⊥
 EndsNextAnswer place left NoMemory = ⊤
 
 -- the next answer was taken, and its line is this
-abbrev pub TakesLine : Place → Place → List ℕ → List ℕ → List ℕ → Type 0
-TakesLine place place_new left left_new line = AddsLine place place_new left left_new [] line
+abbrev pub TakesLine : Form → Place → Place → List ℕ → List ℕ → List ℕ → Type 0
+TakesLine form place place_new left left_new line = AddsLine form place place_new left left_new [] line
 
 -- the next answer was taken, and its line put
-abbrev pub PutsLine : Place → Place → List ℕ → List ℕ → List ℕ → List ℕ → Type 0
-PutsLine place place_new left left_new old new = (line : List ℕ) × TakesLine place place_new left left_new line
-    × (new ≡ old ++ line)
+abbrev pub PutsLine : Form → Place → Place → List ℕ → List ℕ → List ℕ → List ℕ → Type 0
+PutsLine form place place_new left left_new old new = (line : List ℕ)
+    × TakesLine form place place_new left left_new line × (new ≡ old ++ line)
 
 -- the next answer was taken, and of its line a front was put; or no line follows
-abbrev pub FailsNext : Place → List ℕ → List ℕ → List ℕ → End → Type 0
-FailsNext place left old new OutputFault = (place_new : Place) × (left_new line : List ℕ)
-    × TakesLine place place_new left left_new line × Between old (old ++ line) new
-FailsNext place left old new Done = EndsNextAnswer place left Done × (new ≡ old)
-FailsNext place left old new (LineFault at fault) = ⊥
-FailsNext place left old new (LongLine at) = ⊥
-FailsNext place left old new (CutAnswer at) = EndsNextAnswer place left (CutAnswer at) × (new ≡ old)
-FailsNext place left old new (NoAnswer at) = EndsNextAnswer place left (NoAnswer at) × (new ≡ old)
-FailsNext place left old new (NoItem at) = ⊥
-FailsNext place left old new SourceFault = new ≡ old
-FailsNext place left old new NoMemory = new ≡ old
+abbrev pub FailsNext : Form → Place → List ℕ → List ℕ → List ℕ → End → Type 0
+FailsNext form place left old new OutputFault = (place_new : Place) × (left_new line : List ℕ)
+    × TakesLine form place place_new left left_new line × Between old (old ++ line) new
+FailsNext form place left old new Done = EndsNextAnswer place left Done × (new ≡ old)
+FailsNext form place left old new (LineFault at fault) = ⊥
+FailsNext form place left old new (LongLine at) = ⊥
+FailsNext form place left old new (CutAnswer at) = EndsNextAnswer place left (CutAnswer at) × (new ≡ old)
+FailsNext form place left old new (NoAnswer at) = EndsNextAnswer place left (NoAnswer at) × (new ≡ old)
+FailsNext form place left old new (NoItem at) = ⊥
+FailsNext form place left old new SourceFault = new ≡ old
+FailsNext form place left old new NoMemory = new ≡ old
 
 -- how a run ends if no line follows
 abbrev pub end_of : AnswersEnd → End
@@ -92,14 +92,14 @@ EndsBehindAnswers count place left SourceFault = ⊤
 EndsBehindAnswers count place left OutputFault = ⊤
 EndsBehindAnswers count place left NoMemory = ⊤
 
--- The text that was put is the lines of the answers, in their order, up to the end of the octets, or to the first that
--- are no whole answer, whose offset is told; if the output failed, a front of these lines was put.
-pub record PutsAnswers (left old new : List ℕ) (end : End) : Type 0 where
+-- The text that was put is the lines of the answers in this form, in their order, up to the end of the octets, or to
+-- the first that are no whole answer, whose offset is told; if the output failed, a front of these lines was put.
+pub record PutsAnswers (form : Form) (left old new : List ℕ) (end : End) : Type 0 where
   pub answers : List Answer
   pub left_new : List ℕ
   pub taken : left ≡ answers_octets answers ++ left_new
   pub place : Place
   pub text : List ℕ
-  pub lines : AreLines first_place answers place text
+  pub lines : AreLines form first_place answers place text
   pub ends : EndsBehindAnswers (length answers) place left_new end
   pub put_is : WasPut end text old new

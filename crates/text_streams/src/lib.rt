@@ -2,7 +2,8 @@
 //! what is not yet put is bounded, whatever the length of the input.
 //!
 //! [`put_records`] puts the recorded input that lines of text say, [`put_lines`] the lines of recorded input, and
-//! [`put_answers`] the lines of answers. Each says by its [`End`] why the input was read no further.
+//! [`put_answers`] the lines of answers, as words or as JSON objects. Each says by its [`End`] why the input was read
+//! no further.
 #![tactic(auto)]
 
 mod answers;
@@ -13,6 +14,7 @@ mod reading;
 mod records;
 mod show;
 
+pub use answer_text::Form;
 pub use answers::put_answers;
 pub use ends::End;
 pub use records::put_records;

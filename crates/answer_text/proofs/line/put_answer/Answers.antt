@@ -1,27 +1,27 @@
-use Rattle.std.proofs.Common.{◌≡◌, ◌++◌, ℕ, List, codes, sym, ap, ◌∙◌, append_assoc}
-use Rattle.answer_text.specs.Words.{spaced, joined, line_octets}
-use Rattle.answer_text.specs.Line.{first_words}
-use Rattle.answer_text.proofs.Spacing.{first_joined}
-use Rattle.answer_text.proofs.ValueWords.{values_more}
+use Rattle.std.proofs.Common.{◌≡◌, ◌++◌, ℕ, List, sym, ap, ◌∙◌, append_assoc}
+use Rattle.answer_text.specs.Part.{Part, parts_text}
+use Rattle.answer_text.specs.Line.{end_text, front_text, line_text}
+use Rattle.answer_text.proofs.ValueParts.{values_more}
 use Rattle.answer_text.proofs.line.put_answer.Goals as goal
 
--- what is put first, then the values, then the line feed
-line_of : (old first values text_first text_values text : List ℕ) (words : List ℕ) → text_first ≡ old ++ first → text_values ≡ text_first ++ values
-    → text ≡ text_values ++ codes "\n" → words ≡ first ++ values → text ≡ old ++ (words ++ codes "\n")
-line_of old first values text_first text_values text words a b d e =
-    d ∙ ap (λ xs. xs ++ codes "\n") (b ∙ ap (λ xs. xs ++ values) a ∙ append_assoc old first values ∙ ap (λ xs. old ++ xs) (sym e))
-    ∙ append_assoc old words (codes "\n")
+-- how it begins, then its parts, then how it ends
+line_of : (old front parts end text_front text_parts text : List ℕ) → text_front ≡ old ++ front → text_parts ≡ text_front ++ parts
+    → text ≡ text_parts ++ end → text ≡ old ++ (front ++ (parts ++ end))
+line_of old front parts end text_front text_parts text a b d =
+    d ∙ ap (λ xs. xs ++ end) (b ∙ ap (λ xs. xs ++ parts) a) ∙ append_assoc (old ++ front) parts end ∙ append_assoc old front (parts ++ end)
 
 pub returns-clause-put : goal.returns-clause-put
 returns-clause-put c =
     let old = c.args.text.now.items in
-    let front = first_words c.args.index c.in-Some.code in
-    let text = c.put_octets.new.text.items in
-    let made : (values : List (List ℕ)) → c.put_values.new.text.items ≡ c.put_first.new.text.items ++ spaced values
-    → text ≡ old ++ line_octets (front ++ values) =
-    λ values is. line_of old (joined front) (spaced values) _ _ text (joined (front ++ values)) c.in_ok-put_first.ensures is
-    c.in_ok-put_octets.ensures (first_joined c.args.index c.in-Some.code values) in
+    let form = c.args.form in
+    let index = c.args.index in
+    let code = c.in-Some.code in
+    let text = c.put_end.new.text.items in
+    let made : (values : List Part) → c.put_values.new.text.items ≡ c.put_front.new.text.items ++ parts_text form values
+    → text ≡ old ++ line_text form index code values =
+    λ values is. line_of old (front_text form index code) (parts_text form values) (end_text form) _ _ text c.in_ok-put_front.ensures is
+    c.in_ok-put_end.ensures in
     rw (sym c.of.ensures ∙ c.in-Some.is)
-    (values_more c.in-Some.code c.args.answer.now
-    (λ values. c.put_values.new.text.items ≡ c.put_first.new.text.items ++ spaced values)
-    (λ values. text ≡ old ++ line_octets (front ++ values)) made c.in_ok-put_values.ensures.put)
+    (values_more code c.args.answer.now
+    (λ values. c.put_values.new.text.items ≡ c.put_front.new.text.items ++ parts_text form values)
+    (λ values. text ≡ old ++ line_text form index code values) made c.in_ok-put_values.ensures.put)

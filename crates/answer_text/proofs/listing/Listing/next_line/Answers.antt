@@ -2,7 +2,7 @@ use Rattle.std.proofs.Common.{◌≡◌, inr, rules}
 use Rattle.answer_text.specs.declared.error.TextError.TheVariants as errors
 use Rattle.answer_text.specs.declared.reading.NextAnswer.TheVariants as nexts
 use Rattle.answer_text.proofs.Fronts.{answer_stands}
-use Rattle.answer_text.proofs.ValueWords.{no_line}
+use Rattle.answer_text.proofs.ValueParts.{no_line}
 use Rattle.answer_text.proofs.listing.Listing.next_line.Goals as goal
 
 pub returns-in-Ok-clause-adds : goal.returns-in-Ok-clause-adds
@@ -22,6 +22,6 @@ returns-in-Err-NoAnswer-clause-ends g c told =
       inr (record {
         answer = answer;
         taken = taken;
-        foreign = no_line c.in-Err-NoAnswer.field-0 c.self.inside.index answer error c.in-Err-NoAnswer.ensures.lacks;
+        foreign = no_line c.in-Err-NoAnswer.field-0 answer error c.in-Err-NoAnswer.ensures.lacks;
       }),
     )

@@ -1,0 +1,81 @@
+-- What a line says of an answer, part by part, and the two forms in which a part is printed (profile).
+use Rattle.std.specs.Prelude.{ℕ, codes, decimal, List, [], ◌∷◌, ◌++◌}
+use Rattle.std.specs.List.{flat_map}
+use Rattle.hex.specs.Hex.{encode_lower}
+use Rattle.sdls_base.specs.declared.states.KeyState.{KeyState}
+use Rattle.text_words.specs.Words.{octets_word, key_state_word}
+use Rattle.answer_text.specs.declared.form.Form.{Form}
+use Rattle.answer_text.specs.declared.form.Form.TheVariants.{Words, Json}
+
+-- A part of what a line says: a number by its name; a number or a word whose name the form of words leaves out; octets
+-- by their name; the number that was drawn for a command, with its key; the rows of an inventory, keys and states.
+pub data Part : Type 0 where
+  named : List ℕ → ℕ → Part
+  number : List ℕ → ℕ → Part
+  word : List ℕ → List ℕ → Part
+  octets : List ℕ → List ℕ → Part
+  drawn : ℕ → ℕ → Part
+  rows : List (ℕ × KeyState) → Part
+
+-- a word behind a space
+abbrev pub spaced : List ℕ → List ℕ
+spaced text = codes " " ++ text
+
+-- a key with its state, in words
+abbrev pub row_words : ℕ × KeyState → List ℕ
+row_words row = spaced (decimal row.0) ++ spaced (key_state_word row.1)
+
+-- a part in words, a space before each
+abbrev pub words_text : Part → List ℕ
+words_text (named name count) = spaced name ++ spaced (decimal count)
+words_text (number name count) = spaced (decimal count)
+words_text (word name text) = spaced text
+words_text (octets name body) = spaced name ++ spaced (octets_word body)
+words_text (drawn key count) = spaced (codes "drawn") ++ (spaced (decimal key) ++ spaced (decimal count))
+words_text (rows keys) = flat_map row_words keys
+
+-- a text between quotation marks
+abbrev pub quoted : List ℕ → List ℕ
+quoted text = codes "\"" ++ (text ++ codes "\"")
+
+-- a member of a JSON object: its name, and its value as it is printed
+abbrev pub member : List ℕ → List ℕ → List ℕ
+member name value = codes "\"" ++ (name ++ (codes "\":" ++ value))
+
+-- a key with its state, as a JSON object
+abbrev pub row_object : ℕ × KeyState → List ℕ
+row_object row = codes "{" ++ (member (codes "key") (decimal row.0)
+    ++ (codes "," ++ (member (codes "state") (quoted (key_state_word row.1)) ++ codes "}")))
+
+-- a row behind another
+abbrev pub further_row : ℕ × KeyState → List ℕ
+further_row row = codes "," ++ row_object row
+
+-- rows as JSON objects, a comma between two of them
+abbrev pub row_objects : List (ℕ × KeyState) → List ℕ
+row_objects [] = []
+row_objects (row ∷ keys) = row_object row ++ flat_map further_row keys
+
+-- a number with its key, as a JSON object
+abbrev pub drawn_object : ℕ → ℕ → List ℕ
+drawn_object key count = codes "{" ++ (member (codes "key") (decimal key)
+    ++ (codes "," ++ (member (codes "number") (decimal count) ++ codes "}")))
+
+-- a part as a member of a JSON object: numbers as numbers, words and the digits of octets as strings
+abbrev pub member_text : Part → List ℕ
+member_text (named name count) = member name (decimal count)
+member_text (number name count) = member name (decimal count)
+member_text (word name text) = member name (quoted text)
+member_text (octets name body) = member name (quoted (encode_lower body))
+member_text (drawn key count) = member (codes "drawn") (drawn_object key count)
+member_text (rows keys) = member (codes "rows") (codes "[" ++ (row_objects keys ++ codes "]"))
+
+-- a part in a form; in JSON a comma stands before it
+unfoldable pub part_text : Form → Part → List ℕ
+part_text Words part = words_text part
+part_text Json part = codes "," ++ member_text part
+
+-- parts, one behind the other
+abbrev pub parts_text : Form → List Part → List ℕ
+parts_text form [] = []
+parts_text form (part ∷ parts) = part_text form part ++ parts_text form parts
