@@ -236,11 +236,13 @@ print_help() {
 usage: sdls_text records < TEXT > INPUT
        sdls_text show < INPUT > TEXT
        sdls_text answers [--json] < ANSWERS > TEXT
+       sdls_text plan < PLAN
 Recorded input and answers of `sdls run`, as text.
 
   records      reads lines of text, and writes the recorded input that they say
   show         reads recorded input, and prints its lines
   answers      reads answers, and prints a line for each; with --json each line is a JSON object
+  plan         reads a plan, and prints each line at fault, or the state that the plan makes
   --help       prints this page
   --version    prints the version
 
@@ -249,14 +251,16 @@ command LANE PROCEDURE VALUE.. The procedures are rekeying, activate, deactivate
 read-number, create, delete, set-window, rekey, expire, set-number, start, stop and status; FORMATS.md has their values.
 Spaces or commas part words, letters count in either case, and a word that begins with # begins a comment.
 
-Status: 0 done; 1 a line, an item or an answer is at fault; 2 other words; 4 standard input could not be read;
-5 standard output could not be written; 6 out of memory. Of the launcher: 70 the program could not be built.
+Status: 0 done; 1 a line, an item or an answer is at fault; 2 other words; 3 standard input is no plan;
+4 standard input could not be read; 5 standard output could not be written; 6 out of memory.
+Of the launcher: 70 the program could not be built.
 
 Examples:
   echo 'protect 0 0 002a140509c3' | sdls_text records > input.bin
   sdls_text show < input.bin
   sdls run < input.bin | sdls_text answers
   sdls run < input.bin | sdls_text answers --json
+  sdls_text plan < plan.txt && sdls init < plan.txt
 HELP
     else
         cat <<'HELP'

@@ -1,9 +1,10 @@
 //! The program `sdls_text`: recorded input and answers as text. `sdls_text records` reads lines from standard input and
 //! writes the recorded input that they say; `sdls_text show` prints the lines of recorded input; `sdls_text answers`
 //! reads answers and prints their lines, and behind `--json` each as a JSON object. `text_streams` decides what is
-//! written.
+//! written. `sdls_text plan` reads a plan and prints its lines at fault, or the state that it makes, as `plan_text` says.
 #![tactic(auto)]
 
+use plan_text::{PlanEnd, put_plan};
 use sdls_outside::{FileSite, StdSource};
 use std::alloc::AllocError;
 use std::process::ExitCode;
@@ -16,11 +17,13 @@ const HELP: &str = "\
 usage: sdls_text records < TEXT > INPUT
        sdls_text show < INPUT > TEXT
        sdls_text answers [--json] < ANSWERS > TEXT
+       sdls_text plan < PLAN
 Recorded input and answers of `sdls run`, as text.
 
   records      reads lines of text, and writes the recorded input that they say
   show         reads recorded input, and prints its lines
   answers      reads answers, and prints a line for each; with --json each line is a JSON object
+  plan         reads a plan, and prints each line at fault, or the state that the plan makes
   --help       prints this page
   --version    prints the version
 
@@ -29,14 +32,16 @@ command LANE PROCEDURE VALUE.. The procedures are rekeying, activate, deactivate
 read-number, create, delete, set-window, rekey, expire, set-number, start, stop and status; FORMATS.md has their values.
 Spaces or commas part words, letters count in either case, and a word that begins with # begins a comment.
 
-Status: 0 done; 1 a line, an item or an answer is at fault; 2 other words; 4 standard input could not be read;
-5 standard output could not be written; 6 out of memory. Of the launcher: 70 the program could not be built.
+Status: 0 done; 1 a line, an item or an answer is at fault; 2 other words; 3 standard input is no plan;
+4 standard input could not be read; 5 standard output could not be written; 6 out of memory.
+Of the launcher: 70 the program could not be built.
 
 Examples:
   echo 'protect 0 0 002a140509c3' | sdls_text records > input.bin
   sdls_text show < input.bin
   sdls run < input.bin | sdls_text answers
-  sdls run < input.bin | sdls_text answers --json";
+  sdls run < input.bin | sdls_text answers --json
+  sdls_text plan < plan.txt && sdls init < plan.txt";
 
 /// What the program is; from what it was built its launcher says.
 const VERSION: &str = "sdls_text for recorded input SDLSREC1";
@@ -47,6 +52,7 @@ enum Mode {
     Records,
     Show,
     Answers(Form),
+    Plan,
     Help,
     Version,
 }
@@ -72,6 +78,7 @@ fn asked(words: &[String]) -> Option<Mode> {
         "records" => Some(Mode::Records),
         "show" => Some(Mode::Show),
         "answers" => Some(Mode::Answers(Form::Words)),
+        "plan" => Some(Mode::Plan),
         "--help" => Some(Mode::Help),
         "--version" => Some(Mode::Version),
         _ => None,
@@ -119,6 +126,13 @@ fn main(rt: HostRuntime) -> ExitCode {
         Mode::Records => put_records(alloc, &mut source, &mut FileSite::new(rt)),
         Mode::Show => put_lines(alloc, &mut source, &mut FileSite::new(rt)),
         Mode::Answers(form) => put_answers(alloc, form, &mut source, &mut FileSite::new(rt)),
+        Mode::Plan => match put_plan(alloc, &mut source, &mut FileSite::new(rt)) {
+            PlanEnd::Plan => End::Done,
+            end @ PlanEnd::NoPlan => return ExitCode::from(end.status()),
+            PlanEnd::SourceFault => End::SourceFault,
+            PlanEnd::OutputFault => End::OutputFault,
+            PlanEnd::NoMemory => End::NoMemory,
+        },
     };
     let status = end.status();
     match print_end(&rt, end) {
