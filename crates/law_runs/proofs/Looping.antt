@@ -36,7 +36,7 @@ use Rattle.run_promise.specs.declared.end.RunEnd.{RunEnd}
 use Rattle.run_promise.specs.declared.end.RunEnd.TheVariants as ends
 use Rattle.run_promise.specs.Account.{AreAnswered, answers_of_first, of_first}
 use Rattle.law_runs.proofs.Placed.{IsBefore, deeds_of_segment, places_ascend, records_length}
-use Rattle.law_runs.proofs.Segments.{all_first, are_placed, first_segments, have_lanes}
+use Rattle.law_runs.proofs.Segments.{are_placed, first_segments, have_lanes}
 use Rattle.law_runs.specs.Doing.{AreSettledInside, HasDone, HasSettled, IsFounded, IsSegment, MovedAlone, octets_put}
 use Rattle.law_runs.specs.Coming.{HasBroken, HasCome, HasPut, StopsAtFullHistory, IsUnderWay, PutsBy, EndsReading}
 use Rattle.law_runs.specs.Segment.{HandlesAndPuts, IsFullSegment, PutsBadly, PutsWell}
@@ -413,10 +413,6 @@ module _ (start before now : SourceSeen) (standing : Standing) (begin : Begin) (
 
     pub size_most : length (way.answers ++ next) ≤ length (places_of (way.items ++ r.more))
     size_most = let a = how_many in let b = h.few in let c = length-append way.answers next in omega arith
-
-    pub handled_first : (n : ℕ) → (counted first_count (way.items ++ r.more)).segment < n
-        → places_of (way.items ++ r.more) ≡ of_first n (places_of (way.items ++ r.more))
-    handled_first n low = sym (all_first n first_count (way.items ++ r.more) low)
 
 -- the run goes on behind this segment
 pub goes_next : (start before now : SourceSeen) (standing standing_now : Standing) (begin : Begin) (first v : View) (failed_before failed stored : ℕ)

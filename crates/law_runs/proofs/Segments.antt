@@ -81,17 +81,6 @@ first_none n c (item ∷ items) low = go item.kind (first_none n (behind c item.
     go Fence none = none
     go (Recorded kind) none = none_of n _ (places_from (behind c (Recorded kind)) items) low
 
--- all records lie in the segments up to the last
-pub all_first : (n : ℕ) (c : Count) (items : List Item) → (counted c items).segment < n → of_first n (places_from c items) ≡ places_from c items
-all_first n c [] low = refl
-all_first n c (item ∷ items) low = go item.kind (all_first n (behind c item.kind) items low) (let a = rises c (item ∷ items) in omega arith)
-  where
-    go : (kind : ItemKind) → of_first n (places_from (behind c kind) items) ≡ places_from (behind c kind) items → c.segment < n
-        → of_first n (places_at c item kind ++ places_from (behind c kind) items) ≡ places_at c item kind ++ places_from (behind c kind) items
-    go Fence rest lt = rest
-    go (Recorded kind) rest lt = first_of n _ (places_from (behind c (Recorded kind)) items) lt
-        ∙ ap (λ (l : List Place). places_at c item (Recorded kind) ++ l) rest
-
 -- where items end with a segment, the records of the first segments of a longer input are theirs
 pub first_segments : (c : Count) (items more : List Item) → (counted c items).inside ≡ 0
     → of_first (counted c items).segment (places_from c (items ++ more)) ≡ places_from c items

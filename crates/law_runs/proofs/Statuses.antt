@@ -260,8 +260,8 @@ module _ (call : CallSeen) (run : RunEnds call) where
   handled_few (SiteFault count) h = let e = ap length h.0 in omega arith
   handled_few (NoState offset) h = let e = ap length h.0 in omega arith
   handled_few NoMemory h = let e = ap length h.0.1 in let f = first_few h.0.0 (places_of run.account.items) in omega arith
-  handled_few SessionFull h = let e = ap length h.0.1 in let f = first_few h.0.0 (places_of run.account.items) in omega arith
-  handled_few PutFailed h = let e = ap length h.0.1 in let f = first_few h.0.0 (places_of run.account.items) in omega arith
+  handled_few SessionFull h = let e = ap length h.0 in omega arith
+  handled_few PutFailed h = let e = ap length h.0 in omega arith
 
   -- the entries are at most two a record, and one a key
   few_entries : IsTrue call.site.told → (plan : PlanLines) (state : State) → ShowsAtEntry call plan state

@@ -103,15 +103,15 @@ abbrev pub AnsweredEach : Account → Type 0
 AnsweredEach account = length account.answers ≡ length account.handled
 
 -- Which records were handled, and which have answers, by what came: all records of the items; those of the first
--- segments, where memory was wanting; some of the first segments, where the history is full, or a put failed; none
--- where the book was not opened.
+-- segments, where memory was wanting; none where the book was not opened. Where the history is full, or a put failed,
+-- all that were read were handled, and some may lack an answer.
 abbrev pub AreAnswered : Account → RunEnd → Type 0
 AreAnswered account Ended = HandledAll account × AnsweredEach account
 AreAnswered account (Malformed offset) = HandledAll account × AnsweredEach account
 AreAnswered account (SourceFault count) = HandledAll account × AnsweredEach account
 AreAnswered account NoMemory = HandledFirst account × AnsweredEach account
-AreAnswered account SessionFull = HandledFirst account × (length account.answers < length account.handled)
-AreAnswered account PutFailed = HandledFirst account × (length account.answers ≤ length account.handled)
+AreAnswered account SessionFull = HandledAll account × (length account.answers < length account.handled)
+AreAnswered account PutFailed = HandledAll account × (length account.answers ≤ length account.handled)
 AreAnswered account (SiteFault count) = (account.handled ≡ []) × (account.answers ≡ [])
 AreAnswered account (NoState offset) = (account.handled ≡ []) × (account.answers ≡ [])
 

@@ -8,11 +8,10 @@ use Rattle.record_io.specs.declared.records.Record.{Record}
 use Rattle.record_io.specs.declared.records.SegmentEnd.{SegmentEnd}
 use Rattle.record_io.specs.declared.records.SegmentEnd.TheVariants as segments
 use Rattle.record_io.specs.Input.{Item}
-use Rattle.record_io.specs.Places.{counted, first_count}
 use Rattle.record_io.specs.Reading.{HasFaultCause, Loses, ReadsTo, SourceSeen, Standing}
 use Rattle.run_promise.specs.Begin.{Begin}
 use Rattle.run_promise.specs.declared.end.RunEnd.TheVariants as ends
-use Rattle.law_runs.proofs.Looping.{Reads, badly, comes, goes_next, handled_first, last_reads, more_reads, size_all, size_few, size_most, wants, wants_reading, well}
+use Rattle.law_runs.proofs.Looping.{Reads, badly, comes, goes_next, last_reads, more_reads, size_all, size_few, size_most, wants, wants_reading, well}
 use Rattle.unit_session.specs.declared.serving.Stop.{Stop}
 use Rattle.unit_session.specs.declared.serving.Stop.TheVariants as stops
 use Rattle.unit_session.specs.Serving.{Comes, Goes, Leads, ServesSegment, end_after, end_of_stop}
@@ -79,11 +78,7 @@ module _ (start before now : SourceSeen) (standing standing_now : Standing) (beg
       comes start before now standing begin first v first.turn.known.put_faults v.turn.known.put_faults v.turn.known.standing way records
       r s.mid w s.answers w.turn.known.standing s.stands whole s.handles ends.SessionFull w.turn.known.put_faults tt
       (λ told last. (
-        (
-          (counted first_count (way.items ++ r.more)).segment + 1,
-          handled_first start before now standing begin first v first.turn.known.put_faults v.turn.known.put_faults v.turn.known.standing way records
-              r s.mid w s.answers w.turn.known.standing s.stands whole s.handles ((counted first_count (way.items ++ r.more)).segment + 1) (omega arith),
-        ),
+        refl,
         size_few start before now standing begin first v first.turn.known.put_faults v.turn.known.put_faults v.turn.known.standing way records
             r s.mid w s.answers w.turn.known.standing s.stands whole s.handles (slice_get_within records (length s.answers) s.so.1.task s.so.1.first_without),
       ))
@@ -94,11 +89,7 @@ module _ (start before now : SourceSeen) (standing standing_now : Standing) (beg
       comes start before now standing begin first v first.turn.known.put_faults v.turn.known.put_faults v.turn.known.standing way records
       r s.mid w s.answers w.turn.known.standing s.stands whole s.handles ends.PutFailed w.turn.known.put_faults tt
       (λ told last. (
-        (
-          (counted first_count (way.items ++ r.more)).segment + 1,
-          handled_first start before now standing begin first v first.turn.known.put_faults v.turn.known.put_faults v.turn.known.standing way records
-              r s.mid w s.answers w.turn.known.standing s.stands whole s.handles ((counted first_count (way.items ++ r.more)).segment + 1) (omega arith),
-        ),
+        refl,
         size_most start before now standing begin first v first.turn.known.put_faults v.turn.known.put_faults v.turn.known.standing way records
             r s.mid w s.answers w.turn.known.standing s.stands whole s.handles,
       ))
