@@ -420,10 +420,11 @@ module _ (once : ShowsOnce) (run : LifeRun) (is_run : IsRun run) where
       | inl opening ↦ All-append (IsKnown state) given new
           (left.known state (shown_before run.start run.image start state is_run.shows opening.1 shown)) (none_new opening.0 (IsKnown state))
       | inr served ↦ elim shown [
-        | inl shows ↦ to_shown served.p state (once run.image _ state served.shows shows) (served_known served.p served.within served.covers)
+        | inl shows ↦ to_shown served.p state (once run.image _ state served.shows.shows shows) (served_known served.p served.shows.within (served.covers served.p (omega arith) served.shows.within))
         | inr torn ↦
-            let (q, above, within, form, covers) = served.forms torn.0 torn.1 in
-            to_shown q state (once torn.0 _ state form torn.2) (served_known q within covers)
+            let (q, above, within, form) = served.shows.forms torn.0 torn.1 in
+            let low : served.p ≤ q = omega arith in
+            to_shown q state (once torn.0 _ state form torn.2) (served_known q within (served.covers q low within))
       ]
     ]
 
@@ -448,26 +449,27 @@ module _ (once : ShowsOnce) (run : LifeRun) (is_run : IsRun run) where
           (λ i j g lt low. absurd (none_new opening.0 (λ (g : Given). ⊥) j g low))
           (λ k g low. none_new opening.0 (AreApart (slice_index_or given k g)))
       | inr served ↦
-          let s : State = after_first start entries served.p in
+          let within : served.p ≤ length entries = served.shows.within in
+          let covers = served.covers served.p (omega arith) within in
           let all : All (IsKnown (after_first start entries served.p)) new =
           given_all run.course (IsKnown (after_first start entries served.p)) (answers_begun (length run.sunk) run.deeds)
-          (λ k d low. covered_known served.p served.within (slice_index_or (answers_begun (length run.sunk) run.deeds) k d) (begun_fit k d low)
-          (begun_all (IsCoveredBy run.begin run.course served.p) (length run.sunk) run.deeds served.covers k d low)) in
+          (λ k d low. covered_known served.p within (slice_index_or (answers_begun (length run.sunk) run.deeds) k d) (begun_fit k d low)
+          (begun_all (IsCoveredBy run.begin run.course served.p) (length run.sunk) run.deeds covers k d low)) in
           pairs_append AreApart given new left.apart
           (given_pairs run.course AreApart (answers_begun (length run.sunk) run.deeds) (λ i j d lt low.
-          apart_known (after_first start entries served.p) _ _ (rules_at served.p served.within)
-          (covered_known served.p served.within (slice_index_or (answers_begun (length run.sunk) run.deeds) i d) (begun_fit i d (omega arith))
-          (begun_all (IsCoveredBy run.begin run.course served.p) (length run.sunk) run.deeds served.covers i d (omega arith)))
-          (covered_known served.p served.within (slice_index_or (answers_begun (length run.sunk) run.deeds) j d) (begun_fit j d low)
-          (begun_all (IsCoveredBy run.begin run.course served.p) (length run.sunk) run.deeds served.covers j d low))
+          apart_known (after_first start entries served.p) _ _ (rules_at served.p within)
+          (covered_known served.p within (slice_index_or (answers_begun (length run.sunk) run.deeds) i d) (begun_fit i d (omega arith))
+          (begun_all (IsCoveredBy run.begin run.course served.p) (length run.sunk) run.deeds covers i d (omega arith)))
+          (covered_known served.p within (slice_index_or (answers_begun (length run.sunk) run.deeds) j d) (begun_fit j d low)
+          (begun_all (IsCoveredBy run.begin run.course served.p) (length run.sunk) run.deeds covers j d low))
           (begun_pairs (Differ Uses) (length run.sunk) run.deeds is_run.sound.pairs i j d lt low)
           (begun_pairs (Differ Accepts) (length run.sunk) run.deeds is_run.sound.accepted i j d lt low)))
           (λ k g low. given_all run.course (AreApart (slice_index_or given k g)) (answers_begun (length run.sunk) run.deeds) (λ j d in'.
           let old = left.known start (inl is_run.shows) k g low in
-          apart_known (after_first start entries served.p) (slice_index_or given k g) _ (rules_at served.p served.within)
-          (known_on served.p served.within (slice_index_or given k g) old)
-          (covered_known served.p served.within (slice_index_or (answers_begun (length run.sunk) run.deeds) j d) (begun_fit j d in')
-          (begun_all (IsCoveredBy run.begin run.course served.p) (length run.sunk) run.deeds served.covers j d in'))
+          apart_known (after_first start entries served.p) (slice_index_or given k g) _ (rules_at served.p within)
+          (known_on served.p within (slice_index_or given k g) old)
+          (covered_known served.p within (slice_index_or (answers_begun (length run.sunk) run.deeds) j d) (begun_fit j d in')
+          (begun_all (IsCoveredBy run.begin run.course served.p) (length run.sunk) run.deeds covers j d in'))
           (λ key number u v.
           let a = old.below key number u in
           let b = begun_any (λ (d : Deed). (key number : ℕ) → Uses d.answer key number → mark_of start key ≤ number) (length run.sunk) run.deeds
@@ -492,7 +494,7 @@ module _ (once : ShowsOnce) (run : LifeRun) (is_run : IsRun run) where
         )
         | inr opened ↦ left.forms_show run.image opened
       ]
-      | inr served ↦ (restarted (after_first start entries served.p), served.shows)
+      | inr served ↦ (restarted (after_first start entries served.p), served.shows.shows)
     ]
 
     forms_after : (form : List ℕ) → IsOpenedForm run.image form → ShowsSome form
@@ -501,7 +503,7 @@ module _ (once : ShowsOnce) (run : LifeRun) (is_run : IsRun run) where
         | inl is ↦ (start, subst (λ (i : List ℕ). Shows i start) (sym is) is_run.shows)
         | inr before ↦ left.forms_show form before
       ]
-      | inr served ↦ let (q, above, within, shows, covers) = served.forms form opened in (restarted (after_first start entries q), shows)
+      | inr served ↦ let (q, above, within, shows) = served.shows.forms form opened in (restarted (after_first start entries q), shows)
     ]
 
     pub one_more : IsLeft run.image (given ++ new)

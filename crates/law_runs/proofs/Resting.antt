@@ -1,9 +1,11 @@
 -- A run without records is sound, and so is each moment of a call that reads an image and stores nothing: for
 -- `no_records_are_sound` and `reading_keeps_lives`.
-use Rattle.std.proofs.Common.{◌≡◌, ◌⊎◌, ℕ, IsTrue, List, [], refl, sym, subst, inl, inr, ⊎_elim, arith}
+use Rattle.std.proofs.Common.{◌≡◌, ◌⊎◌, ℕ, IsTrue, List, [], None, refl, sym, subst, inl, inr, ⊎_elim, arith}
 use Rattle.std.proofs.lemmas.Option.{none-some}
 use Rattle.sdls_base.specs.declared.entry.Entry.{Entry}
 use Rattle.sdls_outside.specs.Disk.{Leaves}
+use Rattle.disk_journal.specs.Forms.{HasOneClosed}
+use Rattle.disk_journal.specs.Fault.{image_fault}
 use Rattle.unit_plan.specs.PlanLines.{PlanLines}
 use Rattle.unit_plan.specs.PlanRules.{IsPlan}
 use Rattle.unit_state.specs.declared.state.State.{State}
@@ -52,7 +54,8 @@ pub no_records : (begin : Begin) (course : Course) → begin.plan ≡ course.pla
 no_records begin course same plan_is rules empty =
     subst (λ (entries : List Entry). IsSound begin (record course { entries = entries }) [] []) (sym empty) (none_sound begin course same plan_is rules)
 
-module _ (one : (image : List ℕ) (a b : State) → Shows image a → Shows image b → a ≡ b) (call : CallSeen) (plan : PlanLines) (state : State)
+module _ (closed : (image : List ℕ) → image_fault image ≡ None → HasOneClosed image)
+    (one : (image : List ℕ) (a b : State) → Shows image a → Shows image b → a ≡ b) (call : CallSeen) (plan : PlanLines) (state : State)
     (shows : ShowsAtEntry call plan state) where
   abbrev Sound : List ℕ → Type 0
   Sound image = SoundMoment (begin_of call plan state) (course_of call (no_account call) plan state) [] [] (image_at_entry call) image []
@@ -62,10 +65,13 @@ module _ (one : (image : List ℕ) (a b : State) → Shows image a → Shows ima
     front = refl;
     image_shows = inr (record {
       p = 0;
-      within = omega arith;
-      shows = subst (λ (s : State). Shows image (restarted s)) (one (image_at_entry call) shown.0 state shown.1 shows.shows) shown.2;
-      covers = tt;
-      forms = λ form is. absurd (shown.3 form is);
+      shows = record {
+        within = omega arith;
+        shows = subst (λ (s : State). Shows image (restarted s)) (one (image_at_entry call) shown.0 state shown.1 shows.shows) shown.2;
+        forms = λ form is. absurd (shown.3 form is);
+        settled = closed image shown.2.holds.opens;
+      };
+      covers = λ q low within. tt;
     });
   }
 

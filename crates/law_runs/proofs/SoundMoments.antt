@@ -2,6 +2,7 @@
 use Rattle.std.proofs.Common.{◌≡◌, ◌⊎◌, ℕ, zero, suc, ◌+◌, ◌-◌, ◌<◌, ◌≤◌, min, List, [], ◌∷◌, ◌++◌, length, take, refl, sym, ◌∙◌, ap, subst, inl, inr, arith, append_assoc, length-append}
 use Rattle.std.proofs.lemmas.Bool.{cases_lt}
 use Rattle.std.proofs.lemmas.List.{take-take, length-take, take-append-le}
+use Rattle.sdls_base.specs.declared.entry.Entry.{Entry}
 use Rattle.sdls_base.specs.declared.entry.Logged.{Logged}
 use Rattle.sdls_base.specs.declared.entry.Logged.TheVariants as lines
 use Rattle.record_io.specs.Answers.{answer_octets}
@@ -11,6 +12,7 @@ use Rattle.unit_book.specs.Book.{Serves}
 use Rattle.run_promise.specs.Begin.{Begin}
 use Rattle.run_promise.specs.Deed.{Deed}
 use Rattle.law_workers.proofs.Logs.{entries_low}
+use Rattle.run_promise.specs.ShowsAfter.{ShowsAfter}
 use Rattle.run_promise.specs.Sound.{deeds_octets, EachBegun, IsCoveredBy, SoundMoment}
 use Rattle.law_runs.specs.AtEnd.{StaysCovered}
 use Rattle.law_runs.specs.Settled.{AnswerIsSettled, AreSettled}
@@ -78,20 +80,9 @@ moment_sound begin course standing log deeds ends start before image sunk since 
       front = inside ∙ (ap (take (length since)) put ∙ take-take (length since) (length (pieces_of log)) (deeds_octets deeds ++ ends) total);
       image_shows = inr (record {
         p = p;
-        within = let h = shows.within in rw is h;
-        shows = rw is shows.shows;
-        covers = subst (λ (n : ℕ). EachBegun (IsCoveredBy begin course p) n deeds) (omega arith)
-            (covered begin course standing log is m.place p (length since) most (let l = least in omega arith) (let h = shows.within in rw is h) 0 deeds settled stays);
-        forms = λ form opened.
-            let (q, more, low, shown) = shows.forms form opened in
-            let within : q ≤ length course.entries = rw is low in (
-              q,
-              more,
-              within,
-              rw is shown,
-              subst (λ (n : ℕ). EachBegun (IsCoveredBy begin course q) n deeds) (omega arith)
-                  (covered begin course standing log is m.place q (length since) most (let l = least in omega arith) within 0 deeds settled stays),
-            );
+        shows = subst (λ (es : List Entry). ShowsAfter course.start es p image) (sym is) shows;
+        covers = λ q low within. subst (λ (n : ℕ). EachBegun (IsCoveredBy begin course q) n deeds) (omega arith)
+            (covered begin course standing log is m.place q (length since) most (let l = least in omega arith) within 0 deeds settled stays);
       });
     }
   where

@@ -29,6 +29,7 @@ ghost use Rattle.law_runs.specs.Refused.{Refused};
 ghost use Rattle.law_runs.specs.Doing.{HasDone, IsBefore, IsFounded};
 
 use crate::life::{sound_call_keeps_lives, sound_reading_keeps_lives};
+use disk_journal::opening_stays;
 use law_image::shown_keeps_rules;
 use sdls_outside::Site;
 use unit_image::{refused_with_one, shows_one};
@@ -99,6 +100,7 @@ pub fn reading_keeps_lives()
     ensures { (call : CallSeen) → call.entries ≡ [] → ReadsAlone call → KeepsLivesReading call }
 {
     shows_one();
+    opening_stays();
     no_records_are_sound();
     sound_reading_keeps_lives();
 }

@@ -14,6 +14,7 @@ pub mod Deed
 pub mod Machine
 pub mod Serving
 pub mod Moves
+pub mod ShowsAfter
 pub mod Sound
 pub mod Life
 pub mod Call

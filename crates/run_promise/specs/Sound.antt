@@ -1,20 +1,18 @@
 -- When a run is sound, and what a crash at one of its moments leaves (profile).
 use Rattle.std.specs.Prelude.{◌≡◌, ◌≢◌, ◌⊎◌, ⊤, ℕ, ◌-◌, ◌<◌, ◌≤◌, IsTrue, List, [], ◌∷◌, ◌++◌, length, map, take}
 use Rattle.std.specs.List.{All, AllPairs}
-use Rattle.disk_journal.specs.Image.{IsOpenedForm}
 use Rattle.disk_journal.specs.Forms.{Settles}
 use Rattle.record_io.specs.Places.{Place, records_of}
 use Rattle.record_io.specs.declared.code.TheConstants.{SITE_FAULT}
 use Rattle.record_io.specs.Answers.{answer_octets, answers_octets}
-use Rattle.unit_state.specs.Restart.{restarted}
 use Rattle.unit_state.specs.History.{after_first, epoch_after}
-use Rattle.unit_image.specs.Shows.{Shows}
 use Rattle.run_promise.specs.Numbers.{mark_of, floor_of}
 use Rattle.run_promise.specs.Run.{NearWord, IsLegalHistory, HasNoEntry}
 use Rattle.run_promise.specs.Answers.{Uses, Accepts, IsUnmade}
 use Rattle.run_promise.specs.Fits.{Course, Fits}
 use Rattle.run_promise.specs.Taken.{kept_floor}
 use Rattle.run_promise.specs.Begin.{Begin}
+use Rattle.run_promise.specs.ShowsAfter.{ShowsAfter}
 use Rattle.run_promise.specs.Deed.{Deed, Differ, InTurn, StandsBehind, tells_entry, is_ordered, epoch_told}
 
 -- the octets of the answers
@@ -54,16 +52,12 @@ abbrev pub EachBegun : (Deed → Type 0) → ℕ → List Deed → Type 0
 EachBegun P count [] = ⊤
 EachBegun P count (deed ∷ deeds) = (0 < count → P deed) × EachBegun P (count - length (answer_octets deed.answer)) deeds
 
--- The image shows the state after the first p entries, which covers each answer that was begun; and each of its opened
--- forms that after more of them.
+-- The image shows the state after the first p entries, which covers each answer that was begun; so does each later
+-- state, as an opened form shows one.
 pub record ShowsServed (begin : Begin) (course : Course) (deeds : List Deed) (image : List ℕ) (count : ℕ) : Type 0 where
   pub p : ℕ
-  pub within : p ≤ length course.entries
-  pub shows : Shows image (restarted (after_first course.start course.entries p))
-  pub covers : EachBegun (IsCoveredBy begin course p) count deeds
-  pub forms : (form : List ℕ) → IsOpenedForm image form → (q : ℕ) × (p < q) × (q ≤ length course.entries)
-      × Shows form (restarted (after_first course.start course.entries q))
-      × EachBegun (IsCoveredBy begin course q) count deeds
+  pub shows : ShowsAfter course.start course.entries p image
+  pub covers : (q : ℕ) → p ≤ q → q ≤ length course.entries → EachBegun (IsCoveredBy begin course q) count deeds
 
 -- A moment of the run: what was sunk is a front of the octets of the answers and of End. While the book is opened no
 -- answer was begun and the image is that at the start, but for its closed gates; while it serves, what the image shows

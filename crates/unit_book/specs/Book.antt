@@ -8,8 +8,7 @@ use Rattle.sdls_base.specs.declared.entry.Logged.TheVariants as logged
 use Rattle.sdls_outside.specs.Disk.{Leaves}
 use Rattle.sdls_outside.specs.Faults.{Rose}
 use Rattle.sdls_outside.specs.Moments.{Trace, EachMoment, Between}
-use Rattle.disk_journal.specs.Image.{records, slot_count, IsOpenedForm}
-use Rattle.disk_journal.specs.Forms.{HasOneClosed}
+use Rattle.disk_journal.specs.Image.{records, slot_count}
 use Rattle.disk_journal.specs.Journal.{JournalView, IsSettled}
 use Rattle.unit_plan.specs.PlanLines.{PlanLines}
 use Rattle.unit_state.specs.declared.state.State.{State}
@@ -24,6 +23,7 @@ use Rattle.run_promise.specs.declared.limits.TheConstants.{MOST_ENTRIES}
 use Rattle.unit_book.specs.declared.next.Next.{Next}
 use Rattle.unit_book.specs.declared.next.Next.TheVariants.{Here, Then}
 use Rattle.run_promise.specs.Log.{entries_of, pieces_of}
+use Rattle.run_promise.specs.ShowsAfter.{ShowsAfter}
 use Rattle.run_promise.specs.Stored.{IsStored, stored_count}
 use Rattle.unit_book.specs.Marks.{HasNoRelease, KeepsMarks}
 
@@ -42,18 +42,7 @@ pub record BookView (O : Type 0) : Type 0 where
   pub standing : ℕ
   pub changes : ℕ
 
--- the state that an opened form shows is later than the image's
-abbrev pub IsLater : ℕ → ℕ → Type 0
-IsLater p q = p < q
-
--- The image shows the state after the first p entries, and each of its opened forms that after more of them.
-pub record ShowsAfter (start : State) (entries : List Entry) (p : ℕ) (image : List ℕ) : Type 0 where
-  pub within : p ≤ length entries
-  pub shows : Shows image (restarted (after_first start entries p))
-  pub forms : (form : List ℕ) → IsOpenedForm image form → (q : ℕ) × IsLater p q × (q ≤ length entries)
-      × Shows form (restarted (after_first start entries q))
-  pub settled : HasOneClosed image
-
+-- the image shows the state after so many entries, or after more
 abbrev pub ShowsFrom : State → List Entry → ℕ → List ℕ → Type 0
 ShowsFrom start entries least image = (p : ℕ) × (least ≤ p) × ShowsAfter start entries p image
 
