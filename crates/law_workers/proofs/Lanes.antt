@@ -217,6 +217,13 @@ indexed_sum : (i : ℕ) (ts : List Record) → indexed i ts ≡ sum_of (λ (t : 
 indexed_sum i [] = refl
 indexed_sum i (t ∷ ts) = let h = indexed_sum i ts in omega arith
 
+-- no more of the lanes' records have a number than of all
+pub indexed_lanes : (i : ℕ) (tasks : List Record) (parts : List Part) → AllPairs (λ (p q : Part). p.number ≢ q.number) parts
+    → indexed i (parts_tasks tasks parts) ≤ indexed i tasks
+indexed_lanes i tasks parts apart =
+    let a = indexed_sum i (parts_tasks tasks parts) in let b = indexed_sum i tasks in
+    let c = sum_lanes (λ (t : Record). if eqb t.index i then 1 else 0) tasks parts apart in omega arith
+
 length_sum : (ts : List Record) → length ts ≡ sum_of (λ (t : Record). 1) ts
 length_sum [] = refl
 length_sum (t ∷ ts) = let h = length_sum ts in omega arith
@@ -240,9 +247,7 @@ lanes_handled layout begin base now s tasks parts deeds lies few free filled is 
     let drawn : drawers (parts_tasks tasks parts) ≤ drawers tasks =
     (let a = drawers_sum (parts_tasks tasks parts) in let b = drawers_sum tasks in
     let c = sum_lanes (λ (t : Record). if draws t.kind then 1 else 0) tasks parts apart in omega arith) in
-    let each : (i : ℕ) → indexed i (parts_tasks tasks parts) ≤ indexed i tasks = λ i.
-    let a = indexed_sum i (parts_tasks tasks parts) in let b = indexed_sum i tasks in
-    let c = sum_lanes (λ (t : Record). if eqb t.index i then 1 else 0) tasks parts apart in omega arith in
+    let each : (i : ℕ) → indexed i (parts_tasks tasks parts) ≤ indexed i tasks = λ i. indexed_lanes i tasks parts apart in
     let size : length (parts_tasks tasks parts) ≤ length tasks =
     (let a = length_sum (parts_tasks tasks parts) in let b = length_sum tasks in let c = sum_lanes (λ (t : Record). 1) tasks parts apart in omega arith) in
     record {

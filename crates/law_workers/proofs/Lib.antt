@@ -12,4 +12,5 @@ pub mod WholeRun
 pub mod Machines
 pub mod Turns
 pub mod Alone
+pub mod Words
 pub mod Once

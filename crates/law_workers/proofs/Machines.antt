@@ -42,7 +42,7 @@ top-append : (row : ℕ) (a b : List (ℕ × ℕ)) → top row (a ++ b) ≡ max 
 top-append row [] b = omega arith
 top-append row (p ∷ a) b = let h = top-append row a b in omega arith
 
-amount-append : (row : ℕ) (a b : List (ℕ × ℕ)) → amount row (a ++ b) ≡ amount row a + amount row b
+pub amount-append : (row : ℕ) (a b : List (ℕ × ℕ)) → amount row (a ++ b) ≡ amount row a + amount row b
 amount-append row [] b = omega arith
 amount-append row (p ∷ a) b = let h = amount-append row a b in omega arith
 

@@ -10,3 +10,4 @@ pub mod Settles
 pub mod InTurn
 pub mod Exact
 pub mod Alone
+pub mod Words

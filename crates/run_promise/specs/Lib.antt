@@ -19,6 +19,7 @@ pub mod Sound
 pub mod Life
 pub mod Call
 pub mod Account
+pub mod Words
 pub mod Alone
 pub mod Causes
 pub mod Ends

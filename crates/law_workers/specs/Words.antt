@@ -1,0 +1,38 @@
+-- What records moved the words `next` by, on however many lanes (profile).
+use Rattle.std.specs.Prelude.{◌≡◌, ℕ, ◌+◌, ◌≤◌, ◌==◌, if◌then◌else◌, List, [], ◌∷◌}
+use Rattle.std.specs.List.{All, Contains}
+use Rattle.sdls_base.specs.declared.entry.Entry.{Entry}
+use Rattle.record_io.specs.declared.records.Record.{Record}
+use Rattle.unit_state.specs.declared.state.State.{State}
+use Rattle.counter_table.specs.declared.view.View.{View}
+use Rattle.counter_table.specs.Numbers.{amount}
+use Rattle.run_promise.specs.Begin.{Begin}
+use Rattle.run_promise.specs.Deed.{Deed}
+use Rattle.run_promise.specs.Machine.{Move, adds}
+use Rattle.run_promise.specs.Moves.{Tells}
+use Rattle.law_workers.specs.Views.{entries_in}
+use Rattle.law_workers.specs.Work.{indexed}
+
+-- how many of the moves, which stand behind the numbers of their records, are of the record with this number
+abbrev pub moves_of : ℕ → List (ℕ × Move) → ℕ
+moves_of index [] = 0
+moves_of index (own ∷ moves) = (if own.0 == index then 1 else 0) + moves_of index moves
+
+-- what the moves add to the row's word
+abbrev pub moves_add : ℕ → List (ℕ × Move) → ℕ
+moves_add row [] = 0
+moves_add row (own ∷ moves) = adds row own.1 + moves_add row moves
+
+-- the answer tells a move of its record
+abbrev pub TellsOne : State → List Entry → List (ℕ × Move) → Deed → Type 0
+TellsOne start entries moves deed =
+    (move : Move) × Contains moves (deed.task.index, move) × Tells start entries deed move
+
+-- From the old view to the new one a worker moved the words so, with these records, whatever others moved meanwhile: by
+-- no more moves than there are records with the number, an answered one by a move that its answer tells. Each fact stays
+-- true while the views grow apart, and none looks at the order of the records.
+pub record MovesWords (begin : Begin) (old new : View) (tasks : List Record) (deeds : List Deed) : Type 0 where
+  pub moves : List (ℕ × Move)
+  pub few : (index : ℕ) → moves_of index moves ≤ indexed index tasks
+  pub told : All (TellsOne begin.start (entries_in new) moves) deeds
+  pub added : (row : ℕ) → amount row new.numbers.added ≡ amount row old.numbers.added + moves_add row moves
