@@ -10,6 +10,7 @@ use Rattle.sdls_base.specs.declared.entry.Logged.{Logged}
 use Rattle.counter_table.specs.declared.counters.Worker.{Worker}
 use Rattle.counter_table.specs.declared.view.View.{View}
 use Rattle.counter_table.specs.Worker.{view}
+use Rattle.counter_table.specs.Numbers.{amount}
 use Rattle.record_io.specs.declared.records.Record.{Record}
 use Rattle.record_io.specs.declared.answers.Answer.{Answer}
 use Rattle.record_io.specs.declared.kinds.TheConstants.{LANES}
@@ -24,8 +25,11 @@ use Rattle.law_workers.proofs.Joining.{grows_itself, grows_further}
 use Rattle.law_workers.proofs.Logs.{count_at_both, count_kept, same_behind}
 use Rattle.law_workers.proofs.Handling.{handled_nothing, record_indexed}
 use Rattle.law_workers.proofs.Lanes.{lanes_handled, lanes_grow, tasks_are, of_lane_within}
+use Rattle.law_workers.proofs.Machines.{amount-append}
+use Rattle.law_workers.proofs.Words.{lanes_words, words_exactly}
 use Rattle.frame_workers.specs.declared.lane.Lane.{Lane}
 use Rattle.law_workers.specs.Alone.{MovedInTurn, ServedAlone}
+use Rattle.law_workers.specs.Words.{MovesWords}
 use Rattle.law_workers.specs.Ends.{IsFullFor, EndsSegment}
 use Rattle.law_workers.specs.Began.{BeganWith}
 use Rattle.frame_workers.specs.Lanes.{HasRun, IsSplit, part_of, parts_of, answers_of, HaveOwnNumbers, IsThere, StopsAt}
@@ -210,6 +214,19 @@ module _ {B : Type 0} (ready : Worker B → Type 0) (told : Bool) (rs : List Rec
       subst (λ (n : ℕ). Handled layout begin (starting base) (view (slice_index_or new k d).worker) (of_lane n rs)
       (deeds_of s (of_lane n rs) (slice_index_or new k d).answers.items)) (sym run.number) g)
 
+  moved : (begin : Begin) (s : ℕ) → BeganWith told begin base.turn.known.opening
+      → All (λ (p : Part). MovesWords begin (starting base) p.knows (of_lane p.number rs) (deeds_of s (of_lane p.number rs) p.answers)) (parts_of new)
+  moved begin s b = parts_all (λ (p : Part). MovesWords begin (starting base) p.knows (of_lane p.number rs) (deeds_of s (of_lane p.number rs) p.answers)) new
+      (λ k d low.
+      let run = ran k d (omega arith) in
+      let h = words_exactly begin (view (slice_index_or old k d).worker) (view (slice_index_or new k d).worker) s (of_lane (slice_index_or old k d).number rs)
+      (slice_index_or new k d).answers.items (run.exactly begin s (began begin b k d (omega arith))).moved in
+      let from = (split k d (omega arith)).from in
+      let g = subst (λ (v : View). MovesWords begin v (view (slice_index_or new k d).worker) (of_lane (slice_index_or old k d).number rs)
+      (deeds_of s (of_lane (slice_index_or old k d).number rs) (slice_index_or new k d).answers.items)) from h in
+      subst (λ (n : ℕ). MovesWords begin (starting base) (view (slice_index_or new k d).worker) (of_lane n rs)
+      (deeds_of s (of_lane n rs) (slice_index_or new k d).answers.items)) (sym run.number) g)
+
   module _ (now : View) (given : now ≡ giving_shares (length old) base) (few : length old < base.numbers.shares) (free : base.turn.holds ≡ false)
       (filled : base.turn.filled ≡ true) (meet : MeetAll MOST_KEYS now (parts_of new)) where
     abbrev joined : View
@@ -263,6 +280,15 @@ module _ {B : Type 0} (ready : Worker B → Type 0) (told : Bool) (rs : List Rec
           let shares = joined_shares in
           (looked_back layout begin joined joined [] [] (handled_nothing layout begin joined []) (omega arith) joined_free joined_filled
           (subst (λ (n : ℕ). Meets n (keeping joined) (starting joined)) (sym rows) back)).does.grows
+
+      -- on however many lanes, the words were moved as the answers tell
+      pub all_moved : (begin : Begin) (s : ℕ) → BeganWith told begin base.turn.known.opening → (answers : List Answer)
+          → All (Contains (parts_deeds s rs (parts_of new))) (deeds_of s rs answers) → MovesWords begin base last rs (deeds_of s rs answers)
+      all_moved begin s b answers among =
+          lanes_words begin base last s rs now (parts_of new) (deeds_of s rs answers) (parts_apart new new_apart) (moved begin s b)
+          (λ k d low. grows_further (slice_index_or (parts_of new) k d).knows joined last (joined_grows k d low) last_grows)
+          (λ row. ap (λ (v : View). amount row v.numbers.added) given)
+          (λ row. let a = amount-append row joined.numbers.added [] in omega arith) among
 
       -- Where all records are of one lane, there is one worker at most beside the one that it was split from.
       at_most_one : (os : List (Lane B)) → All (IsSplit ready rs base) os → AllPairs HaveOwnNumbers os → (lane : ℕ) → All (λ (t : Record). t.lane ≡ lane) rs → length os ≤ 1

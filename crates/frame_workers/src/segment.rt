@@ -11,6 +11,7 @@ ghost use Rattle.law_workers.specs.Deeds.{Ascend, deeds_of};
 ghost use Rattle.law_workers.specs.Order.{Handled, Layout, LiesIn};
 ghost use Rattle.run_promise.specs.Alone.{OneLane};
 ghost use Rattle.law_workers.specs.Alone.{ServedAlone};
+ghost use Rattle.law_workers.specs.Words.{MovesWords};
 ghost use Rattle.law_workers.specs.Began.{BeganWith};
 ghost use Rattle.law_workers.specs.Views.{keeping, meeting, Meets, starting};
 ghost use Rattle.law_workers.specs.Ends.{EndsSegment};
@@ -95,6 +96,12 @@ pub fn run_segment<R: Threads + Wait + Sync, O: Site + Send, G: Gate + Sync>(
     ensures alone { OneLane records.now → IfOk result (λ segment. (begin : Begin) (number : ℕ)
         → BeganWith O.told begin (view worker.old).turn.known.opening
         → ServedAlone begin (view worker.old) (view worker.new) (length records.now)
+        (deeds_of number records.now segment.answers.items)) }
+
+    // On however many lanes: each record moved a word once at most, as its answer tells.
+    ensures moved { IfOk result (λ segment. (begin : Begin) (number : ℕ)
+        → BeganWith O.told begin (view worker.old).turn.known.opening
+        → MovesWords begin (view worker.old) (view worker.new) records.now
         (deeds_of number records.now segment.answers.items)) }
 
     // Who has all shares did all.
