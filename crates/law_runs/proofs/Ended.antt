@@ -44,6 +44,8 @@ use Rattle.run_promise.specs.Sound.{IsSound, deeds_octets}
 use Rattle.law_runs.proofs.Stepping.{octets_of}
 use Rattle.run_promise.specs.Alone.{OneLane, IsExact}
 use Rattle.law_runs.proofs.Exacting.{exact_call}
+use Rattle.law_runs.proofs.Words.{moved_call}
+use Rattle.run_promise.specs.Words.{MovedWords}
 use Rattle.run_promise.specs.Ends.{ServesSoundly, IsEarly, IsJournalFull, IsReleased, IsServed, RunEnds}
 use Rattle.law_runs.proofs.Appending.{may_append}
 use Rattle.law_workers.proofs.WholeRun.{near, rules_at_end}
@@ -688,6 +690,11 @@ module _ {O : Type 0} (told : Bool) (trace : O → Trace) (faults puts : O → �
       (λ row. slice_index words row) e.words_are (take entries_added.count (releases book.state 0 words)) e.releases_are k x low key number row uses
       (ap (λ (st : State). place_of st.keys key) (sym at_close) ∙ is)
 
+  moved_so : IsTrue told → MovedWords call account book.start words
+  moved_so is_told =
+      moved_call call account (begin_by told (trace site).now.image book.plan book.start) first now words
+      (take entries_added.count (releases book.state 0 words)) refl (ran.founded is_told).opened ran.stand (known_end is_told).once ran.come.moved entries_split
+
   released_so : CountsSlots told faults (trace site).now.image end.last → IsTrue told
       → (r : IsReleased call account book.start (length (entries_in now))) × (r.words ≡ words)
   released_so slots is_told = elim rose_or [
@@ -701,6 +708,7 @@ module _ {O : Type 0} (told : Bool) (trace : O → Trace) (faults puts : O → �
         refused = λ few. inl (rose_to_end rose);
         full = λ is_ended full. absurd ((full_answer is_ended full).1 (let a = ran.same_faults in let r = rose in omega arith));
         heard = heard;
+        moved = moved_so is_told;
         near = near_so is_told;
         above = above_so is_told;
         room = room_so slots is_told;
@@ -725,6 +733,7 @@ module _ {O : Type 0} (told : Bool) (trace : O → Trace) (faults puts : O → �
                 let d = length-take entries_added.count (releases book.state 0 words) in
                 omega arith;
             heard = heard;
+            moved = moved_so is_told;
             near = near_so is_told;
             above = above_so is_told;
             room = room_so slots is_told;

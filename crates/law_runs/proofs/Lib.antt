@@ -15,6 +15,7 @@ pub mod Fronts
 pub mod Doing
 pub mod Stepping
 pub mod Exacting
+pub mod Words
 pub mod Releases
 pub mod Moments
 pub mod Faults

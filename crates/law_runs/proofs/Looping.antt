@@ -28,13 +28,15 @@ use Rattle.law_workers.specs.Views.{IsBetween, entries_in, log_of}
 use Rattle.law_workers.specs.Deeds.{Ascend, course_in, deeds_of}
 use Rattle.law_workers.specs.Order.{Layout, LiesIn, Handled, Lined, TakeTurns}
 use Rattle.law_workers.proofs.Counting.{pieces_both}
-use Rattle.law_workers.proofs.Joining.{does_nothing}
+use Rattle.law_workers.proofs.Joining.{does_nothing, grows_further}
+use Rattle.law_workers.proofs.Words.{words_nothing}
+use Rattle.law_workers.specs.Words.{MovesWords}
 use Rattle.run_promise.specs.Alone.{OneLane}
 use Rattle.law_workers.specs.Alone.{ServedAlone}
 use Rattle.run_promise.specs.Log.{pieces_of}
 use Rattle.run_promise.specs.declared.end.RunEnd.{RunEnd}
 use Rattle.run_promise.specs.declared.end.RunEnd.TheVariants as ends
-use Rattle.run_promise.specs.Account.{AreAnswered, answers_of_first, of_first}
+use Rattle.run_promise.specs.Account.{AreAnswered, answers_of_first, deeds_from, of_first}
 use Rattle.law_runs.proofs.Placed.{IsBefore, deeds_of_segment, places_ascend, records_length}
 use Rattle.law_runs.proofs.Segments.{are_placed, first_segments, have_lanes}
 use Rattle.law_runs.specs.Doing.{AreSettledInside, HasDone, HasSettled, IsFounded, IsSegment, MovedAlone, octets_put}
@@ -43,6 +45,7 @@ use Rattle.law_runs.specs.Segment.{HandlesAndPuts, IsFullSegment, PutsBadly, Put
 use Rattle.law_runs.proofs.Appending.{may_append}
 use Rattle.law_runs.proofs.Exacting.{alone_nothing, moved_on}
 use Rattle.law_runs.proofs.Stepping.{goes_on, none_at_all, own_does, quiet, settled_on}
+use Rattle.law_runs.proofs.Words.{words_segment}
 
 -- ---- the records of one segment
 
@@ -252,6 +255,7 @@ module _ (start before now : SourceSeen) (standing : Standing) (begin : Begin) (
     put = way.put;
     settled = way.settled;
     exactly = way.exactly;
+    moved = way.moved;
     full = λ is. absurd (let t : ends.NoMemory ≡ ends.SessionFull = is in cc);
     earlier = λ is_told place there.
         let a = octets_of_take (length (of_first place.segment (places_of way.items))) way.answers in
@@ -280,6 +284,14 @@ module _ (start before now : SourceSeen) (standing : Standing) (begin : Begin) (
         h.puts h.same_numbers h.settles.at way.exactly
         (subst (λ (rs : List Record). OneLane rs → ServedAlone begin v mid (length rs) (deeds_of (counted first_count way.items).segment rs next)) r.records_are
         (λ one. h.exactly one (counted first_count way.items).segment)))
+
+    pub moved_now : MovesWords begin first w (records_of (places_of (way.items ++ r.more))) (deeds_from (places_of (way.items ++ r.more)) (way.answers ++ next))
+    moved_now = subst (λ (ps : List Place). MovesWords begin first w (records_of ps) (deeds_from ps (way.answers ++ next))) (sym all_places)
+        (words_segment begin first v mid w (places_of way.items) (places_from (counted first_count way.items) r.more) way.answers next
+        (counted first_count way.items).segment records r.records_are r.of way.each way.moved
+        (grows_further v mid w (own_does begin first v mid w (places_of way.items) (places_from (counted first_count way.items) r.more) way.answers next
+        (counted first_count way.items).segment way.done way.each whole_v segment handled h.puts).grows h.puts.does.grows)
+        (h.moved (counted first_count way.items).segment) h.puts.does.grows h.same_numbers)
 
     still : octets_put mid ≡ octets_put v
     still = quiet begin first v mid w (places_of way.items) (places_from (counted first_count way.items) r.more) way.answers next
@@ -401,6 +413,7 @@ module _ (start before now : SourceSeen) (standing : Standing) (begin : Begin) (
       put = put;
       settled = settled_then;
       exactly = exactly_on;
+      moved = moved_now;
       full = λ is. full_on (full is);
       earlier = earlier_put;
     }
@@ -433,6 +446,7 @@ goes_next start before now standing standing_now begin first v failed_before fai
       put = well start before now standing begin first v failed_before failed stored way records (more_reads start now standing_now way.items records m) mid w next stored_now fewer whole_v h failed_now put;
       settled = settled_then start before now standing begin first v failed_before failed stored way records (more_reads start now standing_now way.items records m) mid w next stored_now fewer whole_v h;
       exactly = exactly_on start before now standing begin first v failed_before failed stored way records (more_reads start now standing_now way.items records m) mid w next stored_now fewer whole_v h;
+      moved = moved_now start before now standing begin first v failed_before failed stored way records (more_reads start now standing_now way.items records m) mid w next stored_now fewer whole_v h;
     }
 
 -- memory was wanting while a segment was read
@@ -453,6 +467,7 @@ wants_reading start before now standing begin first v failed_before failed store
   put = way.put;
   settled = way.settled;
   exactly = way.exactly;
+  moved = way.moved;
   full = λ is. absurd (let t : ends.NoMemory ≡ ends.SessionFull = is in cc);
   earlier = λ is_told place there.
       let a = octets_of_take (length (of_first place.segment (places_of way.items))) way.answers in
@@ -493,4 +508,5 @@ begins_way start begin first failed stored none none_made = record {
   put = record { octets = λ is_told. ap pieces_of none; none_failed = refl };
   settled = λ is_told founded. tt;
   exactly = λ one. alone_nothing begin first;
+  moved = words_nothing begin first [];
 }

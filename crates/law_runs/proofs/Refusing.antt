@@ -41,6 +41,7 @@ use Rattle.run_promise.specs.Numbers.{release_at, release_of, released_floor, re
 use Rattle.run_promise.specs.Taken.{kept_floor}
 use Rattle.law_history.proofs.Accepting.{kept_restarted}
 use Rattle.run_promise.specs.Alone.{IsExact}
+use Rattle.run_promise.specs.Machine.{Kept}
 use Rattle.run_promise.specs.Sound.{IsSound}
 use Rattle.law_workers.proofs.Rows.{mark_known, row_named, row_placed}
 use Rattle.sdls_base.specs.declared.states.KeyState.TheVariants.{PreActive}
@@ -322,6 +323,14 @@ module _ {O : Type 0} (told : Bool) (trace : O → Trace) (faults puts : O → �
               refused = λ few. let due = ap length (none_due state rules left 0 MOST_KEYS) in absurd (omega arith);
               full = λ is_ended full. absurd (not_ended fault is_ended);
               heard = λ other moved. absurd (moved (quiet other));
+              moved = record {
+                move_of = λ index. Kept;
+                told = λ k d low. absurd (omega arith);
+                word = λ row low.
+                    let a : slice_index (marks_from state 0 MOST_KEYS) row ≡ mark_at state (0 + row) = marks_found state 0 MOST_KEYS row low in
+                    let same : 0 + row ≡ row = omega arith in
+                    let b = ap (mark_at state) same in omega arith;
+              };
               near = λ key row is.
                   let in_keys = (row_named state.keys key row (record { id = 0; state = PreActive; bytes = []; digest = []; mark = 0; floor = 0 }) is).0 in
                   let most = rules.keys.most in

@@ -8,7 +8,7 @@ use Rattle.record_io.specs.declared.answers.Answer.{Answer}
 use Rattle.record_io.specs.declared.kinds.RecordKind.TheVariants.{Protect}
 use Rattle.record_io.specs.Answers.{answers_octets}
 use Rattle.record_io.specs.Input.{Item, IsInput, Whole, MalformedAt}
-use Rattle.record_io.specs.Places.{Place, places_of}
+use Rattle.record_io.specs.Places.{Place, places_of, records_of}
 use Rattle.record_io.specs.Reading.{SourceSeen, Standing, IsReading, HasTaken}
 use Rattle.run_promise.specs.declared.limits.TheConstants.{MOST_ENTRIES}
 use Rattle.run_promise.specs.Run.{HasNoEntry}
@@ -16,9 +16,10 @@ use Rattle.run_promise.specs.Fits.{MayAppend}
 use Rattle.run_promise.specs.Begin.{Begin}
 use Rattle.law_workers.specs.Views.{IsBetween, entries_in}
 use Rattle.law_workers.specs.Deeds.{course_in}
+use Rattle.law_workers.specs.Words.{MovesWords}
 use Rattle.run_promise.specs.declared.end.RunEnd.{RunEnd}
 use Rattle.run_promise.specs.declared.end.RunEnd.TheVariants as ends
-use Rattle.run_promise.specs.Account.{AreAnswered, answers_of_first}
+use Rattle.run_promise.specs.Account.{AreAnswered, answers_of_first, deeds_from}
 use Rattle.law_runs.specs.Doing.{HasDone, HasSettled, IsFounded, MovedAlone, octets_put}
 
 -- no put failed, and the answers were put; so many puts had failed before and have now
@@ -46,6 +47,7 @@ pub record IsUnderWay (start source : SourceSeen) (standing : Standing) (begin :
   pub put : HasPut begin now failed_before failed answers
   pub settled : IsTrue begin.told → IsFounded begin first → HasSettled begin now stored (places_of items) answers
   pub exactly : MovedAlone begin first now (places_of items) answers
+  pub moved : MovesWords begin first now (records_of (places_of items)) (deeds_from (places_of items) answers)
 
 -- why the reading ended
 abbrev pub EndsReading : SourceSeen → SourceSeen → List Item → List ℕ → List ℕ → RunEnd → Type 0
@@ -108,6 +110,7 @@ pub record HasCome (start source : SourceSeen) (begin : Begin) (first now : View
   pub put : PutsBy begin now failed_before failed answers came
   pub settled : IsTrue begin.told → IsFounded begin first → HasSettled begin now stored (places_of of) answers
   pub exactly : MovedAlone begin first now (places_of of) answers
+  pub moved : MovesWords begin first now (records_of (places_of of)) (deeds_from (places_of of) answers)
   pub full : came ≡ ends.SessionFull → StopsAtFullHistory begin first now (places_of of) answers
   -- all answers of the segments before that of a record that was handled were put
   pub earlier : IsTrue begin.told → (place : Place) → Contains (places_of of) place

@@ -29,6 +29,7 @@ use Rattle.run_promise.specs.declared.end.RunEnd.TheVariants.{Ended, SiteFault, 
 use Rattle.run_promise.specs.Call.{CallSeen, ShowsAtEntry, image_at_entry, sunk_since}
 use Rattle.run_promise.specs.Account.{Account, AreAnswered, SaysSiteFailed, begin_of, course_of, deeds_in, end_octets}
 use Rattle.run_promise.specs.Causes.{CameBy, TellsEnd, PutsDue, PutsFront}
+use Rattle.run_promise.specs.Words.{MovedWords}
 
 -- An early moment: what a crash then leaves of the image, one at the entry may leave too, and nothing but End was sunk.
 pub record IsEarly (call : CallSeen) (told : RunEnd) (image sunk : List ℕ) : Type 0 where
@@ -69,6 +70,8 @@ pub record IsReleased (call : CallSeen) (account : Account) (state : State) (end
   pub full : account.came ≡ Ended → account.told ≡ SessionFull → count < length (due_releases call state ends words)
   -- a fault of the site that the status does not tell is one of a release, which was entered
   pub heard : call.status ≢ status.SITE_FAULT → call.site_after.faults ≢ call.site.faults → ends < length call.entries
+  -- the words are the marks at the start and what the records' moves added
+  pub moved : MovedWords call account state words
   -- Each word can have stood in its row: it is no lower than the key's mark at the start, and above it, or above a
   -- number that was asked for, by no more than one a record that can draw. It is above each number that an answer used.
   pub near : (key row : ℕ) → place_of (after_first state call.entries ends).keys key ≡ Some row

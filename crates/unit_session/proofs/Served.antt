@@ -17,6 +17,7 @@ use Rattle.law_workers.specs.Order.{Handled, Layout, LiesIn}
 use Rattle.law_workers.proofs.Counting.{none_failed}
 use Rattle.run_promise.specs.Alone.{OneLane}
 use Rattle.law_workers.specs.Alone.{ServedAlone}
+use Rattle.law_workers.specs.Words.{MovesWords}
 use Rattle.law_workers.specs.Began.{BeganWith}
 use Rattle.law_runs.specs.Segment.{HandlesAndPuts, PutsWell}
 use Rattle.law_workers.specs.Ends.{EndsSegment}
@@ -56,6 +57,7 @@ module _ (told : Bool) (v mid w : View) (tasks : List Record) (up : Ascend tasks
     → Handled layout begin v mid tasks (deeds_of number tasks answers))
     (exactly : OneLane tasks → (begin : Begin) (number : ℕ) → BeganWith told begin v.turn.known.opening
     → ServedAlone begin v mid (length tasks) (deeds_of number tasks answers))
+    (moved : (begin : Begin) (number : ℕ) → BeganWith told begin v.turn.known.opening → MovesWords begin v mid tasks (deeds_of number tasks answers))
     (put : PutsOctets told (answers_octets answers) result mid w) where
   own : (begin : Begin) (number : ℕ) → BeganWith told begin v.turn.known.opening
       → Handled (own_layout number tasks) begin v mid tasks (deeds_of number tasks answers)
@@ -90,6 +92,7 @@ module _ (told : Bool) (v mid w : View) (tasks : List Record) (up : Ascend tasks
       entered = λ number k d low told. ((own begin number began).does.answers.stand k d low).stored told;
       exactly = λ one number. exactly one begin number began;
       same_numbers = put.leaves.numbers;
+      moved = λ number. moved begin number began;
     }
 
     stands : v.turn.known.standing ≤ w.turn.known.standing

@@ -27,7 +27,7 @@ returns-clause-opening g c =
     let w : View = view c.put_answers-put.new.self.worker in
     let answers : List Answer = c.in-Ok.segment.answers.items in
     let result : Result (Unit {0}) BookFault = c.put_answers-put.result in
-    same_opening told v mid w c.args.records.now c.requires.ascend answers result c.in-Ok.ensures.handled c.in-Ok.ensures.alone
+    same_opening told v mid w c.args.records.now c.requires.ascend answers result c.in-Ok.ensures.handled c.in-Ok.ensures.alone c.in-Ok.ensures.moved
     (subst (λ (l : List Answer). PutsOctets told (answers_octets l) result mid w) c.deref.ensures.value c.put_answers-put.ensures.puts)
 
 pub returns-clause-serves : goal.returns-clause-serves
@@ -39,7 +39,7 @@ returns-clause-serves g c = λ begin began.
     let answers : List Answer = c.in-Ok.segment.answers.items in
     let result : Result (Unit {0}) BookFault = c.put_answers-put.result in
     subst (λ (r : Result (Unit {0}) Stop). ServesSegment begin c.args.records.now r v w) (sym c.stop_after.ensures)
-    (serves told v mid w c.args.records.now c.requires.ascend answers result c.in-Ok.ensures.handled c.in-Ok.ensures.alone
+    (serves told v mid w c.args.records.now c.requires.ascend answers result c.in-Ok.ensures.handled c.in-Ok.ensures.alone c.in-Ok.ensures.moved
     (subst (λ (l : List Answer). PutsOctets told (answers_octets l) result mid w) c.deref.ensures.value c.put_answers-put.ensures.puts)
     begin began c.requires.alone.whole (c.in-Ok.ensures.whole c.requires.alone.shares) c.put_answers-put.ensures.alone.whole
     c.in-Ok.segment.full (c.in-Ok.ensures.full begin began))
