@@ -294,25 +294,25 @@ module _ {B : Type 0} (told : B → Known) (count : ℕ) (words : List ℕ) (hom
               record { changes = r.changes; faults = r.faults; standing = r.standing; put_faults = r.put_faults };
           each = each_set (KnowsBook new_book filled) turns id w
               record {
-                earlier = record { log = k.earlier.log; changes = k.earlier.changes; faults = k.earlier.faults; standing = k.earlier.standing; put_faults = k.earlier.put_faults; stopped = k.earlier.stopped };
+                earlier = record { log = k.earlier.log; changes = k.earlier.changes; faults = k.earlier.faults; standing = k.earlier.standing; put_faults = k.earlier.put_faults; stopped = k.earlier.stopped; stood = k.earlier.stood };
                 sparing = k.sparing;
                 epoch = k.epoch;
                 opening = k.opening;
                 blank = λ e. absurd (false≢true (sym e ∙ full));
                 made = k.made;
-                one = record { log = k.one.log; changes = k.one.changes; faults = k.one.faults; standing = k.one.standing; put_faults = k.one.put_faults; stopped = k.one.stopped };
-                other = record { log = k.other.log; changes = k.other.changes; faults = k.other.faults; standing = k.other.standing; put_faults = k.other.put_faults; stopped = k.other.stopped };
+                one = record { log = k.one.log; changes = k.one.changes; faults = k.one.faults; standing = k.one.standing; put_faults = k.one.put_faults; stopped = k.one.stopped; stood = k.one.stood };
+                other = record { log = k.other.log; changes = k.other.changes; faults = k.other.faults; standing = k.other.standing; put_faults = k.other.put_faults; stopped = k.other.stopped; stood = k.other.stood };
               }
               (λ j u e. let old = fits.each j u e in
               record {
-                earlier = record { log = old.earlier.log; changes = old.earlier.changes; faults = old.earlier.faults; standing = old.earlier.standing; put_faults = old.earlier.put_faults; stopped = old.earlier.stopped };
+                earlier = record { log = old.earlier.log; changes = old.earlier.changes; faults = old.earlier.faults; standing = old.earlier.standing; put_faults = old.earlier.put_faults; stopped = old.earlier.stopped; stood = old.earlier.stood };
                 sparing = old.sparing;
                 epoch = old.epoch;
                 opening = old.opening;
                 blank = old.blank;
                 made = old.made;
-                one = record { log = old.one.log; changes = old.one.changes; faults = old.one.faults; standing = old.one.standing; put_faults = old.one.put_faults; stopped = old.one.stopped };
-                other = record { log = old.other.log; changes = old.other.changes; faults = old.other.faults; standing = old.other.standing; put_faults = old.other.put_faults; stopped = old.other.stopped };
+                one = record { log = old.one.log; changes = old.one.changes; faults = old.one.faults; standing = old.one.standing; put_faults = old.one.put_faults; stopped = old.one.stopped; stood = old.one.stood };
+                other = record { log = old.other.log; changes = old.other.changes; faults = old.other.faults; standing = old.other.standing; put_faults = old.other.put_faults; stopped = old.other.stopped; stood = old.other.stood };
               });
         }
 
@@ -346,25 +346,25 @@ module _ {B : Type 0} (told : B → Known) (count : ℕ) (words : List ℕ) (hom
           reached = reached_here new_book (set turns id w) id w (here w) (omega (arith, ap (λ z. z.changes) knows)) (omega (arith, ap (λ z. z.faults) knows)) (omega (arith, ap (λ z. z.standing) knows)) (omega (arith, ap (λ z. z.put_faults) knows));
           each = each_set (KnowsBook new_book filled) turns id w
               record {
-                earlier = record { log = k.earlier.log; changes = let c = k.earlier.changes in omega arith; faults = k.earlier.faults; standing = k.earlier.standing; put_faults = k.earlier.put_faults; stopped = k.earlier.stopped };
+                earlier = record { log = k.earlier.log; changes = let c = k.earlier.changes in omega arith; faults = k.earlier.faults; standing = k.earlier.standing; put_faults = k.earlier.put_faults; stopped = k.earlier.stopped; stood = k.earlier.stood };
                 sparing = k.sparing;
                 epoch = let c = k.epoch in omega arith;
                 opening = k.opening;
                 blank = λ e. absurd (false≢true (sym e ∙ full));
                 made = k.made;
-                one = record { log = k.one.log; changes = let c = k.one.changes in omega arith; faults = k.one.faults; standing = k.one.standing; put_faults = k.one.put_faults; stopped = k.one.stopped };
-                other = record { log = k.other.log; changes = let c = k.other.changes in omega arith; faults = k.other.faults; standing = k.other.standing; put_faults = k.other.put_faults; stopped = k.other.stopped };
+                one = record { log = k.one.log; changes = let c = k.one.changes in omega arith; faults = k.one.faults; standing = k.one.standing; put_faults = k.one.put_faults; stopped = k.one.stopped; stood = k.one.stood };
+                other = record { log = k.other.log; changes = let c = k.other.changes in omega arith; faults = k.other.faults; standing = k.other.standing; put_faults = k.other.put_faults; stopped = k.other.stopped; stood = k.other.stood };
               }
               (λ j u e. let old = fits.each j u e in
               record {
-                earlier = record { log = old.earlier.log; changes = let c = old.earlier.changes in omega arith; faults = old.earlier.faults; standing = old.earlier.standing; put_faults = old.earlier.put_faults; stopped = old.earlier.stopped };
+                earlier = record { log = old.earlier.log; changes = let c = old.earlier.changes in omega arith; faults = old.earlier.faults; standing = old.earlier.standing; put_faults = old.earlier.put_faults; stopped = old.earlier.stopped; stood = old.earlier.stood };
                 sparing = old.sparing;
                 epoch = let c = old.epoch in omega arith;
                 opening = old.opening;
                 blank = old.blank;
                 made = old.made;
-                one = record { log = old.one.log; changes = let c = old.one.changes in omega arith; faults = old.one.faults; standing = old.one.standing; put_faults = old.one.put_faults; stopped = old.one.stopped };
-                other = record { log = old.other.log; changes = let c = old.other.changes in omega arith; faults = old.other.faults; standing = old.other.standing; put_faults = old.other.put_faults; stopped = old.other.stopped };
+                one = record { log = old.one.log; changes = let c = old.one.changes in omega arith; faults = old.one.faults; standing = old.one.standing; put_faults = old.one.put_faults; stopped = old.one.stopped; stood = old.one.stood };
+                other = record { log = old.other.log; changes = let c = old.other.changes in omega arith; faults = old.other.faults; standing = old.other.standing; put_faults = old.other.put_faults; stopped = old.other.stopped; stood = old.other.stood };
               });
         }
 

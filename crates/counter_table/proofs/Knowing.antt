@@ -39,10 +39,10 @@ rose_either before one other rose = elim (cases_lt one other) [
 ]
 
 pub earlier_itself : (k : Known) → Earlier k k
-earlier_itself k = record { log = ([], sym (append-nil k.log)); changes = omega arith; faults = omega arith; standing = omega arith; put_faults = omega arith; stopped = λ r. refl }
+earlier_itself k = record { log = ([], sym (append-nil k.log)); changes = omega arith; faults = omega arith; standing = omega arith; put_faults = omega arith; stopped = λ r. refl; stood = λ r. refl }
 
 pub earlier_unknown : (k : Known) → Earlier unknown k
-earlier_unknown k = record { log = (k.log, refl); changes = omega arith; faults = omega arith; standing = omega arith; put_faults = omega arith; stopped = λ r. absurd (omega arith) }
+earlier_unknown k = record { log = (k.log, refl); changes = omega arith; faults = omega arith; standing = omega arith; put_faults = omega arith; stopped = λ r. absurd (omega arith); stood = λ r. absurd (omega arith) }
 
 pub earlier_further : (a b c : Known) → Earlier a b → Earlier b c → c.opening ≡ b.opening → Earlier a c
 earlier_further a b c ab bc same =
@@ -56,6 +56,9 @@ earlier_further a b c ab bc same =
           let o : c.opening.faults ≡ b.opening.faults = ap (λ z. z.faults) same in
           let r' : Rose b.opening.faults a.faults = subst (λ z. Rose z a.faults) o r in
           bc.stopped (rose_later c.opening.faults a.faults b.faults ab.faults r) ∙ ab.stopped r';
+      stood = λ r.
+          let o : c.opening.faults ≡ b.opening.faults = ap (λ z. z.faults) same in
+          bc.stood (rose_later c.opening.faults a.faults b.faults ab.faults r) ∙ ab.stood (subst (λ z. Rose z a.faults) o r);
     }
 
 -- no more puts failed than pieces were put
@@ -99,6 +102,7 @@ earlier_first a k h =
       standing = omega arith;
       put_faults = omega arith;
       stopped = λ r. absurd (omega arith);
+      stood = λ r. absurd (omega arith);
     }
 
 -- of two earlier times the one that knows less is the earlier
@@ -117,6 +121,10 @@ earlier_between a b k ak bk same shorter fewer less low put =
           let e = ak.stopped r' in
           let low = entries_shorter a.log b.log ak.log.0 bk.log.0 (sym ak.log.1 ∙ bk.log.1) shorter in
           let whole : entries k.log ≡ entries b.log + entries bk.log.0 = ap entries bk.log.1 ∙ entries-append b.log bk.log.0 in omega arith;
+      stood = λ r.
+          let o : b.opening.faults ≡ k.opening.faults = ap (λ (z : Opening). z.faults) same in
+          let e = ak.stood (subst (λ (z : ℕ). Rose z a.faults) o r) in
+          let most = bk.standing in omega arith;
     }
   where
     prefix : (xs ys r s : List Logged) → xs ++ r ≡ ys ++ s → length xs ≤ length ys → (rest : List Logged) × (ys ≡ xs ++ rest)
@@ -146,6 +154,10 @@ earlier_later o a b k ak bk = go (ltb (length a.log) (length b.log)) refl
           stopped = λ r.
               let whole : entries k.log ≡ entries log + entries p.0 = ap entries p.1 ∙ entries-append log p.0 in
               ⊎_elim (λ x. let s = ak.stopped x in omega arith) (λ y. let s = bk.stopped y in omega arith) (rose_either k.opening.faults a.faults b.faults r);
+          stood = λ r.
+              let x = ak.standing in
+              let y = bk.standing in
+              ⊎_elim (λ z. let s = ak.stood z in omega arith) (λ z. let s = bk.stood z in omega arith) (rose_either k.opening.faults a.faults b.faults r);
         }
 
     go : (t : Bool) → ltb (length a.log) (length b.log) ≡ t

@@ -28,7 +28,8 @@ abbrev pub pieces : List Logged → ℕ
 pieces [] = 0
 pieces (line ∷ log) = (if is_entry line then 0 else 1) + pieces log
 
--- the one is the other at an earlier time. Once the count of faults had risen since the opening, no entry was added
+-- the one is the other at an earlier time. Once the count of faults had risen since the opening, no entry was added, and
+-- none stands that did not
 pub record Earlier (one other : Known) : Type 0 where
   pub log : (rest : List Logged) × (other.log ≡ one.log ++ rest)
   pub changes : one.changes ≤ other.changes
@@ -36,6 +37,7 @@ pub record Earlier (one other : Known) : Type 0 where
   pub standing : one.standing ≤ other.standing
   pub put_faults : one.put_faults ≤ other.put_faults
   pub stopped : Rose other.opening.faults one.faults → entries other.log ≡ entries one.log
+  pub stood : Rose other.opening.faults one.faults → other.standing ≡ one.standing
 
 -- from the one to the other no more puts failed than pieces were put
 abbrev pub IsSparing : Known → Known → Type 0

@@ -91,6 +91,7 @@ module _ {O : Type 0} (told : Bool) (trace : O → Trace) (faults puts : O → �
       standing = omega arith;
       put_faults = omega arith;
       stopped = λ _. refl;
+      stood = λ _. refl;
     };
     sparing = omega arith;
     opening = refl;

@@ -27,6 +27,7 @@ same_turn v = record {
     standing = omega arith;
     put_faults = omega arith;
     stopped = λ _. refl;
+    stood = λ _. refl;
   };
   sparing = omega arith;
   opening = refl;

@@ -27,7 +27,7 @@ top_both row [] b = omega arith
 top_both row (p ∷ a) b = let h = top_both row a b in omega arith
 
 earlier_itself : (k : Known) → Earlier k k
-earlier_itself k = record { log = ([], sym (append-nil k.log)); changes = omega arith; faults = omega arith; standing = omega arith; put_faults = omega arith; stopped = λ r. refl }
+earlier_itself k = record { log = ([], sym (append-nil k.log)); changes = omega arith; faults = omega arith; standing = omega arith; put_faults = omega arith; stopped = λ r. refl; stood = λ r. refl }
 
 earlier_further : (a b c : Known) → Earlier a b → Earlier b c → c.opening ≡ b.opening → Earlier a c
 earlier_further a b c ab bc same =
@@ -42,6 +42,11 @@ earlier_further a b c ab bc same =
           let f = ab.faults in
           let r' : Rose b.opening.faults a.faults = subst (λ (z : ℕ). Rose z a.faults) o r in
           bc.stopped (omega arith) ∙ ab.stopped r';
+      stood = λ r.
+          let o : c.opening.faults ≡ b.opening.faults = ap (λ (z : Opening). z.faults) same in
+          let f = ab.faults in
+          let r' : Rose b.opening.faults a.faults = subst (λ (z : ℕ). Rose z a.faults) o r in
+          bc.stood (omega arith) ∙ ab.stood r';
     }
 
 -- a front of a log has no more pieces

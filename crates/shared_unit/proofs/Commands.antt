@@ -181,7 +181,7 @@ module _ {O : Type 0} (trace : O → Trace) (faults puts : O → ℕ) where
       ap (λ (k : Turn). k.known) holds.is ∙ ap (λ (k : Turn). record k.known { marks = holds.marks; changes = given.changes }) took in
       subst (λ (k : Known). MayGive k (known_of_book trace faults puts given)) (sym known) (record {
         marks = holds.below;
-        earlier = record { log = on.earlier.log; changes = omega arith; faults = on.earlier.faults; standing = on.earlier.standing; put_faults = on.earlier.put_faults; stopped = on.earlier.stopped };
+        earlier = record { log = on.earlier.log; changes = omega arith; faults = on.earlier.faults; standing = on.earlier.standing; put_faults = on.earlier.put_faults; stopped = on.earlier.stopped; stood = on.earlier.stood };
         sparing = on.sparing;
         opening = on.opening;
         changes = refl;

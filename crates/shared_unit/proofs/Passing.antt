@@ -145,7 +145,7 @@ module _ {O : Type 0} (told : Bool) (trace : O → Trace) (faults puts : O → �
 
   looks_grows : (v w : Turn) → Looks v w → KnowsMoreOfBook v w
   looks_grows v w l = subst (λ (t : Turn). KnowsMoreOfBook v t) (sym l.is) (record {
-    earlier = record { log = ([], sym (append-nil v.known.log)); changes = omega arith; faults = omega arith; standing = omega arith; put_faults = omega arith; stopped = λ _. refl };
+    earlier = record { log = ([], sym (append-nil v.known.log)); changes = omega arith; faults = omega arith; standing = omega arith; put_faults = omega arith; stopped = λ _. refl; stood = λ _. refl };
     sparing = omega arith;
     opening = refl;
     epoch = l.later;
@@ -156,7 +156,7 @@ module _ {O : Type 0} (told : Bool) (trace : O → Trace) (faults puts : O → �
   passes_grows v w (inr t) =
       let g = takes_grows (known_of_book trace faults puts t.found) (known_of_book trace faults puts t.given) (seeing t.epoch v) w t.visits.takes in
       record {
-        earlier = record { log = g.earlier.log; changes = g.earlier.changes; faults = g.earlier.faults; standing = g.earlier.standing; put_faults = g.earlier.put_faults; stopped = g.earlier.stopped };
+        earlier = record { log = g.earlier.log; changes = g.earlier.changes; faults = g.earlier.faults; standing = g.earlier.standing; put_faults = g.earlier.put_faults; stopped = g.earlier.stopped; stood = g.earlier.stood };
         sparing = g.sparing;
         opening = g.opening;
         epoch = (let a = t.later in let b = g.epoch in omega arith);

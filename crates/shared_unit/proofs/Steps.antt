@@ -44,6 +44,8 @@ earlier_again a b c one two opening = record {
   put_faults = (let p = one.put_faults in let q = two.put_faults in omega arith);
   stopped = λ r. two.stopped (later_risen _ a.faults b.faults one.faults r)
       ∙ one.stopped (subst (λ (o : Opening). Rose o.faults a.faults) opening r);
+  stood = λ r. two.stood (later_risen _ a.faults b.faults one.faults r)
+      ∙ one.stood (subst (λ (o : Opening). Rose o.faults a.faults) opening r);
 }
 
 pub pieces-append : (xs ys : List Logged) → pieces (xs ++ ys) ≡ pieces xs + pieces ys
@@ -100,6 +102,7 @@ module _ {O : Type 0} (trace : O → Trace) (faults puts : O → ℕ) where
           faults = g.later;
           standing = g.standing;
           put_faults = up.puts_later;
+          stood = λ risen. g.stood (subst (λ (z : O). Rose (faults z) (faults old.site)) g.opened risen);
           stopped = λ risen.
               let none : entries_of g.added ≡ [] =
               g.stopped (subst (λ (z : O). Rose (faults z) (faults old.site)) g.opened risen) in
@@ -127,7 +130,7 @@ module _ {O : Type 0} (trace : O → Trace) (faults puts : O → ℕ) where
       let c = continues found given g in
       subst (λ (k : Known). MayGive k (known_of_book trace faults puts given)) (sym same) (record {
         marks = λ row. omega arith;
-        earlier = record { log = c.earlier.log; changes = c.earlier.changes; faults = c.earlier.faults; standing = c.earlier.standing; put_faults = c.earlier.put_faults; stopped = c.earlier.stopped };
+        earlier = record { log = c.earlier.log; changes = c.earlier.changes; faults = c.earlier.faults; standing = c.earlier.standing; put_faults = c.earlier.put_faults; stopped = c.earlier.stopped; stood = c.earlier.stood };
         sparing = c.sparing;
         opening = c.opening;
         changes = changes;

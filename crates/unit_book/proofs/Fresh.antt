@@ -47,6 +47,7 @@ pub fresh_kept : {O : Type 0} (told : Bool) (trace : O â†’ Trace) (faults : O â†
 fresh_kept {O} told trace faults site image plan start journal rules settled shows same = record {
   later = omega arith;
   stands = omega arith;
+  few_left = omega arith;
   led = refl;
   begins = rules;
   rules = rules;

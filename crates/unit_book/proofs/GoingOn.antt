@@ -34,6 +34,7 @@ goes_same {O} faults book = record {
   standing = omega arith;
   changes = omega arith;
   stopped = λ rose. refl;
+  stood = λ rose. refl;
   places = λ id place is. is;
   marks = λ none. marks_same book.state;
 }
@@ -56,6 +57,11 @@ goes_then {O} faults old mid new first next = record {
   later = let one : faults old.site ≤ faults mid.site = first.later in let other : faults mid.site ≤ faults new.site = next.later in omega arith;
   standing = let one : old.standing ≤ mid.standing = first.standing in let other : mid.standing ≤ new.standing = next.standing in omega arith;
   changes = let one : old.changes ≤ mid.changes = first.changes in let other : mid.changes ≤ new.changes = next.changes in omega arith;
+  stood = λ rose.
+      let low : faults old.site ≤ faults mid.site = first.later in
+      let still : Rose (faults mid.opened) (faults mid.site) =
+      subst (λ (o : O). Rose (faults o) (faults mid.site)) (sym first.opened) (rose_later (faults old.opened) (faults old.site) (faults mid.site) low rose) in
+      next.stood still ∙ first.stood rose;
   stopped = λ rose.
       let later : faults old.site ≤ faults mid.site = first.later in
       let still : Rose (faults mid.opened) (faults mid.site) =
@@ -87,6 +93,7 @@ goes_put {O} faults piece old new site low is = subst (GoesOn faults old) (sym i
   standing = omega arith;
   changes = omega arith;
   stopped = λ rose. refl;
+  stood = λ rose. refl;
   places = λ id place is. is;
   marks = λ none. marks_same old.state;
 })
@@ -111,6 +118,7 @@ goes_entered {O} faults entry old new position keeps can low made =
       standing = omega arith;
       changes = omega arith;
       stopped = λ rose. absurd (can.0 rose);
+      stood = λ rose. absurd (can.0 rose);
       places = places_kept old.state entry.change;
       marks = λ none. keeps (one_entry entry none);
     })
@@ -132,6 +140,7 @@ goes_unstored {O} faults entry old new (SiteFault count) can low unstored =
       standing = omega arith;
       changes = omega arith;
       stopped = λ rose. absurd (can.0 rose);
+      stood = λ rose. absurd (can.0 rose);
       places = λ id place there. there;
       marks = λ none. marks_same old.state;
     })

@@ -68,6 +68,7 @@ kept_put {O} told trace faults octets old site low puts kept =
     record {
       later = omega arith;
       stands = subst (λ (entries : List Entry). old.standing ≤ length entries) (sym same) kept.stands;
+      few_left = subst (λ (entries : List Entry). length entries ≤ old.standing + 1) (sym same) kept.few_left;
       led = subst (λ (entries : List Entry). old.state ≡ after_first old.start entries old.standing) (sym same) kept.led;
       begins = kept.begins;
       rules = kept.rules;
@@ -146,6 +147,7 @@ module _ {O : Type 0} (told : Bool) (trace : O → Trace) (faults : O → ℕ) (
       record {
         later = r.kept.later;
         stands = omega arith;
+        few_left = omega arith;
         led = led;
         begins = r.kept.begins;
         rules = rules_kept old.state entry.change r.kept.rules r.allows;
@@ -203,6 +205,7 @@ module _ {O : Type 0} (told : Bool) (trace : O → Trace) (faults : O → ℕ) (
       record {
         later = omega arith;
         stands = omega arith;
+        few_left = omega arith;
         led = led;
         begins = r.kept.begins;
         rules = rules_kept old.state entry.change r.kept.rules r.allows;
@@ -248,6 +251,7 @@ module _ {O : Type 0} (told : Bool) (trace : O → Trace) (faults : O → ℕ) (
       record {
         later = omega arith;
         stands = omega arith;
+        few_left = omega arith;
         led = r.kept.led ∙ sym (first_same old.start (entries_of old.log) (entry ∷ []) old.standing (omega arith))
             ∙ ap (λ (entries : List Entry). after_first old.start entries old.standing) (sym more);
         begins = r.kept.begins;

@@ -76,6 +76,8 @@ pub record CountsUsedSlots (image : List ℕ) (start : State) (journal : Journal
 pub record IsKept {O : Type 0} (told : Bool) (trace : O → Trace) (faults : O → ℕ) (book : BookView O) : Type 0 where
   pub later : faults book.opened ≤ faults book.site
   pub stands : book.standing ≤ length (entries_of book.log)
+  -- one entry at most was left out
+  pub few_left : length (entries_of book.log) ≤ book.standing + 1
   pub led : book.state ≡ after_first book.start (entries_of book.log) book.standing
   pub begins : KeepsRules book.start
   pub rules : KeepsRules book.state

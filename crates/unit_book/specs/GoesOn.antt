@@ -11,7 +11,7 @@ use Rattle.unit_book.specs.Book.{BookView}
 
 -- The opening stands: what was read, its plan and state, the site as it was then, and the slots. The log goes on by the
 -- lines that the call added. Neither the count of faults nor that of changes falls; once the first had risen, no entry
--- is added. Keys keep their places, and their marks do not fall but by a release.
+-- is added, and none stands that did not. Keys keep their places, and their marks do not fall but by a release.
 pub record GoesOn {O : Type 0} (faults : O → ℕ) (old new : BookView O) : Type 0 where
   pub opened : new.opened ≡ old.opened
   pub image : new.image ≡ old.image
@@ -24,6 +24,7 @@ pub record GoesOn {O : Type 0} (faults : O → ℕ) (old new : BookView O) : Typ
   pub standing : old.standing ≤ new.standing
   pub changes : old.changes ≤ new.changes
   pub stopped : Rose (faults old.opened) (faults old.site) → entries_of added ≡ []
+  pub stood : Rose (faults old.opened) (faults old.site) → new.standing ≡ old.standing
   pub places : KeepsPlaces old.state new.state
   pub marks : HasNoRelease (entries_of added) → KeepsMarks old.state new.state
 
