@@ -1,16 +1,14 @@
 -- Records that moved the words as their answers tell: one after the other, and by one worker that was split off and joined.
-use Rattle.std.proofs.Common.{◌≡◌, ℕ, suc, ◌+◌, ◌<◌, ◌≤◌, max, Bool, true, false, nat_lt, if◌then◌else◌, List, [], ◌∷◌, ◌++◌, length, Some, None, refl, sym, ◌∙◌, ap, subst, arith, append-nil, length-append}
+use Rattle.std.proofs.Common.{◌≡◌, ℕ, suc, ◌+◌, ◌<◌, ◌≤◌, max, Bool, true, false, nat_lt, if◌then◌else◌, List, [], ◌∷◌, ◌++◌, length, Some, None, refl, sym, ◌∙◌, ap, subst, inl, inr, arith, append-nil, length-append}
 use Rattle.counter_table.specs.declared.view.View.{View}
-use Rattle.counter_table.specs.Known.{later, longer}
+use Rattle.counter_table.specs.Known.{Earlier, entries, later, longer}
 use Rattle.counter_table.specs.Numbers.{amount}
 use Rattle.counter_table.specs.Turn.{epoch_seen, stands}
 use Rattle.counter_table.specs.declared.view.Known.{Known}
 use Rattle.counter_table.specs.declared.view.Opening.{Opening}
 use Rattle.sdls_base.specs.declared.entry.Entry.{Entry}
 use Rattle.sdls_base.specs.declared.entry.Logged.{Logged}
-use Rattle.unit_state.specs.History.{after, epoch_after}
 use Rattle.run_promise.specs.Log.{entries_of}
-use Rattle.run_promise.specs.Numbers.{mark_of}
 use Rattle.record_io.specs.declared.records.Record.{Record}
 use Rattle.record_io.specs.declared.answers.Answer.{Answer}
 use Rattle.run_promise.specs.Begin.{Begin}
@@ -21,9 +19,9 @@ use Rattle.law_workers.specs.Lanes.{giving_shares}
 use Rattle.law_workers.proofs.Joining.{top_both}
 use Rattle.run_promise.specs.Machine.{Move}
 use Rattle.law_workers.specs.Exact.{words_in}
-use Rattle.law_workers.specs.InTurn.{IsLevel, ServedBetween}
+use Rattle.law_workers.specs.InTurn.{IsLeftBehind, IsLevel, ServedBetween, stood_in}
 use Rattle.law_workers.specs.Alone.{MovedInTurn, ServedAlone}
-use Rattle.law_workers.proofs.Turns.{clean_before, log_low, row_on}
+use Rattle.law_workers.proofs.Turns.{all_on, level_on, log_low, row_on, settled_on, stood_on}
 use Rattle.law_workers.proofs.Alone.{below_log, exact_seen, seen_moves, turns_more, turns_then}
 use Rattle.law_calls.specs.Answering.{AnsweredExactly}
 use Rattle.frame_workers.proofs.Steps.{deeds_step, deeds_short}
@@ -71,9 +69,42 @@ log_twice : (b : Bool) (o : Opening) (k : Known) → (if b then k else later o k
 log_twice true o k = refl
 log_twice false o k = one_of (nat_lt (length k.log) (length k.log)) k.log
 
+faults_twice : (b : Bool) (o : Opening) (k : Known) → (if b then k else later o k k).faults ≡ k.faults
+faults_twice true o k = refl
+faults_twice false o k = omega arith
+
+standing_twice : (b : Bool) (o : Opening) (k : Known) → (if b then k else later o k k).standing ≡ k.standing
+standing_twice true o k = refl
+standing_twice false o k = omega arith
+
+put_faults_twice : (b : Bool) (o : Opening) (k : Known) → (if b then k else later o k k).put_faults ≡ k.put_faults
+put_faults_twice true o k = refl
+put_faults_twice false o k = omega arith
+
 changes_twice : (b : Bool) (o : Opening) (k : Known) → (if b then k else later o k k).changes ≡ k.changes
 changes_twice true o k = refl
 changes_twice false o k = omega arith
+
+opening_twice : (b f : Bool) (k : Known) → (if b then k else later (if f then k.opening else k.opening) k k).opening ≡ k.opening
+opening_twice true f k = refl
+opening_twice false f k = one_of f k.opening
+
+earlier_twice : (b : Bool) (o : Opening) (k : Known) → Earlier k (if b then k else later o k k)
+earlier_twice b o k =
+    let log : (if b then k else later o k k).log ≡ k.log = log_twice b o k in
+    let changes = changes_twice b o k in
+    let faults = faults_twice b o k in
+    let standing = standing_twice b o k in
+    let puts = put_faults_twice b o k in
+    record {
+      log = ([], log ∙ sym (append-nil k.log));
+      changes = omega arith;
+      faults = omega arith;
+      standing = omega arith;
+      put_faults = omega arith;
+      stopped = λ risen. ap entries log;
+      stood = λ risen. standing;
+    }
 
 looked_log : (v : View) → log_of (looked v) ≡ log_of v
 looked_log v = log_twice v.turn.holds (if v.turn.filled then v.turn.known.opening else v.turn.known.opening) v.turn.known
@@ -117,16 +148,25 @@ module _ (begin : Begin) (n : ℕ) (base : View) where
     spent = [];
     between = record {
       spent_is = refl;
-      level = λ clean level. let e = looked_epoch (giving_shares n base) in let l = ap (λ (log : List Logged). epoch_after (entries_of log)) (looked_log (giving_shares n base)) in omega arith;
-      served = λ all clean level marks. (
+      level = λ level. level_on base (looked (giving_shares n base)) looked_earlier looked_opening same
+          (let e = looked_epoch (giving_shares n base) in omega arith) level;
+      served = λ all level settled. (
         [],
         [],
-        ap entries_of (looked_log (giving_shares n base)) ∙ sym (append-nil (entries_in base)),
+        stood_on base (looked (giving_shares n base)) looked_earlier looked_opening same level ∙ sym (append-nil (stood_in base)),
         refl,
-        (λ none. refl, omega arith),
+        (λ none. refl, inl refl),
       );
     };
-  }
+  } where
+    same : entries_in (looked (giving_shares n base)) ≡ entries_in base
+    same = ap entries_of (looked_log (giving_shares n base))
+
+    looked_opening : (looked (giving_shares n base)).turn.known.opening ≡ base.turn.known.opening
+    looked_opening = opening_twice base.turn.holds base.turn.filled base.turn.known
+
+    looked_earlier : Earlier base.turn.known (looked (giving_shares n base)).turn.known
+    looked_earlier = earlier_twice base.turn.holds (if base.turn.filled then base.turn.known.opening else base.turn.known.opening) base.turn.known
 
   -- one lane was, and its worker joined
   pub joined_exactly : (w : View) (ts : List Record) (ds : List Deed) (count : ℕ) → Does begin (starting base) w ts ds
@@ -146,17 +186,20 @@ module _ (begin : Begin) (n : ℕ) (base : View) where
         (sym (seen_moves begin (starting base) w base (looked (meeting (giving_shares n base) w)) h.moved.made ds h.moved.last h.moved.exact below grows from to more))
         (record {
           spent_is = append-nil (base.numbers.spent ++ w.numbers.spent) ∙ ap (λ (l : List (ℕ × ℕ)). base.numbers.spent ++ l) h.in_turn.between.spent_is;
-          level = λ clean level.
-              let w_level : IsLevel w = h.in_turn.between.level (clean_before w (looked (meeting (giving_shares n base) w)) grows clean) level in
-              let e = grows.epochs in let l = ap epoch_after same_entries in omega arith;
-          served = λ all clean level marks.
+          level = λ level. level_on w (looked (meeting (giving_shares n base) w)) grows.earlier grows.opening same_entries grows.epochs
+              (h.in_turn.between.level (level_start level));
+          served = λ all level settled.
+              let level_w = h.in_turn.between.level (level_start level) in
               let (own, rest, is, served, behind) = h.in_turn.between.served
-              (λ place low high. all place low (let s = ap length same_log in omega arith))
-              (clean_before w (looked (meeting (giving_shares n base) w)) grows clean) level
-              (λ key row number few there in'.
-              subst (λ (l : List Entry). number < mark_of (after begin.start l) key) same_entries
-              (marks key row number few (row_on begin w (looked (meeting (giving_shares n base) w)) grows key row there) in')) in
-              (own, rest, same_entries ∙ is, served, behind);
+              (λ place low high. all place low (let s = ap length same_log in omega arith)) (level_start level)
+              (settled_on begin w (looked (meeting (giving_shares n base) w)) h.spent (row_on begin w (looked (meeting (giving_shares n base) w)) grows)
+              (stood_on w (looked (meeting (giving_shares n base) w)) grows.earlier grows.opening same_entries level_w) grows.epochs settled) in (
+                own,
+                rest,
+                stood_on w (looked (meeting (giving_shares n base) w)) grows.earlier grows.opening same_entries level_w ∙ is,
+                served,
+                left_joined rest behind,
+              );
         });
   }
     where
@@ -196,3 +239,12 @@ module _ (begin : Begin) (n : ℕ) (base : View) where
 
       same_entries : entries_in (looked (meeting (giving_shares n base) w)) ≡ entries_in w
       same_entries = ap entries_of same_log
+
+      -- the worker that was split off knew what the first one did
+      level_start : IsLevel base → IsLevel (starting base)
+      level_start level = record { few = level.few; all = level.all; epoch = level.epoch }
+
+      left_joined : (rest : List Entry) → IsLeftBehind w h.moved.last rest → IsLeftBehind (looked (meeting (giving_shares n base) w)) h.moved.last rest
+      left_joined rest (none, inl empty) = (none, inl empty)
+      left_joined rest (none, inr (few, all)) =
+          (none, inr (few, all_on w (looked (meeting (giving_shares n base) w)) grows.earlier grows.opening same_entries all))

@@ -9,6 +9,7 @@ use Rattle.sdls_base.specs.declared.entry.Logged.{Logged}
 use Rattle.sdls_base.specs.declared.entry.Logged.TheVariants as lines
 use Rattle.sdls_base.specs.declared.entry.Seen.{Seen}
 use Rattle.sdls_base.specs.declared.entry.Seen.TheVariants as sights
+use Rattle.sdls_outside.specs.Faults.{Rose}
 use Rattle.sdls_outside.specs.Moments.{Trace}
 use Rattle.key_book.specs.KeyBook.{place_of}
 use Rattle.ep_core.specs.declared.need.Need.{Need}
@@ -53,7 +54,7 @@ use Rattle.run_promise.specs.Deed.{deed_of}
 use Rattle.law_workers.specs.Order.{Layout}
 use Rattle.run_promise.specs.Machine.{Move, Kept, Found, Drew, Raised, Overdrew}
 use Rattle.run_promise.specs.Serving as machine
-use Rattle.law_workers.specs.InTurn.{IsClean}
+use Rattle.law_workers.specs.InTurn.{IsClean, AllStand}
 use Rattle.run_promise.specs.Moves.{TellsSeen, TellsCommand, TellsKind, Tells}
 use Rattle.law_workers.specs.Exact.{IsOfMoves}
 use Rattle.law_workers.specs.Began.{BeganWith}
@@ -64,7 +65,7 @@ use Rattle.law_calls.proofs.Exactness.{AreDrawn, of_record, refused_exactly, tol
 use Rattle.law_calls.proofs.Fitted.{before_is, there}
 use Rattle.law_calls.proofs.Moving.{Moves, moves_none, moves_found, moves_drew, moves_over, moves_raised}
 use Rattle.law_calls.proofs.OneRecord.{Turned}
-use Rattle.law_calls.proofs.InTurn.{CoversSpent, Passes, Stands, covers, slot_free, slot_full, stands_entered, stands_found, takes_pass}
+use Rattle.law_calls.proofs.InTurn.{CoversSpent, Passes, Stands, clean_found, covers, given_as, given_entered, served_clean, slot_free, slot_full, stands_entered, stands_found, takes_pass}
 use Rattle.law_calls.proofs.Visit.{log_is, plan_is, row_below, row_known, turned, whole}
 use Rattle.law_calls.proofs.Stages.{Call}
 use Rattle.law_calls.proofs.Commandings.{call_of, one_drawer, Satisfied, satisfied}
@@ -92,6 +93,17 @@ reserve_drawn row n e seen entry same none =
 
 module _ {O : Type 0} (told : Bool) (trace : O → Trace) (faults puts : O → ℕ) (c : Call told trace faults puts) (commands : c.task.kind ≡ Command)
     (covers_spent : CoversSpent c.begin c.old_view c.new_view) where
+  -- the site had not failed when the book was found
+  abbrev FoundClean : Type 0
+  FoundClean = ¬ Rose (faults c.found.opened) (faults c.found.site)
+
+  was_clean : FoundClean → IsClean c.old_view
+  was_clean clean = clean_found told trace faults puts c.begin c.found c.given c.taken c.old_view c.new_view c.began c.free c.visits c.known clean
+
+  -- all entries stand, where a book was given back in which they did
+  all_given : (old : BookView O) → c.given ≡ old → old.standing ≡ length (entries_of old.log) → AllStand c.new_view
+  all_given old same all = given_as told trace faults puts c.begin c.found c.given c.taken c.old_view c.new_view c.began c.free c.visits old same all
+
   -- what the words showed for a need, as a move
   record Saw (need : Need) (seen : Seen) (middle : BookView O) : Type 0 where
     pub move : Move
@@ -99,33 +111,33 @@ module _ {O : Type 0} (told : Bool) (trace : O → Trace) (faults puts : O → �
     pub tells : (state : State) → ((need : Need) → IsNeedOf c.found.state c.task.octets need → IsNeedOf state c.task.octets need)
         → TellsSeen c.begin.start (entries_in c.new_view) state c.task seen move
     pub number : (n : ℕ) → seen ≡ sights.Number n → (row : ℕ) × (move ≡ Drew row n)
-    -- where the site did not fail, what is known of the book behind it, and what the machine says of it
-    pub stands : IsClean c.new_view → Stands c.begin middle
-    pub shown : IsClean c.new_view → (es : List Entry) → middle.log ≡ c.found.log ++ lines_of es
+    -- where the site had not failed, what is known of the book behind it, and what the machine says of it
+    pub stands : FoundClean → Stands c.begin middle
+    pub shown : FoundClean → (es : List Entry) → middle.log ≡ c.found.log ++ lines_of es
         → machine.AloneShows c.begin (entries_of c.found.log) need seen es move
 
-  stands_first : IsClean c.new_view → Stands c.begin c.found
+  stands_first : FoundClean → Stands c.begin c.found
   stands_first clean = stands_found told trace faults puts c.begin c.found c.given c.taken c.old_view c.new_view c.began c.free c.visits clean
 
-  stands_same : (middle : BookView O) → middle ≡ c.found → IsClean c.new_view → Stands c.begin middle
+  stands_same : (middle : BookView O) → middle ≡ c.found → FoundClean → Stands c.begin middle
   stands_same middle same clean = subst (Stands c.begin) (sym same) (stands_first clean)
 
   none_more : (middle : BookView O) → middle ≡ c.found → (es : List Entry) → middle.log ≡ c.found.log ++ lines_of es → es ≡ []
   none_more middle same es is = none_added c.found.log es (ap (λ (b : BookView O). b.log) (sym same) ∙ is)
 
   -- in the state after the history that was found
-  place_now : (key row : ℕ) → place_of c.found.state.keys key ≡ Some row → IsClean c.new_view
+  place_now : (key row : ℕ) → place_of c.found.state.keys key ≡ Some row → FoundClean
       → place_of (machine.now c.begin (entries_of c.found.log)).keys key ≡ Some row
   place_now key row place clean = ap (λ (s : State). place_of s.keys key) (sym (stands_first clean).state) ∙ place
 
-  need_now : (need : Need) → IsNeedOf c.found.state c.task.octets need → IsClean c.new_view
+  need_now : (need : Need) → IsNeedOf c.found.state c.task.octets need → FoundClean
       → IsNeedOf (machine.now c.begin (entries_of c.found.log)) c.task.octets need
   need_now need needed clean = subst (λ (s : State). IsNeedOf s c.task.octets need) (stands_first clean).state needed
 
-  mark_now : (key : ℕ) → IsClean c.new_view → mark_of c.found.state key ≡ mark_of (machine.now c.begin (entries_of c.found.log)) key
+  mark_now : (key : ℕ) → FoundClean → mark_of c.found.state key ≡ mark_of (machine.now c.begin (entries_of c.found.log)) key
   mark_now key clean = ap (λ (s : State). mark_of s key) (stands_first clean).state
 
-  reserve_now : (key n : ℕ) → IsClean c.new_view
+  reserve_now : (key n : ℕ) → FoundClean
       → reserve_of c.found.plan c.found.state key n ≡ reserve_of c.begin.plan (machine.now c.begin (entries_of c.found.log)) key n
   reserve_now key n clean =
       ap (λ (p : PlanLines). reserve_of p c.found.state key n)
@@ -133,7 +145,7 @@ module _ {O : Type 0} (told : Bool) (trace : O → Trace) (faults puts : O → �
       ∙ ap (λ (s : State). reserve_of c.begin.plan s key n) (stands_first clean).state
 
   -- the number that was drawn is below its mark, or was reserved
-  funds_now : (key n mark : ℕ) (middle : BookView O) → Reserves faults key n (Ok mark) c.found middle → IsClean c.new_view → (es : List Entry)
+  funds_now : (key n mark : ℕ) (middle : BookView O) → Reserves faults key n (Ok mark) c.found middle → FoundClean → (es : List Entry)
       → middle.log ≡ c.found.log ++ lines_of es → machine.Funds c.begin (entries_of c.found.log) key n es
   funds_now key n mark middle (above, mark_is, inl (low, same)) clean es is =
       inl (none_more middle same es is, (let m = mark_now key clean in omega arith))
@@ -147,7 +159,7 @@ module _ {O : Type 0} (told : Bool) (trace : O → Trace) (faults puts : O → �
         subst (machine.HasSlot c.begin (entries_of c.found.log)) (reserve_now key n clean) (slot_free c.begin c.found (stands_first clean) entry made.1.free),
       )
 
-  stands_reserved : (key n mark : ℕ) (middle : BookView O) → Reserves faults key n (Ok mark) c.found middle → IsClean c.new_view → Stands c.begin middle
+  stands_reserved : (key n mark : ℕ) (middle : BookView O) → Reserves faults key n (Ok mark) c.found middle → FoundClean → Stands c.begin middle
   stands_reserved key n mark middle (above, mark_is, inl (low, same)) clean = stands_same middle same clean
   stands_reserved key n mark middle (above, mark_is, inr (high, (position, made))) clean =
       stands_entered c.begin c.found (stands_first clean) middle (reserve_of c.found.plan c.found.state key n) position made.1
@@ -302,7 +314,7 @@ module _ {O : Type 0} (told : Bool) (trace : O → Trace) (faults puts : O → �
         (λ other there. subst (λ (st : State). IsNeedOf st c.task.octets other) (sym same) (on other there))
 
     -- the machine's step, with this change and reply
-    is_shown : IsClean c.new_view → (change : Change) (reply : Reply) → IsStepOf middle.state c.task.octets seen (change, reply)
+    is_shown : FoundClean → (change : Change) (reply : Reply) → IsStepOf middle.state c.task.octets seen (change, reply)
         → machine.AloneShown c.begin (entries_of c.found.log) c.task s.es m.move
     is_shown clean change reply step = record {
       need = need;
@@ -350,7 +362,15 @@ module _ {O : Type 0} (told : Bool) (trace : O → Trace) (faults puts : O → �
           );
           full = λ is. absurd (not_full reply is);
         }))
-        (λ here clean level marks. by_kind (answer_of (replied_told reply) position) (s.es ++ record_entry c.task.index seen h.change ∷ []) m.move (inl (record {
+        (λ here level settled.
+        let clean : FoundClean = s.stage.clean h.made.0.0 in
+        served_clean c.begin c.old_view c.new_view c.found.log (s.es ++ record_entry c.task.index seen h.change ∷ [])
+        (by_lines (s.es ++ record_entry c.task.index seen h.change ∷ []) (with_own h.change added)) c.segment c.task m.move
+        s.numbers.spent (passes (s.es ++ record_entry c.task.index seen h.change ∷ []) (with_own h.change added) s.numbers.spent s.numbers.counted.spent_is)
+        (answer_of (replied_told reply) position) here (level.all (was_clean clean))
+        (given_entered told trace faults puts c.begin c.found c.given c.taken c.old_view c.new_view c.began c.free c.visits middle
+        (record_entry c.task.index seen h.change) position h.made.1 (s.stage.all_stand h.made.0.0))
+        (by_kind (answer_of (replied_told reply) position) (s.es ++ record_entry c.task.index seen h.change ∷ []) m.move (inl (record {
           reserve = s.es;
           is = is_shown clean h.change reply h.step;
           told = refl;
@@ -360,7 +380,7 @@ module _ {O : Type 0} (told : Bool) (trace : O → Trace) (faults puts : O → �
           slot = subst (λ (l : List Entry). machine.HasSlot c.begin l (record_entry c.task.index seen h.change)) entries_middle
               (slot_free c.begin middle (m.stands clean) (record_entry c.task.index seen h.change) h.made.1.free);
           own_is = refl;
-        }))) where
+        })))) where
           near_any : ℕ → ℕ → Type 0
           near_any key n = ⊤
 
@@ -378,16 +398,23 @@ module _ {O : Type 0} (told : Bool) (trace : O → Trace) (faults puts : O → �
       by_es (inr (key, n, sees, is)) = let size = ap length is in omega arith
 
     refused : (es : List Entry) → c.given.log ≡ c.found.log ++ lines_of es → AreDrawn (m.move ∷ []) es → (fault : BookFault) (position : ℕ)
-        → (fault ≡ refusals.SessionFull → length es ≤ 1)
+        → (fault ≡ refusals.SessionFull → (length es ≤ 1) × IsClean c.old_view × AllStand c.new_view)
         → ((slots : ℕ) → fault ≡ refusals.JournalFull slots
         → Tells c.begin.start (entries_in c.new_view) (deed_of c.segment c.task (answer_of (counting JOURNAL_FULL 0 slots) position)) m.move
-        × (IsClean c.new_view
-        → machine.AloneServes c.begin (entries_of c.found.log) c.task (answer_of (counting JOURNAL_FULL 0 slots) position) es m.move))
+        × FoundClean × AllStand c.new_view
+        × machine.AloneServes c.begin (entries_of c.found.log) c.task (answer_of (counting JOURNAL_FULL 0 slots) position) es m.move)
         → AnsweredExactly c.begin c.segment c.old_view c.new_view c.task (fault_answer fault position)
     refused es is are fault position few full =
         refused_exactly c.begin c.segment c.task c.old_view c.new_view m.move m.moves c.found.log es (by_lines es is) are
         s.numbers.spent (passes es is s.numbers.spent s.numbers.counted.spent_is) (not_open m.move) fault position few
-        (λ slots same. ((full slots same).0, λ here clean level marks. (full slots same).1 clean))
+        (λ slots same. (
+          (full slots same).0,
+          λ here level settled.
+              let (tells, clean, now, serves) = full slots same in
+              served_clean c.begin c.old_view c.new_view c.found.log es (by_lines es is) c.segment c.task m.move
+              s.numbers.spent (passes es is s.numbers.spent s.numbers.counted.spent_is) (answer_of (counting JOURNAL_FULL 0 slots) position) here
+              (level.all (was_clean clean)) now serves,
+        ))
 
     same_slots : (one other : ℕ) → refusals.JournalFull one ≡ refusals.JournalFull other → other ≡ one
     same_slots one other is = cc
@@ -403,7 +430,8 @@ module _ {O : Type 0} (told : Bool) (trace : O → Trace) (faults puts : O → �
     unstored change reply step can (refusals.JournalFull slots) position at h =
         let here = known_length position at in
         let state = state_at_end middle h.3 (s.stage.state can.0) position here in
-        refused s.es (left h.3) drawn (refusals.JournalFull slots) position (λ full. few_es)
+        let clean : FoundClean = s.stage.clean can.0 in
+        refused s.es (left h.3) drawn (refusals.JournalFull slots) position (λ full. absurd (let no = full in cc))
         (λ others same. (
           full_tells others position m.move (omega arith) (inl (
             seen,
@@ -412,7 +440,9 @@ module _ {O : Type 0} (told : Bool) (trace : O → Trace) (faults puts : O → �
             subst (λ (st : State). IsStepOf st c.task.octets seen (change, reply)) (sym state) step,
             tells_at position state,
           )),
-          λ clean. by_kind (answer_of (counting JOURNAL_FULL 0 others) position) s.es m.move (inr (inl (record {
+          clean,
+          all_given middle h.3 (s.stage.all_stand can.0),
+          by_kind (answer_of (counting JOURNAL_FULL 0 others) position) s.es m.move (inr (inl (record {
             is = is_shown clean change reply step;
             full = subst (λ (l : List Entry). machine.SaysFull c.begin l (record_entry c.task.index seen change) (answer_of (counting JOURNAL_FULL 0 others) position))
                 entries_middle (slot_full c.begin middle (m.stands clean) (record_entry c.task.index seen change) others position h.0 h.1
@@ -427,9 +457,13 @@ module _ {O : Type 0} (told : Bool) (trace : O → Trace) (faults puts : O → �
         → RefusesMessage faults c.task.index c.task.octets seen middle c.given fault
         → AnsweredExactly c.begin c.segment c.old_view c.new_view c.task (fault_answer fault position)
     refuses fault position at (inl (is_barred, same)) =
-        refused s.es (left same) drawn fault position (λ full. few_es) (λ slots is. absurd (subst (IsBarred faults middle) is is_barred))
+        refused s.es (left same) drawn fault position
+        (λ is.
+        let full = subst (IsBarred faults middle) is is_barred in
+        (few_es, was_clean (s.stage.clean full.0), all_given middle same (s.stage.all_stand full.0)))
+        (λ slots is. absurd (subst (IsBarred faults middle) is is_barred))
     refuses fault position at (inr (inl (none, same))) =
-        refused s.es (left same) drawn fault position (λ full. few_es) (λ slots is. absurd (let no = sym none ∙ is in cc))
+        refused s.es (left same) drawn fault position (λ full. absurd (let no = sym none ∙ full in cc)) (λ slots is. absurd (let no = sym none ∙ is in cc))
     refuses fault position at (inr (inr (can, ((change, reply), step, fails)))) = unstored change reply step can fault position at fails
 
   -- the reserve was refused
@@ -443,16 +477,24 @@ module _ {O : Type 0} (told : Bool) (trace : O → Trace) (faults puts : O → �
     moves : Moves c.begin c.old_view c.new_view (Drew f.row f.n)
     moves = moves_drew c.begin c.old_view c.new_view c.task f.row (low_row f.key f.row f.place) f.n [] shows
 
-    ends : (es : List Entry) → c.given.log ≡ c.found.log ++ lines_of es → AreDrawn (Drew f.row f.n ∷ []) es → (other : BookFault) → length es ≤ 1
+    ends : (es : List Entry) → c.given.log ≡ c.found.log ++ lines_of es → AreDrawn (Drew f.row f.n ∷ []) es → (other : BookFault)
+        → (other ≡ refusals.SessionFull → (length es ≤ 1) × IsClean c.old_view × AllStand c.new_view)
         → ((slots : ℕ) → other ≡ refusals.JournalFull slots
         → Tells c.begin.start (entries_in c.new_view) (deed_of c.segment c.task (answer_of (counting JOURNAL_FULL 0 slots) position)) (Drew f.row f.n)
-        × (IsClean c.new_view
-        → machine.AloneServes c.begin (entries_of c.found.log) c.task (answer_of (counting JOURNAL_FULL 0 slots) position) es (Drew f.row f.n)))
+        × FoundClean × AllStand c.new_view
+        × machine.AloneServes c.begin (entries_of c.found.log) c.task (answer_of (counting JOURNAL_FULL 0 slots) position) es (Drew f.row f.n))
         → AnsweredExactly c.begin c.segment c.old_view c.new_view c.task (fault_answer other position)
     ends es is are other few full =
         refused_exactly c.begin c.segment c.task c.old_view c.new_view (Drew f.row f.n) moves c.found.log es (by_lines es is) are
-        [] (passes es is [] shows.counted.spent_is) (not_open (Drew f.row f.n)) other position (λ none. few)
-        (λ slots same. ((full slots same).0, λ here clean level marks. (full slots same).1 clean))
+        [] (passes es is [] shows.counted.spent_is) (not_open (Drew f.row f.n)) other position few
+        (λ slots same. (
+          (full slots same).0,
+          λ here level settled.
+              let (tells, clean, now, serves) = full slots same in
+              served_clean c.begin c.old_view c.new_view c.found.log es (by_lines es is) c.segment c.task (Drew f.row f.n)
+              [] (passes es is [] shows.counted.spent_is) (answer_of (counting JOURNAL_FULL 0 slots) position) here
+              (level.all (was_clean clean)) now serves,
+        ))
 
     same_slots : (one other : ℕ) → refusals.JournalFull one ≡ refusals.JournalFull other → other ≡ one
     same_slots one other is = cc
@@ -463,14 +505,20 @@ module _ {O : Type 0} (told : Bool) (trace : O → Trace) (faults puts : O → �
     by_refusal : (other : BookFault) → Reserves faults f.key f.n (Err other) c.found c.given
         → AnsweredExactly c.begin c.segment c.old_view c.new_view c.task (fault_answer other position)
     by_refusal other (unmarked, inl (is_barred, same)) =
-        ends [] (none_left same) tt other (omega arith) (λ slots is. absurd (subst (IsBarred faults c.found) is is_barred))
+        ends [] (none_left same) tt other
+        (λ is.
+        let full = subst (IsBarred faults c.found) is is_barred in
+        (omega arith, was_clean full.0, all_given c.found same (c.visits.found_kept.whole full.0)))
+        (λ slots is. absurd (subst (IsBarred faults c.found) is is_barred))
     by_refusal (refusals.SiteFault count) (unmarked, inr (can, h)) =
         ends (reserve_of c.found.plan c.found.state f.key f.n ∷ []) (ap (λ (b : BookView O). b.log) h.4)
-        (reserve_drawn f.row f.n (reserve_of c.found.plan c.found.state f.key f.n) refl, tt) (refusals.SiteFault count) (omega arith) (λ slots same. absurd (let no = same in cc))
+        (reserve_drawn f.row f.n (reserve_of c.found.plan c.found.state f.key f.n) refl, tt) (refusals.SiteFault count) (λ same. absurd (let no = same in cc))
+        (λ slots same. absurd (let no = same in cc))
     by_refusal (refusals.JournalFull slots) (unmarked, inr (can, h)) =
         let here = known_length position at in
         let state = state_at_end c.found h.3 ((whole told trace faults puts c.begin c.found c.given c.taken c.new_view.turn c.began c.free c.visits can.0).0) position here in
-        ends [] (none_left h.3) tt (refusals.JournalFull slots) (omega arith)
+        let clean : FoundClean = can.0 in
+        ends [] (none_left h.3) tt (refusals.JournalFull slots) (λ same. absurd (let no = same in cc))
         (λ others same. (
           full_tells others position (Drew f.row f.n) (omega arith) (inr (
             f.key,
@@ -482,7 +530,9 @@ module _ {O : Type 0} (told : Bool) (trace : O → Trace) (faults puts : O → �
             subst (λ (st : State). mark_of st f.key ≤ f.n) (sym state) unmarked,
             refl,
           )),
-          λ clean. by_kind (answer_of (counting JOURNAL_FULL 0 others) position) [] (Drew f.row f.n) (inr (inr (record {
+          clean,
+          all_given c.found h.3 (c.visits.found_kept.whole can.0),
+          by_kind (answer_of (counting JOURNAL_FULL 0 others) position) [] (Drew f.row f.n) (inr (inr (record {
             key = f.key;
             needed = need_now (needs.Number f.key) (subst (λ (n : Need). IsNeedOf c.found.state c.task.octets n) f.is needed) clean;
             row = f.row;
@@ -509,7 +559,7 @@ module _ {O : Type 0} (told : Bool) (trace : O → Trace) (faults puts : O → �
       refused_exactly c.begin c.segment c.task c.old_view c.new_view Kept (moves_none c.begin c.old_view c.new_view numbers) c.found.log []
       (by_lines [] (ap (λ (b : BookView O). b.log) same ∙ sym (append-nil c.found.log))) tt []
       (passes [] (ap (λ (b : BookView O). b.log) same ∙ sym (append-nil c.found.log)) []
-      (ap (λ (k : Numbers). k.spent) numbers ∙ sym (append-nil c.old_view.numbers.spent))) (λ _. refl) fault position (λ full. omega arith)
+      (ap (λ (k : Numbers). k.spent) numbers ∙ sym (append-nil c.old_view.numbers.spent))) (λ _. refl) fault position (λ full. absurd (let no = sym none ∙ full in cc))
       (λ slots is. absurd (let no = sym none ∙ is in cc))
   commands_exactly (Err (fault, position)) (inr (need, needed, inl f), at) = fails need fault position at needed f
   commands_exactly (Err (fault, position)) (inr (need, needed, inr (seen, middle, shows, r)), at) = refuses need seen middle needed shows fault position at r
@@ -524,4 +574,4 @@ commanding_exactly {O} told trace faults puts begin layout segment task v w foun
     let earlier : Earlier v.turn.known w.turn.known = subst (λ (t : Turn). Earlier v.turn.known t.known) (sym visits.takes.turn)
     (earlier_again v.turn.known (known_of_book trace faults puts found) (known_of_book trace faults puts given) visits.takes.follows.earlier visits.takes.earlier visits.takes.opening) in
     commands_exactly told trace faults puts (call_of told trace faults puts begin layout segment task v w found given began free visits) commands
-    (covers told trace faults puts begin v v w began free refl refl refl earlier covered) result handled
+    (covers told trace faults puts begin v v w began free refl (omega arith) refl refl earlier covered) result handled

@@ -15,7 +15,6 @@ use Rattle.record_io.specs.declared.records.Record.{Record}
 use Rattle.counter_table.specs.declared.view.View.{View}
 use Rattle.counter_table.specs.Turn.{places, stands}
 use Rattle.run_promise.specs.Answers.{counting}
-use Rattle.run_promise.specs.Log.{entries_of}
 use Rattle.unit_book.specs.declared.fault.BookFault.{BookFault}
 use Rattle.unit_book.specs.declared.fault.BookFault.TheVariants as refusals
 use Rattle.run_promise.specs.Begin.{Begin}
@@ -25,12 +24,11 @@ use Rattle.law_workers.proofs.Logs.{more_stands}
 use Rattle.run_promise.specs.Machine.{Move, Kept}
 use Rattle.law_workers.specs.Exact.{IsOfMoves}
 use Rattle.run_promise.specs.Moves.{Tells, TellsKind}
-use Rattle.run_promise.specs.Serving.{AloneServes}
-use Rattle.law_workers.specs.InTurn.{IsClean, IsLevel, AreMarked, ServedInTurn}
+use Rattle.law_workers.specs.InTurn.{IsClean, IsLevel, AllStand, IsSettled, ServedInTurn}
 use Rattle.law_workers.proofs.Machines.{exact_move, move_moves}
 use Rattle.law_calls.specs.Answering.{answer_of, unserved_answer, fault_answer, AnsweredExactly}
 use Rattle.law_calls.proofs.Behind.{lines_of, here, next, longer}
-use Rattle.law_calls.proofs.InTurn.{Passes, served_turn, unserved_turn}
+use Rattle.law_calls.proofs.InTurn.{Passes, ServesSo, served_late, served_turn, unserved_turn}
 use Rattle.law_calls.proofs.Moving.{Moves}
 use Rattle.law_calls.proofs.OneRecord.{Turned}
 
@@ -66,7 +64,7 @@ module _ (begin : Begin) (segment : ℕ) (task : Record) (v w : View) (move : Mo
   -- in the history that was found, where no other worker made a line, the record is served so
   abbrev pub IsServed : Answer → Type 0
   IsServed answer =
-      log ≡ log_of v → IsClean w → IsLevel v → AreMarked begin w spent → AloneServes begin (entries_of log) task answer es move
+      log ≡ log_of v → IsLevel v → IsSettled begin w spent → ServesSo begin v w log es turned segment task move spent passes answer
 
   reserves : (place : ℕ) → 0 < stands place (places (length log) (length es)) → IsOfMoves (move ∷ []) (slice_get (log_of w) place)
   reserves place in' = subst (λ (l : List Logged). IsOfMoves (move ∷ []) (slice_get l place)) (sym turned.log_is)
@@ -89,8 +87,8 @@ module _ (begin : Begin) (segment : ℕ) (task : Record) (v w : View) (move : Mo
         (served_turn begin v w log es turned segment task move spent passes answer serves);
   }
 
-  pub untold_exactly : length es ≤ 1 → AnsweredExactly begin segment v w task None
-  untold_exactly few = record {
+  pub untold_exactly : length es ≤ 1 → IsClean v → AllStand w → AnsweredExactly begin segment v w task None
+  untold_exactly few clean now = record {
     moved = record {
       made = places (length log) (length es);
       made_is = turned.made;
@@ -107,7 +105,7 @@ module _ (begin : Begin) (segment : ℕ) (task : Record) (v w : View) (move : Mo
       };
     };
     spent = spent;
-    in_turn = unserved_turn begin v w log es turned segment task move spent passes few;
+    in_turn = unserved_turn begin v w log es turned segment task move spent passes few clean now;
   }
 
   -- codes behind JOURNAL_FULL tell nothing of the move, but that a frame that is opened makes none
@@ -129,12 +127,14 @@ module _ (begin : Begin) (segment : ℕ) (task : Record) (v w : View) (move : Mo
     by_code (inr is) = omega arith
 
   late : (code n position : ℕ) → JOURNAL_FULL < code → IsServed (answer_of (counting code 0 n) position)
-  late code n position low same clean level marks = inl low
+  late code n position low same level settled =
+      served_late begin v w log es turned segment task move spent passes (answer_of (counting code 0 n) position) same low
 
   pub wanting_exactly : (task.kind ≡ Open → move ≡ Kept) → AnsweredExactly begin segment v w task (Some unserved_answer)
   wanting_exactly kept = told_exactly unserved_answer (late_tells task.kind kept NO_MEMORY 0 0 (omega arith)) (late NO_MEMORY 0 0 (omega arith))
 
-  pub refused_exactly : (task.kind ≡ Open → move ≡ Kept) → (fault : BookFault) (position : ℕ) → (fault ≡ refusals.SessionFull → length es ≤ 1)
+  pub refused_exactly : (task.kind ≡ Open → move ≡ Kept) → (fault : BookFault) (position : ℕ)
+      → (fault ≡ refusals.SessionFull → (length es ≤ 1) × IsClean v × AllStand w)
       → ((slots : ℕ) → fault ≡ refusals.JournalFull slots
       → Tells begin.start (entries_in w) (deed_of segment task (answer_of (counting JOURNAL_FULL 0 slots) position)) move
       × IsServed (answer_of (counting JOURNAL_FULL 0 slots) position))
@@ -147,5 +147,5 @@ module _ (begin : Begin) (segment : ℕ) (task : Record) (v w : View) (move : Mo
       (late STOPPED count position (omega arith))
   refused_exactly kept (refusals.JournalFull slots) position few full =
       told_exactly (answer_of (counting JOURNAL_FULL 0 slots) position) (full slots refl).0 (full slots refl).1
-  refused_exactly kept refusals.SessionFull position few full = untold_exactly (few refl)
+  refused_exactly kept refusals.SessionFull position few full = untold_exactly (few refl).0 (few refl).1 (few refl).2
   refused_exactly kept refusals.NoMemory position few full = wanting_exactly kept

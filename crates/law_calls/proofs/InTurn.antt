@@ -1,7 +1,7 @@
 -- What a call that handles a record is in turn: what was known before it, where no other worker made a line meanwhile.
-use Rattle.std.proofs.Common.{◌≡◌, ℕ, zero, suc, ◌+◌, ◌-◌, ◌<◌, ◌≤◌, Bool, false, List, [], ◌∷◌, ◌++◌, length, take, Some, IsTrue, refl, sym, ◌∙◌, ap, subst, arith, append-nil, length-append, if◌then◌else◌}
-use Rattle.std.proofs.lemmas.List.{append_cancel_left, take-append-le, take_all}
-use Rattle.sdls_base.specs.Numbers.{one_if, times}
+use Rattle.std.proofs.Common.{◌≡◌, ℕ, zero, suc, ◌+◌, ◌-◌, ◌<◌, ◌≤◌, Bool, false, List, [], ◌∷◌, ◌++◌, length, take, drop, Some, IsTrue, refl, sym, ◌∙◌, ap, subst, inl, inr, arith, append-nil, length-append, if◌then◌else◌}
+use Rattle.std.proofs.lemmas.List.{append_cancel_left, take-append-le, take_all, take-append-drop}
+use Rattle.sdls_base.specs.Numbers.{one_if}
 use Rattle.sdls_base.specs.declared.entry.Entry.{Entry}
 use Rattle.sdls_base.specs.declared.entry.Logged.{Logged}
 use Rattle.sdls_base.specs.declared.TheConstants.{MOST_KEYS}
@@ -22,7 +22,7 @@ use Rattle.counter_table.specs.declared.view.Turn.{Turn}
 use Rattle.counter_table.specs.declared.view.View.{View}
 use Rattle.counter_table.specs.Known.{Earlier}
 use Rattle.counter_table.specs.Play.{IsCovered}
-use Rattle.counter_table.specs.Turn.{places, stands}
+use Rattle.counter_table.specs.Turn.{epoch_seen, places, stands}
 use Rattle.run_promise.specs.Answers.{counting}
 use Rattle.run_promise.specs.Log.{entries_of}
 use Rattle.run_promise.specs.Numbers.{mark_of, mark_at}
@@ -31,17 +31,18 @@ use Rattle.unit_book.specs.Book.{BookView, Enters}
 use Rattle.shared_unit.specs.Told.{known_of_book}
 use Rattle.shared_unit.specs.Turn.{FindsCovered, taking_once, Visits}
 use Rattle.run_promise.specs.Begin.{Begin}
-use Rattle.law_workers.specs.Views.{IsRow, log_of, entries_in}
+use Rattle.law_workers.specs.Views.{log_of, entries_in}
 use Rattle.run_promise.specs.Deed.{deed_of}
 use Rattle.law_workers.proofs.Rows.{mark_known}
 use Rattle.run_promise.specs.Machine.{Move}
 use Rattle.run_promise.specs.Serving.{HasSlot, SaysFull, AloneServes}
-use Rattle.law_workers.specs.InTurn.{MadeAllLines, IsClean, IsLevel, IsMarked, AreMarked, ServedInTurn}
+use Rattle.law_workers.specs.InTurn.{MadeAllLines, IsClean, IsLevel, AllStand, stood_in, AreOf, IsSettled, ServedInTurn}
+use Rattle.law_workers.proofs.Turns.{all_stood, level_on, settled_on, stood_is, stood_more, stood_on}
 use Rattle.law_calls.specs.Answering.{answer_of}
 use Rattle.law_workers.specs.Began.{BeganWith}
-use Rattle.law_calls.proofs.Behind.{lines_of, lines_entries, places_within}
+use Rattle.law_calls.proofs.Behind.{after_both, lines_of, lines_entries, places_within}
 use Rattle.law_calls.proofs.OneRecord.{Turned}
-use Rattle.law_calls.proofs.Visit.{below_mark, began_faults, faults_are, changes_are, log_is, log_low, start_is, whole}
+use Rattle.law_calls.proofs.Visit.{below_mark, began_faults, changes_are, epoch_low, faults_are, led, log_is, log_low, risen_found, start_is, whole}
 
 -- fronts of one length are one
 front_one : (a b c d : List Logged) → a ++ c ≡ b ++ d → length a ≡ length b → a ≡ b
@@ -77,61 +78,76 @@ module _ (begin : Begin) (v w : View) (log : List Logged) (es : List Entry) (tur
   pub entries_are : entries_in w ≡ entries_of log ++ es
   entries_are = ap entries_of turned.log_is ∙ lines_entries log es
 
-  -- What a call made of what was known: so many numbers were spent; the epoch seen keeps up with the log; and a number that was
-  -- spent before lies below its mark.
+  -- What a call made of what was known: so many numbers were spent; what is known of the entries that stand keeps up with
+  -- the log; and what was spent and seen before is settled.
   pub record Passes (spent : List (ℕ × ℕ)) : Type 0 where
     pub spent_is : w.numbers.spent ≡ v.numbers.spent ++ spent
-    pub level : IsClean w → IsLevel v → IsLevel w
-    pub marked : MadeAllLines v w (places (length log) (length es)) → IsClean w → (key row number : ℕ) → row < begin.rows → IsRow begin v key row
-        → 0 < times row number v.numbers.spent → IsMarked begin w key number → IsMarked begin v key number
+    pub level : IsLevel v → IsLevel w
+    pub settled : MadeAllLines v w (places (length log) (length es)) → IsLevel v → (numbers : List (ℕ × ℕ)) → AreOf numbers v.numbers.spent
+        → IsSettled begin w numbers → IsSettled begin v numbers
+
+  -- the entries that stand, where all did in the log that was found
+  pub stood_clean : log ≡ log_of v → AllStand v → AllStand w → stood_in w ≡ stood_in v ++ es
+  stood_clean same before now =
+      all_stood w now ∙ entries_are ∙ ap (λ (l : List Logged). entries_of l ++ es) same ∙ ap (λ (l : List Entry). l ++ es) (sym (all_stood v before))
 
   module _ (segment : ℕ) (task : Record) (move : Move) (spent : List (ℕ × ℕ)) (passes : Passes spent) where
     above : (place : ℕ) → 0 < stands place (places (length log) (length es)) → length (log_of v) ≤ place
     above place in' = let (least, most) = places_within (length log) (length es) place in' in let low = turned.low in omega arith
 
+    -- so is the record served: it has this answer, and these entries more stand
+    abbrev pub ServesSo : Answer → Type 0
+    ServesSo answer = (own : List Entry) × (stood_in w ≡ stood_in v ++ own) × AloneServes begin (stood_in v) task answer own move
+
     -- the record has this answer, in the history that was found
-    pub served_turn : (answer : Answer)
-        → (log ≡ log_of v → IsClean w → IsLevel v → AreMarked begin w spent → AloneServes begin (entries_of log) task answer es move)
+    pub served_turn : (answer : Answer) → (log ≡ log_of v → IsLevel v → IsSettled begin w spent → ServesSo answer)
         → ServedInTurn begin v w (places (length log) (length es)) spent (deed_of segment task answer ∷ []) (move ∷ []) []
     served_turn answer serves = record {
       above = above;
-      marked = passes.marked;
+      settled = passes.settled;
       between = record {
         spent_is = passes.spent_is;
         level = passes.level;
-        served = λ all clean level marks.
-            let same = known_log all in (
-              es,
+        served = λ all level settled.
+            let (own, is, one) = serves (known_log all) level settled in (
+              own,
               [],
-              entries_are ∙ ap (λ (l : List Logged). entries_of l ++ es) same ∙ ap (λ (l : List Entry). entries_in v ++ l) (sym (append-nil es)),
-              (
-                es,
-                [],
-                sym (append-nil es),
-                subst (λ (l : List Logged). AloneServes begin (entries_of l) task answer es move) same (serves same clean level marks),
-                refl,
-              ),
-              (λ none. refl, omega arith),
+              is ∙ ap (λ (l : List Entry). stood_in v ++ l) (sym (append-nil own)),
+              (own, [], sym (append-nil own), one, refl),
+              (λ none. refl, inl refl),
             );
       };
     }
 
-    -- it has none, and made an entry at most
-    pub unserved_turn : length es ≤ 1 → ServedInTurn begin v w (places (length log) (length es)) spent [] [] (move ∷ [])
-    unserved_turn few = record {
+    -- in a history whose entries all stand
+    pub served_clean : (answer : Answer) → log ≡ log_of v → AllStand v → AllStand w → AloneServes begin (entries_of log) task answer es move → ServesSo answer
+    served_clean answer same before now serves = (
+      es,
+      stood_clean same before now,
+      subst (λ (l : List Entry). AloneServes begin l task answer es move) (ap entries_of same ∙ sym (all_stood v before)) serves,
+    )
+
+    -- with an answer that says nothing of its entries
+    pub served_late : (answer : Answer) → log ≡ log_of v → JOURNAL_FULL < answer.code → ServesSo answer
+    served_late answer same low =
+        let (own, is) = stood_more v w turned.earlier.standing es (entries_are ∙ ap (λ (l : List Logged). entries_of l ++ es) same) in (own, is, inl low)
+
+    -- it has none, and made an entry at most, which stands
+    pub unserved_turn : length es ≤ 1 → IsClean v → AllStand w
+        → ServedInTurn begin v w (places (length log) (length es)) spent [] [] (move ∷ [])
+    unserved_turn few clean now = record {
       above = above;
-      marked = passes.marked;
+      settled = passes.settled;
       between = record {
         spent_is = passes.spent_is;
         level = passes.level;
-        served = λ all clean level marks.
-            let same = known_log all in (
-              [],
-              es,
-              entries_are ∙ ap (λ (l : List Logged). entries_of l ++ es) same,
-              refl,
-              (λ none. absurd (let n : length (move ∷ []) ≡ 0 = ap length none in omega arith), few),
-            );
+        served = λ all level settled. (
+          [],
+          es,
+          stood_clean (known_log all) (level.all clean) now,
+          refl,
+          (λ none. absurd (let n : length (move ∷ []) ≡ 0 = ap length none in omega arith), inr (few, now)),
+        );
       };
     }
 
@@ -142,8 +158,10 @@ looks_pass begin v w spent turned is =
     let same : entries_in w ≡ entries_in v = entries_are begin v w v.turn.known.log [] turned ∙ append-nil (entries_in v) in
     record {
       spent_is = is;
-      level = λ clean level. let e = turned.epochs in let s = ap epoch_after same in omega arith;
-      marked = λ all clean key row number low there in' mark. subst (λ (l : List Entry). number < mark_of (after begin.start l) key) same mark;
+      level = level_on v w turned.earlier turned.opening same turned.epochs;
+      settled = λ all level numbers of h.
+          settled_on begin v w numbers (λ key row there. ap (λ (l : List Entry). place_of (after begin.start l).keys key) same ∙ there)
+          (stood_on v w turned.earlier turned.opening same level) turned.epochs h;
     }
 
 -- The turn was taken, with the one book found and the other given back.
@@ -166,25 +184,58 @@ module _ {O : Type 0} (told : Bool) (trace : O → Trace) (faults puts : O → �
       later : (a b c : ℕ) → b ≤ c → Rose a b → Rose a c
       later a b c low rose = omega arith
 
-  -- the epoch that is seen afterwards is that of the log
-  pub taken_level : IsClean w → IsLevel w
-  taken_level clean =
+  standing_is : w.turn.known.standing ≡ given.standing
+  standing_is = ap (λ (t : Turn). t.known.standing) visits.takes.turn
+
+  -- what is known afterwards is what was given back
+  pub taken_level : IsLevel w
+  taken_level =
       let kept = visits.given_kept in
-      let all = kept.whole (not_given clean) in
       let log : w.turn.known.log ≡ given.log = log_is told trace faults puts begin found given u w.turn began free visits in
+      let size : length (entries_in w) ≡ length (entries_of given.log) = ap (λ (l : List Logged). length (entries_of l)) log in
+      let stand = standing_is in
+      let few = kept.few_left in
       let changes : w.turn.known.changes ≡ given.changes = changes_are told trace faults puts begin found given u w.turn began free visits in
-      let counted : given.changes ≡ epoch_after (entries_in w) =
-      kept.epoch ∙ ap epoch_after (take_all given.standing (entries_of given.log) (omega arith) ∙ ap entries_of (sym log)) in omega arith
+      let counted : given.changes ≡ epoch_after (stood_in w) = kept.epoch ∙ ap epoch_after (ap (λ (n : ℕ). take n (entries_of given.log)) (sym stand)
+      ∙ ap (λ (l : List Logged). take w.turn.known.standing (entries_of l)) (sym log)) in
+      record {
+        few = omega arith;
+        all = λ clean. let all : given.standing ≡ length (entries_of given.log) = kept.whole (not_given clean) in omega arith;
+        epoch = omega arith;
+      }
 
-  -- the state that was found, and the slots
-  pub state_found : IsClean w → found.state ≡ after begin.start (entries_of found.log)
-  state_found clean = (whole told trace faults puts begin found given u w.turn began free visits (not_found clean)).0
+  -- all entries stand that were given back so
+  pub given_stands : length (entries_of given.log) ≤ given.standing → AllStand w
+  given_stands all =
+      let log : w.turn.known.log ≡ given.log = log_is told trace faults puts begin found given u w.turn began free visits in
+      let size : length (entries_in w) ≡ length (entries_of given.log) = ap (λ (l : List Logged). length (entries_of l)) log in
+      let stand = standing_is in omega arith
 
-  pub slots_found : IsClean w → IsTrue begin.told
+  pub given_as : (old : BookView O) → given ≡ old → old.standing ≡ length (entries_of old.log) → AllStand w
+  given_as old same all =
+      let a : given.standing ≡ old.standing = ap (λ (b : BookView O). b.standing) same in
+      let b : length (entries_of given.log) ≡ length (entries_of old.log) = ap (λ (x : BookView O). length (entries_of x.log)) same in
+      given_stands (omega arith)
+
+  -- an entry was made of a book whose entries all stood
+  pub given_entered : (old : BookView O) (entry : Entry) (position : ℕ) → Enters entry old given position → old.standing ≡ length (entries_of old.log) → AllStand w
+  given_entered old entry position enters all =
+      let a : given.standing ≡ old.standing + 1 = ap (λ (b : BookView O). b.standing) enters.is in
+      let b : length (entries_of given.log) ≡ length (entries_of old.log) + 1 =
+      ap length (ap (λ (x : BookView O). entries_of x.log) enters.is ∙ lines_entries old.log (entry ∷ [])) ∙ length-append (entries_of old.log) (entry ∷ []) in
+      given_stands (omega arith)
+
+  -- a book that had not failed was known as such
+  pub clean_found : u.known ≡ v.turn.known → ¬ Rose (faults found.opened) (faults found.site) → IsClean v
+  clean_found known not rose = not (risen_found told trace faults puts begin found given u w.turn began free visits
+      (subst (λ (k : Known). Rose k.opening.faults k.faults) (sym known) rose))
+
+  -- the slots
+  pub slots_found : ¬ Rose (faults found.opened) (faults found.site) → IsTrue begin.told
       → (begin.slots ≡ found.journal.slots) × (begin.used + stored_count begin.start (entries_of found.log) ≡ found.journal.used)
-  slots_found clean tells =
+  slots_found not tells =
       let t : IsTrue told = subst (λ (b : Bool). IsTrue b) began.tells tells in
-      let counts = visits.found_kept.counted t (not_found clean) in
+      let counts = visits.found_kept.counted t not in
       let image : found.image ≡ u.known.opening.image = ap (λ (o : Opening). o.image) visits.takes.follows.opening in
       let start : found.start ≡ begin.start = start_is told trace faults puts begin found given u w.turn began free visits in
       let slots = began.slots t in
@@ -195,39 +246,63 @@ module _ {O : Type 0} (told : Bool) (trace : O → Trace) (faults puts : O → �
       let count : length (records found.image) ≡ length (records u.known.opening.image) = ap (λ (i : List ℕ). length (records i)) image in
       let a = counts.slots in let b = counts.used in (omega arith, omega arith)
 
-  -- a number that was spent before lies below its mark in the book that was found
-  pub taken_marked : IsCovered MOST_KEYS v.numbers (known_of_book trace faults puts found) → found.log ≡ log_of v → IsClean w → (key row number : ℕ) → row < begin.rows
-      → IsRow begin v key row → 0 < times row number v.numbers.spent → IsMarked begin v key number
-  taken_marked covered same clean key row number low there in' =
-      let rows = began.rows in
-      let once = covered row number (omega arith) in
-      let below : number < mark_at found.state row = below_mark number (mark_at found.state row) (omega arith) in
-      let state : found.state ≡ after begin.start (entries_in v) = state_found clean ∙ ap (λ (l : List Logged). after begin.start (entries_of l)) same in
-      let place : place_of (after found.state []).keys key ≡ Some row = ap (λ (s : State). place_of s.keys key) state ∙ there in
-      let mark : mark_at found.state row ≡ mark_of found.state key = mark_known found.state [] key row visits.found_kept.rules place in
-      let known : mark_of found.state key ≡ mark_of (after begin.start (entries_in v)) key = ap (λ (s : State). mark_of s key) state in omega arith
+  -- where no line was made since a view, the entries that stand in the book that was found are those that stood in it
+  pub stood_found : u.known ≡ v.turn.known → found.log ≡ log_of v → IsLevel v → take found.standing (entries_of found.log) ≡ stood_in v
+  stood_found known same level =
+      let e : Earlier v.turn.known (known_of_book trace faults puts found) =
+      subst (λ (k : Known). Earlier k (known_of_book trace faults puts found)) known visits.takes.follows.earlier in
+      let opening : (known_of_book trace faults puts found).opening ≡ v.turn.known.opening =
+      visits.takes.follows.opening ∙ ap (λ (k : Known). k.opening) known in
+      ap (λ (l : List Logged). take found.standing (entries_of l)) same
+      ∙ stood_is v found.standing level e.standing (λ rose. e.stood (subst (λ (o : Opening). Rose o.faults v.turn.known.faults) (sym opening) rose))
+
+  -- what was spent and seen before is settled in the book that was found
+  pub taken_settled : IsCovered MOST_KEYS v.numbers (known_of_book trace faults puts found) → u.known ≡ v.turn.known
+      → epoch_seen v.turn ≤ epoch_seen u → found.log ≡ log_of v → IsLevel v → (numbers : List (ℕ × ℕ)) → AreOf numbers v.numbers.spent
+      → IsSettled begin v numbers
+  taken_settled covered known later same level numbers of =
+      let stood = stood_found known same level in
+      let state : found.state ≡ after begin.start (stood_in v) =
+      led told trace faults puts begin found given u w.turn began free visits ∙ ap (after begin.start) stood in
+      record {
+        marks = λ key row number low there in'.
+            let rows = began.rows in
+            let once = covered row number (omega arith) in
+            let spent = of row number in' in
+            let below : number < mark_at found.state row = below_mark number (mark_at found.state row) (omega arith) in
+            let left : List Entry = drop v.turn.known.standing (entries_in v) in
+            let whole : after found.state left ≡ after begin.start (entries_in v) =
+            ap (λ (s : State). after s left) state ∙ sym (after_both begin.start (stood_in v) left)
+            ∙ ap (after begin.start) (take-append-drop v.turn.known.standing (entries_in v)) in
+            let place : place_of (after found.state left).keys key ≡ Some row = ap (λ (s : State). place_of s.keys key) whole ∙ there in
+            let mark : mark_at found.state row ≡ mark_of found.state key = mark_known found.state left key row visits.found_kept.rules place in
+            let known_mark : mark_of found.state key ≡ mark_of (after begin.start (stood_in v)) key = ap (λ (s : State). mark_of s key) state in omega arith;
+        epoch =
+            let low = epoch_low told trace faults puts begin found given u w.turn began free visits in
+            let counted : found.changes ≡ epoch_after (stood_in v) = visits.found_kept.epoch ∙ ap epoch_after stood in omega arith;
+      }
 
   -- by a book that is above what was spent
   pub takes_pass : (es : List Entry) (turned : Turned found.log es v.turn w.turn) (spent : List (ℕ × ℕ)) → w.numbers.spent ≡ v.numbers.spent ++ spent
-      → (MadeAllLines v w (places (length found.log) (length es)) → IsClean w → (key row number : ℕ) → row < begin.rows → IsRow begin v key row
-      → 0 < times row number v.numbers.spent → IsMarked begin v key number)
+      → (MadeAllLines v w (places (length found.log) (length es)) → IsLevel v → (numbers : List (ℕ × ℕ)) → AreOf numbers v.numbers.spent
+      → IsSettled begin v numbers)
       → Passes begin v w found.log es turned spent
   takes_pass es turned spent is covers = record {
     spent_is = is;
-    level = λ clean level. taken_level clean;
-    marked = λ all clean key row number low there in' mark. covers all clean key row number low there in';
+    level = λ level. taken_level;
+    settled = λ all level numbers of h. covers all level numbers of;
   }
 
--- where these places are all that were made behind a view, each number spent before lies below its mark there
+-- where these places are all that were made behind a view, what was spent and seen before is settled there
 abbrev pub CoversSpent : Begin → View → View → Type 0
-CoversSpent begin v w = (made : List ℕ) → w.turn.made ≡ v.turn.made ++ made → MadeAllLines v w made → IsClean w → (key row number : ℕ) → row < begin.rows
-    → IsRow begin v key row → 0 < times row number v.numbers.spent → IsMarked begin v key number
+CoversSpent begin v w = (made : List ℕ) → w.turn.made ≡ v.turn.made ++ made → MadeAllLines v w made → IsLevel v → (numbers : List (ℕ × ℕ))
+    → AreOf numbers v.numbers.spent → IsSettled begin v numbers
 
 -- A book that was found above all that was spent, by a worker with this view before, whose turn and numbers are those of another.
 pub covers : {O : Type 0} (told : Bool) (trace : O → Trace) (faults puts : O → ℕ) (begin : Begin) (v x w : View) → BeganWith told begin v.turn.known.opening
-    → x.turn.holds ≡ false → x.turn.known ≡ v.turn.known → x.turn.made ≡ v.turn.made → x.numbers ≡ v.numbers → Earlier v.turn.known w.turn.known
+    → x.turn.holds ≡ false → x.turn.known ≡ v.turn.known → epoch_seen v.turn ≤ epoch_seen x.turn → x.turn.made ≡ v.turn.made → x.numbers ≡ v.numbers → Earlier v.turn.known w.turn.known
     → FindsCovered told trace faults puts x w → CoversSpent begin v w
-covers {O} told trace faults puts begin v x w began free known same numbers earlier h made made_is all clean =
+covers {O} told trace faults puts begin v x w began free known later same numbers earlier h made made_is all level =
     let began_x : BeganWith told begin x.turn.known.opening = subst (λ (k : Known). BeganWith told begin k.opening) (sym known) began in
     let turn : w.turn ≡ taking_once (known_of_book trace faults puts h.found) (known_of_book trace faults puts h.given) x.turn = h.visits.takes.turn in
     let count : ℕ = length h.given.log - length h.found.log in
@@ -240,10 +315,10 @@ covers {O} told trace faults puts begin v x w began free known same numbers earl
     let log : h.found.log ≡ log_of v = found_known v w h.found.log count low h.visits.takes.earlier.log.0 earlier.log.0 earlier.log.1
     (log_is told trace faults puts begin h.found h.given x.turn w.turn began_x free h.visits ∙ h.visits.takes.earlier.log.1)
     (subst (MadeAllLines v w) made_here all) in
-    taken_marked told trace faults puts begin h.found h.given x.turn v w began_x free h.visits
-    (subst (λ (k : Numbers). IsCovered MOST_KEYS k (known_of_book trace faults puts h.found)) numbers h.covered) log clean
+    taken_settled told trace faults puts begin h.found h.given x.turn v w began_x free h.visits
+    (subst (λ (k : Numbers). IsCovered MOST_KEYS k (known_of_book trace faults puts h.found)) numbers h.covered) known later log level
 
--- What is known of a book at a stage of a call, where the site did not fail: its state is that after its entries, and its slots are
+-- What is known of a book at a stage of a call, where the site had not failed: its state is that after its entries, and its slots are
 -- those of the image.
 pub record Stands {O : Type 0} (begin : Begin) (book : BookView O) : Type 0 where
   pub state : book.state ≡ after begin.start (entries_of book.log)
@@ -298,9 +373,10 @@ module _ {O : Type 0} (begin : Begin) (old : BookView O) (stands : Stands begin 
 
 -- the book that was found
 pub stands_found : {O : Type 0} (told : Bool) (trace : O → Trace) (faults puts : O → ℕ) (begin : Begin) (found given : BookView O) (u : Turn) (v w : View)
-    → BeganWith told begin u.known.opening → u.holds ≡ false → Visits told trace faults puts found given u w.turn → IsClean w → Stands begin found
-stands_found told trace faults puts begin found given u v w began free visits clean = record {
-  state = state_found told trace faults puts begin found given u v w began free visits clean;
-  slots = λ tells. (slots_found told trace faults puts begin found given u v w began free visits clean tells).0;
-  used = λ tells. (slots_found told trace faults puts begin found given u v w began free visits clean tells).1;
+    → BeganWith told begin u.known.opening → u.holds ≡ false → Visits told trace faults puts found given u w.turn
+    → ¬ Rose (faults found.opened) (faults found.site) → Stands begin found
+stands_found told trace faults puts begin found given u v w began free visits not = record {
+  state = (whole told trace faults puts begin found given u w.turn began free visits not).0;
+  slots = λ tells. (slots_found told trace faults puts begin found given u v w began free visits not tells).0;
+  used = λ tells. (slots_found told trace faults puts begin found given u v w began free visits not tells).1;
 }

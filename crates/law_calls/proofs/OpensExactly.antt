@@ -1,6 +1,7 @@
 -- A frame that is opened moves no word.
 use Rattle.std.proofs.Common.{◌≡◌, ◌⊎◌, ℕ, ◌≤◌, Bool, false, List, [], ◌∷◌, ◌++◌, length, length-append, refl, sym, ◌∙◌, ap, subst, inl, inr, arith, append-nil, Result, Ok, Err, MatchResult}
 use Rattle.sdls_base.specs.declared.entry.Entry.{Entry}
+use Rattle.sdls_outside.specs.Faults.{Rose}
 use Rattle.sdls_outside.specs.Moments.{Trace}
 use Rattle.frame_checks.specs.declared.open_reply.OpenReply.{OpenReply}
 use Rattle.frame_checks.specs.Accepting.{field_in, LeavesOctets}
@@ -30,7 +31,7 @@ use Rattle.law_workers.specs.Views.{entries_in}
 use Rattle.run_promise.specs.Deed.{deed_of}
 use Rattle.run_promise.specs.Machine.{Kept}
 use Rattle.run_promise.specs.Serving.{now, HasSlot, SaysFull, AloneOpened, AloneUnopened, ServesKind, AloneServes}
-use Rattle.law_workers.specs.InTurn.{IsClean}
+use Rattle.law_workers.specs.InTurn.{IsClean, AllStand}
 use Rattle.run_promise.specs.Moves.{Tells, TellsKind}
 use Rattle.law_workers.specs.Began.{BeganWith}
 use Rattle.law_calls.specs.Answering.{answer_of, fault_answer, opened_answer, AnsweredExactly}
@@ -38,7 +39,7 @@ use Rattle.law_calls.proofs.Behind.{lines_of, lines_entries}
 use Rattle.law_calls.proofs.OneRecord.{Turned}
 use Rattle.law_calls.proofs.Moving.{moves_none}
 use Rattle.law_calls.proofs.Exactness.{AreDrawn, of_record, refused_exactly, told_exactly}
-use Rattle.law_calls.proofs.InTurn.{Passes, Stands, covers, slot_free, slot_full, stands_found, takes_pass}
+use Rattle.law_calls.proofs.InTurn.{Passes, Stands, clean_found, covers, given_as, given_entered, served_clean, slot_free, slot_full, stands_found, takes_pass}
 use Rattle.law_calls.proofs.Visit.{plan_is, turned}
 
 module _ {O : Type 0} (told : Bool) (trace : O → Trace) (faults puts : O → ℕ) (begin : Begin) (segment : ℕ) (task : Record)
@@ -61,21 +62,32 @@ module _ {O : Type 0} (told : Bool) (trace : O → Trace) (faults puts : O → �
   passes : (es : List Entry) (is : given.log ≡ found.log ++ lines_of es) → Passes begin v w found.log es (by_lines es is) []
   passes es is = takes_pass told trace faults puts begin found given v.turn v w began free visits es (by_lines es is) []
       (ap (λ (k : Numbers). k.spent) numbers ∙ sym (append-nil v.numbers.spent))
-      (covers told trace faults puts begin v v w began free refl refl refl (by_lines es is).earlier covered (places (length found.log) (length es)) (by_lines es is).made)
+      (covers told trace faults puts begin v v w began free refl (omega arith) refl refl (by_lines es is).earlier covered (places (length found.log) (length es)) (by_lines es is).made)
 
-  stands : IsClean w → Stands begin found
+  -- the site had not failed when the book was found
+  abbrev FoundClean : Type 0
+  FoundClean = ¬ Rose (faults found.opened) (faults found.site)
+
+  stands : FoundClean → Stands begin found
   stands clean = stands_found told trace faults puts begin found given v.turn v w began free visits clean
+
+  was_clean : FoundClean → IsClean v
+  was_clean clean = clean_found told trace faults puts begin found given v.turn v w began free visits refl clean
+
+  -- all entries stand, where the book was given back as it was found
+  all_given : FoundClean → given ≡ found → AllStand w
+  all_given clean same = given_as told trace faults puts begin found given v.turn v w began free visits found same (visits.found_kept.whole clean)
 
   plan : found.plan ≡ begin.plan
   plan = plan_is told trace faults puts begin found given v.turn w.turn began free visits
 
   -- the entry of a reply, as the machine says it
-  entry_is : (reply : OpenReply) → IsClean w
+  entry_is : (reply : OpenReply) → FoundClean
       → frame_entry found.plan found.state task.index reply ≡ frame_entry begin.plan (now begin (entries_of found.log)) task.index reply
   entry_is reply clean = ap (λ (p : PlanLines). frame_entry p found.state task.index reply) plan
       ∙ ap (λ (s : State). frame_entry begin.plan s task.index reply) (stands clean).state
 
-  replies_there : (reply : OpenReply) (field : List ℕ) → IsClean w → IsOpenReply found.plan found.state task.link task.octets reply field
+  replies_there : (reply : OpenReply) (field : List ℕ) → FoundClean → IsOpenReply found.plan found.state task.link task.octets reply field
       → IsOpenReply begin.plan (now begin (entries_of found.log)) task.link task.octets reply field
   replies_there reply field clean h =
       subst (λ (s : State). IsOpenReply begin.plan s task.link task.octets reply field) (stands clean).state
@@ -86,38 +98,50 @@ module _ {O : Type 0} (told : Bool) (trace : O → Trace) (faults puts : O → �
       → AloneServes begin (entries_of found.log) task answer es Kept
   by_kind answer es h = inr (subst (λ (k : RecordKind). ServesKind begin (entries_of found.log) k task answer es Kept) (sym opens_it) h)
 
-  refused : (es : List Entry) → given.log ≡ found.log ++ lines_of es → AreDrawn (Kept ∷ []) es → (fault : BookFault) (position : ℕ) → length es ≤ 1
-      → ((slots : ℕ) → fault ≡ refusals.JournalFull slots → IsClean w
-      → AloneServes begin (entries_of found.log) task (answer_of (counting JOURNAL_FULL 0 slots) position) es Kept)
+  refused : (es : List Entry) → given.log ≡ found.log ++ lines_of es → AreDrawn (Kept ∷ []) es → (fault : BookFault) (position : ℕ)
+      → (fault ≡ refusals.SessionFull → (length es ≤ 1) × IsClean v × AllStand w)
+      → ((slots : ℕ) → fault ≡ refusals.JournalFull slots
+      → FoundClean × AllStand w × AloneServes begin (entries_of found.log) task (answer_of (counting JOURNAL_FULL 0 slots) position) es Kept)
       → AnsweredExactly begin segment v w task (fault_answer fault position)
   refused es is drawn fault position few full =
-      refused_exactly begin segment task v w Kept (moves_none begin v w numbers) found.log es (by_lines es is) drawn [] (passes es is) (λ _. refl) fault position (λ none. few)
-      (λ slots same. (tells (answer_of (counting JOURNAL_FULL 0 slots) position), λ here clean level marks. full slots same clean))
+      refused_exactly begin segment task v w Kept (moves_none begin v w numbers) found.log es (by_lines es is) drawn [] (passes es is) (λ _. refl) fault position few
+      (λ slots same. (
+        tells (answer_of (counting JOURNAL_FULL 0 slots) position),
+        λ here level settled.
+            let (clean, now, serves) = full slots same in
+            served_clean begin v w found.log es (by_lines es is) segment task Kept [] (passes es is) (answer_of (counting JOURNAL_FULL 0 slots) position) here
+            (level.all (was_clean clean)) now serves,
+      ))
 
-  unstored : (reply : OpenReply) (field : List ℕ) → IsOpenReply found.plan found.state task.link task.octets reply field → (fault : BookFault) (position : ℕ)
-      → position ≡ entry_count (known_of_book trace faults puts given)
+  unstored : (reply : OpenReply) (field : List ℕ) → IsOpenReply found.plan found.state task.link task.octets reply field → FoundClean
+      → (fault : BookFault) (position : ℕ) → position ≡ entry_count (known_of_book trace faults puts given)
       → IsUnstored faults (frame_entry found.plan found.state task.index reply) found given fault
       → AnsweredExactly begin segment v w task (fault_answer fault position)
-  unstored reply field replies (refusals.SiteFault count) position at h =
-      refused (frame_entry found.plan found.state task.index reply ∷ []) (ap (λ (b : BookView O). b.log) h.4) (of_frame reply) (refusals.SiteFault count) position (omega arith)
-      (λ slots same. absurd (let no = same in cc))
-  unstored reply field replies (refusals.JournalFull slots) position at h = refused [] (none_left h.3) tt (refusals.JournalFull slots) position (omega arith)
-      (λ others same clean. by_kind (answer_of (counting JOURNAL_FULL 0 others) position) [] (inr (record {
-        reply = reply;
-        field = field;
-        replies = replies_there reply field clean replies;
-        full = subst (λ (e : Entry). SaysFull begin (entries_of found.log) e (answer_of (counting JOURNAL_FULL 0 others) position)) (entry_is reply clean)
-            (slot_full begin found (stands clean) (frame_entry found.plan found.state task.index reply) others position h.0 h.1 (same_slots slots others same ∙ h.2)
-            (at ∙ ap (λ (b : BookView O). length (entries_of b.log)) h.3));
-        own_is = refl;
-        move_is = refl;
-      })))
+  unstored reply field replies clean (refusals.SiteFault count) position at h =
+      refused (frame_entry found.plan found.state task.index reply ∷ []) (ap (λ (b : BookView O). b.log) h.4) (of_frame reply) (refusals.SiteFault count) position
+      (λ same. absurd (let no = same in cc)) (λ slots same. absurd (let no = same in cc))
+  unstored reply field replies clean (refusals.JournalFull slots) position at h = refused [] (none_left h.3) tt (refusals.JournalFull slots) position
+      (λ same. absurd (let no = same in cc))
+      (λ others same. (
+        clean,
+        all_given clean h.3,
+        by_kind (answer_of (counting JOURNAL_FULL 0 others) position) [] (inr (record {
+          reply = reply;
+          field = field;
+          replies = replies_there reply field clean replies;
+          full = subst (λ (e : Entry). SaysFull begin (entries_of found.log) e (answer_of (counting JOURNAL_FULL 0 others) position)) (entry_is reply clean)
+              (slot_full begin found (stands clean) (frame_entry found.plan found.state task.index reply) others position h.0 h.1 (same_slots slots others same ∙ h.2)
+              (at ∙ ap (λ (b : BookView O). length (entries_of b.log)) h.3));
+          own_is = refl;
+          move_is = refl;
+        })),
+      ))
     where
       same_slots : (one other : ℕ) → refusals.JournalFull one ≡ refusals.JournalFull other → other ≡ one
       same_slots one other is = cc
-  unstored reply field replies (refusals.Stopped count) position at h = absurd h
-  unstored reply field replies refusals.SessionFull position at h = absurd h
-  unstored reply field replies refusals.NoMemory position at h = absurd h
+  unstored reply field replies clean (refusals.Stopped count) position at h = absurd h
+  unstored reply field replies clean refusals.SessionFull position at h = absurd h
+  unstored reply field replies clean refusals.NoMemory position at h = absurd h
 
   pub opens_exactly : (left : List ℕ) (result : Result (OpenReply × ℕ) (BookFault × ℕ))
       → WithPosition result (known_of_book trace faults puts given) (λ answer. MatchResult answer
@@ -131,7 +155,15 @@ module _ {O : Type 0} (told : Bool) (trace : O → Trace) (faults puts : O → �
       (by_lines (frame_entry found.plan found.state task.index reply ∷ []) added) (of_frame reply) []
       (passes (frame_entry found.plan found.state task.index reply ∷ []) added)
       (answer_of (opened_told reply (field_in reply left)) position) (tells (answer_of (opened_told reply (field_in reply left)) position))
-      (λ here clean level marks. by_kind (answer_of (opened_told reply (field_in reply left)) position) (frame_entry found.plan found.state task.index reply ∷ []) (inl (record {
+      (λ here level settled.
+      let clean : FoundClean = opened.made.0.0 in
+      served_clean begin v w found.log (frame_entry found.plan found.state task.index reply ∷ [])
+      (by_lines (frame_entry found.plan found.state task.index reply ∷ []) added) segment task Kept []
+      (passes (frame_entry found.plan found.state task.index reply ∷ []) added) (answer_of (opened_told reply (field_in reply left)) position) here
+      (level.all (was_clean clean))
+      (given_entered told trace faults puts begin found given v.turn v w began free visits found (frame_entry found.plan found.state task.index reply) position
+      opened.made.1 (visits.found_kept.whole clean))
+      (by_kind (answer_of (opened_told reply (field_in reply left)) position) (frame_entry found.plan found.state task.index reply ∷ []) (inl (record {
         reply = reply;
         field = field_in reply left;
         replies = replies_there reply (field_in reply left) clean opened.reply_is;
@@ -143,7 +175,8 @@ module _ {O : Type 0} (told : Bool) (trace : O → Trace) (faults puts : O → �
             (slot_free begin found (stands clean) (frame_entry found.plan found.state task.index reply) opened.made.1.free);
         own_is = ap (λ (e : Entry). e ∷ []) (entry_is reply clean);
         move_is = refl;
-      })))
-  opens_exactly left (Err (fault, position)) (inl (is_barred, same), at) = refused [] (none_left same) tt fault position (omega arith)
+      }))))
+  opens_exactly left (Err (fault, position)) (inl (is_barred, same), at) = refused [] (none_left same) tt fault position
+      (λ is. let full = subst (IsBarred faults found) is is_barred in (omega arith, was_clean full.0, all_given full.0 same))
       (λ slots is. absurd (subst (IsBarred faults found) is is_barred))
-  opens_exactly left (Err (fault, position)) (inr (can, (reply, field, replies, fails)), at) = unstored reply field replies fault position at fails
+  opens_exactly left (Err (fault, position)) (inr (can, (reply, field, replies, fails)), at) = unstored reply field replies can.0 fault position at fails

@@ -1,6 +1,6 @@
 -- A frame that is protected draws the number that its answer tells.
-use Rattle.std.proofs.Common.{◌≡◌, ◌⊎◌, ℕ, ◌<◌, ◌≤◌, Bool, false, List, [], ◌∷◌, ◌++◌, take, Option, Some, Err, refl, sym, ◌∙◌, ap, subst, arith, inl, inr, append-nil, length, Ok, Result, IsTrue, true, eqb, eq-eqb, ◌+◌, None}
-use Rattle.std.proofs.lemmas.List.{take_all}
+use Rattle.std.proofs.Common.{◌≡◌, ◌⊎◌, ℕ, ◌<◌, ◌≤◌, Bool, false, List, [], ◌∷◌, ◌++◌, take, drop, append_assoc, Option, Some, Err, refl, sym, ◌∙◌, ap, subst, arith, inl, inr, append-nil, length, Ok, Result, IsTrue, true, eqb, eq-eqb, ◌+◌, None}
+use Rattle.std.proofs.lemmas.List.{take_all, take-append-drop}
 use Rattle.sdls_base.specs.Numbers.{times}
 use Rattle.sdls_base.specs.KeyId.{end_of}
 use Rattle.sdls_base.specs.declared.entry.Entry.{Entry}
@@ -51,14 +51,15 @@ use Rattle.run_promise.specs.Deed.{deed_of}
 use Rattle.law_workers.specs.Order.{Layout}
 use Rattle.run_promise.specs.Machine.{Move, Kept, Found, Drew, Overdrew}
 use Rattle.run_promise.specs.Serving as machine
-use Rattle.law_workers.specs.InTurn.{IsClean, IsLevel, AreMarked}
+use Rattle.law_workers.specs.InTurn.{IsClean, IsLevel, AllStand, stood_in, IsSettled}
+use Rattle.law_workers.proofs.Turns.{all_stood, stood_on}
 use Rattle.run_promise.specs.Moves.{TellsProtect, TellsKind, Tells}
 use Rattle.law_workers.specs.Began.{BeganWith}
 use Rattle.law_calls.specs.Answering.{answer_of, fault_answer, protected_answer, AnsweredExactly}
 use Rattle.law_calls.proofs.Behind.{lines_of}
 use Rattle.law_calls.proofs.Counting.{Shows, found_shows, draws_shows, back_shows, uses_shows}
 use Rattle.law_calls.proofs.Exactness.{AreDrawn, refused_exactly, told_exactly}
-use Rattle.law_calls.proofs.InTurn.{CoversSpent, Passes, Stands, covers, entries_are, looks_pass, slot_free, slot_full, stands_found, takes_pass}
+use Rattle.law_calls.proofs.InTurn.{CoversSpent, Passes, Stands, clean_found, covers, entries_are, given_as, given_entered, looks_pass, slot_free, slot_full, stands_found, stood_clean, takes_pass}
 use Rattle.law_calls.proofs.Moving.{Moves, moves_none, moves_found, moves_drew, moves_over}
 use Rattle.law_calls.proofs.OneRecord.{Turned}
 use Rattle.law_calls.proofs.Permitted.{clear_reply, planned_reply, row_last}
@@ -69,10 +70,14 @@ use Rattle.law_calls.proofs.Protectings.{one_drawer, bound, call_of, looked, ope
 module _ {O : Type 0} (told : Bool) (trace : O → Trace) (faults puts : O → ℕ) (begin : Begin) (layout : Layout) (segment : ℕ) (task : Record)
     (v w : View) (began : BeganWith told begin v.turn.known.opening) (free : v.turn.holds ≡ false) (protects : task.kind ≡ Protect)
     (covers_spent : (done : BookView O → BookView O → Type 0) → TakesTurn told trace faults puts done v.turn w.turn → CoversSpent begin v w) where
-  -- where no other worker made a line and the site did not fail, the record is served so in the history that was known
+  -- where no other worker made a line, the record is served so in the history that stood
   abbrev IsServedHere : Answer → List Entry → List (ℕ × ℕ) → Move → Type 0
-  IsServedHere answer es spent move = IsClean w → IsLevel v → AreMarked begin w spent → entries_in w ≡ entries_in v ++ es
-      → machine.AloneServes begin (entries_in v) task answer es move
+  IsServedHere answer es spent move = IsLevel v → IsSettled begin w spent → stood_in w ≡ stood_in v ++ es
+      → machine.AloneServes begin (stood_in v) task answer es move
+
+  -- these entries of the call stand
+  abbrev Stand : List Entry → Type 0
+  Stand es = IsLevel v → stood_in w ≡ stood_in v ++ es
 
   -- the record made this move and no entry, whatever the answer that tells it
   abbrev Finishes : List (ℕ × ℕ) → Move → Type 0
@@ -86,12 +91,18 @@ module _ {O : Type 0} (told : Bool) (trace : O → Trace) (faults puts : O → �
   not_open : (move : Move) → task.kind ≡ Open → move ≡ Kept
   not_open move is = absurd (let both : Protect ≡ Open = sym protects ∙ is in let b = both in cc)
 
+  -- where none was made, those stand that stood
+  none_stand : (log : List Logged) → Turned log [] v.turn w.turn → log ≡ log_of v → Stand []
+  none_stand log turn same level =
+      stood_on v w turn.earlier turn.opening
+      (entries_are begin v w log [] turn ∙ append-nil (entries_of log) ∙ ap entries_of same) level ∙ sym (append-nil (stood_in v))
+
   looks_finish : (move : Move) → Moves begin v w move → (spent : List (ℕ × ℕ)) → w.numbers.spent ≡ v.numbers.spent ++ spent → Looks v.turn w.turn
       → Finishes spent move
   looks_finish move moves spent spent_is l answer tells serves =
       let turn : Turned v.turn.known.log [] v.turn w.turn = looked told trace faults puts begin layout segment task v w began free protects l in
       told_exactly begin segment task v w move moves v.turn.known.log [] turn tt spent (looks_pass begin v w spent turn spent_is) answer tells
-      (λ same clean level marks. serves clean level marks (entries_are begin v w v.turn.known.log [] turn))
+      (λ same level settled. ([], none_stand v.turn.known.log turn same level, serves level settled (none_stand v.turn.known.log turn same level)))
 
   by_lines : (done : BookView O → BookView O → Type 0) (t : TakesTurn told trace faults puts done v.turn w.turn) (es : List Entry)
       → t.given.log ≡ t.found.log ++ lines_of es → Turned t.found.log es v.turn w.turn
@@ -113,24 +124,35 @@ module _ {O : Type 0} (told : Bool) (trace : O → Trace) (faults puts : O → �
       → t.given.log ≡ t.found.log ++ lines_of es → (move : Move) → Moves begin v w move → AreDrawn (move ∷ []) es
       → (spent : List (ℕ × ℕ)) → w.numbers.spent ≡ v.numbers.spent ++ spent
       → (answer : Answer) → Tells begin.start (entries_in w) (deed_of segment task answer) move
-      → (t.found.log ≡ log_of v → IsServedHere answer es spent move)
+      → (t.found.log ≡ log_of v → Stand es) → (t.found.log ≡ log_of v → IsServedHere answer es spent move)
       → AnsweredExactly begin segment v w task (Some answer)
-  taken_finish done t es is move moves drawn spent spent_is answer tells serves =
+  taken_finish done t es is move moves drawn spent spent_is answer tells stand serves =
       told_exactly begin segment task v w move moves t.found.log es (by_lines done t es is) drawn spent (passes done t es is spent spent_is) answer tells
-      (λ same clean level marks. subst (λ (l : List Logged). machine.AloneServes begin (entries_of l) task answer es move) (sym same)
-      (serves same clean level marks (entries_are begin v w t.found.log es (by_lines done t es is) ∙ ap (λ (l : List Logged). entries_of l ++ es) same)))
+      (λ same level settled. (es, stand same level, serves same level settled (stand same level)))
+
+  -- the site had not failed when the book was found
+  abbrev FoundClean : (done : BookView O → BookView O → Type 0) → TakesTurn told trace faults puts done v.turn w.turn → Type 0
+  FoundClean done t = ¬ Rose (faults t.found.opened) (faults t.found.site)
+
+  was_clean : (done : BookView O → BookView O → Type 0) (t : TakesTurn told trace faults puts done v.turn w.turn) → FoundClean done t → IsClean v
+  was_clean done t clean = clean_found told trace faults puts begin t.found t.given (seeing t.epoch v.turn) v w began free t.visits refl clean
+
+  stood_v : (done : BookView O → BookView O → Type 0) (t : TakesTurn told trace faults puts done v.turn w.turn) → FoundClean done t
+      → t.found.log ≡ log_of v → IsLevel v → entries_of t.found.log ≡ stood_in v
+  stood_v done t clean same level = ap entries_of same ∙ sym (all_stood v (level.all (was_clean done t clean)))
 
   rests_finish : (move : Move) → Moves begin v w move → (spent : List (ℕ × ℕ)) → w.numbers.spent ≡ v.numbers.spent ++ spent
       → MayTakeTurn told trace faults puts Rests v.turn w.turn → Finishes spent move
   rests_finish move moves spent spent_is (inl l) = looks_finish move moves spent spent_is l
   rests_finish move moves spent spent_is (inr t) = λ answer tells serves.
-      taken_finish Rests t [] (none_left t.found t.given t.does) move moves tt spent spent_is answer tells (λ same. serves)
+      taken_finish Rests t [] (none_left t.found t.given t.does) move moves tt spent spent_is answer tells
+      (none_stand t.found.log (by_lines Rests t [] (none_left t.found t.given t.does))) (λ same. serves)
 
   by_kind : (answer : Answer) (es : List Entry) (move : Move)
-      → (machine.AloneUnbound begin (entries_in v) task answer es move ⊎ (machine.AloneProtected begin (entries_in v) task answer es move
-      ⊎ (machine.AloneExhausted begin (entries_in v) task answer es move ⊎ machine.AloneUnfunded begin (entries_in v) task answer es move)))
-      → machine.AloneServes begin (entries_in v) task answer es move
-  by_kind answer es move h = inr (subst (λ (k : RecordKind). machine.ServesKind begin (entries_in v) k task answer es move) (sym protects) h)
+      → (machine.AloneUnbound begin (stood_in v) task answer es move ⊎ (machine.AloneProtected begin (stood_in v) task answer es move
+      ⊎ (machine.AloneExhausted begin (stood_in v) task answer es move ⊎ machine.AloneUnfunded begin (stood_in v) task answer es move)))
+      → machine.AloneServes begin (stood_in v) task answer es move
+  by_kind answer es move h = inr (subst (λ (k : RecordKind). machine.ServesKind begin (stood_in v) k task answer es move) (sym protects) h)
 
   -- a code of a frame that is not bound
   kept_tells : (fields : Told) (position : ℕ) → (fields.code ≡ CLEAR) ⊎ ((LAYOUT ≤ fields.code) × (fields.code ≤ STATE))
@@ -153,45 +175,53 @@ module _ {O : Type 0} (told : Bool) (trace : O → Trace) (faults puts : O → �
   fault_code shield_faults.State = inr (omega arith, omega arith)
 
   module _ (p : Permit) (used : IsUsed v.turn.known.opening.plan task.link task.octets p w.turn) where
-    -- the permit's epoch is that of the history that was known, whose checks bind the frame as the permit does
+    -- the permit's epoch is that of the history that stood, whose checks bind the frame as the permit does
     module _ (opening : w.turn.known.opening ≡ v.turn.known.opening) (es : List Entry) (quiet : epoch_after es ≡ 0) (level : IsLevel v)
-        (later : epoch_seen v.turn ≤ p.epoch) (all : entries_in w ≡ entries_in v ++ es) where
-      epoch_now : p.epoch ≡ epoch_after (entries_in v)
+        (within : epoch_seen w.turn ≤ epoch_after (stood_in w)) (later : epoch_seen v.turn ≤ p.epoch) (all : stood_in w ≡ stood_in v ++ es) where
+      epoch_now : p.epoch ≡ epoch_after (stood_in v)
       epoch_now =
-          let reached = used.trusted.reached in
-          let more : epoch_after (entries_in w) ≡ epoch_after (entries_in v) + epoch_after es = ap epoch_after all ∙ epochs_more (entries_in v) es in omega arith
+          let seen = used.trusted.seen in
+          let low = level.epoch in
+          let more : epoch_after (stood_in w) ≡ epoch_after (stood_in v) + epoch_after es = ap epoch_after all ∙ epochs_more (stood_in v) es in omega arith
 
-      reached_now : p.epoch ≤ epoch_after (entries_in v)
+      reached_now : p.epoch ≤ epoch_after (stood_in v)
       reached_now = let e = epoch_now in omega arith
 
-      state_now : at_epoch begin.start (entries_in w) p.epoch ≡ at_epoch begin.start (entries_in v) p.epoch
-      state_now = ap (λ (l : List Entry). at_epoch begin.start l p.epoch) all ∙ at_epoch_more begin.start (entries_in v) es p.epoch reached_now
+      behind : entries_in w ≡ stood_in v ++ (es ++ drop w.turn.known.standing (entries_in w))
+      behind = sym (take-append-drop w.turn.known.standing (entries_in w))
+          ∙ ap (λ (l : List Entry). l ++ drop w.turn.known.standing (entries_in w)) all
+          ∙ append_assoc (stood_in v) es (drop w.turn.known.standing (entries_in w))
 
-      abbrev bound_now : clear_fault p.binding task.octets ≡ None → machine.AloneBound begin (entries_in v) task
+      state_now : at_epoch begin.start (entries_in w) p.epoch ≡ at_epoch begin.start (stood_in v) p.epoch
+      state_now = ap (λ (l : List Entry). at_epoch begin.start l p.epoch) behind
+          ∙ at_epoch_more begin.start (stood_in v) (es ++ drop w.turn.known.standing (entries_in w)) p.epoch reached_now
+
+      abbrev bound_now : clear_fault p.binding task.octets ≡ None → machine.AloneBound begin (stood_in v) task
       bound_now fits = record {
         binding = p.binding;
-        bound = subst (λ (e : ℕ). protect_reply begin.plan (at_epoch begin.start (entries_in v) e) task.link task.octets ≡ Ok (Some p.binding)) epoch_now
+        bound = subst (λ (e : ℕ). protect_reply begin.plan (at_epoch begin.start (stood_in v) e) task.link task.octets ≡ Ok (Some p.binding)) epoch_now
             (subst (λ (st : State). protect_reply begin.plan st task.link task.octets ≡ Ok (Some p.binding)) state_now
             (bound told trace faults puts begin layout segment task v w began free protects p used opening fits));
         row = p.row;
-        row_is = row_last begin.start (entries_in v) p.epoch p.binding.key p.row reached_now
+        row_is = row_last begin.start (stood_in v) p.epoch p.binding.key p.row reached_now
             (subst (λ (st : State). place_of st.keys p.binding.key ≡ Some p.row) state_now
             (place_then told trace faults puts begin layout segment task v w began free protects p used opening));
       }
 
-    stands : (done : BookView O → BookView O → Type 0) (t : TakesTurn told trace faults puts done v.turn w.turn) → IsClean w → Stands begin t.found
+    stands : (done : BookView O → BookView O → Type 0) (t : TakesTurn told trace faults puts done v.turn w.turn) → FoundClean done t → Stands begin t.found
     stands done t clean = stands_found told trace faults puts begin t.found t.given (seeing t.epoch v.turn) v w began free t.visits clean
 
     -- the state that was found, and the reserve in it, where the log that was found is the one that was known
-    state_here : (done : BookView O → BookView O → Type 0) (t : TakesTurn told trace faults puts done v.turn w.turn) → IsClean w → t.found.log ≡ log_of v
-        → t.found.state ≡ machine.now begin (entries_in v)
-    state_here done t clean same = (stands done t clean).state ∙ ap (λ (l : List Logged). after begin.start (entries_of l)) same
+    state_here : (done : BookView O → BookView O → Type 0) (t : TakesTurn told trace faults puts done v.turn w.turn) → FoundClean done t → t.found.log ≡ log_of v
+        → IsLevel v → t.found.state ≡ machine.now begin (stood_in v)
+    state_here done t clean same level = (stands done t clean).state ∙ ap (after begin.start) (stood_v done t clean same level)
 
-    reserve_here : (done : BookView O → BookView O → Type 0) (t : TakesTurn told trace faults puts done v.turn w.turn) (n : ℕ) → IsClean w → t.found.log ≡ log_of v
-        → reserve_of t.found.plan t.found.state p.binding.key n ≡ reserve_of begin.plan (machine.now begin (entries_in v)) p.binding.key n
-    reserve_here done t n clean same =
+    reserve_here : (done : BookView O → BookView O → Type 0) (t : TakesTurn told trace faults puts done v.turn w.turn) (n : ℕ) → FoundClean done t
+        → t.found.log ≡ log_of v → IsLevel v
+        → reserve_of t.found.plan t.found.state p.binding.key n ≡ reserve_of begin.plan (machine.now begin (stood_in v)) p.binding.key n
+    reserve_here done t n clean same level =
         ap (λ (q : PlanLines). reserve_of q t.found.state p.binding.key n) (plan_is told trace faults puts begin t.found t.given (seeing t.epoch v.turn) w.turn began free t.visits)
-        ∙ ap (λ (st : State). reserve_of begin.plan st p.binding.key n) (state_here done t clean same)
+        ∙ ap (λ (st : State). reserve_of begin.plan st p.binding.key n) (state_here done t clean same level)
 
     done : (out : List ℕ) (d : Done) → IsDrawnAndProtected p task.octets out d v w → MayTakeTurn told trace faults puts (Funds faults p.binding.key d.number) v.turn w.turn
         → AnsweredExactly begin segment v w task (Some (answer_of (numbered PROTECTED d.key d.number (take d.length out)) d.epoch))
@@ -218,27 +248,27 @@ module _ {O : Type 0} (told : Bool) (trace : O → Trace) (faults puts : O → �
 
           -- what the machine says of it, once the number is funded
           by_funds : (es : List Entry) → epoch_after es ≡ 0 → w.turn.known.opening ≡ v.turn.known.opening
-              → (IsClean w → AreMarked begin w ((p.row, d.number) ∷ []) → entries_in w ≡ entries_in v ++ es
-              → machine.Funds begin (entries_in v) p.binding.key d.number es)
+              → (IsLevel v → IsSettled begin w ((p.row, d.number) ∷ []) → stood_in w ≡ stood_in v ++ es
+              → machine.Funds begin (stood_in v) p.binding.key d.number es)
               → IsServedHere (answer_of (numbered PROTECTED d.key d.number (take d.length out)) d.epoch) es ((p.row, d.number) ∷ []) (Drew p.row d.number)
-          by_funds es quiet opening funds clean level marks all =
+          by_funds es quiet opening funds level settled all =
               let later : epoch_seen v.turn ≤ p.epoch = (let l = is.later in let e = is.protected.epoch in omega arith) in
               by_kind (answer_of (numbered PROTECTED d.key d.number (take d.length out)) d.epoch) es (Drew p.row d.number) (inr (inl (record {
-                is = bound_now opening es quiet level later all is.fits;
+                is = bound_now opening es quiet level settled.epoch later all is.fits;
                 told = ap (λ (k : ℕ). numbered PROTECTED k d.number (take d.length out)) is.protected.key;
-                position_is = is.protected.epoch ∙ epoch_now opening es quiet level later all;
+                position_is = is.protected.epoch ∙ epoch_now opening es quiet level settled.epoch later all;
                 below = is.protected.below;
                 protects = is.protected.frame;
-                funded = funds clean marks all;
+                funded = funds level settled all;
                 move_is = refl;
               })))
 
           -- without an entry of its own the number lies below the mark
           by_mark : w.turn.known.opening ≡ v.turn.known.opening → IsServedHere (answer_of (numbered PROTECTED d.key d.number (take d.length out)) d.epoch) [] ((p.row, d.number) ∷ []) (Drew p.row d.number)
-          by_mark opening = by_funds [] refl opening (λ clean marks all. inl (
+          by_mark opening = by_funds [] refl opening (λ level settled all. inl (
             refl,
-            subst (λ (l : List Entry). d.number < mark_of (after begin.start l) p.binding.key) (all ∙ append-nil (entries_in v))
-                (marks p.binding.key p.row d.number (row_below told trace faults puts begin layout segment task v w began free protects p used opening)
+            subst (λ (l : List Entry). d.number < mark_of (after begin.start l) p.binding.key) (all ∙ append-nil (stood_in v))
+                (settled.marks p.binding.key p.row d.number (row_below told trace faults puts begin layout segment task v w began free protects p used opening)
                 (row_is told trace faults puts begin layout segment task v w began free protects p used opening) (once p.row d.number)),
           )) where
             once : (row x : ℕ) → 0 < times row x ((row, x) ∷ [])
@@ -260,18 +290,26 @@ module _ {O : Type 0} (told : Bool) (trace : O → Trace) (faults puts : O → �
                 → AnsweredExactly begin segment v w task (Some (answer_of (numbered PROTECTED d.key d.number (take d.length out)) d.epoch))
             by_reserve (inl same) =
                 taken_finish (Funds faults p.binding.key d.number) t [] (none_left t.found t.given same.1) (Drew p.row d.number) (moves opening) tt
-                ((p.row, d.number) ∷ []) is.uses.spent (answer_of (numbered PROTECTED d.key d.number (take d.length out)) d.epoch) tells (λ here. by_mark opening)
+                ((p.row, d.number) ∷ []) is.uses.spent (answer_of (numbered PROTECTED d.key d.number (take d.length out)) d.epoch) tells
+                (none_stand t.found.log (by_lines (Funds faults p.binding.key d.number) t [] (none_left t.found t.given same.1))) (λ here. by_mark opening)
             by_reserve (inr made) =
                 taken_finish (Funds faults p.binding.key d.number) t (reserve_of t.found.plan t.found.state p.binding.key d.number ∷ [])
                 (ap (λ (b : BookView O). b.log) made.1.1.1.is) (Drew p.row d.number) (moves opening)
                 (reserve_drawn p.row d.number (reserve_of t.found.plan t.found.state p.binding.key d.number) refl, tt)
                 ((p.row, d.number) ∷ []) is.uses.spent (answer_of (numbered PROTECTED d.key d.number (take d.length out)) d.epoch) tells
-                (λ here. by_funds (reserve_of t.found.plan t.found.state p.binding.key d.number ∷ []) refl opening (λ clean marks all. inr (
-                  ap (λ (e : Entry). e ∷ []) (reserve_here (Funds faults p.binding.key d.number) t d.number clean here),
-                  subst (λ (st : State). mark_of st p.binding.key ≤ d.number) (state_here (Funds faults p.binding.key d.number) t clean here) made.0,
-                  subst (λ (l : List Logged). machine.HasSlot begin (entries_of l) (reserve_of begin.plan (machine.now begin (entries_in v)) p.binding.key d.number)) here
-                      (subst (machine.HasSlot begin (entries_of t.found.log)) (reserve_here (Funds faults p.binding.key d.number) t d.number clean here)
-                      (slot_free begin t.found (stands (Funds faults p.binding.key d.number) t clean)
+                (λ here level.
+                stood_clean begin v w t.found.log (reserve_of t.found.plan t.found.state p.binding.key d.number ∷ [])
+                (by_lines (Funds faults p.binding.key d.number) t (reserve_of t.found.plan t.found.state p.binding.key d.number ∷ []) (ap (λ (b : BookView O). b.log) made.1.1.1.is))
+                here (level.all (was_clean (Funds faults p.binding.key d.number) t made.1.1.0.0))
+                (given_entered told trace faults puts begin t.found t.given (seeing t.epoch v.turn) v w began free t.visits t.found
+                (reserve_of t.found.plan t.found.state p.binding.key d.number) made.1.0 made.1.1.1 (t.visits.found_kept.whole made.1.1.0.0)))
+                (λ here. by_funds (reserve_of t.found.plan t.found.state p.binding.key d.number ∷ []) refl opening (λ level settled all. inr (
+                  ap (λ (e : Entry). e ∷ []) (reserve_here (Funds faults p.binding.key d.number) t d.number made.1.1.0.0 here level),
+                  subst (λ (st : State). mark_of st p.binding.key ≤ d.number) (state_here (Funds faults p.binding.key d.number) t made.1.1.0.0 here level) made.0,
+                  subst (λ (l : List Entry). machine.HasSlot begin l (reserve_of begin.plan (machine.now begin (stood_in v)) p.binding.key d.number))
+                      (stood_v (Funds faults p.binding.key d.number) t made.1.1.0.0 here level)
+                      (subst (machine.HasSlot begin (entries_of t.found.log)) (reserve_here (Funds faults p.binding.key d.number) t d.number made.1.1.0.0 here level)
+                      (slot_free begin t.found (stands (Funds faults p.binding.key d.number) t made.1.1.0.0)
                       (reserve_of t.found.plan t.found.state p.binding.key d.number) made.1.1.1.free)),
                 )))
 
@@ -302,12 +340,12 @@ module _ {O : Type 0} (told : Bool) (trace : O → Trace) (faults puts : O → �
 
       serves : (move : Move) → (move ≡ Found p.row n) ⊎ (move ≡ Overdrew p.row n)
           → IsServedHere (answer_of (numbered EXHAUSTED key n []) epoch) [] [] move
-      serves move which clean level marks all =
+      serves move which level settled all =
           let low : epoch_seen v.turn ≤ p.epoch = omega (arith, later, epoch_is) in
           by_kind (answer_of (numbered EXHAUSTED key n []) epoch) [] move (inr (inr (inl (record {
-            is = bound_now opening [] refl level low all fits;
+            is = bound_now opening [] refl level settled.epoch low all fits;
             told = ap (λ (k : ℕ). numbered EXHAUSTED k n []) key_is;
-            position_is = epoch_is ∙ epoch_now opening [] refl level low all;
+            position_is = epoch_is ∙ epoch_now opening [] refl level settled.epoch low all;
             at_end = subst (λ (k : ℕ). end_of k ≤ n) key_is out.0;
             own_is = refl;
             move_is = which;
@@ -337,38 +375,39 @@ module _ {O : Type 0} (told : Bool) (trace : O → Trace) (faults puts : O → �
       opening : w.turn.known.opening ≡ v.turn.known.opening
       opening = opening_taken told trace faults puts begin layout segment task v w began free protects (Reserves faults p.binding.key n (Err other)) k
 
-      ends : (es : List Entry) → k.given.log ≡ k.found.log ++ lines_of es → AreDrawn (Drew p.row n ∷ []) es → length es ≤ 1
+      ends : (es : List Entry) → k.given.log ≡ k.found.log ++ lines_of es → AreDrawn (Drew p.row n ∷ []) es
+          → (other ≡ refusals.SessionFull → (length es ≤ 1) × IsClean v × AllStand w)
           → ((slots : ℕ) → other ≡ refusals.JournalFull slots
           → Tells begin.start (entries_in w) (deed_of segment task (answer_of (counting JOURNAL_FULL 0 slots) position)) (Drew p.row n)
+          × (k.found.log ≡ log_of v → Stand es)
           × (k.found.log ≡ log_of v → IsServedHere (answer_of (counting JOURNAL_FULL 0 slots) position) es [] (Drew p.row n)))
           → AnsweredExactly begin segment v w task (fault_answer other position)
       ends es is are few full = refused_exactly begin segment task v w (Drew p.row n)
           (moves_drew begin v w task p.row (row_below told trace faults puts begin layout segment task v w began free protects p used opening) n [] (shows n drawn))
           k.found.log es (by_lines (Reserves faults p.binding.key n (Err other)) k es is) are
           [] (passes (Reserves faults p.binding.key n (Err other)) k es is [] (shows n drawn).counted.spent_is)
-          (not_open (Drew p.row n)) other position (λ none. few) (λ slots here. (
+          (not_open (Drew p.row n)) other position few (λ slots here. (
             (full slots here).0,
-            λ same clean level marks.
-                subst (λ (l : List Logged). machine.AloneServes begin (entries_of l) task (answer_of (counting JOURNAL_FULL 0 slots) position) es (Drew p.row n)) (sym same)
-                ((full slots here).1 same clean level marks (entries_are begin v w k.found.log es (by_lines (Reserves faults p.binding.key n (Err other)) k es is)
-                ∙ ap (λ (l : List Logged). entries_of l ++ es) same)),
+            λ same level settled.
+                let (tells, stand, serves) = full slots here in (es, stand same level, serves same level settled (stand same level)),
           ))
 
-      full_serves : (slots others : ℕ) → others ≡ slots → k.given ≡ k.found → mark_of k.found.state p.binding.key ≤ n
+      full_serves : (slots others : ℕ) → others ≡ slots → k.given ≡ k.found → FoundClean (Reserves faults p.binding.key n (Err other)) k
+          → mark_of k.found.state p.binding.key ≤ n
           → IsTrue (IsStored k.found.state (reserve_of k.found.plan k.found.state p.binding.key n)) → k.found.journal.used ≡ k.found.journal.slots
           → slots ≡ k.found.journal.slots → k.found.log ≡ log_of v
           → IsServedHere (answer_of (counting JOURNAL_FULL 0 others) position) [] [] (Drew p.row n)
-      full_serves slots others same_slots same unmarked stored full is here clean level marks all =
-          let entry_here = reserve_here (Reserves faults p.binding.key n (Err other)) k n clean here in
+      full_serves slots others same_slots same clean unmarked stored full is here level settled all =
+          let entry_here = reserve_here (Reserves faults p.binding.key n (Err other)) k n clean here level in
           let log : w.turn.known.log ≡ k.found.log =
           log_is told trace faults puts begin k.found k.given (seeing k.epoch v.turn) w.turn began free k.visits ∙ ap (λ (b : BookView O). b.log) same in
           by_kind (answer_of (counting JOURNAL_FULL 0 others) position) [] (Drew p.row n) (inr (inr (inr (record {
-            is = bound_now opening [] refl level later all fits;
+            is = bound_now opening [] refl level settled.epoch later all fits;
             number = n;
             below = below;
-            unmarked = subst (λ (st : State). mark_of st p.binding.key ≤ n) (state_here (Reserves faults p.binding.key n (Err other)) k clean here) unmarked;
-            full = subst (λ (l : List Logged). machine.SaysFull begin (entries_of l) (reserve_of begin.plan (machine.now begin (entries_in v)) p.binding.key n)
-                (answer_of (counting JOURNAL_FULL 0 others) position)) here
+            unmarked = subst (λ (st : State). mark_of st p.binding.key ≤ n) (state_here (Reserves faults p.binding.key n (Err other)) k clean here level) unmarked;
+            full = subst (λ (l : List Entry). machine.SaysFull begin l (reserve_of begin.plan (machine.now begin (stood_in v)) p.binding.key n)
+                (answer_of (counting JOURNAL_FULL 0 others) position)) (stood_v (Reserves faults p.binding.key n (Err other)) k clean here level)
                 (subst (λ (e : Entry). machine.SaysFull begin (entries_of k.found.log) e (answer_of (counting JOURNAL_FULL 0 others) position)) entry_here
                 (slot_full begin k.found (stands (Reserves faults p.binding.key n (Err other)) k clean) (reserve_of k.found.plan k.found.state p.binding.key n) others position
                 stored full (same_slots ∙ is) (at ∙ ap (λ (l : List Logged). length (entries_of l)) log)));
@@ -409,16 +448,27 @@ module _ {O : Type 0} (told : Bool) (trace : O → Trace) (faults puts : O → �
 
       by_case : Reserves faults p.binding.key n (Err other) k.found k.given → AnsweredExactly begin segment v w task (fault_answer other position)
       by_case (unmarked, inl (is_barred, same)) =
-          ends [] (none_left k.found k.given same) tt (omega arith) (λ slots is. absurd (subst (IsBarred faults k.found) is is_barred))
+          ends [] (none_left k.found k.given same) tt
+          (λ is.
+          let full = subst (IsBarred faults k.found) is is_barred in (
+            omega arith,
+            was_clean (Reserves faults p.binding.key n (Err other)) k full.0,
+            given_as told trace faults puts begin k.found k.given (seeing k.epoch v.turn) v w began free k.visits k.found same (k.visits.found_kept.whole full.0),
+          ))
+          (λ slots is. absurd (subst (IsBarred faults k.found) is is_barred))
       by_case (unmarked, inr (can, h)) = by_fault other refl h where
         by_fault : (f : BookFault) → other ≡ f → IsUnstored faults (reserve_of k.found.plan k.found.state p.binding.key n) k.found k.given f
             → AnsweredExactly begin segment v w task (fault_answer other position)
         by_fault (refusals.SiteFault count) is u =
             ends (reserve_of k.found.plan k.found.state p.binding.key n ∷ []) (ap (λ (b : BookView O). b.log) u.4)
-            (reserve_drawn p.row n (reserve_of k.found.plan k.found.state p.binding.key n) refl, tt) (omega arith)
+            (reserve_drawn p.row n (reserve_of k.found.plan k.found.state p.binding.key n) refl, tt) (λ same. absurd (let no = sym is ∙ same in cc))
             (λ slots same. absurd (let no = sym is ∙ same in cc))
-        by_fault (refusals.JournalFull slots) is u = ends [] (none_left k.found k.given u.3) tt (omega arith)
-            (λ others same. (full_tells others u.3 can.0 unmarked, full_serves slots others (same_count slots others (sym is ∙ same)) u.3 unmarked u.0 u.1 u.2))
+        by_fault (refusals.JournalFull slots) is u = ends [] (none_left k.found k.given u.3) tt (λ same. absurd (let no = sym is ∙ same in cc))
+            (λ others same. (
+              full_tells others u.3 can.0 unmarked,
+              none_stand k.found.log (by_lines (Reserves faults p.binding.key n (Err other)) k [] (none_left k.found k.given u.3)),
+              full_serves slots others (same_count slots others (sym is ∙ same)) u.3 can.0 unmarked u.0 u.1 u.2,
+            ))
         by_fault (refusals.Stopped count) is u = absurd u
         by_fault refusals.SessionFull is u = absurd u
         by_fault refusals.NoMemory is u = absurd u
@@ -441,12 +491,12 @@ module _ {O : Type 0} (told : Bool) (trace : O → Trace) (faults puts : O → �
   protects_exactly plan kept out protecteds.Clear planned_is (sent_clear, numbers, same) =
       looks_finish Kept (moves_none begin v w numbers) [] (no_spent numbers) (record { epoch = v.turn.epoch; later = omega arith; is = same }) (answer_of (plain CLEAR 0) 0)
       (kept_tells (plain CLEAR 0) 0 (inl refl))
-      (λ clean level marks all.
+      (λ level settled all.
       let check : channel_check begin.plan task.link task.octets ≡ Ok None =
       subst (λ (q : PlanLines). channel_check q task.link task.octets ≡ Ok None) (sym planned_is ∙ began.plan) sent_clear in
       by_kind (answer_of (plain CLEAR 0) 0) [] Kept (inl (record {
-        told = ap unbound_told (clear_reply begin.plan (machine.at_last_epoch begin (entries_in v)) task.link task.octets check);
-        position_is = sym (ap (λ (r : Result (Option ℕ) ShieldFault). machine.epoch_beside r (epoch_after (entries_in v))) check);
+        told = ap unbound_told (clear_reply begin.plan (machine.at_last_epoch begin (stood_in v)) task.link task.octets check);
+        position_is = sym (ap (λ (r : Result (Option ℕ) ShieldFault). machine.epoch_beside r (epoch_after (stood_in v))) check);
         own_is = refl;
         move_is = refl;
       })))
@@ -455,36 +505,43 @@ module _ {O : Type 0} (told : Bool) (trace : O → Trace) (faults puts : O → �
         → AnsweredExactly begin segment v w task (Some (answer_of (fault_told fault) epoch))
     by_refusal (inl (refuses, zero_is, same)) =
         looks_finish Kept (moves_none begin v w numbers) [] (no_spent numbers) (record { epoch = v.turn.epoch; later = omega arith; is = same })
-        (answer_of (fault_told fault) epoch) (kept_tells (fault_told fault) epoch (fault_code fault)) (λ clean level marks all.
+        (answer_of (fault_told fault) epoch) (kept_tells (fault_told fault) epoch (fault_code fault)) (λ level settled all.
         let check : channel_check begin.plan task.link task.octets ≡ Err fault =
         subst (λ (q : PlanLines). channel_check q task.link task.octets ≡ Err fault) (sym planned_is ∙ began.plan) refuses in
         by_kind (answer_of (fault_told fault) epoch) [] Kept (inl (record {
-          told = ap unbound_told (planned_reply begin.plan (machine.at_last_epoch begin (entries_in v)) task.link task.octets fault check);
-          position_is = zero_is ∙ sym (ap (λ (r : Result (Option ℕ) ShieldFault). machine.epoch_beside r (epoch_after (entries_in v))) check);
+          told = ap unbound_told (planned_reply begin.plan (machine.at_last_epoch begin (stood_in v)) task.link task.octets fault check);
+          position_is = zero_is ∙ sym (ap (λ (r : Result (Option ℕ) ShieldFault). machine.epoch_beside r (epoch_after (stood_in v))) check);
           own_is = refl;
           move_is = refl;
         })))
     by_refusal (inr (f, low, turn)) =
         rests_finish Kept (moves_none begin v w numbers) [] (no_spent numbers) turn
-        (answer_of (fault_told fault) epoch) (kept_tells (fault_told fault) epoch (fault_code fault)) (λ clean level marks all.
+        (answer_of (fault_told fault) epoch) (kept_tells (fault_told fault) epoch (fault_code fault)) (λ level settled all.
         let opening = opening_same told trace faults puts begin layout segment task v w began free protects Rests turn in
         let plans : w.turn.known.opening.plan ≡ begin.plan = ap (λ (o : Opening). o.plan) opening ∙ began.plan in
         let starts : w.turn.known.opening.start ≡ begin.start = ap (λ (o : Opening). o.start) opening ∙ began.start in
-        let reached = f.reached in
-        let same : entries_in w ≡ entries_in v = all ∙ append-nil (entries_in v) in
+        let same : stood_in w ≡ stood_in v = all ∙ append-nil (stood_in v) in
         let counted = ap epoch_after same in
-        let epoch_is : epoch ≡ epoch_after (entries_in v) = omega arith in
+        let seen = f.seen in
+        let least = level.epoch in
+        let most = settled.epoch in
+        let epoch_is : epoch ≡ epoch_after (stood_in v) = omega arith in
         let reply : protect_reply begin.plan (at_epoch begin.start (entries_in w) epoch) task.link task.octets ≡ Err fault =
         subst (λ (st : State). protect_reply begin.plan (at_epoch st (entries_in w) epoch) task.link task.octets ≡ Err fault) starts
         (subst (λ (q : PlanLines). protect_reply q (at_epoch w.turn.known.opening.start (entries_in w) epoch) task.link task.octets ≡ Err fault) plans f.is) in
-        let here : protect_reply begin.plan (machine.at_last_epoch begin (entries_in v)) task.link task.octets ≡ Err fault =
-        subst (λ (e : ℕ). protect_reply begin.plan (at_epoch begin.start (entries_in v) e) task.link task.octets ≡ Err fault) epoch_is
-        (subst (λ (l : List Entry). protect_reply begin.plan (at_epoch begin.start l epoch) task.link task.octets ≡ Err fault) same reply) in
+        let here : protect_reply begin.plan (machine.at_last_epoch begin (stood_in v)) task.link task.octets ≡ Err fault =
+        let left : List Entry = drop w.turn.known.standing (entries_in w) in
+        let behind : entries_in w ≡ stood_in v ++ left =
+        sym (take-append-drop w.turn.known.standing (entries_in w)) ∙ ap (λ (l : List Entry). l ++ left) same in
+        let state : at_epoch begin.start (entries_in w) epoch ≡ at_epoch begin.start (stood_in v) epoch =
+        ap (λ (l : List Entry). at_epoch begin.start l epoch) behind ∙ at_epoch_more begin.start (stood_in v) left epoch (omega arith) in
+        subst (λ (e : ℕ). protect_reply begin.plan (at_epoch begin.start (stood_in v) e) task.link task.octets ≡ Err fault) epoch_is
+        (subst (λ (st : State). protect_reply begin.plan st task.link task.octets ≡ Err fault) state reply) in
         let check : channel_check begin.plan task.link task.octets ≡ Ok (Some f.passes.0) =
         subst (λ (q : PlanLines). channel_check q task.link task.octets ≡ Ok (Some f.passes.0)) plans f.passes.1 in
         by_kind (answer_of (fault_told fault) epoch) [] Kept (inl (record {
           told = ap unbound_told here;
-          position_is = epoch_is ∙ sym (ap (λ (r : Result (Option ℕ) ShieldFault). machine.epoch_beside r (epoch_after (entries_in v))) check);
+          position_is = epoch_is ∙ sym (ap (λ (r : Result (Option ℕ) ShieldFault). machine.epoch_beside r (epoch_after (stood_in v))) check);
           own_is = refl;
           move_is = refl;
         })))
@@ -501,7 +558,7 @@ covers_taken {O} told trace faults puts begin v w began free (inl l) done t =
     let one : w.turn.turns ≡ v.turn.turns = ap (λ (k : Turn). k.turns) l.is in
     let two : w.turn.turns ≡ v.turn.turns + 1 = ap (λ (k : Turn). k.turns) t.visits.takes.turn in absurd (omega arith)
 covers_taken {O} told trace faults puts begin v w began free (inr (epoch, low, h)) done t =
-    covers told trace faults puts begin v (record v { turn = seeing epoch v.turn }) w began free refl refl refl earlier h
+    covers told trace faults puts begin v (record v { turn = seeing epoch v.turn }) w began free refl low refl refl earlier h
   where
     earlier : Earlier v.turn.known w.turn.known
     earlier = subst (λ (k : Turn). Earlier v.turn.known k.known) (sym h.visits.takes.turn)

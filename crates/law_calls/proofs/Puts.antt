@@ -7,12 +7,14 @@ use Rattle.std.proofs.lemmas.List.{take-append-drop, take-append-le, take_all}
 use Rattle.sdls_base.specs.declared.entry.Logged.{Logged}
 use Rattle.sdls_base.specs.declared.entry.Logged.TheVariants as lines
 use Rattle.sdls_base.specs.declared.TheConstants.{MOST_KEYS}
+use Rattle.sdls_outside.specs.Faults.{Rose}
 use Rattle.sdls_outside.specs.Moments.{Trace}
 use Rattle.key_book.specs.KeyBook.{place_of}
 use Rattle.record_io.specs.declared.records.Record.{Record}
 use Rattle.unit_state.specs.declared.state.State.{State}
 use Rattle.unit_state.specs.History.{after, after_first, epoch_after}
 use Rattle.counter_table.specs.declared.view.Numbers.{Numbers}
+use Rattle.counter_table.specs.declared.view.Opening.{Opening}
 use Rattle.counter_table.specs.declared.view.Turn.{Turn}
 use Rattle.counter_table.specs.declared.view.View.{View}
 use Rattle.counter_table.specs.Known.{IsSparing}
@@ -177,6 +179,8 @@ module _ {O : Type 0} (told : Bool) (trace : O → Trace) (faults puts : O → �
               mark_known found.state (drop found.standing (entries_in w)) key row kept.rules later in
               let known : mark_of found.state key ≡ mark_of (after_first begin.start (entries_in w) found.standing) key =
               ap (λ (s : State). mark_of s key) led in omega arith;
+          standing = h.visits.takes.follows.earlier.standing;
+          stopped = λ rose. h.visits.takes.follows.earlier.stood (subst (λ (o : Opening). Rose o.faults v.turn.known.faults) (sym h.visits.takes.follows.opening) rose);
           stood = λ clean.
               let all : entries_in w ≡ entries_of found.log =
               ap entries_of log_line ∙ entries_both found.log (lines.Piece piece ∷ []) ∙ append-nil (entries_of found.log) in

@@ -1,5 +1,5 @@
--- Two runs of one lane over one image that handled the same records, and answered each, did the same, where no fault of the site
--- was met and memory was not wanting.
+-- Two runs of one lane over one image that handled the same records, and answered each, made the same entries, where the site did
+-- not fail and memory was not wanting.
 use Rattle.std.proofs.Common.{◌≡◌, ◌≢◌, ◌⊎◌, ℕ, zero, suc, ◌+◌, ◌<◌, ◌≤◌, ◌==◌, Bool, IsTrue, true, false, List, [], ◌∷◌, ◌++◌, length, map, take, drop, refl, sym, ◌∙◌, ap, subst, inl, inr, arith, append_assoc, append-nil, length-append, eqb, Ok}
 use Rattle.std.specs.Bool.{⊤}
 use Rattle.std.specs.List.{All, list_any, slice_index}
@@ -38,10 +38,10 @@ use Rattle.run_promise.specs.Alone.{OneLane, IsExact}
 use Rattle.run_promise.specs.declared.end.RunEnd.{RunEnd}
 use Rattle.run_promise.specs.declared.end.RunEnd.TheVariants.{Ended, SiteFault}
 use Rattle.run_promise.specs.Call.{CallSeen, ShowsAtEntry, image_at_entry}
-use Rattle.run_promise.specs.Account.{Account, SaysSiteFailed, begin_of, course_of, deeds_from, deeds_in, end_answer, end_octets, end_status}
+use Rattle.run_promise.specs.Account.{Account, SaysSiteFailed, begin_of, course_of, deeds_from, deeds_in, due_octets, end_answer, end_octets, end_status}
 use Rattle.run_promise.specs.Causes.{TellsEnd}
 use Rattle.run_promise.specs.Ends.{IsJournalFull, IsReleased, IsSoundCall, RunEnds, due_releases}
-use Rattle.law_runs.specs.Says.{AnswersAlike, NoneWants}
+use Rattle.law_runs.specs.Says.{IsUnfailed, NoneFails, NoneWants}
 
 -- ---- codes
 
@@ -78,20 +78,12 @@ same_tasks (place ∷ places) [] others one two = absurd (omega arith)
 same_tasks (place ∷ places) (answer ∷ answers) [] one two = absurd (omega arith)
 same_tasks (place ∷ places) (answer ∷ answers) (other ∷ others) one two = (refl, same_tasks places answers others (omega arith) (omega arith))
 
--- where the site did not fail and memory was not wanting, no answer has a code from 31 on
-pub are_served : (near : ℕ → ℕ → Type 0) (course : Course) (places : List Place) (answers : List Answer)
-    → All (λ (deed : Deed). Fits near course deed.task deed.answer) (deeds_from places answers)
-    → All (λ (answer : Answer). SaysSiteFailed answer → ⊥) answers → NoneWants answers → AreServed (deeds_from places answers)
-are_served near course [] answers fit none wants = tt
-are_served near course (place ∷ places) [] fit none wants = tt
-are_served near course (place ∷ places) (answer ∷ answers) fit none wants =
-    let f = fit 0 (record { task = place.task; segment = place.segment; answer = answer }) (omega arith) in
-    let low = low_code (codes_of place.task.kind) answer.code (are_low place.task.kind) (fits_code near course place.task answer f) in
-    let full = wants 0 answer (omega arith) in
-    let faults = none 0 answer (omega arith) in (
-      by_code answer.code low full (λ is. faults (inl is)) (λ is. faults (inr is)),
-      are_served near course places answers (λ k d small. fit (suc k) d (omega arith)) (λ k d small. none (suc k) d (omega arith)) (λ k d small. wants (suc k) d (omega arith)),
-    )
+-- an answer that tells neither a fault of the site nor want of memory has no code from 31 on
+one_served : (near : ℕ → ℕ → Type 0) (course : Course) (place : Place) (answer : Answer) → Fits near course place.task answer
+    → ¬ SaysSiteFailed answer → answer.code ≢ NO_MEMORY → answer.code ≤ JOURNAL_FULL
+one_served near course place answer fits fault wants =
+    by_code answer.code (low_code (codes_of place.task.kind) answer.code (are_low place.task.kind) (fits_code near course place.task answer fits))
+    wants (λ is. fault (inl is)) (λ is. fault (inr is))
   where
     by_code : (code : ℕ) → code ≤ NO_MEMORY → (code ≡ NO_MEMORY → ⊥) → (code ≡ SITE_FAULT → ⊥) → (code ≡ STOPPED → ⊥) → code ≤ JOURNAL_FULL
     by_code code low a b c = elim (cases_lt JOURNAL_FULL code) [
@@ -99,7 +91,35 @@ are_served near course (place ∷ places) (answer ∷ answers) fit none wants =
       | inr small ↦ omega arith
     ]
 
+-- so it is with the first answers
+pub are_served : (near : ℕ → ℕ → Type 0) (course : Course) (n : ℕ) (places : List Place) (answers : List Answer)
+    → All (λ (deed : Deed). Fits near course deed.task deed.answer) (deeds_from places answers)
+    → NoneFails (take n answers) → AreServed (take n (deeds_from places answers))
+are_served near course zero places answers fit none = tt
+are_served near course (suc n) [] answers fit none = tt
+are_served near course (suc n) (place ∷ places) [] fit none = tt
+are_served near course (suc n) (place ∷ places) (answer ∷ answers) fit none =
+    let f = fit 0 (record { task = place.task; segment = place.segment; answer = answer }) (omega arith) in
+    let (fault, wants) = none 0 answer (omega arith) in (
+      one_served near course place answer f fault wants,
+      are_served near course n places answers (λ k d small. fit (suc k) d (omega arith)) (λ k d small. none (suc k) d (omega arith)),
+    )
+
+all_served : (near : ℕ → ℕ → Type 0) (course : Course) (places : List Place) (answers : List Answer)
+    → All (λ (deed : Deed). Fits near course deed.task deed.answer) (deeds_from places answers) → NoneFails answers → AreServed (deeds_from places answers)
+all_served near course [] answers fit none = tt
+all_served near course (place ∷ places) [] fit none = tt
+all_served near course (place ∷ places) (answer ∷ answers) fit none =
+    let f = fit 0 (record { task = place.task; segment = place.segment; answer = answer }) (omega arith) in
+    let (fault, wants) = none 0 answer (omega arith) in (
+      one_served near course place answer f fault wants,
+      all_served near course places answers (λ k d small. fit (suc k) d (omega arith)) (λ k d small. none (suc k) d (omega arith)),
+    )
+
 -- ---- a run that ended well
+
+rose_later : (before mid now : ℕ) → mid ≤ now → Rose before mid → Rose before now
+rose_later before mid now low rose = omega arith
 
 pub not_rose : (call : CallSeen) (account : Account) → TellsEnd call account → account.told ≡ Ended → ¬ Rose call.site.faults account.last
 not_rose call account (inl (rose, told)) is = absurd (let both : Ended ≡ SiteFault account.last = sym is ∙ told in let b = both in cc)
@@ -131,6 +151,20 @@ rules_front state entries ends rules front rest is =
 no_more_moves : (rows : ℕ) (words : ℕ → ℕ) (moves beyond : List Move) → beyond ≡ [] → Runs rows words (moves ++ beyond) → Runs rows words moves
 no_more_moves rows words moves beyond none h =
     subst (Runs rows words) (ap (λ (l : List Move). moves ++ l) none ∙ append-nil moves) h
+
+-- nor did the site fail at a release, where its count stood
+pub unfailed : (call : CallSeen) (run : RunEnds call) → call.status ≢ status.SITE_FAULT → call.site_after.faults ≡ call.site.faults → IsUnfailed call
+unfailed call run other stands rose =
+    let a = run.last_later in let b = run.after_later in
+    let same : run.account.last ≡ call.site_after.faults = omega arith in
+    not_failed call run other (subst (λ (n : ℕ). Rose call.site.faults n) (sym same) rose)
+
+-- where the site did not fail, no answer tells that it did
+pub none_fails : (call : CallSeen) (run : RunEnds call) → IsUnfailed call → NoneWants run.account.answers → NoneFails run.account.answers
+none_fails call run still wants = λ k d low. (
+  λ says. still (rose_later call.site.faults run.account.last call.site_after.faults run.after_later (run.faults_told k d low says)),
+  wants k d low,
+)
 
 -- ---- releases
 
@@ -182,12 +216,11 @@ began_alike call other plan state told tells image = ap (λ (b : Bool). began_wi
     ∙ ap (λ (i : List ℕ). began_with call.site.told i plan state) image
 
 module _ (call other : CallSeen) (run : RunEnds call) (again : RunEnds other) (plan : PlanLines) (state : State)
-    (quiet : ¬ Rose call.site.faults run.account.last) (requiet : ¬ Rose other.site.faults again.account.last)
-    (stands : call.site_after.faults ≡ call.site.faults) (restands : other.site_after.faults ≡ other.site.faults)
+    (still : IsUnfailed call) (restill : IsUnfailed other)
     (each : length run.account.answers ≡ length run.account.handled) (reach : length again.account.answers ≡ length again.account.handled) (told : IsTrue call.site.told) (tells : IsTrue other.site.told)
     (image : image_at_entry other ≡ image_at_entry call) (shows : ShowsAtEntry call plan state)
     (handled : again.account.handled ≡ run.account.handled)
-    (one : OneLane (records_of run.account.handled)) (wants : NoneWants run.account.answers) (rewants : NoneWants again.account.answers)
+    (one : OneLane (records_of run.account.handled)) (fails : NoneFails run.account.answers) (refails : NoneFails again.account.answers)
     (once : (begin : Begin) (rows : ℕ) (words : ℕ → ℕ) (history : List Entry) (deeds others : List Deed) (moves more : List Move)
     (own entries : List Entry) → IsTrue begin.told
     → ((front rest : List Entry) → own ≡ front ++ rest → KeepsRules (after begin.start (history ++ front)))
@@ -210,21 +243,15 @@ module _ (call other : CallSeen) (run : RunEnds call) (again : RunEnds other) (p
   served_whole : (c : CallSeen) (account : Account) (ends : ℕ) (words : List ℕ) (e : IsExact c account plan state words ends) → ¬ Rose c.site.faults account.last
       → length account.answers ≡ length account.handled → ServesAll (begin_of c plan state) [] (deeds_in account) e.moves (take ends c.entries)
   served_whole c account ends words e calm all =
-      let (own, rest, is, serves, none, few) = e.served calm in
-      let same : take ends c.entries ≡ own = is ∙ ap (λ (l : List Entry). own ++ l) (none all) ∙ append-nil own in
+      let (own, rest, is, serves, few, none) = e.served in
+      let same : take ends c.entries ≡ own = is ∙ ap (λ (l : List Entry). own ++ l) (none all calm) ∙ append-nil own in
       subst (λ (l : List Entry). ServesAll (begin_of c plan state) [] (deeds_in account) e.moves l) (sym same) serves
 
-  still : ¬ Rose call.site.faults call.site_after.faults
-  still rose =
-      let a = run.last_later in let b = run.after_later in let c = stands in
-      let same : run.account.last ≡ call.site_after.faults = omega arith in
-      quiet (subst (λ (n : ℕ). Rose call.site.faults n) (sym same) rose)
+  quiet : ¬ Rose call.site.faults run.account.last
+  quiet rose = still (rose_later call.site.faults run.account.last call.site_after.faults run.after_later rose)
 
-  restill : ¬ Rose other.site.faults other.site_after.faults
-  restill rose =
-      let a = again.last_later in let b = again.after_later in let c = restands in
-      let same : again.account.last ≡ other.site_after.faults = omega arith in
-      requiet (subst (λ (n : ℕ). Rose other.site.faults n) (sym same) rose)
+  requiet : ¬ Rose other.site.faults again.account.last
+  requiet rose = restill (rose_later other.site.faults again.account.last other.site_after.faults again.after_later rose)
 
   begins : begin_of other plan state ≡ begin_of call plan state
   begins = began_alike call other plan state told tells image
@@ -250,10 +277,9 @@ module _ (call other : CallSeen) (run : RunEnds call) (again : RunEnds other) (p
     all_same = once (begin_of call plan state) MOST_KEYS (mark_at state) [] (deeds_in run.account) (deeds_in again.account) e.moves f.moves
         (take s.run.history.run.ends call.entries) (take t.run.history.run.ends other.entries) told
         (rules_front state call.entries s.run.history.run.ends (along plan state run.account.handled call.entries s.run.history)) tasks
-        (are_served (NearWord state call.entries (records_of run.account.handled)) (course_of call run.account plan state) run.account.handled run.account.answers s.run.answers
-        (λ k d low fault. quiet (run.faults_told k d low fault)) wants)
-        (are_served (NearWord state other.entries (records_of again.account.handled)) (course_of other again.account plan state) again.account.handled again.account.answers t.run.answers
-        (λ k d low fault. requiet (again.faults_told k d low fault)) rewants)
+        (all_served (NearWord state call.entries (records_of run.account.handled)) (course_of call run.account plan state) run.account.handled run.account.answers s.run.answers fails)
+        (all_served (NearWord state other.entries (records_of again.account.handled)) (course_of other again.account plan state) again.account.handled again.account.answers t.run.answers
+        refails)
         (served_whole call run.account s.run.history.run.ends r.words e quiet each)
         (subst (λ (b : Begin). ServesAll b [] (deeds_in again.account) f.moves (take t.run.history.run.ends other.entries)) begins
         (served_whole other again.account t.run.history.run.ends q.words f requiet reach))
@@ -326,18 +352,19 @@ module _ (call other : CallSeen) (run : RunEnds call) (again : RunEnds other) (p
         let c = no_fewer state base due used slots adds releases_stored q.count r.count rerefused room (let b = run.bounded in let l = ap length entries_are in omega arith) in
         others_are ∙ ap (λ (l : List Entry). base ++ l) (same_front state base due used slots adds releases_stored r.count q.count (omega arith)) ∙ sym entries_are
 
-    alike_so : AnswersAlike call other run.account again.account
-    alike_so = record {
-      answers = same_answers;
-      entries = same_entries;
-      due = λ ends. ap (λ (l : List Answer). answers_octets l ++ end_octets other again.account.told) same_answers
-          ∙ ap (λ (end : RunEnd). answers_octets run.account.answers ++ end_octets other end) ends
-          ∙ ap (λ (l : List Entry). answers_octets run.account.answers ++ answer_octets (end_answer run.account.told (length l))) same_entries;
-    }
+    same_due_octets : again.account.told ≡ run.account.told → due_octets other again.account ≡ due_octets call run.account
+    same_due_octets ends = ap (λ (l : List Answer). answers_octets l ++ end_octets other again.account.told) same_answers
+        ∙ ap (λ (end : RunEnd). answers_octets run.account.answers ++ end_octets other end) ends
+        ∙ ap (λ (l : List Entry). answers_octets run.account.answers ++ answer_octets (end_answer run.account.told (length l))) same_entries
 
-  pub alike : AnswersAlike call other run.account again.account
-  alike =
+  -- they made the same entries, and the same octets are due where they tell one end
+  pub entries_alike : (other.entries ≡ call.entries)
+      × (again.account.told ≡ run.account.told → due_octets other again.account ≡ due_octets call run.account)
+  entries_alike =
       let one_serves = run.sound told plan state shows in
       let other_serves = again.sound tells plan state reshows in
-      alike_so one_serves.sound other_serves.sound one_serves.released other_serves.released (one_serves.exact one)
-      (other_serves.exact (subst (λ (places : List Place). OneLane (records_of places)) (sym handled) one))
+      let one_exact = one_serves.exact one in
+      let other_exact = other_serves.exact (subst (λ (places : List Place). OneLane (records_of places)) (sym handled) one) in (
+        same_entries one_serves.sound other_serves.sound one_serves.released other_serves.released one_exact other_exact,
+        same_due_octets one_serves.sound other_serves.sound one_serves.released other_serves.released one_exact other_exact,
+      )

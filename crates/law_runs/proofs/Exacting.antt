@@ -1,8 +1,8 @@
 -- Where all records are of one lane: how the words moved, segment by segment, and what is told of it at the end of a run.
-use Rattle.std.proofs.Common.{◌≡◌, ◌⊎◌, ℕ, zero, suc, ◌+◌, ◌<◌, ◌≤◌, List, [], ◌∷◌, ◌++◌, length, Some, refl, sym, ◌∙◌, ap, subst, inl, inr, arith, append_assoc, append-nil, length-append, take}
+use Rattle.std.proofs.Common.{◌≡◌, ◌⊎◌, ℕ, zero, suc, ◌+◌, ◌<◌, ◌≤◌, List, [], ◌∷◌, ◌++◌, length, Some, refl, sym, ◌∙◌, ap, subst, inl, inr, arith, append_assoc, append-nil, length-append, take, drop, max}
 use Rattle.std.specs.List.{All, slice_get, slice_index}
 use Rattle.std.proofs.lemmas.Bool.Decides.{nat_tests}
-use Rattle.std.proofs.lemmas.List.{append_cancel_left, take-append-le, take_all}
+use Rattle.std.proofs.lemmas.List.{append_cancel_left, take-append-drop, take-append-le, take_all}
 use Rattle.std.proofs.lemmas.List.Elements.{All-nil, All-cons}
 use Rattle.sdls_base.specs.declared.TheConstants.{MOST_KEYS}
 use Rattle.sdls_base.specs.declared.entry.Entry.{Entry}
@@ -13,8 +13,7 @@ use Rattle.sdls_outside.specs.Faults.{Rose}
 use Rattle.counter_table.specs.Turn.{stands}
 use Rattle.key_book.specs.KeyBook.{place_of}
 use Rattle.unit_plan.specs.PlanLines.{PlanLines}
-use Rattle.unit_state.specs.declared.state.State.{State}
-use Rattle.unit_state.specs.History.{after, after_first, epoch_after}
+use Rattle.unit_state.specs.History.{after, epoch_after}
 use Rattle.run_promise.specs.Log.{entries_of}
 use Rattle.run_promise.specs.Numbers.{mark_of, mark_at}
 use Rattle.sdls_base.specs.Numbers.{times}
@@ -32,14 +31,14 @@ use Rattle.law_workers.proofs.Joining.{grows_further}
 use Rattle.law_workers.proofs.Logs.{count_one, stands_both, times_both}
 use Rattle.run_promise.specs.Machine.{Move, Runs}
 use Rattle.run_promise.specs.Serving.{ServesAll}
-use Rattle.law_workers.specs.InTurn.{MadeAllLines, IsClean, IsLeftBehind, IsLevel, AreMarked}
+use Rattle.law_workers.specs.InTurn.{MadeAllLines, IsClean, IsLeftBehind, IsLevel, AllStand, stood_in, IsSettled}
 use Rattle.law_workers.specs.Exact.{words_in, Exact, IsOfMoves}
 use Rattle.run_promise.specs.Moves.{TellAll}
 use Rattle.law_workers.specs.Alone.{MovedExactly, ServedAlone}
 use Rattle.run_promise.specs.Alone.{OneLane, IsExact}
 use Rattle.law_workers.proofs.Alone.{below_log, exact_seen, seen_moves}
 use Rattle.law_workers.proofs.Machines.{alone, exact_nothing, exact_then, nothing_moves, runs_same, tell_more, then_moves}
-use Rattle.law_workers.proofs.Turns.{clean_before, log_low, made_first, made_rest, serves_both}
+use Rattle.law_workers.proofs.Turns.{all_on, level_on, log_low, made_first, made_rest, serves_both, stood_is, stood_on}
 use Rattle.law_workers.specs.Opened.{IsJustOpened}
 use Rattle.law_workers.specs.Settles.{SettlesAt}
 use Rattle.run_promise.specs.Call.{CallSeen}
@@ -142,9 +141,9 @@ module _ (begin : Begin) (first v mid w : View) (places more : List Place) (answ
   -- what was served before, once each record has its answer
   Before : List Move → Type 0
   Before last = (e : Exact begin first v a.moved.made (deeds_from places answers) last)
-      × (MadeAllLines first v a.moved.made → IsClean v → IsLevel first
-      → (own : List Entry) × (rest : List Entry) × (entries_in v ≡ entries_in first ++ (own ++ rest))
-      × ServesAll begin (entries_in first) (deeds_from places answers) e.moves own × IsLeftBehind last rest)
+      × (MadeAllLines first v a.moved.made → IsLevel first
+      → (own : List Entry) × (rest : List Entry) × (stood_in v ≡ stood_in first ++ (own ++ rest))
+      × ServesAll begin (stood_in first) (deeds_from places answers) e.moves own × IsLeftBehind v last rest)
 
   before : Before []
   unfolding Before
@@ -161,49 +160,57 @@ module _ (begin : Begin) (first v mid w : View) (places more : List Place) (answ
   above_put : (place : ℕ) → 0 < stands place puts.does.gains.made → length (log_of mid) ≤ place
   above_put place in' = (puts.does.works.made place in').0
 
-  -- each number that the segment spent was below its mark when its answers were put
-  marked : IsClean w → AreMarked begin mid b.spent
-  marked clean key row number few there in' =
-      let t : times row number mid.numbers.spent ≡ times row number v.numbers.spent + times row number b.spent =
-      ap (times row number) b.between.spent_is ∙ times_both row number v.numbers.spent b.spent in
-      let found = settles.marks key row number few (subst (λ (es : List Entry). place_of (after begin.start es).keys key ≡ Some row) (sym puts.entries) there) (omega arith) in
-      let stood : entries ≡ length (entries_in w) = settles.stood clean in
-      let whole : after_first begin.start (entries_in w) entries ≡ after begin.start (entries_in mid) =
-      ap (after begin.start) (take_all entries (entries_in w) (omega arith) ∙ puts.entries) in
-      subst (λ (s : State). number < mark_of s key) whole found
+  -- what the segment spent and saw was settled when its answers were put
+  settled_mid : IsLevel mid → IsSettled begin mid b.spent
+  settled_mid level = record {
+    marks = λ key row number few there in'.
+        let t : times row number mid.numbers.spent ≡ times row number v.numbers.spent + times row number b.spent =
+        ap (times row number) b.between.spent_is ∙ times_both row number v.numbers.spent b.spent in
+        let found = settles.marks key row number few (subst (λ (es : List Entry). place_of (after begin.start es).keys key ≡ Some row) (sym puts.entries) there) (omega arith) in
+        subst (λ (es : List Entry). number < mark_of (after begin.start es) key) stood found;
+    epoch = let low = settles.epoch in let counted = ap epoch_after stood in omega arith;
+  } where
+    stood : take entries (entries_in w) ≡ stood_in mid
+    stood = ap (take entries) puts.entries ∙ stood_is mid entries level settles.standing settles.stopped
+
+  -- what stands is left so by the puts
+  left_put : (last : List Move) (rest : List Entry) → IsLeftBehind mid last rest → IsLeftBehind w last rest
+  left_put last rest (none, inl empty) = (none, inl empty)
+  left_put last rest (none, inr (few, all)) = (none, inr (few, all_on mid w puts.does.grows.earlier puts.does.grows.opening puts.entries all))
 
   both_served : (e : Exact begin first v a.moved.made (deeds_from places answers) []) (moves : List Move) → moves ≡ e.moves ++ b.moved.exact.moves
-      → (MadeAllLines first v a.moved.made → IsClean v → IsLevel first
-      → (own : List Entry) × (rest : List Entry) × (entries_in v ≡ entries_in first ++ (own ++ rest))
-      × ServesAll begin (entries_in first) (deeds_from places answers) e.moves own × IsLeftBehind [] rest)
-      → MadeAllLines first w (a.moved.made ++ (b.moved.made ++ puts.does.gains.made)) → IsClean w → IsLevel first
-      → (own : List Entry) × (rest : List Entry) × (entries_in w ≡ entries_in first ++ (own ++ rest))
-      × ServesAll begin (entries_in first) (deeds_from places answers ++ deeds_from more next) moves own × IsLeftBehind b.moved.last rest
-  both_served e moves is served all clean level =
-      let clean_mid = clean_before mid w puts.does.grows clean in
-      let clean_v = clean_before v mid here.grows clean_mid in
+      → (MadeAllLines first v a.moved.made → IsLevel first
+      → (own : List Entry) × (rest : List Entry) × (stood_in v ≡ stood_in first ++ (own ++ rest))
+      × ServesAll begin (stood_in first) (deeds_from places answers) e.moves own × IsLeftBehind v [] rest)
+      → MadeAllLines first w (a.moved.made ++ (b.moved.made ++ puts.does.gains.made)) → IsLevel first
+      → (own : List Entry) × (rest : List Entry) × (stood_in w ≡ stood_in first ++ (own ++ rest))
+      × ServesAll begin (stood_in first) (deeds_from places answers ++ deeds_from more next) moves own × IsLeftBehind w b.moved.last rest
+  both_served e moves is served all level =
+      let level_v = a.level level in
+      let level_mid = b.between.level level_v in
       let lines_rest = made_rest first v w a.moved.made (b.moved.made ++ puts.does.gains.made) does.grows below all in
-      let (own, none, all_is, one, left) = served (made_first first v w a.moved.made (b.moved.made ++ puts.does.gains.made) grows above_rest all) clean_v level in
-      let own_is : entries_in v ≡ entries_in first ++ own =
-      all_is ∙ ap (λ (l : List Entry). entries_in first ++ (own ++ l)) (left.0 refl) ∙ ap (λ (l : List Entry). entries_in first ++ l) (append-nil own) in
-      let (more_own, rest, more_is, two, behind) = b.between.served (made_first v mid w b.moved.made puts.does.gains.made puts.does.grows above_put lines_rest) clean_mid
-      (a.level clean_v level) (marked clean) in (
+      let (own, none, all_is, one, left) = served (made_first first v w a.moved.made (b.moved.made ++ puts.does.gains.made) grows above_rest all) level in
+      let own_is : stood_in v ≡ stood_in first ++ own =
+      all_is ∙ ap (λ (l : List Entry). stood_in first ++ (own ++ l)) (left.0 refl) ∙ ap (λ (l : List Entry). stood_in first ++ l) (append-nil own) in
+      let (more_own, rest, more_is, two, behind) = b.between.served (made_first v mid w b.moved.made puts.does.gains.made puts.does.grows above_put lines_rest)
+      level_v (settled_mid level_mid) in (
         own ++ more_own,
         rest,
-        puts.entries ∙ more_is ∙ ap (λ (l : List Entry). l ++ (more_own ++ rest)) own_is ∙ append_assoc (entries_in first) own (more_own ++ rest)
-            ∙ ap (λ (l : List Entry). entries_in first ++ l) (sym (append_assoc own more_own rest)),
-        subst (λ (l : List Move). ServesAll begin (entries_in first) (deeds_from places answers ++ deeds_from more next) l (own ++ more_own)) (sym is)
-            (serves_both begin (entries_in first) (deeds_from places answers) (deeds_from more next) e.moves b.moved.exact.moves own more_own one
+        stood_on mid w puts.does.grows.earlier puts.does.grows.opening puts.entries level_mid
+            ∙ more_is ∙ ap (λ (l : List Entry). l ++ (more_own ++ rest)) own_is ∙ append_assoc (stood_in first) own (more_own ++ rest)
+            ∙ ap (λ (l : List Entry). stood_in first ++ l) (sym (append_assoc own more_own rest)),
+        subst (λ (l : List Move). ServesAll begin (stood_in first) (deeds_from places answers ++ deeds_from more next) l (own ++ more_own)) (sym is)
+            (serves_both begin (stood_in first) (deeds_from places answers) (deeds_from more next) e.moves b.moved.exact.moves own more_own one
             (subst (λ (l : List Entry). ServesAll begin l (deeds_from more next) b.moved.exact.moves more_own) own_is two)),
-        behind,
+        left_put b.moved.last rest behind,
       )
 
   -- a segment behind those before
   alone_then : (moved : MovedExactly begin first w (length places + length more) (deeds_from places answers ++ deeds_from more next))
-      × (IsClean w → IsLevel first → IsLevel w)
-      × (MadeAllLines first w moved.made → IsClean w → IsLevel first
-      → (own : List Entry) × (rest : List Entry) × (entries_in w ≡ entries_in first ++ (own ++ rest))
-      × ServesAll begin (entries_in first) (deeds_from places answers ++ deeds_from more next) moved.exact.moves own × IsLeftBehind moved.last rest)
+      × (IsLevel first → IsLevel w)
+      × (MadeAllLines first w moved.made → IsLevel first
+      → (own : List Entry) × (rest : List Entry) × (stood_in w ≡ stood_in first ++ (own ++ rest))
+      × ServesAll begin (stood_in first) (deeds_from places answers ++ deeds_from more next) moved.exact.moves own × IsLeftBehind w moved.last rest)
   unfolding before Before c moved_put
   alone_then =
       let (e, served) = before in (
@@ -215,11 +222,7 @@ module _ (begin : Begin) (first v mid w : View) (places more : List Place) (answ
           each = λ all. c.each (let both = length-append (deeds_from places answers) (deeds_from more next) in let d = deeds_length places answers each in omega arith);
           exact = exact_then begin first v w a.moved.made c.made (deeds_from places answers) (deeds_from more next) c.last e below grows c.exact;
         },
-        λ clean level.
-            let clean_mid = clean_before mid w puts.does.grows clean in
-            let mid_level : IsLevel mid = b.between.level clean_mid (a.level (clean_before v mid here.grows clean_mid) level) in
-            let epochs = puts.does.grows.epochs in
-            let counted = ap epoch_after puts.entries in omega arith,
+        λ level. level_on mid w puts.does.grows.earlier puts.does.grows.opening puts.entries puts.does.grows.epochs (b.between.level (a.level level)),
         both_served e
             (exact_then begin first v w a.moved.made c.made (deeds_from places answers) (deeds_from more next) c.last e below grows c.exact).moves
             (then_moves begin first v w a.moved.made c.made (deeds_from places answers) (deeds_from more next) c.last e below grows c.exact
@@ -230,20 +233,20 @@ module _ (begin : Begin) (first v mid w : View) (places more : List Place) (answ
 -- a run whose records are of one lane, with these deeds, where they are so many
 alone_as : (begin : Begin) (first w : View) (places : List Place) (answers : List Answer) (n : ℕ) (deeds : List Deed) → length places ≡ n
     → deeds_from places answers ≡ deeds
-    → (moved : MovedExactly begin first w n deeds) × (IsClean w → IsLevel first → IsLevel w)
-    × (MadeAllLines first w moved.made → IsClean w → IsLevel first
-    → (own : List Entry) × (rest : List Entry) × (entries_in w ≡ entries_in first ++ (own ++ rest)) × ServesAll begin (entries_in first) deeds moved.exact.moves own
-    × IsLeftBehind moved.last rest)
+    → (moved : MovedExactly begin first w n deeds) × (IsLevel first → IsLevel w)
+    × (MadeAllLines first w moved.made → IsLevel first
+    → (own : List Entry) × (rest : List Entry) × (stood_in w ≡ stood_in first ++ (own ++ rest)) × ServesAll begin (stood_in first) deeds moved.exact.moves own
+    × IsLeftBehind w moved.last rest)
     → RunAlone begin first w places answers
 alone_as begin first w places answers n deeds size is h =
-    let (moved, level, served) = subst (λ (k : ℕ). (moved : MovedExactly begin first w k (deeds_from places answers)) × (IsClean w → IsLevel first → IsLevel w)
-    × (MadeAllLines first w moved.made → IsClean w → IsLevel first
-    → (own : List Entry) × (rest : List Entry) × (entries_in w ≡ entries_in first ++ (own ++ rest)) × ServesAll begin (entries_in first) (deeds_from places answers) moved.exact.moves own
-    × IsLeftBehind moved.last rest)) (sym size)
-    (subst (λ (ds : List Deed). (moved : MovedExactly begin first w n ds) × (IsClean w → IsLevel first → IsLevel w)
-    × (MadeAllLines first w moved.made → IsClean w → IsLevel first
-    → (own : List Entry) × (rest : List Entry) × (entries_in w ≡ entries_in first ++ (own ++ rest)) × ServesAll begin (entries_in first) ds moved.exact.moves own
-    × IsLeftBehind moved.last rest)) (sym is) h) in
+    let (moved, level, served) = subst (λ (k : ℕ). (moved : MovedExactly begin first w k (deeds_from places answers)) × (IsLevel first → IsLevel w)
+    × (MadeAllLines first w moved.made → IsLevel first
+    → (own : List Entry) × (rest : List Entry) × (stood_in w ≡ stood_in first ++ (own ++ rest)) × ServesAll begin (stood_in first) (deeds_from places answers) moved.exact.moves own
+    × IsLeftBehind w moved.last rest)) (sym size)
+    (subst (λ (ds : List Deed). (moved : MovedExactly begin first w n ds) × (IsLevel first → IsLevel w)
+    × (MadeAllLines first w moved.made → IsLevel first
+    → (own : List Entry) × (rest : List Entry) × (stood_in w ≡ stood_in first ++ (own ++ rest)) × ServesAll begin (stood_in first) ds moved.exact.moves own
+    × IsLeftBehind w moved.last rest)) (sym is) h) in
     record { moved = moved; level = level; served = served }
 
 pub moved_on : (begin : Begin) (first v mid w : View) (places more : List Place) (answers next : List Answer) (number stored entries lines : ℕ)
@@ -273,17 +276,26 @@ alone_nothing begin first = record {
     each = λ same. refl;
     exact = exact_nothing begin first;
   };
-  level = λ clean level. level;
-  served = λ all clean level. (
+  level = λ level. level;
+  served = λ all level. (
     [],
     [],
-    sym (append-nil (entries_in first)),
-    subst (λ (moves : List Move). ServesAll begin (entries_in first) [] moves []) (sym (nothing_moves begin first)) refl,
-    (λ none. refl, omega arith),
+    sym (append-nil (stood_in first)),
+    subst (λ (moves : List Move). ServesAll begin (stood_in first) [] moves []) (sym (nothing_moves begin first)) refl,
+    (λ none. refl, inl refl),
   );
 }
 
 -- ---- the end of a run
+
+empty : {X : Type 0} (xs : List X) → length xs ≡ 0 → xs ≡ []
+empty {X} [] none = refl
+empty {X} (x ∷ xs) none = absurd (omega arith)
+
+drop_size : {X : Type 0} (n : ℕ) (xs : List X) → length (drop n xs) + n ≡ max (length xs) n
+drop_size {X} zero xs = omega arith
+drop_size {X} (suc n) [] = omega arith
+drop_size {X} (suc n) (x ∷ xs) = let h = drop_size n xs in omega arith
 
 pub exact_call : (call : CallSeen) (account : Account) (plan : PlanLines) (begin : Begin) (first now : View) (words : List ℕ) (releases : List Entry)
     → begin ≡ begin_of call plan begin.start → IsJustOpened begin first → IsWhole begin.rows now
@@ -312,26 +324,62 @@ exact_call call account plan begin first now words releases begins opened whole 
       let o = opened.added row (omega arith) in
       let n = opened.nexts row (omega arith) in
       let a = alone_run.moved.exact.added row in omega arith;
-  served = λ quiet.
-      let clean : IsClean now = (λ risen. quiet (subst (λ (n : ℕ). Rose n account.last) faults_before
-      (subst (λ (n : ℕ). Rose now.turn.known.opening.faults n) faults_last risen))) in
-      let empty : entries_in first ≡ [] = ap entries_of opened.no_log in
-      let level : IsLevel first = (let counted = ap epoch_after empty in omega arith) in
-      let (own, rest, own_is, served, behind) = alone_run.served (λ place low high. all_made place high) clean level in
-      let front : take (length (entries_in now)) call.entries ≡ own ++ rest =
+  served =
+      let (own, rest, own_is, served, behind) = alone_run.served (λ place low high. all_made place high) level_first in
+      let left : List Entry = drop now.turn.known.standing (entries_in now) in
+      let whole_is : entries_in now ≡ own ++ (rest ++ left) =
+      sym (take-append-drop now.turn.known.standing (entries_in now)) ∙ ap (λ (l : List Entry). l ++ left) own_is
+      ∙ ap (λ (l : List Entry). (l ++ (own ++ rest)) ++ left) none_stood ∙ append_assoc own rest left in
+      let front : take (length (entries_in now)) call.entries ≡ own ++ (rest ++ left) =
       ap (take (length (entries_in now))) is ∙ take-append-le (length (entries_in now)) (entries_in now) releases (omega arith)
-      ∙ take_all (length (entries_in now)) (entries_in now) (omega arith) ∙ own_is ∙ ap (λ (l : List Entry). l ++ (own ++ rest)) empty in (
+      ∙ take_all (length (entries_in now)) (entries_in now) (omega arith) ∙ whole_is in (
         own,
-        rest,
+        rest ++ left,
         front,
         subst (λ (b : Begin). ServesAll b [] (deeds_in account) alone_run.moved.exact.moves own) begins
-            (subst (λ (l : List Entry). ServesAll begin l (deeds_in account) alone_run.moved.exact.moves own) empty served),
-        (λ all. behind.0 (alone_run.moved.each (deeds_length account.handled account.answers all))),
-        behind.1,
+            (subst (λ (l : List Entry). ServesAll begin l (deeds_in account) alone_run.moved.exact.moves own) none_stood served),
+        few_left rest behind,
+        λ all quiet.
+            let clean : IsClean now = (λ risen. quiet (subst (λ (n : ℕ). Rose n account.last) faults_before
+            (subst (λ (n : ℕ). Rose now.turn.known.opening.faults n) faults_last risen))) in
+            ap (λ (l : List Entry). l ++ left) (behind.0 (alone_run.moved.each (deeds_length account.handled account.answers all)))
+            ∙ none_left (level_now.all clean),
       );
 } where
   rows : begin.rows ≡ MOST_KEYS
   rows = ap (λ (b : Begin). b.rows) begins
+
+  -- nothing stood in the first view
+  none_first : entries_in first ≡ []
+  none_first = ap entries_of opened.no_log
+
+  none_stood : stood_in first ≡ []
+  none_stood = take_all first.turn.known.standing (entries_in first) (let size = ap length none_first in omega arith) ∙ none_first
+
+  level_first : IsLevel first
+  level_first =
+      let size = ap length none_first in
+      let counted = ap epoch_after none_stood in record { few = omega arith; all = λ clean. omega arith; epoch = omega arith }
+
+  level_now : IsLevel now
+  level_now = alone_run.level level_first
+
+  -- what does not stand: nothing, where all entries do, and one at most
+  size_left : length (drop now.turn.known.standing (entries_in now)) + now.turn.known.standing ≡ max (length (entries_in now)) now.turn.known.standing
+  size_left = drop_size now.turn.known.standing (entries_in now)
+
+  none_left : AllStand now → drop now.turn.known.standing (entries_in now) ≡ []
+  none_left all = let size = size_left in empty (drop now.turn.known.standing (entries_in now)) (omega arith)
+
+  few_left : (rest : List Entry) → IsLeftBehind now alone_run.moved.last rest → length (rest ++ drop now.turn.known.standing (entries_in now)) ≤ 1
+  few_left rest (none, inl is) =
+      let size = size_left in
+      let few = level_now.few in
+      let whole = length-append rest (drop now.turn.known.standing (entries_in now)) in
+      let zero_rest : length rest ≡ 0 = ap length is in omega arith
+  few_left rest (none, inr (few, all)) =
+      let whole = length-append rest (drop now.turn.known.standing (entries_in now)) in
+      let zero_left : length (drop now.turn.known.standing (entries_in now)) ≡ 0 = ap length (none_left all) in omega arith
 
   all_made : (place : ℕ) → place < length (log_of now) → 0 < stands place alone_run.moved.made
   all_made place inside =

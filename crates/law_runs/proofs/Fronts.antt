@@ -1,8 +1,8 @@
 -- Two runs of one lane over one image that handled the same records: as far as both have answers, these are the same.
-use Rattle.std.proofs.Common.{◌≡◌, ℕ, zero, suc, ◌≤◌, IsTrue, List, [], ◌∷◌, ◌++◌, length, map, take, Ok, refl, sym, ◌∙◌, ap, subst, arith, append_assoc}
+use Rattle.std.proofs.Common.{◌≡◌, ℕ, zero, suc, ◌+◌, ◌≤◌, IsTrue, List, [], ◌∷◌, ◌++◌, length, map, take, Ok, refl, sym, ◌∙◌, ap, subst, arith, append_assoc}
+use Rattle.std.proofs.lemmas.List.{take_all}
 use Rattle.sdls_base.specs.declared.TheConstants.{MOST_KEYS}
 use Rattle.sdls_base.specs.declared.entry.Entry.{Entry}
-use Rattle.sdls_outside.specs.Faults.{Rose}
 use Rattle.disk_journal.specs.Image.{held}
 use Rattle.record_io.specs.declared.answers.Answer.{Answer}
 use Rattle.record_io.specs.Places.{Place, records_of}
@@ -12,7 +12,8 @@ use Rattle.unit_plan.specs.PlanLines.{PlanLines}
 use Rattle.unit_state.specs.declared.state.State.{State}
 use Rattle.unit_state.specs.State.{KeepsRules}
 use Rattle.unit_state.specs.History.{after, after_first}
-use Rattle.run_promise.specs.Numbers.{mark_at}
+use Rattle.run_promise.specs.Numbers.{mark_at, releases}
+use Rattle.run_promise.specs.Stored.{stored_count}
 use Rattle.run_promise.specs.Run.{IsLegalHistory, NearWord}
 use Rattle.run_promise.specs.Begin.{Begin}
 use Rattle.run_promise.specs.Deed.{Deed}
@@ -22,10 +23,10 @@ use Rattle.run_promise.specs.Alone.{OneLane, IsExact}
 use Rattle.run_promise.specs.declared.end.RunEnd.{RunEnd}
 use Rattle.run_promise.specs.declared.end.RunEnd.TheVariants as ends
 use Rattle.run_promise.specs.Call.{CallSeen, ShowsAtEntry, image_at_entry}
-use Rattle.run_promise.specs.Account.{Account, AreAnswered, begin_of, course_of, deeds_from, deeds_in}
+use Rattle.run_promise.specs.Account.{Account, AreAnswered, begin_of, course_of, deeds_from, deeds_in, due_octets}
 use Rattle.run_promise.specs.Ends.{IsSoundCall, RunEnds}
-use Rattle.law_runs.specs.Says.{NoneWants}
-use Rattle.law_runs.proofs.Alike.{are_served, began_alike, rules_front}
+use Rattle.law_runs.specs.Says.{AnswersAlike, IsUnfailed, NoneFails}
+use Rattle.law_runs.proofs.Alike.{are_served, began_alike, entries_alike, rules_front}
 
 -- ---- fronts
 
@@ -56,11 +57,6 @@ front_tasks (suc n) (place ∷ places) [] others one two = absurd (omega arith)
 front_tasks (suc n) (place ∷ places) (answer ∷ answers) [] one two = absurd (omega arith)
 front_tasks (suc n) (place ∷ places) (answer ∷ answers) (other ∷ others) one two = (refl, front_tasks n places answers others (omega arith) (omega arith))
 
-front_served : (n : ℕ) (deeds : List Deed) → AreServed deeds → AreServed (take n deeds)
-front_served zero deeds h = tt
-front_served (suc n) [] h = tt
-front_served (suc n) (deed ∷ deeds) h = (h.0, front_served n deeds h.1)
-
 front_answers : (n : ℕ) (places : List Place) (answers : List Answer) → length answers ≤ length places
     → map (λ (d : Deed). d.answer) (take n (deeds_from places answers)) ≡ take n answers
 front_answers zero places answers few = refl
@@ -83,11 +79,10 @@ few_answers account (ends.NoState offset) h = let e = ap length h.1 in omega ari
 -- ---- two calls
 
 module _ (call other : CallSeen) (run : RunEnds call) (again : RunEnds other) (plan : PlanLines) (state : State)
-    (quiet : ¬ Rose call.site.faults run.account.last) (requiet : ¬ Rose other.site.faults again.account.last)
     (told : IsTrue call.site.told) (tells : IsTrue other.site.told)
     (image : image_at_entry other ≡ image_at_entry call) (shows : ShowsAtEntry call plan state)
     (handled : again.account.handled ≡ run.account.handled)
-    (one : OneLane (records_of run.account.handled)) (wants : NoneWants run.account.answers) (rewants : NoneWants again.account.answers)
+    (one : OneLane (records_of run.account.handled))
     (once : (begin : Begin) (rows : ℕ) (words : ℕ → ℕ) (history : List Entry) (deeds others : List Deed) (moves more : List Move)
     (own entries : List Entry) → IsTrue begin.told
     → ((front rest : List Entry) → own ≡ front ++ rest → KeepsRules (after begin.start (history ++ front)))
@@ -103,7 +98,8 @@ module _ (call other : CallSeen) (run : RunEnds call) (again : RunEnds other) (p
     shows = subst (λ (i : List ℕ). Shows i state) (sym image) shows.shows;
   }
 
-  module _ (n : ℕ) (low : n ≤ length run.account.answers) (small : n ≤ length again.account.answers) where
+  module _ (n : ℕ) (low : n ≤ length run.account.answers) (small : n ≤ length again.account.answers)
+      (fails : NoneFails (take n run.account.answers)) (refails : NoneFails (take n again.account.answers)) where
     tasks : SameTasks (take n (deeds_in run.account)) (take n (deeds_in again.account))
     tasks = subst (λ (places : List Place). SameTasks (take n (deeds_in run.account)) (take n (deeds_from places again.account.answers))) (sym handled)
         (front_tasks n run.account.handled run.account.answers again.account.answers low small)
@@ -112,8 +108,8 @@ module _ (call other : CallSeen) (run : RunEnds call) (again : RunEnds other) (p
         (e : IsExact call run.account plan state words s.run.history.run.ends) (f : IsExact other again.account plan state others t.run.history.run.ends) where
       same : take n again.account.answers ≡ take n run.account.answers
       same =
-          let (own, rest, is, serves, none, few) = e.served quiet in
-          let (entries, left, at, reserves, zero_left, few_left) = f.served requiet in
+          let (own, rest, is, serves, few, none) = e.served in
+          let (entries, left, at, reserves, few_left, zero_left) = f.served in
           let (front, more, split, served) = front_serves (begin_of call plan state) [] n (deeds_in run.account) e.moves own serves in
           let (back, most, cut, reserved) = front_serves (begin_of call plan state) [] n (deeds_in again.account) f.moves entries
           (subst (λ (b : Begin). ServesAll b [] (deeds_in again.account) f.moves entries) (began_alike call other plan state told tells image) reserves) in
@@ -124,19 +120,43 @@ module _ (call other : CallSeen) (run : RunEnds call) (again : RunEnds other) (p
           (is ∙ ap (λ (l : List Entry). l ++ rest) split ∙ append_assoc front more rest ∙ ap (λ (l : List Entry). l ++ (more ++ rest)) there
           ∙ append_assoc some behind (more ++ rest)))
           tasks
-          (front_served n (deeds_in run.account) (are_served (NearWord state call.entries (records_of run.account.handled)) (course_of call run.account plan state)
-          run.account.handled run.account.answers s.run.answers (λ k d inside fault. quiet (run.faults_told k d inside fault)) wants))
-          (front_served n (deeds_in again.account) (are_served (NearWord state other.entries (records_of again.account.handled)) (course_of other again.account plan state)
-          again.account.handled again.account.answers t.run.answers (λ k d inside fault. requiet (again.faults_told k d inside fault)) rewants))
+          (are_served (NearWord state call.entries (records_of run.account.handled)) (course_of call run.account plan state) n
+          run.account.handled run.account.answers s.run.answers fails)
+          (are_served (NearWord state other.entries (records_of again.account.handled)) (course_of other again.account plan state) n
+          again.account.handled again.account.answers t.run.answers refails)
           served reserved
           (front_runs MOST_KEYS (mark_at state) n e.moves e.beyond e.runs) (front_runs MOST_KEYS (mark_at state) n f.moves f.beyond f.runs) in
           sym (front_answers n again.account.handled again.account.answers (few_answers again.account again.account.came again.answered)) ∙ sym both.0
           ∙ front_answers n run.account.handled run.account.answers (few_answers run.account run.account.came run.answered)
 
   pub fronts_alike : (n : ℕ) → n ≤ length run.account.answers → n ≤ length again.account.answers
+      → NoneFails (take n run.account.answers) → NoneFails (take n again.account.answers)
       → take n again.account.answers ≡ take n run.account.answers
-  fronts_alike n low small =
+  fronts_alike n low small fails refails =
       let one_serves = run.sound told plan state shows in
       let other_serves = again.sound tells plan state reshows in
-      same n low small one_serves.sound other_serves.sound one_serves.released.words other_serves.released.words (one_serves.exact one)
+      same n low small fails refails one_serves.sound other_serves.sound one_serves.released.words other_serves.released.words (one_serves.exact one)
       (other_serves.exact (subst (λ (places : List Place). OneLane (records_of places)) (sym handled) one))
+
+  -- where each record was answered, all answers are the same, and the entries too, where the site did not fail
+  pub alike : length run.account.answers ≡ length run.account.handled → length again.account.answers ≡ length again.account.handled
+      → NoneFails run.account.answers → NoneFails again.account.answers
+      → ((state : State) (entries more : List Entry) → stored_count state (entries ++ more) ≡ stored_count state entries + stored_count (after state entries) more)
+      → ((state : State) (place : ℕ) (words : List ℕ) (count : ℕ)
+      → stored_count state (take count (releases state place words)) ≡ length (take count (releases state place words)))
+      → AnswersAlike call other run.account again.account
+  alike each reach fails refails adds stored =
+      let counted : length again.account.answers ≡ length run.account.answers = reach ∙ ap length handled ∙ sym each in
+      let all : take (length run.account.answers) run.account.answers ≡ run.account.answers =
+      take_all (length run.account.answers) run.account.answers (omega arith) in
+      let reall : take (length run.account.answers) again.account.answers ≡ again.account.answers =
+      take_all (length run.account.answers) again.account.answers (omega arith) in
+      let entries : IsUnfailed call → IsUnfailed other → (other.entries ≡ call.entries)
+      × (again.account.told ≡ run.account.told → due_octets other again.account ≡ due_octets call run.account) = λ still restill.
+      entries_alike call other run again plan state still restill each reach told tells image shows handled one fails refails once along adds stored in
+      record {
+        answers = sym reall ∙ fronts_alike (length run.account.answers) (omega arith) (omega arith)
+            (subst NoneFails (sym all) fails) (subst NoneFails (sym reall) refails) ∙ all;
+        entries = λ still restill. (entries still restill).0;
+        due = λ still restill. (entries still restill).1;
+      }

@@ -362,7 +362,7 @@ module _ {O : Type 0} (told : Bool) (trace : O → Trace) (faults puts : O → �
             let b : slice_index (marks_from state 0 MOST_KEYS) row ≡ mark_at state (0 + row) = marks_found state 0 MOST_KEYS row low in
             let same : 0 + row ≡ row = omega arith in
             let c = ap (mark_at state) same in omega arith;
-        served = λ quiet. ([], [], take_none ends, refl, (λ all. refl), omega arith);
+        served = ([], [], take_none ends, refl, omega arith, λ all quiet. refl);
       }
 
     -- ---- an image that shows none

@@ -38,6 +38,21 @@ zero_is (NoState offset) h = absurd (omega arith)
 zero_is SessionFull h = absurd (omega arith)
 zero_is PutFailed h = absurd (omega arith)
 
+three_is : (end : RunEnd) → end_status end ≡ 3 → (offset : ℕ) × (end ≡ Malformed offset)
+three_is Ended h = absurd (omega arith)
+three_is (Malformed offset) h = (offset, refl)
+three_is (SourceFault count) h = absurd (omega arith)
+three_is (SiteFault count) h = absurd (omega arith)
+three_is NoMemory h = absurd (omega arith)
+three_is (NoState offset) h = absurd (omega arith)
+three_is SessionFull h = absurd (omega arith)
+three_is PutFailed h = absurd (omega arith)
+
+-- the end that is told where the reading ended so
+abbrev pub told_at : InputEnd → RunEnd
+told_at Whole = Ended
+told_at (MalformedAt offset) = Malformed offset
+
 five_is : (end : RunEnd) → end_status end ≡ 5 → ((count : ℕ) × (end ≡ SiteFault count)) ⊎ (end ≡ PutFailed)
 five_is Ended h = absurd (omega arith)
 five_is (Malformed offset) h = absurd (omega arith)
@@ -182,6 +197,18 @@ module _ (call : CallSeen) (run : RunEnds call) where
       ]
     ]
   ]
+
+  -- With status 0 or 3 the input was read up to this end, each record of it was answered, and this end is told.
+  pub all_read : (call.status ≡ 0) ⊎ (call.status ≡ 3) → (end : InputEnd) × (run.account.told ≡ told_at end)
+      × (IsTrue call.source.told → IsInput call.source.left run.account.items end)
+      × (run.account.handled ≡ places_of run.account.items) × (length run.account.answers ≡ length run.account.handled)
+  all_read (inl zero_status) =
+      let did = all_done zero_status in (Whole, did.told_is, did.whole, did.handled, did.answered)
+  all_read (inr three_status) =
+      let (same, is) = what_came (λ five. absurd (omega arith)) (λ eight. absurd (omega arith)) in
+      let (offset, came) = three_is run.account.came (sym is ∙ three_status) in
+      let answered = answered_of (Malformed offset) came in
+      (MalformedAt offset, same ∙ came, (cause_of (Malformed offset) came).1, answered.0, answered.1)
 
   pub full_told : call.status ≡ 8 → EndsWithFullHistory call run
   full_told eight = elim run.put [

@@ -17,7 +17,7 @@ use Rattle.run_promise.specs.Deed.{Deed, tells_entry}
 use Rattle.law_workers.specs.Deeds.{Does, course_in}
 use Rattle.law_workers.specs.Order.{Layout, TakeTurns, Lined}
 use Rattle.run_promise.specs.Serving.{ServesAll}
-use Rattle.law_workers.specs.InTurn.{MadeAllLines, IsClean, IsLeftBehind, IsLevel}
+use Rattle.law_workers.specs.InTurn.{MadeAllLines, IsLeftBehind, IsLevel, stood_in}
 use Rattle.law_workers.specs.Alone.{MovedExactly}
 use Rattle.run_promise.specs.Alone.{OneLane}
 use Rattle.law_workers.specs.Opened.{IsJustOpened}
@@ -52,16 +52,16 @@ pub record HasDone (begin : Begin) (first now : View) (places : List Place) (ans
       × Lined (TakeTurns layout) (log_of now) now.turn.made (length (records_of places) + drawers (records_of places))
       pieces
 
--- One lane alone: each record moved the words as its answer tells, and where the site did not fail and no other worker
--- made a line, the answered ones were served in turn from the history of the first view; they made all entries but what
--- a record without an answer left.
+-- One lane alone: each record moved the words as its answer tells, and where no other worker made a line, the answered
+-- ones were served in turn from the entries that stood in the first view; they made all that stand but what a record
+-- without an answer left.
 pub record RunAlone (begin : Begin) (first now : View) (places : List Place) (answers : List Answer) : Type 0 where
   pub moved : MovedExactly begin first now (length places) (deeds_from places answers)
-  pub level : IsClean now → IsLevel first → IsLevel now
-  pub served : MadeAllLines first now moved.made → IsClean now → IsLevel first
-      → (own : List Entry) × (rest : List Entry) × (entries_in now ≡ entries_in first ++ (own ++ rest))
-      × ServesAll begin (entries_in first) (deeds_from places answers) moved.exact.moves own
-      × IsLeftBehind moved.last rest
+  pub level : IsLevel first → IsLevel now
+  pub served : MadeAllLines first now moved.made → IsLevel first
+      → (own : List Entry) × (rest : List Entry) × (stood_in now ≡ stood_in first ++ (own ++ rest))
+      × ServesAll begin (stood_in first) (deeds_from places answers) moved.exact.moves own
+      × IsLeftBehind now moved.last rest
 
 -- so it is where all records are of one lane
 abbrev pub MovedAlone : Begin → View → View → List Place → List Answer → Type 0

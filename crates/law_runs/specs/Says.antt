@@ -10,7 +10,7 @@ use Rattle.unit_state.specs.declared.state.State.{State}
 use Rattle.run_promise.specs.declared.limits.TheConstants.{MOST_ENTRIES}
 use Rattle.run_promise.specs.declared.end.RunEnd.TheVariants.{Ended, Malformed, SourceFault, SessionFull}
 use Rattle.run_promise.specs.Call.{CallSeen, ShowsAtEntry, image_at_entry}
-use Rattle.run_promise.specs.Account.{AnsweredEach, HandledAll, due_octets, Account}
+use Rattle.run_promise.specs.Account.{AnsweredEach, HandledAll, SaysSiteFailed, due_octets, Account}
 use Rattle.run_promise.specs.Ends.{RunEnds}
 use Rattle.std.specs.List.{All}
 use Rattle.record_io.specs.declared.answers.Answer.{Answer}
@@ -59,11 +59,26 @@ pub record IsUnhindered (call : CallSeen) (ends : RunEnds call) (plan : PlanLine
 abbrev pub NoneWants : List Answer → Type 0
 NoneWants answers = All (λ answer. answer.code ≢ NO_MEMORY) answers
 
--- Two calls gave the same answers and made the same entries; if they name one end, the same octets are due.
+-- none of the answers tells a fault of the site or want of memory: none is 31, 32 or 33
+abbrev pub NoneFails : List Answer → Type 0
+NoneFails answers = All (λ answer. (¬ SaysSiteFailed answer) × (answer.code ≢ NO_MEMORY)) answers
+
+-- the site did not fail in the call
+abbrev pub IsUnfailed : CallSeen → Type 0
+IsUnfailed call = ¬ Rose call.site.faults call.site_after.faults
+
+-- Two calls gave the same answers. If the site failed in neither, they made the same entries, with the releases; and
+-- then, if they name one end, the same octets are due.
 pub record AnswersAlike (call other : CallSeen) (account again : Account) : Type 0 where
   pub answers : again.answers ≡ account.answers
-  pub entries : other.entries ≡ call.entries
-  pub due : again.told ≡ account.told → due_octets other again ≡ due_octets call account
+  pub entries : IsUnfailed call → IsUnfailed other → other.entries ≡ call.entries
+  pub due : IsUnfailed call → IsUnfailed other → again.told ≡ account.told
+      → due_octets other again ≡ due_octets call account
+
+-- Both calls have status 0; or both have status 3, and in neither the site failed, also not at a release.
+abbrev pub EndWell : CallSeen → CallSeen → Type 0
+EndWell call other = ((call.status ≡ status.DONE) × (other.status ≡ status.DONE))
+    ⊎ ((call.status ≡ status.MALFORMED) × (other.status ≡ status.MALFORMED) × IsUnfailed call × IsUnfailed other)
 
 -- Two calls did the same: their answers and their entries are the same, and so are the octets that are due, with End's.
 pub record RunsAlike (call other : CallSeen) (account again : Account) : Type 0 where

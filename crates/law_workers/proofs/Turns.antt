@@ -1,14 +1,18 @@
 -- Records that one worker served in turn: none, and some behind others.
-use Rattle.std.proofs.Common.{◌≡◌, ◌⊎◌, ℕ, zero, suc, ◌+◌, ◌<◌, ◌≤◌, List, [], ◌∷◌, ◌++◌, length, refl, sym, ◌∙◌, ap, subst, inl, inr, arith, append_assoc, append-nil, length-append}
+use Rattle.std.proofs.Common.{◌≡◌, ◌⊎◌, ℕ, zero, suc, ◌+◌, ◌-◌, ◌^◌, ◌<◌, ◌≤◌, min, List, [], ◌∷◌, ◌++◌, length, take, refl, sym, ◌∙◌, ap, subst, inl, inr, arith, append_assoc, append-nil, length-append}
+use Rattle.std.proofs.lemmas.Bool.{cases_lt}
+use Rattle.std.proofs.lemmas.List.{take_all}
 use Rattle.sdls_base.specs.Numbers.{times}
 use Rattle.sdls_base.specs.declared.entry.Entry.{Entry}
 use Rattle.counter_table.specs.declared.view.Opening.{Opening}
 use Rattle.counter_table.specs.declared.view.View.{View}
 use Rattle.sdls_outside.specs.Faults.{Rose}
-use Rattle.counter_table.specs.Turn.{stands}
-use Rattle.unit_state.specs.History.{after}
+use Rattle.counter_table.specs.Known.{Earlier}
+use Rattle.counter_table.specs.Turn.{epoch_seen, stands}
+use Rattle.unit_state.specs.History.{after, epoch_after}
 use Rattle.unit_state.proofs.Histories.{after_more}
 use Rattle.run_promise.specs.Begin.{Begin}
+use Rattle.run_promise.specs.Numbers.{mark_of}
 use Rattle.law_workers.specs.Views.{KnowsMore, IsRow, log_of, entries_in}
 use Rattle.run_promise.specs.Deed.{Deed}
 use Rattle.law_workers.proofs.Histories.{row_kept}
@@ -16,7 +20,7 @@ use Rattle.law_workers.proofs.Logs.{stands_both, times_both}
 use Rattle.law_workers.proofs.Working.{grown_entries}
 use Rattle.run_promise.specs.Machine.{Move}
 use Rattle.run_promise.specs.Serving.{ServesAll}
-use Rattle.law_workers.specs.InTurn.{MadeAllLines, IsClean, AreMarked, ServedBetween, ServedInTurn}
+use Rattle.law_workers.specs.InTurn.{MadeAllLines, IsClean, IsLevel, AllStand, stood_in, AreOf, IsSettled, ServedBetween, ServedInTurn}
 
 either : (a b : ℕ) → 0 < a + b → (0 < a) ⊎ (0 < b)
 either zero b h = inr (omega arith)
@@ -31,10 +35,66 @@ log_low v w grows =
 risen_on : (before now later : ℕ) → now ≤ later → Rose before now → Rose before later
 risen_on before now later low rose = omega arith
 
+pub clean_on : (v w : View) → Earlier v.turn.known w.turn.known → w.turn.known.opening ≡ v.turn.known.opening → IsClean w → IsClean v
+clean_on v w earlier opening clean risen =
+    clean (subst (λ (o : Opening). Rose o.faults w.turn.known.faults) (sym opening)
+    (risen_on v.turn.known.opening.faults v.turn.known.faults w.turn.known.faults earlier.faults risen))
+
 pub clean_before : (v w : View) → KnowsMore v w → IsClean w → IsClean v
-clean_before v w grows clean risen =
-    clean (subst (λ (o : Opening). Rose o.faults w.turn.known.faults) (sym grows.opening)
-    (risen_on v.turn.known.opening.faults v.turn.known.faults w.turn.known.faults grows.earlier.faults risen))
+clean_before v w grows clean = clean_on v w grows.earlier grows.opening clean
+
+-- ---- the entries that stand
+
+pub rose_or_not : (before now : ℕ) → Rose before now ⊎ (¬ Rose before now)
+rose_or_not before now = elim (cases_lt now (min (before + 1) (2 ^ 64 - 1))) [
+  | inl less ↦ inr (λ rose. omega arith)
+  | inr rose ↦ inl rose
+]
+
+-- of the entries of a view those stand that stood: no fewer, and no more once the site had failed
+pub stood_is : (v : View) (n : ℕ) → IsLevel v → v.turn.known.standing ≤ n
+    → (Rose v.turn.known.opening.faults v.turn.known.faults → n ≡ v.turn.known.standing) → take n (entries_in v) ≡ stood_in v
+stood_is v n level low risen = elim (rose_or_not v.turn.known.opening.faults v.turn.known.faults) [
+  | inl rose ↦ ap (λ (k : ℕ). take k (entries_in v)) (risen rose)
+  | inr clean ↦
+      let all : length (entries_in v) ≤ v.turn.known.standing = level.all clean in
+      take_all n (entries_in v) (omega arith) ∙ sym (take_all v.turn.known.standing (entries_in v) all)
+]
+
+pub all_stood : (v : View) → AllStand v → stood_in v ≡ entries_in v
+all_stood v all = take_all v.turn.known.standing (entries_in v) all
+
+-- they stay so while no entry is made
+module _ (v w : View) (earlier : Earlier v.turn.known w.turn.known) (opening : w.turn.known.opening ≡ v.turn.known.opening)
+    (same : entries_in w ≡ entries_in v) where
+  pub stood_on : IsLevel v → stood_in w ≡ stood_in v
+  stood_on level = ap (take w.turn.known.standing) same
+      ∙ stood_is v w.turn.known.standing level earlier.standing
+      (λ rose. earlier.stood (subst (λ (o : Opening). Rose o.faults v.turn.known.faults) (sym opening) rose))
+
+  pub all_on : AllStand v → AllStand w
+  all_on all = let size = ap length same in let low = earlier.standing in omega arith
+
+  pub level_on : epoch_seen v.turn ≤ epoch_seen w.turn → IsLevel v → IsLevel w
+  level_on epochs level = record {
+    few = let size = ap length same in let low = earlier.standing in let few = level.few in omega arith;
+    all = λ clean. all_on (level.all (clean_on v w earlier opening clean));
+    epoch = let counted = ap epoch_after (stood_on level) in let low = level.epoch in omega arith;
+  }
+
+-- what stands in a longer log begins with what stood
+front_more : {X : Type 0} (xs ys : List X) (m n : ℕ) → m ≤ n → (own : List X) × (take n (xs ++ ys) ≡ take m xs ++ own)
+front_more {X} [] ys zero n low = (take n ys, refl)
+front_more {X} [] ys (suc m) n low = (take n ys, refl)
+front_more {X} (x ∷ xs) ys zero n low = (take n (x ∷ (xs ++ ys)), refl)
+front_more {X} (x ∷ xs) ys (suc m) zero low = absurd (omega arith)
+front_more {X} (x ∷ xs) ys (suc m) (suc n) low = let (own, is) = front_more xs ys m n (omega arith) in (own, ap (λ (l : List X). x ∷ l) is)
+
+pub stood_more : (v w : View) → v.turn.known.standing ≤ w.turn.known.standing → (more : List Entry) → entries_in w ≡ entries_in v ++ more
+    → (own : List Entry) × (stood_in w ≡ stood_in v ++ own)
+stood_more v w low more is =
+    let (own, same) = front_more (entries_in v) more v.turn.known.standing w.turn.known.standing low in
+    (own, ap (take w.turn.known.standing) is ∙ same)
 
 pub row_on : (begin : Begin) (v w : View) → KnowsMore v w → (key row : ℕ) → IsRow begin v key row → IsRow begin w key row
 row_on begin v w grows key row h =
@@ -73,34 +133,48 @@ serves_both begin history (d ∷ ds) es (m ∷ a) b own more (first, rest, is, o
       (subst (λ (l : List Entry). ServesAll begin l es b more) (ap (λ (l : List Entry). history ++ l) is ∙ sym (append_assoc history first rest)) k),
 )
 
--- numbers known to be below their marks, of a list that has more
-pub marked_front : (begin : Begin) (v : View) (s t : List (ℕ × ℕ)) → AreMarked begin v (s ++ t) → AreMarked begin v s
-marked_front begin v s t h key row number low is in' = h key row number low is (let b = times_both row number s t in omega arith)
+-- what is settled of a list that has more
+pub settled_of : (begin : Begin) (v : View) (s t : List (ℕ × ℕ)) → AreOf s t → IsSettled begin v t → IsSettled begin v s
+settled_of begin v s t of h = record {
+  marks = λ key row number low is in'. h.marks key row number low is (of row number in');
+  epoch = h.epoch;
+}
 
-pub marked_back : (begin : Begin) (v : View) (s t : List (ℕ × ℕ)) → AreMarked begin v (s ++ t) → AreMarked begin v t
-marked_back begin v s t h key row number low is in' = h key row number low is (let b = times_both row number s t in omega arith)
+pub of_front : (s t : List (ℕ × ℕ)) → AreOf s (s ++ t)
+of_front s t row number in' = let b = times_both row number s t in omega arith
+
+pub of_back : (s t : List (ℕ × ℕ)) → AreOf t (s ++ t)
+of_back s t row number in' = let b = times_both row number s t in omega arith
+
+-- what is settled where the same entries stand, of a view that saw no less
+pub settled_on : (begin : Begin) (v w : View) (numbers : List (ℕ × ℕ)) → ((key row : ℕ) → IsRow begin v key row → IsRow begin w key row)
+    → stood_in w ≡ stood_in v → epoch_seen v.turn ≤ epoch_seen w.turn → IsSettled begin w numbers → IsSettled begin v numbers
+settled_on begin v w numbers rows same epochs h = record {
+  marks = λ key row number low is in'.
+      subst (λ (l : List Entry). number < mark_of (after begin.start l) key) same (h.marks key row number low (rows key row is) in');
+  epoch = let counted = ap epoch_after same in let low = h.epoch in omega arith;
+}
 
 -- some behind others
 pub between_then : (begin : Begin) (u v w : View) (m n : List ℕ) (s t : List (ℕ × ℕ)) (ds es : List Deed) (a b last : List Move) → KnowsMore u v → KnowsMore v w
     → ((place : ℕ) → 0 < stands place m → place < length (log_of v)) → ((place : ℕ) → 0 < stands place n → length (log_of v) ≤ place)
     → ServedBetween begin u v m s ds a [] → ServedBetween begin v w n t es b last
-    → (MadeAllLines v w n → IsClean w → AreMarked begin w (s ++ t) → AreMarked begin v s)
+    → (MadeAllLines v w n → IsLevel v → IsSettled begin w (s ++ t) → IsSettled begin v s)
     → ServedBetween begin u w (m ++ n) (s ++ t) (ds ++ es) (a ++ b) last
-between_then begin u v w m n s t ds es a b last low high below above x y marked = record {
+between_then begin u v w m n s t ds es a b last low high below above x y settle = record {
   spent_is = y.spent_is ∙ (ap (λ (l : List (ℕ × ℕ)). l ++ t) x.spent_is ∙ append_assoc u.numbers.spent s t);
-  level = λ clean level. y.level clean (x.level (clean_before v w high clean) level);
-  served = λ all clean level marks.
+  level = λ level. y.level (x.level level);
+  served = λ all level settled.
       let all_rest = made_rest u v w m n low below all in
-      let before = clean_before v w high clean in
-      let (own, none, all_is, one, left) = x.served (made_first u v w m n high above all) before level (marked all_rest clean marks) in
-      let own_is : entries_in v ≡ entries_in u ++ own =
-      all_is ∙ ap (λ (l : List Entry). entries_in u ++ (own ++ l)) (left.0 refl) ∙ ap (λ (l : List Entry). entries_in u ++ l) (append-nil own) in
-      let (more, rest, more_is, two, behind) = y.served all_rest clean (x.level before level) (marked_back begin w s t marks) in (
+      let (own, none, all_is, one, left) = x.served (made_first u v w m n high above all) level (settle all_rest (x.level level) settled) in
+      let own_is : stood_in v ≡ stood_in u ++ own =
+      all_is ∙ ap (λ (l : List Entry). stood_in u ++ (own ++ l)) (left.0 refl) ∙ ap (λ (l : List Entry). stood_in u ++ l) (append-nil own) in
+      let (more, rest, more_is, two, behind) = y.served all_rest (x.level level) (settled_of begin w t (s ++ t) (of_back s t) settled) in (
         own ++ more,
         rest,
-        more_is ∙ (ap (λ (l : List Entry). l ++ (more ++ rest)) own_is ∙ append_assoc (entries_in u) own (more ++ rest))
-            ∙ ap (λ (l : List Entry). entries_in u ++ l) (sym (append_assoc own more rest)),
-        serves_both begin (entries_in u) ds es a b own more one (subst (λ (l : List Entry). ServesAll begin l es b more) own_is two),
+        more_is ∙ (ap (λ (l : List Entry). l ++ (more ++ rest)) own_is ∙ append_assoc (stood_in u) own (more ++ rest))
+            ∙ ap (λ (l : List Entry). stood_in u ++ l) (sym (append_assoc own more rest)),
+        serves_both begin (stood_in u) ds es a b own more one (subst (λ (l : List Entry). ServesAll begin l es b more) own_is two),
         behind,
       );
 }
@@ -116,34 +190,30 @@ in_turn_then begin u v w m n s t ds es a b last low high below x y = record {
         | inl here ↦ x.above place here
         | inr there ↦ let r = y.above place there in let l = log_low u v low in omega arith
       ];
-  marked = λ all clean key row number few is in' mark.
-      x.marked (made_first u v w m n high y.above all) (clean_before v w high clean) key row number few is in'
-      (y.marked (made_rest u v w m n low below all) clean key row number few (row_on begin u v low key row is) (in_both key row number in') mark);
+  settled = λ all level numbers of h.
+      x.settled (made_first u v w m n high y.above all) level numbers of
+      (y.settled (made_rest u v w m n low below all) (x.between.level level) numbers (λ row number in'. in_both row number (of row number in')) h);
   between = between_then begin u v w m n s t ds es a b last low high below y.above x.between y.between
-      (λ all clean marks key row number few is in'.
-      y.marked all clean key row number few is (in_rest row number in') (marks key row number few (row_on begin v w high key row is) (in_all row number in')));
+      (λ all level h. y.settled all level s in_rest (settled_of begin w s (s ++ t) (of_front s t) h));
 } where
-  in_both : (key row number : ℕ) → 0 < times row number u.numbers.spent → 0 < times row number v.numbers.spent
-  in_both key row number h =
+  in_both : AreOf u.numbers.spent v.numbers.spent
+  in_both row number h =
       let b = times_both row number u.numbers.spent s in
       subst (λ (l : List (ℕ × ℕ)). 0 < times row number l) (sym x.between.spent_is) (omega arith)
 
-  in_rest : (row number : ℕ) → 0 < times row number s → 0 < times row number v.numbers.spent
+  in_rest : AreOf s v.numbers.spent
   in_rest row number h =
       let b = times_both row number u.numbers.spent s in
       subst (λ (l : List (ℕ × ℕ)). 0 < times row number l) (sym x.between.spent_is) (omega arith)
-
-  in_all : (row number : ℕ) → 0 < times row number s → 0 < times row number (s ++ t)
-  in_all row number h = let b = times_both row number s t in omega arith
 
 -- nothing was done
 pub in_turn_nothing : (begin : Begin) (v : View) → ServedInTurn begin v v [] [] [] [] []
 in_turn_nothing begin v = record {
   above = λ place in'. absurd (omega arith);
-  marked = λ all clean key row number low is in' mark. mark;
+  settled = λ all level numbers of h. h;
   between = record {
     spent_is = sym (append-nil v.numbers.spent);
-    level = λ clean level. level;
-    served = λ all clean level marks. ([], [], sym (append-nil (entries_in v)), refl, (λ none. refl, omega arith));
+    level = λ level. level;
+    served = λ all level settled. ([], [], sym (append-nil (stood_in v)), refl, (λ none. refl, inl refl));
   };
 }

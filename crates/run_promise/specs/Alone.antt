@@ -23,8 +23,8 @@ OneLane tasks = (lane : ℕ) × All (λ (task : Record). task.lane ≡ lane) tas
 -- The moves that the answers tell, and one more at most where a record has no answer, are those of the machine whose
 -- words begin at the marks of the image. Each reserve is of a number that was drawn so, and the words by which the keys
 -- were released are those that the machine came to. So many entries are of the lane; those behind them are releases.
--- Where the site had not failed, the answered records were served one after the other, each in the history that those
--- before it left; they made all entries of the lane, but for one at most that a record without an answer left.
+-- The answered records were served one after the other, each in the history that those before it left; they made all
+-- entries of the lane, but for the last at most: one that a record without an answer left, or that failed.
 pub record IsExact (call : CallSeen) (account : Account) (plan : PlanLines) (state : State) (words : List ℕ)
     (ends : ℕ) : Type 0 where
   pub moves : List Move
@@ -36,6 +36,6 @@ pub record IsExact (call : CallSeen) (account : Account) (plan : PlanLines) (sta
   pub reserves : (p : ℕ) (entry : Entry) → p < ends → slice_get call.entries p ≡ Some entry → entry.index ≡ None
       → (row : ℕ) × (number : ℕ) × (entry.seen ≡ seens.Number number) × Contains (moves ++ beyond) (Drew row number)
   pub last : (row : ℕ) → row < MOST_KEYS → slice_index words row ≡ mark_at state row + adds_all row (moves ++ beyond)
-  pub served : ¬ Rose call.site.faults account.last → (own : List Entry) × (rest : List Entry)
-      × (take ends call.entries ≡ own ++ rest) × ServesAll (begin_of call plan state) [] (deeds_in account) moves own
-      × (AnsweredEach account → rest ≡ []) × (length rest ≤ 1)
+  pub served : (own : List Entry) × (rest : List Entry) × (take ends call.entries ≡ own ++ rest)
+      × ServesAll (begin_of call plan state) [] (deeds_in account) moves own × (length rest ≤ 1)
+      × (AnsweredEach account → ¬ Rose call.site.faults account.last → rest ≡ [])

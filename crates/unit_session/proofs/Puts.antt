@@ -1,10 +1,11 @@
 -- What puts leave, one after the other: for the clauses `puts` and `takes` of a session.
-use Rattle.std.proofs.Common.{◌≡◌, ℕ, ◌+◌, ◌<◌, Bool, List, [], ◌++◌, length, take, refl, sym, ◌∙◌, ap, subst, inl, inr, arith, append-nil, append_assoc, length-append, get_or, Result, Ok, Err, Some}
+use Rattle.std.proofs.Common.{◌≡◌, ℕ, ◌+◌, ◌<◌, Bool, List, [], ◌++◌, length, take, ◌≤◌, refl, sym, ◌∙◌, ap, subst, inl, inr, arith, append-nil, append_assoc, length-append, get_or, Result, Ok, Err, Some}
 use Rattle.std.specs.Prelude.{OnErr}
 use Rattle.std.proofs.lemmas.List.{take-append-le}
 use Rattle.sdls_base.specs.Numbers.{times}
 use Rattle.sdls_base.specs.declared.entry.Entry.{Entry}
 use Rattle.sdls_base.specs.declared.entry.Logged.{Logged}
+use Rattle.sdls_outside.specs.Faults.{Rose}
 use Rattle.sdls_outside.specs.Site.{after_put}
 use Rattle.counter_table.specs.declared.view.Opening.{Opening}
 use Rattle.counter_table.specs.declared.view.View.{View}
@@ -13,7 +14,7 @@ use Rattle.unit_state.specs.History.{after, after_first, epoch_after}
 use Rattle.run_promise.specs.Log.{entries_of, pieces_of}
 use Rattle.run_promise.specs.Numbers.{mark_of}
 use Rattle.run_promise.specs.Begin.{Begin}
-use Rattle.law_workers.specs.Views.{log_of}
+use Rattle.law_workers.specs.Views.{KnowsMore, log_of}
 use Rattle.law_workers.proofs.Joining.{does_then, does_nothing}
 use Rattle.law_workers.proofs.Logs.{times_both}
 use Rattle.law_workers.specs.Began.{BeganWith}
@@ -55,11 +56,21 @@ settles_on begin u v w s on =
         marks = λ key row number few is spent.
             subst (λ (es : List Entry). number < mark_of (after_first begin.start es s.entries) key) (sym on.entries)
             (s.at.marks key row number few (subst (λ (es : List Entry). place_of (after begin.start es).keys key ≡ Some row) on.entries is) spent);
+        standing = s.at.standing;
+        stopped = s.at.stopped;
         stood = λ clean. s.at.stood (clean_before v w on.does.grows clean) ∙ sym (ap length on.entries);
       };
       standing = s.standing;
       before = let a = s.before in let b = ap (λ (l : List Logged). length (pieces_of l)) same in omega arith;
     }
+
+-- what had risen before has risen
+risen_on : (before one other : ℕ) → one ≤ other → Rose before one → Rose before other
+risen_on before one other low rose = omega arith
+
+rose_before : (u v : View) → KnowsMore u v → Rose u.turn.known.opening.faults u.turn.known.faults → Rose v.turn.known.opening.faults v.turn.known.faults
+rose_before u v grows rose = subst (λ (o : Opening). Rose o.faults v.turn.known.faults) (sym grows.opening)
+    (risen_on u.turn.known.opening.faults u.turn.known.faults v.turn.known.faults grows.earlier.faults rose)
 
 -- behind pieces that were put
 pub settles_first : (begin : Begin) (u v w : View) → PutsPieces begin u v → Begun begin u v → PutsPieces begin v w → SettlesAll begin v w → SettlesAll begin u w
@@ -76,6 +87,9 @@ settles_first begin u v w before (inl same) on s = record {
         let t : times row number v.numbers.spent ≡ times row number u.numbers.spent + times row number before.does.gains.spent =
         ap (times row number) before.does.gained.spent ∙ times_both row number u.numbers.spent before.does.gains.spent in
         s.at.marks key row number few is (omega arith);
+    standing = let a = before.does.grows.earlier.standing in let b = s.at.standing in omega arith;
+    stopped = λ rose. s.at.stopped (rose_before u v before.does.grows rose)
+        ∙ before.does.grows.earlier.stood (subst (λ (o : Opening). Rose o.faults u.turn.known.faults) (sym before.does.grows.opening) rose);
     stood = s.at.stood;
   };
   standing = let a = before.does.grows.earlier.standing in let b = s.standing in omega arith;
