@@ -1,0 +1,15 @@
+//! A link between two units (profile): it loses, repeats and reorders released frames, and delivers no others.
+//!
+//! [`link_run`] tells what arrives of the frames that were released; [`fate`] what becomes of each frame of a drill.
+//! Read `specs/Link.antt` first.
+#![tactic(auto)]
+
+mod chunk;
+mod fates;
+mod laws;
+mod link;
+
+pub use chunk::fate;
+pub use fates::Fate;
+pub use laws::arrivals_were_released;
+pub use link::{LinkEvent, link_run};
