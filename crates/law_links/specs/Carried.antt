@@ -1,0 +1,77 @@
+-- What one unit protects and another accepts (CCSDS 355.0-B-2, ApplySecurity and ProcessSecurity).
+use Rattle.std.specs.Prelude.{◌≡◌, ℕ, List, Ok, Some}
+use Rattle.std.specs.List.{Contains}
+use Rattle.sdls_base.specs.Link.{mask_octets}
+use Rattle.sdls_base.specs.declared.link.Link.{Link}
+use Rattle.sa_book.specs.declared.sa_row.SaRow.{SaRow}
+use Rattle.frame_shield.specs.declared.binding.Binding.{Binding}
+use Rattle.frame_shield.specs.AnyFrame.{AnyParts, IsFrame, room_of}
+use Rattle.frame_shield.specs.Binding.{clear_layout}
+use Rattle.frame_checks.specs.Binding.{binding_of}
+use Rattle.frame_checks.specs.Header.{HasRoom}
+use Rattle.frame_checks.specs.OpeningFrames.{association_in}
+use Rattle.record_io.specs.declared.code.TheConstants.{ACCEPTED}
+use Rattle.unit_plan.specs.PlanLines.{link_of}
+use Rattle.run_promise.specs.ProtectingFrames.{protect_reply}
+use Rattle.run_promise.specs.Fits.{state_in, state_before}
+use Rattle.run_promise.specs.Life.{Given}
+
+-- both have the same key octets, suite, layout and mask
+pub record AgreeOn (one other : Binding) : Type 0 where
+  pub octets : one.schedule ≡ other.schedule
+  pub suite : one.suite ≡ other.suite
+  pub layout : one.link.layout ≡ other.link.layout
+  pub mask : mask_octets one.link.mask ≡ mask_octets other.link.mask
+
+-- the octets are the data field of a clear frame of the binding
+pub record IsDataField (binding : Binding) (clear field : List ℕ) : Type 0 where
+  pub parts : AnyParts
+  pub framed : IsFrame (clear_layout binding.suite binding.link.layout) parts clear
+  pub field_is : field ≡ room_of parts
+
+-- the binding that the checks of a frame to be protected found, in the state of the epoch that the answer tells
+abbrev pub IsSentUnder : Given → Binding → Type 0
+IsSentUnder given binding = protect_reply given.course.plan (state_in given.course given.deed.answer.position)
+    given.deed.task.link given.deed.task.octets
+    ≡ Ok (Some binding)
+
+-- the binding of the association that a frame to be opened names, in the state before its own entry
+pub record IsReceivedUnder (given : Given) (binding : Binding) : Type 0 where
+  pub line : Link
+  pub has_line : link_of given.course.plan.links given.deed.task.link ≡ Some line
+  pub room : List ℕ
+  pub has_room : HasRoom line.layout given.deed.task.octets room
+  pub row : SaRow
+  pub named : association_in (state_before given.course given.deed.answer) room ≡ Some row
+  pub bound : binding_of given.course.plan (state_before given.course given.deed.answer) line row ≡ Some binding
+
+-- the association that the one frame names agrees with the one that protected the other
+abbrev pub BindingsAgree : Given → Given → Type 0
+BindingsAgree sent got = (one other : Binding) → IsSentUnder sent one → IsReceivedUnder got other → AgreeOn one other
+
+-- the answer accepts a frame under this key
+abbrev pub AcceptsUnder : ℕ → Given → Type 0
+AcceptsUnder key given = (given.deed.answer.code ≡ ACCEPTED) × (given.deed.answer.key ≡ key)
+
+-- the one answer accepts, under this key, the octets that the other released
+pub record AcceptsFrame (key : ℕ) (sent got : Given) : Type 0 where
+  pub accepts : AcceptsUnder key got
+  pub octets : got.deed.task.octets ≡ sent.deed.answer.body
+
+-- The number accepted is the one that was sent, under a key with the same octets, and the body is the data field of the
+-- frame that was protected.
+pub record IsCarried (sent got : Given) : Type 0 where
+  pub number : got.deed.answer.number ≡ sent.deed.answer.number
+  pub one : Binding
+  pub other : Binding
+  pub sent_under : IsSentUnder sent one
+  pub received_under : IsReceivedUnder got other
+  pub sent_key : sent.deed.answer.key ≡ one.key
+  pub received_key : got.deed.answer.key ≡ other.key
+  pub octets : one.schedule ≡ other.schedule
+  pub field : IsDataField one sent.deed.task.octets got.deed.answer.body
+
+-- both answers accept, under this key, one frame that one of these answers released
+abbrev pub AreRepeated : ℕ → List Given → Given → Given → Type 0
+AreRepeated key released one two =
+    (sent : Given) × Contains released sent × AcceptsFrame key sent one × AcceptsFrame key sent two

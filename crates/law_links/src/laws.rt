@@ -1,0 +1,81 @@
+//! The laws.
+ghost use Rattle.std.specs.Prelude.{◌≡◌, ◌≢◌, ℕ, List, ◌++◌};
+ghost use Rattle.std.specs.List.{AllPairs, Contains};
+ghost use Rattle.frame_shield.specs.declared.binding.Binding.{Binding};
+ghost use Rattle.frame_shield.specs.Opens.{Opens};
+ghost use Rattle.frame_shield.specs.Protects.{Protects};
+ghost use Rattle.link_world.specs.declared.link.LinkEvent.{LinkEvent};
+ghost use Rattle.run_promise.specs.Life.{Given, given_in, IsLife, LifeRun};
+ghost use Rattle.law_links.specs.Ascending.{NumbersAscend};
+ghost use Rattle.law_links.specs.Carried.{AcceptsFrame, AgreeOn, AreRepeated, BindingsAgree, IsCarried, IsDataField};
+ghost use Rattle.law_links.specs.Linked.{AssociationsAgree, DeliversReleased, LinkHolds, released_in};
+ghost use Rattle.law_links.specs.Triples.{AreTriplesApart, HaveDevice};
+
+use frame_shield::protected_opens;
+use gcm::opens_what_was_sealed;
+use law_runs::used_once_in_a_life;
+use link_world::arrivals_were_released;
+use unit_image::shows_one;
+
+/// Law: a frame that was protected opens, under each binding with the same key octets, suite, layout and mask, to the
+/// number and the data field with which it was protected.
+pub fn released_frame_opens()
+    ensures { (one other : Binding) (n m : ℕ) (clear frame field : List ℕ) → Protects one n clear frame
+        → AgreeOn one other → Opens other frame m field → (m ≡ n) × IsDataField one clear field }
+{
+    protected_opens();
+    opens_what_was_sealed();
+}
+
+/// Law: over the lives of two units, a frame that the one released and the other accepts, by an association with the
+/// key octets, suite, layout and mask with which it was protected, is accepted with its number and its data field.
+pub fn accepted_is_what_was_released()
+    ensures { (image other : List ℕ) (sender receiver : List LifeRun) → IsLife image sender → IsLife other receiver
+        → (key : ℕ) (sent got : Given) → Contains (released_in sender) sent → Contains (given_in receiver) got
+        → AcceptsFrame key sent got → BindingsAgree sent got → IsCarried sent got }
+{
+    released_frame_opens();
+}
+
+/// Law: over the lives of two units, no frame that the one released is accepted twice by associations that agree with
+/// the one that protected it.
+pub fn released_is_accepted_once()
+    ensures { (image other : List ℕ) (sender receiver : List LifeRun) → IsLife image sender → IsLife other receiver
+        → (key : ℕ) → AssociationsAgree key sender receiver
+        → AllPairs (λ one two. ¬ AreRepeated key (released_in sender) one two) (given_in receiver) }
+{
+    released_frame_opens();
+    used_once_in_a_life();
+}
+
+/// Law: over the life of a unit the numbers that it accepts under a key ascend, in the order of its history.
+pub fn accepted_ascend()
+    ensures { (image : List ℕ) (runs : List LifeRun) → IsLife image runs → (key : ℕ) → NumbersAscend key runs }
+{
+    shows_one();
+}
+
+/// Law: two units on one link. If the link delivers only what the sender released, and each association that accepts a
+/// frame under a key agrees with the one that protected it, then what the receiver accepts under that key is what the
+/// sender released, once, and in ascending order of number.
+pub fn two_units_on_one_link()
+    ensures { (image other : List ℕ) (sender receiver : List LifeRun) → IsLife image sender → IsLife other receiver
+        → (key : ℕ) (events : List LinkEvent) → DeliversReleased key events sender receiver
+        → AssociationsAgree key sender receiver → LinkHolds key sender receiver }
+{
+    arrivals_were_released();
+    accepted_is_what_was_released();
+    released_is_accepted_once();
+    used_once_in_a_life();
+    accepted_ascend();
+}
+
+/// Law: over the lives of two units with different device fields, taken together, no key octets, device field and
+/// number are used twice.
+pub fn no_triple_twice()
+    ensures { (image other : List ℕ) (one two : List LifeRun) (device again : List ℕ) → IsLife image one
+        → IsLife other two → HaveDevice device one → HaveDevice again two → device ≢ again
+        → AllPairs AreTriplesApart (given_in one ++ given_in two) }
+{
+    used_once_in_a_life();
+}

@@ -1,0 +1,13 @@
+//! Two units on one link (CCSDS 355.0-B-2; profile): what the one released, and what the other accepts of it, over the
+//! lives of both.
+//!
+//! There is no code to run here: definitions stand in `specs`, and the functions are laws over them. Read
+//! `specs/Linked.antt` first, and then `Carried`, which it stands on. [`two_units_on_one_link`] is the whole.
+#![tactic(auto)]
+
+mod laws;
+
+pub use laws::{
+    accepted_ascend, accepted_is_what_was_released, no_triple_twice, released_frame_opens,
+    released_is_accepted_once, two_units_on_one_link,
+};
