@@ -4,7 +4,7 @@ use Rattle.std.specs.List.{All, AllPairs}
 use Rattle.std.proofs.lemmas.List.Elements.{All-append, All-tail}
 use Rattle.std.proofs.lemmas.List.Kept.{AllPairs-cons}
 use Rattle.run_promise.specs.Life.{Given, LifeRun, IsLife, OnceInLife, AreApart, answers_begun, given_of, given_in}
-use Rattle.law_links.specs.Triples.{AreTriplesApart, HaveDevice}
+use Rattle.law_links.specs.Triples.{AreTriplesApart, HaveDevice, SaysDevice}
 use Rattle.law_links.proofs.Begun.{given_all}
 
 -- the unit of an answer has this device field
@@ -34,10 +34,17 @@ pairs_append {X} R (x ∷ xs) ys first second cross =
 abbrev pub UsedOnce : Type 0
 UsedOnce = (image : List ℕ) (runs : List LifeRun) → IsLife image runs → OnceInLife runs
 
-pub triples_apart : UsedOnce → (image other : List ℕ) (one two : List LifeRun) (device again : List ℕ) → IsLife image one → IsLife other two
-    → HaveDevice device one → HaveDevice again two → device ≢ again → AllPairs AreTriplesApart (given_in one ++ given_in two)
-triples_apart once image other one two device again life next is also_is differ =
+abbrev pub OneDevice : Type 0
+OneDevice = (image : List ℕ) (runs : List LifeRun) (device : List ℕ) → IsLife image runs → SaysDevice image device
+    → HaveDevice device runs
+
+pub triples_apart : OneDevice → UsedOnce → (image other : List ℕ) (one two : List LifeRun) (device again : List ℕ)
+    → IsLife image one → IsLife other two → SaysDevice image device → SaysDevice other again → device ≢ again
+    → AllPairs AreTriplesApart (given_in one ++ given_in two)
+triples_apart has once image other one two device again life next is also_is differ =
     pairs_append AreTriplesApart (given_in one) (given_in two)
     (λ i j d lt low. apart_triples _ _ (once image one life i j d lt low))
     (λ i j d lt low. apart_triples _ _ (once other two next i j d lt low))
-    (λ k g low j h under. other_device device again _ _ differ (of_device device one is k g low) (of_device again two also_is j h under))
+    (λ k g low j h under. other_device device again _ _ differ
+    (of_device device one (has image one device life is) k g low)
+    (of_device again two (has other two again next also_is) j h under))

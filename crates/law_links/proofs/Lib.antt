@@ -6,3 +6,4 @@ pub mod Carrying
 pub mod Rising
 pub mod Apart
 pub mod Linking
+pub mod Devices

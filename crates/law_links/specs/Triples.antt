@@ -1,6 +1,9 @@
 -- Key octets, device field and number, over the lives of two units (profile).
-use Rattle.std.specs.Prelude.{◌≡◌, ℕ, List}
+use Rattle.std.specs.Prelude.{◌≡◌, ℕ, List, Ok}
 use Rattle.std.specs.List.{All}
+use Rattle.disk_journal.specs.Image.{held}
+use Rattle.unit_plan.specs.Plan.{plan_of}
+use Rattle.unit_plan.specs.PlanLines.{PlanLines}
 use Rattle.run_promise.specs.Life.{Given, LifeRun, UsesOctets}
 
 -- the answer uses the number under a key that had these octets, in a unit with this device field
@@ -14,6 +17,10 @@ abbrev pub AreTriplesApart : Given → Given → Type 0
 AreTriplesApart one other = (octets device : List ℕ) (number : ℕ) → UsesTriple one octets device number
     → ¬ UsesTriple other octets device number
 
--- Premise: each run of the life has this device field
+-- Premise: the plan in the image has this device field
+abbrev pub SaysDevice : List ℕ → List ℕ → Type 0
+SaysDevice image device = (plan : PlanLines) × (plan_of (held image).plan ≡ Ok plan) × (plan.device ≡ device)
+
+-- each run of the life has this device field
 abbrev pub HaveDevice : List ℕ → List LifeRun → Type 0
 HaveDevice device runs = All (λ run. run.course.plan.device ≡ device) runs

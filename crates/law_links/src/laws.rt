@@ -9,7 +9,7 @@ ghost use Rattle.run_promise.specs.Life.{Given, given_in, IsLife, LifeRun};
 ghost use Rattle.law_links.specs.Ascending.{NumbersAscend};
 ghost use Rattle.law_links.specs.Carried.{AcceptsFrame, AgreeOn, AreRepeated, BindingsAgree, IsCarried, IsDataField};
 ghost use Rattle.law_links.specs.Linked.{AssociationsAgree, DeliversReleased, LinkHolds, released_in};
-ghost use Rattle.law_links.specs.Triples.{AreTriplesApart, HaveDevice};
+ghost use Rattle.law_links.specs.Triples.{AreTriplesApart, HaveDevice, SaysDevice};
 
 use frame_shield::protected_opens;
 use gcm::opens_what_was_sealed;
@@ -70,12 +70,21 @@ pub fn two_units_on_one_link()
     accepted_ascend();
 }
 
+/// Law: over the life of a unit the device field stays that of the plan from which its first image was made.
+pub fn one_device_in_a_life()
+    ensures { (image : List ℕ) (runs : List LifeRun) (device : List ℕ) → IsLife image runs → SaysDevice image device
+        → HaveDevice device runs }
+{
+    shows_one();
+}
+
 /// Law: over the lives of two units with different device fields, taken together, no key octets, device field and
 /// number are used twice.
 pub fn no_triple_twice()
     ensures { (image other : List ℕ) (one two : List LifeRun) (device again : List ℕ) → IsLife image one
-        → IsLife other two → HaveDevice device one → HaveDevice again two → device ≢ again
+        → IsLife other two → SaysDevice image device → SaysDevice other again → device ≢ again
         → AllPairs AreTriplesApart (given_in one ++ given_in two) }
 {
+    one_device_in_a_life();
     used_once_in_a_life();
 }
