@@ -21,15 +21,19 @@ of_device device (run ∷ runs) h =
 apart_triples : (one other : Given) → AreApart one other → AreTriplesApart one other
 apart_triples one other apart octets device number a b = apart.by_octets a.key b.key octets number a.uses b.uses
 
-other_device : (device again : List ℕ) (one other : Given) → device ≢ again → IsOf device one → IsOf again other → AreTriplesApart one other
-other_device device again one other differ is also_is octets field number a b = differ (sym is ∙ a.device_is ∙ sym b.device_is ∙ also_is)
+other_device : (device again : List ℕ) (one other : Given) → device ≢ again → IsOf device one → IsOf again other
+    → AreTriplesApart one other
+other_device device again one other differ is also_is octets field number a b =
+    differ (sym is ∙ a.device_is ∙ sym b.device_is ∙ also_is)
 
-pairs_append : {X : Type 0} (R : X → X → Type 0) (xs ys : List X) → AllPairs R xs → AllPairs R ys → All (λ (x : X). All (R x) ys) xs → AllPairs R (xs ++ ys)
+pairs_append : {X : Type 0} (R : X → X → Type 0) (xs ys : List X) → AllPairs R xs → AllPairs R ys
+    → All (λ (x : X). All (R x) ys) xs → AllPairs R (xs ++ ys)
 pairs_append {X} R [] ys first second cross = second
 pairs_append {X} R (x ∷ xs) ys first second cross =
     AllPairs-cons R x (xs ++ ys)
     (All-append (R x) xs ys (λ k d low. first 0 (suc k) d (omega arith) (omega arith)) (cross 0 x (omega arith)))
-    (pairs_append R xs ys (λ i j d lt low. first (suc i) (suc j) d (omega arith) (omega arith)) second (All-tail (λ (x : X). All (R x) ys) x xs cross))
+    (pairs_append R xs ys (λ i j d lt low. first (suc i) (suc j) d (omega arith) (omega arith)) second
+    (All-tail (λ (x : X). All (R x) ys) x xs cross))
 
 abbrev pub UsedOnce : Type 0
 UsedOnce = (image : List ℕ) (runs : List LifeRun) → IsLife image runs → OnceInLife runs

@@ -9,7 +9,8 @@ use Rattle.frame_shield.specs.Protects.{Protects}
 use Rattle.record_io.specs.Places.{records_of}
 use Rattle.run_promise.specs.Deed.{Deed}
 use Rattle.run_promise.specs.Run.{NearWord, TurnIn}
-use Rattle.run_promise.specs.Life.{Given, AcceptsOctets, AreApart, OnceInLife, IsLife, IsRun, FollowFrom, LifeRun, answers_begun, given_of, given_in}
+use Rattle.run_promise.specs.Life.{Given, AcceptsOctets, AreApart, OnceInLife, IsLife, IsRun, FollowFrom, LifeRun}
+use Rattle.run_promise.specs.Life.{answers_begun, given_of, given_in}
 use Rattle.law_history.proofs.Along.{of_places, rules_along}
 use Rattle.law_history.proofs.Codes.{accepting_opening}
 use Rattle.law_links.specs.Carried.{AcceptsFrame, AgreeOn, AreRepeated, BindingsAgree, IsCarried, IsDataField}
@@ -32,18 +33,22 @@ run_tells run is =
     record {
       sends = λ code. sent (NearWord run.course.start run.course.entries (records_of run.places)) given fits code;
       gets = λ code.
-          let opening = accepting_opening (NearWord run.course.start run.course.entries (records_of run.places)) run.course given.deed.task given.deed.answer
+          let opening =
+          accepting_opening (NearWord run.course.start run.course.entries (records_of run.places)) run.course
+          given.deed.task given.deed.answer
           given.deed.answer.key given.deed.answer.number fits (code, refl, refl) in
           let within = slice_get_within run.course.entries (given.deed.answer.position - 1) _ opening.stands.there in
           got (NearWord run.course.start run.course.entries (records_of run.places)) given
           (rules_along run.course.plan run.course.start (records_of run.places) (TurnIn run.places) run.course.entries
-          (of_places run.course.plan run.course.start run.places run.course.entries is.sound.history) (given.deed.answer.position - 1) (omega arith)) fits code;
+          (of_places run.course.plan run.course.start run.places run.course.entries is.sound.history)
+          (given.deed.answer.position - 1) (omega arith)) fits code;
     }))
 
 follow_tells : (image : List ℕ) (runs : List LifeRun) → FollowFrom image runs → All Tells (given_in runs)
 follow_tells image [] follow = λ k d low. absurd (omega arith)
 follow_tells image (run ∷ runs) (start, is, follow) =
-    All-append Tells (given_of run.course (answers_begun (length run.sunk) run.deeds)) (given_in runs) (run_tells run is)
+    All-append Tells (given_of run.course (answers_begun (length run.sunk) run.deeds)) (given_in runs)
+    (run_tells run is)
     (follow_tells run.image runs follow)
 
 tells_in_life : (image : List ℕ) (runs : List LifeRun) → IsLife image runs → (given : Given)

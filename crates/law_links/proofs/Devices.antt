@@ -1,8 +1,10 @@
 -- The device field of a unit is one over its life, for the clause of `one_device_in_a_life`.
-use Rattle.std.proofs.Common.{◌≡◌, ℕ, Bool, true, false, List, [], ◌∷◌, take, Result, Ok, Err, inl, inr, refl, sym, ap, ◌∙◌, subst}
+use Rattle.std.proofs.Common.{◌≡◌, ℕ, Bool, true, false, List, [], ◌∷◌, take, Result, Ok, Err, inl, inr, refl, sym, ap}
+use Rattle.std.proofs.Common.{◌∙◌, subst}
 use Rattle.std.proofs.lemmas.List.Elements.{All-cons, All-nil}
 use Rattle.sdls_base.specs.declared.change.Change.{Change}
-use Rattle.sdls_base.specs.declared.change.Change.TheVariants.{Marks, Load, KeyStates, Create, Rekey, SaTo, SetNumber, SetWindow, Accepted, Nothing}
+use Rattle.sdls_base.specs.declared.change.Change.TheVariants.{Marks, Load, KeyStates, Create, Rekey, SaTo, SetNumber}
+use Rattle.sdls_base.specs.declared.change.Change.TheVariants.{SetWindow, Accepted, Nothing}
 use Rattle.sdls_base.specs.declared.entry.Entry.{Entry}
 use Rattle.sdls_base.specs.declared.states.KeyState.{KeyState}
 use Rattle.sdls_base.specs.declared.states.KeyState.TheVariants.{PreActive, Active, Deactivated, Destroyed}
@@ -22,7 +24,8 @@ use Rattle.unit_plan.specs.PlanLines.{PlanLines}
 use Rattle.unit_state.specs.declared.state.State.{State}
 use Rattle.unit_state.specs.Applied.{applied}
 use Rattle.unit_state.specs.History.{after, after_first}
-use Rattle.unit_state.specs.Initial.{bare, loaded, activated, activated_if, created, keyed, started, association_made, RowLine, OfKey, OfAssociation, line_made, lines_made, in_order}
+use Rattle.unit_state.specs.Initial.{bare, loaded, activated, activated_if, created, keyed, started, association_made}
+use Rattle.unit_state.specs.Initial.{RowLine, OfKey, OfAssociation, line_made, lines_made, in_order}
 use Rattle.unit_state.specs.Restart.{restarted}
 use Rattle.unit_image.specs.Shows.{LeadTo, Says, Shows}
 use Rattle.run_promise.specs.Life.{LifeRun, IsRun, FollowFrom, IsLife}
@@ -50,7 +53,8 @@ after_device state [] = refl
 after_device state (entry ∷ entries) =
     after_device (applied state entry.change) entries ∙ applied_device state entry.change
 
-led_device : (state : State) (bodies : List (List ℕ)) (last : State) → LeadTo state bodies last → last.device ≡ state.device
+led_device : (state : State) (bodies : List (List ℕ)) (last : State) → LeadTo state bodies last
+    → last.device ≡ state.device
 led_device state [] last led = ap (λ (s : State). s.device) led
 led_device state (body ∷ bodies) last (change, is, allows, led) =
     led_device (applied state change) bodies last led ∙ applied_device state change
@@ -74,7 +78,8 @@ checked : (state changed : State) (line : ℕ) (cause : PlanCause) (b : Bool) �
 checked state changed line cause true same next e = ap (λ (s : State). s.device) (sym (ok_state changed next e)) ∙ same
 checked state changed line cause false same next e = absurd (not_ok _ next e)
 
-then_keeps : (state : State) (made : Result State PlanFault) (more : State → Result State PlanFault) → KeepsDevice state made
+then_keeps : (state : State) (made : Result State PlanFault) (more : State → Result State PlanFault)
+    → KeepsDevice state made
     → ((next : State) → KeepsDevice next (more next)) → KeepsDevice state (made >>= more)
 then_keeps state (Ok ready) more one two next e = two ready next e ∙ one ready refl
 then_keeps state (Err fault) more one two next e = absurd (not_ok fault next e)
@@ -123,7 +128,8 @@ said_device what state plan says read =
     ∙ lines_keep (bare says.plan) (in_order says.plan.keys says.plan.associations) says.first says.said.made
     ∙ ap (λ (p : PlanLines). p.device) (same_plan what.plan says.plan plan says.said.read read)
 
-shown_device : (image : List ℕ) (state : State) (plan : PlanLines) → Shows image state → plan_of (held image).plan ≡ Ok plan
+shown_device : (image : List ℕ) (state : State) (plan : PlanLines) → Shows image state
+    → plan_of (held image).plan ≡ Ok plan
     → state.device ≡ plan.device
 shown_device image state plan shows read =
     said_device shows.what state plan shows.says
@@ -164,7 +170,8 @@ module _ (once : ShowsOnce) (device : List ℕ) where
     | inl opening ↦ have state (shown_before run.start run.image run.course.start state is.shows opening.1 shown)
     | inr served ↦ elim shown [
       | inl shows ↦
-          ap (λ (s : State). s.device) (sym (once run.image _ state served.shows shows)) ∙ from_start run is have served.p
+          ap (λ (s : State). s.device) (sym (once run.image _ state served.shows shows))
+          ∙ from_start run is have served.p
       | inr torn ↦
           let (q, above, within, form, covers) = served.forms torn.0 torn.1 in
           ap (λ (s : State). s.device) (sym (once torn.0 _ state form torn.2)) ∙ from_start run is have q
@@ -176,7 +183,8 @@ module _ (once : ShowsOnce) (device : List ℕ) where
       sym (shown_device run.start run.course.start run.course.plan is.shows is.says)
       ∙ have run.course.start (inl is.shows)
 
-  follow_device : (image : List ℕ) (runs : List LifeRun) → AllHave device image → FollowFrom image runs → HaveDevice device runs
+  follow_device : (image : List ℕ) (runs : List LifeRun) → AllHave device image → FollowFrom image runs
+      → HaveDevice device runs
   follow_device image [] have follow = All-nil (λ (run : LifeRun). run.course.plan.device ≡ device)
   follow_device image (run ∷ runs) have (start, is, follow) =
       let here : AllHave device run.start = subst (AllHave device) (sym start) have in

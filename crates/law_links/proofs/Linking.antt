@@ -33,17 +33,22 @@ pub holds : WereReleased → Carries → FramesOnce → NumbersOnce → Ascends 
     (sender receiver : List LifeRun) → IsLife image sender → IsLife other receiver → (key : ℕ) (events : List LinkEvent)
     → DeliversReleased key events sender receiver → AssociationsAgree key sender receiver
     → LinkHolds key sender receiver
-holds released carries frames numbers ascends image other sender receiver life again key events delivers agree = record {
-  carried = λ got there accepts.
-      let (frame, arrived, from) = delivers got there accepts in
-      let low : frame < length (released_in sender) =
-      All-contains (λ (frame : ℕ). frame < length (released_in sender))
-      (arrivals (length (released_in sender)) events) frame
-      (released (length (released_in sender)) events) arrived in
-      let (sent, at, is) = numbered (released_in sender) frame low in
-      let takes : AcceptsFrame key sent got = record { accepts = accepts; octets = from sent at } in
-      (sent, is, carries image other sender receiver life again key sent got is there takes (agree sent got is there takes));
-  frames_once = frames image other sender receiver life again key agree;
-  numbers_once = λ i j d lt low number. (numbers other receiver again i j d lt low).accepted key number;
-  ascend = ascends other receiver again key;
-}
+holds released carries frames numbers ascends image other sender receiver life again key events delivers agree =
+    record {
+      carried = λ got there accepts.
+          let (frame, arrived, from) = delivers got there accepts in
+          let low : frame < length (released_in sender) =
+          All-contains (λ (frame : ℕ). frame < length (released_in sender))
+          (arrivals (length (released_in sender)) events) frame
+          (released (length (released_in sender)) events) arrived in
+          let (sent, at, is) = numbered (released_in sender) frame low in
+          let takes : AcceptsFrame key sent got = record { accepts = accepts; octets = from sent at } in (
+            sent,
+            is,
+            carries image other sender receiver life again key sent got is there takes
+                (agree sent got is there takes),
+          );
+      frames_once = frames image other sender receiver life again key agree;
+      numbers_once = λ i j d lt low number. (numbers other receiver again i j d lt low).accepted key number;
+      ascend = ascends other receiver again key;
+    }

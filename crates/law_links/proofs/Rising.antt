@@ -29,39 +29,51 @@ lower state key m n low taken = record {
 
 -- ---- in one run
 
-module _ (course : Course) (places : List Place) (history : IsLegalHistory course.plan course.start places course.entries) where
+module _ (course : Course) (places : List Place)
+    (history : IsLegalHistory course.plan course.start places course.entries) where
   abbrev of : OfRun course.plan course.start (records_of places) (TurnIn places) course.entries
   of = of_places course.plan course.start places course.entries history
 
-  places_ascend : (p q key m n : ℕ) → AcceptsAt course.entries p key m → AcceptsAt course.entries q key n → p < q → m < n
+  places_ascend : (p q key m n : ℕ) → AcceptsAt course.entries p key m → AcceptsAt course.entries q key n → p < q
+      → m < n
   places_ascend p q key m n one other less =
       ⊎_elim (λ (below : m < n). below)
       (λ (above : n ≤ m). absurd (
       let within : q < length course.entries = slice_get_within course.entries q other.entry other.there in
       not_taken_at course.plan course.start (records_of places) (TurnIn places) course.entries of q key n other
       (lower (after_first course.start course.entries q) key m n above
-      (accepted_taken course.plan course.start (records_of places) (TurnIn places) course.entries of p q key m one less (omega arith)))))
+      (accepted_taken course.plan course.start (records_of places) (TurnIn places) course.entries of p q key m one less
+      (omega arith)))))
       (cases_lt m n)
 
-  deeds_ascend : (near : ℕ → ℕ → Type 0) (one other : Deed) → Fits near course one.task one.answer → Fits near course other.task other.answer
+  deeds_ascend : (near : ℕ → ℕ → Type 0) (one other : Deed) → Fits near course one.task one.answer
+      → Fits near course other.task other.answer
       → (key : ℕ) → AscendsInRun key (record { course = course; deed = one }) (record { course = course; deed = other })
   deeds_ascend near one other fit also key less m n a b =
       let is = accepting_opening near course one.task one.answer key m fit a in
       let also_is = accepting_opening near course other.task other.answer key n also b in
       let least : 1 ≤ one.answer.position = is.stands.least in
-      places_ascend (one.answer.position - 1) (other.answer.position - 1) key m n (accepts_at course one.task one.answer key m is a)
+      places_ascend (one.answer.position - 1) (other.answer.position - 1) key m n
+      (accepts_at course one.task one.answer key m is a)
       (accepts_at course other.task other.answer key n also_is b) (omega arith)
 
 module _ (key : ℕ) where
-  run_ascends : (run : LifeRun) → IsRun run → All (λ (one : Given). All (AscendsInRun key one) (given_by run)) (given_by run)
+  run_ascends : (run : LifeRun) → IsRun run
+      → All (λ (one : Given). All (AscendsInRun key one) (given_by run)) (given_by run)
   run_ascends run is =
-      given_all run.course (λ (one : Given). All (AscendsInRun key one) (given_by run)) (answers_begun (length run.sunk) run.deeds)
-      (begun_any (λ (d : Deed). All (AscendsInRun key (record { course = run.course; deed = d })) (given_by run)) (length run.sunk) run.deeds (λ k d low.
-      given_all run.course (AscendsInRun key (record { course = run.course; deed = slice_index_or run.deeds k d })) (answers_begun (length run.sunk) run.deeds)
-      (begun_any (λ (e : Deed). AscendsInRun key (record { course = run.course; deed = slice_index_or run.deeds k d }) (record { course = run.course; deed = e }))
+      given_all run.course (λ (one : Given). All (AscendsInRun key one) (given_by run))
+      (answers_begun (length run.sunk) run.deeds)
+      (begun_any (λ (d : Deed). All (AscendsInRun key (record { course = run.course; deed = d })) (given_by run))
+      (length run.sunk) run.deeds (λ k d low.
+      given_all run.course (AscendsInRun key (record { course = run.course; deed = slice_index_or run.deeds k d }))
+      (answers_begun (length run.sunk) run.deeds)
+      (begun_any (λ (e : Deed). AscendsInRun key (record { course = run.course; deed = slice_index_or run.deeds k d })
+      (record { course = run.course; deed = e }))
       (length run.sunk) run.deeds (λ j e under.
-      deeds_ascend run.course run.places is.sound.history (NearWord run.course.start run.course.entries (records_of run.places))
-      (slice_index_or run.deeds k d) (slice_index_or run.deeds j e) (is.sound.answers k d low) (is.sound.answers j e under) key))))
+      deeds_ascend run.course run.places is.sound.history
+      (NearWord run.course.start run.course.entries (records_of run.places))
+      (slice_index_or run.deeds k d) (slice_index_or run.deeds j e) (is.sound.answers k d low)
+      (is.sound.answers j e under) key))))
 
   -- ---- from run to run
 
@@ -71,14 +83,16 @@ module _ (key : ℕ) where
         → All (λ (one : Given). All (AcceptsBelow key one) (given_by run)) given
     run_above run is given left k g low =
         given_all run.course (AcceptsBelow key (slice_index_or given k g)) (answers_begun (length run.sunk) run.deeds)
-        (begun_any (λ (d : Deed). AcceptsBelow key (slice_index_or given k g) (record { course = run.course; deed = d }))
+        (begun_any
+        (λ (d : Deed). AcceptsBelow key (slice_index_or given k g) (record { course = run.course; deed = d }))
         (length run.sunk) run.deeds
         (λ j d under m n a b.
         let old = (left.known run.course.start (inl is.shows) k g low).floored key m a in
         let new = is.sound.accepted_above j d under key n b in
         omega arith))
 
-    later_above : (image : List ℕ) (given : List Given) (runs : List LifeRun) → IsLeft image given → FollowFrom image runs
+    later_above : (image : List ℕ) (given : List Given) (runs : List LifeRun) → IsLeft image given
+        → FollowFrom image runs
         → All (λ (one : Given). All (AcceptsBelow key one) (given_in runs)) given
     later_above image given [] left follow = λ k g low j d under. absurd (omega arith)
     later_above image given (run ∷ runs) left (start, is, follow) =
@@ -102,7 +116,8 @@ module _ (key : ℕ) where
           ascend run.image (given ++ given_by run) runs next follow,
         )
 
-pub ascends : ShowsOnce → (image : List ℕ) (runs : List LifeRun) → IsLife image runs → (key : ℕ) → NumbersAscend key runs
+pub ascends : ShowsOnce → (image : List ℕ) (runs : List LifeRun) → IsLife image runs → (key : ℕ)
+    → NumbersAscend key runs
 ascends once image runs life key =
     ascend key once image [] runs (record {
       image_shows = initial_shows image life.initial;

@@ -1,5 +1,7 @@
 -- What arrives was released and delivered, for the clauses of `arrivals_were_released`.
-use Rattle.std.proofs.Common.{◌≡◌, ℕ, zero, suc, ◌<◌, ◌≤◌, nat_lt, ◌==◌, ◌&&◌, ◌||◌, if◌then◌else◌, Bool, true, false, List, [], ◌∷◌, ◌++◌, length, Some, ⊎_elim, refl, sym, ap, ◌∙◌, subst, arith, append_assoc, length-append}
+use Rattle.std.proofs.Common.{◌≡◌, ℕ, zero, suc, ◌<◌, ◌≤◌, nat_lt, ◌==◌, ◌&&◌, ◌||◌, if◌then◌else◌, Bool, true, false}
+use Rattle.std.proofs.Common.{List, [], ◌∷◌, ◌++◌, length, Some, ⊎_elim, refl, sym, ap, ◌∙◌, subst, arith, append_assoc}
+use Rattle.std.proofs.Common.{length-append}
 use Rattle.std.specs.Prelude.{slice_get}
 use Rattle.std.specs.List.{All, Contains, list_any}
 use Rattle.std.proofs.lemmas.Bool.{cases_eq}
@@ -79,7 +81,8 @@ both : (a b : Bool) → (a && b) ≡ true → (a ≡ true) × (b ≡ true)
 both true b e = (refl, e)
 both false b e = absurd (let z : false ≡ true = e in cc)
 
-below_one : (count : ℕ) (before : List LinkEvent) (event : LinkEvent) → All (λ (frame : ℕ). frame < count) (arrival count before event)
+below_one : (count : ℕ) (before : List LinkEvent) (event : LinkEvent)
+    → All (λ (frame : ℕ). frame < count) (arrival count before event)
 below_one count before (Release frame) = All-nil (λ (frame : ℕ). frame < count)
 below_one count before (Deliver frame) = go (nat_lt frame count && list_any (releases_frame frame) before) refl
   where
@@ -107,9 +110,11 @@ delivered_one count before (Deliver frame) events frames is =
   where
     go : (b : Bool) → (nat_lt frame count && list_any (releases_frame frame) before) ≡ b
         → AreDelivered (before ++ Deliver frame ∷ events) (length before) ((if b then frame ∷ [] else []) ++ frames)
-    go false test = earlier (before ++ Deliver frame ∷ events) (length before) (suc (length before)) frames (omega arith) is
+    go false test =
+        earlier (before ++ Deliver frame ∷ events) (length before) (suc (length before)) frames (omega arith) is
     go true test =
-        let (k, low, there) = found frame before (both (nat_lt frame count) (list_any (releases_frame frame) before) test).1 in
+        let (k, low, there) =
+        found frame before (both (nat_lt frame count) (list_any (releases_frame frame) before) test).1 in
         let here : IsDeliveredAt (before ++ Deliver frame ∷ events) (length before) frame = record {
           delivers = at_join before (Deliver frame) events;
           release = k;
@@ -118,7 +123,8 @@ delivered_one count before (Deliver frame) events frames is =
         } in
         (length before, omega arith, here, is)
 
-arrives_one : (count frame : ℕ) (before : List LinkEvent) → frame < count → list_any (releases_frame frame) before ≡ true
+arrives_one : (count frame : ℕ) (before : List LinkEvent) → frame < count
+    → list_any (releases_frame frame) before ≡ true
     → arrival count before (Deliver frame) ≡ frame ∷ []
 arrives_one count frame before low any =
     let test : nat_lt frame count ≡ true = grind (arith, nat_tests) in
@@ -129,10 +135,12 @@ arrives_one count frame before low any =
 one_more : (before : List LinkEvent) (event : LinkEvent) → length (before ++ event ∷ []) ≡ suc (length before)
 one_more before event = omega (arith, length-append before (event ∷ []))
 
-below : (count : ℕ) (before events : List LinkEvent) → All (λ (frame : ℕ). frame < count) (arrivals_behind count before events)
+below : (count : ℕ) (before events : List LinkEvent)
+    → All (λ (frame : ℕ). frame < count) (arrivals_behind count before events)
 below count before [] = All-nil (λ (frame : ℕ). frame < count)
 below count before (event ∷ events) =
-    All-append (λ (frame : ℕ). frame < count) (arrival count before event) (arrivals_behind count (before ++ event ∷ []) events)
+    All-append (λ (frame : ℕ). frame < count) (arrival count before event)
+    (arrivals_behind count (before ++ event ∷ []) events)
     (below_one count before event) (below count (before ++ event ∷ []) events)
 
 delivered : (count : ℕ) (before events : List LinkEvent)
@@ -142,7 +150,8 @@ delivered count before (event ∷ events) =
     delivered_one count before event events (arrivals_behind count (before ++ event ∷ []) events)
     (subst (λ (n : ℕ). AreDelivered (before ++ event ∷ events) n (arrivals_behind count (before ++ event ∷ []) events))
     (one_more before event)
-    (subst (λ (all : List LinkEvent). AreDelivered all (length (before ++ event ∷ [])) (arrivals_behind count (before ++ event ∷ []) events))
+    (subst (λ (all : List LinkEvent). AreDelivered all (length (before ++ event ∷ []))
+    (arrivals_behind count (before ++ event ∷ []) events))
     (append_assoc before (event ∷ []) events) (delivered count (before ++ event ∷ []) events)))
 
 arrives : (count : ℕ) (before events : List LinkEvent) (place frame : ℕ) → length before ≤ place → frame < count
@@ -168,7 +177,8 @@ arrives count before (event ∷ events) place frame from low is =
     (λ differ.
     Contains-append_right (arrival count before event) (arrivals_behind count (before ++ event ∷ []) events) frame
     (arrives count (before ++ event ∷ []) events place frame (let n = one_more before event in omega arith) low
-    (subst (λ (all : List LinkEvent). IsDeliveredAt all place frame) (sym (append_assoc before (event ∷ []) events)) is)))
+    (subst (λ (all : List LinkEvent). IsDeliveredAt all place frame) (sym (append_assoc before (event ∷ []) events))
+    is)))
     (cases_eq place (length before))
 
 pub all_below : (count : ℕ) (events : List LinkEvent) → All (λ frame. frame < count) (arrivals count events)
