@@ -133,3 +133,19 @@ closes told count id v words slots final all free full =
       final.4 0 (Some b) (ap (λ z. get_elem? z 0) h.book.1),
       (λ nexts rows same. closes_with told count s id v at kept all full b h.book.2 nexts rows (λ row c. same row c ∙ ap (λ z. get_or z (next_at row) 0) (sym final.2))),
     )
+
+inside : {X : Type 0} (x y : X) → some (Some x) ≡ some (Some y) → x ≡ y
+inside x y same = cc
+
+-- the same of the book that was found there, by the counters' own rows and what the worker knows
+module _ {B : Type 0} (told : B → Known) (key id : ℕ) (seen v : View) (words : List ℕ) (slots : List (Option B)) (final : Final (Seen (IsKept told key) id seen) words slots) (is : seen ≡ v) (all : v.numbers.shares ≡ ALL_SHARES) (free : v.turn.holds ≡ false) (full : v.turn.filled ≡ true) where
+  pub book_there : (b : B) × (get_elem? slots 0 ≡ some (Some b))
+  book_there =
+      let end = closes told key id v words slots (subst (λ u. Final (Seen (IsKept told key) id u) words slots) is final) all free full in
+      (end.0, end.1)
+
+  pub closes_book : (count : ℕ) → key ≡ count → (book : B) → get_elem? slots 0 ≡ some (Some book) → (nexts : List ℕ) → length nexts ≡ count
+      → ((row : ℕ) → row < count → get_or nexts row 0 ≡ get_or words (next_at row) 0) → ClosesCounters count v (told book) nexts
+  closes_book count sized book there nexts rows same =
+      let end = closes told count id v words slots (subst (λ k. Final (Seen (IsKept told k) id v) words slots) sized (subst (λ u. Final (Seen (IsKept told key) id u) words slots) is final)) all free full in
+      subst (λ b. ClosesCounters count v (told b) nexts) (inside end.0 book (sym end.1 ∙ there)) (end.2 nexts rows same)

@@ -1,31 +1,22 @@
-use Rattle.std.proofs.Common.{◌≡◌, ◌<◌, ℕ, ◌∙◌, sym, ap, subst, Some}
-use mathlib.Core.Option.{some-injective}
-use Rattle.counter_table.specs.Close.{ClosesCounters}
-use Rattle.counter_table.proofs.Ending.{closes}
+use Rattle.std.proofs.Common.{◌<◌, ℕ, ◌∙◌, sym, ap, subst}
+use mathlib.Core.Option.{some, some-injective}
+use Rattle.std.specs.Mem.Slots.{slots_items}
+use Rattle.counter_table.proofs.Ending.{book_there, closes_book}
 use Rattle.counter_table.proofs.counters.Counters.close.Goals as goal
-
-inside : {X : Type 0} (x y : X) → Some x ≡ Some y → x ≡ y
-inside x y same = cc
 
 pub unreachable-requires : goal.unreachable-requires
 unreachable-requires g c =
-    let told = g.B.Counted.told in
-    let is = c.into_seat.ensures in
-    let final = rw is at c.close_with-closed.ensures.values.2 in
-    let end = closes told c.into_parts-table.result.0.shared.key _ _ _ _ final c.requires.all c.requires.free c.requires.filled in
-    let same : c.take-last.result ≡ Some end.0 = some-injective _ _ (sym c.take-last.ensures.value ∙ end.1) in
-    c.in_default.not-Some end.0 same
+    let there = book_there g.B.Counted.told c.into_parts-table.result.0.shared.key c.into_seat.result.id c.into_seat.result.me.0 c.args.worker.seat.me.0
+    (slots_items c.close_with-closed.result.words) (slots_items c.close_with-closed.result.slots) c.close_with-closed.ensures.values.2
+    (ap (λ s. s.me.0) c.into_seat.ensures) c.requires.all c.requires.free c.requires.filled in
+    c.in_default.not-Some there.0 (some-injective _ _ (sym c.take-last.ensures.value ∙ there.1))
 
 pub returns : goal.returns
 returns g c =
-    let told = g.B.Counted.told in
-    let is = c.into_seat.ensures in
-    let final = rw is at c.close_with-closed.ensures.values.2 in
-    let rows : c.into_parts-table.result.0.shared.key ≡ c.args.self.rows = ap (λ t. t.shared.key) c.into_parts-table.ensures.table ∙ c.args.self.sized.2 in
-    let end = closes told c.into_parts-table.result.0.shared.key _ _ _ _ final c.requires.all c.requires.free c.requires.filled in
-    let same : Some c.in-Some.book ≡ Some end.0 = sym c.in-Some.is ∙ some-injective _ _ (sym c.take-last.ensures.value ∙ end.1) in
-    let book : end.0 ≡ c.in-Some.book = sym (inside c.in-Some.book end.0 same) in
-    let nexts = c.nexts_of-nexts.result.items in
-    let at_key = end.2 nexts (c.nexts_of-nexts.ensures.rows ∙ (c.into_parts-table.ensures.rows ∙ sym rows)) (λ row b. c.nexts_of-nexts.ensures.nexts row (subst (λ (k : ℕ). row < k) (rows ∙ sym c.into_parts-table.ensures.rows) b)) in
-    subst (λ (k : ℕ). ClosesCounters k c.args.worker.seat.me.0 (told c.in-Some.book) nexts) rows
-    (subst (λ (b : g.row.B.Denot). ClosesCounters c.into_parts-table.result.0.shared.key c.args.worker.seat.me.0 (told b) nexts) book at_key)
+    let rows = c.into_parts-table.ensures.rows in
+    closes_book g.B.Counted.told c.into_parts-table.result.0.shared.key c.into_seat.result.id c.into_seat.result.me.0 c.args.worker.seat.me.0
+    (slots_items c.close_with-closed.result.words) (slots_items c.close_with-closed.result.slots) c.close_with-closed.ensures.values.2
+    (ap (λ s. s.me.0) c.into_seat.ensures) c.requires.all c.requires.free c.requires.filled
+    c.args.self.rows (ap (λ t. t.shared.key) c.into_parts-table.ensures.table ∙ c.args.self.sized.2)
+    c.in-Some.book (c.take-last.ensures.value ∙ ap some c.in-Some.is)
+    c.nexts_of-nexts.result.items (c.nexts_of-nexts.ensures.rows ∙ rows) (λ row b. c.nexts_of-nexts.ensures.nexts row (subst (λ (k : ℕ). row < k) (sym rows) b))
