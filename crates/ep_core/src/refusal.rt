@@ -6,7 +6,7 @@ use sa_book::SaRefusal;
 use sdls_base::{ChannelId, KeyId, KeyState, MOST_ASSOCIATIONS, MOST_KEYS, SaState, Spi};
 
 /// Why a command is refused, with what decided.
-#[derive(Clone, Copy, Debug)]
+#[derive(Clone, Copy)]
 pub enum Refusal {
     /// This key was loaded before.
     AlreadyLoaded(KeyId),

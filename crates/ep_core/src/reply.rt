@@ -5,7 +5,7 @@ use crate::refusal::Refusal;
 use sdls_base::{KeyId, Octets};
 
 /// The reply to a command.
-#[derive(Debug, Drop)]
+#[derive(Drop)]
 pub enum Reply {
     /// The command was done.
     Done {
