@@ -75,6 +75,12 @@ gates_decide image plan_length slots used header first =
     ∙ ap (λ (n : ℕ). first_failing (gate_checks (gate_at image) (n - (first_closed image + 1)) (first_closed image + 1))) slots_same
     ∙ ap (λ (u : ℕ). first_failing (gate_checks (gate_at image) (slots - (u + 1)) (u + 1))) used_same
 
+-- the slots of a header that passes its checks lie within the image
+pub slots_within : (old image : List ℕ) (plan_length slots : ℕ) → image ≡ old → IsHeaderOf old plan_length slots → slot_at slots ≤ length image
+slots_within old image plan_length slots same header =
+    let bounds = header_bounds (header_of old) (length old) header.passes in
+    subst (λ (i : List ℕ). slot_at slots ≤ length i) (sym same) (subst (λ (n : ℕ). slot_at n ≤ length old) (sym header.count) bounds.long)
+
 -- the length of the plan that an image has
 plan_is : (image : List ℕ) (plan_length slots : ℕ) → IsHeaderOf image plan_length slots → plan_length ≡ length (plan_of image)
 unfolding plan_of

@@ -1,4 +1,4 @@
-use Rattle.std.proofs.Common.{◌≡◌, ℕ, ◌<◌, ◌≤◌, IsTrue}
+use Rattle.std.proofs.Common.{◌≡◌, ℕ, ◌<◌, IsTrue}
 use Rattle.disk_journal.specs.declared.layout.TheConstants.{OPEN}
 use Rattle.disk_journal.specs.Slots.{gate_at}
 use Rattle.disk_journal.proofs.gates.first_closed.Given as goal
