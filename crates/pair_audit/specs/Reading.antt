@@ -1,0 +1,47 @@
+-- An answer at the front of octets (profile).
+use Rattle.std.specs.Prelude.{◌≡◌, ℕ, ◌+◌, ◌==◌, Bool, IsTrue, List, [], ◌∷◌, ◌++◌, length, take}
+use Rattle.std.specs.List.{list_any}
+use Rattle.record_io.specs.declared.answers.Answer.{Answer}
+use Rattle.record_io.specs.declared.answers.TheConstants.{ANSWER_HEADER}
+use Rattle.record_io.specs.declared.code.TheConstants.{PROTECTED, ACCEPTED, CLEAR, DONE, REFUSED, LAYOUT, CHANNEL, SPI}
+use Rattle.record_io.specs.declared.code.TheConstants.{DIRECTION, STATE, COVERAGE, MAC, NUMBER, EXHAUSTED, JOURNAL_FULL}
+use Rattle.record_io.specs.declared.code.TheConstants.{SITE_FAULT, STOPPED, NO_MEMORY, END}
+use Rattle.record_io.specs.Answers.{Header, HasWidths, header_octets}
+use Rattle.pair_audit.specs.declared.reading.Head.{Head}
+use Rattle.pair_audit.specs.declared.reading.TheConstants.{MONITORED, MONITOR_FAULT}
+use Rattle.pair_audit.specs.Counted.{as_answer}
+
+abbrev pub answer_codes : List ℕ
+answer_codes = PROTECTED ∷ ACCEPTED ∷ CLEAR ∷ DONE ∷ REFUSED ∷ MONITORED ∷ MONITOR_FAULT ∷ LAYOUT ∷ CHANNEL ∷ SPI
+    ∷ DIRECTION ∷ STATE ∷ COVERAGE ∷ MAC ∷ NUMBER ∷ EXHAUSTED ∷ JOURNAL_FULL ∷ SITE_FAULT ∷ STOPPED ∷ NO_MEMORY ∷ END
+    ∷ []
+
+-- the code is that of an answer
+abbrev pub is_answer_code : ℕ → Bool
+is_answer_code code = list_any (λ known. known == code) answer_codes
+
+abbrev pub IsAnswerCode : ℕ → Type 0
+IsAnswerCode code = IsTrue (is_answer_code code)
+
+abbrev pub header_said : Head → Header
+header_said head = record {
+  code = head.code;
+  detail = head.detail;
+  key = head.key;
+  octets = head.len;
+  position = head.position;
+  number = head.number;
+}
+
+-- the answer with this header whose body is what stands behind, as far as that goes; it has so many octets
+pub record IsBehind (header : Header) (behind : List ℕ) (answer : Answer) (count : ℕ) : Type 0 where
+  pub answer_is : answer ≡ as_answer (record { header = header; front = take header.octets behind })
+  pub count_is : count ≡ ANSWER_HEADER + length answer.body
+
+-- the answer stands at the front of the octets, its body as far as these go; it has so many of them
+pub record StandsInFront (octets : List ℕ) (answer : Answer) (count : ℕ) : Type 0 where
+  pub header : Header
+  pub widths : HasWidths header
+  pub behind : List ℕ
+  pub spelled : octets ≡ header_octets header ++ behind
+  pub is_behind : IsBehind header behind answer count

@@ -1,0 +1,123 @@
+//! The audit, answer by answer.
+ghost use Rattle.std.specs.Prelude.{◌≡◌, ℕ, ◌+◌, ◌<◌, ◌^◌, ◌++◌, List, [], ◌∷◌, Bool, true, false, Option, IfOk, OnErr};
+ghost use Rattle.std.specs.Prelude.{MatchOption, length};
+ghost use Rattle.record_io.specs.declared.answers.Answer.{Answer};
+ghost use Rattle.pair_audit.specs.Audit.{FeedsAcceptance, FeedsUse, IsAsBefore, KnowsAudit, TellsOf};
+ghost use Rattle.pair_audit.specs.Audit.{acceptances_in, repeat_at, uses_in};
+
+use crate::marks::{Mark, mark_of};
+use crate::places::enter;
+use record_io::Answer;
+use sdls_base::NoMemory;
+use std::alloc::Global;
+use std::collections::BTreeMap;
+
+/// Two answers that use, or accept, one number of a key.
+#[derive(Clone, Copy, Debug, PartialEq, Eq)]
+pub struct Repeat {
+    /// If they use it: else they accept it.
+    pub pair: bool,
+    pub key: u16,
+    pub number: u64,
+    /// The place of the earlier answer, from 0 over all that were fed.
+    pub first: u64,
+    /// The place of the later one.
+    pub second: u64,
+}
+
+/// What an audit knows of the answers that it was fed: where each number of a key was used and accepted first, and how
+/// many answers use and accept one.
+#[derive(Drop)]
+pub struct Audit {
+    uses: BTreeMap<(u16, u64), u64>,
+    acceptances: BTreeMap<(u16, u64), u64>,
+    use_count: u64,
+    acceptance_count: u64,
+    fed: u64,
+}
+
+/// What is told of an answer at this place, by the place at which its number was seen before.
+fn repeat_of(pair: bool, key: u16, number: u64, second: u64, before: Option<u64>) -> Option<Repeat>
+    ensures { result ≡ repeat_at pair key number second before }
+{
+    match before {
+        None => None,
+        Some(first) => Some(Repeat {
+            pair,
+            key,
+            number,
+            first,
+            second,
+        }),
+    }
+}
+
+impl Audit {
+    /// An audit that was fed no answer. Takes no memory.
+    pub fn new(alloc: Global) -> Audit
+        ensures { KnowsAudit [] result }
+    {
+        Audit {
+            uses: BTreeMap::new(alloc),
+            acceptances: BTreeMap::new(alloc),
+            use_count: 0,
+            acceptance_count: 0,
+            fed: 0,
+        }
+    }
+
+    /// Takes an answer that uses the number of the key.
+    fn feed_use(&mut self, key: u16, number: u64) -> Result<Option<Repeat>, NoMemory>
+        requires { (self.old.fed + 1 < 2 ^ 64) × (self.old.use_count + 1 < 2 ^ 64) }
+        ensures fed { IfOk result (FeedsUse self.old self.new key number) }
+        ensures kept { OnErr result (IsAsBefore self.old self.new) }
+    {
+        let second = self.fed;
+        let before = enter(&mut self.uses, key, number, second)?;
+        self.use_count += 1;
+        self.fed += 1;
+        Ok(repeat_of(true, key, number, second, before))
+    }
+
+    /// Takes an answer that accepts the number of the key.
+    fn feed_acceptance(&mut self, key: u16, number: u64) -> Result<Option<Repeat>, NoMemory>
+        requires { (self.old.fed + 1 < 2 ^ 64) × (self.old.acceptance_count + 1 < 2 ^ 64) }
+        ensures fed { IfOk result (FeedsAcceptance self.old self.new key number) }
+        ensures kept { OnErr result (IsAsBefore self.old self.new) }
+    {
+        let second = self.fed;
+        let before = enter(&mut self.acceptances, key, number, second)?;
+        self.acceptance_count += 1;
+        self.fed += 1;
+        Ok(repeat_of(false, key, number, second, before))
+    }
+
+    /// Takes the next answer, and says which earlier one it repeats, if any: the first of them. An audit knows the
+    /// answers that it was fed, which are to be fewer than 2^64 with this one.
+    pub fn feed(&mut self, answer: &Answer) -> Result<Option<Repeat>, NoMemory>
+        requires { (fed : List Answer) × KnowsAudit fed self.old × (length fed + 1 < 2 ^ 64) }
+        ensures knows { IfOk result (λ _. (fed : List Answer) → KnowsAudit fed self.old
+            → KnowsAudit (fed ++ answer.now ∷ []) self.new) }
+        ensures told { IfOk result (λ told. (fed : List Answer) → KnowsAudit fed self.old
+            → TellsOf fed answer.now told) }
+        // Without memory the audit is as before, and knows what it knew.
+        ensures kept { OnErr result (IsAsBefore self.old self.new) }
+        ensures knows_still { OnErr result ((fed : List Answer) → KnowsAudit fed self.old → KnowsAudit fed self.new) }
+    {
+        match mark_of(answer) {
+            Mark::Uses => self.feed_use(answer.key, answer.number),
+            Mark::Accepts => self.feed_acceptance(answer.key, answer.number),
+            Mark::Neither => {
+                self.fed += 1;
+                Ok(None)
+            }
+        }
+    }
+
+    /// How many answers use a number of a key, and how many accept one.
+    pub fn counts(&self) -> (u64, u64)
+        ensures { (fed : List Answer) → KnowsAudit fed self.now → result ≡ (uses_in fed, acceptances_in fed) }
+    {
+        (self.use_count, self.acceptance_count)
+    }
+}

@@ -1,0 +1,18 @@
+//! An audit of what runs of a unit put: whether two answers use one number of a key, or accept one (profile). It looks
+//! at answers alone, and trusts no unit.
+//!
+//! [`Audit::feed`] takes the answers one after the other and says of each which earlier one it repeats;
+//! [`read_answer`] reads one at the front of octets. What octets of runs count is defined in `specs`.
+#![tactic(auto)]
+
+mod audit;
+mod laws;
+mod marks;
+mod places;
+mod reading;
+
+pub use audit::{Audit, Repeat};
+pub use laws::{
+    first_told_is_first, fronts_count, fronts_show, none_told_repeats_nothing, recording_reads_once,
+};
+pub use reading::{AnswerError, MONITOR_FAULT, MONITORED, read_answer};

@@ -1,0 +1,133 @@
+//! Answers, read from octets.
+ghost use Rattle.std.specs.Prelude.{◌≡◌, ◌<◌, ◌≤◌, ◌^◌, ◌↔◌, IfOk, IfSome, None, Ok, Err, length, slice_index};
+ghost use Rattle.record_io.specs.Answers.{HasWidths, header_octets};
+ghost use Rattle.record_io.specs.declared.answers.TheConstants.{ANSWER_HEADER};
+ghost use Rattle.pair_audit.specs.Reading.{IsBehind, IsAnswerCode, StandsInFront, header_said, is_answer_code};
+ghost use Rattle.pair_audit.specs.declared.reading.AnswerError.TheVariants as errors;
+
+use ep_codec::{double_word_at, number_at, word_at};
+use record_io::code::{
+    ACCEPTED, CHANNEL, CLEAR, COVERAGE, DIRECTION, DONE, END, EXHAUSTED, JOURNAL_FULL, LAYOUT, MAC,
+    NO_MEMORY, NUMBER, PROTECTED, REFUSED, SITE_FAULT, SPI, STATE, STOPPED,
+};
+use record_io::{ANSWER_HEADER, Answer};
+use sdls_base::Octets;
+use std::alloc::{AllocError, Global};
+use thiserror::Error;
+
+/// A monitoring message is answered: the body is the reply. Units that keep a log put it.
+pub const MONITORED: u8 = 0x05;
+
+/// A monitoring message is malformed. Units that keep a log put it.
+pub const MONITOR_FAULT: u8 = 0x06;
+
+/// The codes of answers.
+const KNOWN: [u8; 21] = [
+    PROTECTED,
+    ACCEPTED,
+    CLEAR,
+    DONE,
+    REFUSED,
+    MONITORED,
+    MONITOR_FAULT,
+    LAYOUT,
+    CHANNEL,
+    SPI,
+    DIRECTION,
+    STATE,
+    COVERAGE,
+    MAC,
+    NUMBER,
+    EXHAUSTED,
+    JOURNAL_FULL,
+    SITE_FAULT,
+    STOPPED,
+    NO_MEMORY,
+    END,
+];
+
+/// Why no answer is read.
+#[derive(Clone, Copy, Debug, PartialEq, Eq, Error)]
+pub enum AnswerError {
+    /// A header stands there whose code is that of no answer.
+    #[error("unknown code")]
+    Code,
+    /// Memory was wanting.
+    #[error("no memory")]
+    NoMemory,
+}
+
+/// What a header says.
+#[derive(Clone, Copy)]
+pub(crate) struct Head {
+    pub code: u8,
+    pub detail: u8,
+    pub key: u16,
+    pub len: u32,
+    pub position: u64,
+    pub number: u64,
+}
+
+/// If the code is that of an answer.
+fn is_code(code: u8) -> bool
+    ensures { result ≡ is_answer_code code }
+{
+    KNOWN.contains(&code)
+}
+
+fn head_of(header: &[u8]) -> Head
+    requires { length header.now ≡ ANSWER_HEADER }
+    ensures spelled { header.now ≡ header_octets (header_said result) }
+    ensures widths { HasWidths (header_said result) }
+{
+    Head {
+        code: header[0],
+        detail: header[1],
+        key: word_at(header, 2),
+        len: double_word_at(header, 4),
+        position: number_at(header, 8),
+        number: number_at(header, 16),
+    }
+}
+
+/// Reads the answer behind whose header these octets stand, and says how many octets it has.
+fn read_body(alloc: Global, head: &Head, behind: &[u8]) -> Result<(Answer, usize), AllocError>
+    requires { length behind.now < 2 ^ 63 }
+    ensures { IfOk result (λ read. IsBehind (header_said head.now) behind.now read.0 read.1) }
+{
+    let len = behind.len().min(head.len as usize);
+    let body = behind[..len].to_vec(alloc)?;
+    Ok((
+        Answer {
+            code: head.code,
+            detail: head.detail,
+            key: head.key,
+            position: head.position,
+            number: head.number,
+            body: Octets::new(body),
+        },
+        ANSWER_HEADER + len,
+    ))
+}
+
+/// Reads the answer at the front of octets, and says how many octets it has there. It takes memory for the body alone;
+/// if the octets end in the body, the answer has as much of it as there is.
+pub fn read_answer(alloc: Global, octets: &[u8]) -> Result<Option<(Answer, usize)>, AnswerError>
+    ensures read { IfOk result (λ found. IfSome found (λ read. StandsInFront octets.now read.0 read.1)) }
+    // None is read exactly where no header is whole, and a code refused exactly where a whole header has it.
+    ensures none { (result ≡ Ok None) ↔ (length octets.now < ANSWER_HEADER) }
+    ensures code { (result ≡ Err errors.Code)
+        ↔ ((ANSWER_HEADER ≤ length octets.now) × ¬ IsAnswerCode (slice_index octets.now 0)) }
+{
+    if octets.len() < ANSWER_HEADER {
+        return Ok(None);
+    }
+    if !is_code(octets[0]) {
+        return Err(AnswerError::Code);
+    }
+    let head = head_of(&octets[..ANSWER_HEADER]);
+    match read_body(alloc, &head, &octets[ANSWER_HEADER..]) {
+        Ok(read) => Ok(Some(read)),
+        Err(_) => Err(AnswerError::NoMemory),
+    }
+}
