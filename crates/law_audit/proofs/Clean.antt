@@ -4,7 +4,9 @@ use Rattle.std.specs.List.{slice_index_or}
 use Rattle.std.proofs.lemmas.Option.{get_or_from_slice_get, slice_get_within}
 use Rattle.record_io.specs.declared.answers.Answer.{Answer}
 use Rattle.pair_audit.specs.Audit.{acceptances_in, uses_in}
-use Rattle.pair_audit.specs.Recording.{AuditEnd, AuditSays, Clean, Repeated, BreaksAt, IsMalformedAt, ReadsRuns}
+use Rattle.pair_audit.specs.declared.walk.AuditEnd.{AuditEnd}
+use Rattle.pair_audit.specs.declared.walk.AuditEnd.TheVariants.{Clean, Repeated, BreaksAt}
+use Rattle.pair_audit.specs.Recording.{AuditSays, IsMalformedAt, ReadsRuns}
 use Rattle.pair_audit.specs.Repeats.{AreUnlike, IsFirstRepeat, RepeatNothing}
 
 abbrev pub OneWay : Type 0

@@ -5,7 +5,9 @@ ghost use Rattle.record_io.specs.declared.answers.Answer.{Answer};
 ghost use Rattle.run_promise.specs.Life.{IsLife, LifeRun};
 ghost use Rattle.pair_audit.specs.Repeats.{RepeatNothing};
 ghost use Rattle.pair_audit.specs.Audit.{acceptances_in, uses_in};
-ghost use Rattle.pair_audit.specs.Recording.{AuditEnd, AuditSays, Clean, ReadsRuns, RunsCount, recording};
+ghost use Rattle.pair_audit.specs.Recording.{AuditSays, ReadsRuns, RunsCount, recording};
+ghost use Rattle.pair_audit.specs.declared.walk.AuditEnd.{AuditEnd};
+ghost use Rattle.pair_audit.specs.declared.walk.AuditEnd.TheVariants.{Clean};
 ghost use Rattle.law_audit.specs.Recorded.{IsSpelled, SankFew, sunk_by};
 
 use law_runs::used_once_in_a_life;

@@ -6,3 +6,5 @@ pub mod Fronts
 pub mod Repeating
 pub mod Headers
 pub mod OneRecording
+pub mod Walking
+pub mod Runs

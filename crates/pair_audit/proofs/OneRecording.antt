@@ -170,7 +170,7 @@ run_lacks_unknown sunk own behind rest at_octet counts is has =
     (sym has.front ∙ sym same.0 ∙ shows.spelled) (subst (All HasCode) counts.counts.answers_are counts.known))
 
 pub not_malformed : ShownOnce → (input : List ℕ) (xs : List (List ℕ)) (one : List Answer) (offset : ℕ) → ReadsRuns input xs one [] → ¬ IsMalformedAt input offset
-not_malformed once input xs one offset x (inl (lacks, at_start)) = lacks (runs_octets xs ++ []) x.spelled
+not_malformed once input xs one offset x (inl (lacks, at_start)) = lacks (runs_octets xs ++ [], x.spelled)
 not_malformed once input xs one offset x (inr (ys, other, rest, y, some, faults)) =
     let on = goes_on once xs ys one other rest x.runs_are y.runs_are (behind_beginning input xs ys one other rest x y) in
     by_more on.more on.told on.rest_is on.counted faults

@@ -10,7 +10,7 @@ use Rattle.pair_audit.specs.Repeats.{AreUnlike, Repeats, RepeatNothing, IsFirstR
 use Rattle.pair_audit.specs.Audit.{BothTell, TellsRepeat}
 use Rattle.pair_audit.proofs.Seen.{get_left, get_seam, take_seam}
 
-both_repeat : (repeat : Repeat) (one other : Answer) → BothTell repeat one other → Repeats one other
+pub both_repeat : (repeat : Repeat) (one other : Answer) → BothTell repeat one other → Repeats one other
 both_repeat repeat one other (inl (pair, a, b)) = inl (repeat.key, repeat.number, a, b)
 both_repeat repeat one other (inr (pair, a, b)) = inr (repeat.key, repeat.number, a, b)
 

@@ -5,3 +5,4 @@ pub mod Audit
 pub mod Counted
 pub mod Reading
 pub mod Recording
+pub mod Walk

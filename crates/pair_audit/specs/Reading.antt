@@ -38,10 +38,20 @@ pub record IsBehind (header : Header) (behind : List ℕ) (answer : Answer) (cou
   pub answer_is : answer ≡ as_answer (record { header = header; front = take header.octets behind })
   pub count_is : count ≡ ANSWER_HEADER + length answer.body
 
--- the answer stands at the front of the octets, its body as far as these go; it has so many of them
+-- the answer stands at the front of the octets, with a code that is an answer's, its body as far as these go; it has so
+-- many of them
 pub record StandsInFront (octets : List ℕ) (answer : Answer) (count : ℕ) : Type 0 where
   pub header : Header
   pub widths : HasWidths header
   pub behind : List ℕ
   pub spelled : octets ≡ header_octets header ++ behind
+  pub known : IsAnswerCode header.code
   pub is_behind : IsBehind header behind answer count
+
+-- a header stands at the front whose code is that of no answer
+pub record UnknownInFront (octets : List ℕ) : Type 0 where
+  pub header : Header
+  pub widths : HasWidths header
+  pub more : List ℕ
+  pub spelled : octets ≡ header_octets header ++ more
+  pub unknown : ¬ IsAnswerCode header.code

@@ -5,6 +5,8 @@ use Rattle.std.specs.Int.{w32, to_be_bytes}
 use Rattle.record_io.specs.declared.answers.Answer.{Answer}
 use Rattle.record_io.specs.Answers.{Header, HasWidths, IsAnswer, answers_octets, header_octets}
 use Rattle.pair_audit.specs.declared.audit.Repeat.{Repeat}
+use Rattle.pair_audit.specs.declared.walk.AuditEnd.{AuditEnd}
+use Rattle.pair_audit.specs.declared.walk.AuditEnd.TheVariants.{Clean, Repeated, BreaksAt}
 use Rattle.pair_audit.specs.Audit.{BothTell, uses_in, acceptances_in}
 use Rattle.pair_audit.specs.Counted.{CountsAnswers}
 use Rattle.pair_audit.specs.Reading.{IsAnswerCode}
@@ -45,8 +47,11 @@ pub record ReadsRuns (input : List ℕ) (runs : List (List ℕ)) (answers : List
 
 -- ---- a malformed one
 
+abbrev pub BeginsRecording : List ℕ → Type 0
+BeginsRecording input = (rest : List ℕ) × (input ≡ recording_beginning ++ rest)
+
 abbrev pub LacksRecordingBeginning : List ℕ → Type 0
-LacksRecordingBeginning input = (rest : List ℕ) → input ≢ recording_beginning ++ rest
+LacksRecordingBeginning input = ¬ BeginsRecording input
 
 -- no run stands whole at the front
 abbrev pub LacksRun : List ℕ → Type 0
@@ -77,13 +82,6 @@ IsMalformedAt input offset = (LacksRecordingBeginning input × (offset ≡ 0))
     ⊎ ((at_octet : ℕ) × HasUnknown rest at_octet × (offset ≡ length input - length rest + at_octet))))
 
 -- ---- what an audit of a recording says
-
--- that all is well, with how many runs there are, and how many answers use and accept a number; the first repeat; or
--- where it is malformed
-pub data AuditEnd : Type 0 where
-  Clean : (runs uses acceptances : ℕ) → AuditEnd
-  Repeated : (repeat : Repeat) → AuditEnd
-  BreaksAt : (offset : ℕ) → AuditEnd
 
 -- the answers' first repeat is this one
 pub record IsTheRepeat (answers : List Answer) (repeat : Repeat) : Type 0 where

@@ -10,9 +10,11 @@ mod laws;
 mod marks;
 mod places;
 mod reading;
+mod walk;
 
 pub use audit::{Audit, Repeat};
 pub use laws::{
     first_told_is_first, fronts_count, fronts_show, none_told_repeats_nothing, recording_reads_once,
 };
 pub use reading::{AnswerError, MONITOR_FAULT, MONITORED, read_answer};
+pub use walk::{AuditEnd, audit_recording};

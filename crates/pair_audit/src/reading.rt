@@ -79,6 +79,7 @@ fn head_of(header: &[u8]) -> Head
     requires { length header.now ≡ ANSWER_HEADER }
     ensures spelled { header.now ≡ header_octets (header_said result) }
     ensures widths { HasWidths (header_said result) }
+    ensures code { result.code ≡ slice_index header.now 0 }
 {
     Head {
         code: header[0],
