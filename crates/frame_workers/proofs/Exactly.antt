@@ -141,6 +141,7 @@ module _ (begin : Begin) (n : ℕ) (base : View) where
         told = tt;
         reserves = λ place in'. absurd (omega arith);
         added = λ row. let h = amount_both row base.numbers.added [] in omega arith;
+        between = λ k d low. absurd (omega arith);
         grown = λ row. let t = top_both row base.numbers.nexts base.numbers.nexts in omega arith;
         exact = λ still. tt;
       };

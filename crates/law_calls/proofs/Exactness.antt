@@ -3,6 +3,7 @@ use Rattle.std.proofs.Common.{◌≡◌, ◌⊎◌, ℕ, suc, ◌<◌, ◌≤◌
 use Rattle.std.specs.Bool.{⊤}
 use Rattle.std.specs.List.{slice_get}
 use Rattle.std.proofs.lemmas.Bool.{cases_eq}
+use Rattle.std.proofs.lemmas.List.Elements.{All-cons, All-nil}
 use Rattle.std.proofs.lemmas.Bool.Decides.{nat_tests}
 use Rattle.sdls_base.specs.declared.entry.Entry.{Entry}
 use Rattle.sdls_base.specs.declared.entry.Logged.{Logged}
@@ -21,8 +22,8 @@ use Rattle.run_promise.specs.Begin.{Begin}
 use Rattle.law_workers.specs.Views.{log_of, entries_in}
 use Rattle.run_promise.specs.Deed.{deed_of}
 use Rattle.law_workers.proofs.Logs.{more_stands}
-use Rattle.run_promise.specs.Machine.{Move, Kept}
-use Rattle.law_workers.specs.Exact.{IsOfMoves}
+use Rattle.run_promise.specs.Machine.{Move, Kept, LiesBetween}
+use Rattle.law_workers.specs.Exact.{IsOfMoves, words_in}
 use Rattle.run_promise.specs.Moves.{Tells, TellsKind}
 use Rattle.law_workers.specs.InTurn.{IsClean, IsLevel, AllStand, IsSettled, ServedInTurn}
 use Rattle.law_workers.proofs.Machines.{exact_move, move_moves}
@@ -79,11 +80,13 @@ module _ (begin : Begin) (segment : ℕ) (task : Record) (v w : View) (move : Mo
       last = [];
       few = omega arith;
       each = λ same. refl;
-      exact = exact_move begin v w (places (length log) (length es)) (deed_of segment task answer) move told reserves moves.added moves.grown moves.at;
+      exact = exact_move begin v w (places (length log) (length es)) (deed_of segment task answer) move told reserves moves.added moves.grown moves.at
+          moves.between;
     };
     spent = spent;
     in_turn = subst (λ (l : List Move). ServedInTurn begin v w (places (length log) (length es)) spent (deed_of segment task answer ∷ []) l [])
-        (sym (move_moves begin v w (places (length log) (length es)) (deed_of segment task answer) move told reserves moves.added moves.grown moves.at))
+        (sym (move_moves begin v w (places (length log) (length es)) (deed_of segment task answer) move told reserves moves.added moves.grown moves.at
+        moves.between))
         (served_turn begin v w log es turned segment task move spent passes answer serves);
   }
 
@@ -100,6 +103,7 @@ module _ (begin : Begin) (segment : ℕ) (task : Record) (v w : View) (move : Mo
         told = tt;
         reserves = reserves;
         added = λ row. (let a = moves.added row in omega arith);
+        between = All-cons (LiesBetween begin.rows (words_in v) (words_in w)) move [] moves.between (All-nil (LiesBetween begin.rows (words_in v) (words_in w)));
         grown = λ row. (let g = moves.grown row in omega arith);
         exact = λ still. (moves.at (λ row low. let s = still row low in omega arith), tt);
       };

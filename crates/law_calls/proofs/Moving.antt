@@ -10,7 +10,7 @@ use Rattle.record_io.specs.declared.records.Record.{Record}
 use Rattle.shared_unit.specs.Numbers.{Draws}
 use Rattle.shared_unit.proofs.Tops.{top-append}
 use Rattle.run_promise.specs.Begin.{Begin}
-use Rattle.run_promise.specs.Machine.{Move, Kept, Found, Drew, Raised, Overdrew, adds, IsAt}
+use Rattle.run_promise.specs.Machine.{Move, Kept, Found, Drew, Raised, Overdrew, adds, IsAt, LiesBetween}
 use Rattle.law_workers.specs.Exact.{words_in}
 use Rattle.law_workers.proofs.Machines.{drew_alone, found_alone, raised_alone}
 use Rattle.law_calls.proofs.Counting.{Shows}
@@ -20,16 +20,19 @@ amount_both row [] b = omega arith
 amount_both row (p ∷ a) b = let h = amount_both row a b in omega arith
 
 module _ (begin : Begin) (v w : View) where
-  -- what was added to the words is what the move adds, and the words grew by it; if by no more, the move is the machine's
+  -- what was added to the words is what the move adds, which lies between them, and the words grew by it; if by no more, the
+  -- move is the machine's
   pub record Moves (move : Move) : Type 0 where
     pub added : (row : ℕ) → amount row w.numbers.added ≡ amount row v.numbers.added + adds row move
     pub grown : (row : ℕ) → words_in v row + adds row move ≤ words_in w row
+    pub between : LiesBetween begin.rows (words_in v) (words_in w) move
     pub at : ((row : ℕ) → row < begin.rows → words_in w row ≡ words_in v row + adds row move) → IsAt begin.rows (words_in v) move
 
   pub moves_none : w.numbers ≡ v.numbers → Moves Kept
   moves_none is = record {
     added = λ row. (let h : amount row w.numbers.added ≡ amount row v.numbers.added = ap (λ (k : Numbers). amount row k.added) is in omega arith);
     grown = λ row. (let h : words_in w row ≡ words_in v row = ap (λ (k : Numbers). top row k.nexts) is in omega arith);
+    between = tt;
     at = λ still. tt;
   }
 
@@ -46,6 +49,7 @@ module _ (begin : Begin) (v w : View) where
       added = λ r. (let h : amount r w.numbers.added ≡ amount r (v.numbers.added ++ []) = ap (amount r) s.counted.added_is in
           let b = amount_both r v.numbers.added [] in omega arith);
       grown = λ r. (let g = s.counted.nexts r in omega arith);
+      between = (low, s.least, s.most);
       at = found_alone begin.rows v w row n low s.least s.most;
     }
 
@@ -74,6 +78,7 @@ module _ (begin : Begin) (v w : View) where
     moves_drew n spent s = record {
       added = λ r. last_added row 1 r s.counted.added_is;
       grown = one_more n spent s;
+      between = (low, s.least, above n spent s);
       at = drew_alone begin.rows v w row n low s.least (above n spent s);
     }
 
@@ -83,6 +88,7 @@ module _ (begin : Begin) (v w : View) where
     moves_over end n past d s = record {
       added = λ r. last_added row 1 r s.counted.added_is;
       grown = one_more n [] s;
+      between = (low, s.least, above n [] s);
       at = λ still.
           let here = still row low in
           let one : adds row (Overdrew row n) ≡ 1 = ap (λ (b : Bool). if b then 1 else 0) (eq-eqb row row refl) in
@@ -111,6 +117,7 @@ module _ (begin : Begin) (v w : View) where
                 let t = twice r in
                 subst (λ (b : Bool). words_in v r + (if b then number - n else 0) ≤ words_in w r) (sym none) (omega arith)
           ];
+          between = (low, least, let t = twice row in omega arith);
           at = raised_alone begin.rows v w row n number low least (let t = twice row in omega arith);
         } where
           here_twice : (r a b : ℕ) → top r ((r, a) ∷ (r, b) ∷ []) ≡ max a (max b 0)

@@ -103,6 +103,7 @@ moved_put begin v mid w tasks n deeds does a puts same =
               | inr there ↦ none_reserved begin mid w puts (e.moves ++ a.last) place there
             ];
         added = e.added;
+        between = e.between;
         grown = e.grown;
         exact = e.exact;
       };

@@ -1,6 +1,6 @@
 -- Records that one worker handled, one after the other, moved the words as their answers tell.
 use Rattle.std.proofs.Common.{◌≡◌, ℕ, ◌+◌, ◌<◌, ◌≤◌, List, [], ◌++◌, length, refl, sym, ◌∙◌, ap, subst, arith, append_assoc, append-nil, length-append}
-use Rattle.std.specs.List.{slice_get}
+use Rattle.std.specs.List.{slice_get, slice_index_or}
 use Rattle.std.proofs.lemmas.List.{append_cancel_left}
 use Rattle.sdls_base.specs.declared.entry.Logged.{Logged}
 use Rattle.counter_table.specs.declared.view.View.{View}
@@ -16,7 +16,7 @@ use Rattle.run_promise.specs.Machine.{Move}
 use Rattle.law_workers.specs.Exact.{words_in, IsOfMoves, Exact}
 use Rattle.law_workers.specs.InTurn.{ServedInTurn}
 use Rattle.law_workers.specs.Alone.{MovedExactly, MovedInTurn}
-use Rattle.law_workers.proofs.Machines.{exact_nothing, exact_then, nothing_moves, runs_same, tell_on, then_moves}
+use Rattle.law_workers.proofs.Machines.{exact_nothing, exact_then, lies_wider, nothing_moves, runs_same, tell_on, then_moves}
 use Rattle.law_workers.proofs.Turns.{in_turn_nothing, in_turn_then}
 
 -- the lines that were made lie in the log
@@ -81,6 +81,8 @@ exact_seen begin u v p z made ds last a below grows from to more = record {
       ap (λ (l : List Logged). slice_get l place) grows.earlier.log.1 ∙ get_front (log_of v) grows.earlier.log.0 place (below place in') in
       subst (IsOfMoves (a.moves ++ last)) (sym line) (a.reserves place in');
   added = λ row. let h = a.added row in let m = more row in omega arith;
+  between = λ k d low. lies_wider begin.rows (words_in u) (words_in v) (words_in p) (words_in z) (λ row few. let f = from row in omega arith)
+      (λ row few. let t = to row in omega arith) (slice_index_or (a.moves ++ last) k d) (a.between k d low);
   grown = λ row. let h = a.grown row in let f = from row in let t = to row in omega arith;
   exact = λ still. runs_same begin.rows (words_in u) (words_in p) (λ row low. sym (from row)) (a.moves ++ last)
       (a.exact (λ row low. let f = from row in let t = to row in let h = still row low in omega arith));

@@ -1,8 +1,8 @@
 -- One lane alone: the moves of records one after the other are the machine's.
 use Rattle.std.proofs.Common.{◌≡◌, ◌⊎◌, ℕ, zero, suc, ◌+◌, ◌-◌, ◌<◌, ◌≤◌, List, [], ◌∷◌, ◌++◌, length, Some, Option, refl, sym, ◌∙◌, ap, subst, inl, inr, arith, append_assoc, append-nil, length-append, max, Bool, if◌then◌else◌, eq-eqb}
-use Rattle.std.specs.List.{slice_get}
+use Rattle.std.specs.List.{All, slice_get, slice_index_or}
 use Rattle.std.proofs.lemmas.List.{take-append-le}
-use Rattle.std.proofs.lemmas.List.Elements.{Contains-append_left, Contains-append_right}
+use Rattle.std.proofs.lemmas.List.Elements.{All-append, All-cons, All-nil, Contains-append_left, Contains-append_right}
 use Rattle.std.proofs.lemmas.Option.{slice_get_within}
 use Rattle.sdls_base.specs.declared.entry.Entry.{Entry}
 use Rattle.sdls_base.specs.declared.entry.Logged.{Logged}
@@ -30,7 +30,7 @@ use Rattle.run_promise.specs.Deed.{Deed}
 use Rattle.law_workers.proofs.Histories.{get_front, row_kept}
 use Rattle.law_workers.proofs.Logs.{stands_both}
 use Rattle.law_workers.proofs.Working.{grown_entries}
-use Rattle.run_promise.specs.Machine.{Move, Kept, Found, Drew, Raised, Overdrew, adds, adds_all, IsAt, word_after, Runs}
+use Rattle.run_promise.specs.Machine.{Move, Kept, Found, Drew, Raised, Overdrew, adds, adds_all, IsAt, LiesBetween, word_after, Runs}
 use Rattle.law_workers.specs.Exact.{words_in, IsOfMoves, Exact}
 use Rattle.run_promise.specs.Moves.{Shown, TellsSeen, TellsProtect, TellsCommand, TellsKind, Tells, TellAll}
 
@@ -162,6 +162,15 @@ tell_on begin v w grows ds ms h =
     let (rest, is) = grown_entries v w grows in
     subst (λ (l : List Entry). TellAll begin.start l ds ms) (sym is) (tell_more begin.start (entries_in v) rest ds ms h)
 
+-- a move lies between words that are further apart
+pub lies_wider : (rows : ℕ) (first last low high : ℕ → ℕ) → ((row : ℕ) → row < rows → low row ≤ first row) → ((row : ℕ) → row < rows → last row ≤ high row)
+    → (m : Move) → LiesBetween rows first last m → LiesBetween rows low high m
+lies_wider rows first last low high under over Kept h = tt
+lies_wider rows first last low high under over (Found row word) h = let u = under row h.0 in let o = over row h.0 in let a = h.1 in let b = h.2 in (h.0, omega arith, omega arith)
+lies_wider rows first last low high under over (Drew row number) h = let u = under row h.0 in let o = over row h.0 in let a = h.1 in let b = h.2 in (h.0, omega arith, omega arith)
+lies_wider rows first last low high under over (Raised row word number) h = let u = under row h.0 in let o = over row h.0 in let a = h.1 in let b = h.2 in (h.0, omega arith, omega arith)
+lies_wider rows first last low high under over (Overdrew row number) h = let u = under row h.0 in let o = over row h.0 in let a = h.1 in let b = h.2 in (h.0, omega arith, omega arith)
+
 drawn_left : (a b : List Move) (line : Option Logged) → IsOfMoves a line → IsOfMoves (a ++ b) line
 drawn_left a b line h entry is none = let (row, number, seen, there) = h entry is none in (row, number, seen, Contains-append_left a b (Drew row number) there)
 
@@ -179,6 +188,7 @@ exact_nothing begin v = record {
   told = tt;
   reserves = λ place in'. absurd (omega arith);
   added = λ row. omega arith;
+  between = λ k d low. absurd (omega arith);
   grown = λ row. omega arith;
   exact = λ h. tt;
 }
@@ -208,6 +218,13 @@ exact_then begin u v w m n ds es last a below grows b =
                 (drawn_right a.moves (b.moves ++ last) (slice_get (log_of w) place) (b.reserves place there))
           ];
       added = λ row. let p = a.added row in let q = b.added row in let s = sum row in let f = first row in omega arith;
+      between = subst (All (LiesBetween begin.rows (words_in u) (words_in w))) (sym (append_assoc a.moves b.moves last))
+          (All-append (LiesBetween begin.rows (words_in u) (words_in w)) a.moves (b.moves ++ last)
+          (λ k d low. lies_wider begin.rows (words_in u) (words_in v) (words_in u) (words_in w) (λ row few. omega arith)
+          (λ row few. let q = b.grown row in omega arith) (slice_index_or a.moves k d)
+          (subst (All (LiesBetween begin.rows (words_in u) (words_in v))) (append-nil a.moves) a.between k d low))
+          (λ k d low. lies_wider begin.rows (words_in v) (words_in w) (words_in u) (words_in w) (λ row few. let p = a.grown row in omega arith)
+          (λ row few. omega arith) (slice_index_or (b.moves ++ last) k d) (b.between k d low)));
       grown = λ row. let p = a.grown row in let q = b.grown row in let s = sum row in let f = first row in omega arith;
       exact = λ still.
           let left : Runs begin.rows (words_in u) (a.moves ++ []) = a.exact (λ row low. let t = still row low in let p = a.grown row in let q = b.grown row in let s = sum row in let f = first row in omega arith) in
@@ -236,12 +253,13 @@ pub exact_move : (begin : Begin) (old new : View) (made : List ℕ) (deed : Deed
     → ((row : ℕ) → amount row new.numbers.added ≡ amount row old.numbers.added + adds row move)
     → ((row : ℕ) → words_in old row + adds row move ≤ words_in new row)
     → (((row : ℕ) → row < begin.rows → words_in new row ≡ words_in old row + adds row move) → IsAt begin.rows (words_in old) move)
-    → Exact begin old new made (deed ∷ []) []
-exact_move begin old new made deed move told reserves added grown at = record {
+    → LiesBetween begin.rows (words_in old) (words_in new) move → Exact begin old new made (deed ∷ []) []
+exact_move begin old new made deed move told reserves added grown at between = record {
   moves = move ∷ [];
   told = (told, tt);
   reserves = reserves;
   added = λ row. let a = added row in omega arith;
+  between = All-cons (LiesBetween begin.rows (words_in old) (words_in new)) move [] between (All-nil (LiesBetween begin.rows (words_in old) (words_in new)));
   grown = λ row. let g = grown row in omega arith;
   exact = λ still. (at (λ row low. let s = still row low in omega arith), tt);
 }
@@ -251,9 +269,10 @@ pub move_moves : (begin : Begin) (old new : View) (made : List ℕ) (deed : Deed
     (added : (row : ℕ) → amount row new.numbers.added ≡ amount row old.numbers.added + adds row move)
     (grown : (row : ℕ) → words_in old row + adds row move ≤ words_in new row)
     (at : ((row : ℕ) → row < begin.rows → words_in new row ≡ words_in old row + adds row move) → IsAt begin.rows (words_in old) move)
-    → (exact_move begin old new made deed move told reserves added grown at).moves ≡ move ∷ []
+    (between : LiesBetween begin.rows (words_in old) (words_in new) move)
+    → (exact_move begin old new made deed move told reserves added grown at between).moves ≡ move ∷ []
 unfolding exact_move
-move_moves begin old new made deed move told reserves added grown at = refl
+move_moves begin old new made deed move told reserves added grown at between = refl
 
 -- At the end of a run that one worker did alone, what the words grew by is what the moves added: the moves are the machine's.
 pub alone : (begin : Begin) (first now : View) (made : List ℕ) (deeds : List Deed) (last : List Move) → (a : Exact begin first now made deeds last)

@@ -10,7 +10,7 @@ ghost use Rattle.run_promise.specs.Deed.{Deed};
 ghost use Rattle.sdls_base.specs.declared.entry.Entry.{Entry};
 ghost use Rattle.unit_state.specs.State.{KeepsRules};
 ghost use Rattle.unit_state.specs.History.{after};
-ghost use Rattle.run_promise.specs.Machine.{adds, IsAt, Move, Runs};
+ghost use Rattle.run_promise.specs.Machine.{adds, IsAt, LiesBetween, Move, Runs};
 ghost use Rattle.run_promise.specs.Serving.{AreServed, SameTasks, ServesAll};
 ghost use Rattle.law_workers.specs.Exact.{Exact, IsOfMoves, words_in};
 ghost use Rattle.run_promise.specs.Moves.{Tells};
@@ -33,6 +33,7 @@ pub fn exact_move()
         → ((row : ℕ) → words_in old row + adds row move ≤ words_in new row)
         → (((row : ℕ) → row < begin.rows → words_in new row ≡ words_in old row + adds row move)
         → IsAt begin.rows (words_in old) move)
+        → LiesBetween begin.rows (words_in old) (words_in new) move
         → Exact begin old new made (deed ∷ []) [] }
 {}
 

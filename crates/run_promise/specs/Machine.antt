@@ -1,5 +1,5 @@
 -- The words of rows as a machine that records move, one after the other (profile).
-use Rattle.std.specs.Prelude.{◌≡◌, ⊤, ℕ, ◌+◌, ◌-◌, ◌<◌, ◌==◌, if◌then◌else◌, List, [], ◌∷◌}
+use Rattle.std.specs.Prelude.{◌≡◌, ⊤, ℕ, ◌+◌, ◌-◌, ◌<◌, ◌≤◌, ◌==◌, if◌then◌else◌, max, List, [], ◌∷◌}
 
 -- What a record did to a row's word `next`: nothing, or it found the word and left it, drew a number, raised the word
 -- to a number, or drew one at or past the key's end.
@@ -30,6 +30,15 @@ IsAt rows words (Found row word) = (row < rows) × (word ≡ words row)
 IsAt rows words (Drew row number) = (row < rows) × (number ≡ words row)
 IsAt rows words (Raised row word number) = (row < rows) × (word ≡ words row)
 IsAt rows words (Overdrew row number) = ⊥
+
+-- The move found the word of one of so many rows, no lower than the first of these words, and left it no higher than the
+-- last.
+abbrev pub LiesBetween : ℕ → (ℕ → ℕ) → (ℕ → ℕ) → Move → Type 0
+LiesBetween rows first last Kept = ⊤
+LiesBetween rows first last (Found row word) = (row < rows) × (first row ≤ word) × (word ≤ last row)
+LiesBetween rows first last (Drew row number) = (row < rows) × (first row ≤ number) × (number < last row)
+LiesBetween rows first last (Raised row word number) = (row < rows) × (first row ≤ word) × (max word number ≤ last row)
+LiesBetween rows first last (Overdrew row number) = (row < rows) × (first row ≤ number) × (number < last row)
 
 abbrev pub word_after : (ℕ → ℕ) → Move → ℕ → ℕ
 word_after words move row = words row + adds row move
