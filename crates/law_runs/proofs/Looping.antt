@@ -288,7 +288,7 @@ module _ (start before now : SourceSeen) (standing : Standing) (begin : Begin) (
     pub moved_now : MovesWords begin first w (records_of (places_of (way.items ++ r.more))) (deeds_from (places_of (way.items ++ r.more)) (way.answers ++ next))
     moved_now = subst (λ (ps : List Place). MovesWords begin first w (records_of ps) (deeds_from ps (way.answers ++ next))) (sym all_places)
         (words_segment begin first v mid w (places_of way.items) (places_from (counted first_count way.items) r.more) way.answers next
-        (counted first_count way.items).segment records r.records_are r.of way.each way.moved
+        (counted first_count way.items).segment records r.records_are r.of way.each way.done.does.grows way.moved
         (grows_further v mid w (own_does begin first v mid w (places_of way.items) (places_from (counted first_count way.items) r.more) way.answers next
         (counted first_count way.items).segment way.done way.each whole_v segment handled h.puts).grows h.puts.does.grows)
         (h.moved (counted first_count way.items).segment) h.puts.does.grows h.same_numbers)

@@ -326,6 +326,7 @@ module _ {O : Type 0} (told : Bool) (trace : O → Trace) (faults puts : O → �
               moved = record {
                 move_of = λ index. Kept;
                 told = λ k d low. absurd (omega arith);
+                between = λ index. tt;
                 word = λ row low.
                     let a : slice_index (marks_from state 0 MOST_KEYS) row ≡ mark_at state (0 + row) = marks_found state 0 MOST_KEYS row low in
                     let same : 0 + row ≡ row = omega arith in

@@ -11,8 +11,9 @@ use Rattle.record_io.specs.declared.answers.Answer.{Answer}
 use Rattle.record_io.specs.declared.records.Record.{Record}
 use Rattle.record_io.specs.Places.{Place, records_of}
 use Rattle.run_promise.specs.Begin.{Begin}
-use Rattle.run_promise.specs.Machine.{Move}
+use Rattle.run_promise.specs.Machine.{LiesBetween, Move}
 use Rattle.run_promise.specs.Moves.{Tells}
+use Rattle.run_promise.specs.Numbers.{mark_at}
 use Rattle.run_promise.specs.Call.{CallSeen}
 use Rattle.run_promise.specs.Account.{Account, deeds_from, deeds_in}
 use Rattle.run_promise.specs.Words.{MovedWords}
@@ -21,16 +22,17 @@ use Rattle.law_workers.specs.Work.{indexed}
 use Rattle.law_workers.specs.Deeds.{deeds_of}
 use Rattle.law_workers.specs.Opened.{IsJustOpened}
 use Rattle.law_workers.specs.Words.{MovesWords}
-use Rattle.law_workers.proofs.Machines.{tell_more}
-use Rattle.law_workers.proofs.Words.{move_found, move_in, moves_summed, words_on, words_then}
+use Rattle.law_workers.specs.Exact.{words_in}
+use Rattle.law_workers.proofs.Machines.{lies_wider, tell_more}
+use Rattle.law_workers.proofs.Words.{all_moved, move_found, move_in, moves_summed, words_on, words_then}
 use Rattle.law_runs.proofs.Placed.{deeds_both, deeds_of_segment, records_both}
 
 -- One segment more, handled from one view to the next, and its answers put, which added nothing.
 pub words_segment : (begin : Begin) (first v mid w : View) (places more : List Place) (answers next : List Answer) (number : ℕ) (records : List Record)
     → records ≡ records_of more → All (λ (place : Place). place.segment ≡ number) more → length answers ≡ length places
-    → MovesWords begin first v (records_of places) (deeds_from places answers) → KnowsMore v w → MovesWords begin v mid records (deeds_of number records next)
+    → KnowsMore first v → MovesWords begin first v (records_of places) (deeds_from places answers) → KnowsMore v w → MovesWords begin v mid records (deeds_of number records next)
     → KnowsMore mid w → w.numbers ≡ mid.numbers → MovesWords begin first w (records_of (places ++ more)) (deeds_from (places ++ more) (answers ++ next))
-words_segment begin first v mid w places more answers next number records are of each before grows segment put same =
+words_segment begin first v mid w places more answers next number records are of each earlier before grows segment put same =
     let here : MovesWords begin v mid (records_of more) (deeds_of number (records_of more) next) =
     subst (λ (rs : List Record). MovesWords begin v mid rs (deeds_of number rs next)) are segment in
     let own : MovesWords begin v mid (records_of more) (deeds_from more next) =
@@ -38,7 +40,7 @@ words_segment begin first v mid w places more answers next number records are of
     let on : MovesWords begin v w (records_of more) (deeds_from more next) = words_on begin v mid w (records_of more) (deeds_from more next) own put
     (λ row. ap (λ (n : Numbers). amount row n.added) same) in
     let both : MovesWords begin first w (records_of places ++ records_of more) (deeds_from places answers ++ deeds_from more next) =
-    words_then begin first v w (records_of places) (records_of more) (deeds_from places answers) (deeds_from more next) before grows on in
+    words_then begin first v w (records_of places) (records_of more) (deeds_from places answers) (deeds_from more next) earlier before grows on in
     subst (λ (rs : List Record). MovesWords begin first w rs (deeds_from (places ++ more) (answers ++ next))) (sym (records_both places more))
     (subst (MovesWords begin first w (records_of places ++ records_of more)) (sym (deeds_both places more answers next each)) both)
 
@@ -59,6 +61,13 @@ moved_call call account begin first now words releases rows opened stand once m 
       (tell_more begin.start (entries_in now) releases (slice_index_or (deeds_in account) k d ∷ []) (move ∷ []) (tells, tt)).0 in
       subst (λ (mv : Move). Tells begin.start call.entries (slice_index_or (deeds_in account) k d) mv) (sym found)
       (subst (λ (es : List Entry). Tells begin.start es (slice_index_or (deeds_in account) k d) move) (sym is) later);
+  between = λ index.
+      let of : LiesBetween begin.rows (words_in first) (words_in now) (move_in m.moves index) =
+      all_moved (LiesBetween begin.rows (words_in first) (words_in now)) m.moves tt m.between index in
+      subst (λ (n : ℕ). LiesBetween n (mark_at begin.start) (slice_index words) (move_in m.moves index)) rows
+      (lies_wider begin.rows (words_in first) (words_in now) (mark_at begin.start) (slice_index words)
+      (λ row low. let n = opened.nexts row low in omega arith)
+      (λ row low. let r = rows in let s = (stand row (omega arith)).seen in omega arith) (move_in m.moves index) of);
   word = λ row low.
       let r = rows in
       let g = (stand row low).grown in

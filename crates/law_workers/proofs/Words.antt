@@ -12,7 +12,7 @@ use Rattle.counter_table.specs.declared.view.View.{View}
 use Rattle.counter_table.specs.Numbers.{amount}
 use Rattle.run_promise.specs.Begin.{Begin}
 use Rattle.run_promise.specs.Deed.{Deed, deed_of}
-use Rattle.run_promise.specs.Machine.{Move, Kept, adds, adds_all}
+use Rattle.run_promise.specs.Machine.{Move, Kept, LiesBetween, adds, adds_all}
 use Rattle.run_promise.specs.Moves.{TellAll}
 use Rattle.run_promise.specs.Words.{adds_each}
 use Rattle.law_workers.specs.Views.{KnowsMore, entries_in, meeting, starting}
@@ -20,10 +20,11 @@ use Rattle.law_workers.specs.Work.{indexed}
 use Rattle.law_workers.specs.Deeds.{deeds_of}
 use Rattle.law_workers.specs.Lanes.{Part, meeting_all, of_lane, parts_deeds, parts_tasks}
 use Rattle.law_workers.specs.Alone.{MovedExactly}
+use Rattle.law_workers.specs.Exact.{words_in}
 use Rattle.law_workers.specs.Words.{MovesWords, TellsOne, moves_add, moves_of}
 use Rattle.law_workers.proofs.Logs.{indexed_both}
 use Rattle.law_workers.proofs.Lanes.{indexed_lanes}
-use Rattle.law_workers.proofs.Machines.{amount-append, tell_on}
+use Rattle.law_workers.proofs.Machines.{amount-append, lies_wider, tell_on}
 
 moves_both : (index : ℕ) (a b : List (ℕ × Move)) → moves_of index (a ++ b) ≡ moves_of index a + moves_of index b
 moves_both index [] b = omega arith
@@ -44,6 +45,13 @@ told_on : (begin : Begin) (v w : View) → KnowsMore v w → (moves : List (ℕ 
     → TellsOne begin.start (entries_in w) moves d
 told_on begin v w grows moves d (move, there, tells) = (move, there, (tell_on begin v w grows (d ∷ []) (move ∷ []) (tells, tt)).0)
 
+-- the moves lie between the words of an earlier view and of a later one
+lie_on : (begin : Begin) (u v w z : View) → ((row : ℕ) → words_in u row ≤ words_in v row) → ((row : ℕ) → words_in w row ≤ words_in z row)
+    → (moves : List (ℕ × Move)) → All (λ (own : ℕ × Move). LiesBetween begin.rows (words_in v) (words_in w) own.1) moves
+    → All (λ (own : ℕ × Move). LiesBetween begin.rows (words_in u) (words_in z) own.1) moves
+lie_on begin u v w z under over moves h k d low = lies_wider begin.rows (words_in v) (words_in w) (words_in u) (words_in z) (λ row few. under row) (λ row few. over row)
+    (slice_index_or moves k d).1 (h k d low)
+
 -- ---- in two parts, and while the views grow
 
 -- nothing was done
@@ -52,13 +60,14 @@ words_nothing begin v tasks = record {
   moves = [];
   few = λ index. omega arith;
   told = λ k d low. absurd (omega arith);
+  between = λ k d low. absurd (omega arith);
   added = λ row. omega arith;
 }
 
 -- one part after the other
-pub words_then : (begin : Begin) (u v w : View) (ts us : List Record) (ds es : List Deed) → MovesWords begin u v ts ds → KnowsMore v w
+pub words_then : (begin : Begin) (u v w : View) (ts us : List Record) (ds es : List Deed) → KnowsMore u v → MovesWords begin u v ts ds → KnowsMore v w
     → MovesWords begin v w us es → MovesWords begin u w (ts ++ us) (ds ++ es)
-words_then begin u v w ts us ds es a grows b = record {
+words_then begin u v w ts us ds es low_grows a grows b = record {
   moves = a.moves ++ b.moves;
   few = λ index.
       let p = a.few index in let q = b.few index in
@@ -67,6 +76,9 @@ words_then begin u v w ts us ds es a grows b = record {
       (λ k d low. told_left begin.start (entries_in w) a.moves b.moves (slice_index_or ds k d)
       (told_on begin v w grows a.moves (slice_index_or ds k d) (a.told k d low)))
       (λ k d low. told_right begin.start (entries_in w) a.moves b.moves (slice_index_or es k d) (b.told k d low));
+  between = All-append (λ (own : ℕ × Move). LiesBetween begin.rows (words_in u) (words_in w) own.1) a.moves b.moves
+      (lie_on begin u u v w (λ row. omega arith) grows.nexts a.moves a.between)
+      (lie_on begin u v w w low_grows.nexts (λ row. omega arith) b.moves b.between);
   added = λ row. let p = a.added row in let q = b.added row in let c = adds_both row a.moves b.moves in omega arith;
 }
 
@@ -77,6 +89,7 @@ words_on begin u v w ts ds a grows same = record {
   moves = a.moves;
   few = a.few;
   told = λ k d low. told_on begin v w grows a.moves (slice_index_or ds k d) (a.told k d low);
+  between = lie_on begin u u v w (λ row. omega arith) grows.nexts a.moves a.between;
   added = λ row. let p = a.added row in let q = same row in omega arith;
 }
 
@@ -110,6 +123,13 @@ told_numbered start es s (t ∷ ts) (x ∷ xs) (m ∷ ms) last h =
     (λ k d low. told_right start es ((t.index, m) ∷ []) (numbered ts (ms ++ last)) (slice_index_or (deeds_of s ts xs) k d)
     (told_numbered start es s ts xs ms last h.1 k d low))
 
+-- what holds of the moves holds of them behind their numbers
+all_numbered : (P : Move → Type 0) (ts : List Record) (ms : List Move) → All P ms → All (λ (own : ℕ × Move). P own.1) (numbered ts ms)
+all_numbered P [] ms h = λ k d low. absurd (omega arith)
+all_numbered P (t ∷ ts) [] h = λ k d low. absurd (omega arith)
+all_numbered P (t ∷ ts) (m ∷ ms) h = All-cons (λ (own : ℕ × Move). P own.1) (t.index, m) (numbered ts ms) (h zero m (omega arith))
+    (all_numbered P ts ms (λ k d low. h (suc k) d (omega arith)))
+
 told_counted : (start : State) (es : List Entry) (ds : List Deed) (ms : List Move) → TellAll start es ds ms → length ms ≡ length ds
 told_counted start es [] [] h = refl
 told_counted start es [] (m ∷ ms) h = absurd h
@@ -137,6 +157,7 @@ words_exactly begin u v s ts xs a =
       moves = numbered ts (a.exact.moves ++ a.last);
       few = λ index. few_numbered index ts (a.exact.moves ++ a.last);
       told = told_numbered begin.start (entries_in v) s ts xs a.exact.moves a.last a.exact.told;
+      between = all_numbered (LiesBetween begin.rows (words_in u) (words_in v)) ts (a.exact.moves ++ a.last) a.exact.between;
       added = λ row.
           let h = a.exact.added row in let g = adds_numbered row ts (a.exact.moves ++ a.last) low in omega arith;
     }
@@ -144,10 +165,11 @@ words_exactly begin u v s ts xs a =
 -- ---- the lanes of a segment, at once
 
 -- what the lanes' records moved the words by, as the last view knows it
-record LanesMoved (begin : Begin) (now last : View) (s : ℕ) (tasks : List Record) (parts : List Part) : Type 0 where
+record LanesMoved (begin : Begin) (base now last : View) (s : ℕ) (tasks : List Record) (parts : List Part) : Type 0 where
   pub moves : List (ℕ × Move)
   pub few : (index : ℕ) → moves_of index moves ≤ indexed index (parts_tasks tasks parts)
   pub told : All (TellsOne begin.start (entries_in last) moves) (parts_deeds s tasks parts)
+  pub between : All (λ (own : ℕ × Move). LiesBetween begin.rows (words_in base) (words_in last) own.1) moves
   pub added : (row : ℕ) → amount row (meeting_all now parts).numbers.added ≡ amount row now.numbers.added + moves_add row moves
 
 module _ (begin : Begin) (base last : View) (s : ℕ) (tasks : List Record) where
@@ -156,11 +178,12 @@ module _ (begin : Begin) (base last : View) (s : ℕ) (tasks : List Record) wher
   LaneMoved part = MovesWords begin (starting base) part.knows (of_lane part.number tasks) (deeds_of s (of_lane part.number tasks) part.answers)
 
   lanes_moved : (parts : List Part) (now : View) → All LaneMoved parts → All (λ (part : Part). KnowsMore part.knows last) parts
-      → LanesMoved begin now last s tasks parts
+      → LanesMoved begin base now last s tasks parts
   lanes_moved [] now did grows = record {
     moves = [];
     few = λ index. omega arith;
     told = λ k d low. absurd (omega arith);
+    between = λ k d low. absurd (omega arith);
     added = λ row. omega arith;
   }
   lanes_moved (part ∷ parts) now did grows =
@@ -179,6 +202,8 @@ module _ (begin : Begin) (base last : View) (s : ℕ) (tasks : List Record) wher
             (λ k d low. told_left begin.start (entries_in last) own.moves rest.moves (slice_index_or ds k d)
             (told_on begin part.knows last more own.moves (slice_index_or ds k d) (own.told k d low)))
             (λ k d low. told_right begin.start (entries_in last) own.moves rest.moves (slice_index_or (parts_deeds s tasks parts) k d) (rest.told k d low));
+        between = All-append (λ (own : ℕ × Move). LiesBetween begin.rows (words_in base) (words_in last) own.1) own.moves rest.moves
+            (lie_on begin base (starting base) part.knows last (λ row. omega arith) more.nexts own.moves own.between) rest.between;
         added = λ row.
             let p : amount row part.knows.numbers.added ≡ 0 + moves_add row own.moves = own.added row in
             let q = rest.added row in
@@ -198,6 +223,7 @@ module _ (begin : Begin) (base last : View) (s : ℕ) (tasks : List Record) wher
         moves = all.moves;
         few = λ index. let a = all.few index in let b = indexed_lanes index tasks parts apart in omega arith;
         told = λ k d low. All-contains (TellsOne begin.start (entries_in last) all.moves) (parts_deeds s tasks parts) (slice_index_or deeds k d) all.told (among k d low);
+        between = all.between;
         added = λ row. let a = all.added row in let f = from row in let t = to row in omega arith;
       }
 
@@ -207,6 +233,15 @@ module _ (begin : Begin) (base last : View) (s : ℕ) (tasks : List Record) wher
 abbrev pub move_in : List (ℕ × Move) → ℕ → Move
 move_in [] index = Kept
 move_in (own ∷ moves) index = cond (eqb own.0 index) own.1 (move_in moves index)
+
+-- what holds of all moves, and of none, holds of the move of each number
+pub all_moved : (P : Move → Type 0) (moves : List (ℕ × Move)) → P Kept → All (λ (own : ℕ × Move). P own.1) moves → (index : ℕ) → P (move_in moves index)
+all_moved P [] none h index = none
+all_moved P (own ∷ moves) none h index = go (eqb own.0 index) (h zero own (omega arith)) (all_moved P moves none (λ k d low. h (suc k) d (omega arith)) index)
+  where
+    go : (b : Bool) → P own.1 → P (move_in moves index) → P (cond b own.1 (move_in moves index))
+    go true first rest = first
+    go false first rest = rest
 
 none_moved : (moves : List (ℕ × Move)) (index : ℕ) → moves_of index moves ≡ 0 → move_in moves index ≡ Kept
 none_moved [] index h = refl

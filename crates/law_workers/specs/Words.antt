@@ -8,10 +8,11 @@ use Rattle.counter_table.specs.declared.view.View.{View}
 use Rattle.counter_table.specs.Numbers.{amount}
 use Rattle.run_promise.specs.Begin.{Begin}
 use Rattle.run_promise.specs.Deed.{Deed}
-use Rattle.run_promise.specs.Machine.{Move, adds}
+use Rattle.run_promise.specs.Machine.{Move, adds, LiesBetween}
 use Rattle.run_promise.specs.Moves.{Tells}
 use Rattle.law_workers.specs.Views.{entries_in}
 use Rattle.law_workers.specs.Work.{indexed}
+use Rattle.law_workers.specs.Exact.{words_in}
 
 -- how many of the moves, which stand behind the numbers of their records, are of the record with this number
 abbrev pub moves_of : ℕ → List (ℕ × Move) → ℕ
@@ -35,4 +36,5 @@ pub record MovesWords (begin : Begin) (old new : View) (tasks : List Record) (de
   pub moves : List (ℕ × Move)
   pub few : (index : ℕ) → moves_of index moves ≤ indexed index tasks
   pub told : All (TellsOne begin.start (entries_in new) moves) deeds
+  pub between : All (λ own. LiesBetween begin.rows (words_in old) (words_in new) own.1) moves
   pub added : (row : ℕ) → amount row new.numbers.added ≡ amount row old.numbers.added + moves_add row moves
