@@ -1,5 +1,6 @@
 -- Each step keeps the rule's part on the turn and the book.
 use Rattle.std.proofs.Common.{◌≡◌, ◌≢◌, ◌⊎◌, ℕ, zero, suc, ◌+◌, ◌-◌, ◌<◌, ◌≤◌, max, true, false, Bool, ◌||◌, List, [], ◌∷◌, ◌++◌, set, get_or, length, sym, refl, ap, ◌∙◌, subst, inl, inr, ⊎_elim, le_trans, arith, Some, Option, if◌then◌else◌}
+use Rattle.std.proofs.lemmas.Bool.{cases_lt}
 use Rattle.std.proofs.lemmas.Bool.Decides.{nat_tests}
 use mathlib.Core.Option as slot
 use mathlib.Core.Option.{some, some-injective}
@@ -9,12 +10,13 @@ use lib.ListN.{get_elem?}
 use Rattle.atomic_table.proofs.Lists.{at_set, set_here, set_else}
 use Rattle.counter_table.specs.declared.view.Known.{Known}
 use Rattle.counter_table.specs.declared.view.Turn.{Turn}
-use Rattle.counter_table.specs.Known.{known_mark, Earlier, IsSparing, pieces, LowersNoMark, MayGive, MayFill, unknown, later}
+use Rattle.sdls_outside.specs.Faults.{Rose}
+use Rattle.counter_table.specs.Known.{known_mark, entries, Earlier, IsSparing, pieces, LowersNoMark, MayGive, MayFill, unknown, later}
 use Rattle.counter_table.specs.Turn.{places, stands, no_turn, beginner, merged, taking, giving, filling, learning, seeing, turning}
 use Rattle.sdls_base.specs.Numbers.{one_if, total, once_below}
 use Rattle.counter_table.specs.Rule.{greatest, limit_at, IsReached, KnowsBook, IsAtHome, IsUnfilled, IsOut, TurnFits}
 use Rattle.counter_table.proofs.Sums.{at_below, greatest_at, greatest_least, total-append, total_set, total_at, total_two, total_only, each_set, each_snoc, each_apart, zero_of}
-use Rattle.counter_table.proofs.Knowing.{earlier_itself, earlier_further, earlier_length, earlier_first, earlier_later, sparing_itself, sparing_further, sparing_later, no_pieces, longer_length, stands-append, places_next, places_low, ended_knows, beginner_knows}
+use Rattle.counter_table.proofs.Knowing.{earlier_itself, earlier_further, earlier_length, earlier_first, earlier_later, sparing_itself, sparing_further, sparing_later, rose_left, rose_right, no_pieces, longer_length, stands-append, places_next, places_low, ended_knows, beginner_knows}
 
 -- a count that some worker knows is one that some worker knows after one of them came to know as much at least
 module _ (f : Turn → ℕ) (turns : List Turn) where
@@ -243,7 +245,7 @@ module _ {B : Type 0} (told : B → Known) (count : ℕ) (words : List ℕ) (hom
               (λ j u e. let old = fits.each j u e in
               record {
                 earlier = earlier_further u.known book (told b) old.earlier may'.earlier may'.opening;
-                sparing = λ f. sparing_further u.known book (told b) (old.sparing f) may'.sparing;
+                sparing = λ f. sparing_further u.known book (told b) old.earlier may'.earlier may'.opening (old.sparing f) may'.sparing;
                 epoch = let x = old.epoch in let c = may'.changes in omega arith;
                 opening = λ f. ((old.opening f).0, (old.opening f).1 ∙ sym may'.opening);
                 blank = old.blank;
@@ -527,15 +529,33 @@ module _ {B : Type 0} (told : B → Known) (count : ℕ) (words : List ℕ) (hom
         let k = fits.each id v at in let j = fits.each other w there in
         sparing_later (if v.filled then v.known.opening else w.known.opening) v.known w.known book
         (λ le. mine v.filled w.filled refl refl full le) (λ lt. j.sparing (filled_by w j (omega arith)))
+        (calm v.filled w.filled refl refl full)
       where
         mine : (f g : Bool) → v.filled ≡ f → w.filled ≡ g → (f || g) ≡ true → length w.known.log ≤ length v.known.log
             → book.put_faults + pieces v.known.log ≤ max v.known.put_faults w.known.put_faults + pieces book.log
-        mine true g ef eg full le = let h = (fits.each id v at).sparing ef in omega arith
+        mine true g ef eg full le = let h = ((fits.each id v at).sparing ef).0 in omega arith
         mine false true ef eg full le =
             let z : length v.known.log ≡ 0 = ap (λ z. length z.log) ((fits.each id v at).blank ef) in
             let a = no_pieces v.known.log z in let b = no_pieces w.known.log (omega arith) in
-            let h = (fits.each other w there).sparing eg in omega arith
+            let h = ((fits.each other w there).sparing eg).0 in omega arith
         mine false false ef eg full le = absurd (false≢true full)
+
+        -- who knows nothing of a book knows of no put that failed
+        none_failed : (u : Turn) → KnowsBook book filled u → u.filled ≡ false → u.known.put_faults ≡ 0
+        none_failed u k e = ap (λ (z : Known). z.put_faults) (k.blank e)
+
+        calm : (f g : Bool) → v.filled ≡ f → w.filled ≡ g → (f || g) ≡ true → Rose book.opening.faults book.faults
+            → book.put_faults ≤ max v.known.put_faults w.known.put_faults → entries book.log ≤ book.standing
+            → Rose book.opening.faults (max v.known.faults w.known.faults)
+        calm true g ef eg full rose low all = elim (cases_lt v.known.put_faults w.known.put_faults) [
+          | inr most ↦ rose_left book.opening.faults v.known.faults w.known.faults (((fits.each id v at).sparing ef).1 rose (omega arith) all)
+          | inl less ↦ rose_right book.opening.faults v.known.faults w.known.faults
+              (((fits.each other w there).sparing (is_true w.filled (λ e. let z = none_failed w (fits.each other w there) e in omega arith))).1 rose (omega arith) all)
+        ]
+        calm false true ef eg full rose low all =
+            let z = none_failed v (fits.each id v at) ef in
+            rose_right book.opening.faults v.known.faults w.known.faults (((fits.each other w there).sparing eg).1 rose (omega arith) all)
+        calm false false ef eg full rose low all = absurd (false≢true full)
 
     opening_both : (h f g : Bool) → v.holds ≡ h → v.filled ≡ f → w.filled ≡ g → (f || g) ≡ true → (filled ≡ true) × ((known_of h f).opening ≡ book.opening)
     opening_both true true g eh ef eg k = (fits.each id v at).opening ef

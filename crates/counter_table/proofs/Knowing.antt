@@ -63,10 +63,22 @@ earlier_further a b c ab bc same =
 
 -- no more puts failed than pieces were put
 pub sparing_itself : (k : Known) → IsSparing k k
-sparing_itself k = omega arith
+sparing_itself k = (omega arith, λ rose low all. rose)
 
-pub sparing_further : (a b c : Known) → IsSparing a b → IsSparing b c → IsSparing a c
-sparing_further a b c ab bc = omega arith
+pub sparing_further : (a b c : Known) → Earlier a b → Earlier b c → c.opening ≡ b.opening → IsSparing a b → IsSparing b c → IsSparing a c
+sparing_further a b c first next same ab bc =
+    let one = ab.0 in
+    let two = bc.0 in
+    let f = first.put_faults in
+    let n = next.put_faults in (
+      omega arith,
+      λ rose low all.
+          let o : c.opening.faults ≡ b.opening.faults = ap (λ (z : Opening). z.faults) same in
+          let mid : Rose c.opening.faults b.faults = bc.1 rose (omega arith) all in
+          let log = next.stopped mid in
+          let stood = next.stood mid in
+          subst (λ (z : ℕ). Rose z a.faults) (sym o) (ab.1 (subst (λ (z : ℕ). Rose z b.faults) o mid) (omega arith) (omega arith)),
+    )
 
 -- a log with no line has no piece
 pub no_pieces : (log : List Logged) → length log ≡ 0 → pieces log ≡ 0
@@ -75,13 +87,21 @@ no_pieces (line ∷ log) e = absurd (omega arith)
 
 -- also by what two workers know together
 pub sparing_later : (o : Opening) (a b k : Known) → (length b.log ≤ length a.log → k.put_faults + pieces a.log ≤ max a.put_faults b.put_faults + pieces k.log) → (length a.log < length b.log → IsSparing b k)
+    → (Rose k.opening.faults k.faults → k.put_faults ≤ max a.put_faults b.put_faults → entries k.log ≤ k.standing → Rose k.opening.faults (max a.faults b.faults))
     → IsSparing (later o a b) k
-sparing_later o a b k ak bk = go (ltb (length a.log) (length b.log)) refl
+sparing_later o a b k ak bk calm = (go (ltb (length a.log) (length b.log)) refl, calm)
   where
     go : (t : Bool) → ltb (length a.log) (length b.log) ≡ t
         → k.put_faults + pieces (if t then b.log else a.log) ≤ max a.put_faults b.put_faults + pieces k.log
-    go true is = let lt : length a.log < length b.log = grind (arith, nat_tests) in let h = bk lt in omega arith
+    go true is = let lt : length a.log < length b.log = grind (arith, nat_tests) in let h = (bk lt).0 in omega arith
     go false is = let le : length b.log ≤ length a.log = grind (arith, nat_tests) in let h = ak le in omega arith
+
+-- what had risen of one count has of the greater of two
+pub rose_left : (before one other : ℕ) → Rose before one → Rose before (max one other)
+rose_left before one other rose = omega arith
+
+pub rose_right : (before one other : ℕ) → Rose before other → Rose before (max one other)
+rose_right before one other rose = omega arith
 
 pub earlier_length : (a b : Known) → Earlier a b → length a.log ≤ length b.log
 earlier_length a b e = let h : length b.log ≡ length (a.log ++ e.log.0) = ap length e.log.1 in let l = length-append a.log e.log.0 in omega arith

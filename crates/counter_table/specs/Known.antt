@@ -39,9 +39,15 @@ pub record Earlier (one other : Known) : Type 0 where
   pub stopped : Rose other.opening.faults one.faults → entries other.log ≡ entries one.log
   pub stood : Rose other.opening.faults one.faults → other.standing ≡ one.standing
 
--- from the one to the other no more puts failed than pieces were put
+-- from the one to the other no fault came, where no put failed and all entries stand
+abbrev pub IsCalm : Known → Known → Type 0
+IsCalm one other = Rose other.opening.faults other.faults → other.put_faults ≤ one.put_faults
+    → entries other.log ≤ other.standing → Rose other.opening.faults one.faults
+
+-- from the one to the other no more puts failed than pieces were put, and only so, or by an entry that was left out, did
+-- a fault come
 abbrev pub IsSparing : Known → Known → Type 0
-IsSparing one other = other.put_faults + pieces one.log ≤ one.put_faults + pieces other.log
+IsSparing one other = (other.put_faults + pieces one.log ≤ one.put_faults + pieces other.log) × IsCalm one other
 
 -- no mark fell
 abbrev pub LowersNoMark : Known → Known → Type 0

@@ -23,6 +23,7 @@ pub full_stays : (begin : Begin) (u v w z : View) (task : Record) → KnowsMore 
 full_stays begin u v w z task low high is none = record {
   full = (let (rest, more) = grown_entries w z high in let size : length (entries_in z) ≡ length (entries_in w) + length rest = ap length more ∙ length-append (entries_in w) rest in
       let few = is.full in omega arith);
+  stood = let a = is.stood in let b = high.earlier.standing in omega arith;
   not_failed = λ risen. is.not_failed (
       let f = low.earlier.faults in
       subst (λ (o : Opening). Rose o.faults v.turn.known.faults) (sym low.opening) (omega arith));

@@ -93,7 +93,7 @@ module _ {O : Type 0} (told : Bool) (trace : O → Trace) (faults puts : O → �
       stopped = λ _. refl;
       stood = λ _. refl;
     };
-    sparing = omega arith;
+    sparing = (omega arith, λ rose low all. rose);
     opening = refl;
     epochs = l.later;
     low = omega arith;

@@ -312,6 +312,10 @@ module _ {O : Type 0} (told : Bool) (trace : O → Trace) (faults puts : O → �
           left_unanswered,
           record {
             full = omega arith;
+            stood =
+                let a = full_stand not full in
+                let b : w.turn.known.standing ≡ given.standing = ap (λ (t : Turn). t.known.standing) c.visits.takes.turn in
+                let d : given.standing ≡ old.standing = ap (λ (b : BookView O). b.standing) same in omega arith;
             not_failed = λ risen. stage.clean not (risen_found told trace faults puts begin found given u w.turn c.began c.free c.visits
                 (subst (λ (k : Known). Rose k.opening.faults k.faults) (sym c.known) risen));
             due = ⊎_elim inl (λ may. inr (subst (λ (p : ℕ). MayAppend near course p task) (full_stand not full) may)) due;

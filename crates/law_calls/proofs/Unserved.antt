@@ -29,7 +29,7 @@ same_turn v = record {
     stopped = λ _. refl;
     stood = λ _. refl;
   };
-  sparing = omega arith;
+  sparing = (omega arith, λ rose low all. rose);
   opening = refl;
   epochs = omega arith;
   low = omega arith;

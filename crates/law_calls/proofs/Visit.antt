@@ -21,7 +21,7 @@ use Rattle.unit_book.specs.Book.{BookView}
 use Rattle.unit_book.proofs.KeptLaws.{kept_whole, bounds_of}
 use Rattle.shared_unit.specs.Told.{known_of_book}
 use Rattle.shared_unit.specs.Turn.{taking_once, Visits}
-use Rattle.shared_unit.proofs.Steps.{earlier_again}
+use Rattle.shared_unit.proofs.Steps.{earlier_again, sparing_again}
 use Rattle.run_promise.specs.Begin.{Begin}
 use Rattle.law_workers.proofs.Histories.{row_kept_first, entries_both as both}
 use Rattle.law_workers.specs.Began.{BeganWith}
@@ -57,7 +57,8 @@ module _ {O : Type 0} (told : Bool) (trace : O → Trace) (faults puts : O → �
   -- no more puts failed than pieces were put
   pub sparing_seen : IsSparing v.known w.known
   sparing_seen = subst (λ (t : Turn). IsSparing v.known t.known) (sym turn_is)
-      (let a = visits.takes.follows.sparing in let b = visits.takes.sparing in omega arith)
+      (sparing_again v.known (known_of_book trace faults puts found) (known_of_book trace faults puts given) visits.takes.follows.earlier visits.takes.earlier
+      visits.takes.opening visits.takes.follows.sparing visits.takes.sparing)
 
   -- what is known afterwards
   pub log_is : w.known.log ≡ given.log

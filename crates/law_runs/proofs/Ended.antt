@@ -795,6 +795,9 @@ module _ {O : Type 0} (told : Bool) (trace : O → Trace) (faults puts : O → �
         let same : entries ≡ entries_in now = entries_split ∙ ap (λ (l : List Entry). entries_in now ++ l) none ∙ append-nil (entries_in now) in
         record {
           full = (let a = f.full in let b = ap length same in let d = entries_most in omega arith);
+          not_failed = λ rose. f.not_failed (let b = ap length same in let d = entries_most in omega arith)
+              (subst (λ (n : ℕ). Rose n now.turn.known.faults) (sym (ran.known_first ∙ ran.same_faults))
+              (subst (λ (n : ℕ). Rose call.site.faults n) (sym ran.known) rose));
           place = f.place;
           first = f.first_without;
           due = λ is_told plan state shows. due_at f same is_told plan state shows f.due;

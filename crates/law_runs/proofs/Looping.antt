@@ -338,7 +338,7 @@ module _ (start before now : SourceSeen) (standing : Standing) (begin : Begin) (
           most = omega arith;
         }
 
-    pub full_on : IsFullSegment begin v mid records next → StopsAtFullHistory begin first w (places_of (way.items ++ r.more)) (way.answers ++ next)
+    pub full_on : IsFullSegment begin v mid w records next → StopsAtFullHistory begin first w (places_of (way.items ++ r.more)) (way.answers ++ next)
     full_on f =
         let (place, there, same) = place_of_task (places_from (counted first_count way.items) r.more) (length next) f.task
         (subst (λ (rs : List Record). slice_get rs (length next) ≡ Some f.task) r.records_are f.first_without) in
@@ -350,6 +350,7 @@ module _ (start before now : SourceSeen) (standing : Standing) (begin : Begin) (
               ∙ ap (λ (ps : List Place). slice_get ps (length (places_of way.items) + length next)) all_places
               ∙ get_behind (places_of way.items) (places_from (counted first_count way.items) r.more) (length next) ∙ there;
           full = (let a = f.full in let b = ap length h.puts.entries in omega arith);
+          not_failed = λ low. f.not_failed (let b = ap length h.puts.entries in omega arith);
           due = subst (λ (t : Record). (t.kind ≢ Protect) ⊎ MayAppend (IsBetween begin first w) (course_in begin w) MOST_ENTRIES t) (sym same) (due f.due);
           unmade = subst (λ (es : List Entry). HasNoEntry es place.task.index) (sym h.puts.entries)
               (none_at_all begin first v mid w (places_of way.items) (places_from (counted first_count way.items) r.more) way.answers next
@@ -397,7 +398,7 @@ module _ (start before now : SourceSeen) (standing : Standing) (begin : Begin) (
           answers = way.answers ++ next;
           last = last;
         }) came)
-        → PutsBy begin w failed_before failed_now (way.answers ++ next) came → (came ≡ ends.SessionFull → IsFullSegment begin v mid records next)
+        → PutsBy begin w failed_before failed_now (way.answers ++ next) came → (came ≡ ends.SessionFull → IsFullSegment begin v mid w records next)
         → HasCome start now begin first w failed_before failed_now stored_now came
     comes came failed_now reads answered put full = record {
       items = way.items ++ r.more;

@@ -128,8 +128,8 @@ module _ (call : CallSeen) (run : RunEnds call) where
   ]
 
   pub to_its_end : call.site_after.put_faults ≡ call.site.put_faults → call.status ≡ 5 → call.entries ≢ [] → run.account.came ≢ NoMemory
-      → run.account.came ≢ SessionFull → GoesToItsEnd call run
-  to_its_end same five some memory full = go run.account.came refl run.cause run.tells
+      → GoesToItsEnd call run
+  to_its_end same five some memory = go run.account.came refl run.cause run.tells
     where
       status_is : (end : RunEnd) → run.account.told ≡ end → call.status ≡ end_status end
       status_is end is = (put_due same).0 ∙ ap end_status is
@@ -141,7 +141,9 @@ module _ (call : CallSeen) (run : RunEnds call) where
       go (SiteFault count) is cause tells = absurd (some cause.2)
       go NoMemory is cause tells = absurd (memory is)
       go (NoState offset) is cause tells = absurd (some cause.1)
-      go SessionFull is cause tells = absurd (full is)
+      go SessionFull is cause (inl failed) = absurd (cause.not_failed failed.0)
+      go SessionFull is cause (inr (well, inl told_same)) = absurd (let s = status_is SessionFull (told_same ∙ is) in omega arith)
+      go SessionFull is cause (inr (well, inr (ended, which))) = absurd (let s : end_status SessionFull ≡ end_status Ended = ap end_status (sym is ∙ ended) in omega arith)
       go PutFailed is cause tells = absurd (omega (arith, cause, same))
 
   pub refused_left : IsTrue call.site.told → (offset : ℕ) → ShowsNone (image_at_entry call) offset → IsLeftRefused call

@@ -75,12 +75,15 @@ PutsBy begin now failed_before failed answers (ends.NoState offset) = ⊥
 PutsBy begin now failed_before failed answers ends.SessionFull = HasPut begin now failed_before failed answers
 PutsBy begin now failed_before failed answers ends.PutFailed = HasBroken begin now failed_before failed answers
 
--- the history is full, and the first record without an answer, of which no entry was made, needs one, or may need one
+-- The history is full, and the first record without an answer, of which no entry was made, needs one, or may need one;
+-- the site had not failed.
 pub record StopsAtFullHistory (begin : Begin) (first now : View) (places : List Place)
     (answers : List Answer) : Type 0 where
   pub place : Place
   pub first_without : slice_get places (length answers) ≡ Some place
   pub full : MOST_ENTRIES ≤ length (entries_in now)
+  pub not_failed : length (entries_in now) ≤ MOST_ENTRIES
+      → ¬ Rose now.turn.known.opening.faults now.turn.known.faults
   pub due : (place.task.kind ≢ Protect) ⊎ MayAppend (IsBetween begin first now) (course_in begin now) MOST_ENTRIES
       place.task
   pub unmade : HasNoEntry (entries_in now) place.task.index

@@ -50,11 +50,13 @@ pub record PutsBadly (begin : Begin) (mid w : View) (answers : List Answer) (fai
   pub one_failed : failed ≡ failed_before + 1
   pub rose : Rose w.turn.known.opening.faults w.turn.known.faults
 
--- the history is full for the first record without an answer, and the worker made no entry of it
-pub record IsFullSegment (begin : Begin) (v mid : View) (records : List Record) (answers : List Answer) : Type 0 where
+-- The history is full for the first record without an answer, and the worker made no entry of it. No fault came till
+-- the answers were put.
+pub record IsFullSegment (begin : Begin) (v mid w : View) (records : List Record) (answers : List Answer) : Type 0 where
   pub task : Record
   pub first_without : slice_get records (length answers) ≡ Some task
   pub full : MOST_ENTRIES ≤ length (entries_in mid)
+  pub not_failed : length (entries_in mid) ≤ MOST_ENTRIES → ¬ Rose w.turn.known.opening.faults w.turn.known.faults
   pub due : (task.kind ≢ Protect) ⊎ MayAppend (IsBetween begin v mid) (course_in begin mid) MOST_ENTRIES task
   pub unmade : (made : List ℕ) → mid.turn.made ≡ v.turn.made ++ made
       → count_at (is_of_record task.index) (log_of mid) made ≡ 0

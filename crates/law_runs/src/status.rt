@@ -35,12 +35,11 @@ pub fn faults_are_told()
 {}
 
 /// Law: after a fault of the disk the run goes on: with the status of a fault of the site and at least one entry, where
-/// no put failed, memory was not wanting and the history not full, the input was read to its end.
+/// no put failed and memory was not wanting, the input was read to its end.
 pub fn goes_to_its_end()
     ensures { (call : CallSeen) (run : RunEnds call) → call.site_after.put_faults ≡ call.site.put_faults
         → call.status ≡ SITE_FAULT
-        → call.entries ≢ [] → run.account.came ≢ ends.NoMemory → run.account.came ≢ ends.SessionFull
-        → GoesToItsEnd call run }
+        → call.entries ≢ [] → run.account.came ≢ ends.NoMemory → GoesToItsEnd call run }
 {}
 
 /// Law: with another status than that of a fault of the site or of a full history, the end that is told is the one that

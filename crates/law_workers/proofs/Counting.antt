@@ -173,7 +173,7 @@ module _ (begin : Begin) (old new : View) (tasks : List Record) (deeds : List De
       let is : pieces (log_of new) ≡ pieces (log_of old ++ rest) = ap pieces d.grows.earlier.log.1 in
       let both = piece_count_both (log_of old) rest in
       let quiet = none_counted rest (none_behind before none) in
-      let sparing = d.sparing in let later = d.grows.earlier.put_faults in omega arith
+      let sparing = d.sparing.0 in let later = d.grows.earlier.put_faults in omega arith
 
   -- at most one reserve a record that can draw, in the whole log
   pub few_reserves : ((x : ℕ) → stands x old.turn.made ≡ 0) → reserves_of (entries_in new) ≤ drawers tasks

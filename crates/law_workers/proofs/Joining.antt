@@ -1,13 +1,14 @@
 -- What one worker did after another, and what two workers did at once.
-use Rattle.std.proofs.Common.{◌≡◌, ℕ, ◌+◌, ◌<◌, ◌≤◌, List, [], ◌∷◌, ◌++◌, length, take, Some, Bool, false, true, refl, sym, ◌∙◌, ap, subst, inl, inr, arith, le_trans, append_assoc, append-nil, if◌then◌else◌, ◌||◌, max}
+use Rattle.std.proofs.Common.{◌≡◌, ◌⊎◌, ℕ, ◌+◌, ◌<◌, ◌≤◌, List, [], ◌∷◌, ◌++◌, length, take, Some, Bool, false, true, refl, sym, ◌∙◌, ap, subst, inl, inr, arith, le_trans, append_assoc, append-nil, if◌then◌else◌, ◌||◌, max}
 use Rattle.std.specs.List.{slice_index_or}
+use Rattle.std.proofs.lemmas.Bool.{cases_lt}
 use Rattle.std.proofs.lemmas.List.{take-append-le}
 use Rattle.sdls_base.specs.Numbers.{times}
 use Rattle.sdls_base.specs.declared.entry.Logged.{Logged}
 use Rattle.counter_table.specs.declared.view.Opening.{Opening}
 use Rattle.counter_table.specs.declared.view.Known.{Known}
 use Rattle.counter_table.specs.declared.view.View.{View}
-use Rattle.counter_table.specs.Known.{Earlier, IsSparing, pieces, later}
+use Rattle.counter_table.specs.Known.{Earlier, entries, IsSparing, pieces, later}
 use Rattle.sdls_outside.specs.Faults.{Rose}
 use Rattle.counter_table.specs.Numbers.{top}
 use Rattle.counter_table.specs.Turn.{stands}
@@ -48,6 +49,28 @@ earlier_further a b c ab bc same =
           let r' : Rose b.opening.faults a.faults = subst (λ (z : ℕ). Rose z a.faults) o r in
           bc.stood (omega arith) ∙ ab.stood r';
     }
+
+sparing_further : (a b c : Known) → Earlier a b → Earlier b c → c.opening ≡ b.opening → IsSparing a b → IsSparing b c → IsSparing a c
+sparing_further a b c first next same ab bc =
+    let one = ab.0 in
+    let two = bc.0 in
+    let f = first.put_faults in
+    let n = next.put_faults in (
+      omega arith,
+      λ rose low all.
+          let o : c.opening.faults ≡ b.opening.faults = ap (λ (z : Opening). z.faults) same in
+          let mid : Rose c.opening.faults b.faults = bc.1 rose (omega arith) all in
+          let log = next.stopped mid in
+          let stood = next.stood mid in
+          subst (λ (z : ℕ). Rose z a.faults) (sym o) (ab.1 (subst (λ (z : ℕ). Rose z b.faults) o mid) (omega arith) (omega arith)),
+    )
+
+-- of two counts of which the greater rose, one rose
+rose_either : (before one other : ℕ) → Rose before (max one other) → Rose before one ⊎ Rose before other
+rose_either before one other rose = elim (cases_lt one other) [
+  | inl less ↦ inr (omega arith)
+  | inr more ↦ inl (omega arith)
+]
 
 -- a front of a log has no more pieces
 pieces_front : (a b : Known) → Earlier a b → pieces a.log ≤ pieces b.log
@@ -105,7 +128,7 @@ does_nothing begin v tasks = record {
   gains = no_gains;
   gained = gained_nothing v;
   grows = grows_itself v;
-  sparing = omega arith;
+  sparing = (omega arith, λ rose low all. rose);
   works = works_nothing begin v tasks;
   answers = no_answers begin v v no_gains;
   unmade = λ k d l. absurd (omega arith);
@@ -205,7 +228,7 @@ module _ (begin : Begin) (u v w : View) (ts us : List Record) (ds es : List Deed
         gains = both_gains a.gains b.gains;
         gained = gained_then u v w a.gains b.gains a.gained b.gained;
         grows = grows_further u v w a.grows b.grows;
-        sparing = (let x = a.sparing in let y = b.sparing in omega arith);
+        sparing = sparing_further u.turn.known v.turn.known w.turn.known a.grows.earlier b.grows.earlier b.grows.opening a.sparing b.sparing;
         works = merge_works begin u w a.gains b.gains ts us first second;
         answers = merge_answers begin u w a.gains b.gains ds es early late cross
             (λ j e m i d l. agree_back begin w (slice_index_or ds i d) (slice_index_or es j e) (turns i d l j e m) (cross i d l j e m));
@@ -317,14 +340,33 @@ module _ (begin : Begin) (u v w : View) (ts us : List Record) (ds es : List Deed
     filled = ap (λ (f : Bool). f || w.turn.filled) v_filled ∙ sym filled;
   }
 
+  -- a fault that one of the two knows had come before they were split
+  calm_part : (k : Known) → k.opening ≡ u.turn.known.opening → z.turn.known.opening.faults ≡ u.turn.known.opening.faults → IsSparing u.turn.known k
+      → Earlier k z.turn.known → Rose z.turn.known.opening.faults k.faults → k.put_faults ≤ u.turn.known.put_faults
+      → entries z.turn.known.log ≤ z.turn.known.standing → Rose z.turn.known.opening.faults u.turn.known.faults
+  calm_part k opening before sparing earlier rose low all =
+      let log = earlier.stopped rose in
+      let stood = earlier.stood rose in
+      let same : k.opening.faults ≡ z.turn.known.opening.faults = ap (λ (o : Opening). o.faults) opening ∙ sym before in
+      subst (λ (n : ℕ). Rose n u.turn.known.faults) same (sparing.1 (subst (λ (n : ℕ). Rose n k.faults) (sym same) rose) low (omega arith))
+
   -- each of the two logs is a front of the joined one
   sparing_both : IsSparing u.turn.known z.turn.known
   sparing_both =
-      let x = a.sparing in let y = b.sparing in
+      let x = a.sparing.0 in let y = b.sparing.0 in
       let left_pieces = pieces_front v.turn.known z.turn.known meet.earlier in
       let right_pieces = pieces_front w.turn.known z.turn.known meet.other_earlier in
       let failed : z.turn.known.put_faults ≡ max v.turn.known.put_faults w.turn.known.put_faults = ap (λ (k : Known). k.put_faults) known in
-      omega arith
+      let faults : z.turn.known.faults ≡ max v.turn.known.faults w.turn.known.faults = ap (λ (k : Known). k.faults) known in
+      let before : z.turn.known.opening.faults ≡ u.turn.known.opening.faults = ap (λ (k : Known). k.opening.faults) known ∙ ap (λ (o : Opening). o.faults) a.grows.opening in (
+        omega arith,
+        λ rose low all.
+            let rise : Rose z.turn.known.opening.faults (max v.turn.known.faults w.turn.known.faults) = subst (Rose z.turn.known.opening.faults) faults rose in
+            elim (rose_either z.turn.known.opening.faults v.turn.known.faults w.turn.known.faults rise) [
+              | inl one ↦ calm_part v.turn.known a.grows.opening before a.sparing meet.earlier one (omega arith) all
+              | inr other ↦ calm_part w.turn.known b.grows.opening before b.sparing meet.other_earlier other (omega arith) all
+            ],
+      )
 
   works_left : Works begin u z a.gains ts
   works_left = widen_works begin u (keeping u) v z from_left grows_left a.gains ts a.works

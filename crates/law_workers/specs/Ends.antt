@@ -12,10 +12,12 @@ use Rattle.run_promise.specs.declared.limits.TheConstants.{MOST_ENTRIES}
 use Rattle.law_workers.specs.Views.{IsBetween, log_of, entries_in}
 use Rattle.law_workers.specs.Deeds.{course_in}
 
--- Why a record has no answer: the run has as many entries as it may, the site had not failed, and the record is of a
--- kind that always makes one, or may need one. None of the lines that the worker made since is an entry of the record.
+-- Why a record has no answer: the run has as many entries as it may, which all stand, the site had not failed, and the
+-- record is of a kind that always makes one, or may need one. None of the lines that the worker made since is an entry
+-- of the record.
 pub record IsFullFor (begin : Begin) (old new : View) (task : Record) : Type 0 where
   pub full : MOST_ENTRIES ≤ length (entries_in new)
+  pub stood : MOST_ENTRIES ≤ new.turn.known.standing
   pub not_failed : ¬ Rose old.turn.known.opening.faults old.turn.known.faults
   pub due : (task.kind ≢ Protect) ⊎ MayAppend (IsBetween begin old new) (course_in begin new) MOST_ENTRIES task
   pub unmade : (made : List ℕ) → new.turn.made ≡ old.turn.made ++ made

@@ -20,9 +20,11 @@ use Rattle.run_promise.specs.declared.end.RunEnd.TheVariants.{NoState, SessionFu
 use Rattle.run_promise.specs.Call.{CallSeen, ShowsAtEntry, image_at_entry, sunk_since}
 use Rattle.run_promise.specs.Account.{Account, answers_of_first, end_status, due_octets, course_of}
 
--- The history is full, and the first record without an answer needs an entry, or may need one. None was made of it.
+-- The history is full, and the first record without an answer needs an entry, or may need one. None was made of it, and
+-- the site had not failed.
 pub record IsFullAt (call : CallSeen) (account : Account) : Type 0 where
   pub full : length call.entries ≡ MOST_ENTRIES
+  pub not_failed : ¬ Rose call.site.faults account.last
   pub place : Place
   pub first : slice_get account.handled (length account.answers) ≡ Some place
   pub due : IsTrue call.site.told → (plan : PlanLines) (state : State) → ShowsAtEntry call plan state

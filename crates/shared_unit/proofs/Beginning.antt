@@ -239,7 +239,7 @@ module _ {O B : Type 0} (told : Bool) (trace : O → Trace) (faults puts : O →
             let a = ap (λ (x : View). x.turn.known.put_faults) is ∙ back_puts k t u.turn takes.turn in
             let b = ap (λ (x : Known). x.put_faults) known_filled in
             let c = takes.follows.earlier.put_faults in
-            let d = takes.follows.sparing in
+            let d = takes.follows.sparing.0 in
             let e = ap (λ (x : Known). pieces x.log) known_filled ∙ ap pieces first in
             let f = ap pieces log_found in omega arith
 

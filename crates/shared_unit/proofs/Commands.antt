@@ -1,6 +1,7 @@
 -- The parts of a command, put together.
-use Rattle.std.proofs.Common.{◌≡◌, ◌⊎◌, inl, inr, ℕ, ◌+◌, ◌<◌, Bool, true, false, if◌then◌else◌, List, Option, Some, None, IsSome, IsSomeAnd, Ok, refl, sym, ap, subst, ◌∙◌, arith}
+use Rattle.std.proofs.Common.{◌≡◌, ◌⊎◌, inl, inr, ℕ, ◌+◌, ◌<◌, Bool, true, false, if◌then◌else◌, List, ◌++◌, length, append-nil, ◌≤◌, Option, Some, None, IsSome, IsSomeAnd, Ok, refl, sym, ap, subst, ◌∙◌, arith}
 use Rattle.std.specs.Option.{option_map_or}
+use Rattle.sdls_base.specs.declared.entry.Entry.{Entry}
 use Rattle.sdls_base.specs.declared.entry.Seen.{Seen}
 use Rattle.sdls_base.specs.declared.entry.Seen.TheVariants as sights
 use Rattle.sdls_outside.specs.Moments.{Trace}
@@ -18,6 +19,7 @@ use Rattle.counter_table.specs.Known.{MayGive}
 use Rattle.counter_table.specs.Turn.{taking, giving, learning}
 use Rattle.counter_table.specs.Play.{Follows}
 use Rattle.run_promise.specs.Entries.{IsNeedOf, record_entry}
+use Rattle.run_promise.specs.Log.{entries_of}
 use Rattle.unit_book.specs.declared.fault.BookFault.{BookFault}
 use Rattle.unit_book.specs.declared.fault.BookFault.TheVariants.{SiteFault, Stopped, JournalFull, SessionFull, NoMemory}
 use Rattle.unit_book.specs.Marks.{KeepsMarks}
@@ -34,7 +36,7 @@ use Rattle.shared_unit.specs.Going.{GoesUp}
 use Rattle.shared_unit.specs.Turn.{Visits}
 use Rattle.shared_unit.specs.Sharing.{KnowsHeld}
 use Rattle.shared_unit.specs.Commanding.{Satisfies, knowing}
-use Rattle.shared_unit.proofs.Epochs.{state_at_stays}
+use Rattle.shared_unit.proofs.Epochs.{entries_of-append, state_at_stays}
 use Rattle.shared_unit.proofs.Places.{place_there}
 use Rattle.shared_unit.proofs.Reserved.{reserves_place}
 use Rattle.shared_unit.proofs.Steps.{continues, goes_opening}
@@ -51,6 +53,15 @@ module _ {O : Type 0} (faults puts : O → ℕ) where
     marks = λ row. (let p = one.marks row in let q = two.marks row in omega arith);
     puts_later = (let p = one.puts_later in let q = two.puts_later in omega arith);
     sparing = (let p = one.sparing in let q = two.sparing in omega arith);
+    calm = λ low rose all.
+        let p = one.puts_later in
+        let q = two.puts_later in
+        let mid = two.calm (omega arith) rose all in
+        let none = two.goes.stopped mid in
+        let stood = two.goes.stood mid in
+        let log : entries_of c.log ≡ entries_of b.log =
+        ap entries_of two.goes.log ∙ entries_of-append b.log two.goes.added ∙ ap (λ (es : List Entry). entries_of b.log ++ es) none ∙ append-nil (entries_of b.log) in
+        let size = ap length log in one.calm (omega arith) mid (omega arith);
   }
 
   -- what the words show turns no epoch

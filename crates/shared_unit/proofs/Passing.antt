@@ -146,7 +146,7 @@ module _ {O : Type 0} (told : Bool) (trace : O → Trace) (faults puts : O → �
   looks_grows : (v w : Turn) → Looks v w → KnowsMoreOfBook v w
   looks_grows v w l = subst (λ (t : Turn). KnowsMoreOfBook v t) (sym l.is) (record {
     earlier = record { log = ([], sym (append-nil v.known.log)); changes = omega arith; faults = omega arith; standing = omega arith; put_faults = omega arith; stopped = λ _. refl; stood = λ _. refl };
-    sparing = omega arith;
+    sparing = (omega arith, λ rose low all. rose);
     opening = refl;
     epoch = l.later;
   })

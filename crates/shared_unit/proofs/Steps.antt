@@ -1,5 +1,6 @@
 -- A book that goes on may be given back, and the worker then took the turn once.
 use Rattle.std.proofs.Common.{◌≡◌, ℕ, ◌+◌, ◌≤◌, Bool, List, [], ◌∷◌, ◌++◌, length, Result, Ok, Err, sym, ap, subst, ◌∙◌, append-nil, append_assoc, arith}
+use Rattle.std.specs.Prelude.{OnOk}
 use Rattle.sdls_base.specs.declared.entry.Entry.{Entry}
 use Rattle.sdls_base.specs.declared.entry.Logged.{Logged}
 use Rattle.sdls_base.specs.declared.entry.Logged.TheVariants as logged
@@ -20,7 +21,7 @@ use Rattle.shared_unit.specs.Told.{known_of_book}
 use Rattle.run_promise.specs.Numbers.{marks_of}
 use Rattle.unit_book.specs.Marks.{KeepsMarks as StateMarks}
 use Rattle.unit_book.specs.declared.fault.BookFault.{BookFault}
-use Rattle.unit_book.specs.GoesOn.{GoesOn}
+use Rattle.unit_book.specs.GoesOn.{GoesOn, IsCalm}
 use Rattle.shared_unit.specs.Turn.{KnowsMoreOfBook, TakesOnce, Visits}
 use Rattle.shared_unit.specs.Going.{GoesUp}
 use Rattle.unit_book.proofs.GoingOn.{goes_same}
@@ -48,6 +49,21 @@ earlier_again a b c one two opening = record {
       ∙ one.stood (subst (λ (o : Opening). Rose o.faults a.faults) opening r);
 }
 
+pub sparing_again : (a b c : Known) → Earlier a b → Earlier b c → c.opening ≡ b.opening → IsSparing a b → IsSparing b c → IsSparing a c
+sparing_again a b c first next same ab bc =
+    let one = ab.0 in
+    let two = bc.0 in
+    let f = first.put_faults in
+    let n = next.put_faults in (
+      omega arith,
+      λ rose low all.
+          let o : c.opening.faults ≡ b.opening.faults = ap (λ (z : Opening). z.faults) same in
+          let mid : Rose c.opening.faults b.faults = bc.1 rose (omega arith) all in
+          let log = next.stopped mid in
+          let stood = next.stood mid in
+          subst (λ (z : ℕ). Rose z a.faults) (sym o) (ab.1 (subst (λ (z : ℕ). Rose z b.faults) o mid) (omega arith) (omega arith)),
+    )
+
 pub pieces-append : (xs ys : List Logged) → pieces (xs ++ ys) ≡ pieces xs + pieces ys
 pieces-append [] ys = omega arith
 pieces-append (line ∷ xs) ys = let h = pieces-append xs ys in omega arith
@@ -60,24 +76,31 @@ after_low (Err fault) n = (omega arith, omega arith)
 module _ {O : Type 0} (faults puts : O → ℕ) where
   -- a call that puts nothing
   pub goes_up : (old new : BookView O) → GoesOn faults old new → StateMarks old.state new.state → puts new.site ≡ puts old.site
-      → GoesUp faults puts old new
-  goes_up old new goes marks same =
+      → IsCalm faults old new → GoesUp faults puts old new
+  goes_up old new goes marks same calm =
       let p = ap pieces goes.log in
       let q = pieces-append old.log goes.added in
-      record { goes = goes; marks = marks; puts_later = omega arith; sparing = omega arith }
+      record { goes = goes; marks = marks; puts_later = omega arith; sparing = omega arith; calm = λ low. calm }
+
+  -- no fault came in a put that did not fail
+  calm_put : (result : Result (Unit {0}) BookFault) (old new : BookView O) → new.opened ≡ old.opened → puts new.site ≡ after_put result (puts old.site)
+      → OnOk result (faults new.site ≡ faults old.site) → puts new.site ≤ puts old.site → IsCalm faults old new
+  calm_put (Ok done) old new opened same still low = λ rose all.
+      subst (λ (z : O). Rose (faults z) (faults old.site)) opened (subst (Rose (faults new.opened)) still rose)
+  calm_put (Err fault) old new opened same still low = absurd (omega arith)
 
   -- a put
   pub goes_up_put : (piece : List ℕ) (result : Result (Unit {0}) BookFault) (old new : BookView O) → GoesOn faults old new
       → StateMarks old.state new.state → new.log ≡ old.log ++ logged.Piece piece ∷ [] → puts new.site ≡ after_put result (puts old.site)
-      → GoesUp faults puts old new
-  goes_up_put piece result old new goes marks made same =
+      → OnOk result (faults new.site ≡ faults old.site) → GoesUp faults puts old new
+  goes_up_put piece result old new goes marks made same still =
       let p = ap pieces made in
       let q = pieces-append old.log (logged.Piece piece ∷ []) in
       let l = after_low result (puts old.site) in
-      record { goes = goes; marks = marks; puts_later = omega arith; sparing = omega arith }
+      record { goes = goes; marks = marks; puts_later = omega arith; sparing = omega arith; calm = λ low. calm_put result old new goes.opened same still low }
 
   pub goes_itself : (book : BookView O) → GoesUp faults puts book book
-  goes_itself book = record { goes = goes_same faults book; marks = λ row. omega arith; puts_later = omega arith; sparing = omega arith }
+  goes_itself book = record { goes = goes_same faults book; marks = λ row. omega arith; puts_later = omega arith; sparing = omega arith; calm = λ low rose all. rose }
 
   pub goes_unchanged : (old new : BookView O) → new ≡ old → GoesUp faults puts old new
   goes_unchanged old new same = subst (λ (book : BookView O). GoesUp faults puts old book) (sym same) (goes_itself old)
@@ -111,7 +134,12 @@ module _ {O : Type 0} (trace : O → Trace) (faults puts : O → ℕ) where
               ∙ append-nil (entries_of old.log))
               ∙ sym (entries_counted old.log);
         };
-        sparing = up.sparing;
+        sparing = (
+          up.sparing,
+          λ rose low all.
+              let counted = entries_counted new.log in
+              subst (λ (z : O). Rose (faults z) (faults old.site)) (sym g.opened) (up.calm low rose (omega arith)),
+        );
         opening = goes_opening old new up;
       }
 
@@ -169,7 +197,7 @@ takes_grows found given v w s =
     let P : Turn → Type 0 = λ t. KnowsMoreOfBook v t in
     subst P (sym s.turn) (record {
       earlier = earlier_again v.known found given s.follows.earlier s.earlier s.opening;
-      sparing = (let a = s.follows.sparing in let b = s.sparing in omega arith);
+      sparing = sparing_again v.known found given s.follows.earlier s.earlier s.opening s.follows.sparing s.sparing;
       opening = s.opening ∙ s.follows.opening;
       epoch = (let a = s.follows.epoch in let b = s.follows.earlier.changes in let c = s.earlier.changes in omega arith);
     })

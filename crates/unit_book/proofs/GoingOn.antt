@@ -1,6 +1,6 @@
 -- A call that leaves a book which goes on.
-use Rattle.std.proofs.Common.{◌≡◌, ℕ, ◌≤◌, false, List, [], ◌∷◌, ◌++◌, Result, Ok, Err, refl, sym, ◌∙◌, ap, subst, arith}
-use Rattle.std.specs.Prelude.{MatchResult, IfErr}
+use Rattle.std.proofs.Common.{◌≡◌, ℕ, ◌+◌, ◌≤◌, false, List, [], ◌∷◌, ◌++◌, length, length-append, Result, Ok, Err, refl, sym, ◌∙◌, ap, subst, arith}
+use Rattle.std.specs.Prelude.{MatchResult, IfErr, OnOk}
 use Rattle.std.proofs.lemmas.List.{append_assoc}
 use Rattle.sdls_base.specs.declared.entry.Entry.{Entry}
 use Rattle.sdls_base.specs.declared.entry.Logged.{Logged}
@@ -13,7 +13,7 @@ use Rattle.unit_book.specs.declared.fault.BookFault.TheVariants.{SiteFault, Stop
 use Rattle.run_promise.specs.Log.{entries_of}
 use Rattle.unit_book.specs.Marks.{is_release, HasNoRelease, KeepsMarks}
 use Rattle.unit_book.specs.Book.{BookView, IsBarred, IsUnstored, CanEnter, Enters, PutFails, left_out, with_put}
-use Rattle.unit_book.specs.GoesOn.{GoesOn, TellsRise}
+use Rattle.unit_book.specs.GoesOn.{GoesOn, IsCalm, TellsRise}
 use Rattle.unit_book.proofs.MarksKept.{marks_same, marks_then, no_release_parts, no_release_last}
 
 append_none : {X : Type 0} (xs : List X) → xs ≡ xs ++ []
@@ -148,6 +148,35 @@ goes_unstored {O} faults entry old new (JournalFull slots) can low unstored = su
 goes_unstored {O} faults entry old new (Stopped count) can low unstored = absurd unstored
 goes_unstored {O} faults entry old new SessionFull can low unstored = absurd unstored
 goes_unstored {O} faults entry old new NoMemory can low unstored = absurd unstored
+
+-- ---- a call in which no fault came, where all entries stand
+
+pub calm_same : {O : Type 0} (faults : O → ℕ) (book : BookView O) → IsCalm faults book book
+calm_same {O} faults book = λ rose all. rose
+
+pub calm_entered : {O : Type 0} (faults : O → ℕ) (entry : Entry) (old new : BookView O) (position : ℕ) → faults new.site ≡ faults old.site
+    → Enters entry old new position → IsCalm faults old new
+calm_entered {O} faults entry old new position still made = λ rose all.
+    let opened : faults new.opened ≡ faults old.opened = ap (λ (b : BookView O). faults b.opened) made.is in
+    subst (λ (n : ℕ). Rose n (faults old.site)) opened (subst (Rose (faults new.opened)) still rose)
+
+-- an entry whose append failed does not stand
+pub calm_unstored : {O : Type 0} (faults : O → ℕ) (entry : Entry) (old new : BookView O) (fault : BookFault) → old.standing ≤ length (entries_of old.log)
+    → IsUnstored faults entry old new fault → IsCalm faults old new
+calm_unstored {O} faults entry old new (SiteFault count) stands unstored = λ rose all.
+    let standing : new.standing ≡ old.standing = ap (λ (b : BookView O). b.standing) unstored.4 in
+    let size : length (entries_of new.log) ≡ length (entries_of old.log) + 1 =
+    ap (λ (b : BookView O). length (entries_of b.log)) unstored.4
+    ∙ ap length (entries_append old.log (logged.Entry entry ∷ [])) ∙ length-append (entries_of old.log) (entry ∷ []) in absurd (omega arith)
+calm_unstored {O} faults entry old new (JournalFull slots) stands unstored = subst (IsCalm faults old) (sym unstored.3) (calm_same faults old)
+calm_unstored {O} faults entry old new (Stopped count) stands unstored = absurd unstored
+calm_unstored {O} faults entry old new SessionFull stands unstored = absurd unstored
+calm_unstored {O} faults entry old new NoMemory stands unstored = absurd unstored
+
+pub calm_committed : {O : Type 0} (faults : O → ℕ) (entry : Entry) (old new : BookView O) (result : Result ℕ BookFault) → old.standing ≤ length (entries_of old.log)
+    → OnOk result (faults new.site ≡ faults old.site) → MatchResult result (Enters entry old new) (IsUnstored faults entry old new) → IsCalm faults old new
+calm_committed {O} faults entry old new (Ok position) stands still made = calm_entered faults entry old new position still made
+calm_committed {O} faults entry old new (Err fault) stands still unstored = calm_unstored faults entry old new fault stands unstored
 
 -- ---- the count that a refusal tells
 

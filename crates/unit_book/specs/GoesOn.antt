@@ -1,5 +1,5 @@
 -- What every call on a book leaves.
-use Rattle.std.specs.Prelude.{◌≡◌, ⊤, ℕ, ◌≤◌, List, [], ◌++◌}
+use Rattle.std.specs.Prelude.{◌≡◌, ⊤, ℕ, ◌≤◌, List, [], ◌++◌, length}
 use Rattle.sdls_base.specs.declared.entry.Logged.{Logged}
 use Rattle.sdls_outside.specs.Faults.{Rose}
 use Rattle.unit_state.specs.Laws.{KeepsPlaces}
@@ -27,6 +27,11 @@ pub record GoesOn {O : Type 0} (faults : O → ℕ) (old new : BookView O) : Typ
   pub stood : Rose (faults old.opened) (faults old.site) → new.standing ≡ old.standing
   pub places : KeepsPlaces old.state new.state
   pub marks : HasNoRelease (entries_of added) → KeepsMarks old.state new.state
+
+-- No fault came in the call, where all entries stand: the count of faults had risen before if it has now.
+abbrev pub IsCalm : {O : Type 0} → (O → ℕ) → BookView O → BookView O → Type 0
+IsCalm faults old new = Rose (faults new.opened) (faults new.site) → length (entries_of new.log) ≤ new.standing
+    → Rose (faults old.opened) (faults old.site)
 
 -- the count that a refusal tells is that of the site, and had risen since the opening
 abbrev pub TellsRise : {O : Type 0} → (O → ℕ) → BookView O → BookFault → Type 0

@@ -8,7 +8,7 @@ ghost use Rattle.unit_state.specs.Laws.{IsNoMarks};
 ghost use Rattle.frame_checks.specs.Accepting.{field_in, LeavesOctets, MayBeAccepted, OnAccepted};
 ghost use Rattle.unit_book.specs.Marks.{KeepsMarks};
 ghost use Rattle.unit_book.specs.Book.{IsKept};
-ghost use Rattle.unit_book.specs.GoesOn.{GoesOn, TellsRise};
+ghost use Rattle.unit_book.specs.GoesOn.{GoesOn, IsCalm, TellsRise};
 ghost use Rattle.run_promise.specs.Entries.{raised_floor, frame_change};
 ghost use Rattle.unit_book.specs.Records.{OpensWithEntry, RefusesFrame};
 
@@ -83,6 +83,7 @@ impl<O: Site> Book<O> {
         ensures risen { IfErr result (TellsRise O.faults self.new) }
         ensures puts { O.put_faults self.new.site ≡ O.put_faults self.old.site }
         ensures later { O.faults self.old.site ≤ O.faults self.new.site }
+        ensures calm { IsCalm O.faults self.old self.new }
     {
         self.may_enter()?;
         let reply = open_frame(&self.plan, &self.state, link, frame);

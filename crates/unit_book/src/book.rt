@@ -13,7 +13,7 @@ ghost use Rattle.unit_book.specs.Log.{sunk_between};
 ghost use Rattle.unit_book.specs.Marks.{is_release, KeepsMarks};
 ghost use Rattle.unit_book.specs.Book.{IsKept, CanEnter, IsBarred, IsUnstored, Enters, IsNextState, entered, left_out};
 ghost use Rattle.unit_book.specs.Book.{with_put, PutFails};
-ghost use Rattle.unit_book.specs.GoesOn.{GoesOn, TellsRise};
+ghost use Rattle.unit_book.specs.GoesOn.{GoesOn, IsCalm, TellsRise};
 
 use crate::applying::{changes_of, put_next};
 use crate::fault::BookFault;
@@ -156,6 +156,7 @@ impl<O: Site> Book<O> {
             (IsUnstored O.faults entry self.old self.new) }
         ensures sunk { IsTrue O.told → (O.trace self.new.site).now.sunk ≡ (O.trace self.old.site).now.sunk }
         ensures puts { O.put_faults self.new.site ≡ O.put_faults self.old.site }
+        ensures stood { OnOk result (O.faults self.new.site ≡ O.faults self.old.site) }
         ensures later { O.faults self.old.site ≤ O.faults self.new.site }
     {
         match self.journal.append(&mut self.site, body) {
@@ -204,6 +205,7 @@ impl<O: Site> Book<O> {
         ensures sunk { IsTrue O.told → (O.trace self.new.site).now.sunk ≡ (O.trace self.old.site).now.sunk }
         ensures puts { O.put_faults self.new.site ≡ O.put_faults self.old.site }
         ensures later { O.faults self.old.site ≤ O.faults self.new.site }
+        ensures calm { IsCalm O.faults self.old self.new }
     {
         match stored_record(&self.state, &entry.change) {
             None => Ok(self.enter_unstored(entry, next)),

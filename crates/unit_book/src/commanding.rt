@@ -8,7 +8,7 @@ ghost use Rattle.unit_state.specs.Allows.{Allows};
 ghost use Rattle.unit_state.specs.Laws.{IsNoMarks};
 ghost use Rattle.unit_book.specs.Marks.{KeepsMarks};
 ghost use Rattle.unit_book.specs.Book.{IsKept, IsNextState};
-ghost use Rattle.unit_book.specs.GoesOn.{GoesOn, TellsRise};
+ghost use Rattle.unit_book.specs.GoesOn.{GoesOn, IsCalm, TellsRise};
 ghost use Rattle.run_promise.specs.Entries.{IsNeedOf, IsStepOf};
 ghost use Rattle.unit_book.specs.Records.{Handles, RefusesMessage};
 
@@ -97,6 +97,7 @@ impl<O: Site> Book<O> {
         ensures risen { IfErr result (TellsRise O.faults self.new) }
         ensures puts { O.put_faults self.new.site ≡ O.put_faults self.old.site }
         ensures later { O.faults self.old.site ≤ O.faults self.new.site }
+        ensures calm { IsCalm O.faults self.old self.new }
     {
         self.may_enter()?;
         let Ok((change, reply)) = step_of(*self.entries.allocator(), &self.state, pdu, &seen) else {

@@ -4,7 +4,7 @@ ghost use Rattle.sdls_base.specs.KeyId.{end_of};
 ghost use Rattle.unit_state.specs.State.{key_row};
 ghost use Rattle.unit_book.specs.Marks.{KeepsMarks};
 ghost use Rattle.unit_book.specs.Book.{IsKept, Made, Refuses};
-ghost use Rattle.unit_book.specs.GoesOn.{GoesOn, TellsRise};
+ghost use Rattle.unit_book.specs.GoesOn.{GoesOn, IsCalm, TellsRise};
 ghost use Rattle.run_promise.specs.Numbers.{mark_of, floor_of, reserve_of};
 
 use crate::book::Book;
@@ -59,6 +59,7 @@ impl<O: Site> Book<O> {
         ensures risen { IfErr result (TellsRise O.faults self.new) }
         ensures puts { O.put_faults self.new.site ≡ O.put_faults self.old.site }
         ensures later { O.faults self.old.site ≤ O.faults self.new.site }
+        ensures calm { IsCalm O.faults self.old self.new }
     {
         let mark = self.mark(key);
         if number < mark {

@@ -11,6 +11,10 @@ use Rattle.record_io.specs.declared.records.Record.{Record}
 use Rattle.record_io.specs.Answers.{answers_octets}
 use Rattle.unit_book.specs.declared.fault.BookFault.{BookFault}
 use Rattle.run_promise.specs.Begin.{Begin}
+use Rattle.sdls_outside.specs.Faults.{Rose}
+use Rattle.run_promise.specs.declared.limits.TheConstants.{MOST_ENTRIES}
+use Rattle.law_workers.specs.Views.{entries_in, log_of}
+use Rattle.law_workers.proofs.Histories.{entries_counted}
 use Rattle.law_workers.specs.Deeds.{Ascend, deeds_of}
 use Rattle.run_promise.specs.Deed.{Deed}
 use Rattle.law_workers.specs.Order.{Handled, Layout, LiesIn}
@@ -104,6 +108,22 @@ module _ (told : Bool) (v mid w : View) (tasks : List Record) (up : Ascend tasks
     none : mid.turn.known.put_faults ≡ v.turn.known.put_faults
     none = no_put_failed (own_layout 0 tasks) begin v mid tasks (deeds_of 0 tasks answers) (own begin 0 began) (whole_at v whole_v) (whole_at mid whole_mid)
 
+    -- no fault came, where no put failed and all entries stand
+    still : w.turn.known.put_faults ≡ mid.turn.known.put_faults → MOST_ENTRIES ≤ mid.turn.known.standing
+        → ¬ Rose v.turn.known.opening.faults v.turn.known.faults → length (entries_in mid) ≤ MOST_ENTRIES
+        → ¬ Rose w.turn.known.opening.faults w.turn.known.faults
+    still same stood not few rose =
+        let first = (own begin 0 began).does in
+        let puts = put.leaves.puts begin began_mid in
+        let low = puts.does.grows.earlier.standing in
+        let mid_counted = entries_counted (log_of mid) in
+        let counted = entries_counted (log_of w) in
+        let size = ap length puts.entries in
+        let none_put = none in
+        let mid_rose : Rose w.turn.known.opening.faults mid.turn.known.faults = puts.does.sparing.1 rose (omega arith) (omega arith) in
+        let v_rose = first.sparing.1 (subst (λ (o : Opening). Rose o.faults mid.turn.known.faults) puts.does.grows.opening mid_rose) (omega arith) (omega arith) in
+        not (subst (λ (o : Opening). Rose o.faults v.turn.known.faults) first.grows.opening v_rose)
+
     tells : IsTrue begin.told → IsTrue told
     tells is_told = subst IsTrue began.tells is_told
 
@@ -128,7 +148,10 @@ module _ (told : Bool) (v mid w : View) (tasks : List Record) (up : Ascend tasks
           answers = answers;
           handles = handles true (task, there, is);
           stands = stands;
-          so = (well done p, record { task = task; first_without = there; full = is.full; due = is.due; unmade = is.unmade });
+          so = (
+            well done p,
+            record { task = task; first_without = there; full = is.full; not_failed = still p.leaves.counted is.stood is.not_failed; due = is.due; unmade = is.unmade },
+          );
         }
         go (Err fault) f ends p = record {
           mid = mid;

@@ -32,7 +32,7 @@ ServesSegment begin records (Ok done) v w = IsHandledAndPut begin records v w (�
 ServesSegment begin records (Err stops.NoMemory) v w = w ≡ v
 ServesSegment begin records (Err stops.Full) v w = IsHandledAndPut begin records v w (λ mid answers.
     PutsWell begin mid w answers v.turn.known.put_faults w.turn.known.put_faults
-    × IsFullSegment begin v mid records answers)
+    × IsFullSegment begin v mid w records answers)
 ServesSegment begin records (Err stops.PutFailed) v w = IsHandledAndPut begin records v w (λ mid answers.
     PutsBadly begin mid w answers v.turn.known.put_faults w.turn.known.put_faults)
 
