@@ -170,10 +170,10 @@ module _ (once : ShowsOnce) (device : List ℕ) where
     | inl opening ↦ have state (shown_before run.start run.image run.course.start state is.shows opening.1 shown)
     | inr served ↦ elim shown [
       | inl shows ↦
-          ap (λ (s : State). s.device) (sym (once run.image _ state served.shows shows))
+          ap (λ (s : State). s.device) (sym (once run.image _ state served.shows.shows shows))
           ∙ from_start run is have served.p
       | inr torn ↦
-          let (q, above, within, form, covers) = served.forms torn.0 torn.1 in
+          let (q, above, within, form) = served.shows.forms torn.0 torn.1 in
           ap (λ (s : State). s.device) (sym (once torn.0 _ state form torn.2)) ∙ from_start run is have q
     ]
   ]
