@@ -11,7 +11,7 @@ ghost use Rattle.pair_audit.specs.declared.walk.AuditEnd.TheVariants.{Clean};
 ghost use Rattle.law_audit.specs.Recorded.{IsSpelled, SankFew, sunk_by};
 
 use law_runs::used_once_in_a_life;
-use pair_audit::{fronts_count, fronts_show, recording_reads_once};
+use pair_audit::{audit_says_one, fronts_count, fronts_show};
 
 /// Law: of the runs of a life that were kept, whichever these are, the recording is in order, and the answers that it
 /// counts repeat nothing.
@@ -36,5 +36,5 @@ pub fn recorded_life_is_clean()
         × (end ≡ Clean (length (sunk_by kept runs)) (uses_in answers) (acceptances_in answers)) }
 {
     recorded_life_repeats_nothing();
-    recording_reads_once();
+    audit_says_one();
 }

@@ -8,3 +8,4 @@ pub mod Headers
 pub mod OneRecording
 pub mod Walking
 pub mod Runs
+pub mod OneEnd

@@ -29,7 +29,7 @@ same_header h k e f g i j l =
     ∙ ap (λ (n : ℕ). record { code = k.code; detail = k.detail; key = k.key; octets = k.octets; position = k.position; number = n }) l
 
 -- a header in front of octets is one
-one_header : (h k : Header) (a b : List ℕ) → HasWidths h → HasWidths k → header_octets h ++ a ≡ header_octets k ++ b → (h ≡ k) × (a ≡ b)
+pub one_header : (h k : Header) (a b : List ℕ) → HasWidths h → HasWidths k → header_octets h ++ a ≡ header_octets k ++ b → (h ≡ k) × (a ≡ b)
 one_header h k a b fits_h fits_k e =
     let same : header_octets h ≡ header_octets k =
     sym (take_front (header_octets h) a 24 refl) ∙ ap (λ l. take 24 l) e ∙ take_front (header_octets k) b 24 refl in (
@@ -44,12 +44,12 @@ one_header h k a b fits_h fits_k e =
 answer_from : Header → List ℕ → Answer
 answer_from h body = record { code = h.code; detail = h.detail; key = h.key; position = h.position; number = h.number; body = body }
 
-split : (x : Answer) (a : List ℕ) → answer_octets x ++ a ≡ header_octets (header_of x) ++ (x.body ++ a)
+pub split : (x : Answer) (a : List ℕ) → answer_octets x ++ a ≡ header_octets (header_of x) ++ (x.body ++ a)
 unfolding answer_octets
 split x a = append_assoc (header_octets (header_of x)) x.body a
 
 -- an answer in front of octets is one
-one_answer : (x y : Answer) (a b : List ℕ) → IsAnswer x → IsAnswer y → answer_octets x ++ a ≡ answer_octets y ++ b → (x ≡ y) × (a ≡ b)
+pub one_answer : (x y : Answer) (a b : List ℕ) → IsAnswer x → IsAnswer y → answer_octets x ++ a ≡ answer_octets y ++ b → (x ≡ y) × (a ≡ b)
 unfolding answer_from
 one_answer x y a b is_x is_y e =
     let first = one_header (header_of x) (header_of y) (x.body ++ a) (y.body ++ b) is_x is_y (sym (split x a) ∙ e ∙ split y b) in
@@ -70,7 +70,7 @@ no_answer x rest behind (Some cut) is ends e =
 
 -- ---- one run
 
-one_run : (a b x y : List ℕ) → length a < 2 ^ 32 → length b < 2 ^ 32 → run_octets a ++ x ≡ run_octets b ++ y → (a ≡ b) × (x ≡ y)
+pub one_run : (a b x y : List ℕ) → length a < 2 ^ 32 → length b < 2 ^ 32 → run_octets a ++ x ≡ run_octets b ++ y → (a ≡ b) × (x ≡ y)
 one_run a b x y short_a short_b e =
     let size : length a ≡ length b =
     sym (from_be_bytes-to_be_bytes_4 (length a) short_a) ∙ ap (λ (l : List ℕ). from_be_bytes w32 (take 4 l)) e
@@ -161,7 +161,7 @@ code_told (a ∷ answers) (w ∷ whole) last behind header more are is ends widt
     code_told answers whole last behind header more (All-tail IsAnswer a answers are) (All-tail IsAnswer w whole is) ends widths first.1
     (All-tail HasCode w (whole ++ told_last last) known)
 
-run_lacks_unknown : (sunk : List ℕ) (own : List Answer) (behind rest : List ℕ) (at_octet : ℕ) → RunCounts sunk own → rest ≡ run_octets sunk ++ behind
+pub run_lacks_unknown : (sunk : List ℕ) (own : List Answer) (behind rest : List ℕ) (at_octet : ℕ) → RunCounts sunk own → rest ≡ run_octets sunk ++ behind
     → ¬ HasUnknown rest at_octet
 run_lacks_unknown sunk own behind rest at_octet counts is has =
     let same = one_run sunk has.sunk behind has.behind counts.short has.short (sym is ∙ has.spelled) in

@@ -6,7 +6,8 @@ ghost use Rattle.record_io.specs.Answers.{IsAnswer, answers_octets};
 ghost use Rattle.pair_audit.specs.declared.audit.Repeat.{Repeat};
 ghost use Rattle.pair_audit.specs.Audit.{TellsRepeat};
 ghost use Rattle.pair_audit.specs.Counted.{CountsAnswers, TellAlike, counted_of};
-ghost use Rattle.pair_audit.specs.Recording.{IsMalformedAt, ReadsRuns};
+ghost use Rattle.pair_audit.specs.Recording.{AuditSays, IsMalformedAt, ReadsRuns};
+ghost use Rattle.pair_audit.specs.declared.walk.AuditEnd.{AuditEnd};
 ghost use Rattle.pair_audit.specs.Repeats.{AreUnlike, IsFirstRepeat, RepeatNothing};
 
 use record_io::answers_shown_once;
@@ -45,6 +46,13 @@ pub fn recording_reads_once()
         → ReadsRuns input xs one [] → ReadsRuns input ys other [] → (xs ≡ ys) × (one ≡ other) }
     ensures in_order { (input : List ℕ) (runs : List (List ℕ)) (answers : List Answer) (offset : ℕ)
         → ReadsRuns input runs answers [] → ¬ IsMalformedAt input offset }
+{
+    answers_shown_once();
+}
+
+/// Law: an audit says one thing of a recording, so what `audit_recording` returns comes exactly where it is so.
+pub fn audit_says_one()
+    ensures { (input : List ℕ) (one other : AuditEnd) → AuditSays input one → AuditSays input other → one ≡ other }
 {
     answers_shown_once();
 }

@@ -14,7 +14,8 @@ mod walk;
 
 pub use audit::{Audit, Repeat};
 pub use laws::{
-    first_told_is_first, fronts_count, fronts_show, none_told_repeats_nothing, recording_reads_once,
+    audit_says_one, first_told_is_first, fronts_count, fronts_show, none_told_repeats_nothing,
+    recording_reads_once,
 };
 pub use reading::{AnswerError, MONITOR_FAULT, MONITORED, read_answer};
 pub use walk::{AuditEnd, audit_recording};
