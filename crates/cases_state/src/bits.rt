@@ -2,6 +2,7 @@
 ghost use Rattle.frame_shield.specs.Binding.{IsBinding};
 
 use crate::shielding;
+use case_lines::said;
 use frame_shield::{Binding, Opened};
 use sdls_base::fecf;
 use std::alloc::Global;
@@ -21,23 +22,25 @@ fn turned(frame: &Vec<u8>, bit: usize, has_fecf: bool) -> anyhow::Result<Vec<u8>
     Ok(changed)
 }
 
-/// What opening answers to each bit of the first six octets turned.
-fn pattern(alloc: Global, binding: &Binding, clear: &[u8]) -> anyhow::Result<String>
+/// What opening answers to the frame with a bit turned.
+fn opened(binding: &Binding, frame: &Vec<u8>, bit: usize) -> anyhow::Result<&'static str>
     requires { IsBinding binding.now }
 {
-    let Some(frame) = shielding::protected(alloc, binding, 1, clear) else {
-        return Ok(format!(in alloc; "does not fit")?);
-    };
-    let has_fecf = binding.link.layout.has_fecf();
+    let mut changed = turned(frame, bit, binding.link.layout.has_fecf())?;
+    match shielding::opened(binding, changed.as_mut_slice()) {
+        Some(Opened::Field { .. }) => Ok("o"),
+        Some(Opened::BadMac) => Ok("x"),
+        None => Ok("-"),
+    }
+}
+
+/// What opening answers to each bit of the first six octets turned.
+fn pattern(alloc: Global, binding: &Binding, frame: &Vec<u8>) -> anyhow::Result<String>
+    requires { IsBinding binding.now }
+{
     let mut text = String::new(alloc);
     for bit in 0..48usize {
-        let mut changed = turned(&frame, bit, has_fecf)?;
-        let answer = match shielding::opened(binding, changed.as_mut_slice()) {
-            Some(Opened::Field { .. }) => "o",
-            Some(Opened::BadMac) => "x",
-            None => "-",
-        };
-        text.push_str(answer)?;
+        text.push_str(opened(binding, frame, bit)?)?;
         if bit % 8 == 7 && bit < 47 {
             text.push_str(" ")?;
         }
@@ -48,8 +51,11 @@ fn pattern(alloc: Global, binding: &Binding, clear: &[u8]) -> anyhow::Result<Str
 /// What a case of bits answers.
 pub fn answer(alloc: Global, words: &mut SplitWhitespace<'_>) -> anyhow::Result<String> {
     let Some(binding) = shielding::binding(words, [0xD0, 0, 0, 1]) else {
-        return Ok(format!(in alloc; "no binding")?);
+        return said(alloc, "no binding");
     };
     let clear = case_lines::octets(alloc, words)?;
-    pattern(alloc, &binding, clear.as_slice())
+    match shielding::protected(alloc, &binding, 1, clear.as_slice()) {
+        Some(frame) => pattern(alloc, &binding, &frame),
+        None => said(alloc, "does not fit"),
+    }
 }

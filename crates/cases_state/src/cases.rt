@@ -1,5 +1,6 @@
 // Cases of frames, security headers and plain types, which depend on no state.
 use crate::{bits, headers, names, reading, sealed};
+use case_lines::said;
 use sdls_base::{AosLayout, TcLayout, TmLayout};
 use std::alloc::Global;
 use std::str::SplitWhitespace;
@@ -23,7 +24,7 @@ fn tm(alloc: Global, words: &mut SplitWhitespace<'_>) -> anyhow::Result<String> 
     };
     let frame = case_lines::octets(alloc, words)?;
     if layout.length < 12 {
-        return Ok(format!(in alloc; "no layout")?);
+        return said(alloc, "no layout");
     }
     reading::tm(alloc, &layout, frame.as_slice())
 }
@@ -38,7 +39,7 @@ fn aos(alloc: Global, words: &mut SplitWhitespace<'_>) -> anyhow::Result<String>
     };
     let frame = case_lines::octets(alloc, words)?;
     if layout.length < 12 + u16::from(layout.insert) {
-        return Ok(format!(in alloc; "no layout")?);
+        return said(alloc, "no layout");
     }
     reading::aos(alloc, &layout, frame.as_slice())
 }

@@ -22,7 +22,7 @@ fn seen(words: &mut SplitWhitespace<'_>) -> Seen {
 /// Writes what was needed.
 fn need_text(alloc: Global, need: &Need) -> Result<String, AllocError> {
     match need {
-        Need::Nothing => format!(in alloc; "nothing"),
+        Need::Nothing => String::from_str(alloc, "nothing"),
         Need::Look(key) => {
             let key = key.get();
             format!(in alloc; "look {key}")
@@ -40,10 +40,16 @@ fn need_text(alloc: Global, need: &Need) -> Result<String, AllocError> {
 
 fn answer_text(alloc: Global, answer: &Answer) -> Result<String, AllocError> {
     match answer {
-        Answer::Unfit => format!(in alloc; "unfit"),
-        Answer::NotAllowed => format!(in alloc; "not allowed"),
+        Answer::Unfit => String::from_str(alloc, "unfit"),
+        Answer::NotAllowed => String::from_str(alloc, "not allowed"),
         Answer::Told(reply) => reply_text(alloc, reply),
     }
+}
+
+fn told(alloc: Global, need: &Need, answer: &Answer) -> Result<String, AllocError> {
+    let need = need_text(alloc, need)?;
+    let answer = answer_text(alloc, answer)?;
+    format!(in alloc; "{need}: {answer}")
 }
 
 /// What a message needs, and what it is answered: `MESSAGE SEEN`.
@@ -51,7 +57,5 @@ pub fn obey(alloc: Global, scenario: &mut Scenario, text: &str) -> anyhow::Resul
     let mut words = text.split_whitespace();
     let octets = piece(alloc, &mut words)?;
     let (need, answer) = scenario.obey(alloc, octets.as_slice(), seen(&mut words))?;
-    let need = need_text(alloc, &need)?;
-    let answer = answer_text(alloc, &answer)?;
-    Ok(format!(in alloc; "{need}: {answer}")?)
+    Ok(told(alloc, &need, &answer)?)
 }

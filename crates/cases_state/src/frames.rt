@@ -3,7 +3,7 @@ ghost use Rattle.frame_shield.specs.Binding.{IsBinding};
 
 use crate::scenario::Scenario;
 use crate::shielding::{UNTOUCHED, write_frame};
-use case_lines::{number_at, word_at};
+use case_lines::{number_at, said, word_at};
 use case_units::{open_reply_text, shield_fault_text};
 use frame_shield::{Binding, FRAME_ROOM};
 use std::alloc::{AllocError, Global};
@@ -26,7 +26,7 @@ fn shielded(
     let mut out = [UNTOUCHED; FRAME_ROOM];
     match write_frame(binding, number, clear, &mut out) {
         Ok(Some(count)) => frame_text(alloc, binding, out.get(..count).unwrap_or(&[])),
-        Ok(None) => format!(in alloc; "no number"),
+        Ok(None) => String::from_str(alloc, "no number"),
         Err(fault) => shield_fault_text(alloc, fault),
     }
 }
@@ -50,7 +50,7 @@ pub fn protect(alloc: Global, scenario: &Scenario, line: &str) -> anyhow::Result
         Ok(Some(binding)) => {
             Ok(shielded(alloc, &binding, number_at(line, 1), clear.as_slice())?)
         }
-        Ok(None) => Ok(format!(in alloc; "clear")?),
+        Ok(None) => said(alloc, "clear"),
         Err(fault) => Ok(shield_fault_text(alloc, fault)?),
     }
 }

@@ -1,6 +1,7 @@
 // Security headers, rooms and masks.
+use case_lines::said;
 use sdls_base::{Spi, Suite};
-use sdls_header::{SecurityHeader, Vector, masked, read_spi, split, write_header};
+use sdls_header::{SecurityHeader, Split, Vector, masked, read_spi, split, write_header};
 use std::alloc::{AllocError, Global};
 use std::str::SplitWhitespace;
 
@@ -9,7 +10,7 @@ pub fn index(alloc: Global, words: &mut SplitWhitespace<'_>) -> anyhow::Result<S
     let room = case_lines::octets(alloc, words)?;
     match read_spi(room.as_slice()) {
         Some(spi) => Ok(format!(in alloc; "{spi}")?),
-        None => Ok(format!(in alloc; "none")?),
+        None => said(alloc, "none"),
     }
 }
 
@@ -23,13 +24,7 @@ fn vector_text(alloc: Global, vector: &Vector) -> Result<String, AllocError> {
     }
 }
 
-/// A room taken apart.
-pub fn room(alloc: Global, words: &mut SplitWhitespace<'_>) -> anyhow::Result<String> {
-    let suite = case_lines::suite(words).unwrap_or(Suite::Cmac);
-    let room = case_lines::octets(alloc, words)?;
-    let Some(pieces) = split(room.as_slice(), suite) else {
-        return Ok(format!(in alloc; "none")?);
-    };
+fn split_text(alloc: Global, pieces: &Split<'_>) -> anyhow::Result<String> {
     let header = hex::encode(alloc, pieces.header)?;
     let vector = vector_text(alloc, &pieces.vector)?;
     let field = hex::encode(alloc, pieces.field)?;
@@ -37,11 +32,21 @@ pub fn room(alloc: Global, words: &mut SplitWhitespace<'_>) -> anyhow::Result<St
     Ok(format!(in alloc; "header {header} vector {vector} field {field} mac {mac}")?)
 }
 
+/// A room taken apart.
+pub fn room(alloc: Global, words: &mut SplitWhitespace<'_>) -> anyhow::Result<String> {
+    let suite = case_lines::suite(words).unwrap_or(Suite::Cmac);
+    let room = case_lines::octets(alloc, words)?;
+    match split(room.as_slice(), suite) {
+        Some(pieces) => split_text(alloc, &pieces),
+        None => said(alloc, "none"),
+    }
+}
+
 /// A header of each suite as it is written into 15 octets of 55.
 pub fn header(alloc: Global, words: &mut SplitWhitespace<'_>) -> anyhow::Result<String> {
     let kind = words.next();
     let Some(spi) = Spi::new(case_lines::short(words).unwrap_or(0)) else {
-        return Ok(format!(in alloc; "no index")?);
+        return said(alloc, "no index");
     };
     let number = case_lines::number(words).unwrap_or(0);
     let vector = match kind {

@@ -3,6 +3,7 @@
 use ep_codec::{Command, PduError, ReplyPdu, read_pdu, read_reply, write_pdu, write_reply};
 use sdls_base::{NoMemory, Octets};
 use std::alloc::Global;
+use std::fmt::Debug;
 
 /// What is read of a command, and its octets as they are written again.
 fn command_again(alloc: Global, octets: &[u8]) -> Result<(Command, Octets), PduError> {
@@ -22,14 +23,22 @@ fn reply_again(alloc: Global, octets: &[u8]) -> Result<(ReplyPdu, Octets), PduEr
     }
 }
 
+/// What is read, and whether its octets are written again.
+fn shown<T: Debug>(
+    alloc: Global,
+    read: &T,
+    octets: &[u8],
+    written: &Octets,
+) -> anyhow::Result<String> {
+    let again = written.as_slice() == octets;
+    Ok(format!(in alloc; "{read:?}, written again: {again}")?)
+}
+
 /// What is read of a command, and whether its octets are written again, or the first fault.
 fn command(alloc: Global, text: &str) -> anyhow::Result<String> {
     let octets = hex::decode(alloc, text)?;
     match command_again(alloc, octets.as_slice()) {
-        Ok((command, written)) => {
-            let again = written.as_slice() == octets.as_slice();
-            Ok(format!(in alloc; "{command:?}, written again: {again}")?)
-        }
+        Ok((command, written)) => shown(alloc, &command, octets.as_slice(), &written),
         Err(error) => Ok(format!(in alloc; "{error}")?),
     }
 }
@@ -38,10 +47,7 @@ fn command(alloc: Global, text: &str) -> anyhow::Result<String> {
 fn reply(alloc: Global, text: &str) -> anyhow::Result<String> {
     let octets = hex::decode(alloc, text)?;
     match reply_again(alloc, octets.as_slice()) {
-        Ok((reply, written)) => {
-            let again = written.as_slice() == octets.as_slice();
-            Ok(format!(in alloc; "{reply:?}, written again: {again}")?)
-        }
+        Ok((reply, written)) => shown(alloc, &reply, octets.as_slice(), &written),
         Err(error) => Ok(format!(in alloc; "{error}")?),
     }
 }
@@ -93,15 +99,20 @@ fn is_refused(alloc: Global, tag: u8, octets: &[u8]) -> bool {
     fault == Some(1)
 }
 
+/// Whether messages of this tag may have so many octets of data.
+fn is_allowed(alloc: Global, tag: u8, length: u16) -> anyhow::Result<bool> {
+    let octets = of_length(alloc, tag, length)?;
+    Ok(!is_refused(alloc, tag, octets.as_slice()))
+}
+
 /// The lengths up to a greatest one that messages of a tag may have: `TAG GREATEST`, the tag in hexadecimal.
 fn lengths(alloc: Global, text: &str) -> anyhow::Result<String> {
     let (tag, greatest) = text.split_once(' ').unwrap_or((text, ""));
     let tag = hex::decode(alloc, tag)?.first().copied().unwrap_or(0);
     let greatest: u16 = greatest.parse().unwrap_or(0);
-    let mut allowed = format!(in alloc; "lengths")?;
+    let mut allowed = String::from_str(alloc, "lengths")?;
     for length in 0..=greatest {
-        let octets = of_length(alloc, tag, length)?;
-        if !is_refused(alloc, tag, octets.as_slice()) {
+        if is_allowed(alloc, tag, length)? {
             let shown = format!(in alloc; " {length}")?;
             allowed.push_str(shown.as_str())?;
         }

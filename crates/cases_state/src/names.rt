@@ -1,4 +1,5 @@
 // Names, numbers and texts of the plain types.
+use case_lines::said;
 use sdls_base::{
     Change, ChannelId, Direction, FrameFault, KeyId, KeyItem, KeyItems, KeyRows, KeyState,
     NoMemory, Octets, SaState, Spi, Suite, fecf, same_octets,
@@ -9,14 +10,14 @@ use std::str::SplitWhitespace;
 pub fn spi(alloc: Global, words: &mut SplitWhitespace<'_>) -> anyhow::Result<String> {
     match Spi::new(case_lines::short(words).unwrap_or(0)) {
         Some(spi) => Ok(format!(in alloc; "{}", spi.get())?),
-        None => Ok(format!(in alloc; "none")?),
+        None => said(alloc, "none"),
     }
 }
 
 pub fn channel(alloc: Global, words: &mut SplitWhitespace<'_>) -> anyhow::Result<String> {
     match ChannelId::new(case_lines::octet(words).unwrap_or(0)) {
         Some(channel) => Ok(format!(in alloc; "{}", channel.get())?),
-        None => Ok(format!(in alloc; "none")?),
+        None => said(alloc, "none"),
     }
 }
 
@@ -24,7 +25,7 @@ pub fn channel(alloc: Global, words: &mut SplitWhitespace<'_>) -> anyhow::Result
 pub fn key(alloc: Global, words: &mut SplitWhitespace<'_>) -> anyhow::Result<String> {
     match KeyId::new(case_lines::short(words).unwrap_or(0)) {
         Some(key) => Ok(format!(in alloc; "{:?} below {}", key.class(), key.end())?),
-        None => Ok(format!(in alloc; "none")?),
+        None => said(alloc, "none"),
     }
 }
 
@@ -63,7 +64,7 @@ fn change_text(alloc: Global, items: &KeyItems) -> anyhow::Result<String> {
 /// A key that is to be loaded, as it is printed.
 pub fn printed(alloc: Global, words: &mut SplitWhitespace<'_>) -> anyhow::Result<String> {
     let Some(id) = KeyId::new(case_lines::short(words).unwrap_or(0)) else {
-        return Ok(format!(in alloc; "none")?);
+        return said(alloc, "none");
     };
     let items = one_item(alloc, id, case_lines::octets(alloc, words)?)?;
     let text = change_text(alloc, &items)?;
@@ -74,7 +75,7 @@ pub fn printed(alloc: Global, words: &mut SplitWhitespace<'_>) -> anyhow::Result
 /// A list of one row, its copy, and its items given back.
 pub fn rows(alloc: Global, words: &mut SplitWhitespace<'_>) -> anyhow::Result<String> {
     let Some(id) = KeyId::new(case_lines::short(words).unwrap_or(0)) else {
-        return Ok(format!(in alloc; "none")?);
+        return said(alloc, "none");
     };
     let mut list = Vec::new(alloc);
     list.push((id, KeyState::Active))?;

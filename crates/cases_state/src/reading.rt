@@ -17,7 +17,7 @@ fn is_frame(out: &[u8], count: usize, frame: &[u8]) -> bool {
 fn optional(alloc: Global, octets: Option<&[u8]>) -> Result<String, AllocError> {
     match octets {
         Some(octets) => hex::encode(alloc, octets),
-        None => format!(in alloc; "-"),
+        None => String::from_str(alloc, "-"),
     }
 }
 

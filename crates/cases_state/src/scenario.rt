@@ -3,11 +3,12 @@
 //! Each function makes few of the calls that are tested: what the clauses of several say together takes long to prove.
 
 ghost use Rattle.std.specs.Prelude.{IfOk, IfSome};
+ghost use Rattle.ep_codec.specs.Command.{IsInBounds};
 ghost use Rattle.unit_state.specs.Restart.{IsLight};
 ghost use Rattle.frame_shield.specs.Binding.{IsBinding};
 
 use case_units::fits;
-use ep_codec::{Command, PduError, read_pdu};
+use ep_codec::{Command, read_pdu};
 use ep_core::{Need, Reply, judge, plan_change};
 use frame_checks::{OpenReply, binding, open_frame};
 use frame_shield::{Binding, ShieldFault};
@@ -105,21 +106,39 @@ impl Scenario {
         allowed
     }
 
-    fn decide(&self, alloc: Global, message: &[u8], seen: Seen) -> Result<Decision, PduError> {
-        let command = read_pdu(alloc, message)?;
-        let need = judge(&self.state, &command);
+    fn decide(&self, alloc: Global, command: &Command, seen: Seen) -> Result<Decision, NoMemory>
+        requires { IsInBounds command.now }
+    {
+        let need = judge(&self.state, command);
         if !fits(&self.state, &need, seen) {
             return Ok(Decision {
                 need,
                 outcome: None,
             });
         }
-        match plan_change(alloc, &self.state, &command, &seen) {
-            Ok(outcome) => Ok(Decision {
-                need,
-                outcome: Some(outcome),
-            }),
-            Err(NoMemory) => Err(PduError::NoMemory),
+        let outcome = plan_change(alloc, &self.state, command, &seen)?;
+        Ok(Decision {
+            need,
+            outcome: Some(outcome),
+        })
+    }
+
+    fn read_and_decide(
+        &self,
+        alloc: Global,
+        message: &[u8],
+        seen: Seen,
+    ) -> anyhow::Result<Decision> {
+        let command = read_pdu(alloc, message)?;
+        Ok(self.decide(alloc, &command, seen)?)
+    }
+
+    /// Makes the change that was decided: what is answered.
+    fn carry_out(&mut self, change: &Change, reply: Reply) -> Result<Answer, NoMemory> {
+        if self.apply(change)? {
+            Ok(Answer::Told(reply))
+        } else {
+            Ok(Answer::NotAllowed)
         }
     }
 
@@ -130,15 +149,12 @@ impl Scenario {
         message: &[u8],
         seen: Seen,
     ) -> anyhow::Result<(Need, Answer)> {
-        let Decision { need, outcome } = self.decide(alloc, message, seen)?;
-        let Some((change, reply)) = outcome else {
-            return Ok((need, Answer::Unfit));
+        let Decision { need, outcome } = self.read_and_decide(alloc, message, seen)?;
+        let answer = match outcome {
+            Some((change, reply)) => self.carry_out(&change, reply)?,
+            None => Answer::Unfit,
         };
-        if self.apply(&change)? {
-            Ok((need, Answer::Told(reply)))
-        } else {
-            Ok((need, Answer::NotAllowed))
-        }
+        Ok((need, answer))
     }
 
     fn open_only(&self, link: u8, frame: &mut [u8]) -> OpenReply {

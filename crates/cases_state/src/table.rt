@@ -5,27 +5,23 @@ ghost use Rattle.unit_state.specs.Restart.{IsLight};
 
 use crate::scenario::Scenario;
 use crate::{cases, changes, commands, frames, messages, showing};
-use case_lines::{Answers, Gathered};
+use case_lines::{Answers, Gathered, said};
 use sdls_base::Change;
-use std::alloc::{AllocError, Global};
+use std::alloc::Global;
 use unit_plan::PlanError;
 
-fn allowed_text(alloc: Global, allowed: bool) -> Result<String, AllocError> {
-    if allowed {
-        format!(in alloc; "allowed")
-    } else {
-        format!(in alloc; "not allowed")
-    }
+fn allowed_word(allowed: bool) -> &'static str {
+    if allowed { "allowed" } else { "not allowed" }
 }
 
 fn copy(alloc: Global, scenario: &mut Scenario) -> anyhow::Result<String> {
     scenario.take_copy()?;
-    Ok(format!(in alloc; "copied")?)
+    said(alloc, "copied")
 }
 
 fn restart(alloc: Global, scenario: &mut Scenario) -> anyhow::Result<String> {
     scenario.restart();
-    Ok(format!(in alloc; "restarted")?)
+    said(alloc, "restarted")
 }
 
 /// Makes a change of numbers, where there is one that the state allows.
@@ -40,17 +36,26 @@ fn move_numbers(
         Some(change) => scenario.apply_here(&change),
         None => false,
     };
-    Ok(allowed_text(alloc, allowed)?)
+    said(alloc, allowed_word(allowed))
+}
+
+/// Makes a change, where the state allows it.
+fn made(
+    alloc: Global,
+    scenario: &mut Scenario,
+    words: &str,
+    change: &Change,
+) -> anyhow::Result<String> {
+    let allowed = allowed_word(scenario.apply(change)?);
+    Ok(format!(in alloc; "{words}: {allowed}")?)
 }
 
 /// Makes a change in words, where the state allows it.
 fn make(alloc: Global, scenario: &mut Scenario, words: &str) -> anyhow::Result<String> {
-    let Some(change) = changes::read(alloc, words) else {
-        return Ok(format!(in alloc; "{words}: no change")?);
-    };
-    let allowed = scenario.apply(&change)?;
-    let allowed = allowed_text(alloc, allowed)?;
-    Ok(format!(in alloc; "{words}: {allowed}")?)
+    match changes::read(alloc, words) {
+        Some(change) => made(alloc, scenario, words, &change),
+        None => Ok(format!(in alloc; "{words}: no change")?),
+    }
 }
 
 /// What a step that changes numbers or rows answers, none where the word names another.
@@ -83,7 +88,7 @@ fn of_state(
         "do" => commands::obey(alloc, scenario, rest),
         "receive" => frames::open(alloc, scenario, rest),
         "send" => frames::protect(alloc, scenario, rest),
-        _ => Ok(format!(in alloc; "no step")?),
+        _ => said(alloc, "no step"),
     }
 }
 
@@ -122,7 +127,7 @@ impl Table {
         let fault = self.take_plan(alloc);
         self.plan.clear();
         match fault {
-            None => Ok(format!(in alloc; "begun")?),
+            None => said(alloc, "begun"),
             Some(fault) => Ok(format!(in alloc; "{fault}")?),
         }
     }
