@@ -12,4 +12,6 @@ mod inputs;
 #[cfg(test)]
 mod lives;
 #[cfg(test)]
+mod runs;
+#[cfg(test)]
 mod support;

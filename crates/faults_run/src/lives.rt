@@ -1,10 +1,10 @@
 // A site that fails at a call of a run, or from it on, each kind of crash, and what the next run goes on with.
-use crate::support::{CALL_AFTER_OPENING, life};
+use crate::runs::life;
+use crate::support::CALL_AFTER_OPENING;
 use case_lines::number_of;
 use case_runs::{BEGINNING, TELECOMMAND, joined};
 use case_units::{TWO_SENDERS, image_of, image_of_sender};
 use sdls_outside::{Crash, MemSite};
-use sdls_run::OpenGate;
 use sdls_run::status::{DONE, SITE_FAULT};
 use std::alloc::{AllocError, Global};
 use std::process::Abort;
@@ -73,19 +73,39 @@ fn numbers_with(alloc: Global, code: u8, sunk: &[u8]) -> Result<Vec<u64>, AllocE
     Ok(numbers)
 }
 
-/// A run over the records: its status, and the site.
-fn run_of<R: Threads + Wait + Sync>(
-    rt: &R,
-    alloc: Global,
-    records: &[&[u8]],
-    site: MemSite,
-) -> Result<(u8, MemSite), Fail> {
+/// The input of these records.
+fn input_of(alloc: Global, records: &[&[u8]]) -> Result<Vec<u8>, AllocError> {
     let mut input = joined(alloc, &[BEGINNING])?;
     for record in records {
         input.extend_from_slice(record)?;
     }
-    let (status, _, site) = life(rt, alloc, input, site, &OpenGate)?;
-    Ok((status, site))
+    Ok(input)
+}
+
+/// A run over the records, which ends with this status: the site.
+fn run_of<R: Threads + Wait + Sync + Abort>(
+    rt: &R,
+    alloc: Global,
+    records: &[&[u8]],
+    site: MemSite,
+    wanted: u8,
+) -> Result<MemSite, Fail> {
+    let input = input_of(alloc, records)?;
+    let (status, _, site) = life(rt, alloc, input, site)?;
+    assert_eq!(rt; status, wanted);
+    Ok(site)
+}
+
+/// The numbers of the answers with this code of a run over the records, which ends well.
+fn numbers_of<R: Threads + Wait + Sync + Abort>(
+    rt: &R,
+    alloc: Global,
+    code: u8,
+    records: &[&[u8]],
+    site: MemSite,
+) -> Result<Vec<u64>, Fail> {
+    let site = run_of(rt, alloc, records, site, DONE)?;
+    Ok(numbers_with(alloc, code, site.sunk())?)
 }
 
 /// A site with this image that fails at a call alone, or from it on.
@@ -102,6 +122,23 @@ fn faulty_site(
     Ok(MemSite::new(alloc, image, vec![in alloc; call]?, None))
 }
 
+/// A run over the records on a site that fails from a call on that the run does not make: it ends well, and the answers
+/// with this code have these numbers.
+fn judge_whole<R: Threads + Wait + Sync + Abort>(
+    rt: &R,
+    alloc: Global,
+    image: &[u8],
+    calls: u64,
+    code: u8,
+    records: &[&[u8]],
+    wanted: &[u64],
+) -> Result<(), Fail> {
+    let site = faulty_site(alloc, image, calls, true)?;
+    let numbers = numbers_of(rt, alloc, code, records, site)?;
+    assert_eq!(rt; numbers.as_slice(), wanted);
+    Ok(())
+}
+
 /// Runs the first records on a site that fails at a call, and after a crash the others. Answers the numbers of the
 /// answers with this code, of both runs.
 fn two_runs<R: Threads + Wait + Sync + Abort>(
@@ -113,12 +150,10 @@ fn two_runs<R: Threads + Wait + Sync + Abort>(
     first: &[&[u8]],
     later: &[&[u8]],
 ) -> Result<(Vec<u64>, Vec<u64>), Fail> {
-    let (status, site) = run_of(rt, alloc, first, site)?;
-    assert_eq!(rt; status, SITE_FAULT);
+    let site = run_of(rt, alloc, first, site, SITE_FAULT)?;
     let before = numbers_with(alloc, code, site.sunk())?;
-    let (status, site) = run_of(rt, alloc, later, site.crashed(crash))?;
-    assert_eq!(rt; status, DONE);
-    Ok((before, numbers_with(alloc, code, site.sunk())?))
+    let after = numbers_of(rt, alloc, code, later, site.crashed(crash))?;
+    Ok((before, after))
 }
 
 /// The records of three frames to be opened, the last of which has a wrong MAC.
@@ -148,11 +183,8 @@ fn accepts_once<R: Threads + Wait + Sync + Abort>(
 fn no_number_is_accepted_twice_after_any_fault(rt: HostRuntime) -> Result<(), Fail> {
     let alloc = rt.alloc();
     let image = image_of(alloc, RECEIVER, 16).ok_or("no image")?;
-    let site = faulty_site(alloc, &image, CALLS_OF_RECEIVER, true)?;
-    let (status, site) = run_of(&rt, alloc, &FRAMES, site)?;
-    assert_eq!(rt; status, DONE);
-    let accepted = numbers_with(alloc, 1, site.sunk())?;
-    assert_eq!(rt; accepted.as_slice(), [3_913_121_297].as_slice());
+    let wanted = [3_913_121_297];
+    judge_whole(&rt, alloc, &image, CALLS_OF_RECEIVER, 1, &FRAMES, &wanted)?;
     for call in 0..CALL_AFTER_OPENING {
         accepts_once(&rt, alloc, &image, call, Crash::Kept, false)?;
     }
@@ -199,8 +231,8 @@ fn serves_once<R: Threads + Wait + Sync + Abort>(
     let site = faulty_site(alloc, image, call, for_good)?;
     let (before, after) = two_runs(rt, alloc, 0, site, crash, &ORDERS, &LATER)?;
     assert_eq!(rt; after.len(), 5, "at call {call}");
-    for number in after {
-        assert!(rt; !before.contains(&number), "at call {call}");
+    for number in &after {
+        assert!(rt; !before.contains(number), "at call {call}");
     }
     Ok(())
 }
@@ -210,11 +242,8 @@ fn serves_once<R: Threads + Wait + Sync + Abort>(
 fn no_number_serves_twice_after_any_fault_of_a_command(rt: HostRuntime) -> Result<(), Fail> {
     let alloc = rt.alloc();
     let image = image_of_sender(alloc, 16, 4, TWO_SENDERS).ok_or("no image")?;
-    let site = faulty_site(alloc, &image, CALLS_OF_SENDER, true)?;
-    let (status, site) = run_of(&rt, alloc, &ORDERS, site)?;
-    assert_eq!(rt; status, DONE);
-    let served = numbers_with(alloc, 0, site.sunk())?;
-    assert_eq!(rt; served.as_slice(), [1, 2, 3, 4].as_slice());
+    let wanted = [1, 2, 3, 4];
+    judge_whole(&rt, alloc, &image, CALLS_OF_SENDER, 0, &ORDERS, &wanted)?;
     for call in CALL_AFTER_OPENING..CALLS_OF_SENDER {
         serves_once(&rt, alloc, &image, call, Crash::Kept, false)?;
         serves_once(&rt, alloc, &image, call, Crash::Lost, false)?;

@@ -1,14 +1,9 @@
-// What the tests share: images, runs, and the answers that are due. The octets are written by hand from the formats;
+// What the tests share: images, sites, and the answers that are due. The octets are written by hand from the formats;
 // the MACs come from an AES-CMAC of another hand, tried on the vectors of RFC 4493.
-use case_lines::words_of;
-use case_runs::{BEGINNING, FENCE, TELECOMMAND, joined};
 use case_units::{TELECOMMAND_SENDER, image_of_sender};
-use sdls_outside::{MemSite, Site, SureSource};
-use sdls_run::{Gate, OpenGate, Outcome, run};
+use sdls_outside::MemSite;
 use std::alloc::{AllocError, Global};
-use std::sync::Wait;
 use std::test::Fail;
-use std::thread::Threads;
 
 /// The numbers from 1 on, and the MAC of that frame under each.
 pub(crate) const NUMBERS: [(u32, &str); 5] = [
@@ -50,49 +45,6 @@ pub(crate) fn failing_site(alloc: Global, image: &[u8], call: u64) -> Result<Mem
 /// A site that holds the image of the plan, and fails from one call on.
 pub(crate) fn dead_site(alloc: Global, call: u64) -> Result<MemSite, Fail> {
     Ok(MemSite::new(alloc, image(alloc)?, Vec::new(alloc), Some(call)))
-}
-
-/// A run over an input: its status, the count of its entries, and the site.
-pub(crate) fn life<R: Threads + Wait + Sync, O: Site + Send + Drop, G: Gate + Sync>(
-    rt: &R,
-    alloc: Global,
-    input: Vec<u8>,
-    site: O,
-    gate: &G,
-) -> Result<(u8, usize, O), AllocError> {
-    let words = words_of(alloc, "run")?;
-    let mut source = SureSource::new(input);
-    let Outcome {
-        status,
-        site,
-        entries,
-    } = run(rt, alloc, words.as_slice(), &mut source, site, gate);
-    Ok((status, entries.len(), site))
-}
-
-/// A run over an input in one piece.
-pub(crate) fn life_of<R: Threads + Wait + Sync>(
-    rt: &R,
-    alloc: Global,
-    pieces: &[&[u8]],
-    site: MemSite,
-) -> Result<(u8, usize, MemSite), AllocError> {
-    life(rt, alloc, joined(alloc, pieces)?, site, &OpenGate)
-}
-
-/// A run over this many recorded frames of six octets, each with a fence behind it.
-pub(crate) fn life_of_frames<R: Threads + Wait + Sync>(
-    rt: &R,
-    alloc: Global,
-    count: usize,
-    site: MemSite,
-) -> Result<(u8, usize, MemSite), AllocError> {
-    let mut input = joined(alloc, &[BEGINNING])?;
-    for _ in 0..count {
-        input.extend_from_slice(TELECOMMAND)?;
-        input.extend_from_slice(FENCE)?;
-    }
-    life(rt, alloc, input, site, &OpenGate)
 }
 
 /// The first 24 octets of the answer to that frame under a number.
