@@ -2,19 +2,19 @@
 // the clauses would be carried through each step behind the call.
 use case_lines::words_of;
 use case_runs::{BEGINNING, FENCE, TELECOMMAND, joined};
-use sdls_outside::{MemSite, SureSource};
+use sdls_outside::{MemSite, Site, Source, SureSource};
 use sdls_run::{OpenGate, Outcome, run, run_plain};
 use std::alloc::{AllocError, Global};
 use std::sync::Wait;
 use std::thread::Threads;
 
-fn ran<R: Threads + Wait + Sync>(
+fn ran<R: Threads + Wait + Sync, S: Source, O: Site + Send + Drop>(
     rt: &R,
     alloc: Global,
     words: &[String],
-    source: &mut SureSource,
-    site: MemSite,
-) -> (u8, usize, MemSite) {
+    source: &mut S,
+    site: O,
+) -> (u8, usize, O) {
     let Outcome {
         status,
         site,
@@ -24,12 +24,12 @@ fn ran<R: Threads + Wait + Sync>(
 }
 
 /// The call `run_plain`: the status, and the site.
-pub(crate) fn ran_plain(
+pub(crate) fn ran_plain<S: Source, O: Site + Drop>(
     alloc: Global,
     words: &[String],
-    source: &mut SureSource,
-    site: MemSite,
-) -> (u8, MemSite) {
+    source: &mut S,
+    site: O,
+) -> (u8, O) {
     let Outcome {
         status,
         site,
