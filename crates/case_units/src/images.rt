@@ -54,10 +54,15 @@ pub fn image_of_sender(alloc: Global, slots: u32, block: u64, lines: &str) -> Op
 }
 
 /// What the word says that a crash leaves: what was written, what was synced, or an octet for each that was torn.
-pub fn crash_of(word: &str) -> Crash {
+fn crash_of(word: &str) -> Crash {
     match word {
         "kept" => Crash::Kept,
         "lost" => Crash::Lost,
         _ => Crash::Filled(word.parse().unwrap_or(0)),
     }
+}
+
+/// The image after the crash that the word says.
+pub fn image_after(alloc: Global, site: MemSite, word: &str) -> Result<Vec<u8>, AllocError> {
+    Vec::from_slice(alloc, site.crashed(crash_of(word)).image())
 }

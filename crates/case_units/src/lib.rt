@@ -7,7 +7,7 @@ mod needs;
 mod texts;
 
 pub use images::{
-    TELECOMMAND_SENDER, TWO_SENDERS, crash_of, image_of, image_of_sender, plan_of_sender,
+    TELECOMMAND_SENDER, TWO_SENDERS, image_after, image_of, image_of_sender, plan_of_sender,
 };
 pub use needs::fits;
 pub use texts::{open_reply_text, reply_text, shield_fault_text};

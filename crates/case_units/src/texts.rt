@@ -9,8 +9,8 @@ use std::alloc::{AllocError, Global};
 pub fn shield_fault_text(alloc: Global, fault: ShieldFault) -> Result<String, AllocError> {
     match fault {
         ShieldFault::Layout(check) => format!(in alloc; "layout {check}"),
-        ShieldFault::Channel => format!(in alloc; "channel"),
-        ShieldFault::State => format!(in alloc; "state"),
+        ShieldFault::Channel => String::from_str(alloc, "channel"),
+        ShieldFault::State => String::from_str(alloc, "state"),
     }
 }
 
@@ -32,17 +32,17 @@ pub fn open_reply_text(
             let field = hex::encode(alloc, frame.get(from..to).unwrap_or(&[]))?;
             format!(in alloc; "accepted {spi} {key} {number} {field}")
         }
-        OpenReply::Clear => format!(in alloc; "clear"),
+        OpenReply::Clear => String::from_str(alloc, "clear"),
         OpenReply::Layout(check) => format!(in alloc; "layout {check}"),
-        OpenReply::Channel => format!(in alloc; "channel"),
-        OpenReply::Spi => format!(in alloc; "spi"),
-        OpenReply::Direction => format!(in alloc; "direction"),
+        OpenReply::Channel => String::from_str(alloc, "channel"),
+        OpenReply::Spi => String::from_str(alloc, "spi"),
+        OpenReply::Direction => String::from_str(alloc, "direction"),
         OpenReply::State(state) => {
             let state = sa_state_name(state);
             format!(in alloc; "state {state}")
         }
-        OpenReply::Coverage => format!(in alloc; "coverage"),
-        OpenReply::Mac => format!(in alloc; "mac"),
+        OpenReply::Coverage => String::from_str(alloc, "coverage"),
+        OpenReply::Mac => String::from_str(alloc, "mac"),
         OpenReply::Number {
             key,
             number,

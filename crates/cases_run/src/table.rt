@@ -1,15 +1,32 @@
 //! The steps, and what they answer.
 
 use crate::answers::answers;
-use case_lines::{Gathered, number_at, numbers, part_of, set_part_of, word_at, words_of};
+use case_lines::{Gathered, number_at, numbers, part_of, said, set_part_of, word_at, words_of};
 use case_runs::BEGINNING;
-use case_units::crash_of;
-use sdls_outside::{MemSite, MemSource, Site};
+use case_units::image_after;
+use sdls_outside::{MemSite, MemSource, Site, Source};
 use sdls_run::{OpenGate, Outcome, run};
 use std::alloc::{AllocError, Global};
 use std::mem;
 use std::sync::Wait;
 use std::thread::Threads;
+
+/// The call `run`: its status, the count of its entries, and the site. What it ensures is not said again: the clauses would
+/// be carried through each step behind the call.
+fn ran<R: Threads + Wait + Sync, S: Source, O: Site + Send + Drop>(
+    rt: &R,
+    alloc: Global,
+    words: &[String],
+    source: &mut S,
+    site: O,
+) -> (u8, usize, O) {
+    let Outcome {
+        status,
+        site,
+        entries,
+    } = run(rt, alloc, words, source, site, &OpenGate);
+    (status, entries.len(), site)
+}
 
 /// The text that was put, behind a line feed and without its own last one.
 fn text_put(alloc: Global, sunk: &[u8]) -> anyhow::Result<String> {
@@ -19,6 +36,21 @@ fn text_put(alloc: Global, sunk: &[u8]) -> anyhow::Result<String> {
         return Ok(String::new(alloc));
     }
     Ok(format!(in alloc; "\n{text}")?)
+}
+
+/// What the words of a line answered: status, count of entries, and what was put.
+fn told_of(
+    alloc: Global,
+    line: &str,
+    status: u8,
+    count: usize,
+    sunk: &[u8],
+) -> anyhow::Result<String> {
+    let text = match line {
+        "run" => answers(alloc, sunk)?,
+        _ => { text_put(alloc, sunk)? }
+    };
+    Ok(format!(in alloc; "status {status} entries {count}{text}")?)
 }
 
 /// What was gathered: a plan and an input, the calls that are to fail and the pieces of the source; the image as it
@@ -93,19 +125,17 @@ impl Table {
         let image = mem::replace(&mut self.image, Vec::new(alloc));
         let mut source = MemSource::new(input, self.pieces.max(1), broken);
         let site = MemSite::new(alloc, image, failing, self.dead.take());
-        let Outcome {
-            status,
-            site,
-            entries,
-        } = run(rt, alloc, words.as_slice(), &mut source, site, &OpenGate);
-        let count = entries.len();
-        let text = match line {
-            "run" => answers(alloc, site.sunk())?,
-            _ => { text_put(alloc, site.sunk())? }
-        };
+        let (status, count, site) = ran(rt, alloc, words.as_slice(), &mut source, site);
+        let told = told_of(alloc, line, status, count, site.sunk());
+        self.keep_site(alloc, site)?;
+        told
+    }
+
+    /// Keeps the site, and its image for the next step.
+    fn keep_site(&mut self, alloc: Global, site: MemSite) -> Result<(), AllocError> {
         self.image = Vec::from_slice(alloc, site.image())?;
         self.last = Some(site);
-        Ok(format!(in alloc; "status {status} entries {count}{text}")?)
+        Ok(())
     }
 
     fn init<R: Threads + Wait + Sync>(&mut self, rt: &R, alloc: Global) -> anyhow::Result<String> {
@@ -126,10 +156,10 @@ impl Table {
 
     fn crash(&mut self, alloc: Global, rest: &str) -> anyhow::Result<String> {
         let Some(site) = self.last.take() else {
-            return Ok(format!(in alloc; "no site")?);
+            return said(alloc, "no site");
         };
-        self.image = Vec::from_slice(alloc, site.crashed(crash_of(rest)).image())?;
-        Ok(format!(in alloc; "crashed")?)
+        self.image = image_after(alloc, site, rest)?;
+        said(alloc, "crashed")
     }
 
     /// The image's length, whether it is the kept one, or what the last site has sunk.
@@ -140,14 +170,12 @@ impl Table {
                 let faults = site.faults();
                 Ok(format!(in alloc; "sunk {sunk} faults {faults}")?)
             }
-            ("same", _) if self.image.as_slice() == self.kept.as_slice() => {
-                Ok(format!(in alloc; "same")?)
-            }
+            ("same", _) if self.image.as_slice() == self.kept.as_slice() => { said(alloc, "same") }
             ("image", _) => {
                 let length = self.image.len();
                 Ok(format!(in alloc; "image of {length}")?)
             }
-            _ => Ok(format!(in alloc; "no")?),
+            _ => said(alloc, "no"),
         }
     }
 

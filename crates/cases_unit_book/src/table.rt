@@ -2,11 +2,28 @@
 
 use crate::texts;
 use crate::unit::Unit;
-use case_lines::{Answers, Gathered, number_at, numbers, part_of, set_part_of};
-use case_units::{crash_of, image_of};
+use case_lines::{Answers, Gathered, number_at, numbers, part_of, said, set_part_of};
+use case_units::{image_after, image_of};
 use sdls_outside::MemSite;
-use std::alloc::Global;
+use std::alloc::{AllocError, Global};
 use std::mem;
+use unit_image::OpenFault;
+
+/// What a call of the unit that takes octets answers.
+fn called(
+    alloc: Global,
+    unit: &mut Unit<MemSite>,
+    word: &str,
+    link: u8,
+    octets: &mut [u8],
+) -> Result<String, AllocError> {
+    match word {
+        "protect" => unit.protect(alloc, link, octets),
+        "accept" => unit.accept(alloc, link, octets),
+        "do" => unit.command(alloc, octets),
+        _ => unit.put(alloc, octets),
+    }
+}
 
 /// The lines of a plan and of a life that were gathered, the image as it lies and the one that was kept, the calls that
 /// are to fail, and the unit that is open.
@@ -46,7 +63,7 @@ impl Table {
 
     fn set(&mut self, alloc: Global, rest: &str) -> anyhow::Result<String> {
         set_part_of(alloc, self.image.as_mut_slice(), rest)?;
-        Ok(format!(in alloc; "set")?)
+        said(alloc, "set")
     }
 
     fn cut(&mut self, alloc: Global, rest: &str) -> anyhow::Result<String> {
@@ -58,12 +75,12 @@ impl Table {
 
     fn keep(&mut self, alloc: Global) -> anyhow::Result<String> {
         self.kept = Vec::from_slice(alloc, self.image.as_slice())?;
-        Ok(format!(in alloc; "kept")?)
+        said(alloc, "kept")
     }
 
     fn back(&mut self, alloc: Global) -> anyhow::Result<String> {
         self.image = Vec::from_slice(alloc, self.kept.as_slice())?;
-        Ok(format!(in alloc; "back")?)
+        said(alloc, "back")
     }
 
     fn open(&mut self, alloc: Global) -> anyhow::Result<String> {
@@ -72,25 +89,38 @@ impl Table {
         match Unit::open(alloc, MemSite::new(alloc, image, failing, None)) {
             Ok(unit) => {
                 self.unit = Some(unit);
-                Ok(format!(in alloc; "opened")?)
+                said(alloc, "opened")
             }
-            Err((fault, site)) => {
-                let fault = texts::open_fault(alloc, &fault)?;
-                let same = if site.image() == self.image.as_slice() {
-                    "unchanged"
-                } else {
-                    "changed"
-                };
-                Ok(format!(in alloc; "{fault}, {same}")?)
-            }
+            Err((fault, site)) => self.not_opened(alloc, &fault, &site),
         }
+    }
+
+    /// Why the image was not opened, and whether the site holds it still.
+    fn not_opened(
+        &self,
+        alloc: Global,
+        fault: &OpenFault,
+        site: &MemSite,
+    ) -> anyhow::Result<String> {
+        let fault = texts::open_fault(alloc, fault)?;
+        let same = if site.image() == self.image.as_slice() {
+            "unchanged"
+        } else {
+            "changed"
+        };
+        Ok(format!(in alloc; "{fault}, {same}")?)
     }
 
     fn close(&mut self, alloc: Global) -> anyhow::Result<String> {
         let Some(unit) = self.unit.take() else {
-            return Ok(format!(in alloc; "no unit")?);
+            return said(alloc, "no unit");
         };
         let (site, entries) = unit.into_site();
+        self.closed(alloc, &site, entries)
+    }
+
+    /// Takes the image of a site, and tells what it has sunk.
+    fn closed(&mut self, alloc: Global, site: &MemSite, entries: usize) -> anyhow::Result<String> {
         self.image = Vec::from_slice(alloc, site.image())?;
         let sunk = hex::encode(alloc, site.sunk())?;
         Ok(format!(in alloc; "closed after {entries}, sunk {sunk}")?)
@@ -98,30 +128,26 @@ impl Table {
 
     fn crash(&mut self, alloc: Global, rest: &str) -> anyhow::Result<String> {
         let Some(unit) = self.unit.take() else {
-            return Ok(format!(in alloc; "no unit")?);
+            return said(alloc, "no unit");
         };
         let (site, entries) = unit.into_site();
-        self.image = Vec::from_slice(alloc, site.crashed(crash_of(rest)).image())?;
+        self.image = image_after(alloc, site, rest)?;
         Ok(format!(in alloc; "crashed after {entries}")?)
     }
 
     /// What a step of the open unit answers.
     fn unit_answer(&mut self, alloc: Global, word: &str, rest: &str) -> anyhow::Result<String> {
         let Some(unit) = &mut self.unit else {
-            return Ok(format!(in alloc; "no unit")?);
+            return said(alloc, "no unit");
         };
         match word {
-            "release" => return Ok(unit.release(alloc)?),
-            "tell" => return Ok(unit.tell(alloc)?),
-            _ => {}
-        }
-        let mut octets = hex::decode(alloc, rest.split_whitespace().last().unwrap_or(""))?;
-        let link = u8::try_from(number_at(rest, 0)).unwrap_or(255);
-        match word {
-            "protect" => Ok(unit.protect(alloc, link, octets.as_slice())?),
-            "accept" => Ok(unit.accept(alloc, link, octets.as_mut_slice())?),
-            "do" => Ok(unit.command(alloc, octets.as_slice())?),
-            _ => Ok(unit.put(alloc, octets.as_slice())?),
+            "release" => Ok(unit.release(alloc)?),
+            "tell" => Ok(unit.tell(alloc)?),
+            _ => {
+                let link = u8::try_from(number_at(rest, 0)).unwrap_or(255);
+                let mut octets = hex::decode(alloc, rest.split_whitespace().last().unwrap_or(""))?;
+                Ok(called(alloc, unit, word, link, octets.as_mut_slice())?)
+            }
         }
     }
 
@@ -168,11 +194,11 @@ impl Table {
         match word {
             "forget" => {
                 self.life.clear();
-                Ok(Some(format!(in alloc; "forgotten")?))
+                Ok(Some(said(alloc, "forgotten")?))
             }
             "failing" => {
                 self.failing = numbers(alloc, rest)?;
-                Ok(Some(format!(in alloc; "failing")?))
+                Ok(Some(said(alloc, "failing")?))
             }
             "protect" | "accept" | "do" | "release" | "put" | "tell" => {
                 Ok(Some(self.unit_answer(alloc, word, rest)?))
@@ -208,8 +234,13 @@ impl Table {
     /// Does the steps of the life, and tells each answer in a line.
     fn live(&mut self, alloc: Global) -> anyhow::Result<String> {
         let life = String::from_str(alloc, self.life.as_str())?;
+        self.steps(alloc, life.as_str())
+    }
+
+    /// Does these steps, and tells each answer in a line.
+    fn steps(&mut self, alloc: Global, steps: &str) -> anyhow::Result<String> {
         let mut answers = String::new(alloc);
-        for (i, step) in life.as_str().lines().enumerate() {
+        for (i, step) in steps.lines().enumerate() {
             if i > 0 {
                 answers.push_str("\n")?;
             }

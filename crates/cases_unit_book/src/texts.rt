@@ -27,7 +27,7 @@ pub fn open_fault(alloc: Global, fault: &OpenFault) -> Result<String, AllocError
     match fault {
         OpenFault::SiteFault(count) => format!(in alloc; "site fault {count}"),
         OpenFault::Image(offset) => format!(in alloc; "image {offset}"),
-        OpenFault::NoMemory => format!(in alloc; "no memory"),
+        OpenFault::NoMemory => String::from_str(alloc, "no memory"),
     }
 }
 
@@ -37,7 +37,7 @@ pub fn book_fault(alloc: Global, fault: &BookFault) -> Result<String, AllocError
         BookFault::SiteFault(count) => format!(in alloc; "site fault {count}"),
         BookFault::Stopped(count) => format!(in alloc; "stopped {count}"),
         BookFault::JournalFull(slots) => format!(in alloc; "journal full {slots}"),
-        BookFault::SessionFull => format!(in alloc; "session full"),
-        BookFault::NoMemory => format!(in alloc; "no memory"),
+        BookFault::SessionFull => String::from_str(alloc, "session full"),
+        BookFault::NoMemory => String::from_str(alloc, "no memory"),
     }
 }

@@ -1,7 +1,7 @@
 //! A unit on one lane: the book, and the next number of each key.
 
-ghost use Rattle.std.specs.Prelude.{◌≡◌, ◌≤◌, ℕ, ◌<◌, true, length, slice_index};
-ghost use Rattle.frame_shield.specs.Binding.{IsBinding};
+ghost use Rattle.std.specs.Prelude.{◌≡◌, ◌≤◌, ℕ, ◌<◌, None, true, length, slice_index};
+ghost use Rattle.frame_shield.specs.Binding.{IsBinding, clear_fault};
 
 use crate::texts;
 use case_units::{open_reply_text, reply_text, shield_fault_text};
@@ -60,6 +60,26 @@ fn push_marks(next: &mut Vec<u64>, rows: &[KeyRow]) {
     for row in rows.iter().skip(done) {
         let _pushed = next.push(row.mark);
     }
+}
+
+/// The frame protected under the number that was drawn, with index, key and number.
+fn frame_text(
+    alloc: Global,
+    binding: &Binding,
+    number: u64,
+    clear: &[u8],
+) -> Result<String, AllocError>
+    requires binding { IsBinding binding.now }
+    requires fits { clear_fault binding.now clear.now ≡ None }
+{
+    if number == 0 || number >= binding.key.end() {
+        return String::from_str(alloc, "no number");
+    }
+    let mut out = [0; 2_048];
+    let count = shield(binding, number, clear, &mut out);
+    let (spi, key) = (binding.spi.get(), binding.key.get());
+    let frame = hex::encode(alloc, out.get(..count).unwrap_or(&[]))?;
+    format!(in alloc; "protected {spi} {key} {number} {frame}")
 }
 
 impl<O: Site> Unit<O> {
@@ -146,20 +166,13 @@ impl<O: Site> Unit<O> {
         if let Err(fault) = fits(binding, clear) {
             return shield_fault_text(alloc, fault);
         }
-        let key = binding.key.get();
         match self.draw(binding.key) {
-            Ok(Seen::Number(number)) => {
-                if number == 0 || number >= binding.key.end() {
-                    return format!(in alloc; "no number");
-                }
-                let mut out = [0; 2_048];
-                let count = shield(binding, number, clear, &mut out);
-                let spi = binding.spi.get();
-                let frame = hex::encode(alloc, out.get(..count).unwrap_or(&[]))?;
-                format!(in alloc; "protected {spi} {key} {number} {frame}")
+            Ok(Seen::Number(number)) => frame_text(alloc, binding, number, clear),
+            Ok(Seen::Exhausted(number)) => {
+                let key = binding.key.get();
+                format!(in alloc; "exhausted {key} {number}")
             }
-            Ok(Seen::Exhausted(number)) => format!(in alloc; "exhausted {key} {number}"),
-            Ok(Seen::Nothing | Seen::Word(_)) => format!(in alloc; "no number"),
+            Ok(Seen::Nothing | Seen::Word(_)) => String::from_str(alloc, "no number"),
             Err(fault) => texts::book_fault(alloc, &fault),
         }
     }
@@ -168,7 +181,7 @@ impl<O: Site> Unit<O> {
     pub fn protect(&mut self, alloc: Global, link: u8, clear: &[u8]) -> Result<String, AllocError> {
         match self.book.binding(link, clear) {
             Ok(Some(binding)) => self.shielded(alloc, &binding, clear),
-            Ok(None) => format!(in alloc; "clear"),
+            Ok(None) => String::from_str(alloc, "clear"),
             Err(fault) => shield_fault_text(alloc, fault),
         }
     }
@@ -223,10 +236,10 @@ impl<O: Site> Unit<O> {
         seen: Seen,
     ) -> Result<String, AllocError> {
         let Ok(need) = self.book.need(message) else {
-            return format!(in alloc; "no memory");
+            return String::from_str(alloc, "no memory");
         };
         if !case_units::fits(self.book.state(), &need, seen) {
-            return format!(in alloc; "unfit");
+            return String::from_str(alloc, "unfit");
         }
         one_command();
         command_without_fault();
@@ -242,7 +255,7 @@ impl<O: Site> Unit<O> {
     /// Does what a message asks.
     pub fn command(&mut self, alloc: Global, message: &[u8]) -> Result<String, AllocError> {
         let Ok(need) = self.book.need(message) else {
-            return format!(in alloc; "no memory");
+            return String::from_str(alloc, "no memory");
         };
         let answer = self.obey(alloc, message, &need)?;
         self.meet();
@@ -252,10 +265,10 @@ impl<O: Site> Unit<O> {
     /// Releases what was not used.
     pub fn release(&mut self, alloc: Global) -> Result<String, AllocError> {
         if !are_words(self.next.as_slice(), self.book.rows()) {
-            return format!(in alloc; "no words");
+            return String::from_str(alloc, "no words");
         }
         match self.book.release(self.next.as_slice()) {
-            Ok(()) => format!(in alloc; "released"),
+            Ok(()) => String::from_str(alloc, "released"),
             Err(fault) => texts::book_fault(alloc, &fault),
         }
     }
@@ -263,7 +276,7 @@ impl<O: Site> Unit<O> {
     /// Hands octets to the sink.
     pub fn put(&mut self, alloc: Global, octets: &[u8]) -> Result<String, AllocError> {
         match self.book.put(octets) {
-            Ok(()) => format!(in alloc; "put"),
+            Ok(()) => String::from_str(alloc, "put"),
             Err(fault) => texts::book_fault(alloc, &fault),
         }
     }
