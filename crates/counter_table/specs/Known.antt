@@ -40,14 +40,14 @@ pub record Earlier (one other : Known) : Type 0 where
   pub stood : Rose other.opening.faults one.faults → other.standing ≡ one.standing
 
 -- from the one to the other no fault came, where no put failed and all entries stand
-abbrev pub IsCalm : Known → Known → Type 0
-IsCalm one other = Rose other.opening.faults other.faults → other.put_faults ≤ one.put_faults
+abbrev pub RiseHasCause : Known → Known → Type 0
+RiseHasCause one other = Rose other.opening.faults other.faults → other.put_faults ≤ one.put_faults
     → entries other.log ≤ other.standing → Rose other.opening.faults one.faults
 
 -- from the one to the other no more puts failed than pieces were put, and only so, or by an entry that was left out, did
 -- a fault come
 abbrev pub IsSparing : Known → Known → Type 0
-IsSparing one other = (other.put_faults + pieces one.log ≤ one.put_faults + pieces other.log) × IsCalm one other
+IsSparing one other = (other.put_faults + pieces one.log ≤ one.put_faults + pieces other.log) × RiseHasCause one other
 
 -- no mark fell
 abbrev pub LowersNoMark : Known → Known → Type 0

@@ -21,7 +21,7 @@ use Rattle.run_promise.specs.Machine.{Move}
 use Rattle.law_workers.specs.Exact.{words_in}
 use Rattle.law_workers.specs.InTurn.{IsLeftBehind, IsLevel, ServedBetween, stood_in}
 use Rattle.law_workers.specs.Alone.{MovedInTurn, ServedAlone}
-use Rattle.law_workers.proofs.Turns.{all_on, level_on, log_low, row_on, settled_on, stood_on}
+use Rattle.law_workers.proofs.Turns.{all_on, level_on, log_low, row_on, backed_on, stood_on}
 use Rattle.law_workers.proofs.Alone.{below_log, exact_seen, seen_moves, turns_more, turns_then}
 use Rattle.law_calls.specs.Answering.{AnsweredExactly}
 use Rattle.frame_workers.proofs.Steps.{deeds_step, deeds_short}
@@ -151,7 +151,7 @@ module _ (begin : Begin) (n : ℕ) (base : View) where
       spent_is = refl;
       level = λ level. level_on base (looked (giving_shares n base)) looked_earlier looked_opening same
           (let e = looked_epoch (giving_shares n base) in omega arith) level;
-      served = λ all level settled. (
+      served = λ all level backed. (
         [],
         [],
         stood_on base (looked (giving_shares n base)) looked_earlier looked_opening same level ∙ sym (append-nil (stood_in base)),
@@ -189,12 +189,12 @@ module _ (begin : Begin) (n : ℕ) (base : View) where
           spent_is = append-nil (base.numbers.spent ++ w.numbers.spent) ∙ ap (λ (l : List (ℕ × ℕ)). base.numbers.spent ++ l) h.in_turn.between.spent_is;
           level = λ level. level_on w (looked (meeting (giving_shares n base) w)) grows.earlier grows.opening same_entries grows.epochs
               (h.in_turn.between.level (level_start level));
-          served = λ all level settled.
+          served = λ all level backed.
               let level_w = h.in_turn.between.level (level_start level) in
               let (own, rest, is, served, behind) = h.in_turn.between.served
               (λ place low high. all place low (let s = ap length same_log in omega arith)) (level_start level)
-              (settled_on begin w (looked (meeting (giving_shares n base) w)) h.spent (row_on begin w (looked (meeting (giving_shares n base) w)) grows)
-              (stood_on w (looked (meeting (giving_shares n base) w)) grows.earlier grows.opening same_entries level_w) grows.epochs settled) in (
+              (backed_on begin w (looked (meeting (giving_shares n base) w)) h.spent (row_on begin w (looked (meeting (giving_shares n base) w)) grows)
+              (stood_on w (looked (meeting (giving_shares n base) w)) grows.earlier grows.opening same_entries level_w) grows.epochs backed) in (
                 own,
                 rest,
                 stood_on w (looked (meeting (giving_shares n base) w)) grows.earlier grows.opening same_entries level_w ∙ is,

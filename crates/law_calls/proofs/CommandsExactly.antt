@@ -362,7 +362,7 @@ module _ {O : Type 0} (told : Bool) (trace : O → Trace) (faults puts : O → �
           );
           full = λ is. absurd (not_full reply is);
         }))
-        (λ here level settled.
+        (λ here level backed.
         let clean : FoundClean = s.stage.clean h.made.0.0 in
         served_clean c.begin c.old_view c.new_view c.found.log (s.es ++ record_entry c.task.index seen h.change ∷ [])
         (by_lines (s.es ++ record_entry c.task.index seen h.change ∷ []) (with_own h.change added)) c.segment c.task m.move
@@ -409,7 +409,7 @@ module _ {O : Type 0} (told : Bool) (trace : O → Trace) (faults puts : O → �
         s.numbers.spent (passes es is s.numbers.spent s.numbers.counted.spent_is) (not_open m.move) fault position few
         (λ slots same. (
           (full slots same).0,
-          λ here level settled.
+          λ here level backed.
               let (tells, clean, now, serves) = full slots same in
               served_clean c.begin c.old_view c.new_view c.found.log es (by_lines es is) c.segment c.task m.move
               s.numbers.spent (passes es is s.numbers.spent s.numbers.counted.spent_is) (answer_of (counting JOURNAL_FULL 0 slots) position) here
@@ -489,7 +489,7 @@ module _ {O : Type 0} (told : Bool) (trace : O → Trace) (faults puts : O → �
         [] (passes es is [] shows.counted.spent_is) (not_open (Drew f.row f.n)) other position few
         (λ slots same. (
           (full slots same).0,
-          λ here level settled.
+          λ here level backed.
               let (tells, clean, now, serves) = full slots same in
               served_clean c.begin c.old_view c.new_view c.found.log es (by_lines es is) c.segment c.task (Drew f.row f.n)
               [] (passes es is [] shows.counted.spent_is) (answer_of (counting JOURNAL_FULL 0 slots) position) here

@@ -25,7 +25,7 @@ use Rattle.law_workers.proofs.Logs.{more_stands}
 use Rattle.run_promise.specs.Machine.{Move, Kept, LiesBetween}
 use Rattle.law_workers.specs.Exact.{IsOfMoves, words_in}
 use Rattle.run_promise.specs.Moves.{Tells, TellsKind}
-use Rattle.law_workers.specs.InTurn.{IsClean, IsLevel, AllStand, IsSettled, ServedInTurn}
+use Rattle.law_workers.specs.InTurn.{IsClean, IsLevel, AllStand, IsBacked, ServedInTurn}
 use Rattle.law_workers.proofs.Machines.{exact_move, move_moves}
 use Rattle.law_calls.specs.Answering.{answer_of, unserved_answer, fault_answer, AnsweredExactly}
 use Rattle.law_calls.proofs.Behind.{lines_of, here, next, longer}
@@ -65,7 +65,7 @@ module _ (begin : Begin) (segment : ℕ) (task : Record) (v w : View) (move : Mo
   -- in the history that was found, where no other worker made a line, the record is served so
   abbrev pub IsServed : Answer → Type 0
   IsServed answer =
-      log ≡ log_of v → IsLevel v → IsSettled begin w spent → ServesSo begin v w log es turned segment task move spent passes answer
+      log ≡ log_of v → IsLevel v → IsBacked begin w spent → ServesSo begin v w log es turned segment task move spent passes answer
 
   reserves : (place : ℕ) → 0 < stands place (places (length log) (length es)) → IsOfMoves (move ∷ []) (slice_get (log_of w) place)
   reserves place in' = subst (λ (l : List Logged). IsOfMoves (move ∷ []) (slice_get l place)) (sym turned.log_is)
@@ -131,7 +131,7 @@ module _ (begin : Begin) (segment : ℕ) (task : Record) (v w : View) (move : Mo
     by_code (inr is) = omega arith
 
   late : (code n position : ℕ) → JOURNAL_FULL < code → IsServed (answer_of (counting code 0 n) position)
-  late code n position low same level settled =
+  late code n position low same level backed =
       served_late begin v w log es turned segment task move spent passes (answer_of (counting code 0 n) position) same low
 
   pub wanting_exactly : (task.kind ≡ Open → move ≡ Kept) → AnsweredExactly begin segment v w task (Some unserved_answer)

@@ -36,8 +36,8 @@ use Rattle.run_promise.specs.Deed.{deed_of}
 use Rattle.law_workers.proofs.Rows.{mark_known}
 use Rattle.run_promise.specs.Machine.{Move}
 use Rattle.run_promise.specs.Serving.{HasSlot, SaysFull, AloneServes}
-use Rattle.law_workers.specs.InTurn.{MadeAllLines, IsClean, IsLevel, AllStand, stood_in, AreOf, IsSettled, ServedInTurn}
-use Rattle.law_workers.proofs.Turns.{all_stood, level_on, settled_on, stood_is, stood_more, stood_on}
+use Rattle.law_workers.specs.InTurn.{MadeAllLines, IsClean, IsLevel, AllStand, stood_in, AreOf, IsBacked, ServedInTurn}
+use Rattle.law_workers.proofs.Turns.{all_stood, level_on, backed_on, stood_is, stood_more, stood_on}
 use Rattle.law_calls.specs.Answering.{answer_of}
 use Rattle.law_workers.specs.Began.{BeganWith}
 use Rattle.law_calls.proofs.Behind.{after_both, lines_of, lines_entries, places_within}
@@ -79,12 +79,12 @@ module _ (begin : Begin) (v w : View) (log : List Logged) (es : List Entry) (tur
   entries_are = ap entries_of turned.log_is ∙ lines_entries log es
 
   -- What a call made of what was known: so many numbers were spent; what is known of the entries that stand keeps up with
-  -- the log; and what was spent and seen before is settled.
+  -- the log; and what was spent and seen before is backed.
   pub record Passes (spent : List (ℕ × ℕ)) : Type 0 where
     pub spent_is : w.numbers.spent ≡ v.numbers.spent ++ spent
     pub level : IsLevel v → IsLevel w
-    pub settled : MadeAllLines v w (places (length log) (length es)) → IsLevel v → (numbers : List (ℕ × ℕ)) → AreOf numbers v.numbers.spent
-        → IsSettled begin w numbers → IsSettled begin v numbers
+    pub backed : MadeAllLines v w (places (length log) (length es)) → IsLevel v → (numbers : List (ℕ × ℕ)) → AreOf numbers v.numbers.spent
+        → IsBacked begin w numbers → IsBacked begin v numbers
 
   -- the entries that stand, where all did in the log that was found
   pub stood_clean : log ≡ log_of v → AllStand v → AllStand w → stood_in w ≡ stood_in v ++ es
@@ -100,16 +100,16 @@ module _ (begin : Begin) (v w : View) (log : List Logged) (es : List Entry) (tur
     ServesSo answer = (own : List Entry) × (stood_in w ≡ stood_in v ++ own) × AloneServes begin (stood_in v) task answer own move
 
     -- the record has this answer, in the history that was found
-    pub served_turn : (answer : Answer) → (log ≡ log_of v → IsLevel v → IsSettled begin w spent → ServesSo answer)
+    pub served_turn : (answer : Answer) → (log ≡ log_of v → IsLevel v → IsBacked begin w spent → ServesSo answer)
         → ServedInTurn begin v w (places (length log) (length es)) spent (deed_of segment task answer ∷ []) (move ∷ []) []
     served_turn answer serves = record {
       above = above;
-      settled = passes.settled;
+      backed = passes.backed;
       between = record {
         spent_is = passes.spent_is;
         level = passes.level;
-        served = λ all level settled.
-            let (own, is, one) = serves (known_log all) level settled in (
+        served = λ all level backed.
+            let (own, is, one) = serves (known_log all) level backed in (
               own,
               [],
               is ∙ ap (λ (l : List Entry). stood_in v ++ l) (sym (append-nil own)),
@@ -137,11 +137,11 @@ module _ (begin : Begin) (v w : View) (log : List Logged) (es : List Entry) (tur
         → ServedInTurn begin v w (places (length log) (length es)) spent [] [] (move ∷ [])
     unserved_turn few clean now = record {
       above = above;
-      settled = passes.settled;
+      backed = passes.backed;
       between = record {
         spent_is = passes.spent_is;
         level = passes.level;
-        served = λ all level settled. (
+        served = λ all level backed. (
           [],
           es,
           stood_clean (known_log all) (level.all clean) now,
@@ -159,8 +159,8 @@ looks_pass begin v w spent turned is =
     record {
       spent_is = is;
       level = level_on v w turned.earlier turned.opening same turned.epochs;
-      settled = λ all level numbers of h.
-          settled_on begin v w numbers (λ key row there. ap (λ (l : List Entry). place_of (after begin.start l).keys key) same ∙ there)
+      backed = λ all level numbers of h.
+          backed_on begin v w numbers (λ key row there. ap (λ (l : List Entry). place_of (after begin.start l).keys key) same ∙ there)
           (stood_on v w turned.earlier turned.opening same level) turned.epochs h;
     }
 
@@ -256,11 +256,11 @@ module _ {O : Type 0} (told : Bool) (trace : O → Trace) (faults puts : O → �
       ap (λ (l : List Logged). take found.standing (entries_of l)) same
       ∙ stood_is v found.standing level e.standing (λ rose. e.stood (subst (λ (o : Opening). Rose o.faults v.turn.known.faults) (sym opening) rose))
 
-  -- what was spent and seen before is settled in the book that was found
-  pub taken_settled : IsCovered MOST_KEYS v.numbers (known_of_book trace faults puts found) → u.known ≡ v.turn.known
+  -- what was spent and seen before is backed in the book that was found
+  pub taken_backed : IsCovered MOST_KEYS v.numbers (known_of_book trace faults puts found) → u.known ≡ v.turn.known
       → epoch_seen v.turn ≤ epoch_seen u → found.log ≡ log_of v → IsLevel v → (numbers : List (ℕ × ℕ)) → AreOf numbers v.numbers.spent
-      → IsSettled begin v numbers
-  taken_settled covered known later same level numbers of =
+      → IsBacked begin v numbers
+  taken_backed covered known later same level numbers of =
       let stood = stood_found known same level in
       let state : found.state ≡ after begin.start (stood_in v) =
       led told trace faults puts begin found given u w.turn began free visits ∙ ap (after begin.start) stood in
@@ -285,18 +285,18 @@ module _ {O : Type 0} (told : Bool) (trace : O → Trace) (faults puts : O → �
   -- by a book that is above what was spent
   pub takes_pass : (es : List Entry) (turned : Turned found.log es v.turn w.turn) (spent : List (ℕ × ℕ)) → w.numbers.spent ≡ v.numbers.spent ++ spent
       → (MadeAllLines v w (places (length found.log) (length es)) → IsLevel v → (numbers : List (ℕ × ℕ)) → AreOf numbers v.numbers.spent
-      → IsSettled begin v numbers)
+      → IsBacked begin v numbers)
       → Passes begin v w found.log es turned spent
   takes_pass es turned spent is covers = record {
     spent_is = is;
     level = λ level. taken_level;
-    settled = λ all level numbers of h. covers all level numbers of;
+    backed = λ all level numbers of h. covers all level numbers of;
   }
 
--- where these places are all that were made behind a view, what was spent and seen before is settled there
+-- where these places are all that were made behind a view, what was spent and seen before is backed there
 abbrev pub CoversSpent : Begin → View → View → Type 0
 CoversSpent begin v w = (made : List ℕ) → w.turn.made ≡ v.turn.made ++ made → MadeAllLines v w made → IsLevel v → (numbers : List (ℕ × ℕ))
-    → AreOf numbers v.numbers.spent → IsSettled begin v numbers
+    → AreOf numbers v.numbers.spent → IsBacked begin v numbers
 
 -- A book that was found above all that was spent, by a worker with this view before, whose turn and numbers are those of another.
 pub covers : {O : Type 0} (told : Bool) (trace : O → Trace) (faults puts : O → ℕ) (begin : Begin) (v x w : View) → BeganWith told begin v.turn.known.opening
@@ -315,7 +315,7 @@ covers {O} told trace faults puts begin v x w began free known later same number
     let log : h.found.log ≡ log_of v = found_known v w h.found.log count low h.visits.takes.earlier.log.0 earlier.log.0 earlier.log.1
     (log_is told trace faults puts begin h.found h.given x.turn w.turn began_x free h.visits ∙ h.visits.takes.earlier.log.1)
     (subst (MadeAllLines v w) made_here all) in
-    taken_settled told trace faults puts begin h.found h.given x.turn v w began_x free h.visits
+    taken_backed told trace faults puts begin h.found h.given x.turn v w began_x free h.visits
     (subst (λ (k : Numbers). IsCovered MOST_KEYS k (known_of_book trace faults puts h.found)) numbers h.covered) known later log level
 
 -- What is known of a book at a stage of a call, where the site had not failed: its state is that after its entries, and its slots are

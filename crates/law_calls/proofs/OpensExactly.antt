@@ -107,7 +107,7 @@ module _ {O : Type 0} (told : Bool) (trace : O → Trace) (faults puts : O → �
       refused_exactly begin segment task v w Kept (moves_none begin v w numbers) found.log es (by_lines es is) drawn [] (passes es is) (λ _. refl) fault position few
       (λ slots same. (
         tells (answer_of (counting JOURNAL_FULL 0 slots) position),
-        λ here level settled.
+        λ here level backed.
             let (clean, now, serves) = full slots same in
             served_clean begin v w found.log es (by_lines es is) segment task Kept [] (passes es is) (answer_of (counting JOURNAL_FULL 0 slots) position) here
             (level.all (was_clean clean)) now serves,
@@ -155,7 +155,7 @@ module _ {O : Type 0} (told : Bool) (trace : O → Trace) (faults puts : O → �
       (by_lines (frame_entry found.plan found.state task.index reply ∷ []) added) (of_frame reply) []
       (passes (frame_entry found.plan found.state task.index reply ∷ []) added)
       (answer_of (opened_told reply (field_in reply left)) position) (tells (answer_of (opened_told reply (field_in reply left)) position))
-      (λ here level settled.
+      (λ here level backed.
       let clean : FoundClean = opened.made.0.0 in
       served_clean begin v w found.log (frame_entry found.plan found.state task.index reply ∷ [])
       (by_lines (frame_entry found.plan found.state task.index reply ∷ []) added) segment task Kept []

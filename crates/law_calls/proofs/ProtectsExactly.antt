@@ -51,7 +51,7 @@ use Rattle.run_promise.specs.Deed.{deed_of}
 use Rattle.law_workers.specs.Order.{Layout}
 use Rattle.run_promise.specs.Machine.{Move, Kept, Found, Drew, Overdrew}
 use Rattle.run_promise.specs.Serving as machine
-use Rattle.law_workers.specs.InTurn.{IsClean, IsLevel, AllStand, stood_in, IsSettled}
+use Rattle.law_workers.specs.InTurn.{IsClean, IsLevel, AllStand, stood_in, IsBacked}
 use Rattle.law_workers.proofs.Turns.{all_stood, stood_on}
 use Rattle.run_promise.specs.Moves.{TellsProtect, TellsKind, Tells}
 use Rattle.law_workers.specs.Began.{BeganWith}
@@ -72,7 +72,7 @@ module _ {O : Type 0} (told : Bool) (trace : O → Trace) (faults puts : O → �
     (covers_spent : (done : BookView O → BookView O → Type 0) → TakesTurn told trace faults puts done v.turn w.turn → CoversSpent begin v w) where
   -- where no other worker made a line, the record is served so in the history that stood
   abbrev IsServedHere : Answer → List Entry → List (ℕ × ℕ) → Move → Type 0
-  IsServedHere answer es spent move = IsLevel v → IsSettled begin w spent → stood_in w ≡ stood_in v ++ es
+  IsServedHere answer es spent move = IsLevel v → IsBacked begin w spent → stood_in w ≡ stood_in v ++ es
       → machine.AloneServes begin (stood_in v) task answer es move
 
   -- these entries of the call stand
@@ -102,7 +102,7 @@ module _ {O : Type 0} (told : Bool) (trace : O → Trace) (faults puts : O → �
   looks_finish move moves spent spent_is l answer tells serves =
       let turn : Turned v.turn.known.log [] v.turn w.turn = looked told trace faults puts begin layout segment task v w began free protects l in
       told_exactly begin segment task v w move moves v.turn.known.log [] turn tt spent (looks_pass begin v w spent turn spent_is) answer tells
-      (λ same level settled. ([], none_stand v.turn.known.log turn same level, serves level settled (none_stand v.turn.known.log turn same level)))
+      (λ same level backed. ([], none_stand v.turn.known.log turn same level, serves level backed (none_stand v.turn.known.log turn same level)))
 
   by_lines : (done : BookView O → BookView O → Type 0) (t : TakesTurn told trace faults puts done v.turn w.turn) (es : List Entry)
       → t.given.log ≡ t.found.log ++ lines_of es → Turned t.found.log es v.turn w.turn
@@ -128,7 +128,7 @@ module _ {O : Type 0} (told : Bool) (trace : O → Trace) (faults puts : O → �
       → AnsweredExactly begin segment v w task (Some answer)
   taken_finish done t es is move moves drawn spent spent_is answer tells stand serves =
       told_exactly begin segment task v w move moves t.found.log es (by_lines done t es is) drawn spent (passes done t es is spent spent_is) answer tells
-      (λ same level settled. (es, stand same level, serves same level settled (stand same level)))
+      (λ same level backed. (es, stand same level, serves same level backed (stand same level)))
 
   -- the site had not failed when the book was found
   abbrev FoundClean : (done : BookView O → BookView O → Type 0) → TakesTurn told trace faults puts done v.turn w.turn → Type 0
@@ -248,27 +248,27 @@ module _ {O : Type 0} (told : Bool) (trace : O → Trace) (faults puts : O → �
 
           -- what the machine says of it, once the number is funded
           by_funds : (es : List Entry) → epoch_after es ≡ 0 → w.turn.known.opening ≡ v.turn.known.opening
-              → (IsLevel v → IsSettled begin w ((p.row, d.number) ∷ []) → stood_in w ≡ stood_in v ++ es
+              → (IsLevel v → IsBacked begin w ((p.row, d.number) ∷ []) → stood_in w ≡ stood_in v ++ es
               → machine.Funds begin (stood_in v) p.binding.key d.number es)
               → IsServedHere (answer_of (numbered PROTECTED d.key d.number (take d.length out)) d.epoch) es ((p.row, d.number) ∷ []) (Drew p.row d.number)
-          by_funds es quiet opening funds level settled all =
+          by_funds es quiet opening funds level backed all =
               let later : epoch_seen v.turn ≤ p.epoch = (let l = is.later in let e = is.protected.epoch in omega arith) in
               by_kind (answer_of (numbered PROTECTED d.key d.number (take d.length out)) d.epoch) es (Drew p.row d.number) (inr (inl (record {
-                is = bound_now opening es quiet level settled.epoch later all is.fits;
+                is = bound_now opening es quiet level backed.epoch later all is.fits;
                 told = ap (λ (k : ℕ). numbered PROTECTED k d.number (take d.length out)) is.protected.key;
-                position_is = is.protected.epoch ∙ epoch_now opening es quiet level settled.epoch later all;
+                position_is = is.protected.epoch ∙ epoch_now opening es quiet level backed.epoch later all;
                 below = is.protected.below;
                 protects = is.protected.frame;
-                funded = funds level settled all;
+                funded = funds level backed all;
                 move_is = refl;
               })))
 
           -- without an entry of its own the number lies below the mark
           by_mark : w.turn.known.opening ≡ v.turn.known.opening → IsServedHere (answer_of (numbered PROTECTED d.key d.number (take d.length out)) d.epoch) [] ((p.row, d.number) ∷ []) (Drew p.row d.number)
-          by_mark opening = by_funds [] refl opening (λ level settled all. inl (
+          by_mark opening = by_funds [] refl opening (λ level backed all. inl (
             refl,
             subst (λ (l : List Entry). d.number < mark_of (after begin.start l) p.binding.key) (all ∙ append-nil (stood_in v))
-                (settled.marks p.binding.key p.row d.number (row_below told trace faults puts begin layout segment task v w began free protects p used opening)
+                (backed.marks p.binding.key p.row d.number (row_below told trace faults puts begin layout segment task v w began free protects p used opening)
                 (row_is told trace faults puts begin layout segment task v w began free protects p used opening) (once p.row d.number)),
           )) where
             once : (row x : ℕ) → 0 < times row x ((row, x) ∷ [])
@@ -303,7 +303,7 @@ module _ {O : Type 0} (told : Bool) (trace : O → Trace) (faults puts : O → �
                 here (level.all (was_clean (Funds faults p.binding.key d.number) t made.1.1.0.0))
                 (given_entered told trace faults puts begin t.found t.given (seeing t.epoch v.turn) v w began free t.visits t.found
                 (reserve_of t.found.plan t.found.state p.binding.key d.number) made.1.0 made.1.1.1 (t.visits.found_kept.whole made.1.1.0.0)))
-                (λ here. by_funds (reserve_of t.found.plan t.found.state p.binding.key d.number ∷ []) refl opening (λ level settled all. inr (
+                (λ here. by_funds (reserve_of t.found.plan t.found.state p.binding.key d.number ∷ []) refl opening (λ level backed all. inr (
                   ap (λ (e : Entry). e ∷ []) (reserve_here (Funds faults p.binding.key d.number) t d.number made.1.1.0.0 here level),
                   subst (λ (st : State). mark_of st p.binding.key ≤ d.number) (state_here (Funds faults p.binding.key d.number) t made.1.1.0.0 here level) made.0,
                   subst (λ (l : List Entry). machine.HasSlot begin l (reserve_of begin.plan (machine.now begin (stood_in v)) p.binding.key d.number))
@@ -340,12 +340,12 @@ module _ {O : Type 0} (told : Bool) (trace : O → Trace) (faults puts : O → �
 
       serves : (move : Move) → (move ≡ Found p.row n) ⊎ (move ≡ Overdrew p.row n)
           → IsServedHere (answer_of (numbered EXHAUSTED key n []) epoch) [] [] move
-      serves move which level settled all =
+      serves move which level backed all =
           let low : epoch_seen v.turn ≤ p.epoch = omega (arith, later, epoch_is) in
           by_kind (answer_of (numbered EXHAUSTED key n []) epoch) [] move (inr (inr (inl (record {
-            is = bound_now opening [] refl level settled.epoch low all fits;
+            is = bound_now opening [] refl level backed.epoch low all fits;
             told = ap (λ (k : ℕ). numbered EXHAUSTED k n []) key_is;
-            position_is = epoch_is ∙ epoch_now opening [] refl level settled.epoch low all;
+            position_is = epoch_is ∙ epoch_now opening [] refl level backed.epoch low all;
             at_end = subst (λ (k : ℕ). end_of k ≤ n) key_is out.0;
             own_is = refl;
             move_is = which;
@@ -388,8 +388,8 @@ module _ {O : Type 0} (told : Bool) (trace : O → Trace) (faults puts : O → �
           [] (passes (Reserves faults p.binding.key n (Err other)) k es is [] (shows n drawn).counted.spent_is)
           (not_open (Drew p.row n)) other position few (λ slots here. (
             (full slots here).0,
-            λ same level settled.
-                let (tells, stand, serves) = full slots here in (es, stand same level, serves same level settled (stand same level)),
+            λ same level backed.
+                let (tells, stand, serves) = full slots here in (es, stand same level, serves same level backed (stand same level)),
           ))
 
       full_serves : (slots others : ℕ) → others ≡ slots → k.given ≡ k.found → FoundClean (Reserves faults p.binding.key n (Err other)) k
@@ -397,12 +397,12 @@ module _ {O : Type 0} (told : Bool) (trace : O → Trace) (faults puts : O → �
           → IsTrue (IsStored k.found.state (reserve_of k.found.plan k.found.state p.binding.key n)) → k.found.journal.used ≡ k.found.journal.slots
           → slots ≡ k.found.journal.slots → k.found.log ≡ log_of v
           → IsServedHere (answer_of (counting JOURNAL_FULL 0 others) position) [] [] (Drew p.row n)
-      full_serves slots others same_slots same clean unmarked stored full is here level settled all =
+      full_serves slots others same_slots same clean unmarked stored full is here level backed all =
           let entry_here = reserve_here (Reserves faults p.binding.key n (Err other)) k n clean here level in
           let log : w.turn.known.log ≡ k.found.log =
           log_is told trace faults puts begin k.found k.given (seeing k.epoch v.turn) w.turn began free k.visits ∙ ap (λ (b : BookView O). b.log) same in
           by_kind (answer_of (counting JOURNAL_FULL 0 others) position) [] (Drew p.row n) (inr (inr (inr (record {
-            is = bound_now opening [] refl level settled.epoch later all fits;
+            is = bound_now opening [] refl level backed.epoch later all fits;
             number = n;
             below = below;
             unmarked = subst (λ (st : State). mark_of st p.binding.key ≤ n) (state_here (Reserves faults p.binding.key n (Err other)) k clean here level) unmarked;
@@ -491,7 +491,7 @@ module _ {O : Type 0} (told : Bool) (trace : O → Trace) (faults puts : O → �
   protects_exactly plan kept out protecteds.Clear planned_is (sent_clear, numbers, same) =
       looks_finish Kept (moves_none begin v w numbers) [] (no_spent numbers) (record { epoch = v.turn.epoch; later = omega arith; is = same }) (answer_of (plain CLEAR 0) 0)
       (kept_tells (plain CLEAR 0) 0 (inl refl))
-      (λ level settled all.
+      (λ level backed all.
       let check : channel_check begin.plan task.link task.octets ≡ Ok None =
       subst (λ (q : PlanLines). channel_check q task.link task.octets ≡ Ok None) (sym planned_is ∙ began.plan) sent_clear in
       by_kind (answer_of (plain CLEAR 0) 0) [] Kept (inl (record {
@@ -505,7 +505,7 @@ module _ {O : Type 0} (told : Bool) (trace : O → Trace) (faults puts : O → �
         → AnsweredExactly begin segment v w task (Some (answer_of (fault_told fault) epoch))
     by_refusal (inl (refuses, zero_is, same)) =
         looks_finish Kept (moves_none begin v w numbers) [] (no_spent numbers) (record { epoch = v.turn.epoch; later = omega arith; is = same })
-        (answer_of (fault_told fault) epoch) (kept_tells (fault_told fault) epoch (fault_code fault)) (λ level settled all.
+        (answer_of (fault_told fault) epoch) (kept_tells (fault_told fault) epoch (fault_code fault)) (λ level backed all.
         let check : channel_check begin.plan task.link task.octets ≡ Err fault =
         subst (λ (q : PlanLines). channel_check q task.link task.octets ≡ Err fault) (sym planned_is ∙ began.plan) refuses in
         by_kind (answer_of (fault_told fault) epoch) [] Kept (inl (record {
@@ -516,7 +516,7 @@ module _ {O : Type 0} (told : Bool) (trace : O → Trace) (faults puts : O → �
         })))
     by_refusal (inr (f, low, turn)) =
         rests_finish Kept (moves_none begin v w numbers) [] (no_spent numbers) turn
-        (answer_of (fault_told fault) epoch) (kept_tells (fault_told fault) epoch (fault_code fault)) (λ level settled all.
+        (answer_of (fault_told fault) epoch) (kept_tells (fault_told fault) epoch (fault_code fault)) (λ level backed all.
         let opening = opening_same told trace faults puts begin layout segment task v w began free protects Rests turn in
         let plans : w.turn.known.opening.plan ≡ begin.plan = ap (λ (o : Opening). o.plan) opening ∙ began.plan in
         let starts : w.turn.known.opening.start ≡ begin.start = ap (λ (o : Opening). o.start) opening ∙ began.start in
@@ -524,7 +524,7 @@ module _ {O : Type 0} (told : Bool) (trace : O → Trace) (faults puts : O → �
         let counted = ap epoch_after same in
         let seen = f.seen in
         let least = level.epoch in
-        let most = settled.epoch in
+        let most = backed.epoch in
         let epoch_is : epoch ≡ epoch_after (stood_in v) = omega arith in
         let reply : protect_reply begin.plan (at_epoch begin.start (entries_in w) epoch) task.link task.octets ≡ Err fault =
         subst (λ (st : State). protect_reply begin.plan (at_epoch st (entries_in w) epoch) task.link task.octets ≡ Err fault) starts

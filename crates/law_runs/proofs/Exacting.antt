@@ -31,7 +31,7 @@ use Rattle.law_workers.proofs.Joining.{grows_further}
 use Rattle.law_workers.proofs.Logs.{count_one, stands_both, times_both}
 use Rattle.run_promise.specs.Machine.{Move, Runs}
 use Rattle.run_promise.specs.Serving.{ServesAll}
-use Rattle.law_workers.specs.InTurn.{MadeAllLines, IsClean, IsLeftBehind, IsLevel, AllStand, stood_in, IsSettled}
+use Rattle.law_workers.specs.InTurn.{MadeAllLines, IsClean, IsLeftBehind, IsLevel, AllStand, stood_in, IsBacked}
 use Rattle.law_workers.specs.Exact.{words_in, Exact, IsOfMoves}
 use Rattle.run_promise.specs.Moves.{TellAll}
 use Rattle.law_workers.specs.Alone.{MovedExactly, ServedAlone}
@@ -161,9 +161,9 @@ module _ (begin : Begin) (first v mid w : View) (places more : List Place) (answ
   above_put : (place : ℕ) → 0 < stands place puts.does.gains.made → length (log_of mid) ≤ place
   above_put place in' = (puts.does.works.made place in').0
 
-  -- what the segment spent and saw was settled when its answers were put
-  settled_mid : IsLevel mid → IsSettled begin mid b.spent
-  settled_mid level = record {
+  -- what the segment spent and saw was backed when its answers were put
+  backed_mid : IsLevel mid → IsBacked begin mid b.spent
+  backed_mid level = record {
     marks = λ key row number few there in'.
         let t : times row number mid.numbers.spent ≡ times row number v.numbers.spent + times row number b.spent =
         ap (times row number) b.between.spent_is ∙ times_both row number v.numbers.spent b.spent in
@@ -194,7 +194,7 @@ module _ (begin : Begin) (first v mid w : View) (places more : List Place) (answ
       let own_is : stood_in v ≡ stood_in first ++ own =
       all_is ∙ ap (λ (l : List Entry). stood_in first ++ (own ++ l)) (left.0 refl) ∙ ap (λ (l : List Entry). stood_in first ++ l) (append-nil own) in
       let (more_own, rest, more_is, two, behind) = b.between.served (made_first v mid w b.moved.made puts.does.gains.made puts.does.grows above_put lines_rest)
-      level_v (settled_mid level_mid) in (
+      level_v (backed_mid level_mid) in (
         own ++ more_own,
         rest,
         stood_on mid w puts.does.grows.earlier puts.does.grows.opening puts.entries level_mid

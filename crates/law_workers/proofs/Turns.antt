@@ -20,7 +20,7 @@ use Rattle.law_workers.proofs.Logs.{stands_both, times_both}
 use Rattle.law_workers.proofs.Working.{grown_entries}
 use Rattle.run_promise.specs.Machine.{Move}
 use Rattle.run_promise.specs.Serving.{ServesAll}
-use Rattle.law_workers.specs.InTurn.{MadeAllLines, IsClean, IsLevel, AllStand, stood_in, AreOf, IsSettled, ServedBetween, ServedInTurn}
+use Rattle.law_workers.specs.InTurn.{MadeAllLines, IsClean, IsLevel, AllStand, stood_in, AreOf, IsBacked, ServedBetween, ServedInTurn}
 
 either : (a b : ℕ) → 0 < a + b → (0 < a) ⊎ (0 < b)
 either zero b h = inr (omega arith)
@@ -133,9 +133,9 @@ serves_both begin history (d ∷ ds) es (m ∷ a) b own more (first, rest, is, o
       (subst (λ (l : List Entry). ServesAll begin l es b more) (ap (λ (l : List Entry). history ++ l) is ∙ sym (append_assoc history first rest)) k),
 )
 
--- what is settled of a list that has more
-pub settled_of : (begin : Begin) (v : View) (s t : List (ℕ × ℕ)) → AreOf s t → IsSettled begin v t → IsSettled begin v s
-settled_of begin v s t of h = record {
+-- what is backed of a list that has more
+pub backed_of : (begin : Begin) (v : View) (s t : List (ℕ × ℕ)) → AreOf s t → IsBacked begin v t → IsBacked begin v s
+backed_of begin v s t of h = record {
   marks = λ key row number low is in'. h.marks key row number low is (of row number in');
   epoch = h.epoch;
 }
@@ -146,10 +146,10 @@ of_front s t row number in' = let b = times_both row number s t in omega arith
 pub of_back : (s t : List (ℕ × ℕ)) → AreOf t (s ++ t)
 of_back s t row number in' = let b = times_both row number s t in omega arith
 
--- what is settled where the same entries stand, of a view that saw no less
-pub settled_on : (begin : Begin) (v w : View) (numbers : List (ℕ × ℕ)) → ((key row : ℕ) → IsRow begin v key row → IsRow begin w key row)
-    → stood_in w ≡ stood_in v → epoch_seen v.turn ≤ epoch_seen w.turn → IsSettled begin w numbers → IsSettled begin v numbers
-settled_on begin v w numbers rows same epochs h = record {
+-- what is backed where the same entries stand, of a view that saw no less
+pub backed_on : (begin : Begin) (v w : View) (numbers : List (ℕ × ℕ)) → ((key row : ℕ) → IsRow begin v key row → IsRow begin w key row)
+    → stood_in w ≡ stood_in v → epoch_seen v.turn ≤ epoch_seen w.turn → IsBacked begin w numbers → IsBacked begin v numbers
+backed_on begin v w numbers rows same epochs h = record {
   marks = λ key row number low is in'.
       subst (λ (l : List Entry). number < mark_of (after begin.start l) key) same (h.marks key row number low (rows key row is) in');
   epoch = let counted = ap epoch_after same in let low = h.epoch in omega arith;
@@ -159,17 +159,17 @@ settled_on begin v w numbers rows same epochs h = record {
 pub between_then : (begin : Begin) (u v w : View) (m n : List ℕ) (s t : List (ℕ × ℕ)) (ds es : List Deed) (a b last : List Move) → KnowsMore u v → KnowsMore v w
     → ((place : ℕ) → 0 < stands place m → place < length (log_of v)) → ((place : ℕ) → 0 < stands place n → length (log_of v) ≤ place)
     → ServedBetween begin u v m s ds a [] → ServedBetween begin v w n t es b last
-    → (MadeAllLines v w n → IsLevel v → IsSettled begin w (s ++ t) → IsSettled begin v s)
+    → (MadeAllLines v w n → IsLevel v → IsBacked begin w (s ++ t) → IsBacked begin v s)
     → ServedBetween begin u w (m ++ n) (s ++ t) (ds ++ es) (a ++ b) last
-between_then begin u v w m n s t ds es a b last low high below above x y settle = record {
+between_then begin u v w m n s t ds es a b last low high below above x y back = record {
   spent_is = y.spent_is ∙ (ap (λ (l : List (ℕ × ℕ)). l ++ t) x.spent_is ∙ append_assoc u.numbers.spent s t);
   level = λ level. y.level (x.level level);
-  served = λ all level settled.
+  served = λ all level backed.
       let all_rest = made_rest u v w m n low below all in
-      let (own, none, all_is, one, left) = x.served (made_first u v w m n high above all) level (settle all_rest (x.level level) settled) in
+      let (own, none, all_is, one, left) = x.served (made_first u v w m n high above all) level (back all_rest (x.level level) backed) in
       let own_is : stood_in v ≡ stood_in u ++ own =
       all_is ∙ ap (λ (l : List Entry). stood_in u ++ (own ++ l)) (left.0 refl) ∙ ap (λ (l : List Entry). stood_in u ++ l) (append-nil own) in
-      let (more, rest, more_is, two, behind) = y.served all_rest (x.level level) (settled_of begin w t (s ++ t) (of_back s t) settled) in (
+      let (more, rest, more_is, two, behind) = y.served all_rest (x.level level) (backed_of begin w t (s ++ t) (of_back s t) backed) in (
         own ++ more,
         rest,
         more_is ∙ (ap (λ (l : List Entry). l ++ (more ++ rest)) own_is ∙ append_assoc (stood_in u) own (more ++ rest))
@@ -190,11 +190,11 @@ in_turn_then begin u v w m n s t ds es a b last low high below x y = record {
         | inl here ↦ x.above place here
         | inr there ↦ let r = y.above place there in let l = log_low u v low in omega arith
       ];
-  settled = λ all level numbers of h.
-      x.settled (made_first u v w m n high y.above all) level numbers of
-      (y.settled (made_rest u v w m n low below all) (x.between.level level) numbers (λ row number in'. in_both row number (of row number in')) h);
+  backed = λ all level numbers of h.
+      x.backed (made_first u v w m n high y.above all) level numbers of
+      (y.backed (made_rest u v w m n low below all) (x.between.level level) numbers (λ row number in'. in_both row number (of row number in')) h);
   between = between_then begin u v w m n s t ds es a b last low high below y.above x.between y.between
-      (λ all level h. y.settled all level s in_rest (settled_of begin w s (s ++ t) (of_front s t) h));
+      (λ all level h. y.backed all level s in_rest (backed_of begin w s (s ++ t) (of_front s t) h));
 } where
   in_both : AreOf u.numbers.spent v.numbers.spent
   in_both row number h =
@@ -210,10 +210,10 @@ in_turn_then begin u v w m n s t ds es a b last low high below x y = record {
 pub in_turn_nothing : (begin : Begin) (v : View) → ServedInTurn begin v v [] [] [] [] []
 in_turn_nothing begin v = record {
   above = λ place in'. absurd (omega arith);
-  settled = λ all level numbers of h. h;
+  backed = λ all level numbers of h. h;
   between = record {
     spent_is = sym (append-nil v.numbers.spent);
     level = λ level. level;
-    served = λ all level settled. ([], [], sym (append-nil (stood_in v)), refl, (λ none. refl, inl refl));
+    served = λ all level backed. ([], [], sym (append-nil (stood_in v)), refl, (λ none. refl, inl refl));
   };
 }

@@ -49,7 +49,7 @@ AreMarked begin view numbers =
 
 -- Each of these numbers is known to be below its mark, and the epoch that was seen is no greater than that of the
 -- entries that stand.
-pub record IsSettled (begin : Begin) (view : View) (numbers : List (ℕ × ℕ)) : Type 0 where
+pub record IsBacked (begin : Begin) (view : View) (numbers : List (ℕ × ℕ)) : Type 0 where
   pub marks : AreMarked begin view numbers
   pub epoch : epoch_seen view.turn ≤ epoch_after (stood_in view)
 
@@ -63,22 +63,22 @@ abbrev pub IsLeftBehind : View → List Move → List Entry → Type 0
 IsLeftBehind view last rest = (last ≡ [] → rest ≡ []) × ((rest ≡ []) ⊎ ((length rest ≤ 1) × AllStand view))
 
 -- Where no other worker made a line meanwhile, the answered records were served in turn from the entries that stood in
--- the old view, once what was spent and seen is known to be settled; they made all entries that stand in the new view
+-- the old view, once what was spent and seen is known to be backed; they made all entries that stand in the new view
 -- behind those of the old one, but for what a record without an answer left. Last is empty where each record has its
 -- answer.
 pub record ServedBetween (begin : Begin) (old new : View) (made : List ℕ) (spent : List (ℕ × ℕ)) (deeds : List Deed)
     (moves last : List Move) : Type 0 where
   pub spent_is : new.numbers.spent ≡ old.numbers.spent ++ spent
   pub level : IsLevel old → IsLevel new
-  pub served : MadeAllLines old new made → IsLevel old → IsSettled begin new spent
+  pub served : MadeAllLines old new made → IsLevel old → IsBacked begin new spent
       → (own : List Entry) × (rest : List Entry) × (stood_in new ≡ stood_in old ++ (own ++ rest))
       × ServesAll begin (stood_in old) deeds moves own × IsLeftBehind new last rest
 
--- The same of a worker that began with the old view: what it had spent and seen before is settled at the old view where
+-- The same of a worker that began with the old view: what it had spent and seen before is backed at the old view where
 -- it is at the new one, since the turn was taken wherever a line was made.
 pub record ServedInTurn (begin : Begin) (old new : View) (made : List ℕ) (spent : List (ℕ × ℕ)) (deeds : List Deed)
     (moves last : List Move) : Type 0 where
   pub above : (place : ℕ) → 0 < stands place made → length (log_of old) ≤ place
-  pub settled : MadeAllLines old new made → IsLevel old → (numbers : List (ℕ × ℕ)) → AreOf numbers old.numbers.spent
-      → IsSettled begin new numbers → IsSettled begin old numbers
+  pub backed : MadeAllLines old new made → IsLevel old → (numbers : List (ℕ × ℕ)) → AreOf numbers old.numbers.spent
+      → IsBacked begin new numbers → IsBacked begin old numbers
   pub between : ServedBetween begin old new made spent deeds moves last
