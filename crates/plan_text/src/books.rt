@@ -7,7 +7,7 @@ use crate::reader::Fault;
 use crate::wanted::Wanted;
 use key_book::{KeyBook, KeyRefusal};
 use sa_book::{SaBook, SaRefusal};
-use sdls_base::{Change, ChannelList, Direction, KeyList, KeyState, NoMemory, SaState, Suite};
+use sdls_base::{Change, ChannelList, Direction, KeyList, KeyState, NoMemory, SaState, Spi, Suite};
 use std::alloc::Global;
 use unit_plan::{Plan, PlanKey, PlanSa};
 use unit_state::State;
@@ -105,6 +105,26 @@ fn keying_fault(state: &State, found: &PlanSa) -> Option<Fault> {
     Some(association_fault(found.sa.suite, refusal))
 }
 
+fn create(state: &mut State, found: &PlanSa) -> Result<(), NoMemory> {
+    apply(state, &Change::Create(found.sa.clone()?))
+}
+
+fn rekey(state: &mut State, found: &PlanSa) -> Result<(), NoMemory> {
+    apply(
+        state,
+        &Change::Rekey {
+            spi: found.sa.spi,
+            key: found.key,
+            number: found.number,
+        },
+    )
+}
+
+/// The association takes a state, or none: it is deleted.
+fn take_state(state: &mut State, spi: Spi, to: Option<SaState>) -> Result<(), NoMemory> {
+    apply(state, &Change::SaTo { spi, to })
+}
+
 /// Makes the association of a line, or says why it is refused.
 fn take_association(state: &mut State, found: &PlanSa) -> Result<Option<Fault>, NoMemory>
     requires { IsAssociation found.now }
@@ -117,29 +137,16 @@ fn take_association(state: &mut State, found: &PlanSa) -> Result<Option<Fault>, 
     {
         return Ok(Some(association_fault(suite, refusal)));
     }
-    apply(state, &Change::Create(found.sa.clone()?))?;
+    create(state, found)?;
     if let Some(fault) = keying_fault(state, found) {
-        apply(state, &Change::SaTo { spi, to: None })?;
+        take_state(state, spi, None)?;
         return Ok(Some(fault));
     }
-    apply(
-        state,
-        &Change::Rekey {
-            spi,
-            key: found.key,
-            number: found.number,
-        },
-    )?;
+    rekey(state, found)?;
     if let Some(refusal) = state.associations.start_refusal(spi) {
         return Ok(Some(association_fault(suite, refusal)));
     }
-    apply(
-        state,
-        &Change::SaTo {
-            spi,
-            to: Some(SaState::Operational),
-        },
-    )?;
+    take_state(state, spi, Some(SaState::Operational))?;
     Ok(None)
 }
 
