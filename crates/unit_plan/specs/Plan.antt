@@ -39,33 +39,38 @@ device_taken line plan words = do
   ordered ← in_order line plan 1
   Ok (record plan { heads = 2; device = device })
 
+-- one number behind so many of the first five, within bounds
+abbrev pub number_in_order : ℕ → PlanLines → ℕ → ℕ → ℕ → List (List ℕ) → Result ℕ PlanFault
+number_in_order line plan heads least most words = do
+  said ← require line Form (number_said words)
+  ordered ← in_order line plan heads
+  require line Range (bounded least most said)
+
 unfoldable pub slots_taken : ℕ → PlanLines → List (List ℕ) → Result PlanLines PlanFault
 slots_taken line plan words = do
-  said ← require line Form (number_said words)
-  ordered ← in_order line plan 2
-  n ← require line Range (bounded 16 65536 said)
+  n ← number_in_order line plan 2 16 65536 words
   Ok (record plan { heads = 3; slots = n })
 
 unfoldable pub block_taken : ℕ → PlanLines → List (List ℕ) → Result PlanLines PlanFault
 block_taken line plan words = do
-  said ← require line Form (number_said words)
-  ordered ← in_order line plan 3
-  n ← require line Range (bounded 1 65536 said)
+  n ← number_in_order line plan 3 1 65536 words
   Ok (record plan { heads = 4; block = n })
 
 unfoldable pub accept_taken : ℕ → PlanLines → List (List ℕ) → Result PlanLines PlanFault
 accept_taken line plan words = do
-  said ← require line Form (number_said words)
-  ordered ← in_order line plan 4
-  n ← require line Range (bounded 1 65536 said)
+  n ← number_in_order line plan 4 1 65536 words
   Ok (record plan { heads = 5; accept = n })
+
+abbrev pub link_admitted : ℕ → PlanLines → ℕ → Link → Result (Unit {0}) PlanFault
+link_admitted line plan number link = do
+  ordered ← in_order line plan 5
+  bounds ← check line Range (is_link number link)
+  check line Twice (not (has_link plan.links number))
 
 unfoldable pub link_taken : ℕ → PlanLines → List (List ℕ) → Result PlanLines PlanFault
 link_taken line plan words = do
   said ← require line Form (link_said words)
-  ordered ← in_order line plan 5
-  bounds ← check line Range (is_link said.0 said.1)
-  once ← check line Twice (not (has_link plan.links said.0))
+  known ← link_admitted line plan said.0 said.1
   Ok (record plan { links = plan.links ++ said ∷ [] })
 
 -- a place is one on its link, where that has a line
@@ -76,24 +81,34 @@ is_on (Some link) place = is_place link.layout place
 abbrev pub is_on_link : List (ℕ × Link) → Place → Bool
 is_on_link links place = is_on (link_of links place.link) place
 
+abbrev pub channel_admitted : ℕ → PlanLines → ℕ → Place → Result ℕ PlanFault
+channel_admitted line plan number place = do
+  ordered ← in_order line plan 5
+  id ← require line Range (channel_id number)
+  link ← check line Range (nat_le place.link 15)
+  bounds ← check line Range (is_on_link plan.links place)
+  number_once ← check line Twice (not (has_channel plan.channels number))
+  place_once ← check line Twice (not (has_place plan.channels place))
+  known ← check line Unknown (has_link plan.links place.link)
+  Ok id
+
 unfoldable pub channel_taken : ℕ → PlanLines → List (List ℕ) → Result PlanLines PlanFault
 channel_taken line plan words = do
   said ← require line Form (channel_said words)
-  ordered ← in_order line plan 5
-  id ← require line Range (channel_id said.0)
-  link ← check line Range (nat_le said.1.link 15)
-  bounds ← check line Range (is_on_link plan.links said.1)
-  number_once ← check line Twice (not (has_channel plan.channels said.0))
-  place_once ← check line Twice (not (has_place plan.channels said.1))
-  known ← check line Unknown (has_link plan.links said.1.link)
+  id ← channel_admitted line plan said.0 said.1
   Ok (record plan { channels = plan.channels ++ (id, said.1) ∷ [] })
+
+abbrev pub key_admitted : ℕ → PlanLines → ℕ → Result ℕ PlanFault
+key_admitted line plan number = do
+  ordered ← in_order line plan 5
+  id ← require line Range (bounded 1 65535 number)
+  once ← check line Twice (not (has_key plan.keys id))
+  Ok id
 
 unfoldable pub key_taken : ℕ → PlanLines → List (List ℕ) → Result PlanLines PlanFault
 key_taken line plan words = do
   said ← require line Form (key_said words)
-  ordered ← in_order line plan 5
-  id ← require line Range (bounded 1 65535 said.id)
-  once ← check line Twice (not (has_key plan.keys id))
+  id ← key_admitted line plan said.id
   Ok (record plan {
     keys = plan.keys ++ record { line = line; item = record { id = id; bytes = said.octets }; state = said.state } ∷ [];
   })

@@ -1,10 +1,12 @@
 //! How a plan takes its lines one after the other: the tests of a line, in order, and what it then says.
-ghost use Rattle.std.specs.Prelude.{◌≡◌, ◌≤◌, IfSome};
+ghost use Rattle.std.specs.Prelude.{◌≡◌, ◌≤◌, IfOk, IfSome, OnOk};
+ghost use Rattle.sdls_base.specs.Link.{IsInBounds};
 ghost use Rattle.unit_plan.specs.Lines.{words_of};
 ghost use Rattle.unit_plan.specs.PlanRules.{IsAssociation};
 ghost use Rattle.unit_plan.specs.PlanError.{Gives};
 ghost use Rattle.unit_plan.specs.LineForm.{bounded, channel_id, version_said, device_said, number_said, association_of};
 ghost use Rattle.unit_plan.specs.Plan.{TakesPlanLine, in_order, is_on_link, version_taken, device_taken, slots_taken};
+ghost use Rattle.unit_plan.specs.Plan.{number_in_order, link_admitted, channel_admitted, key_admitted};
 ghost use Rattle.unit_plan.specs.Plan.{block_taken, accept_taken, link_taken, channel_taken, key_taken, admitted};
 ghost use Rattle.unit_plan.specs.Plan.{association_added, association_taken, taken_as, taken, is_skipped, line_taken};
 
@@ -18,7 +20,7 @@ use crate::link_line::{is_link, link};
 use crate::plan::{Plan, PlanKey, PlanSa};
 use crate::plan_error::{PlanCause, PlanError, check, refused};
 use crate::reading::{ended, pass};
-use sdls_base::{ChannelId, KeyId, KeyItem, MOST_WINDOW, NewSa, Spi};
+use sdls_base::{ChannelId, KeyId, KeyItem, Link, MOST_WINDOW, NewSa, Spi};
 use std::alloc::Global;
 
 fn bounded(n: u64, least: u64, most: u64) -> Option<u64>
@@ -137,13 +139,28 @@ impl Plan {
         Ok(())
     }
 
+    /// Takes the one number of a line behind so many of the first five.
+    fn number_in_order(
+        &self,
+        line: u32,
+        heads: u8,
+        least: u64,
+        most: u64,
+        words: &mut Words<'_>,
+    ) -> Result<u64, PlanError>
+        ensures said { Gives result (number_in_order line self.now heads least most words.old) }
+        ensures within { IfOk result (λ n. (least ≤ n) × (n ≤ most)) }
+    {
+        let n = number(words).ok_or(refused(line, PlanCause::Form))?;
+        self.in_order(line, heads)?;
+        bounded(n, least, most).ok_or(refused(line, PlanCause::Range))
+    }
+
     #[tactic(auto, unfolding(crate::specs::Plan::slots_taken))]
     fn take_slots(&mut self, line: u32, words: &mut Words<'_>) -> Result<(), PlanError>
         ensures { TakesPlanLine result (slots_taken line self.old words.old) self.new }
     {
-        let n = number(words).ok_or(refused(line, PlanCause::Form))?;
-        self.in_order(line, 2)?;
-        let n = bounded(n, 16, 65_536).ok_or(refused(line, PlanCause::Range))?;
+        let n = self.number_in_order(line, 2, 16, 65_536, words)?;
         self.heads = 3;
         self.slots = n as u32;
         Ok(())
@@ -153,9 +170,7 @@ impl Plan {
     fn take_block(&mut self, line: u32, words: &mut Words<'_>) -> Result<(), PlanError>
         ensures { TakesPlanLine result (block_taken line self.old words.old) self.new }
     {
-        let n = number(words).ok_or(refused(line, PlanCause::Form))?;
-        self.in_order(line, 3)?;
-        let n = bounded(n, 1, 65_536).ok_or(refused(line, PlanCause::Range))?;
+        let n = self.number_in_order(line, 3, 1, 65_536, words)?;
         self.heads = 4;
         self.block = n;
         Ok(())
@@ -165,12 +180,20 @@ impl Plan {
     fn take_accept(&mut self, line: u32, words: &mut Words<'_>) -> Result<(), PlanError>
         ensures { TakesPlanLine result (accept_taken line self.old words.old) self.new }
     {
-        let n = number(words).ok_or(refused(line, PlanCause::Form))?;
-        self.in_order(line, 4)?;
-        let n = bounded(n, 1, 65_536).ok_or(refused(line, PlanCause::Range))?;
+        let n = self.number_in_order(line, 4, 1, 65_536, words)?;
         self.heads = 5;
         self.accept = n;
         Ok(())
+    }
+
+    /// Refuses a link in a place of the first five, out of its bounds, or that has a line already.
+    fn admit_link(&self, line: u32, number: u8, link: &Link) -> Result<(), PlanError>
+        ensures admitted { Gives result (link_admitted line self.now number link.now) }
+        ensures bounds { OnOk result (IsInBounds link.now.layout) }
+    {
+        self.in_order(line, 5)?;
+        check(line, PlanCause::Range, is_link(number, link))?;
+        check(line, PlanCause::Twice, !self.has_link(number))
     }
 
     #[tactic(auto, unfolding(crate::specs::Plan::link_taken))]
@@ -178,9 +201,7 @@ impl Plan {
         ensures { TakesPlanLine result (link_taken line self.old words.old) self.new }
     {
         let said = link(words).ok_or(refused(line, PlanCause::Form))?;
-        self.in_order(line, 5)?;
-        check(line, PlanCause::Range, is_link(said.0, &said.1))?;
-        check(line, PlanCause::Twice, !self.has_link(said.0))?;
+        self.admit_link(line, said.0, &said.1)?;
         self.links.push(said)?;
         Ok(())
     }
@@ -195,20 +216,37 @@ impl Plan {
         }
     }
 
+    /// The identifier of a channel that may have a line here.
+    fn admit_channel(&self, line: u32, number: u8, place: &Place) -> Result<ChannelId, PlanError>
+        ensures { Gives result (channel_admitted line self.now number place.now) }
+    {
+        self.in_order(line, 5)?;
+        let id = channel_id(number).ok_or(refused(line, PlanCause::Range))?;
+        check(line, PlanCause::Range, place.link <= 15)?;
+        check(line, PlanCause::Range, self.is_on_link(place))?;
+        check(line, PlanCause::Twice, !self.channels.has(number))?;
+        check(line, PlanCause::Twice, !self.channels.has_place(place))?;
+        check(line, PlanCause::Unknown, self.has_link(place.link))?;
+        Ok(id)
+    }
+
     #[tactic(auto, unfolding(crate::specs::Plan::channel_taken))]
     fn take_channel(&mut self, line: u32, words: &mut Words<'_>) -> Result<(), PlanError>
         ensures { TakesPlanLine result (channel_taken line self.old words.old) self.new }
     {
-        let (n, place) = channel(words).ok_or(refused(line, PlanCause::Form))?;
+        let (number, place) = channel(words).ok_or(refused(line, PlanCause::Form))?;
+        let id = self.admit_channel(line, number, &place)?;
+        self.channels.push(id, place)
+    }
+
+    /// The identifier of a key that may have a line here.
+    fn admit_key(&self, line: u32, number: u64) -> Result<KeyId, PlanError>
+        ensures { Gives result (key_admitted line self.now number) }
+    {
         self.in_order(line, 5)?;
-        let id = channel_id(n).ok_or(refused(line, PlanCause::Range))?;
-        check(line, PlanCause::Range, place.link <= 15)?;
-        check(line, PlanCause::Range, self.is_on_link(&place))?;
-        check(line, PlanCause::Twice, !self.channels.has(n))?;
-        check(line, PlanCause::Twice, !self.channels.has_place(&place))?;
-        check(line, PlanCause::Unknown, self.has_link(place.link))?;
-        self.channels.push(id, place)?;
-        Ok(())
+        let id = key_id(number).ok_or(refused(line, PlanCause::Range))?;
+        check(line, PlanCause::Twice, !self.has_key(id))?;
+        Ok(id)
     }
 
     #[tactic(auto, unfolding(crate::specs::Plan::key_taken))]
@@ -216,9 +254,7 @@ impl Plan {
         ensures { TakesPlanLine result (key_taken line self.old words.old) self.new }
     {
         let said = key(alloc, words)?.ok_or(refused(line, PlanCause::Form))?;
-        self.in_order(line, 5)?;
-        let id = key_id(said.id).ok_or(refused(line, PlanCause::Range))?;
-        check(line, PlanCause::Twice, !self.has_key(id))?;
+        let id = self.admit_key(line, said.id)?;
         self.keys.push(PlanKey {
             line,
             item: KeyItem {
