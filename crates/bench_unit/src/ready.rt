@@ -189,19 +189,30 @@ fn print_ready<R: Eprint>(rt: &R, alone: (u64, u128), four: (u64, u128)) -> io::
     )
 }
 
+fn measure_unit<R: Threads + Wait + Sync + Clock + Eprint>(
+    rt: &R,
+    unit: &Unit<MemSite>,
+    mut first: Worker<MemSite>,
+) -> io::Result<()>
+    requires ready { IsReady unit.now.counters unit.now.plan first }
+    requires shares { (view first).numbers.shares ≡ 1024 }
+{
+    let funded = fund(rt, unit, &mut first);
+    let second = unit.split(&mut first);
+    let permits = time_permits(rt, unit, second)?;
+    let third = unit.split(&mut first);
+    let alone = time_alone(rt, unit, third)?;
+    let four = time_four(rt, unit, first)?;
+    print_permits(rt, permits, funded)?;
+    print_ready(rt, alone, four)
+}
+
 pub fn measure_ready<R: Threads + Wait + Sync + Clock + Eprint>(
     rt: &R,
     alloc: Global,
 ) -> io::Result<()> {
-    let Some((unit, mut first)) = opened(rt, alloc) else {
-        return Err(io::ErrorKind::OutOfMemory.into());
-    };
-    let funded = fund(rt, &unit, &mut first);
-    let second = unit.split(&mut first);
-    let third = unit.split(&mut first);
-    let permits = time_permits(rt, &unit, second)?;
-    let alone = time_alone(rt, &unit, third)?;
-    let four = time_four(rt, &unit, first)?;
-    print_permits(rt, permits, funded)?;
-    print_ready(rt, alone, four)
+    match opened(rt, alloc) {
+        Some((unit, first)) => measure_unit(rt, &unit, first),
+        None => Err(io::ErrorKind::OutOfMemory.into()),
+    }
 }
