@@ -5,7 +5,7 @@ use crate::reader::Stop;
 use std::alloc::Global;
 
 /// What the line of a link says of its frames.
-#[derive(Clone, Copy, Debug, PartialEq, Eq)]
+#[derive(Clone, Copy)]
 pub(crate) enum Frames {
     /// TC, with segment headers.
     Segments,
@@ -17,7 +17,7 @@ pub(crate) enum Frames {
 }
 
 /// Where a channel lies.
-#[derive(Clone, Copy, Debug, PartialEq, Eq)]
+#[derive(Clone, Copy, PartialEq, Eq)]
 pub(crate) struct Spot {
     pub(crate) link: u64,
     pub(crate) spacecraft: u64,

@@ -6,14 +6,14 @@ use std::alloc::{AllocError, AllocFailed};
 use unit_plan::{Words, number_of};
 
 /// The place of a word at fault among the words of its line, from 1, and what was expected there.
-#[derive(Clone, Copy, Debug, PartialEq, Eq)]
+#[derive(Clone, Copy)]
 pub(crate) struct Fault {
     pub(crate) word: u32,
     pub(crate) wanted: Wanted,
 }
 
 /// Why a line was read no further.
-#[derive(Clone, Copy, Debug, PartialEq, Eq)]
+#[derive(Clone, Copy)]
 pub(crate) enum Stop {
     Fault(Fault),
     NoMemory,

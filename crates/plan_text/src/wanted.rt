@@ -1,7 +1,7 @@
 //! What was expected at a word.
 
 /// What was expected at a word that is at fault. A number is printed behind the text.
-#[derive(Clone, Copy, Debug, PartialEq, Eq)]
+#[derive(Clone, Copy)]
 pub(crate) enum Wanted {
     LineFeed,
     NoMark,
