@@ -65,12 +65,8 @@ fn listed(alloc: Global, call: Option<u64>) -> anyhow::Result<Vec<u64>> {
     Ok(calls)
 }
 
-/// What is put for a text, and how the check of it ends.
-pub fn checked(alloc: Global, text: &[u8], piece: usize, faults: Faults) -> anyhow::Result<String> {
-    let text = Vec::from_slice(alloc, text)?;
-    let mut source = MemSource::new(text, piece.max(1), listed(alloc, faults.source)?);
-    let mut sink = MemSite::new(alloc, Vec::new(alloc), listed(alloc, faults.sink)?, None);
-    let end = put_plan(alloc, &mut source, &mut sink);
+/// What was put, and how a check ends.
+fn shown(alloc: Global, end: PlanEnd, put: &[u8]) -> anyhow::Result<String> {
     let told = match end {
         PlanEnd::Plan => "a plan",
         PlanEnd::NoPlan => "no plan",
@@ -79,6 +75,17 @@ pub fn checked(alloc: Global, text: &[u8], piece: usize, faults: Faults) -> anyh
         PlanEnd::NoMemory => "no memory",
     };
     let status = end.status();
-    let put = std::str::from_utf8(sink.sunk()).unwrap_or("no text\n");
+    let put = std::str::from_utf8(put).unwrap_or("no text\n");
     Ok(format!(in alloc; "{put}{told}, status {status}")?)
+}
+
+/// What is put for a text, and how the check of it ends.
+pub fn checked(alloc: Global, text: &[u8], piece: usize, faults: Faults) -> anyhow::Result<String> {
+    let text = Vec::from_slice(alloc, text)?;
+    let source_fails = listed(alloc, faults.source)?;
+    let sink_fails = listed(alloc, faults.sink)?;
+    let mut source = MemSource::new(text, piece.max(1), source_fails);
+    let mut sink = MemSite::new(alloc, Vec::new(alloc), sink_fails, None);
+    let end = put_plan(alloc, &mut source, &mut sink);
+    shown(alloc, end, sink.sunk())
 }
