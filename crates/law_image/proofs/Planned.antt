@@ -1,5 +1,5 @@
 -- The plan that a text says keeps the rules of plans.
-use Rattle.std.proofs.Common.{◌≡◌, ◌⊎◌, ℕ, ◌+◌, Bool, true, false, not, nat_le, nat_lt, ◌==◌, List, [], ◌∷◌, length, codes, Option, Some, None, Result, Ok, Err, refl, ap, subst, inl, inr, arith, if◌then◌else◌}
+use Rattle.std.proofs.Common.{◌≡◌, ◌⊎◌, ℕ, ◌+◌, Bool, true, false, nat_le, nat_lt, ◌==◌, List, [], ◌∷◌, length, codes, Option, Some, None, Result, Ok, Err, refl, ap, subst, inl, inr, arith, if◌then◌else◌}
 use Rattle.std.specs.Result.{result_unwrap_or}
 use Rattle.std.specs.Str.{bytes_eq}
 use Rattle.std.proofs.lemmas.Bool.{and_parts}
@@ -9,18 +9,17 @@ use Rattle.sdls_base.specs.declared.link.Link.{Link}
 use Rattle.sdls_base.specs.Link.{IsLink}
 use Rattle.unit_plan.specs.declared.plan.PlanKey.{PlanKey}
 use Rattle.unit_plan.specs.declared.plan_error.PlanCause.{PlanCause}
-use Rattle.unit_plan.specs.declared.plan_error.PlanCause.TheVariants.{Form, Long, Order, Range, Twice, Unknown}
+use Rattle.unit_plan.specs.declared.plan_error.PlanCause.TheVariants.{Form, Long, Order, Range}
 use Rattle.unit_plan.specs.declared.plan_error.PlanFault.{PlanFault}
 use Rattle.unit_plan.specs.AssociationLine.{association_said}
-use Rattle.unit_plan.specs.Channels.{has_channel, has_place}
 use Rattle.unit_plan.specs.ChannelLine.{channel_said}
 use Rattle.unit_plan.specs.KeyLine.{key_said}
-use Rattle.unit_plan.specs.LineForm.{association_of, bounded, channel_id, device_said, number_said, version_said}
+use Rattle.unit_plan.specs.LineForm.{association_of, bounded, device_said, number_said, version_said}
 use Rattle.unit_plan.specs.Lines.{lines_of, words_of}
 use Rattle.unit_plan.specs.LinkLine.{is_layout, is_link, link_said}
-use Rattle.unit_plan.specs.Plan.{accept_taken, admitted, after, association_added, association_taken, block_taken, channel_taken, device_taken, in_order, is_on_link, is_skipped, key_taken, line_taken, link_taken, plan_of, slots_taken, taken, version_taken}
+use Rattle.unit_plan.specs.Plan.{accept_taken, admitted, after, number_in_order, link_admitted, channel_admitted, key_admitted, association_added, association_taken, block_taken, channel_taken, device_taken, in_order, is_skipped, key_taken, line_taken, link_taken, plan_of, slots_taken, taken, version_taken}
 use Rattle.unit_plan.specs.PlanError.{◌>>=◌, check, fault, require}
-use Rattle.unit_plan.specs.PlanLines.{PlanLines, has_key, has_link, no_lines}
+use Rattle.unit_plan.specs.PlanLines.{PlanLines, no_lines}
 use Rattle.unit_plan.specs.PlanRules.{IsAssociation, IsPlan}
 use Rattle.law_image.proofs.Said.{association_within, bounded_within, key_long, layout_within, link_low}
 
@@ -79,10 +78,10 @@ device_kept line plan next words ok h =
 slots_kept : (line : ℕ) (plan next : PlanLines) (words : List (List ℕ)) → IsPlan plan → slots_taken line plan words ≡ Ok next → IsPlan next
 unfolding slots_taken
 slots_kept line plan next words ok h =
-    let said = behind (require line Form (number_said words)) _ next h in
-    let ordered = behind (in_order line plan 2) _ next said.2 in
-    let n = behind (require line Range (bounded 16 65536 said.0)) _ next ordered.2 in
-    let bounds = bounded_within 16 65536 said.0 n.0 (required line Range (bounded 16 65536 said.0) n.0 n.1) in
+    let n = behind (number_in_order line plan 2 16 65536 words) _ next h in
+    let said = behind (require line Form (number_said words)) _ n.0 n.1 in
+    let ordered = behind (in_order line plan 2) _ n.0 said.2 in
+    let bounds = bounded_within 16 65536 said.0 n.0 (required line Range (bounded 16 65536 said.0) n.0 ordered.2) in
     subst IsPlan (same_ok _ next n.2) (record {
       slots = (bounds.0, bounds.1);
       block = ok.block;
@@ -95,10 +94,10 @@ slots_kept line plan next words ok h =
 block_kept : (line : ℕ) (plan next : PlanLines) (words : List (List ℕ)) → IsPlan plan → block_taken line plan words ≡ Ok next → IsPlan next
 unfolding block_taken
 block_kept line plan next words ok h =
-    let said = behind (require line Form (number_said words)) _ next h in
-    let ordered = behind (in_order line plan 3) _ next said.2 in
-    let n = behind (require line Range (bounded 1 65536 said.0)) _ next ordered.2 in
-    let bounds = bounded_within 1 65536 said.0 n.0 (required line Range (bounded 1 65536 said.0) n.0 n.1) in
+    let n = behind (number_in_order line plan 3 1 65536 words) _ next h in
+    let said = behind (require line Form (number_said words)) _ n.0 n.1 in
+    let ordered = behind (in_order line plan 3) _ n.0 said.2 in
+    let bounds = bounded_within 1 65536 said.0 n.0 (required line Range (bounded 1 65536 said.0) n.0 ordered.2) in
     subst IsPlan (same_ok _ next n.2) (record {
       slots = ok.slots;
       block = (bounds.0, bounds.1);
@@ -111,10 +110,10 @@ block_kept line plan next words ok h =
 accept_kept : (line : ℕ) (plan next : PlanLines) (words : List (List ℕ)) → IsPlan plan → accept_taken line plan words ≡ Ok next → IsPlan next
 unfolding accept_taken
 accept_kept line plan next words ok h =
-    let said = behind (require line Form (number_said words)) _ next h in
-    let ordered = behind (in_order line plan 4) _ next said.2 in
-    let n = behind (require line Range (bounded 1 65536 said.0)) _ next ordered.2 in
-    let bounds = bounded_within 1 65536 said.0 n.0 (required line Range (bounded 1 65536 said.0) n.0 n.1) in
+    let n = behind (number_in_order line plan 4 1 65536 words) _ next h in
+    let said = behind (require line Form (number_said words)) _ n.0 n.1 in
+    let ordered = behind (in_order line plan 4) _ n.0 said.2 in
+    let bounds = bounded_within 1 65536 said.0 n.0 (required line Range (bounded 1 65536 said.0) n.0 ordered.2) in
     subst IsPlan (same_ok _ next n.2) (record {
       slots = ok.slots;
       block = ok.block;
@@ -128,15 +127,15 @@ link_kept : (line : ℕ) (plan next : PlanLines) (words : List (List ℕ)) → I
 unfolding link_taken
 link_kept line plan next words ok h =
     let said = behind (require line Form (link_said words)) _ next h in
-    let ordered = behind (in_order line plan 5) _ next said.2 in
-    let bounds = behind (check line Range (is_link said.0.0 said.0.1)) _ next ordered.2 in
-    let once = behind (check line Twice (not (has_link plan.links said.0.0))) _ next bounds.2 in
+    let known = behind (link_admitted line plan said.0.0 said.0.1) _ next said.2 in
+    let ordered = behind (in_order line plan 5) _ known.0 known.1 in
+    let bounds = behind (check line Range (is_link said.0.0 said.0.1)) _ known.0 ordered.2 in
     let parts = and_parts (nat_le said.0.0 15) (is_layout said.0.1.layout) (passed line Range (is_link said.0.0 said.0.1) bounds.0 bounds.1) in
     let link : IsLink said.0.1 = record {
       layout = layout_within said.0.1.layout parts.1;
       mask = link_low words said.0 (required line Form (link_said words) said.0 said.1);
     } in
-    subst IsPlan (same_ok _ next once.2) (record {
+    subst IsPlan (same_ok _ next known.2) (record {
       slots = ok.slots;
       block = ok.block;
       accept = ok.accept;
@@ -150,14 +149,8 @@ channel_kept : (line : ℕ) (plan next : PlanLines) (words : List (List ℕ)) �
 unfolding channel_taken
 channel_kept line plan next words ok h =
     let said = behind (require line Form (channel_said words)) _ next h in
-    let ordered = behind (in_order line plan 5) _ next said.2 in
-    let id = behind (require line Range (channel_id said.0.0)) _ next ordered.2 in
-    let link = behind (check line Range (nat_le said.0.1.link 15)) _ next id.2 in
-    let bounds = behind (check line Range (is_on_link plan.links said.0.1)) _ next link.2 in
-    let number_once = behind (check line Twice (not (has_channel plan.channels said.0.0))) _ next bounds.2 in
-    let place_once = behind (check line Twice (not (has_place plan.channels said.0.1))) _ next number_once.2 in
-    let known = behind (check line Unknown (has_link plan.links said.0.1.link)) _ next place_once.2 in
-    subst IsPlan (same_ok _ next known.2) (record {
+    let id = behind (channel_admitted line plan said.0.0 said.0.1) _ next said.2 in
+    subst IsPlan (same_ok _ next id.2) (record {
       slots = ok.slots;
       block = ok.block;
       accept = ok.accept;
@@ -173,11 +166,9 @@ key_kept : (line : ℕ) (plan next : PlanLines) (words : List (List ℕ)) → Is
 unfolding key_taken
 key_kept line plan next words ok h =
     let said = behind (require line Form (key_said words)) _ next h in
-    let ordered = behind (in_order line plan 5) _ next said.2 in
-    let id = behind (require line Range (bounded 1 65535 said.0.id)) _ next ordered.2 in
-    let once = behind (check line Twice (not (has_key plan.keys id.0))) _ next id.2 in
+    let id = behind (key_admitted line plan said.0.id) _ next said.2 in
     let long = key_long words said.0 (required line Form (key_said words) said.0 said.1) in
-    subst IsPlan (same_ok _ next once.2) (record {
+    subst IsPlan (same_ok _ next id.2) (record {
       slots = ok.slots;
       block = ok.block;
       accept = ok.accept;
