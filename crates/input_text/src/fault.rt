@@ -6,7 +6,7 @@ use std::alloc::{AllocError, AllocFailed};
 use thiserror::Error;
 
 /// What was expected at a word.
-#[derive(Clone, Copy, Debug, PartialEq, Eq, Error)]
+#[derive(Clone, Copy, Debug, Error)]
 pub enum Expected {
     #[error("protect, open, command or fence")]
     Kind,
@@ -58,7 +58,7 @@ pub enum Expected {
 }
 
 /// The first word of a line that does not continue it, and what was expected there.
-#[derive(Clone, Copy, Debug, PartialEq, Eq, Error)]
+#[derive(Clone, Copy, Debug, Error)]
 #[error("column {column}, word {word}{seen}: expected {expected}")]
 pub struct LineFault {
     /// The place of the word among the words, from 1; one more than there are if a word is missing.
@@ -70,7 +70,7 @@ pub struct LineFault {
 }
 
 /// Why a line was not read.
-#[derive(Clone, Copy, Debug, PartialEq, Eq, Error)]
+#[derive(Clone, Copy, Debug, Error)]
 pub enum LineError {
     /// The line says nothing.
     #[error("{0}")]

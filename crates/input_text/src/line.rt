@@ -22,7 +22,7 @@ use sdls_base::Octets;
 use std::alloc::Global;
 
 /// What a line says: an item of the recorded input.
-#[derive(Debug, Drop)]
+#[derive(Drop)]
 pub enum Line {
     /// `fence`: the end of a segment.
     Fence,

@@ -5,7 +5,7 @@ use std::fmt;
 const MOST_SHOWN: usize = 32;
 
 /// A word for a message: its first 32 octets. Those that are no visible ASCII are printed as `\x` and two digits.
-#[derive(Clone, Copy, Debug, PartialEq, Eq)]
+#[derive(Clone, Copy, Debug)]
 pub struct Seen {
     octets: [u8; MOST_SHOWN],
     len: usize,
