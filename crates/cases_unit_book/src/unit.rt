@@ -26,11 +26,11 @@ pub struct Unit<O: Site> {
 impl<O: Site> Model for Unit<O> {
     ghost use Rattle.unit_book.specs.Book.{BookView, IsKept};
 
-    ghost Value = { BookView O };
+    ghost Value = { BookView };
 
     ghost view = { λ unit. unit.book };
 
-    ghost invariant = { λ unit. IsKept O.told O.trace O.faults unit.book };
+    ghost invariant = { λ unit. IsKept O.told unit.book };
 }
 
 impl<O: Site + Drop> Drop for Unit<O> {

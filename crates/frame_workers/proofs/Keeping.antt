@@ -1,7 +1,7 @@
 -- What a run began with that goes on from an opening, and permits that are kept.
-use Rattle.std.proofs.Common.{Bool, Option, Some, None, length, refl}
+use Rattle.std.proofs.Common.{Bool, Option, Some, None, refl}
 use Rattle.sdls_base.specs.declared.TheConstants.{MOST_KEYS}
-use Rattle.disk_journal.specs.Image.{records, slot_count}
+use Rattle.unit_image.specs.Image.{slots_of, used_of}
 use Rattle.counter_table.specs.declared.view.Opening.{Opening}
 use Rattle.counter_table.specs.declared.view.Turn.{Turn}
 use Rattle.shared_unit.specs.declared.permit.Permit.{Permit}
@@ -12,7 +12,7 @@ use Rattle.law_workers.specs.Began.{BeganWith}
 
 -- a run that began with the opening
 pub begun_at : Bool → Opening → Begin
-begun_at told opening = record { rows = MOST_KEYS; told = told; plan = opening.plan; start = opening.start; slots = slot_count opening.image; used = length (records opening.image) }
+begun_at told opening = record { rows = MOST_KEYS; told = told; plan = opening.plan; start = opening.start; slots = slots_of opening.image; used = used_of opening.image }
 
 pub began_at : (told : Bool) (opening : Opening) → BeganWith told (begun_at told opening) opening
 unfolding begun_at

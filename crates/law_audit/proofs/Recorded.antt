@@ -333,9 +333,9 @@ pub record IsKept (run : LifeRun) : Type 0 where
 
 deeds_code : (run : LifeRun) → IsRun run → All (λ (d : Deed). HasCode d.answer) run.deeds
 deeds_code run is =
-    All-weaker (λ (d : Deed). Fits (NearWord run.course.start run.course.entries (records_of run.places)) run.course d.task d.answer) (λ (d : Deed). HasCode d.answer)
+    All-weaker (λ (d : Deed). Fits (NearWord run.course.begin.start run.course.entries (records_of run.places)) run.course d.task d.answer) (λ (d : Deed). HasCode d.answer)
     (λ d fits. code_among (codes_of d.task.kind) d.answer.code (codes_are d.task.kind)
-    (fits_code (NearWord run.course.start run.course.entries (records_of run.places)) run.course d.task d.answer fits))
+    (fits_code (NearWord run.course.begin.start run.course.entries (records_of run.places)) run.course d.task d.answer fits))
     run.deeds is.sound.answers
 
 follow_kept : (image : List ℕ) (runs : List LifeRun) → FollowFrom image runs → All IsSpelled runs → All SankFew runs → All IsKept runs

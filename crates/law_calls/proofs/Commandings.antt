@@ -7,7 +7,6 @@ use Rattle.sdls_base.specs.declared.change.Change.{Change}
 use Rattle.sdls_base.specs.declared.entry.Entry.{Entry}
 use Rattle.sdls_base.specs.declared.entry.Seen.{Seen}
 use Rattle.sdls_base.specs.declared.entry.Seen.TheVariants as sights
-use Rattle.sdls_outside.specs.Moments.{Trace}
 use Rattle.ep_core.specs.declared.need.Need.{Need}
 use Rattle.ep_core.specs.declared.need.Need.TheVariants as needs
 use Rattle.ep_core.specs.declared.reply.Reply.{Reply}
@@ -73,7 +72,7 @@ above_held None n there h = absurd (let no = there in cc)
 same_key : (one other : ℕ) → Some one ≡ Some other → one ≡ other
 same_key one other is = cc
 
-module _ {O : Type 0} (told : Bool) (trace : O → Trace) (faults puts : O → ℕ) (c : Call told trace faults puts) (commands : c.task.kind ≡ Command) where
+module _ (told : Bool) (c : Call told) (commands : c.task.kind ≡ Command) where
   abbrev near : ℕ → ℕ → Type 0
   near = IsBetween c.begin c.old_view c.new_view
 
@@ -85,43 +84,43 @@ module _ {O : Type 0} (told : Bool) (trace : O → Trace) (faults puts : O → �
       → Shows c.begin c.task c.old_view c.new_view row n drawn spent raised added → IsBetween c.begin c.old_view c.new_view key n
   between key n row drawn spent raised added place shows = record {
     row = row;
-    row_is = row_known told trace faults puts c.begin c.found c.given c.taken c.new_view.turn c.began c.free c.visits key row place;
+    row_is = row_known told c.begin c.found c.given c.taken c.new_view.turn c.began c.free c.visits key row place;
     least = shows.least;
     most = shows.most;
   }
 
   abbrev added_by : (row n : ℕ) (drawn spent raised added : List (ℕ × ℕ)) → Shows c.begin c.task c.old_view c.new_view row n drawn spent raised added
-      → Added told trace faults puts c
+      → Added told c
   added_by row n drawn spent raised added shows =
       record { drawn = drawn; spent = spent; raised = raised; added = added; counted = shows.counted }
 
   -- What the words showed for a need: the stage of the call behind it.
-  pub record Satisfied (need : Need) (seen : Seen) (middle : BookView O) : Type 0 where
+  pub record Satisfied (need : Need) (seen : Seen) (middle : BookView) : Type 0 where
     pub es : List Entry
     pub es_are : (es ≡ []) ⊎ ((key : ℕ) × (n : ℕ) × (seen ≡ sights.Number n) × (es ≡ reserve_of c.found.plan c.found.state key n ∷ []))
-    pub stage : Stage told trace faults puts c middle es
-    pub numbers : Added told trace faults puts c
+    pub stage : Stage told c middle es
+    pub numbers : Added told c
     pub still_is : still middle.state ≡ still c.found.state
     pub fits : MeetsNeed middle.state need seen
     pub is_near : (key : ℕ) → needed_key need ≡ Some key → SeenNear (IsBetween c.begin c.old_view c.new_view) key seen
     pub spent : (key number : ℕ) → need ≡ needs.Number key → seen ≡ sights.Number number
         → (row : ℕ) × (row < c.begin.rows) × IsRow c.begin c.new_view key row × (0 < times row number numbers.spent)
 
-  satisfied_found : (need : Need) (seen : Seen) (middle : BookView O) (numbers : Added told trace faults puts c) → middle ≡ c.found
+  satisfied_found : (need : Need) (seen : Seen) (middle : BookView) (numbers : Added told c) → middle ≡ c.found
       → MeetsNeed middle.state need seen → ((key : ℕ) → needed_key need ≡ Some key → SeenNear (IsBetween c.begin c.old_view c.new_view) key seen)
       → ((key number : ℕ) → need ≡ needs.Number key → seen ≡ sights.Number number → ⊥) → Satisfied need seen middle
   satisfied_found need seen middle numbers same fits near_is none = record {
     es = [];
     es_are = inl refl;
-    stage = subst (λ (b : BookView O). Stage told trace faults puts c b []) (sym same) (stage_found told trace faults puts c);
+    stage = subst (λ (b : BookView). Stage told c b []) (sym same) (stage_found told c);
     numbers = numbers;
-    still_is = ap (λ (b : BookView O). still b.state) same;
+    still_is = ap (λ (b : BookView). still b.state) same;
     fits = fits;
     is_near = near_is;
     spent = λ key number is sees. absurd (none key number is sees);
   }
 
-  raised_word : (key number n : ℕ) (middle : BookView O) → (number ≤ 1) ⊎ IsNeedOf c.found.state c.task.octets (needs.Raise key number)
+  raised_word : (key number n : ℕ) (middle : BookView) → (number ≤ 1) ⊎ IsNeedOf c.found.state c.task.octets (needs.Raise key number)
       → (r : RaisesWord key number n c.found c.old_view.numbers c.new_view.numbers)
       → Shows c.begin c.task c.old_view c.new_view r.row n [] [] ((r.row, number) ∷ []) ((r.row, number - n) ∷ [])
   raised_word key number n middle asked r = raise_shows c.begin c.task c.old_view c.new_view r.row number n r.later r.is (by_ask asked) where
@@ -129,10 +128,10 @@ module _ {O : Type 0} (told : Bool) (trace : O → Trace) (faults puts : O → �
         → (number ≤ 1) ⊎ IsAsked c.begin (entries_in c.new_view) (c.task ∷ []) r.row number
     by_ask (inl low) = inl low
     by_ask (inr need) =
-        let led = led_known told trace faults puts c.begin c.found c.given c.taken c.new_view.turn c.began c.free c.visits in
+        let led = led_known told c.begin c.found c.given c.taken c.new_view.turn c.began c.free c.visits in
         inr (record {
           p = c.found.standing;
-          within = found_within told trace faults puts c.begin c.found c.given c.taken c.new_view.turn c.began c.free c.visits;
+          within = found_within told c.begin c.found c.given c.taken c.new_view.turn c.began c.free c.visits;
           key = key;
           row_is = ap (λ (s : State). place_of s.keys key) (sym led) ∙ r.place;
           task = c.task;
@@ -141,8 +140,8 @@ module _ {O : Type 0} (told : Bool) (trace : O → Trace) (faults puts : O → �
           asks = subst (λ (s : State). IsNeedOf s c.task.octets (needs.Raise key number)) led need;
         })
 
-  pub satisfied : (need : Need) (seen : Seen) (middle : BookView O) → IsNeedOf c.found.state c.task.octets need
-      → Satisfies faults need seen c.found middle c.old_view.numbers c.new_view.numbers → Satisfied need seen middle
+  pub satisfied : (need : Need) (seen : Seen) (middle : BookView) → IsNeedOf c.found.state c.task.octets need
+      → Satisfies need seen c.found middle c.old_view.numbers c.new_view.numbers → Satisfied need seen middle
   satisfied needs.Nothing sights.Nothing middle need (same, still_there) =
       satisfied_found needs.Nothing sights.Nothing middle
       (record { drawn = []; spent = []; raised = []; added = []; counted = counted_none c.begin c.task c.old_view c.new_view still_there }) same
@@ -161,7 +160,7 @@ module _ {O : Type 0} (told : Bool) (trace : O → Trace) (faults puts : O → �
   satisfied (needs.Number key) (sights.Number n) middle need d =
       let shows = uses_shows c.begin c.task c.old_view c.new_view may_draw d.row n 0 d.uses in
       let is_near = between key n d.row ((d.row, n) ∷ []) ((d.row, n) ∷ []) [] ((d.row, 1) ∷ []) d.place shows in
-      let behind = reserved told trace faults puts c may_draw key n d.row d.place d.below is_near d.mark middle d.reserved in
+      let behind = reserved told c may_draw key n d.row d.place d.below is_near d.mark middle d.reserved in
       record {
         es = behind.es;
         es_are = ⊎_elim inl (λ is. inr (key, n, refl, is)) behind.es_are;
@@ -169,14 +168,14 @@ module _ {O : Type 0} (told : Bool) (trace : O → Trace) (faults puts : O → �
         numbers = added_by d.row n ((d.row, n) ∷ []) ((d.row, n) ∷ []) [] ((d.row, 1) ∷ []) shows;
         still_is = behind.still_is;
         fits = above_held (key_row middle.state key) n
-            (place_there middle.state.keys key d.row (reserves_place faults key n d.mark d.row c.found middle d.reserved d.place))
+            (place_there middle.state.keys key d.row (reserves_place key n d.mark d.row c.found middle d.reserved d.place))
             (let above = d.reserved.0 in let mark = d.reserved.1 in omega arith);
         is_near = λ other is. subst (λ (k : ℕ). IsBetween c.begin c.old_view c.new_view k n) (same_key key other is) is_near;
         spent = λ other number is sees.
             let key_is : key ≡ other = same_number key other is in
             let number_is : n ≡ number = same_sight n number sees in (
               d.row,
-              row_below told trace faults puts c.begin c.found c.given c.taken c.new_view.turn c.began c.free c.visits key d.row d.place,
+              row_below told c.begin c.found c.given c.taken c.new_view.turn c.began c.free c.visits key d.row d.place,
               subst (λ (k : ℕ). IsRow c.begin c.new_view k d.row) key_is is_near.row_is,
               subst (λ (x : ℕ). 0 < times d.row x ((d.row, n) ∷ [])) number_is (once d.row n),
             );
@@ -197,7 +196,7 @@ module _ {O : Type 0} (told : Bool) (trace : O → Trace) (faults puts : O → �
   satisfied need seen middle needed s = absurd s
 
   -- the message in the state of the stage
-  module _ (need : Need) (seen : Seen) (middle : BookView O) (needed : IsNeedOf c.found.state c.task.octets need) (s : Satisfied need seen middle) where
+  module _ (need : Need) (seen : Seen) (middle : BookView) (needed : IsNeedOf c.found.state c.task.octets need) (s : Satisfied need seen middle) where
     pub same_need : (other : Need) → IsNeedOf middle.state c.task.octets other → need ≡ other
     same_need other there =
         let served = alike_served c.found.plan middle.state c.found.state s.still_is in
@@ -209,7 +208,7 @@ module _ {O : Type 0} (told : Bool) (trace : O → Trace) (faults puts : O → �
     pub near_seen : (key : ℕ) → KeyOf middle.state c.task.octets key → SeenNear (IsBetween c.begin c.old_view c.new_view) key seen
     near_seen key (other, there, is) = s.is_near key (ap needed_key (same_need other there) ∙ is)
 
-    legal : CanEnter faults middle → (change : Change) (reply : Reply) → IsStepOf middle.state c.task.octets seen (change, reply)
+    legal : CanEnter middle → (change : Change) (reply : Reply) → IsStepOf middle.state c.task.octets seen (change, reply)
         → IsLegal (IsBetween c.begin c.old_view c.new_view) c.begin.plan (after c.begin.start (entries_of middle.log)) (c.task ∷ [])
         (record_entry c.task.index seen change)
     legal can change reply step = subst (λ (st : State). IsLegal (IsBetween c.begin c.old_view c.new_view) c.begin.plan st (c.task ∷ [])
@@ -264,39 +263,39 @@ module _ {O : Type 0} (told : Bool) (trace : O → Trace) (faults puts : O → �
     own_few : 0 + length s.es ≤ drawers (c.task ∷ [])
     own_few = let f = s.stage.few in omega arith
 
-    handled : (reply : Reply) (position : ℕ) → Handles faults c.task.index c.task.octets seen middle c.given reply position
+    handled : (reply : Reply) (position : ℕ) → Handles c.task.index c.task.octets seen middle c.given reply position
         → Answered c.layout c.begin c.segment c.old_view c.new_view c.task (Some (answer_of (replied_told reply) position))
     handled reply position h =
         let below = low reply in
         answered_so c.begin c.layout c.segment c.old_view c.new_view c.task (answer_of (replied_told reply) position) (λ code. absurd (omega arith))
-        (made told trace faults puts c middle s.es s.stage (record_entry c.task.index seen h.change) s.numbers h.made.0
+        (made told c middle s.es s.stage (record_entry c.task.index seen h.change) s.numbers h.made.0
         (legal h.made.0 h.change reply h.step) (λ index. omega arith) own_few (replied_told reply) position h.made.1 (not_protect c.task.kind commands)
         (λ known at. commanded_fits (IsBetween c.begin c.old_view c.new_view) (course_in c.begin c.new_view) c.task (entries_of middle.log) middle.state
         (record_entry c.task.index seen h.change) position known (s.stage.state h.made.0.0) at commands seen h.change reply h.step refl)
         (λ key number uses. used_here h.change reply position h.step key number uses) (plain reply)
         (low_made (replied_told reply).code below))
 
-    refuses : (fault : BookFault) (position : ℕ) → position ≡ entry_count (known_of_book trace faults puts c.given)
-        → RefusesMessage faults c.task.index c.task.octets seen middle c.given fault
+    refuses : (fault : BookFault) (position : ℕ) → position ≡ entry_count (known_of_book c.given)
+        → RefusesMessage c.task.index c.task.octets seen middle c.given fault
         → Answered c.layout c.begin c.segment c.old_view c.new_view c.task (fault_answer fault position)
     refuses fault position at (inl (is_barred, same)) =
-        barred told trace faults puts c middle s.es s.stage s.numbers same fault position at is_barred (inl (not_protect c.task.kind commands))
+        barred told c middle s.es s.stage s.numbers same fault position at is_barred (inl (not_protect c.task.kind commands))
     refuses fault position at (inr (inl (none, same))) =
         subst (λ (f : BookFault). Answered c.layout c.begin c.segment c.old_view c.new_view c.task (fault_answer f position)) (sym none)
-        (wanting told trace faults puts c middle s.es s.stage s.numbers same commands)
+        (wanting told c middle s.es s.stage s.numbers same commands)
     refuses fault position at (inr (inr (can, ((change, reply), step, fails)))) =
-        unstored told trace faults puts c middle s.es s.stage (record_entry c.task.index seen change) s.numbers can
+        unstored told c middle s.es s.stage (record_entry c.task.index seen change) s.numbers can
         (legal can change reply step) (λ index. omega arith) own_few fault position at fails
         (λ same stored. may_change change reply step (length (entries_of middle.log)) same stored)
 
   -- the reserve of a number that the message needs was refused
-  fails : (need : Need) (fault : BookFault) (position : ℕ) → position ≡ entry_count (known_of_book trace faults puts c.given)
-      → IsNeedOf c.found.state c.task.octets need → FailsFor faults need fault c.found c.given c.old_view.numbers c.new_view.numbers
+  fails : (need : Need) (fault : BookFault) (position : ℕ) → position ≡ entry_count (known_of_book c.given)
+      → IsNeedOf c.found.state c.task.octets need → FailsFor need fault c.found c.given c.old_view.numbers c.new_view.numbers
       → Answered c.layout c.begin c.segment c.old_view c.new_view c.task (fault_answer fault position)
   fails need fault position at needed f =
       let shows = draws_shows c.begin c.task c.old_view c.new_view may_draw f.row (end_of f.key) f.n f.draws in
       let is_near = between f.key f.n f.row ((f.row, f.n) ∷ []) [] [] ((f.row, 1) ∷ []) f.place shows in
-      refused told trace faults puts c may_draw f.key f.n f.row f.place f.below is_near
+      refused told c may_draw f.key f.n f.row f.place f.below is_near
       (added_by f.row f.n ((f.row, f.n) ∷ []) [] [] ((f.row, 1) ∷ []) shows) fault position at f.reserved
       (λ p low same unmarked.
       let can_draw : CanDraw (IsBetween c.begin c.old_view c.new_view) (course_in c.begin c.new_view) p c.task = record {
@@ -308,24 +307,24 @@ module _ {O : Type 0} (told : Bool) (trace : O → Trace) (faults puts : O → �
       } in
       subst (λ (k : RecordKind). CanAppend (IsBetween c.begin c.old_view c.new_view) (course_in c.begin c.new_view) p c.task k) (sym commands) (inr can_draw))
 
-  pub commanded : (result : Result (Reply × ℕ) (BookFault × ℕ)) → WithPosition result (known_of_book trace faults puts c.given)
-      (λ answer. IsCommanded faults c.task.index c.task.octets answer c.found c.given c.old_view.numbers c.new_view.numbers)
+  pub commanded : (result : Result (Reply × ℕ) (BookFault × ℕ)) → WithPosition result (known_of_book c.given)
+      (λ answer. IsCommanded c.task.index c.task.octets answer c.found c.given c.old_view.numbers c.new_view.numbers)
       → Answered c.layout c.begin c.segment c.old_view c.new_view c.task (commanded_answer result)
   commanded (Ok (reply, position)) (need, seen, middle, needed, shows, handles) =
       handled need seen middle needed (satisfied need seen middle needed shows) reply position handles
   commanded (Err (fault, position)) (inl (none, same, numbers), at) =
       subst (λ (f : BookFault). Answered c.layout c.begin c.segment c.old_view c.new_view c.task (fault_answer f position)) (sym none)
-      (wanting told trace faults puts c c.found [] (stage_found told trace faults puts c)
+      (wanting told c c.found [] (stage_found told c)
       (record { drawn = []; spent = []; raised = []; added = []; counted = counted_none c.begin c.task c.old_view c.new_view numbers }) same commands)
   commanded (Err (fault, position)) (inr (need, needed, inl f), at) = fails need fault position at needed f
   commanded (Err (fault, position)) (inr (need, needed, inr (seen, middle, shows, r)), at) =
       refuses need seen middle needed (satisfied need seen middle needed shows) fault position at r
 
 -- the call that took the turn at once
-abbrev pub call_of : {O : Type 0} (told : Bool) (trace : O → Trace) (faults puts : O → ℕ) (begin : Begin) (layout : Layout) (segment : ℕ)
-    (task : Record) (v w : View) (found given : BookView O) → BeganWith told begin v.turn.known.opening → v.turn.holds ≡ false
-    → Visits told trace faults puts found given v.turn w.turn → Call told trace faults puts
-call_of {O} told trace faults puts begin layout segment task v w found given began free visits = record {
+abbrev pub call_of : (told : Bool) (begin : Begin) (layout : Layout) (segment : ℕ)
+    (task : Record) (v w : View) (found given : BookView) → BeganWith told begin v.turn.known.opening → v.turn.holds ≡ false
+    → Visits told found given v.turn w.turn → Call told
+call_of told begin layout segment task v w found given began free visits = record {
   begin = begin;
   layout = layout;
   segment = segment;
@@ -343,11 +342,11 @@ call_of {O} told trace faults puts begin layout segment task v w found given beg
   pass = λ log es t. t;
 }
 
-pub commanding_answers : {O : Type 0} (told : Bool) (trace : O → Trace) (faults puts : O → ℕ) (begin : Begin) (layout : Layout) (segment : ℕ)
-    (task : Record) (v w : View) (found given : BookView O) → BeganWith told begin v.turn.known.opening → v.turn.holds ≡ false
-    → task.kind ≡ Command → Visits told trace faults puts found given v.turn w.turn → (result : Result (Reply × ℕ) (BookFault × ℕ))
-    → WithPosition result (known_of_book trace faults puts given)
-    (λ answer. IsCommanded faults task.index task.octets answer found given v.numbers w.numbers)
+pub commanding_answers : (told : Bool) (begin : Begin) (layout : Layout) (segment : ℕ)
+    (task : Record) (v w : View) (found given : BookView) → BeganWith told begin v.turn.known.opening → v.turn.holds ≡ false
+    → task.kind ≡ Command → Visits told found given v.turn w.turn → (result : Result (Reply × ℕ) (BookFault × ℕ))
+    → WithPosition result (known_of_book given)
+    (λ answer. IsCommanded task.index task.octets answer found given v.numbers w.numbers)
     → Answered layout begin segment v w task (commanded_answer result)
-commanding_answers {O} told trace faults puts begin layout segment task v w found given began free commands visits result handled =
-    commanded told trace faults puts (call_of told trace faults puts begin layout segment task v w found given began free visits) commands result handled
+commanding_answers told begin layout segment task v w found given began free commands visits result handled =
+    commanded told (call_of told begin layout segment task v w found given began free visits) commands result handled

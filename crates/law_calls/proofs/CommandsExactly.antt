@@ -10,7 +10,6 @@ use Rattle.sdls_base.specs.declared.entry.Logged.TheVariants as lines
 use Rattle.sdls_base.specs.declared.entry.Seen.{Seen}
 use Rattle.sdls_base.specs.declared.entry.Seen.TheVariants as sights
 use Rattle.sdls_outside.specs.Faults.{Rose}
-use Rattle.sdls_outside.specs.Moments.{Trace}
 use Rattle.key_book.specs.KeyBook.{place_of}
 use Rattle.ep_core.specs.declared.need.Need.{Need}
 use Rattle.ep_core.specs.declared.need.Need.TheVariants as needs
@@ -91,21 +90,21 @@ reserve_drawn row n e seen entry same none =
     let e_is : e ≡ entry = (let s = same in cc) in
     (row, n, ap (λ (z : Entry). z.seen) (sym e_is) ∙ seen, (0, omega arith, refl))
 
-module _ {O : Type 0} (told : Bool) (trace : O → Trace) (faults puts : O → ℕ) (c : Call told trace faults puts) (commands : c.task.kind ≡ Command)
+module _ (told : Bool) (c : Call told) (commands : c.task.kind ≡ Command)
     (covers_spent : CoversSpent c.begin c.old_view c.new_view) where
   -- the site had not failed when the book was found
   abbrev FoundClean : Type 0
-  FoundClean = ¬ Rose (faults c.found.opened) (faults c.found.site)
+  FoundClean = ¬ Rose c.found.opened.faults c.found.site.faults
 
   was_clean : FoundClean → IsClean c.old_view
-  was_clean clean = clean_found told trace faults puts c.begin c.found c.given c.taken c.old_view c.new_view c.began c.free c.visits c.known clean
+  was_clean clean = clean_found told c.begin c.found c.given c.taken c.old_view c.new_view c.began c.free c.visits c.known clean
 
   -- all entries stand, where a book was given back in which they did
-  all_given : (old : BookView O) → c.given ≡ old → old.standing ≡ length (entries_of old.log) → AllStand c.new_view
-  all_given old same all = given_as told trace faults puts c.begin c.found c.given c.taken c.old_view c.new_view c.began c.free c.visits old same all
+  all_given : (old : BookView) → c.given ≡ old → old.standing ≡ length (entries_of old.log) → AllStand c.new_view
+  all_given old same all = given_as told c.begin c.found c.given c.taken c.old_view c.new_view c.began c.free c.visits old same all
 
   -- what the words showed for a need, as a move
-  record Saw (need : Need) (seen : Seen) (middle : BookView O) : Type 0 where
+  record Saw (need : Need) (seen : Seen) (middle : BookView) : Type 0 where
     pub move : Move
     pub moves : Moves c.begin c.old_view c.new_view move
     pub tells : (state : State) → ((need : Need) → IsNeedOf c.found.state c.task.octets need → IsNeedOf state c.task.octets need)
@@ -117,13 +116,13 @@ module _ {O : Type 0} (told : Bool) (trace : O → Trace) (faults puts : O → �
         → machine.AloneShows c.begin (entries_of c.found.log) need seen es move
 
   stands_first : FoundClean → Stands c.begin c.found
-  stands_first clean = stands_found told trace faults puts c.begin c.found c.given c.taken c.old_view c.new_view c.began c.free c.visits clean
+  stands_first clean = stands_found told c.begin c.found c.given c.taken c.old_view c.new_view c.began c.free c.visits clean
 
-  stands_same : (middle : BookView O) → middle ≡ c.found → FoundClean → Stands c.begin middle
+  stands_same : (middle : BookView) → middle ≡ c.found → FoundClean → Stands c.begin middle
   stands_same middle same clean = subst (Stands c.begin) (sym same) (stands_first clean)
 
-  none_more : (middle : BookView O) → middle ≡ c.found → (es : List Entry) → middle.log ≡ c.found.log ++ lines_of es → es ≡ []
-  none_more middle same es is = none_added c.found.log es (ap (λ (b : BookView O). b.log) (sym same) ∙ is)
+  none_more : (middle : BookView) → middle ≡ c.found → (es : List Entry) → middle.log ≡ c.found.log ++ lines_of es → es ≡ []
+  none_more middle same es is = none_added c.found.log es (ap (λ (b : BookView). b.log) (sym same) ∙ is)
 
   -- in the state after the history that was found
   place_now : (key row : ℕ) → place_of c.found.state.keys key ≡ Some row → FoundClean
@@ -141,37 +140,37 @@ module _ {O : Type 0} (told : Bool) (trace : O → Trace) (faults puts : O → �
       → reserve_of c.found.plan c.found.state key n ≡ reserve_of c.begin.plan (machine.now c.begin (entries_of c.found.log)) key n
   reserve_now key n clean =
       ap (λ (p : PlanLines). reserve_of p c.found.state key n)
-      (plan_is told trace faults puts c.begin c.found c.given c.taken c.new_view.turn c.began c.free c.visits)
+      (plan_is told c.begin c.found c.given c.taken c.new_view.turn c.began c.free c.visits)
       ∙ ap (λ (s : State). reserve_of c.begin.plan s key n) (stands_first clean).state
 
   -- the number that was drawn is below its mark, or was reserved
-  funds_now : (key n mark : ℕ) (middle : BookView O) → Reserves faults key n (Ok mark) c.found middle → FoundClean → (es : List Entry)
+  funds_now : (key n mark : ℕ) (middle : BookView) → Reserves key n (Ok mark) c.found middle → FoundClean → (es : List Entry)
       → middle.log ≡ c.found.log ++ lines_of es → machine.Funds c.begin (entries_of c.found.log) key n es
   funds_now key n mark middle (above, mark_is, inl (low, same)) clean es is =
       inl (none_more middle same es is, (let m = mark_now key clean in omega arith))
   funds_now key n mark middle (above, mark_is, inr (high, (position, made))) clean es is =
       let entry : Entry = reserve_of c.found.plan c.found.state key n in
-      let added : middle.log ≡ c.found.log ++ lines.Entry entry ∷ [] = ap (λ (b : BookView O). b.log) made.1.is in
+      let added : middle.log ≡ c.found.log ++ lines.Entry entry ∷ [] = ap (λ (b : BookView). b.log) made.1.is in
       let lines_are : lines_of es ≡ lines.Entry entry ∷ [] = append_cancel_left c.found.log (lines_of es) (lines.Entry entry ∷ []) (sym is ∙ added) in
       inr (
         one_line es entry lines_are ∙ ap (λ (e : Entry). e ∷ []) (reserve_now key n clean),
         (let m = mark_now key clean in omega arith),
-        subst (machine.HasSlot c.begin (entries_of c.found.log)) (reserve_now key n clean) (slot_free c.begin c.found (stands_first clean) entry made.1.free),
+        subst (machine.HasSlot c.begin (entries_of c.found.log)) (reserve_now key n clean) (slot_free c.begin c.found (stands_first clean) middle entry position made.1),
       )
 
-  stands_reserved : (key n mark : ℕ) (middle : BookView O) → Reserves faults key n (Ok mark) c.found middle → FoundClean → Stands c.begin middle
+  stands_reserved : (key n mark : ℕ) (middle : BookView) → Reserves key n (Ok mark) c.found middle → FoundClean → Stands c.begin middle
   stands_reserved key n mark middle (above, mark_is, inl (low, same)) clean = stands_same middle same clean
   stands_reserved key n mark middle (above, mark_is, inr (high, (position, made))) clean =
       stands_entered c.begin c.found (stands_first clean) middle (reserve_of c.found.plan c.found.state key n) position made.1
 
   has_row : (key row : ℕ) → place_of c.found.state.keys key ≡ Some row → place_of (after c.begin.start (entries_in c.new_view)).keys key ≡ Some row
-  has_row key row place = row_known told trace faults puts c.begin c.found c.given c.taken c.new_view.turn c.began c.free c.visits key row place
+  has_row key row place = row_known told c.begin c.found c.given c.taken c.new_view.turn c.began c.free c.visits key row place
 
   low_row : (key row : ℕ) → place_of c.found.state.keys key ≡ Some row → row < c.begin.rows
-  low_row key row place = row_below told trace faults puts c.begin c.found c.given c.taken c.new_view.turn c.began c.free c.visits key row place
+  low_row key row place = row_below told c.begin c.found c.given c.taken c.new_view.turn c.began c.free c.visits key row place
 
-  saw : (need : Need) (seen : Seen) (middle : BookView O) → IsNeedOf c.found.state c.task.octets need
-      → Satisfies faults need seen c.found middle c.old_view.numbers c.new_view.numbers → Saw need seen middle
+  saw : (need : Need) (seen : Seen) (middle : BookView) → IsNeedOf c.found.state c.task.octets need
+      → Satisfies need seen c.found middle c.old_view.numbers c.new_view.numbers → Saw need seen middle
   saw needs.Nothing sights.Nothing middle need (same, still_there) = record {
     move = Kept;
     moves = moves_none c.begin c.old_view c.new_view still_there;
@@ -235,11 +234,11 @@ module _ {O : Type 0} (told : Bool) (trace : O → Trace) (faults puts : O → �
   not_open move is = absurd (let both : Command ≡ Open = sym commands ∙ is in let b = both in cc)
 
   by_lines : (es : List Entry) → c.given.log ≡ c.found.log ++ lines_of es → Turned c.found.log es c.old_view.turn c.new_view.turn
-  by_lines es is = c.pass c.found.log es (turned told trace faults puts c.begin c.found c.given c.taken c.new_view.turn c.began c.free c.visits es is)
+  by_lines es is = c.pass c.found.log es (turned told c.begin c.found c.given c.taken c.new_view.turn c.began c.free c.visits es is)
 
   passes : (es : List Entry) (is : c.given.log ≡ c.found.log ++ lines_of es) (spent : List (ℕ × ℕ))
       → c.new_view.numbers.spent ≡ c.old_view.numbers.spent ++ spent → Passes c.begin c.old_view c.new_view c.found.log es (by_lines es is) spent
-  passes es is spent spent_is = takes_pass told trace faults puts c.begin c.found c.given c.taken c.old_view c.new_view c.began c.free c.visits es (by_lines es is)
+  passes es is spent spent_is = takes_pass told c.begin c.found c.given c.taken c.old_view c.new_view c.began c.free c.visits es (by_lines es is)
       spent spent_is (covers_spent (places (length c.found.log) (length es)) (by_lines es is).made)
 
   by_kind : (answer : Answer) (es : List Entry) (move : Move)
@@ -249,9 +248,9 @@ module _ {O : Type 0} (told : Bool) (trace : O → Trace) (faults puts : O → �
   by_kind answer es move h =
       inr (subst (λ (k : RecordKind). machine.ServesKind c.begin (entries_of c.found.log) k c.task answer es move) (sym commands) h)
 
-  known_length : (position : ℕ) → position ≡ entry_count (known_of_book trace faults puts c.given) → position ≡ length (entries_in c.new_view)
+  known_length : (position : ℕ) → position ≡ entry_count (known_of_book c.given) → position ≡ length (entries_in c.new_view)
   known_length position is =
-      is ∙ sym (ap (λ (l : List Logged). length (entries_of l)) (log_is told trace faults puts c.begin c.found c.given c.taken c.new_view.turn c.began c.free c.visits))
+      is ∙ sym (ap (λ (l : List Logged). length (entries_of l)) (log_is told c.begin c.found c.given c.taken c.new_view.turn c.began c.free c.visits))
 
   by_command : (deed_told : Answer) (move : Move) → TellsCommand c.begin.start (entries_in c.new_view) (deed_of c.segment c.task deed_told) move
       → Tells c.begin.start (entries_in c.new_view) (deed_of c.segment c.task deed_told) move
@@ -274,18 +273,18 @@ module _ {O : Type 0} (told : Bool) (trace : O → Trace) (faults puts : O → �
     by_code (inr is) = omega arith
 
   -- the state after all entries that are known, where the call made none behind a book whose entries all stand
-  state_at_end : (old : BookView O) → c.given ≡ old → old.state ≡ after c.begin.start (entries_of old.log) → (position : ℕ)
+  state_at_end : (old : BookView) → c.given ≡ old → old.state ≡ after c.begin.start (entries_of old.log) → (position : ℕ)
       → position ≡ length (entries_in c.new_view) → after_first c.begin.start (entries_in c.new_view) position ≡ old.state
   state_at_end old same state position is =
       ap (λ (l : List Entry). after c.begin.start l) (take_all position (entries_in c.new_view) (omega arith))
       ∙ ap (λ (l : List Logged). after c.begin.start (entries_of l))
-      (log_is told trace faults puts c.begin c.found c.given c.taken c.new_view.turn c.began c.free c.visits ∙ ap (λ (b : BookView O). b.log) same)
+      (log_is told c.begin c.found c.given c.taken c.new_view.turn c.began c.free c.visits ∙ ap (λ (b : BookView). b.log) same)
       ∙ sym state
 
-  module _ (need : Need) (seen : Seen) (middle : BookView O) (needed : IsNeedOf c.found.state c.task.octets need)
-      (shows : Satisfies faults need seen c.found middle c.old_view.numbers c.new_view.numbers) where
-    abbrev s : Satisfied told trace faults puts c commands need seen middle
-    s = satisfied told trace faults puts c commands need seen middle needed shows
+  module _ (need : Need) (seen : Seen) (middle : BookView) (needed : IsNeedOf c.found.state c.task.octets need)
+      (shows : Satisfies need seen c.found middle c.old_view.numbers c.new_view.numbers) where
+    abbrev s : Satisfied told c commands need seen middle
+    s = satisfied told c commands need seen middle needed shows
 
     abbrev m : Saw need seen middle
     m = saw need seen middle needed shows
@@ -293,7 +292,7 @@ module _ {O : Type 0} (told : Bool) (trace : O → Trace) (faults puts : O → �
     entries_middle : entries_of middle.log ≡ entries_of c.found.log ++ s.es
     entries_middle = ap entries_of s.stage.log ∙ lines_entries c.found.log s.es
 
-    drawn : AreDrawn ((saw need seen middle needed shows).move ∷ []) (satisfied told trace faults puts c commands need seen middle needed shows).es
+    drawn : AreDrawn ((saw need seen middle needed shows).move ∷ []) (satisfied told c commands need seen middle needed shows).es
     drawn = by_es s.es_are where
       by_es : (s.es ≡ []) ⊎ ((key : ℕ) × (n : ℕ) × (seen ≡ sights.Number n) × (s.es ≡ reserve_of c.found.plan c.found.state key n ∷ []))
           → AreDrawn (m.move ∷ []) s.es
@@ -338,14 +337,14 @@ module _ {O : Type 0} (told : Bool) (trace : O → Trace) (faults puts : O → �
     own_drawn change = are_drawn_both (m.move ∷ []) s.es (record_entry c.task.index seen change ∷ []) drawn
         (of_record (m.move ∷ []) (record_entry c.task.index seen change) c.task.index refl, tt)
 
-    handled : (reply : Reply) (position : ℕ) → Handles faults c.task.index c.task.octets seen middle c.given reply position
+    handled : (reply : Reply) (position : ℕ) → Handles c.task.index c.task.octets seen middle c.given reply position
         → AnsweredExactly c.begin c.segment c.old_view c.new_view c.task (Some (answer_of (replied_told reply) position))
     unfolding is_shown
     handled reply position h =
         let e : Entry = record_entry c.task.index seen h.change in
-        let added : c.given.log ≡ middle.log ++ lines.Entry e ∷ [] = ap (λ (b : BookView O). b.log) h.made.1.is in
+        let added : c.given.log ≡ middle.log ++ lines.Entry e ∷ [] = ap (λ (b : BookView). b.log) h.made.1.is in
         let known : entries_in c.new_view ≡ entries_of middle.log ++ e ∷ [] =
-        ap entries_of (log_is told trace faults puts c.begin c.found c.given c.taken c.new_view.turn c.began c.free c.visits ∙ added)
+        ap entries_of (log_is told c.begin c.found c.given c.taken c.new_view.turn c.began c.free c.visits ∙ added)
         ∙ lines_entries middle.log (e ∷ []) in
         let given_is : entries_of c.given.log ≡ entries_of middle.log ++ e ∷ [] = ap entries_of added ∙ lines_entries middle.log (e ∷ []) in
         let at : position ≡ length (entries_of middle.log) + 1 = h.made.1.position_is ∙ ap length given_is ∙ length-append (entries_of middle.log) (e ∷ []) in
@@ -368,7 +367,7 @@ module _ {O : Type 0} (told : Bool) (trace : O → Trace) (faults puts : O → �
         (by_lines (s.es ++ record_entry c.task.index seen h.change ∷ []) (with_own h.change added)) c.segment c.task m.move
         s.numbers.spent (passes (s.es ++ record_entry c.task.index seen h.change ∷ []) (with_own h.change added) s.numbers.spent s.numbers.counted.spent_is)
         (answer_of (replied_told reply) position) here (level.all (was_clean clean))
-        (given_entered told trace faults puts c.begin c.found c.given c.taken c.old_view c.new_view c.began c.free c.visits middle
+        (given_entered told c.begin c.found c.given c.taken c.old_view c.new_view c.began c.free c.visits middle
         (record_entry c.task.index seen h.change) position h.made.1 (s.stage.all_stand h.made.0.0))
         (by_kind (answer_of (replied_told reply) position) (s.es ++ record_entry c.task.index seen h.change ∷ []) m.move (inl (record {
           reserve = s.es;
@@ -378,7 +377,7 @@ module _ {O : Type 0} (told : Bool) (trace : O → Trace) (faults puts : O → �
               let size = ap length entries_middle ∙ length-append (entries_of c.found.log) s.es in
               let more = length-append s.es (record_entry c.task.index seen h.change ∷ []) in omega arith;
           slot = subst (λ (l : List Entry). machine.HasSlot c.begin l (record_entry c.task.index seen h.change)) entries_middle
-              (slot_free c.begin middle (m.stands clean) (record_entry c.task.index seen h.change) h.made.1.free);
+              (slot_free c.begin middle (m.stands clean) _ (record_entry c.task.index seen h.change) _ h.made.1);
           own_is = refl;
         })))) where
           near_any : ℕ → ℕ → Type 0
@@ -389,7 +388,7 @@ module _ {O : Type 0} (told : Bool) (trace : O → Trace) (faults puts : O → �
           not_full (replies.Refused code value) is = omega arith
 
     left : c.given ≡ middle → c.given.log ≡ c.found.log ++ lines_of s.es
-    left same = ap (λ (b : BookView O). b.log) same ∙ s.stage.log
+    left same = ap (λ (b : BookView). b.log) same ∙ s.stage.log
 
     few_es : length s.es ≤ 1
     few_es = by_es s.es_are where
@@ -419,13 +418,13 @@ module _ {O : Type 0} (told : Bool) (trace : O → Trace) (faults puts : O → �
     same_slots : (one other : ℕ) → refusals.JournalFull one ≡ refusals.JournalFull other → other ≡ one
     same_slots one other is = cc
 
-    unstored : (change : Change) (reply : Reply) → IsStepOf middle.state c.task.octets seen (change, reply) → CanEnter faults middle
-        → (fault : BookFault) (position : ℕ) → position ≡ entry_count (known_of_book trace faults puts c.given)
-        → IsUnstored faults (record_entry c.task.index seen change) middle c.given fault
+    unstored : (change : Change) (reply : Reply) → IsStepOf middle.state c.task.octets seen (change, reply) → CanEnter middle
+        → (fault : BookFault) (position : ℕ) → position ≡ entry_count (known_of_book c.given)
+        → IsUnstored (record_entry c.task.index seen change) middle c.given fault
         → AnsweredExactly c.begin c.segment c.old_view c.new_view c.task (fault_answer fault position)
     unfolding is_shown
     unstored change reply step can (refusals.SiteFault count) position at h =
-        refused (s.es ++ record_entry c.task.index seen change ∷ []) (with_own change (ap (λ (b : BookView O). b.log) h.4)) (own_drawn change)
+        refused (s.es ++ record_entry c.task.index seen change ∷ []) (with_own change (ap (λ (b : BookView). b.log) h.4)) (own_drawn change)
         (refusals.SiteFault count) position (λ full. absurd (let no = full in cc)) (λ slots same. absurd (let no = same in cc))
     unstored change reply step can (refusals.JournalFull slots) position at h =
         let here = known_length position at in
@@ -446,29 +445,29 @@ module _ {O : Type 0} (told : Bool) (trace : O → Trace) (faults puts : O → �
             is = is_shown clean change reply step;
             full = subst (λ (l : List Entry). machine.SaysFull c.begin l (record_entry c.task.index seen change) (answer_of (counting JOURNAL_FULL 0 others) position))
                 entries_middle (slot_full c.begin middle (m.stands clean) (record_entry c.task.index seen change) others position h.0 h.1
-                (same_slots slots others same ∙ h.2) (at ∙ ap (λ (b : BookView O). length (entries_of b.log)) h.3));
+                (same_slots slots others same ∙ h.2) (at ∙ ap (λ (b : BookView). length (entries_of b.log)) h.3));
           }))),
         ))
     unstored change reply step can (refusals.Stopped count) position at h = absurd h
     unstored change reply step can refusals.SessionFull position at h = absurd h
     unstored change reply step can refusals.NoMemory position at h = absurd h
 
-    refuses : (fault : BookFault) (position : ℕ) → position ≡ entry_count (known_of_book trace faults puts c.given)
-        → RefusesMessage faults c.task.index c.task.octets seen middle c.given fault
+    refuses : (fault : BookFault) (position : ℕ) → position ≡ entry_count (known_of_book c.given)
+        → RefusesMessage c.task.index c.task.octets seen middle c.given fault
         → AnsweredExactly c.begin c.segment c.old_view c.new_view c.task (fault_answer fault position)
     refuses fault position at (inl (is_barred, same)) =
         refused s.es (left same) drawn fault position
         (λ is.
-        let full = subst (IsBarred faults middle) is is_barred in
+        let full = subst (IsBarred middle) is is_barred in
         (few_es, was_clean (s.stage.clean full.0), all_given middle same (s.stage.all_stand full.0)))
-        (λ slots is. absurd (subst (IsBarred faults middle) is is_barred))
+        (λ slots is. absurd (subst (IsBarred middle) is is_barred))
     refuses fault position at (inr (inl (none, same))) =
         refused s.es (left same) drawn fault position (λ full. absurd (let no = sym none ∙ full in cc)) (λ slots is. absurd (let no = sym none ∙ is in cc))
     refuses fault position at (inr (inr (can, ((change, reply), step, fails)))) = unstored change reply step can fault position at fails
 
   -- the reserve was refused
-  fails : (need : Need) (fault : BookFault) (position : ℕ) → position ≡ entry_count (known_of_book trace faults puts c.given)
-      → IsNeedOf c.found.state c.task.octets need → FailsFor faults need fault c.found c.given c.old_view.numbers c.new_view.numbers
+  fails : (need : Need) (fault : BookFault) (position : ℕ) → position ≡ entry_count (known_of_book c.given)
+      → IsNeedOf c.found.state c.task.octets need → FailsFor need fault c.found c.given c.old_view.numbers c.new_view.numbers
       → AnsweredExactly c.begin c.segment c.old_view c.new_view c.task (fault_answer fault position)
   fails need fault position at needed f = by_refusal fault f.reserved where
     shows : Shows c.begin c.task c.old_view c.new_view f.row f.n ((f.row, f.n) ∷ []) [] [] ((f.row, 1) ∷ [])
@@ -500,23 +499,23 @@ module _ {O : Type 0} (told : Bool) (trace : O → Trace) (faults puts : O → �
     same_slots one other is = cc
 
     none_left : c.given ≡ c.found → c.given.log ≡ c.found.log ++ lines_of []
-    none_left same = ap (λ (b : BookView O). b.log) same ∙ sym (append-nil c.found.log)
+    none_left same = ap (λ (b : BookView). b.log) same ∙ sym (append-nil c.found.log)
 
-    by_refusal : (other : BookFault) → Reserves faults f.key f.n (Err other) c.found c.given
+    by_refusal : (other : BookFault) → Reserves f.key f.n (Err other) c.found c.given
         → AnsweredExactly c.begin c.segment c.old_view c.new_view c.task (fault_answer other position)
     by_refusal other (unmarked, inl (is_barred, same)) =
         ends [] (none_left same) tt other
         (λ is.
-        let full = subst (IsBarred faults c.found) is is_barred in
+        let full = subst (IsBarred c.found) is is_barred in
         (omega arith, was_clean full.0, all_given c.found same (c.visits.found_kept.whole full.0)))
-        (λ slots is. absurd (subst (IsBarred faults c.found) is is_barred))
+        (λ slots is. absurd (subst (IsBarred c.found) is is_barred))
     by_refusal (refusals.SiteFault count) (unmarked, inr (can, h)) =
-        ends (reserve_of c.found.plan c.found.state f.key f.n ∷ []) (ap (λ (b : BookView O). b.log) h.4)
+        ends (reserve_of c.found.plan c.found.state f.key f.n ∷ []) (ap (λ (b : BookView). b.log) h.4)
         (reserve_drawn f.row f.n (reserve_of c.found.plan c.found.state f.key f.n) refl, tt) (refusals.SiteFault count) (λ same. absurd (let no = same in cc))
         (λ slots same. absurd (let no = same in cc))
     by_refusal (refusals.JournalFull slots) (unmarked, inr (can, h)) =
         let here = known_length position at in
-        let state = state_at_end c.found h.3 ((whole told trace faults puts c.begin c.found c.given c.taken c.new_view.turn c.began c.free c.visits can.0).0) position here in
+        let state = state_at_end c.found h.3 ((whole told c.begin c.found c.given c.taken c.new_view.turn c.began c.free c.visits can.0).0) position here in
         let clean : FoundClean = can.0 in
         ends [] (none_left h.3) tt (refusals.JournalFull slots) (λ same. absurd (let no = same in cc))
         (λ others same. (
@@ -542,7 +541,7 @@ module _ {O : Type 0} (told : Bool) (trace : O → Trace) (faults puts : O → �
             unmarked = (let k = mark_now f.key clean in omega arith);
             full = subst (λ (e : Entry). machine.SaysFull c.begin (entries_of c.found.log) e (answer_of (counting JOURNAL_FULL 0 others) position))
                 (reserve_now f.key f.n clean) (slot_full c.begin c.found (stands_first clean) (reserve_of c.found.plan c.found.state f.key f.n) others position
-                h.0 h.1 (same_slots slots others same ∙ h.2) (at ∙ ap (λ (b : BookView O). length (entries_of b.log)) h.3));
+                h.0 h.1 (same_slots slots others same ∙ h.2) (at ∙ ap (λ (b : BookView). length (entries_of b.log)) h.3));
             own_is = refl;
             move_is = refl;
           }))),
@@ -551,27 +550,27 @@ module _ {O : Type 0} (told : Bool) (trace : O → Trace) (faults puts : O → �
     by_refusal refusals.SessionFull (unmarked, inr (can, h)) = absurd h
     by_refusal refusals.NoMemory (unmarked, inr (can, h)) = absurd h
 
-  pub commands_exactly : (result : Result (Reply × ℕ) (BookFault × ℕ)) → WithPosition result (known_of_book trace faults puts c.given)
-      (λ answer. IsCommanded faults c.task.index c.task.octets answer c.found c.given c.old_view.numbers c.new_view.numbers)
+  pub commands_exactly : (result : Result (Reply × ℕ) (BookFault × ℕ)) → WithPosition result (known_of_book c.given)
+      (λ answer. IsCommanded c.task.index c.task.octets answer c.found c.given c.old_view.numbers c.new_view.numbers)
       → AnsweredExactly c.begin c.segment c.old_view c.new_view c.task (commanded_answer result)
   commands_exactly (Ok (reply, position)) (need, seen, middle, needed, shows, handles) = handled need seen middle needed shows reply position handles
   commands_exactly (Err (fault, position)) (inl (none, same, numbers), at) =
       refused_exactly c.begin c.segment c.task c.old_view c.new_view Kept (moves_none c.begin c.old_view c.new_view numbers) c.found.log []
-      (by_lines [] (ap (λ (b : BookView O). b.log) same ∙ sym (append-nil c.found.log))) tt []
-      (passes [] (ap (λ (b : BookView O). b.log) same ∙ sym (append-nil c.found.log)) []
+      (by_lines [] (ap (λ (b : BookView). b.log) same ∙ sym (append-nil c.found.log))) tt []
+      (passes [] (ap (λ (b : BookView). b.log) same ∙ sym (append-nil c.found.log)) []
       (ap (λ (k : Numbers). k.spent) numbers ∙ sym (append-nil c.old_view.numbers.spent))) (λ _. refl) fault position (λ full. absurd (let no = sym none ∙ full in cc))
       (λ slots is. absurd (let no = sym none ∙ is in cc))
   commands_exactly (Err (fault, position)) (inr (need, needed, inl f), at) = fails need fault position at needed f
   commands_exactly (Err (fault, position)) (inr (need, needed, inr (seen, middle, shows, r)), at) = refuses need seen middle needed shows fault position at r
 
-pub commanding_exactly : {O : Type 0} (told : Bool) (trace : O → Trace) (faults puts : O → ℕ) (begin : Begin) (layout : Layout) (segment : ℕ)
-    (task : Record) (v w : View) (found given : BookView O) → BeganWith told begin v.turn.known.opening → v.turn.holds ≡ false
-    → task.kind ≡ Command → Visits told trace faults puts found given v.turn w.turn → FindsCovered told trace faults puts v w
-    → (result : Result (Reply × ℕ) (BookFault × ℕ)) → WithPosition result (known_of_book trace faults puts given)
-    (λ answer. IsCommanded faults task.index task.octets answer found given v.numbers w.numbers)
+pub commanding_exactly : (told : Bool) (begin : Begin) (layout : Layout) (segment : ℕ)
+    (task : Record) (v w : View) (found given : BookView) → BeganWith told begin v.turn.known.opening → v.turn.holds ≡ false
+    → task.kind ≡ Command → Visits told found given v.turn w.turn → FindsCovered told v w
+    → (result : Result (Reply × ℕ) (BookFault × ℕ)) → WithPosition result (known_of_book given)
+    (λ answer. IsCommanded task.index task.octets answer found given v.numbers w.numbers)
     → AnsweredExactly begin segment v w task (commanded_answer result)
-commanding_exactly {O} told trace faults puts begin layout segment task v w found given began free commands visits covered result handled =
+commanding_exactly told begin layout segment task v w found given began free commands visits covered result handled =
     let earlier : Earlier v.turn.known w.turn.known = subst (λ (t : Turn). Earlier v.turn.known t.known) (sym visits.takes.turn)
-    (earlier_again v.turn.known (known_of_book trace faults puts found) (known_of_book trace faults puts given) visits.takes.follows.earlier visits.takes.earlier visits.takes.opening) in
-    commands_exactly told trace faults puts (call_of told trace faults puts begin layout segment task v w found given began free visits) commands
-    (covers told trace faults puts begin v v w began free refl (omega arith) refl refl earlier covered) result handled
+    (earlier_again v.turn.known (known_of_book found) (known_of_book given) visits.takes.follows.earlier visits.takes.earlier visits.takes.opening) in
+    commands_exactly told (call_of told begin layout segment task v w found given began free visits) commands
+    (covers told begin v v w began free refl (omega arith) refl refl earlier covered) result handled

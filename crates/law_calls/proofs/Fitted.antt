@@ -41,29 +41,29 @@ module _ (near : ℕ → ℕ → Type 0) (course : Course) (task : Record) where
 
   -- the entry that the answer tells is the last
   module _ (front : List Entry) (state : State) (entry : Entry) (position : ℕ) (entries : course.entries ≡ front ++ entry ∷ [])
-      (state_is : state ≡ after course.start front) (position_is : position ≡ length front + 1) where
+      (state_is : state ≡ after course.begin.start front) (position_is : position ≡ length front + 1) where
     before : position - 1 ≡ length front
     before = omega arith
 
     pub before_is : state_after course (position - 1) ≡ state
     before_is =
-        ap (λ (p : ℕ). after_first course.start course.entries p) before
-        ∙ ap (λ (es : List Entry). after_first course.start es (length front)) entries
-        ∙ after_front course.start front (entry ∷ []) ∙ sym state_is
+        ap (λ (p : ℕ). after_first course.begin.start course.entries p) before
+        ∙ ap (λ (es : List Entry). after_first course.begin.start es (length front)) entries
+        ∙ after_front course.begin.start front (entry ∷ []) ∙ sym state_is
 
     pub there : slice_get course.entries (position - 1) ≡ Some entry
     there = ap (slice_get course.entries) before ∙ ap (λ (es : List Entry). slice_get es (length front)) entries ∙ behind front entry
 
-    pub opened_fits : task.kind ≡ Open → (reply : OpenReply) (field : List ℕ) → IsOpenReply course.plan state task.link task.octets reply field
-        → entry ≡ frame_entry course.plan state task.index reply → Fits near course task (answer_of (opened_told reply field) position)
+    pub opened_fits : task.kind ≡ Open → (reply : OpenReply) (field : List ℕ) → IsOpenReply course.begin.plan state task.link task.octets reply field
+        → entry ≡ frame_entry course.begin.plan state task.index reply → Fits near course task (answer_of (opened_told reply field) position)
     opened_fits kind reply field replies entry_is =
         subst (λ (k : RecordKind). FitsKind near course task (answer_of (opened_told reply field) position) k) (sym kind) (inl (record {
           reply = reply;
           field = field;
-          replies = subst (λ (s : State). IsOpenReply course.plan s task.link task.octets reply field) (sym before_is) replies;
+          replies = subst (λ (s : State). IsOpenReply course.begin.plan s task.link task.octets reply field) (sym before_is) replies;
           stands = record {
             least = omega arith;
-            there = there ∙ ap (λ (e : Entry). Some e) (entry_is ∙ ap (λ (s : State). frame_entry course.plan s task.index reply) (sym before_is));
+            there = there ∙ ap (λ (e : Entry). Some e) (entry_is ∙ ap (λ (s : State). frame_entry course.begin.plan s task.index reply) (sym before_is));
           };
           told = refl;
         }))
@@ -83,14 +83,14 @@ module _ (near : ℕ → ℕ → Type 0) (course : Course) (task : Record) where
   pub wanting_fits : Fits near course task unserved_answer
   wanting_fits = fits_any unserved_answer (inr (inr (inr (record { told = refl; position_is = refl }))))
 
-  pub full_fits : (slots position : ℕ) → position ≡ length course.entries → (IsTrue course.told → slots ≡ course.slots)
-      → (IsTrue course.told → course.used + stored_count course.start course.entries ≡ course.slots)
+  pub full_fits : (slots position : ℕ) → position ≡ length course.entries → (IsTrue course.begin.told → slots ≡ course.begin.slots)
+      → (IsTrue course.begin.told → course.begin.used + stored_count course.begin.start course.entries ≡ course.begin.slots)
       → MayAppend near course (length course.entries) task → Fits near course task (answer_of (counting JOURNAL_FULL 0 slots) position)
   full_fits slots position is slots_are full may = fits_any (answer_of (counting JOURNAL_FULL 0 slots) position) (inl (record {
     told = refl;
     within = omega arith;
     slots_are = slots_are;
-    full = λ told. ap (λ (es : List Entry). course.used + stored_count course.start es) (take_all position course.entries (omega arith)) ∙ full told;
+    full = λ told. ap (λ (es : List Entry). course.begin.used + stored_count course.begin.start es) (take_all position course.entries (omega arith)) ∙ full told;
     may = subst (λ (p : ℕ). MayAppend near course p task) (sym is) may;
   }))
 

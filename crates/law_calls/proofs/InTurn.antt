@@ -6,8 +6,7 @@ use Rattle.sdls_base.specs.declared.entry.Entry.{Entry}
 use Rattle.sdls_base.specs.declared.entry.Logged.{Logged}
 use Rattle.sdls_base.specs.declared.TheConstants.{MOST_KEYS}
 use Rattle.sdls_outside.specs.Faults.{Rose}
-use Rattle.sdls_outside.specs.Moments.{Trace}
-use Rattle.disk_journal.specs.Image.{records, slot_count}
+use Rattle.unit_image.specs.Image.{slots_of, used_of}
 use Rattle.key_book.specs.KeyBook.{place_of}
 use Rattle.record_io.specs.declared.answers.Answer.{Answer}
 use Rattle.record_io.specs.declared.code.TheConstants.{JOURNAL_FULL}
@@ -27,7 +26,7 @@ use Rattle.run_promise.specs.Answers.{counting}
 use Rattle.run_promise.specs.Log.{entries_of}
 use Rattle.run_promise.specs.Numbers.{mark_of, mark_at}
 use Rattle.run_promise.specs.Stored.{IsStored, stored_count}
-use Rattle.unit_book.specs.Book.{BookView, Enters}
+use Rattle.unit_book.specs.Book.{BookView, CountsUsedSlots, Enters}
 use Rattle.shared_unit.specs.Told.{known_of_book}
 use Rattle.shared_unit.specs.Turn.{FindsCovered, taking_once, Visits}
 use Rattle.run_promise.specs.Begin.{Begin}
@@ -165,21 +164,21 @@ looks_pass begin v w spent turned is =
     }
 
 -- The turn was taken, with the one book found and the other given back.
-module _ {O : Type 0} (told : Bool) (trace : O → Trace) (faults puts : O → ℕ) (begin : Begin) (found given : BookView O) (u : Turn) (v w : View)
-    (began : BeganWith told begin u.known.opening) (free : u.holds ≡ false) (visits : Visits told trace faults puts found given u w.turn) where
-  not_given : IsClean w → ¬ Rose (faults given.opened) (faults given.site)
+module _ (told : Bool) (begin : Begin) (found given : BookView) (u : Turn) (v w : View)
+    (began : BeganWith told begin u.known.opening) (free : u.holds ≡ false) (visits : Visits told found given u w.turn) where
+  not_given : IsClean w → ¬ Rose given.opened.faults given.site.faults
   not_given clean rose =
-      let first : w.turn.known.opening.faults ≡ faults found.opened = began_faults told trace faults puts begin found given u w.turn began free visits in
-      let now : w.turn.known.faults ≡ faults given.site = faults_are told trace faults puts begin found given u w.turn began free visits in
-      let same : faults given.opened ≡ faults found.opened = ap (λ (o : Opening). o.faults) visits.takes.opening in
+      let first : w.turn.known.opening.faults ≡ found.opened.faults = began_faults told begin found given u w.turn began free visits in
+      let now : w.turn.known.faults ≡ given.site.faults = faults_are told begin found given u w.turn began free visits in
+      let same : given.opened.faults ≡ found.opened.faults = ap (λ (o : Opening). o.faults) visits.takes.opening in
       clean (
-      (subst (λ (n : ℕ). Rose n w.turn.known.faults) (same ∙ sym first) (subst (λ (n : ℕ). Rose (faults given.opened) n) (sym now) rose)))
+      (subst (λ (n : ℕ). Rose n w.turn.known.faults) (same ∙ sym first) (subst (λ (n : ℕ). Rose given.opened.faults n) (sym now) rose)))
 
-  pub not_found : IsClean w → ¬ Rose (faults found.opened) (faults found.site)
+  pub not_found : IsClean w → ¬ Rose found.opened.faults found.site.faults
   not_found clean rose =
       let low = visits.takes.earlier.faults in
-      let same : faults given.opened ≡ faults found.opened = ap (λ (o : Opening). o.faults) visits.takes.opening in
-      not_given clean (subst (λ (n : ℕ). Rose n (faults given.site)) (sym same) (later (faults found.opened) (faults found.site) (faults given.site) low rose))
+      let same : given.opened.faults ≡ found.opened.faults = ap (λ (o : Opening). o.faults) visits.takes.opening in
+      not_given clean (subst (λ (n : ℕ). Rose n given.site.faults) (sym same) (later found.opened.faults found.site.faults given.site.faults low rose))
     where
       later : (a b c : ℕ) → b ≤ c → Rose a b → Rose a c
       later a b c low rose = omega arith
@@ -191,11 +190,11 @@ module _ {O : Type 0} (told : Bool) (trace : O → Trace) (faults puts : O → �
   pub taken_level : IsLevel w
   taken_level =
       let kept = visits.given_kept in
-      let log : w.turn.known.log ≡ given.log = log_is told trace faults puts begin found given u w.turn began free visits in
+      let log : w.turn.known.log ≡ given.log = log_is told begin found given u w.turn began free visits in
       let size : length (entries_in w) ≡ length (entries_of given.log) = ap (λ (l : List Logged). length (entries_of l)) log in
       let stand = standing_is in
       let few = kept.few_left in
-      let changes : w.turn.known.changes ≡ given.changes = changes_are told trace faults puts begin found given u w.turn began free visits in
+      let changes : w.turn.known.changes ≡ given.changes = changes_are told begin found given u w.turn began free visits in
       let counted : given.changes ≡ epoch_after (stood_in w) = kept.epoch ∙ ap epoch_after (ap (λ (n : ℕ). take n (entries_of given.log)) (sym stand)
       ∙ ap (λ (l : List Logged). take w.turn.known.standing (entries_of l)) (sym log)) in
       record {
@@ -207,63 +206,55 @@ module _ {O : Type 0} (told : Bool) (trace : O → Trace) (faults puts : O → �
   -- all entries stand that were given back so
   pub given_stands : length (entries_of given.log) ≤ given.standing → AllStand w
   given_stands all =
-      let log : w.turn.known.log ≡ given.log = log_is told trace faults puts begin found given u w.turn began free visits in
+      let log : w.turn.known.log ≡ given.log = log_is told begin found given u w.turn began free visits in
       let size : length (entries_in w) ≡ length (entries_of given.log) = ap (λ (l : List Logged). length (entries_of l)) log in
       let stand = standing_is in omega arith
 
-  pub given_as : (old : BookView O) → given ≡ old → old.standing ≡ length (entries_of old.log) → AllStand w
+  pub given_as : (old : BookView) → given ≡ old → old.standing ≡ length (entries_of old.log) → AllStand w
   given_as old same all =
-      let a : given.standing ≡ old.standing = ap (λ (b : BookView O). b.standing) same in
-      let b : length (entries_of given.log) ≡ length (entries_of old.log) = ap (λ (x : BookView O). length (entries_of x.log)) same in
+      let a : given.standing ≡ old.standing = ap (λ (b : BookView). b.standing) same in
+      let b : length (entries_of given.log) ≡ length (entries_of old.log) = ap (λ (x : BookView). length (entries_of x.log)) same in
       given_stands (omega arith)
 
   -- an entry was made of a book whose entries all stood
-  pub given_entered : (old : BookView O) (entry : Entry) (position : ℕ) → Enters entry old given position → old.standing ≡ length (entries_of old.log) → AllStand w
+  pub given_entered : (old : BookView) (entry : Entry) (position : ℕ) → Enters entry old given position → old.standing ≡ length (entries_of old.log) → AllStand w
   given_entered old entry position enters all =
-      let a : given.standing ≡ old.standing + 1 = ap (λ (b : BookView O). b.standing) enters.is in
+      let a : given.standing ≡ old.standing + 1 = ap (λ (b : BookView). b.standing) enters.is in
       let b : length (entries_of given.log) ≡ length (entries_of old.log) + 1 =
-      ap length (ap (λ (x : BookView O). entries_of x.log) enters.is ∙ lines_entries old.log (entry ∷ [])) ∙ length-append (entries_of old.log) (entry ∷ []) in
+      ap length (ap (λ (x : BookView). entries_of x.log) enters.is ∙ lines_entries old.log (entry ∷ [])) ∙ length-append (entries_of old.log) (entry ∷ []) in
       given_stands (omega arith)
 
   -- a book that had not failed was known as such
-  pub clean_found : u.known ≡ v.turn.known → ¬ Rose (faults found.opened) (faults found.site) → IsClean v
-  clean_found known not rose = not (risen_found told trace faults puts begin found given u w.turn began free visits
+  pub clean_found : u.known ≡ v.turn.known → ¬ Rose found.opened.faults found.site.faults → IsClean v
+  clean_found known not rose = not (risen_found told begin found given u w.turn began free visits
       (subst (λ (k : Known). Rose k.opening.faults k.faults) (sym known) rose))
 
-  -- the slots
-  pub slots_found : ¬ Rose (faults found.opened) (faults found.site) → IsTrue begin.told
-      → (begin.slots ≡ found.journal.slots) × (begin.used + stored_count begin.start (entries_of found.log) ≡ found.journal.used)
-  slots_found not tells =
-      let t : IsTrue told = subst (λ (b : Bool). IsTrue b) began.tells tells in
-      let counts = visits.found_kept.counted t not in
-      let image : found.image ≡ u.known.opening.image = ap (λ (o : Opening). o.image) visits.takes.follows.opening in
-      let start : found.start ≡ begin.start = start_is told trace faults puts begin found given u w.turn began free visits in
-      let slots = began.slots t in
-      let used = began.used t in
-      let stored : stored_count begin.start (entries_of found.log) ≡ stored_count found.start (entries_of found.log) =
-      ap (λ (s : State). stored_count s (entries_of found.log)) (sym start) in
-      let lies : slot_count found.image ≡ slot_count u.known.opening.image = ap slot_count image in
-      let count : length (records found.image) ≡ length (records u.known.opening.image) = ap (λ (i : List ℕ). length (records i)) image in
-      let a = counts.slots in let b = counts.used in (omega arith, omega arith)
+  -- the image, and the count of its slots
+  pub image_found : found.image ≡ u.known.opening.image
+  image_found = ap (λ (o : Opening). o.image) visits.takes.follows.opening
+
+  pub found_counts : ¬ Rose found.opened.faults found.site.faults → IsTrue begin.told
+      → CountsUsedSlots found.image found.start found.journal (entries_of found.log)
+  found_counts not tells = visits.found_kept.counted (subst (λ (b : Bool). IsTrue b) began.tells tells) not
 
   -- where no line was made since a view, the entries that stand in the book that was found are those that stood in it
   pub stood_found : u.known ≡ v.turn.known → found.log ≡ log_of v → IsLevel v → take found.standing (entries_of found.log) ≡ stood_in v
   stood_found known same level =
-      let e : Earlier v.turn.known (known_of_book trace faults puts found) =
-      subst (λ (k : Known). Earlier k (known_of_book trace faults puts found)) known visits.takes.follows.earlier in
-      let opening : (known_of_book trace faults puts found).opening ≡ v.turn.known.opening =
+      let e : Earlier v.turn.known (known_of_book found) =
+      subst (λ (k : Known). Earlier k (known_of_book found)) known visits.takes.follows.earlier in
+      let opening : (known_of_book found).opening ≡ v.turn.known.opening =
       visits.takes.follows.opening ∙ ap (λ (k : Known). k.opening) known in
       ap (λ (l : List Logged). take found.standing (entries_of l)) same
       ∙ stood_is v found.standing level e.standing (λ rose. e.stood (subst (λ (o : Opening). Rose o.faults v.turn.known.faults) (sym opening) rose))
 
   -- what was spent and seen before is backed in the book that was found
-  pub taken_backed : IsCovered MOST_KEYS v.numbers (known_of_book trace faults puts found) → u.known ≡ v.turn.known
+  pub taken_backed : IsCovered MOST_KEYS v.numbers (known_of_book found) → u.known ≡ v.turn.known
       → epoch_seen v.turn ≤ epoch_seen u → found.log ≡ log_of v → IsLevel v → (numbers : List (ℕ × ℕ)) → AreOf numbers v.numbers.spent
       → IsBacked begin v numbers
   taken_backed covered known later same level numbers of =
       let stood = stood_found known same level in
       let state : found.state ≡ after begin.start (stood_in v) =
-      led told trace faults puts begin found given u w.turn began free visits ∙ ap (after begin.start) stood in
+      led told begin found given u w.turn began free visits ∙ ap (after begin.start) stood in
       record {
         marks = λ key row number low there in'.
             let rows = began.rows in
@@ -278,7 +269,7 @@ module _ {O : Type 0} (told : Bool) (trace : O → Trace) (faults puts : O → �
             let mark : mark_at found.state row ≡ mark_of found.state key = mark_known found.state left key row visits.found_kept.rules place in
             let known_mark : mark_of found.state key ≡ mark_of (after begin.start (stood_in v)) key = ap (λ (s : State). mark_of s key) state in omega arith;
         epoch =
-            let low = epoch_low told trace faults puts begin found given u w.turn began free visits in
+            let low = epoch_low told begin found given u w.turn began free visits in
             let counted : found.changes ≡ epoch_after (stood_in v) = visits.found_kept.epoch ∙ ap epoch_after stood in omega arith;
       }
 
@@ -299,31 +290,33 @@ CoversSpent begin v w = (made : List ℕ) → w.turn.made ≡ v.turn.made ++ mad
     → AreOf numbers v.numbers.spent → IsBacked begin v numbers
 
 -- A book that was found above all that was spent, by a worker with this view before, whose turn and numbers are those of another.
-pub covers : {O : Type 0} (told : Bool) (trace : O → Trace) (faults puts : O → ℕ) (begin : Begin) (v x w : View) → BeganWith told begin v.turn.known.opening
+pub covers : (told : Bool) (begin : Begin) (v x w : View) → BeganWith told begin v.turn.known.opening
     → x.turn.holds ≡ false → x.turn.known ≡ v.turn.known → epoch_seen v.turn ≤ epoch_seen x.turn → x.turn.made ≡ v.turn.made → x.numbers ≡ v.numbers → Earlier v.turn.known w.turn.known
-    → FindsCovered told trace faults puts x w → CoversSpent begin v w
-covers {O} told trace faults puts begin v x w began free known later same numbers earlier h made made_is all level =
+    → FindsCovered told x w → CoversSpent begin v w
+covers told begin v x w began free known later same numbers earlier h made made_is all level =
     let began_x : BeganWith told begin x.turn.known.opening = subst (λ (k : Known). BeganWith told begin k.opening) (sym known) began in
-    let turn : w.turn ≡ taking_once (known_of_book trace faults puts h.found) (known_of_book trace faults puts h.given) x.turn = h.visits.takes.turn in
+    let turn : w.turn ≡ taking_once (known_of_book h.found) (known_of_book h.given) x.turn = h.visits.takes.turn in
     let count : ℕ = length h.given.log - length h.found.log in
     let made_here : made ≡ places (length h.found.log) count =
     append_cancel_left v.turn.made made (places (length h.found.log) count)
     (sym made_is ∙ ap (λ (t : Turn). t.made) turn ∙ ap (λ (l : List ℕ). l ++ places (length h.found.log) count) same) in
     let low : length (log_of v) ≤ length h.found.log =
-    (let l = log_low told trace faults puts begin h.found h.given x.turn w.turn began_x free h.visits in
+    (let l = log_low told begin h.found h.given x.turn w.turn began_x free h.visits in
     let k : length x.turn.known.log ≡ length (log_of v) = ap (λ (z : Known). length z.log) known in omega arith) in
     let log : h.found.log ≡ log_of v = found_known v w h.found.log count low h.visits.takes.earlier.log.0 earlier.log.0 earlier.log.1
-    (log_is told trace faults puts begin h.found h.given x.turn w.turn began_x free h.visits ∙ h.visits.takes.earlier.log.1)
+    (log_is told begin h.found h.given x.turn w.turn began_x free h.visits ∙ h.visits.takes.earlier.log.1)
     (subst (MadeAllLines v w) made_here all) in
-    taken_backed told trace faults puts begin h.found h.given x.turn v w began_x free h.visits
-    (subst (λ (k : Numbers). IsCovered MOST_KEYS k (known_of_book trace faults puts h.found)) numbers h.covered) known later log level
+    taken_backed told begin h.found h.given x.turn v w began_x free h.visits
+    (subst (λ (k : Numbers). IsCovered MOST_KEYS k (known_of_book h.found)) numbers h.covered) known later log level
 
 -- What is known of a book at a stage of a call, where the site had not failed: its state is that after its entries, and its slots are
--- those of the image.
-pub record Stands {O : Type 0} (begin : Begin) (book : BookView O) : Type 0 where
+-- those of the image that the run began with.
+pub record Stands (begin : Begin) (book : BookView) : Type 0 where
   pub state : book.state ≡ after begin.start (entries_of book.log)
-  pub slots : IsTrue begin.told → begin.slots ≡ book.journal.slots
-  pub used : IsTrue begin.told → begin.used + stored_count begin.start (entries_of book.log) ≡ book.journal.used
+  pub start : book.start ≡ begin.start
+  pub slots : IsTrue begin.told → begin.slots ≡ slots_of book.image
+  pub used : IsTrue begin.told → begin.used ≡ used_of book.image
+  pub counts : IsTrue begin.told → CountsUsedSlots book.image book.start book.journal (entries_of book.log)
 
 stored_one : (start : State) (es : List Entry) (e : Entry)
     → stored_count start (es ++ e ∷ []) ≡ stored_count start es + (if IsStored (after start es) e then 1 else 0)
@@ -334,49 +327,75 @@ after_one : (start : State) (es : List Entry) (e : Entry) → after start (es ++
 after_one start [] e = refl
 after_one start (x ∷ es) e = after_one (applied start x.change) es e
 
-module _ {O : Type 0} (begin : Begin) (old : BookView O) (stands : Stands begin old) where
+module _ (begin : Begin) (old : BookView) (stands : Stands begin old) where
   -- behind an entry that was made
-  pub stands_entered : (new : BookView O) (entry : Entry) (position : ℕ) → Enters entry old new position → Stands begin new
+  pub stands_entered : (new : BookView) (entry : Entry) (position : ℕ) → Enters entry old new position → Stands begin new
   stands_entered new entry position enters =
       let log : entries_of new.log ≡ entries_of old.log ++ entry ∷ [] =
-      ap (λ (b : BookView O). entries_of b.log) enters.is ∙ lines_entries old.log (entry ∷ []) in
-      let state : new.state ≡ applied old.state entry.change = ap (λ (b : BookView O). b.state) enters.is in
+      ap (λ (b : BookView). entries_of b.log) enters.is ∙ lines_entries old.log (entry ∷ []) in
+      let state : new.state ≡ applied old.state entry.change = ap (λ (b : BookView). b.state) enters.is in
+      let image : old.image ≡ new.image = sym (ap (λ (b : BookView). b.image) enters.is) in
       record {
         state = state ∙ ap (λ (s : State). applied s entry.change) stands.state ∙ sym (after_one begin.start (entries_of old.log) entry)
             ∙ ap (after begin.start) (sym log);
-        slots = λ tells. stands.slots tells ∙ sym (ap (λ (b : BookView O). b.journal.slots) enters.is);
-        used = λ tells.
-            let u = stands.used tells in
-            let now : new.journal.used ≡ old.journal.used + (if IsStored old.state entry then 1 else 0) = ap (λ (b : BookView O). b.journal.used) enters.is in
-            let one = stored_one begin.start (entries_of old.log) entry in
-            let all : stored_count begin.start (entries_of new.log) ≡ stored_count begin.start (entries_of old.log ++ entry ∷ []) = ap (stored_count begin.start) log in
-            let test : IsStored (after begin.start (entries_of old.log)) entry ≡ IsStored old.state entry = ap (λ (s : State). IsStored s entry) (sym stands.state) in
-            let value : one_if (IsStored (after begin.start (entries_of old.log)) entry) ≡ one_if (IsStored old.state entry) = ap one_if test in omega arith;
+        start = ap (λ (b : BookView). b.start) enters.is ∙ stands.start;
+        slots = λ tells. stands.slots tells ∙ ap slots_of image;
+        used = λ tells. stands.used tells ∙ ap used_of image;
+        counts = λ tells. enters.counted (stands.counts tells);
       }
 
-  -- there is a slot for an entry that was made, and none for one that could not be
-  pub slot_free : (entry : Entry) → (IsTrue (IsStored old.state entry) → old.journal.used < old.journal.slots)
-      → HasSlot begin (entries_of old.log) entry
-  slot_free entry free tells stored =
-      let f = free (subst (λ (s : State). IsTrue (IsStored s entry)) (sym stands.state) stored) in
-      let s = stands.slots tells in let u = stands.used tells in omega arith
+  -- the slots used now
+  used_now : IsTrue begin.told → begin.used + stored_count begin.start (entries_of old.log) ≡ old.journal.used
+  used_now tells =
+      let counts = stands.counts tells in
+      let stored : stored_count begin.start (entries_of old.log) ≡ stored_count old.start (entries_of old.log) =
+      ap (λ (s : State). stored_count s (entries_of old.log)) (sym stands.start) in
+      let u = stands.used tells in let c = counts.used in omega arith
+
+  slots_now : IsTrue begin.told → begin.slots ≡ old.journal.slots
+  slots_now tells = stands.slots tells ∙ sym (stands.counts tells).slots
+
+  -- there was a slot for an entry that was made, and none for one that could not be
+  pub slot_free : (new : BookView) (entry : Entry) (position : ℕ) → Enters entry old new position → HasSlot begin (entries_of old.log) entry
+  slot_free new entry position enters tells stored =
+      let more : entries_of new.log ≡ entries_of old.log ++ entry ∷ [] =
+      ap (λ (b : BookView). entries_of b.log) enters.is ∙ lines_entries old.log (entry ∷ []) in
+      let counts = enters.counted (stands.counts tells) in
+      let low : new.journal.used ≤ new.journal.slots = counts.within in
+      let used = counts.used in
+      let slots = counts.slots in
+      let image : new.image ≡ old.image = ap (λ (b : BookView). b.image) enters.is in
+      let start : new.start ≡ begin.start = ap (λ (b : BookView). b.start) enters.is ∙ stands.start in
+      let all : stored_count new.start (entries_of new.log) ≡ stored_count begin.start (entries_of old.log ++ entry ∷ []) =
+      ap (λ (s : State). stored_count s (entries_of new.log)) start ∙ ap (stored_count begin.start) more in
+      let one : stored_count begin.start (entries_of old.log ++ entry ∷ [])
+      ≡ stored_count begin.start (entries_of old.log) + (if IsStored (after begin.start (entries_of old.log)) entry then 1 else 0) =
+      stored_one begin.start (entries_of old.log) entry in
+      let taken : one_if (IsStored (after begin.start (entries_of old.log)) entry) ≡ 1 = ap one_if stored in
+      let u : begin.used ≡ used_of new.image = stands.used tells ∙ ap used_of (sym image) in
+      let n : begin.slots ≡ slots_of new.image = stands.slots tells ∙ ap slots_of (sym image) in
+      omega arith
 
   pub slot_full : (entry : Entry) (slots position : ℕ) → IsTrue (IsStored old.state entry) → old.journal.used ≡ old.journal.slots → slots ≡ old.journal.slots
       → position ≡ length (entries_of old.log) → SaysFull begin (entries_of old.log) entry (answer_of (counting JOURNAL_FULL 0 slots) position)
   slot_full entry slots position stored full is at = record {
     told = refl;
     position_is = at;
-    slots_are = λ tells. is ∙ sym (stands.slots tells);
+    slots_are = λ tells. is ∙ sym (slots_now tells);
     stored = subst (λ (s : State). IsTrue (IsStored s entry)) stands.state stored;
-    none_left = λ tells. let s = stands.slots tells in let u = stands.used tells in omega arith;
+    none_left = λ tells. let s = slots_now tells in let u = used_now tells in omega arith;
   }
 
 -- the book that was found
-pub stands_found : {O : Type 0} (told : Bool) (trace : O → Trace) (faults puts : O → ℕ) (begin : Begin) (found given : BookView O) (u : Turn) (v w : View)
-    → BeganWith told begin u.known.opening → u.holds ≡ false → Visits told trace faults puts found given u w.turn
-    → ¬ Rose (faults found.opened) (faults found.site) → Stands begin found
-stands_found told trace faults puts begin found given u v w began free visits not = record {
-  state = (whole told trace faults puts begin found given u w.turn began free visits not).0;
-  slots = λ tells. (slots_found told trace faults puts begin found given u v w began free visits not tells).0;
-  used = λ tells. (slots_found told trace faults puts begin found given u v w began free visits not tells).1;
-}
+pub stands_found : (told : Bool) (begin : Begin) (found given : BookView) (u : Turn) (v w : View)
+    → BeganWith told begin u.known.opening → u.holds ≡ false → Visits told found given u w.turn
+    → ¬ Rose found.opened.faults found.site.faults → Stands begin found
+stands_found told begin found given u v w began free visits not =
+    let image : u.known.opening.image ≡ found.image = sym (image_found told begin found given u v w began free visits) in
+    record {
+      state = (whole told begin found given u w.turn began free visits not).0;
+      start = start_is told begin found given u w.turn began free visits;
+      slots = λ tells. began.slots (subst (λ (b : Bool). IsTrue b) began.tells tells) ∙ ap slots_of image;
+      used = λ tells. began.used (subst (λ (b : Bool). IsTrue b) began.tells tells) ∙ ap used_of image;
+      counts = λ tells. found_counts told begin found given u v w began free visits not tells;
+    }

@@ -1,7 +1,6 @@
 -- The answer to a frame that was opened, or refused.
 use Rattle.std.proofs.Common.{◌≡◌, ◌≢◌, ℕ, ◌<◌, ◌≤◌, Bool, IsTrue, false, List, [], ◌∷◌, length, refl, sym, ◌∙◌, ap, subst, arith, inl, inr, Result, Ok, Err, MatchResult}
 use Rattle.sdls_base.specs.declared.entry.Entry.{Entry}
-use Rattle.sdls_outside.specs.Moments.{Trace}
 use Rattle.frame_checks.specs.declared.open_reply.OpenReply.{OpenReply}
 use Rattle.frame_checks.specs.declared.open_reply.OpenReply.TheVariants as opens
 use Rattle.frame_checks.specs.Accepting.{field_in, LeavesOctets}
@@ -75,10 +74,10 @@ unused reply field position key number (inr (is, some), of_key, of_number) = (op
 not_protect : (kind : RecordKind) → kind ≡ Open → kind ≢ Protect
 not_protect kind is other = let both : Open ≡ Protect = sym is ∙ other in cc
 
-module _ {O : Type 0} (told : Bool) (trace : O → Trace) (faults puts : O → ℕ) (begin : Begin) (layout : Layout) (segment : ℕ) (task : Record)
-    (v w : View) (found given : BookView O) (began : BeganWith told begin v.turn.known.opening) (free : v.turn.holds ≡ false)
-    (opens_it : task.kind ≡ Open) (numbers : w.numbers ≡ v.numbers) (visits : Visits told trace faults puts found given v.turn w.turn) where
-  abbrev call : Call told trace faults puts
+module _ (told : Bool) (begin : Begin) (layout : Layout) (segment : ℕ) (task : Record)
+    (v w : View) (found given : BookView) (began : BeganWith told begin v.turn.known.opening) (free : v.turn.holds ≡ false)
+    (opens_it : task.kind ≡ Open) (numbers : w.numbers ≡ v.numbers) (visits : Visits told found given v.turn w.turn) where
+  abbrev call : Call told
   call = record {
     begin = begin;
     layout = layout;
@@ -97,20 +96,20 @@ module _ {O : Type 0} (told : Bool) (trace : O → Trace) (faults puts : O → �
     pass = λ log es t. t;
   }
 
-  none_added : Added told trace faults puts call
+  none_added : Added told call
   none_added = record { drawn = []; spent = []; raised = []; added = []; counted = counted_none begin task v w numbers }
 
   -- the frame's entry, in the state that was found
   module _ (reply : OpenReply) (field : List ℕ) (replies : IsOpenReply found.plan found.state task.link task.octets reply field)
-      (can : CanEnter faults found) where
+      (can : CanEnter found) where
     entry : Entry
     entry = frame_entry found.plan found.state task.index reply
 
     state_is : found.state ≡ after begin.start (entries_of found.log)
-    state_is = (whole told trace faults puts begin found given v.turn w.turn began free visits can.0).0
+    state_is = (whole told begin found given v.turn w.turn began free visits can.0).0
 
     plan_same : found.plan ≡ begin.plan
-    plan_same = plan_is told trace faults puts begin found given v.turn w.turn began free visits
+    plan_same = plan_is told begin found given v.turn w.turn began free visits
 
     replies_then : IsOpenReply begin.plan (after begin.start (entries_of found.log)) task.link task.octets reply field
     replies_then = subst (λ (p : PlanLines). IsOpenReply p (after begin.start (entries_of found.log)) task.link task.octets reply field) plan_same
@@ -155,18 +154,18 @@ module _ {O : Type 0} (told : Bool) (trace : O → Trace) (faults puts : O → �
         subst (λ (k : RecordKind). CanAppend (IsBetween begin v w) (course_in begin w) (length (entries_of found.log)) task k) (sym opens_it) can_raise
 
   pub opening_answers : (left : List ℕ) (result : Result (OpenReply × ℕ) (BookFault × ℕ))
-      → WithPosition result (known_of_book trace faults puts given) (λ answer. MatchResult answer
-      (λ told. OpensWithEntry faults task.index task.link task.octets (field_in told.0 left) found given told.0 told.1 × LeavesOctets told.0 task.octets left)
-      (RefusesFrame faults task.index task.link task.octets found given))
+      → WithPosition result (known_of_book given) (λ answer. MatchResult answer
+      (λ told. OpensWithEntry task.index task.link task.octets (field_in told.0 left) found given told.0 told.1 × LeavesOctets told.0 task.octets left)
+      (RefusesFrame task.index task.link task.octets found given))
       → Answered layout begin segment v w task (opened_answer result left)
   opening_answers left (Ok (reply, position)) (opened, leaves) =
       let field : List ℕ = field_in reply left in
-      let can : CanEnter faults found = opened.made.0 in
+      let can : CanEnter found = opened.made.0 in
       let front : List Entry = entries_of found.log in
       let low = opened_low reply field in
       answered_so begin layout segment v w task (answer_of (opened_told reply field) position) (λ code. absurd (omega arith))
-      (made told trace faults puts call
-      found [] (stage_found told trace faults puts call)
+      (made told call
+      found [] (stage_found told call)
       (frame_entry found.plan found.state task.index reply) none_added can
       (legal reply field opened.reply_is can) (one reply field opened.reply_is can) (omega arith)
       (opened_told reply field) position opened.made.1 (not_protect task.kind opens_it)
@@ -176,11 +175,11 @@ module _ {O : Type 0} (told : Bool) (trace : O → Trace) (faults puts : O → �
       (λ key number uses. absurd (unused reply field position key number uses)) (opened_plain reply field).2
       (low_made (opened_told reply field).code low))
   opening_answers left (Err (fault, position)) (inl (is_barred, same), at) =
-      barred told trace faults puts call
-      found [] (stage_found told trace faults puts call)
+      barred told call
+      found [] (stage_found told call)
       none_added same fault position at is_barred (inl (not_protect task.kind opens_it))
   opening_answers left (Err (fault, position)) (inr (can, (reply, field, replies, refused)), at) =
-      unstored told trace faults puts call
-      found [] (stage_found told trace faults puts call)
+      unstored told call
+      found [] (stage_found told call)
       (frame_entry found.plan found.state task.index reply) none_added can
       (legal reply field replies can) (one reply field replies can) (omega arith) fault position at refused (may reply field replies can)

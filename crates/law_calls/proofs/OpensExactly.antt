@@ -2,7 +2,6 @@
 use Rattle.std.proofs.Common.{◌≡◌, ◌⊎◌, ℕ, ◌≤◌, Bool, false, List, [], ◌∷◌, ◌++◌, length, length-append, refl, sym, ◌∙◌, ap, subst, inl, inr, arith, append-nil, Result, Ok, Err, MatchResult}
 use Rattle.sdls_base.specs.declared.entry.Entry.{Entry}
 use Rattle.sdls_outside.specs.Faults.{Rose}
-use Rattle.sdls_outside.specs.Moments.{Trace}
 use Rattle.frame_checks.specs.declared.open_reply.OpenReply.{OpenReply}
 use Rattle.frame_checks.specs.Accepting.{field_in, LeavesOctets}
 use Rattle.frame_checks.specs.OpeningFrames.{IsOpenReply}
@@ -42,44 +41,44 @@ use Rattle.law_calls.proofs.Exactness.{AreDrawn, of_record, refused_exactly, tol
 use Rattle.law_calls.proofs.InTurn.{Passes, Stands, clean_found, covers, given_as, given_entered, served_clean, slot_free, slot_full, stands_found, takes_pass}
 use Rattle.law_calls.proofs.Visit.{plan_is, turned}
 
-module _ {O : Type 0} (told : Bool) (trace : O → Trace) (faults puts : O → ℕ) (begin : Begin) (segment : ℕ) (task : Record)
-    (v w : View) (found given : BookView O) (began : BeganWith told begin v.turn.known.opening) (free : v.turn.holds ≡ false)
-    (opens_it : task.kind ≡ Open) (numbers : w.numbers ≡ v.numbers) (visits : Visits told trace faults puts found given v.turn w.turn)
-    (covered : FindsCovered told trace faults puts v w) where
+module _ (told : Bool) (begin : Begin) (segment : ℕ) (task : Record)
+    (v w : View) (found given : BookView) (began : BeganWith told begin v.turn.known.opening) (free : v.turn.holds ≡ false)
+    (opens_it : task.kind ≡ Open) (numbers : w.numbers ≡ v.numbers) (visits : Visits told found given v.turn w.turn)
+    (covered : FindsCovered told v w) where
   tells : (answer : Answer) → Tells begin.start (entries_in w) (deed_of segment task answer) Kept
   tells answer = subst (λ (k : RecordKind). TellsKind begin.start (entries_in w) k (deed_of segment task answer) Kept) (sym opens_it) refl
 
   by_lines : (es : List Entry) → given.log ≡ found.log ++ lines_of es → Turned found.log es v.turn w.turn
-  by_lines es is = turned told trace faults puts begin found given v.turn w.turn began free visits es is
+  by_lines es is = turned told begin found given v.turn w.turn began free visits es is
 
   none_left : given ≡ found → given.log ≡ found.log ++ lines_of []
-  none_left same = ap (λ (b : BookView O). b.log) same ∙ sym (append-nil found.log)
+  none_left same = ap (λ (b : BookView). b.log) same ∙ sym (append-nil found.log)
 
   of_frame : (reply : OpenReply) → AreDrawn (Kept ∷ []) (frame_entry found.plan found.state task.index reply ∷ [])
   of_frame reply = (of_record (Kept ∷ []) (frame_entry found.plan found.state task.index reply) task.index refl, tt)
 
   -- no number was spent, and those that were before lie below their marks
   passes : (es : List Entry) (is : given.log ≡ found.log ++ lines_of es) → Passes begin v w found.log es (by_lines es is) []
-  passes es is = takes_pass told trace faults puts begin found given v.turn v w began free visits es (by_lines es is) []
+  passes es is = takes_pass told begin found given v.turn v w began free visits es (by_lines es is) []
       (ap (λ (k : Numbers). k.spent) numbers ∙ sym (append-nil v.numbers.spent))
-      (covers told trace faults puts begin v v w began free refl (omega arith) refl refl (by_lines es is).earlier covered (places (length found.log) (length es)) (by_lines es is).made)
+      (covers told begin v v w began free refl (omega arith) refl refl (by_lines es is).earlier covered (places (length found.log) (length es)) (by_lines es is).made)
 
   -- the site had not failed when the book was found
   abbrev FoundClean : Type 0
-  FoundClean = ¬ Rose (faults found.opened) (faults found.site)
+  FoundClean = ¬ Rose found.opened.faults found.site.faults
 
   stands : FoundClean → Stands begin found
-  stands clean = stands_found told trace faults puts begin found given v.turn v w began free visits clean
+  stands clean = stands_found told begin found given v.turn v w began free visits clean
 
   was_clean : FoundClean → IsClean v
-  was_clean clean = clean_found told trace faults puts begin found given v.turn v w began free visits refl clean
+  was_clean clean = clean_found told begin found given v.turn v w began free visits refl clean
 
   -- all entries stand, where the book was given back as it was found
   all_given : FoundClean → given ≡ found → AllStand w
-  all_given clean same = given_as told trace faults puts begin found given v.turn v w began free visits found same (visits.found_kept.whole clean)
+  all_given clean same = given_as told begin found given v.turn v w began free visits found same (visits.found_kept.whole clean)
 
   plan : found.plan ≡ begin.plan
-  plan = plan_is told trace faults puts begin found given v.turn w.turn began free visits
+  plan = plan_is told begin found given v.turn w.turn began free visits
 
   -- the entry of a reply, as the machine says it
   entry_is : (reply : OpenReply) → FoundClean
@@ -114,11 +113,11 @@ module _ {O : Type 0} (told : Bool) (trace : O → Trace) (faults puts : O → �
       ))
 
   unstored : (reply : OpenReply) (field : List ℕ) → IsOpenReply found.plan found.state task.link task.octets reply field → FoundClean
-      → (fault : BookFault) (position : ℕ) → position ≡ entry_count (known_of_book trace faults puts given)
-      → IsUnstored faults (frame_entry found.plan found.state task.index reply) found given fault
+      → (fault : BookFault) (position : ℕ) → position ≡ entry_count (known_of_book given)
+      → IsUnstored (frame_entry found.plan found.state task.index reply) found given fault
       → AnsweredExactly begin segment v w task (fault_answer fault position)
   unstored reply field replies clean (refusals.SiteFault count) position at h =
-      refused (frame_entry found.plan found.state task.index reply ∷ []) (ap (λ (b : BookView O). b.log) h.4) (of_frame reply) (refusals.SiteFault count) position
+      refused (frame_entry found.plan found.state task.index reply ∷ []) (ap (λ (b : BookView). b.log) h.4) (of_frame reply) (refusals.SiteFault count) position
       (λ same. absurd (let no = same in cc)) (λ slots same. absurd (let no = same in cc))
   unstored reply field replies clean (refusals.JournalFull slots) position at h = refused [] (none_left h.3) tt (refusals.JournalFull slots) position
       (λ same. absurd (let no = same in cc))
@@ -131,7 +130,7 @@ module _ {O : Type 0} (told : Bool) (trace : O → Trace) (faults puts : O → �
           replies = replies_there reply field clean replies;
           full = subst (λ (e : Entry). SaysFull begin (entries_of found.log) e (answer_of (counting JOURNAL_FULL 0 others) position)) (entry_is reply clean)
               (slot_full begin found (stands clean) (frame_entry found.plan found.state task.index reply) others position h.0 h.1 (same_slots slots others same ∙ h.2)
-              (at ∙ ap (λ (b : BookView O). length (entries_of b.log)) h.3));
+              (at ∙ ap (λ (b : BookView). length (entries_of b.log)) h.3));
           own_is = refl;
           move_is = refl;
         })),
@@ -144,13 +143,13 @@ module _ {O : Type 0} (told : Bool) (trace : O → Trace) (faults puts : O → �
   unstored reply field replies clean refusals.NoMemory position at h = absurd h
 
   pub opens_exactly : (left : List ℕ) (result : Result (OpenReply × ℕ) (BookFault × ℕ))
-      → WithPosition result (known_of_book trace faults puts given) (λ answer. MatchResult answer
-      (λ told. OpensWithEntry faults task.index task.link task.octets (field_in told.0 left) found given told.0 told.1 × LeavesOctets told.0 task.octets left)
-      (RefusesFrame faults task.index task.link task.octets found given))
+      → WithPosition result (known_of_book given) (λ answer. MatchResult answer
+      (λ told. OpensWithEntry task.index task.link task.octets (field_in told.0 left) found given told.0 told.1 × LeavesOctets told.0 task.octets left)
+      (RefusesFrame task.index task.link task.octets found given))
       → AnsweredExactly begin segment v w task (opened_answer result left)
   opens_exactly left (Ok (reply, position)) (opened, leaves) =
       let entry : Entry = frame_entry found.plan found.state task.index reply in
-      let added : given.log ≡ found.log ++ lines_of (entry ∷ []) = ap (λ (b : BookView O). b.log) opened.made.1.is in
+      let added : given.log ≡ found.log ++ lines_of (entry ∷ []) = ap (λ (b : BookView). b.log) opened.made.1.is in
       told_exactly begin segment task v w Kept (moves_none begin v w numbers) found.log (frame_entry found.plan found.state task.index reply ∷ [])
       (by_lines (frame_entry found.plan found.state task.index reply ∷ []) added) (of_frame reply) []
       (passes (frame_entry found.plan found.state task.index reply ∷ []) added)
@@ -161,7 +160,7 @@ module _ {O : Type 0} (told : Bool) (trace : O → Trace) (faults puts : O → �
       (by_lines (frame_entry found.plan found.state task.index reply ∷ []) added) segment task Kept []
       (passes (frame_entry found.plan found.state task.index reply ∷ []) added) (answer_of (opened_told reply (field_in reply left)) position) here
       (level.all (was_clean clean))
-      (given_entered told trace faults puts begin found given v.turn v w began free visits found (frame_entry found.plan found.state task.index reply) position
+      (given_entered told begin found given v.turn v w began free visits found (frame_entry found.plan found.state task.index reply) position
       opened.made.1 (visits.found_kept.whole clean))
       (by_kind (answer_of (opened_told reply (field_in reply left)) position) (frame_entry found.plan found.state task.index reply ∷ []) (inl (record {
         reply = reply;
@@ -172,11 +171,11 @@ module _ {O : Type 0} (told : Bool) (trace : O → Trace) (faults puts : O → �
             let log : entries_of given.log ≡ entries_of found.log ++ entry ∷ [] = ap entries_of added ∙ lines_entries found.log (entry ∷ []) in
             opened.made.1.position_is ∙ ap length log ∙ length-append (entries_of found.log) (entry ∷ []);
         slot = subst (HasSlot begin (entries_of found.log)) (entry_is reply clean)
-            (slot_free begin found (stands clean) (frame_entry found.plan found.state task.index reply) opened.made.1.free);
+            (slot_free begin found (stands clean) _ (frame_entry found.plan found.state task.index reply) _ opened.made.1);
         own_is = ap (λ (e : Entry). e ∷ []) (entry_is reply clean);
         move_is = refl;
       }))))
   opens_exactly left (Err (fault, position)) (inl (is_barred, same), at) = refused [] (none_left same) tt fault position
-      (λ is. let full = subst (IsBarred faults found) is is_barred in (omega arith, was_clean full.0, all_given full.0 same))
-      (λ slots is. absurd (subst (IsBarred faults found) is is_barred))
+      (λ is. let full = subst (IsBarred found) is is_barred in (omega arith, was_clean full.0, all_given full.0 same))
+      (λ slots is. absurd (subst (IsBarred found) is is_barred))
   opens_exactly left (Err (fault, position)) (inr (can, (reply, field, replies, fails)), at) = unstored reply field replies can.0 fault position at fails

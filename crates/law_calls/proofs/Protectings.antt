@@ -3,7 +3,6 @@ use Rattle.std.proofs.Common.{◌≡◌, ◌≢◌, ◌⊎◌, ℕ, ◌<◌, ◌
 use Rattle.sdls_base.specs.KeyId.{end_of}
 use Rattle.sdls_base.specs.Numbers.{times}
 use Rattle.sdls_base.specs.declared.entry.Entry.{Entry}
-use Rattle.sdls_outside.specs.Moments.{Trace}
 use Rattle.key_book.specs.KeyBook.{place_of}
 use Rattle.record_io.specs.declared.answers.Answer.{Answer}
 use Rattle.record_io.specs.declared.kinds.RecordKind.{RecordKind}
@@ -71,7 +70,7 @@ ordered_channel Protect some below false low is told = let t : false ≡ true = 
 ordered_channel Open some below channel low is told = absurd (let no = is in cc)
 ordered_channel Command some below channel low is told = absurd (let no = is in cc)
 
-module _ {O : Type 0} (told : Bool) (trace : O → Trace) (faults puts : O → ℕ) (begin : Begin) (layout : Layout) (segment : ℕ) (task : Record)
+module _ (told : Bool) (begin : Begin) (layout : Layout) (segment : ℕ) (task : Record)
     (v w : View) (began : BeganWith told begin v.turn.known.opening) (free : v.turn.holds ≡ false) (protects : task.kind ≡ Protect) where
   may_draw : drawers (task ∷ []) ≡ 1
   may_draw = one_drawer task protects
@@ -109,7 +108,7 @@ module _ {O : Type 0} (told : Bool) (trace : O → Trace) (faults puts : O → �
       (omega arith) (omega arith) answer fits within used (λ is. absurd (plain is)) (λ _. refl)
 
   -- the call that took the turn behind a look at the epoch
-  abbrev pub call_of : (done : BookView O → BookView O → Type 0) → TakesTurn told trace faults puts done v.turn w.turn → Call told trace faults puts
+  abbrev pub call_of : (done : BookView → BookView → Type 0) → TakesTurn told done v.turn w.turn → Call told
   call_of done t = record {
     begin = begin;
     layout = layout;
@@ -138,22 +137,22 @@ module _ {O : Type 0} (told : Bool) (trace : O → Trace) (faults puts : O → �
     };
   }
 
-  taken_finish : (done : BookView O → BookView O → Type 0) (t : TakesTurn told trace faults puts done v.turn w.turn) (es : List Entry)
-      → Stage told trace faults puts (call_of done t) t.given es → (drawn spent raised added : List (ℕ × ℕ))
+  taken_finish : (done : BookView → BookView → Type 0) (t : TakesTurn told done v.turn w.turn) (es : List Entry)
+      → Stage told (call_of done t) t.given es → (drawn spent raised added : List (ℕ × ℕ))
       → Counted begin task v w drawn spent raised added → Finishes spent
   taken_finish done t es stage drawn spent raised added counted answer fits within used plain =
-      answered told trace faults puts (call_of done t) t.given es stage [] (sym (append-nil t.given.log))
+      answered told (call_of done t) t.given es stage [] (sym (append-nil t.given.log))
       (record { drawn = drawn; spent = spent; raised = raised; added = added; counted = counted })
       (subst (λ (l : List Entry). LegalInTurn (IsBetween begin v w) begin.plan begin.start (task ∷ []) (after begin.start (entries_of t.found.log)) l)
       (sym (append-nil es)) stage.legal)
       (λ index. omega arith) (let f = stage.few in omega arith) (omega arith) answer fits within used (λ is. absurd (plain is)) (λ _. refl)
 
   rests_finish : (drawn spent raised added : List (ℕ × ℕ)) → Counted begin task v w drawn spent raised added
-      → MayTakeTurn told trace faults puts Rests v.turn w.turn → Finishes spent
+      → MayTakeTurn told Rests v.turn w.turn → Finishes spent
   rests_finish drawn spent raised added counted (inl l) = looks_finish drawn spent raised added counted l
   rests_finish drawn spent raised added counted (inr t) =
-      taken_finish Rests t [] (subst (λ (b : BookView O). Stage told trace faults puts (call_of Rests t) b []) (sym t.does)
-      (stage_found told trace faults puts (call_of Rests t))) drawn spent raised added counted
+      taken_finish Rests t [] (subst (λ (b : BookView). Stage told (call_of Rests t) b []) (sym t.does)
+      (stage_found told (call_of Rests t))) drawn spent raised added counted
 
   -- ---- under a permit that is true
 
@@ -206,21 +205,21 @@ module _ {O : Type 0} (told : Bool) (trace : O → Trace) (faults puts : O → �
     }
 
     -- the book that was found had reached the permit's epoch
-    module _ (done : BookView O → BookView O → Type 0) (t : TakesTurn told trace faults puts done v.turn w.turn) (still_changes : t.given.changes ≡ t.found.changes) where
+    module _ (done : BookView → BookView → Type 0) (t : TakesTurn told done v.turn w.turn) (still_changes : t.given.changes ≡ t.found.changes) where
       reached_found : p.epoch ≤ epoch_after (take t.found.standing (entries_in w))
       reached_found =
           let seen = used.trusted.seen in
           let loaded : w.turn.epoch ≡ t.epoch = ap (λ (k : Turn). k.epoch) t.visits.takes.turn in
           let follows = t.visits.takes.follows.epoch in
-          let changes = changes_are told trace faults puts begin t.found t.given (seeing t.epoch v.turn) w.turn began free t.visits in
+          let changes = changes_are told begin t.found t.given (seeing t.epoch v.turn) w.turn began free t.visits in
           let counted : t.found.changes ≡ epoch_after (take t.found.standing (entries_of t.found.log)) = t.visits.found_kept.epoch in
           let same : epoch_after (take t.found.standing (entries_in w)) ≡ epoch_after (take t.found.standing (entries_of t.found.log)) =
-          ap epoch_after (standing_found told trace faults puts begin t.found t.given (seeing t.epoch v.turn) w.turn began free t.visits) in
+          ap epoch_after (standing_found told begin t.found t.given (seeing t.epoch v.turn) w.turn began free t.visits) in
           omega arith
 
       place_found : place_of t.found.state.keys p.binding.key ≡ Some p.row
       place_found =
-          ap (λ (s : State). place_of s.keys p.binding.key) (led_known told trace faults puts begin t.found t.given (seeing t.epoch v.turn) w.turn began free t.visits)
+          ap (λ (s : State). place_of s.keys p.binding.key) (led_known told begin t.found t.given (seeing t.epoch v.turn) w.turn began free t.visits)
           ∙ row_before begin.start (entries_in w) t.found.standing p.epoch p.binding.key p.row reached_found place_then
 
       -- the frame can need a reserve of the number
@@ -241,11 +240,11 @@ module _ {O : Type 0} (told : Bool) (trace : O → Trace) (faults puts : O → �
   opening_looked : Looks v.turn w.turn → w.turn.known.opening ≡ v.turn.known.opening
   opening_looked l = ap (λ (t : Turn). t.known.opening) l.is
 
-  pub opening_taken : (done : BookView O → BookView O → Type 0) → TakesTurn told trace faults puts done v.turn w.turn
+  pub opening_taken : (done : BookView → BookView → Type 0) → TakesTurn told done v.turn w.turn
       → w.turn.known.opening ≡ v.turn.known.opening
   opening_taken done t = ap (λ (k : Turn). k.known.opening) t.visits.takes.turn ∙ t.visits.takes.opening ∙ t.visits.takes.follows.opening
 
-  pub opening_same : (done : BookView O → BookView O → Type 0) → MayTakeTurn told trace faults puts done v.turn w.turn
+  pub opening_same : (done : BookView → BookView → Type 0) → MayTakeTurn told done v.turn w.turn
       → w.turn.known.opening ≡ v.turn.known.opening
   opening_same done (inl l) = opening_looked l
   opening_same done (inr t) = opening_taken done t
@@ -310,7 +309,7 @@ module _ {O : Type 0} (told : Bool) (trace : O → Trace) (faults puts : O → �
 
   -- a check failed in the state of an epoch
   fails_at : (fault : ShieldFault) (epoch : ℕ) → FailsAt task.link task.octets fault epoch w.turn → epoch_seen v.turn ≤ epoch
-      → MayTakeTurn told trace faults puts Rests v.turn w.turn → w.numbers ≡ v.numbers
+      → MayTakeTurn told Rests v.turn w.turn → w.numbers ≡ v.numbers
       → Handled layout begin v w (task ∷ []) (deed_of segment task (answer_of (fault_told fault) epoch) ∷ [])
   fails_at fault epoch f low turn numbers =
       let codes = refusal_code fault in
@@ -331,24 +330,24 @@ module _ {O : Type 0} (told : Bool) (trace : O → Trace) (faults puts : O → �
 
   module _ (p : Permit) (used : IsUsed v.turn.known.opening.plan task.link task.octets p w.turn) where
     done_finish : (n back : ℕ) → n < end_of p.binding.key → UsesNumber p.row n back v.numbers w.numbers
-        → MayTakeTurn told trace faults puts (Funds faults p.binding.key n) v.turn w.turn → Finishes ((p.row, n) ∷ [])
+        → MayTakeTurn told (Funds p.binding.key n) v.turn w.turn → Finishes ((p.row, n) ∷ [])
     done_finish n back below uses (inl l) =
         looks_finish ((p.row, n) ∷ []) ((p.row, n) ∷ []) [] ((p.row, 1) ∷ []) (uses_shows begin task v w may_draw p.row n back uses).counted l
     done_finish n back below uses (inr t) =
-        let opening = opening_taken (Funds faults p.binding.key n) t in
-        let same : t.given.changes ≡ t.found.changes = reserves_changes faults p.binding.key n (Ok t.does.0) t.found t.given t.does.1 in
+        let opening = opening_taken (Funds p.binding.key n) t in
+        let same : t.given.changes ≡ t.found.changes = reserves_changes p.binding.key n (Ok t.does.0) t.found t.given t.does.1 in
         let shows = uses_shows begin task v w may_draw p.row n back uses in
-        let behind = reserved told trace faults puts (call_of (Funds faults p.binding.key n) t) may_draw p.binding.key n p.row
-        (place_found p used opening (Funds faults p.binding.key n) t same) below
+        let behind = reserved told (call_of (Funds p.binding.key n) t) may_draw p.binding.key n p.row
+        (place_found p used opening (Funds p.binding.key n) t same) below
         (near_row p used opening n ((p.row, n) ∷ []) ((p.row, n) ∷ []) [] ((p.row, 1) ∷ []) shows) t.does.0 t.given t.does.1 in
-        taken_finish (Funds faults p.binding.key n) t behind.es behind.stage ((p.row, n) ∷ []) ((p.row, n) ∷ []) [] ((p.row, 1) ∷ []) shows.counted
+        taken_finish (Funds p.binding.key n) t behind.es behind.stage ((p.row, n) ∷ []) ((p.row, n) ∷ []) [] ((p.row, 1) ∷ []) shows.counted
 
-    done : (out : List ℕ) (d : Done) → IsDrawnAndProtected p task.octets out d v w → MayTakeTurn told trace faults puts (Funds faults p.binding.key d.number) v.turn w.turn
+    done : (out : List ℕ) (d : Done) → IsDrawnAndProtected p task.octets out d v w → MayTakeTurn told (Funds p.binding.key d.number) v.turn w.turn
         → Handled layout begin v w (task ∷ []) (deed_of segment task (answer_of (numbered PROTECTED d.key d.number (take d.length out)) d.epoch) ∷ [])
     done out d is turn =
         let fields : Told = numbered PROTECTED d.key d.number (take d.length out) in
         let q = is.protected in
-        let opening = opening_same (Funds faults p.binding.key d.number) turn in
+        let opening = opening_same (Funds p.binding.key d.number) turn in
         let shows = uses_shows begin task v w may_draw p.row d.number is.back is.uses in
         let is_near : IsBetween begin v w p.binding.key d.number =
         near_row p used opening d.number ((p.row, d.number) ∷ []) ((p.row, d.number) ∷ []) [] ((p.row, 1) ∷ []) shows in
@@ -374,7 +373,7 @@ module _ {O : Type 0} (told : Bool) (trace : O → Trace) (faults puts : O → �
           once : (row x : ℕ) → 0 < times row x ((row, x) ∷ [])
           once row x = let t : eqb row row ≡ true = eq-eqb row row refl in let u : eqb x x ≡ true = eq-eqb x x refl in rw (t, u) (omega arith)
 
-    exhausted : (key n epoch : ℕ) → RunsOutUnder p task.octets key n epoch v w → MayTakeTurn told trace faults puts Rests v.turn w.turn
+    exhausted : (key n epoch : ℕ) → RunsOutUnder p task.octets key n epoch v w → MayTakeTurn told Rests v.turn w.turn
         → Handled layout begin v w (task ∷ []) (deed_of segment task (answer_of (numbered EXHAUSTED key n []) epoch) ∷ [])
     exhausted key n epoch (fits, key_is, epoch_is, out, later) turn =
         let fields : Told = numbered EXHAUSTED key n [] in
@@ -397,26 +396,26 @@ module _ {O : Type 0} (told : Bool) (trace : O → Trace) (faults puts : O → �
     failed : (fault : BookFault) (position n : ℕ) → clear_fault p.binding task.octets ≡ None → position ≡ entry_count w.turn.known
         → n < end_of p.binding.key
         → (Draws p.row (end_of p.binding.key) n v.numbers w.numbers ⊎ ComesBack p.row (end_of p.binding.key) n v.numbers w.numbers)
-        → TakesTurn told trace faults puts (Reserves faults p.binding.key n (Err fault)) v.turn w.turn
+        → TakesTurn told (Reserves p.binding.key n (Err fault)) v.turn w.turn
         → Answered layout begin segment v w task (fault_answer fault position)
     failed fault position n fits at below drawn t =
-        let fails : BookView O → BookView O → Type 0 = Reserves faults p.binding.key n (Err fault) in
-        let opening = opening_taken (Reserves faults p.binding.key n (Err fault)) t in
-        let same : t.given.changes ≡ t.found.changes = reserves_changes faults p.binding.key n (Err fault) t.found t.given t.does in
+        let fails : BookView → BookView → Type 0 = Reserves p.binding.key n (Err fault) in
+        let opening = opening_taken (Reserves p.binding.key n (Err fault)) t in
+        let same : t.given.changes ≡ t.found.changes = reserves_changes p.binding.key n (Err fault) t.found t.given t.does in
         let shows = drawn_shows drawn in
-        refused told trace faults puts (call_of (Reserves faults p.binding.key n (Err fault)) t) may_draw p.binding.key n p.row
-        (place_found p used opening (Reserves faults p.binding.key n (Err fault)) t same) below
+        refused told (call_of (Reserves p.binding.key n (Err fault)) t) may_draw p.binding.key n p.row
+        (place_found p used opening (Reserves p.binding.key n (Err fault)) t same) below
         (near_row p used opening n ((p.row, n) ∷ []) [] [] ((p.row, 1) ∷ []) shows)
         (record { drawn = (p.row, n) ∷ []; spent = []; raised = []; added = (p.row, 1) ∷ []; counted = shows.counted })
         fault position (at ∙ ap (λ (k : Turn). entry_count k.known) t.visits.takes.turn) t.does
-        (λ q low state unmarked. may_reserve p used opening (Reserves faults p.binding.key n (Err fault)) t same fits q n low unmarked) where
+        (λ q low state unmarked. may_reserve p used opening (Reserves p.binding.key n (Err fault)) t same fits q n low unmarked) where
           drawn_shows : (Draws p.row (end_of p.binding.key) n v.numbers w.numbers ⊎ ComesBack p.row (end_of p.binding.key) n v.numbers w.numbers)
               → Shows begin task v w p.row n ((p.row, n) ∷ []) [] [] ((p.row, 1) ∷ [])
           drawn_shows (inl d) = draws_shows begin task v w may_draw p.row (end_of p.binding.key) n d
           drawn_shows (inr b) = back_shows begin task v w may_draw p.row (end_of p.binding.key) n b
 
   refuses_at : (plan : PlanLines) → v.turn.known.opening.plan ≡ plan → (fault : ShieldFault) (epoch : ℕ)
-      → IsRefusedAt told trace faults puts plan task.link task.octets fault epoch v.turn w.turn → w.numbers ≡ v.numbers
+      → IsRefusedAt told plan task.link task.octets fault epoch v.turn w.turn → w.numbers ≡ v.numbers
       → Handled layout begin v w (task ∷ []) (deed_of segment task (answer_of (fault_told fault) epoch) ∷ [])
   refuses_at plan planned_is fault epoch (inl (refused_it, zero_is, same)) numbers =
       let check : channel_check begin.plan task.link task.octets ≡ Err fault =
@@ -437,7 +436,7 @@ module _ {O : Type 0} (told : Bool) (trace : O → Trace) (faults puts : O → �
   refusal_other shield_faults.State code = omega arith
 
   pub protecting_answers : (plan : PlanLines) (kept : Option Permit) (out : List ℕ) (result : Protected) → v.turn.known.opening.plan ≡ plan
-      → IsProtectStep told trace faults puts plan task.link task.octets out kept result v w
+      → IsProtectStep told plan task.link task.octets out kept result v w
       → Answered layout begin segment v w task (protected_answer result out)
   protecting_answers plan kept out (protecteds.Done d) planned_is (p, kept_is, used, (is, turn)) =
       so (numbered PROTECTED d.key d.number (take d.length out)) d.epoch (λ code. absurd (omega arith))

@@ -6,7 +6,6 @@ use Rattle.sdls_base.specs.KeyId.{end_of}
 use Rattle.sdls_base.specs.declared.entry.Entry.{Entry}
 use Rattle.sdls_base.specs.declared.entry.Logged.{Logged}
 use Rattle.sdls_outside.specs.Faults.{Rose}
-use Rattle.sdls_outside.specs.Moments.{Trace}
 use Rattle.key_book.specs.KeyBook.{place_of}
 use Rattle.record_io.specs.declared.answers.Answer.{Answer}
 use Rattle.record_io.specs.declared.code.TheConstants.{PROTECTED, CLEAR, EXHAUSTED, LAYOUT, STATE, JOURNAL_FULL}
@@ -67,9 +66,9 @@ use Rattle.law_calls.proofs.Visit.{log_is, plan_is, turned, whole}
 use Rattle.law_calls.proofs.CommandsExactly.{reserve_drawn}
 use Rattle.law_calls.proofs.Protectings.{one_drawer, bound, call_of, looked, opening_same, opening_taken, place_then, row_is, row_below}
 
-module _ {O : Type 0} (told : Bool) (trace : O → Trace) (faults puts : O → ℕ) (begin : Begin) (layout : Layout) (segment : ℕ) (task : Record)
+module _ (told : Bool) (begin : Begin) (layout : Layout) (segment : ℕ) (task : Record)
     (v w : View) (began : BeganWith told begin v.turn.known.opening) (free : v.turn.holds ≡ false) (protects : task.kind ≡ Protect)
-    (covers_spent : (done : BookView O → BookView O → Type 0) → TakesTurn told trace faults puts done v.turn w.turn → CoversSpent begin v w) where
+    (covers_spent : (done : BookView → BookView → Type 0) → TakesTurn told done v.turn w.turn → CoversSpent begin v w) where
   -- where no other worker made a line, the record is served so in the history that stood
   abbrev IsServedHere : Answer → List Entry → List (ℕ × ℕ) → Move → Type 0
   IsServedHere answer es spent move = IsLevel v → IsBacked begin w spent → stood_in w ≡ stood_in v ++ es
@@ -100,27 +99,27 @@ module _ {O : Type 0} (told : Bool) (trace : O → Trace) (faults puts : O → �
   looks_finish : (move : Move) → Moves begin v w move → (spent : List (ℕ × ℕ)) → w.numbers.spent ≡ v.numbers.spent ++ spent → Looks v.turn w.turn
       → Finishes spent move
   looks_finish move moves spent spent_is l answer tells serves =
-      let turn : Turned v.turn.known.log [] v.turn w.turn = looked told trace faults puts begin layout segment task v w began free protects l in
+      let turn : Turned v.turn.known.log [] v.turn w.turn = looked told begin layout segment task v w began free protects l in
       told_exactly begin segment task v w move moves v.turn.known.log [] turn tt spent (looks_pass begin v w spent turn spent_is) answer tells
       (λ same level backed. ([], none_stand v.turn.known.log turn same level, serves level backed (none_stand v.turn.known.log turn same level)))
 
-  by_lines : (done : BookView O → BookView O → Type 0) (t : TakesTurn told trace faults puts done v.turn w.turn) (es : List Entry)
+  by_lines : (done : BookView → BookView → Type 0) (t : TakesTurn told done v.turn w.turn) (es : List Entry)
       → t.given.log ≡ t.found.log ++ lines_of es → Turned t.found.log es v.turn w.turn
   by_lines done t es is =
-      (call_of told trace faults puts begin layout segment task v w began free protects done t).pass t.found.log es
-      (turned told trace faults puts begin t.found t.given (seeing t.epoch v.turn) w.turn began free t.visits es is)
+      (call_of told begin layout segment task v w began free protects done t).pass t.found.log es
+      (turned told begin t.found t.given (seeing t.epoch v.turn) w.turn began free t.visits es is)
 
-  none_left : (found given : BookView O) → given ≡ found → given.log ≡ found.log ++ lines_of []
-  none_left found given same = ap (λ (b : BookView O). b.log) same ∙ sym (append-nil found.log)
+  none_left : (found given : BookView) → given ≡ found → given.log ≡ found.log ++ lines_of []
+  none_left found given same = ap (λ (b : BookView). b.log) same ∙ sym (append-nil found.log)
 
-  passes : (done : BookView O → BookView O → Type 0) (t : TakesTurn told trace faults puts done v.turn w.turn) (es : List Entry)
+  passes : (done : BookView → BookView → Type 0) (t : TakesTurn told done v.turn w.turn) (es : List Entry)
       (is : t.given.log ≡ t.found.log ++ lines_of es) (spent : List (ℕ × ℕ)) → w.numbers.spent ≡ v.numbers.spent ++ spent
       → Passes begin v w t.found.log es (by_lines done t es is) spent
-  passes done t es is spent spent_is = takes_pass told trace faults puts begin t.found t.given (seeing t.epoch v.turn) v w began free t.visits es
+  passes done t es is spent spent_is = takes_pass told begin t.found t.given (seeing t.epoch v.turn) v w began free t.visits es
       (by_lines done t es is) spent spent_is (covers_spent done t (places (length t.found.log) (length es)) (by_lines done t es is).made)
 
   -- the turn was taken, and these entries were made
-  taken_finish : (done : BookView O → BookView O → Type 0) (t : TakesTurn told trace faults puts done v.turn w.turn) (es : List Entry)
+  taken_finish : (done : BookView → BookView → Type 0) (t : TakesTurn told done v.turn w.turn) (es : List Entry)
       → t.given.log ≡ t.found.log ++ lines_of es → (move : Move) → Moves begin v w move → AreDrawn (move ∷ []) es
       → (spent : List (ℕ × ℕ)) → w.numbers.spent ≡ v.numbers.spent ++ spent
       → (answer : Answer) → Tells begin.start (entries_in w) (deed_of segment task answer) move
@@ -131,18 +130,18 @@ module _ {O : Type 0} (told : Bool) (trace : O → Trace) (faults puts : O → �
       (λ same level backed. (es, stand same level, serves same level backed (stand same level)))
 
   -- the site had not failed when the book was found
-  abbrev FoundClean : (done : BookView O → BookView O → Type 0) → TakesTurn told trace faults puts done v.turn w.turn → Type 0
-  FoundClean done t = ¬ Rose (faults t.found.opened) (faults t.found.site)
+  abbrev FoundClean : (done : BookView → BookView → Type 0) → TakesTurn told done v.turn w.turn → Type 0
+  FoundClean done t = ¬ Rose t.found.opened.faults t.found.site.faults
 
-  was_clean : (done : BookView O → BookView O → Type 0) (t : TakesTurn told trace faults puts done v.turn w.turn) → FoundClean done t → IsClean v
-  was_clean done t clean = clean_found told trace faults puts begin t.found t.given (seeing t.epoch v.turn) v w began free t.visits refl clean
+  was_clean : (done : BookView → BookView → Type 0) (t : TakesTurn told done v.turn w.turn) → FoundClean done t → IsClean v
+  was_clean done t clean = clean_found told begin t.found t.given (seeing t.epoch v.turn) v w began free t.visits refl clean
 
-  stood_v : (done : BookView O → BookView O → Type 0) (t : TakesTurn told trace faults puts done v.turn w.turn) → FoundClean done t
+  stood_v : (done : BookView → BookView → Type 0) (t : TakesTurn told done v.turn w.turn) → FoundClean done t
       → t.found.log ≡ log_of v → IsLevel v → entries_of t.found.log ≡ stood_in v
   stood_v done t clean same level = ap entries_of same ∙ sym (all_stood v (level.all (was_clean done t clean)))
 
   rests_finish : (move : Move) → Moves begin v w move → (spent : List (ℕ × ℕ)) → w.numbers.spent ≡ v.numbers.spent ++ spent
-      → MayTakeTurn told trace faults puts Rests v.turn w.turn → Finishes spent move
+      → MayTakeTurn told Rests v.turn w.turn → Finishes spent move
   rests_finish move moves spent spent_is (inl l) = looks_finish move moves spent spent_is l
   rests_finish move moves spent spent_is (inr t) = λ answer tells serves.
       taken_finish Rests t [] (none_left t.found t.given t.does) move moves tt spent spent_is answer tells
@@ -201,37 +200,37 @@ module _ {O : Type 0} (told : Bool) (trace : O → Trace) (faults puts : O → �
         binding = p.binding;
         bound = subst (λ (e : ℕ). protect_reply begin.plan (at_epoch begin.start (stood_in v) e) task.link task.octets ≡ Ok (Some p.binding)) epoch_now
             (subst (λ (st : State). protect_reply begin.plan st task.link task.octets ≡ Ok (Some p.binding)) state_now
-            (bound told trace faults puts begin layout segment task v w began free protects p used opening fits));
+            (bound told begin layout segment task v w began free protects p used opening fits));
         row = p.row;
         row_is = row_last begin.start (stood_in v) p.epoch p.binding.key p.row reached_now
             (subst (λ (st : State). place_of st.keys p.binding.key ≡ Some p.row) state_now
-            (place_then told trace faults puts begin layout segment task v w began free protects p used opening));
+            (place_then told begin layout segment task v w began free protects p used opening));
       }
 
-    stands : (done : BookView O → BookView O → Type 0) (t : TakesTurn told trace faults puts done v.turn w.turn) → FoundClean done t → Stands begin t.found
-    stands done t clean = stands_found told trace faults puts begin t.found t.given (seeing t.epoch v.turn) v w began free t.visits clean
+    stands : (done : BookView → BookView → Type 0) (t : TakesTurn told done v.turn w.turn) → FoundClean done t → Stands begin t.found
+    stands done t clean = stands_found told begin t.found t.given (seeing t.epoch v.turn) v w began free t.visits clean
 
     -- the state that was found, and the reserve in it, where the log that was found is the one that was known
-    state_here : (done : BookView O → BookView O → Type 0) (t : TakesTurn told trace faults puts done v.turn w.turn) → FoundClean done t → t.found.log ≡ log_of v
+    state_here : (done : BookView → BookView → Type 0) (t : TakesTurn told done v.turn w.turn) → FoundClean done t → t.found.log ≡ log_of v
         → IsLevel v → t.found.state ≡ machine.now begin (stood_in v)
     state_here done t clean same level = (stands done t clean).state ∙ ap (after begin.start) (stood_v done t clean same level)
 
-    reserve_here : (done : BookView O → BookView O → Type 0) (t : TakesTurn told trace faults puts done v.turn w.turn) (n : ℕ) → FoundClean done t
+    reserve_here : (done : BookView → BookView → Type 0) (t : TakesTurn told done v.turn w.turn) (n : ℕ) → FoundClean done t
         → t.found.log ≡ log_of v → IsLevel v
         → reserve_of t.found.plan t.found.state p.binding.key n ≡ reserve_of begin.plan (machine.now begin (stood_in v)) p.binding.key n
     reserve_here done t n clean same level =
-        ap (λ (q : PlanLines). reserve_of q t.found.state p.binding.key n) (plan_is told trace faults puts begin t.found t.given (seeing t.epoch v.turn) w.turn began free t.visits)
+        ap (λ (q : PlanLines). reserve_of q t.found.state p.binding.key n) (plan_is told begin t.found t.given (seeing t.epoch v.turn) w.turn began free t.visits)
         ∙ ap (λ (st : State). reserve_of begin.plan st p.binding.key n) (state_here done t clean same level)
 
-    done : (out : List ℕ) (d : Done) → IsDrawnAndProtected p task.octets out d v w → MayTakeTurn told trace faults puts (Funds faults p.binding.key d.number) v.turn w.turn
+    done : (out : List ℕ) (d : Done) → IsDrawnAndProtected p task.octets out d v w → MayTakeTurn told (Funds p.binding.key d.number) v.turn w.turn
         → AnsweredExactly begin segment v w task (Some (answer_of (numbered PROTECTED d.key d.number (take d.length out)) d.epoch))
     done out d is turn =
-        let opening = opening_same told trace faults puts begin layout segment task v w began free protects (Funds faults p.binding.key d.number) turn in
+        let opening = opening_same told begin layout segment task v w began free protects (Funds p.binding.key d.number) turn in
         by_turn turn (by_protect (answer_of (numbered PROTECTED d.key d.number (take d.length out)) d.epoch) (Drew p.row d.number) (record {
           protected = λ _. (
             p.row,
             subst (λ (k : ℕ). place_of (after begin.start (entries_in w)).keys k ≡ Some p.row) (sym is.protected.key)
-                (row_is told trace faults puts begin layout segment task v w began free protects p used opening),
+                (row_is told begin layout segment task v w began free protects p used opening),
             refl,
           );
           exhausted = λ code. absurd (omega arith);
@@ -243,7 +242,7 @@ module _ {O : Type 0} (told : Bool) (trace : O → Trace) (faults puts : O → �
           not_kept (inr a) = omega arith
 
           moves : w.turn.known.opening ≡ v.turn.known.opening → Moves begin v w (Drew p.row d.number)
-          moves opening = moves_drew begin v w task p.row (row_below told trace faults puts begin layout segment task v w began free protects p used opening)
+          moves opening = moves_drew begin v w task p.row (row_below told begin layout segment task v w began free protects p used opening)
               d.number ((p.row, d.number) ∷ []) (uses_shows begin task v w (one_drawer task protects) p.row d.number is.back is.uses)
 
           -- what the machine says of it, once the number is funded
@@ -268,63 +267,63 @@ module _ {O : Type 0} (told : Bool) (trace : O → Trace) (faults puts : O → �
           by_mark opening = by_funds [] refl opening (λ level backed all. inl (
             refl,
             subst (λ (l : List Entry). d.number < mark_of (after begin.start l) p.binding.key) (all ∙ append-nil (stood_in v))
-                (backed.marks p.binding.key p.row d.number (row_below told trace faults puts begin layout segment task v w began free protects p used opening)
-                (row_is told trace faults puts begin layout segment task v w began free protects p used opening) (once p.row d.number)),
+                (backed.marks p.binding.key p.row d.number (row_below told begin layout segment task v w began free protects p used opening)
+                (row_is told begin layout segment task v w began free protects p used opening) (once p.row d.number)),
           )) where
             once : (row x : ℕ) → 0 < times row x ((row, x) ∷ [])
             once row x = let t : eqb row row ≡ true = eq-eqb row row refl in let u : eqb x x ≡ true = eq-eqb x x refl in rw (t, u) (omega arith)
 
-          by_turn : MayTakeTurn told trace faults puts (Funds faults p.binding.key d.number) v.turn w.turn
+          by_turn : MayTakeTurn told (Funds p.binding.key d.number) v.turn w.turn
               → Tells begin.start (entries_in w) (deed_of segment task (answer_of (numbered PROTECTED d.key d.number (take d.length out)) d.epoch)) (Drew p.row d.number)
               → AnsweredExactly begin segment v w task (Some (answer_of (numbered PROTECTED d.key d.number (take d.length out)) d.epoch))
           by_turn (inl l) tells =
-              let opening = opening_same told trace faults puts begin layout segment task v w began free protects (Funds faults p.binding.key d.number) (inl l) in
+              let opening = opening_same told begin layout segment task v w began free protects (Funds p.binding.key d.number) (inl l) in
               looks_finish (Drew p.row d.number) (moves opening) ((p.row, d.number) ∷ []) is.uses.spent l (answer_of (numbered PROTECTED d.key d.number (take d.length out)) d.epoch) tells (by_mark opening)
           by_turn (inr t) tells = by_reserve t.does.1.2 where
             opening : w.turn.known.opening ≡ v.turn.known.opening
-            opening = opening_taken told trace faults puts begin layout segment task v w began free protects (Funds faults p.binding.key d.number) t
+            opening = opening_taken told begin layout segment task v w began free protects (Funds p.binding.key d.number) t
 
             by_reserve : ((d.number < mark_of t.found.state p.binding.key) × (t.given ≡ t.found))
                 ⊎ ((mark_of t.found.state p.binding.key ≤ d.number) × ((position : ℕ)
-                × Made faults (reserve_of t.found.plan t.found.state p.binding.key d.number) t.found t.given position))
+                × Made (reserve_of t.found.plan t.found.state p.binding.key d.number) t.found t.given position))
                 → AnsweredExactly begin segment v w task (Some (answer_of (numbered PROTECTED d.key d.number (take d.length out)) d.epoch))
             by_reserve (inl same) =
-                taken_finish (Funds faults p.binding.key d.number) t [] (none_left t.found t.given same.1) (Drew p.row d.number) (moves opening) tt
+                taken_finish (Funds p.binding.key d.number) t [] (none_left t.found t.given same.1) (Drew p.row d.number) (moves opening) tt
                 ((p.row, d.number) ∷ []) is.uses.spent (answer_of (numbered PROTECTED d.key d.number (take d.length out)) d.epoch) tells
-                (none_stand t.found.log (by_lines (Funds faults p.binding.key d.number) t [] (none_left t.found t.given same.1))) (λ here. by_mark opening)
+                (none_stand t.found.log (by_lines (Funds p.binding.key d.number) t [] (none_left t.found t.given same.1))) (λ here. by_mark opening)
             by_reserve (inr made) =
-                taken_finish (Funds faults p.binding.key d.number) t (reserve_of t.found.plan t.found.state p.binding.key d.number ∷ [])
-                (ap (λ (b : BookView O). b.log) made.1.1.1.is) (Drew p.row d.number) (moves opening)
+                taken_finish (Funds p.binding.key d.number) t (reserve_of t.found.plan t.found.state p.binding.key d.number ∷ [])
+                (ap (λ (b : BookView). b.log) made.1.1.1.is) (Drew p.row d.number) (moves opening)
                 (reserve_drawn p.row d.number (reserve_of t.found.plan t.found.state p.binding.key d.number) refl, tt)
                 ((p.row, d.number) ∷ []) is.uses.spent (answer_of (numbered PROTECTED d.key d.number (take d.length out)) d.epoch) tells
                 (λ here level.
                 stood_clean begin v w t.found.log (reserve_of t.found.plan t.found.state p.binding.key d.number ∷ [])
-                (by_lines (Funds faults p.binding.key d.number) t (reserve_of t.found.plan t.found.state p.binding.key d.number ∷ []) (ap (λ (b : BookView O). b.log) made.1.1.1.is))
-                here (level.all (was_clean (Funds faults p.binding.key d.number) t made.1.1.0.0))
-                (given_entered told trace faults puts begin t.found t.given (seeing t.epoch v.turn) v w began free t.visits t.found
+                (by_lines (Funds p.binding.key d.number) t (reserve_of t.found.plan t.found.state p.binding.key d.number ∷ []) (ap (λ (b : BookView). b.log) made.1.1.1.is))
+                here (level.all (was_clean (Funds p.binding.key d.number) t made.1.1.0.0))
+                (given_entered told begin t.found t.given (seeing t.epoch v.turn) v w began free t.visits t.found
                 (reserve_of t.found.plan t.found.state p.binding.key d.number) made.1.0 made.1.1.1 (t.visits.found_kept.whole made.1.1.0.0)))
                 (λ here. by_funds (reserve_of t.found.plan t.found.state p.binding.key d.number ∷ []) refl opening (λ level backed all. inr (
-                  ap (λ (e : Entry). e ∷ []) (reserve_here (Funds faults p.binding.key d.number) t d.number made.1.1.0.0 here level),
-                  subst (λ (st : State). mark_of st p.binding.key ≤ d.number) (state_here (Funds faults p.binding.key d.number) t made.1.1.0.0 here level) made.0,
+                  ap (λ (e : Entry). e ∷ []) (reserve_here (Funds p.binding.key d.number) t d.number made.1.1.0.0 here level),
+                  subst (λ (st : State). mark_of st p.binding.key ≤ d.number) (state_here (Funds p.binding.key d.number) t made.1.1.0.0 here level) made.0,
                   subst (λ (l : List Entry). machine.HasSlot begin l (reserve_of begin.plan (machine.now begin (stood_in v)) p.binding.key d.number))
-                      (stood_v (Funds faults p.binding.key d.number) t made.1.1.0.0 here level)
-                      (subst (machine.HasSlot begin (entries_of t.found.log)) (reserve_here (Funds faults p.binding.key d.number) t d.number made.1.1.0.0 here level)
-                      (slot_free begin t.found (stands (Funds faults p.binding.key d.number) t made.1.1.0.0)
-                      (reserve_of t.found.plan t.found.state p.binding.key d.number) made.1.1.1.free)),
+                      (stood_v (Funds p.binding.key d.number) t made.1.1.0.0 here level)
+                      (subst (machine.HasSlot begin (entries_of t.found.log)) (reserve_here (Funds p.binding.key d.number) t d.number made.1.1.0.0 here level)
+                      (slot_free begin t.found (stands (Funds p.binding.key d.number) t made.1.1.0.0) _
+                      (reserve_of t.found.plan t.found.state p.binding.key d.number) _ made.1.1.1)),
                 )))
 
-    exhausted : (key n epoch : ℕ) → RunsOutUnder p task.octets key n epoch v w → MayTakeTurn told trace faults puts Rests v.turn w.turn
+    exhausted : (key n epoch : ℕ) → RunsOutUnder p task.octets key n epoch v w → MayTakeTurn told Rests v.turn w.turn
         → AnsweredExactly begin segment v w task (Some (answer_of (numbered EXHAUSTED key n []) epoch))
     exhausted key n epoch (fits, key_is, epoch_is, out, later) turn = by_end out.1 where
       opening : w.turn.known.opening ≡ v.turn.known.opening
-      opening = opening_same told trace faults puts begin layout segment task v w began free protects Rests turn
+      opening = opening_same told begin layout segment task v w began free protects Rests turn
 
       low : p.row < begin.rows
-      low = row_below told trace faults puts begin layout segment task v w began free protects p used opening
+      low = row_below told begin layout segment task v w began free protects p used opening
 
       has_row : place_of (after begin.start (entries_in w)).keys key ≡ Some p.row
       has_row = subst (λ (k : ℕ). place_of (after begin.start (entries_in w)).keys k ≡ Some p.row) (sym key_is)
-          (row_is told trace faults puts begin layout segment task v w began free protects p used opening)
+          (row_is told begin layout segment task v w began free protects p used opening)
 
       tells : (move : Move) → (move ≡ Found p.row n) ⊎ (move ≡ Overdrew p.row n)
           → Tells begin.start (entries_in w) (deed_of segment task (answer_of (numbered EXHAUSTED key n []) epoch)) move
@@ -371,9 +370,9 @@ module _ {O : Type 0} (told : Bool) (trace : O → Trace) (faults puts : O → �
     module _ (fits : clear_fault p.binding task.octets ≡ None) (later : epoch_seen v.turn ≤ p.epoch) (position n : ℕ) (below : n < end_of p.binding.key)
         (at : position ≡ entry_count w.turn.known)
         (drawn : Draws p.row (end_of p.binding.key) n v.numbers w.numbers ⊎ ComesBack p.row (end_of p.binding.key) n v.numbers w.numbers)
-        (other : BookFault) (k : TakesTurn told trace faults puts (Reserves faults p.binding.key n (Err other)) v.turn w.turn) where
+        (other : BookFault) (k : TakesTurn told (Reserves p.binding.key n (Err other)) v.turn w.turn) where
       opening : w.turn.known.opening ≡ v.turn.known.opening
-      opening = opening_taken told trace faults puts begin layout segment task v w began free protects (Reserves faults p.binding.key n (Err other)) k
+      opening = opening_taken told begin layout segment task v w began free protects (Reserves p.binding.key n (Err other)) k
 
       ends : (es : List Entry) → k.given.log ≡ k.found.log ++ lines_of es → AreDrawn (Drew p.row n ∷ []) es
           → (other ≡ refusals.SessionFull → (length es ≤ 1) × IsClean v × AllStand w)
@@ -383,46 +382,46 @@ module _ {O : Type 0} (told : Bool) (trace : O → Trace) (faults puts : O → �
           × (k.found.log ≡ log_of v → IsServedHere (answer_of (counting JOURNAL_FULL 0 slots) position) es [] (Drew p.row n)))
           → AnsweredExactly begin segment v w task (fault_answer other position)
       ends es is are few full = refused_exactly begin segment task v w (Drew p.row n)
-          (moves_drew begin v w task p.row (row_below told trace faults puts begin layout segment task v w began free protects p used opening) n [] (shows n drawn))
-          k.found.log es (by_lines (Reserves faults p.binding.key n (Err other)) k es is) are
-          [] (passes (Reserves faults p.binding.key n (Err other)) k es is [] (shows n drawn).counted.spent_is)
+          (moves_drew begin v w task p.row (row_below told begin layout segment task v w began free protects p used opening) n [] (shows n drawn))
+          k.found.log es (by_lines (Reserves p.binding.key n (Err other)) k es is) are
+          [] (passes (Reserves p.binding.key n (Err other)) k es is [] (shows n drawn).counted.spent_is)
           (not_open (Drew p.row n)) other position few (λ slots here. (
             (full slots here).0,
             λ same level backed.
                 let (tells, stand, serves) = full slots here in (es, stand same level, serves same level backed (stand same level)),
           ))
 
-      full_serves : (slots others : ℕ) → others ≡ slots → k.given ≡ k.found → FoundClean (Reserves faults p.binding.key n (Err other)) k
+      full_serves : (slots others : ℕ) → others ≡ slots → k.given ≡ k.found → FoundClean (Reserves p.binding.key n (Err other)) k
           → mark_of k.found.state p.binding.key ≤ n
           → IsTrue (IsStored k.found.state (reserve_of k.found.plan k.found.state p.binding.key n)) → k.found.journal.used ≡ k.found.journal.slots
           → slots ≡ k.found.journal.slots → k.found.log ≡ log_of v
           → IsServedHere (answer_of (counting JOURNAL_FULL 0 others) position) [] [] (Drew p.row n)
       full_serves slots others same_slots same clean unmarked stored full is here level backed all =
-          let entry_here = reserve_here (Reserves faults p.binding.key n (Err other)) k n clean here level in
+          let entry_here = reserve_here (Reserves p.binding.key n (Err other)) k n clean here level in
           let log : w.turn.known.log ≡ k.found.log =
-          log_is told trace faults puts begin k.found k.given (seeing k.epoch v.turn) w.turn began free k.visits ∙ ap (λ (b : BookView O). b.log) same in
+          log_is told begin k.found k.given (seeing k.epoch v.turn) w.turn began free k.visits ∙ ap (λ (b : BookView). b.log) same in
           by_kind (answer_of (counting JOURNAL_FULL 0 others) position) [] (Drew p.row n) (inr (inr (inr (record {
             is = bound_now opening [] refl level backed.epoch later all fits;
             number = n;
             below = below;
-            unmarked = subst (λ (st : State). mark_of st p.binding.key ≤ n) (state_here (Reserves faults p.binding.key n (Err other)) k clean here level) unmarked;
+            unmarked = subst (λ (st : State). mark_of st p.binding.key ≤ n) (state_here (Reserves p.binding.key n (Err other)) k clean here level) unmarked;
             full = subst (λ (l : List Entry). machine.SaysFull begin l (reserve_of begin.plan (machine.now begin (stood_in v)) p.binding.key n)
-                (answer_of (counting JOURNAL_FULL 0 others) position)) (stood_v (Reserves faults p.binding.key n (Err other)) k clean here level)
+                (answer_of (counting JOURNAL_FULL 0 others) position)) (stood_v (Reserves p.binding.key n (Err other)) k clean here level)
                 (subst (λ (e : Entry). machine.SaysFull begin (entries_of k.found.log) e (answer_of (counting JOURNAL_FULL 0 others) position)) entry_here
-                (slot_full begin k.found (stands (Reserves faults p.binding.key n (Err other)) k clean) (reserve_of k.found.plan k.found.state p.binding.key n) others position
+                (slot_full begin k.found (stands (Reserves p.binding.key n (Err other)) k clean) (reserve_of k.found.plan k.found.state p.binding.key n) others position
                 stored full (same_slots ∙ is) (at ∙ ap (λ (l : List Logged). length (entries_of l)) log)));
             own_is = refl;
             move_is = refl;
           }))))
 
-      full_tells : (slots : ℕ) → k.given ≡ k.found → ¬ Rose (faults k.found.opened) (faults k.found.site) → mark_of k.found.state p.binding.key ≤ n
+      full_tells : (slots : ℕ) → k.given ≡ k.found → ¬ Rose k.found.opened.faults k.found.site.faults → mark_of k.found.state p.binding.key ≤ n
           → Tells begin.start (entries_in w) (deed_of segment task (answer_of (counting JOURNAL_FULL 0 slots) position)) (Drew p.row n)
       full_tells slots same not unmarked =
           let log : w.turn.known.log ≡ k.found.log =
-          log_is told trace faults puts begin k.found k.given (seeing k.epoch v.turn) w.turn began free k.visits ∙ ap (λ (b : BookView O). b.log) same in
+          log_is told begin k.found k.given (seeing k.epoch v.turn) w.turn began free k.visits ∙ ap (λ (b : BookView). b.log) same in
           let state : after_first begin.start (entries_in w) position ≡ k.found.state =
           ap (after begin.start) (take_all position (entries_in w) (omega arith)) ∙ ap (λ (l : List Logged). after begin.start (entries_of l)) log
-          ∙ sym (whole told trace faults puts begin k.found k.given (seeing k.epoch v.turn) w.turn began free k.visits not).0 in
+          ∙ sym (whole told begin k.found k.given (seeing k.epoch v.turn) w.turn began free k.visits not).0 in
           by_protect (answer_of (counting JOURNAL_FULL 0 slots) position) (Drew p.row n) (record {
             protected = λ code. absurd (omega arith);
             exhausted = λ code. absurd (omega arith);
@@ -433,7 +432,7 @@ module _ {O : Type 0} (told : Bool) (trace : O → Trace) (faults puts : O → �
                 p.binding.key,
                 p.row,
                 n,
-                row_is told trace faults puts begin layout segment task v w began free protects p used opening,
+                row_is told begin layout segment task v w began free protects p used opening,
                 subst (λ (st : State). mark_of st p.binding.key ≤ n) (sym state) unmarked,
                 refl,
               ),
@@ -446,27 +445,27 @@ module _ {O : Type 0} (told : Bool) (trace : O → Trace) (faults puts : O → �
       same_count : (one another : ℕ) → refusals.JournalFull one ≡ refusals.JournalFull another → another ≡ one
       same_count one another is = cc
 
-      by_case : Reserves faults p.binding.key n (Err other) k.found k.given → AnsweredExactly begin segment v w task (fault_answer other position)
+      by_case : Reserves p.binding.key n (Err other) k.found k.given → AnsweredExactly begin segment v w task (fault_answer other position)
       by_case (unmarked, inl (is_barred, same)) =
           ends [] (none_left k.found k.given same) tt
           (λ is.
-          let full = subst (IsBarred faults k.found) is is_barred in (
+          let full = subst (IsBarred k.found) is is_barred in (
             omega arith,
-            was_clean (Reserves faults p.binding.key n (Err other)) k full.0,
-            given_as told trace faults puts begin k.found k.given (seeing k.epoch v.turn) v w began free k.visits k.found same (k.visits.found_kept.whole full.0),
+            was_clean (Reserves p.binding.key n (Err other)) k full.0,
+            given_as told begin k.found k.given (seeing k.epoch v.turn) v w began free k.visits k.found same (k.visits.found_kept.whole full.0),
           ))
-          (λ slots is. absurd (subst (IsBarred faults k.found) is is_barred))
+          (λ slots is. absurd (subst (IsBarred k.found) is is_barred))
       by_case (unmarked, inr (can, h)) = by_fault other refl h where
-        by_fault : (f : BookFault) → other ≡ f → IsUnstored faults (reserve_of k.found.plan k.found.state p.binding.key n) k.found k.given f
+        by_fault : (f : BookFault) → other ≡ f → IsUnstored (reserve_of k.found.plan k.found.state p.binding.key n) k.found k.given f
             → AnsweredExactly begin segment v w task (fault_answer other position)
         by_fault (refusals.SiteFault count) is u =
-            ends (reserve_of k.found.plan k.found.state p.binding.key n ∷ []) (ap (λ (b : BookView O). b.log) u.4)
+            ends (reserve_of k.found.plan k.found.state p.binding.key n ∷ []) (ap (λ (b : BookView). b.log) u.4)
             (reserve_drawn p.row n (reserve_of k.found.plan k.found.state p.binding.key n) refl, tt) (λ same. absurd (let no = sym is ∙ same in cc))
             (λ slots same. absurd (let no = sym is ∙ same in cc))
         by_fault (refusals.JournalFull slots) is u = ends [] (none_left k.found k.given u.3) tt (λ same. absurd (let no = sym is ∙ same in cc))
             (λ others same. (
               full_tells others u.3 can.0 unmarked,
-              none_stand k.found.log (by_lines (Reserves faults p.binding.key n (Err other)) k [] (none_left k.found k.given u.3)),
+              none_stand k.found.log (by_lines (Reserves p.binding.key n (Err other)) k [] (none_left k.found k.given u.3)),
               full_serves slots others (same_count slots others (sym is ∙ same)) u.3 can.0 unmarked u.0 u.1 u.2,
             ))
         by_fault (refusals.Stopped count) is u = absurd u
@@ -476,7 +475,7 @@ module _ {O : Type 0} (told : Bool) (trace : O → Trace) (faults puts : O → �
     failed : (fault : BookFault) (position n : ℕ) → clear_fault p.binding task.octets ≡ None → epoch_seen v.turn ≤ p.epoch → n < end_of p.binding.key
         → position ≡ entry_count w.turn.known
         → (Draws p.row (end_of p.binding.key) n v.numbers w.numbers ⊎ ComesBack p.row (end_of p.binding.key) n v.numbers w.numbers)
-        → TakesTurn told trace faults puts (Reserves faults p.binding.key n (Err fault)) v.turn w.turn
+        → TakesTurn told (Reserves p.binding.key n (Err fault)) v.turn w.turn
         → AnsweredExactly begin segment v w task (fault_answer fault position)
     failed fault position n fits later below at drawn t = by_case fits later position n below at drawn fault t t.does
 
@@ -484,7 +483,7 @@ module _ {O : Type 0} (told : Bool) (trace : O → Trace) (faults puts : O → �
   no_spent numbers = ap (λ (k : Numbers). k.spent) numbers ∙ sym (append-nil v.numbers.spent)
 
   pub protects_exactly : (plan : PlanLines) (kept : Option Permit) (out : List ℕ) (result : Protected) → v.turn.known.opening.plan ≡ plan
-      → IsProtectStep told trace faults puts plan task.link task.octets out kept result v w
+      → IsProtectStep told plan task.link task.octets out kept result v w
       → AnsweredExactly begin segment v w task (protected_answer result out)
   protects_exactly plan kept out (protecteds.Done d) planned_is (p, kept_is, used, (is, turn)) =
       done p (subst (λ (q : PlanLines). IsUsed q task.link task.octets p w.turn) (sym planned_is) used) out d is turn
@@ -501,7 +500,7 @@ module _ {O : Type 0} (told : Bool) (trace : O → Trace) (faults puts : O → �
         move_is = refl;
       })))
   protects_exactly plan kept out (protecteds.Refused fault epoch) planned_is (refused_it, numbers) = by_refusal refused_it where
-    by_refusal : IsRefusedAt told trace faults puts plan task.link task.octets fault epoch v.turn w.turn
+    by_refusal : IsRefusedAt told plan task.link task.octets fault epoch v.turn w.turn
         → AnsweredExactly begin segment v w task (Some (answer_of (fault_told fault) epoch))
     by_refusal (inl (refuses, zero_is, same)) =
         looks_finish Kept (moves_none begin v w numbers) [] (no_spent numbers) (record { epoch = v.turn.epoch; later = omega arith; is = same })
@@ -517,7 +516,7 @@ module _ {O : Type 0} (told : Bool) (trace : O → Trace) (faults puts : O → �
     by_refusal (inr (f, low, turn)) =
         rests_finish Kept (moves_none begin v w numbers) [] (no_spent numbers) turn
         (answer_of (fault_told fault) epoch) (kept_tells (fault_told fault) epoch (fault_code fault)) (λ level backed all.
-        let opening = opening_same told trace faults puts begin layout segment task v w began free protects Rests turn in
+        let opening = opening_same told begin layout segment task v w began free protects Rests turn in
         let plans : w.turn.known.opening.plan ≡ begin.plan = ap (λ (o : Opening). o.plan) opening ∙ began.plan in
         let starts : w.turn.known.opening.start ≡ begin.start = ap (λ (o : Opening). o.start) opening ∙ began.start in
         let same : stood_in w ≡ stood_in v = all ∙ append-nil (stood_in v) in
@@ -551,16 +550,16 @@ module _ {O : Type 0} (told : Bool) (trace : O → Trace) (faults puts : O → �
       failed p (subst (λ (q : PlanLines). IsUsed q task.link task.octets p w.turn) (sym planned_is) used) fault position n fits later below at drawn t
 
 -- what the call tells of numbers that were spent before, where it took the turn
-pub covers_taken : {O : Type 0} (told : Bool) (trace : O → Trace) (faults puts : O → ℕ) (begin : Begin) (v w : View)
-    → BeganWith told begin v.turn.known.opening → v.turn.holds ≡ false → CoversIfTaken told trace faults puts v w
-    → (done : BookView O → BookView O → Type 0) → TakesTurn told trace faults puts done v.turn w.turn → CoversSpent begin v w
-covers_taken {O} told trace faults puts begin v w began free (inl l) done t =
+pub covers_taken : (told : Bool) (begin : Begin) (v w : View)
+    → BeganWith told begin v.turn.known.opening → v.turn.holds ≡ false → CoversIfTaken told v w
+    → (done : BookView → BookView → Type 0) → TakesTurn told done v.turn w.turn → CoversSpent begin v w
+covers_taken told begin v w began free (inl l) done t =
     let one : w.turn.turns ≡ v.turn.turns = ap (λ (k : Turn). k.turns) l.is in
     let two : w.turn.turns ≡ v.turn.turns + 1 = ap (λ (k : Turn). k.turns) t.visits.takes.turn in absurd (omega arith)
-covers_taken {O} told trace faults puts begin v w began free (inr (epoch, low, h)) done t =
-    covers told trace faults puts begin v (record v { turn = seeing epoch v.turn }) w began free refl low refl refl earlier h
+covers_taken told begin v w began free (inr (epoch, low, h)) done t =
+    covers told begin v (record v { turn = seeing epoch v.turn }) w began free refl low refl refl earlier h
   where
     earlier : Earlier v.turn.known w.turn.known
     earlier = subst (λ (k : Turn). Earlier v.turn.known k.known) (sym h.visits.takes.turn)
-        (earlier_again v.turn.known (known_of_book trace faults puts h.found) (known_of_book trace faults puts h.given) h.visits.takes.follows.earlier h.visits.takes.earlier
+        (earlier_again v.turn.known (known_of_book h.found) (known_of_book h.given) h.visits.takes.follows.earlier h.visits.takes.earlier
         h.visits.takes.opening)

@@ -8,7 +8,6 @@ use Rattle.sdls_base.specs.declared.entry.Logged.{Logged}
 use Rattle.sdls_base.specs.declared.entry.Logged.TheVariants as lines
 use Rattle.sdls_base.specs.declared.TheConstants.{MOST_KEYS}
 use Rattle.sdls_outside.specs.Faults.{Rose}
-use Rattle.sdls_outside.specs.Moments.{Trace}
 use Rattle.key_book.specs.KeyBook.{place_of}
 use Rattle.record_io.specs.declared.records.Record.{Record}
 use Rattle.unit_state.specs.declared.state.State.{State}
@@ -56,9 +55,9 @@ last_get : (log : List Logged) (line : Logged) → slice_get (log ++ line ∷ []
 last_get [] line = refl
 last_get (x ∷ log) line = last_get log line
 
-module _ {O : Type 0} (told : Bool) (trace : O → Trace) (faults puts : O → ℕ) (begin : Begin) (found given : BookView O) (v w : View)
-    (h : Visited told trace faults puts begin found given v w) where
-  turn_is : w.turn ≡ taking_once (known_of_book trace faults puts found) (known_of_book trace faults puts given) v.turn
+module _ (told : Bool) (begin : Begin) (found given : BookView) (v w : View)
+    (h : Visited told begin found given v w) where
+  turn_is : w.turn ≡ taking_once (known_of_book found) (known_of_book given) v.turn
   turn_is = h.visits.takes.turn
 
   grows : KnowsMore v w
@@ -68,7 +67,7 @@ module _ {O : Type 0} (told : Bool) (trace : O → Trace) (faults puts : O → �
       let b = takes.earlier.changes in
       record {
         nexts = λ row. rw h.numbers (omega arith);
-        earlier = rw turn_is (earlier_again v.turn.known (known_of_book trace faults puts found) (known_of_book trace faults puts given) takes.follows.earlier takes.earlier takes.opening);
+        earlier = rw turn_is (earlier_again v.turn.known (known_of_book found) (known_of_book given) takes.follows.earlier takes.earlier takes.opening);
         opening = ap (λ (t : Turn). t.known.opening) turn_is ∙ (takes.opening ∙ takes.follows.opening);
         epochs = rw turn_is (omega arith);
       }
@@ -86,7 +85,7 @@ module _ {O : Type 0} (told : Bool) (trace : O → Trace) (faults puts : O → �
   }
 
   sparing : IsSparing v.turn.known w.turn.known
-  sparing = sparing_seen told trace faults puts begin found given v.turn w.turn h.began h.free h.visits
+  sparing = sparing_seen told begin found given v.turn w.turn h.began h.free h.visits
 
   -- the log stands
   pub none_works : (tasks : List Record) → given.log ≡ found.log → Worked begin v w tasks
@@ -112,7 +111,7 @@ module _ {O : Type 0} (told : Bool) (trace : O → Trace) (faults puts : O → �
   -- octets were put behind it
   module _ (piece : List ℕ) (is : given.log ≡ found.log ++ lines.Piece piece ∷ []) where
     log_line : log_of w ≡ found.log ++ lines.Piece piece ∷ []
-    log_line = log_is told trace faults puts begin found given v.turn w.turn h.began h.free h.visits ∙ is
+    log_line = log_is told begin found given v.turn w.turn h.began h.free h.visits ∙ is
 
     size : length (log_of w) ≡ length found.log + 1
     size = ap length log_line ∙ length-append found.log (lines.Piece piece ∷ [])
@@ -132,7 +131,7 @@ module _ {O : Type 0} (told : Bool) (trace : O → Trace) (faults puts : O → �
           works = record {
             made = λ x l.
                 let at = one_place (length found.log) x l in
-                let low = log_low told trace faults puts begin found given v.turn w.turn h.began h.free h.visits in
+                let low = log_low told begin found given v.turn w.turn h.began h.free h.visits in
                 let all = size in (omega arith, omega arith);
             legal = λ x l entry at.
                 let line : Some (lines.Piece piece) ≡ Some (lines.Entry entry) =
@@ -147,12 +146,12 @@ module _ {O : Type 0} (told : Bool) (trace : O → Trace) (faults puts : O → �
         }
 
     -- what the put settles
-    pub settles : given.standing ≡ found.standing → IsCovered MOST_KEYS v.numbers (known_of_book trace faults puts found)
+    pub settles : given.standing ≡ found.standing → IsCovered MOST_KEYS v.numbers (known_of_book found)
         → SettlesAt begin v w given.standing found.standing (length found.log)
     settles same covered =
         let kept = h.visits.found_kept in
         let led : found.state ≡ after_first begin.start (entries_in w) found.standing =
-        led_known told trace faults puts begin found given v.turn w.turn h.began h.free h.visits in
+        led_known told begin found given v.turn w.turn h.began h.free h.visits in
         let front : entries_of (take (length found.log) (log_of w)) ≡ entries_of found.log =
         ap (λ (log : List Logged). entries_of (take (length found.log) log)) log_line
         ∙ ap entries_of (take-append-le (length found.log) found.log (lines.Piece piece ∷ []) (omega arith) ∙ take_all (length found.log) found.log (omega arith)) in
@@ -161,10 +160,10 @@ module _ {O : Type 0} (told : Bool) (trace : O → Trace) (faults puts : O → �
           low = (let l = kept.stands in let f = ap length front in omega arith);
           is_stored = omega arith;
           epoch =
-              let low = epoch_low told trace faults puts begin found given v.turn w.turn h.began h.free h.visits in
+              let low = epoch_low told begin found given v.turn w.turn h.began h.free h.visits in
               let counted : found.changes ≡ epoch_after (take found.standing (entries_of found.log)) = kept.epoch in
               let stood : epoch_after (take found.standing (entries_in w)) ≡ epoch_after (take found.standing (entries_of found.log)) =
-              ap epoch_after (standing_found told trace faults puts begin found given v.turn w.turn h.began h.free h.visits) in omega arith;
+              ap epoch_after (standing_found told begin found given v.turn w.turn h.began h.free h.visits) in omega arith;
           marks = λ key row number few row_is spent.
               let rows = h.began.rows in
               let once = covered row number (omega arith) in
@@ -184,17 +183,17 @@ module _ {O : Type 0} (told : Bool) (trace : O → Trace) (faults puts : O → �
           stood = λ clean.
               let all : entries_in w ≡ entries_of found.log =
               ap entries_of log_line ∙ entries_both found.log (lines.Piece piece ∷ []) ∙ append-nil (entries_of found.log) in
-              kept.whole (not_found told trace faults puts begin found given v.turn v w h.began h.free h.visits clean) ∙ sym (ap length all);
+              kept.whole (not_found told begin found given v.turn v w h.began h.free h.visits clean) ∙ sym (ap length all);
         }
 
   pub visiting_works : (tasks : List Record) → given ≡ found → Worked begin v w tasks
-  visiting_works tasks same = none_works tasks (ap (λ (b : BookView O). b.log) same)
+  visiting_works tasks same = none_works tasks (ap (λ (b : BookView). b.log) same)
 
-  pub putting_works : (tasks : List Record) (octets : List ℕ) (result : Result (Unit {0}) BookFault) → IsPut told trace faults puts octets result found given
+  pub putting_works : (tasks : List Record) (octets : List ℕ) (result : Result (Unit {0}) BookFault) → IsPut told octets result found given
       → Worked begin v w tasks
-  putting_works tasks octets result put = piece_works _ (ap (λ (b : BookView O). b.log) put.made) tasks
+  putting_works tasks octets result put = piece_works _ (ap (λ (b : BookView). b.log) put.made) tasks
 
-  pub putting_settles : (octets : List ℕ) (result : Result (Unit {0}) BookFault) → IsPut told trace faults puts octets result found given
-      → IsCovered MOST_KEYS v.numbers (known_of_book trace faults puts found) → SettlesAt begin v w given.standing found.standing (length found.log)
+  pub putting_settles : (octets : List ℕ) (result : Result (Unit {0}) BookFault) → IsPut told octets result found given
+      → IsCovered MOST_KEYS v.numbers (known_of_book found) → SettlesAt begin v w given.standing found.standing (length found.log)
   putting_settles octets result put covered =
-      settles _ (ap (λ (b : BookView O). b.log) put.made) (ap (λ (b : BookView O). b.standing) put.made) covered
+      settles _ (ap (λ (b : BookView). b.log) put.made) (ap (λ (b : BookView). b.standing) put.made) covered

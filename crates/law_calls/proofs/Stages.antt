@@ -7,8 +7,7 @@ use Rattle.sdls_base.specs.declared.entry.Entry.{Entry}
 use Rattle.sdls_base.specs.declared.entry.Logged.{Logged}
 use Rattle.sdls_base.specs.declared.entry.Logged.TheVariants as lines
 use Rattle.sdls_outside.specs.Faults.{Rose}
-use Rattle.sdls_outside.specs.Moments.{Trace}
-use Rattle.disk_journal.specs.Image.{records, slot_count}
+use Rattle.unit_image.specs.Image.{slots_of, used_of}
 use Rattle.record_io.specs.declared.answers.Answer.{Answer}
 use Rattle.record_io.specs.declared.code.TheConstants.{JOURNAL_FULL, SITE_FAULT, STOPPED, NO_MEMORY, PROTECTED, ACCEPTED, DONE, NUMBER, EXHAUSTED}
 use Rattle.record_io.specs.declared.kinds.RecordKind.{RecordKind}
@@ -21,6 +20,7 @@ use Rattle.counter_table.specs.declared.view.Opening.{Opening}
 use Rattle.counter_table.specs.declared.view.Turn.{Turn}
 use Rattle.counter_table.specs.declared.view.View.{View}
 use Rattle.counter_table.specs.Turn.{epoch_seen, places}
+use Rattle.run_promise.specs.Site.{SiteSeen}
 use Rattle.run_promise.specs.Answers.{Told, counting, plain, Uses, IsUnmade}
 use Rattle.run_promise.specs.Counts.{is_index, is_of_record, is_of_none, count_at, drawers}
 use Rattle.run_promise.specs.Fits.{Course, Fits, MayAppend, state_after}
@@ -120,7 +120,7 @@ own_entry entry task one = by_index entry.index one where
 
 -- A call that handles a record: the worker's views before and after it, and the books that it found and gave back when it took
 -- the turn. The turn that it took may be seen as of a later epoch than the view before.
-pub record Call {O : Type 0} (told : Bool) (trace : O → Trace) (faults puts : O → ℕ) : Type 0 where
+pub record Call (told : Bool) : Type 0 where
   pub begin : Begin
   pub layout : Layout
   pub segment : ℕ
@@ -128,16 +128,16 @@ pub record Call {O : Type 0} (told : Bool) (trace : O → Trace) (faults puts : 
   pub old_view : View
   pub new_view : View
   pub taken : Turn
-  pub found : BookView O
-  pub given : BookView O
+  pub found : BookView
+  pub given : BookView
   pub began : BeganWith told begin taken.known.opening
   pub free : taken.holds ≡ false
-  pub visits : Visits told trace faults puts found given taken new_view.turn
+  pub visits : Visits told found given taken new_view.turn
   pub known : taken.known ≡ old_view.turn.known
   pub seen : epoch_seen old_view.turn ≤ epoch_seen taken
   pub pass : (log : List Logged) (es : List Entry) → Turned log es taken new_view.turn → Turned log es old_view.turn new_view.turn
 
-module _ {O : Type 0} (told : Bool) (trace : O → Trace) (faults puts : O → ℕ) (c : Call told trace faults puts) where
+module _ (told : Bool) (c : Call told) where
   abbrev begin : Begin
   begin = c.begin
 
@@ -159,10 +159,10 @@ module _ {O : Type 0} (told : Bool) (trace : O → Trace) (faults puts : O → �
   abbrev u : Turn
   u = c.taken
 
-  abbrev found : BookView O
+  abbrev found : BookView
   found = c.found
 
-  abbrev given : BookView O
+  abbrev given : BookView
   given = c.given
 
   abbrev near : ℕ → ℕ → Type 0
@@ -172,13 +172,13 @@ module _ {O : Type 0} (told : Bool) (trace : O → Trace) (faults puts : O → �
   course = course_in begin w
 
   -- A stage of the call: behind the log that was found stand these entries, of no record.
-  pub record Stage (old : BookView O) (es : List Entry) : Type 0 where
+  pub record Stage (old : BookView) (es : List Entry) : Type 0 where
     pub log : old.log ≡ found.log ++ lines_of es
-    pub state : ¬ Rose (faults old.opened) (faults old.site) → old.state ≡ after begin.start (entries_of old.log)
+    pub state : ¬ Rose old.opened.faults old.site.faults → old.state ≡ after begin.start (entries_of old.log)
     pub opened : old.opened ≡ found.opened
-    pub clean : ¬ Rose (faults old.opened) (faults old.site) → ¬ Rose (faults found.opened) (faults found.site)
+    pub clean : ¬ Rose old.opened.faults old.site.faults → ¬ Rose found.opened.faults found.site.faults
     pub standing : old.standing ≤ length (entries_of old.log)
-    pub all_stand : ¬ Rose (faults old.opened) (faults old.site) → old.standing ≡ length (entries_of old.log)
+    pub all_stand : ¬ Rose old.opened.faults old.site.faults → old.standing ≡ length (entries_of old.log)
     pub legal : LegalInTurn near begin.plan begin.start (task ∷ []) (after begin.start (entries_of found.log)) es
     pub none : (index : ℕ) → tested (is_of_record index) es ≡ 0
     pub few : length es ≤ drawers (task ∷ [])
@@ -191,12 +191,12 @@ module _ {O : Type 0} (told : Bool) (trace : O → Trace) (faults puts : O → �
     pub added : List (ℕ × ℕ)
     pub counted : Counted begin task v w drawn spent raised added
 
-  position_known : (position : ℕ) → position ≡ entry_count (known_of_book trace faults puts given) → position ≡ length (entries_in w)
+  position_known : (position : ℕ) → position ≡ entry_count (known_of_book given) → position ≡ length (entries_in w)
   position_known position is =
-      is ∙ sym (ap (λ (l : List Logged). length (entries_of l)) (log_is told trace faults puts begin found given u w.turn c.began c.free c.visits))
+      is ∙ sym (ap (λ (l : List Logged). length (entries_of l)) (log_is told begin found given u w.turn c.began c.free c.visits))
 
   -- the call ended behind a stage with these entries more: none, or one
-  module _ (old : BookView O) (es : List Entry) (stage : Stage old es) (own : List Entry) (added : given.log ≡ old.log ++ lines_of own) (numbers : Added)
+  module _ (old : BookView) (es : List Entry) (stage : Stage old es) (own : List Entry) (added : given.log ≡ old.log ++ lines_of own) (numbers : Added)
       (legal : LegalInTurn near begin.plan begin.start (task ∷ []) (after begin.start (entries_of found.log)) (es ++ own))
       (one : (index : ℕ) → tested (is_of_record index) own ≤ indexed index (task ∷ []))
       (reserves : tested is_of_none own + length es ≤ drawers (task ∷ [])) (few : length own ≤ 1) where
@@ -204,10 +204,10 @@ module _ {O : Type 0} (told : Bool) (trace : O → Trace) (faults puts : O → �
     whole_log = added ∙ ap (λ (l : List Logged). l ++ lines_of own) stage.log ∙ sym (lines_more found.log es own)
 
     passed : Turned found.log (es ++ own) v.turn w.turn
-    passed = c.pass found.log (es ++ own) (turned told trace faults puts begin found given u w.turn c.began c.free c.visits (es ++ own) whole_log)
+    passed = c.pass found.log (es ++ own) (turned told begin found given u w.turn c.began c.free c.visits (es ++ own) whole_log)
 
     pub all_entries : entries_in w ≡ entries_of found.log ++ (es ++ own)
-    all_entries = known_entries told trace faults puts begin found given u w.turn c.began c.free c.visits (es ++ own) whole_log
+    all_entries = known_entries told begin found given u w.turn c.began c.free c.visits (es ++ own) whole_log
 
     one_among : (index : ℕ) → tested (is_of_record index) (es ++ own) ≤ indexed index (task ∷ [])
     one_among index = let m = tested_more (is_of_record index) es own in let n = stage.none index in let o = one index in omega arith
@@ -258,9 +258,9 @@ module _ {O : Type 0} (told : Bool) (trace : O → Trace) (faults puts : O → �
         (λ key number uses. absurd (unused_late code n position key number some other uses)) failed unmade
 
   -- the call ended at the stage
-  module _ (old : BookView O) (es : List Entry) (stage : Stage old es) (numbers : Added) (same : given ≡ old) where
+  module _ (old : BookView) (es : List Entry) (stage : Stage old es) (numbers : Added) (same : given ≡ old) where
     left : given.log ≡ old.log ++ lines_of []
-    left = ap (λ (b : BookView O). b.log) same ∙ sym (append-nil old.log)
+    left = ap (λ (b : BookView). b.log) same ∙ sym (append-nil old.log)
 
     legal_left : LegalInTurn near begin.plan begin.start (task ∷ []) (after begin.start (entries_of found.log)) (es ++ [])
     legal_left = subst (LegalInTurn near begin.plan begin.start (task ∷ []) (after begin.start (entries_of found.log))) (sym (append-nil es)) stage.legal
@@ -285,16 +285,16 @@ module _ {O : Type 0} (told : Bool) (trace : O → Trace) (faults puts : O → �
     wanting commands = (wanting_handled, λ code other. absurd (other commands))
 
     known_of_old : w.turn.known.log ≡ old.log
-    known_of_old = log_is told trace faults puts begin found given u w.turn c.began c.free c.visits ∙ ap (λ (b : BookView O). b.log) same
+    known_of_old = log_is told begin found given u w.turn c.began c.free c.visits ∙ ap (λ (b : BookView). b.log) same
 
-    faults_of_old : course.faults ≡ faults old.site
-    faults_of_old = faults_are told trace faults puts begin found given u w.turn c.began c.free c.visits ∙ ap (λ (b : BookView O). faults b.site) same
+    faults_of_old : course.faults ≡ old.site.faults
+    faults_of_old = faults_are told begin found given u w.turn c.began c.free c.visits ∙ ap (λ (b : BookView). b.site.faults) same
 
-    before_old : course.faults_before ≡ faults old.opened
-    before_old = began_faults told trace faults puts begin found given u w.turn c.began c.free c.visits ∙ ap faults (sym stage.opened)
+    before_old : course.faults_before ≡ old.opened.faults
+    before_old = began_faults told begin found given u w.turn c.began c.free c.visits ∙ ap (λ (s : SiteSeen). s.faults) (sym stage.opened)
 
     -- the site had failed, or the run has as many entries as it may
-    pub barred : (fault : BookFault) (position : ℕ) → position ≡ entry_count (known_of_book trace faults puts given) → IsBarred faults old fault
+    pub barred : (fault : BookFault) (position : ℕ) → position ≡ entry_count (known_of_book given) → IsBarred old fault
         → (task.kind ≢ Protect) ⊎ MayAppend near course old.standing task → Answered layout begin segment v w task (fault_answer fault position)
     barred (refusals.Stopped count) position is (rose, count_is) due =
         let at = position_known position is in
@@ -303,7 +303,7 @@ module _ {O : Type 0} (told : Bool) (trace : O → Trace) (faults puts : O → �
         let low = stage.standing in
         answered_so begin layout segment v w task (answer_of (counting STOPPED 0 count) position) (λ is. absurd (omega arith)) (left_late STOPPED count position
         (stopped_fits near course task count position at
-        (subst (λ (n : ℕ). Rose n count) (sym before_old) (subst (λ (n : ℕ). Rose (faults old.opened) n) (sym count_is) rose))
+        (subst (λ (n : ℕ). Rose n count) (sym before_old) (subst (λ (n : ℕ). Rose old.opened.faults n) (sym count_is) rose))
         (let f = faults_of_old in omega arith)
         (⊎_elim inl (λ may. inr (record { p = old.standing; within = omega arith; may = may })) due))
         refl refl (λ is. absurd (omega arith)) (λ is. absurd (omega arith)) (λ is. absurd (omega arith)))
@@ -315,46 +315,46 @@ module _ {O : Type 0} (told : Bool) (trace : O → Trace) (faults puts : O → �
             stood =
                 let a = full_stand not full in
                 let b : w.turn.known.standing ≡ given.standing = ap (λ (t : Turn). t.known.standing) c.visits.takes.turn in
-                let d : given.standing ≡ old.standing = ap (λ (b : BookView O). b.standing) same in omega arith;
-            not_failed = λ risen. stage.clean not (risen_found told trace faults puts begin found given u w.turn c.began c.free c.visits
+                let d : given.standing ≡ old.standing = ap (λ (b : BookView). b.standing) same in omega arith;
+            not_failed = λ risen. stage.clean not (risen_found told begin found given u w.turn c.began c.free c.visits
                 (subst (λ (k : Known). Rose k.opening.faults k.faults) (sym c.known) risen));
             due = ⊎_elim inl (λ may. inr (subst (λ (p : ℕ). MayAppend near course p task) (full_stand not full) may)) due;
             unmade = none_of_it old es stage [] left numbers legal_left (λ index. omega arith) reserves_left (omega arith) refl;
           },
         ) where
-          full_stand : ¬ Rose (faults old.opened) (faults old.site) → length (entries_of old.log) ≡ MOST_ENTRIES → old.standing ≡ MOST_ENTRIES
+          full_stand : ¬ Rose old.opened.faults old.site.faults → length (entries_of old.log) ≡ MOST_ENTRIES → old.standing ≡ MOST_ENTRIES
           full_stand not full = stage.all_stand not ∙ full
     barred (refusals.SiteFault count) position is h due = absurd h
     barred (refusals.JournalFull slots) position is h due = absurd h
     barred refusals.NoMemory position is h due = absurd h
 
     -- all slots are used
-    pub journal_full : (slots position : ℕ) → position ≡ entry_count (known_of_book trace faults puts given) → ¬ Rose (faults old.opened) (faults old.site)
+    pub journal_full : (slots position : ℕ) → position ≡ entry_count (known_of_book given) → ¬ Rose old.opened.faults old.site.faults
         → old.journal.used ≡ old.journal.slots → slots ≡ old.journal.slots → MayAppend near course (length (entries_of old.log)) task
         → Handled layout begin v w (task ∷ []) (deed_of segment task (answer_of (counting JOURNAL_FULL 0 slots) position) ∷ [])
     journal_full slots position is not used slots_is may =
         let known_is : entries_in w ≡ entries_of old.log = ap entries_of known_of_old in
-        let kept : IsKept told trace faults old = subst (λ (b : BookView O). IsKept told trace faults b) same c.visits.given_kept in
-        let images : old.image ≡ u.known.opening.image = ap (λ (b : BookView O). b.image) (sym same) ∙ ap (λ (o : Opening). o.image) opened_as in
-        let starts : old.start ≡ begin.start = ap (λ (b : BookView O). b.start) (sym same) ∙ ap (λ (o : Opening). o.start) opened_as ∙ c.began.start in
+        let kept : IsKept told old = subst (λ (b : BookView). IsKept told b) same c.visits.given_kept in
+        let images : old.image ≡ u.known.opening.image = ap (λ (b : BookView). b.image) (sym same) ∙ ap (λ (o : Opening). o.image) opened_as in
+        let starts : old.start ≡ begin.start = ap (λ (b : BookView). b.start) (sym same) ∙ ap (λ (o : Opening). o.start) opened_as ∙ c.began.start in
         let tells : IsTrue begin.told → IsTrue told = λ t. subst (λ (b : Bool). IsTrue b) c.began.tells t in
         left_late JOURNAL_FULL slots position
         (full_fits near course task slots position (position_known position is)
-        (λ t. slots_is ∙ (kept.counted (tells t) not).slots ∙ ap slot_count images ∙ sym (c.began.slots (tells t)))
+        (λ t. slots_is ∙ (kept.counted (tells t) not).slots ∙ ap slots_of images ∙ sym (c.began.slots (tells t)))
         (λ t.
         let counts = kept.counted (tells t) not in
-        let used_is : begin.used ≡ length (records old.image) = c.began.used (tells t) ∙ ap (λ (i : List ℕ). length (records i)) (sym images) in
+        let used_is : begin.used ≡ used_of old.image = c.began.used (tells t) ∙ ap (λ (i : List ℕ). used_of i) (sym images) in
         let stored : stored_count begin.start (entries_in w) ≡ stored_count old.start (entries_of old.log) =
         ap (stored_count begin.start) known_is ∙ ap (λ (s : State). stored_count s (entries_of old.log)) (sym starts) in
-        let slots_are : begin.slots ≡ old.journal.slots = c.began.slots (tells t) ∙ ap slot_count (sym images) ∙ sym counts.slots in
+        let slots_are : begin.slots ≡ old.journal.slots = c.began.slots (tells t) ∙ ap slots_of (sym images) ∙ sym counts.slots in
         let all = counts.used in omega arith)
         (subst (λ (n : ℕ). MayAppend near course n task) (sym (ap length known_is)) may))
         refl refl (λ is. absurd (omega arith)) (λ is. absurd (omega arith)) (λ is. absurd (omega arith)) where
-          opened_as : (known_of_book trace faults puts given).opening ≡ u.known.opening
+          opened_as : (known_of_book given).opening ≡ u.known.opening
           opened_as = c.visits.takes.opening ∙ c.visits.takes.follows.opening
 
   -- an entry more was refused
-  module _ (old : BookView O) (es : List Entry) (stage : Stage old es) (entry : Entry) (numbers : Added) (can : CanEnter faults old)
+  module _ (old : BookView) (es : List Entry) (stage : Stage old es) (entry : Entry) (numbers : Added) (can : CanEnter old)
       (legal : IsLegal near begin.plan (after begin.start (entries_of old.log)) (task ∷ []) entry)
       (one : (index : ℕ) → tested (is_of_record index) (entry ∷ []) ≤ indexed index (task ∷ []))
       (reserves : tested is_of_none (entry ∷ []) + length es ≤ drawers (task ∷ [])) where
@@ -374,24 +374,24 @@ module _ {O : Type 0} (told : Bool) (trace : O → Trace) (faults puts : O → �
         ∙ after_front begin.start (entries_of old.log) rest ∙ sym (stage.state can.0)
 
     -- the site failed while it was stored: then the entry does not stand
-    faulted : (count position : ℕ) → position ≡ entry_count (known_of_book trace faults puts given) → given.log ≡ old.log ++ lines.Entry entry ∷ []
-        → given.standing ≡ old.standing → count ≡ faults given.site
+    faulted : (count position : ℕ) → position ≡ entry_count (known_of_book given) → given.log ≡ old.log ++ lines.Entry entry ∷ []
+        → given.standing ≡ old.standing → count ≡ given.site.faults
         → (state_after course (length (entries_of old.log)) ≡ old.state → MayAppend near course (length (entries_of old.log)) task)
         → Handled layout begin v w (task ∷ []) (deed_of segment task (answer_of (counting SITE_FAULT 0 count) position) ∷ [])
     faulted count position is added stand count_is may =
-        let log_known : w.turn.known.log ≡ old.log ++ lines.Entry entry ∷ [] = log_is told trace faults puts begin found given u w.turn c.began c.free c.visits ∙ added in
+        let log_known : w.turn.known.log ≡ old.log ++ lines.Entry entry ∷ [] = log_is told begin found given u w.turn c.began c.free c.visits ∙ added in
         let entries_known : entries_in w ≡ entries_of old.log ++ entry ∷ [] = ap entries_of log_known ∙ lines_entries old.log (entry ∷ []) in
         let given_is : entries_of given.log ≡ entries_of old.log ++ entry ∷ [] = ap entries_of added ∙ lines_entries old.log (entry ∷ []) in
         let given_size : length (entries_of given.log) ≡ length (entries_of old.log) + 1 = ap length given_is ∙ length-append (entries_of old.log) (entry ∷ []) in
         let size : length (entries_in w) ≡ length (entries_of old.log) + 1 = ap length entries_known ∙ length-append (entries_of old.log) (entry ∷ []) in
-        let before : course.faults_before ≡ faults found.opened = began_faults told trace faults puts begin found given u w.turn c.began c.free c.visits in
-        let now : course.faults ≡ faults given.site = faults_are told trace faults puts begin found given u w.turn c.began c.free c.visits in
-        let opened : faults given.opened ≡ faults found.opened = ap (λ (o : Opening). o.faults) c.visits.takes.opening in
+        let before : course.faults_before ≡ found.opened.faults = began_faults told begin found given u w.turn c.began c.free c.visits in
+        let now : course.faults ≡ given.site.faults = faults_are told begin found given u w.turn c.began c.free c.visits in
+        let opened : given.opened.faults ≡ found.opened.faults = ap (λ (o : Opening). o.faults) c.visits.takes.opening in
         let all = stage.all_stand can.0 in
-        let rose : Rose (faults given.opened) (faults given.site) =
-        rose_else (faults given.opened) (faults given.site) (λ not. let whole_then = c.visits.given_kept.whole not in absurd (omega arith)) in
+        let rose : Rose given.opened.faults given.site.faults =
+        rose_else given.opened.faults given.site.faults (λ not. let whole_then = c.visits.given_kept.whole not in absurd (omega arith)) in
         let risen : Rose course.faults_before count =
-        subst (λ (n : ℕ). Rose n count) (sym (before ∙ sym opened)) (subst (λ (n : ℕ). Rose (faults given.opened) n) (sym count_is) rose) in
+        subst (λ (n : ℕ). Rose n count) (sym (before ∙ sym opened)) (subst (λ (n : ℕ). Rose given.opened.faults n) (sym count_is) rose) in
         answered_late old es stage (entry ∷ []) added numbers legal_more one reserves (omega arith) SITE_FAULT count position
         (faulted_fits near course task count position (position_known position is) risen (omega arith)
         (record { p = length (entries_of old.log); within = omega arith; may = may (state_then (entry ∷ []) entries_known) })
@@ -407,13 +407,13 @@ module _ {O : Type 0} (told : Bool) (trace : O → Trace) (faults puts : O → �
           risen = subst (λ (n : ℕ). Rose course.faults_before n) (count_is ∙ sym now) risen;
         }) (λ code. absurd (not_unmade code))
 
-    pub unstored : (fault : BookFault) (position : ℕ) → position ≡ entry_count (known_of_book trace faults puts given) → IsUnstored faults entry old given fault
+    pub unstored : (fault : BookFault) (position : ℕ) → position ≡ entry_count (known_of_book given) → IsUnstored entry old given fault
         → (state_after course (length (entries_of old.log)) ≡ old.state → IsTrue (IsStored old.state entry)
         → MayAppend near course (length (entries_of old.log)) task)
         → Answered layout begin segment v w task (fault_answer fault position)
     unstored (refusals.SiteFault count) position is h may =
         answered_so begin layout segment v w task (answer_of (counting SITE_FAULT 0 count) position) (λ code. absurd (omega arith))
-        (faulted count position is (ap (λ (b : BookView O). b.log) h.4) (ap (λ (b : BookView O). b.standing) h.4) h.3 (λ same. may same h.0))
+        (faulted count position is (ap (λ (b : BookView). b.log) h.4) (ap (λ (b : BookView). b.standing) h.4) h.3 (λ same. may same h.0))
     unstored (refusals.JournalFull slots) position is h may =
         let known_is : entries_in w ≡ entries_of old.log ++ [] =
         ap (λ (l : List Logged). entries_of l) (known_of_old old es stage numbers h.3) ∙ sym (append-nil (entries_of old.log)) in
@@ -432,8 +432,8 @@ module _ {O : Type 0} (told : Bool) (trace : O → Trace) (faults puts : O → �
         → fields.code ≢ SITE_FAULT → (IsUnmade fields.code → ⊥)
         → Handled layout begin v w (task ∷ []) (deed_of segment task (answer_of fields position) ∷ [])
     made fields position enters kind fits used plain makes =
-        let added : given.log ≡ old.log ++ lines.Entry entry ∷ [] = ap (λ (b : BookView O). b.log) enters.is in
-        let log_known : w.turn.known.log ≡ old.log ++ lines.Entry entry ∷ [] = log_is told trace faults puts begin found given u w.turn c.began c.free c.visits ∙ added in
+        let added : given.log ≡ old.log ++ lines.Entry entry ∷ [] = ap (λ (b : BookView). b.log) enters.is in
+        let log_known : w.turn.known.log ≡ old.log ++ lines.Entry entry ∷ [] = log_is told begin found given u w.turn c.began c.free c.visits ∙ added in
         let entries_known : entries_in w ≡ entries_of old.log ++ entry ∷ [] = ap entries_of log_known ∙ lines_entries old.log (entry ∷ []) in
         let given_is : entries_of given.log ≡ entries_of old.log ++ entry ∷ [] = ap entries_of added ∙ lines_entries old.log (entry ∷ []) in
         let size : length (entries_of given.log) ≡ length (entries_of old.log) + 1 = ap length given_is ∙ length-append (entries_of old.log) (entry ∷ []) in
@@ -443,7 +443,7 @@ module _ {O : Type 0} (told : Bool) (trace : O → Trace) (faults puts : O → �
         answered old es stage (entry ∷ []) added numbers legal_more one reserves (omega arith) (answer_of fields position)
         (fits entries_known (omega arith)) (record {
           entry = λ _. (
-            let low = entries_low told trace faults puts begin found given u w.turn c.began c.free c.visits in
+            let low = entries_low told begin found given u w.turn c.began c.free c.visits in
                 let seen_first : length (entries_in v) ≡ length (entries_of u.known.log) = ap (λ (k : Known). length (entries_of k.log)) (sym c.known) in
                 let front : length (entries_of found.log) ≤ length (entries_of old.log) = (let e = ap length entries_old in
                 let l = length-append (entries_of found.log) es in omega arith) in
@@ -451,19 +451,19 @@ module _ {O : Type 0} (told : Bool) (trace : O → Trace) (faults puts : O → �
             omega arith,
           );
           stored = λ _.
-              let stand : given.standing ≡ old.standing + 1 = ap (λ (b : BookView O). b.standing) enters.is in
+              let stand : given.standing ≡ old.standing + 1 = ap (λ (b : BookView). b.standing) enters.is in
               let known_standing : w.turn.known.standing ≡ given.standing = ap (λ (t : Turn). t.known.standing) c.visits.takes.turn in
               let all = stage.all_stand can.0 in omega arith;
           epoch = λ _.
               let told_is : epoch_told (entries_in w) (deed_of segment task (answer_of fields position)) ≡ epoch_after (entries_in w) =
               ap (λ (b : Bool). if b then position else epoch_after (take position (entries_in w))) none
               ∙ ap epoch_after (take_all position (entries_in w) (omega arith)) in
-              let stand : given.standing ≡ old.standing + 1 = ap (λ (b : BookView O). b.standing) enters.is in
+              let stand : given.standing ≡ old.standing + 1 = ap (λ (b : BookView). b.standing) enters.is in
               let all = stage.all_stand can.0 in
               let changes : given.changes ≡ epoch_after (entries_in w) = c.visits.given_kept.epoch
               ∙ ap epoch_after (take_all given.standing (entries_of given.log) (omega arith) ∙ given_is ∙ sym entries_known) in
-              let low = epoch_low told trace faults puts begin found given u w.turn c.began c.free c.visits in
-              let high = epoch_high told trace faults puts begin found given u w.turn c.began c.free c.visits in
+              let low = epoch_low told begin found given u w.turn c.began c.free c.visits in
+              let high = epoch_high told begin found given u w.turn c.began c.free c.visits in
               let grown = c.visits.takes.earlier.changes in
               (omega arith, omega arith);
           number = λ _ protected. let both : true ≡ false = sym protected ∙ none in absurd (let b = both in cc);
@@ -473,7 +473,7 @@ module _ {O : Type 0} (told : Bool) (trace : O → Trace) (faults puts : O → �
   pub stage_found : Stage found []
   stage_found = record {
     log = sym (append-nil found.log);
-    state = λ not. (whole told trace faults puts begin found given u w.turn c.began c.free c.visits not).0;
+    state = λ not. (whole told begin found given u w.turn c.began c.free c.visits not).0;
     opened = refl;
     clean = λ not. not;
     standing = c.visits.found_kept.stands;

@@ -8,7 +8,6 @@ use Rattle.sdls_base.specs.declared.TheConstants.{MOST_KEYS}
 use Rattle.sdls_base.specs.declared.entry.Entry.{Entry}
 use Rattle.sdls_base.specs.declared.entry.Logged.{Logged}
 use Rattle.sdls_outside.specs.Faults.{Rose}
-use Rattle.sdls_outside.specs.Moments.{Trace}
 use Rattle.key_book.specs.KeyBook.{place_of}
 use Rattle.unit_state.specs.declared.state.State.{State}
 use Rattle.unit_state.specs.History.{after, after_first, epoch_after}
@@ -37,15 +36,15 @@ below_mark number mark h = elim (cases_lt number mark) [
       let k : 0 < one_if false = subst (λ (b : Bool). 0 < one_if b) f h in absurd (omega arith)
 ]
 
-module _ {O : Type 0} (told : Bool) (trace : O → Trace) (faults puts : O → ℕ) (begin : Begin) (found given : BookView O) (v w : Turn)
-    (began : BeganWith told begin v.known.opening) (free : v.holds ≡ false) (visits : Visits told trace faults puts found given v w) where
-  turn_is : w ≡ taking_once (known_of_book trace faults puts found) (known_of_book trace faults puts given) v
+module _ (told : Bool) (begin : Begin) (found given : BookView) (v w : Turn)
+    (began : BeganWith told begin v.known.opening) (free : v.holds ≡ false) (visits : Visits told found given v w) where
+  turn_is : w ≡ taking_once (known_of_book found) (known_of_book given) v
   turn_is = visits.takes.turn
 
-  opening_is : (known_of_book trace faults puts given).opening ≡ v.known.opening
+  opening_is : (known_of_book given).opening ≡ v.known.opening
   opening_is = visits.takes.opening ∙ visits.takes.follows.opening
 
-  pub found_opening : (known_of_book trace faults puts found).opening ≡ v.known.opening
+  pub found_opening : (known_of_book found).opening ≡ v.known.opening
   found_opening = visits.takes.follows.opening
 
   pub plan_is : found.plan ≡ begin.plan
@@ -57,30 +56,30 @@ module _ {O : Type 0} (told : Bool) (trace : O → Trace) (faults puts : O → �
   -- no more puts failed than pieces were put
   pub sparing_seen : IsSparing v.known w.known
   sparing_seen = subst (λ (t : Turn). IsSparing v.known t.known) (sym turn_is)
-      (sparing_again v.known (known_of_book trace faults puts found) (known_of_book trace faults puts given) visits.takes.follows.earlier visits.takes.earlier
+      (sparing_again v.known (known_of_book found) (known_of_book given) visits.takes.follows.earlier visits.takes.earlier
       visits.takes.opening visits.takes.follows.sparing visits.takes.sparing)
 
   -- what is known afterwards
   pub log_is : w.known.log ≡ given.log
   log_is = ap (λ (t : Turn). t.known.log) turn_is
 
-  pub faults_are : w.known.faults ≡ faults given.site
+  pub faults_are : w.known.faults ≡ given.site.faults
   faults_are = ap (λ (t : Turn). t.known.faults) turn_is
 
   pub changes_are : w.known.changes ≡ given.changes
   changes_are = ap (λ (t : Turn). t.known.changes) turn_is
 
-  pub began_faults : w.known.opening.faults ≡ faults found.opened
+  pub began_faults : w.known.opening.faults ≡ found.opened.faults
   began_faults = ap (λ (t : Turn). t.known.opening.faults) turn_is ∙ ap (λ (o : Opening). o.faults) visits.takes.opening
 
-  pub before_faults : v.known.opening.faults ≡ faults found.opened
+  pub before_faults : v.known.opening.faults ≡ found.opened.faults
   before_faults = ap (λ (o : Opening). o.faults) (sym found_opening)
 
   -- what had failed before had failed when the book was found
-  pub risen_found : Rose v.known.opening.faults v.known.faults → Rose (faults found.opened) (faults found.site)
+  pub risen_found : Rose v.known.opening.faults v.known.faults → Rose found.opened.faults found.site.faults
   risen_found risen =
       let low = visits.takes.follows.earlier.faults in
-      let at : Rose (faults found.opened) v.known.faults = subst (λ (n : ℕ). Rose n v.known.faults) before_faults risen in
+      let at : Rose found.opened.faults v.known.faults = subst (λ (n : ℕ). Rose n v.known.faults) before_faults risen in
       omega arith
 
   pub log_low : length v.known.log ≤ length found.log
@@ -108,10 +107,10 @@ module _ {O : Type 0} (told : Bool) (trace : O → Trace) (faults puts : O → �
   pub led : found.state ≡ after_first begin.start (entries_of found.log) found.standing
   led = visits.found_kept.led ∙ ap (λ (s : State). after_first s (entries_of found.log) found.standing) start_is
 
-  pub whole : ¬ Rose (faults found.opened) (faults found.site)
+  pub whole : ¬ Rose found.opened.faults found.site.faults
       → (found.state ≡ after begin.start (entries_of found.log)) × (found.changes ≡ epoch_after (entries_of found.log))
   whole not =
-      let k = kept_whole told trace faults found visits.found_kept not in
+      let k = kept_whole told found visits.found_kept not in
       (k.0 ∙ ap (λ (s : State). after s (entries_of found.log)) start_is, k.1)
 
   pub row_below : (key row : ℕ) → place_of found.state.keys key ≡ Some row → row < begin.rows
@@ -165,7 +164,7 @@ module _ {O : Type 0} (told : Bool) (trace : O → Trace) (faults puts : O → �
         let u = lines_length es in omega arith) in
         record {
           earlier = subst (λ (t : Turn). Earlier v.known t.known) (sym turn_is)
-              (earlier_again v.known (known_of_book trace faults puts found) (known_of_book trace faults puts given) visits.takes.follows.earlier visits.takes.earlier visits.takes.opening);
+              (earlier_again v.known (known_of_book found) (known_of_book given) visits.takes.follows.earlier visits.takes.earlier visits.takes.opening);
           sparing = sparing_seen;
           opening = ap (λ (t : Turn). t.known.opening) turn_is ∙ opening_is;
           epochs = (let a = epoch_low in let b = epoch_high in let c = visits.takes.earlier.changes in omega arith);

@@ -1,6 +1,5 @@
 -- The answers to records, by what the calls on the unit answered (profile).
 use Rattle.std.specs.Prelude.{◌≡◌, ◌≢◌, ℕ, Bool, List, [], ◌∷◌, take, Option, Some, None, Result, Ok, Err, MatchResult}
-use Rattle.sdls_outside.specs.Moments.{Trace}
 use Rattle.frame_checks.specs.declared.open_reply.OpenReply.{OpenReply}
 use Rattle.frame_checks.specs.Accepting.{LeavesOctets, field_in}
 use Rattle.ep_core.specs.declared.reply.Reply.{Reply}
@@ -91,21 +90,17 @@ AnsweredExactly begin segment old new task None = MovedInTurn begin old new 1 []
 -- ---- what the calls say, for a record
 
 -- `open_frame`, which left the frame's octets so
-abbrev pub OpensRecord : {O : Type 0} → Bool → (O → Trace) → (O → ℕ) → (O → ℕ) → Record → List ℕ
-    → Result (OpenReply × ℕ) (BookFault × ℕ)
-    → View → View → Type 0
-OpensRecord {O} told trace faults_of puts task left result v w = (found : BookView O) × (given : BookView O)
-    × Visits told trace faults_of puts found given v.turn w.turn
-    × WithPosition result (known_of_book trace faults_of puts given) (λ answer. MatchResult answer
-    (λ told. OpensWithEntry faults_of task.index task.link task.octets (field_in told.0 left) found given told.0 told.1
+abbrev pub OpensRecord : Bool → Record → List ℕ → Result (OpenReply × ℕ) (BookFault × ℕ) → View → View → Type 0
+OpensRecord told task left result v w = (found : BookView) × (given : BookView)
+    × Visits told found given v.turn w.turn
+    × WithPosition result (known_of_book given) (λ answer. MatchResult answer
+    (λ told. OpensWithEntry task.index task.link task.octets (field_in told.0 left) found given told.0 told.1
     × LeavesOctets told.0 task.octets left)
-    (RefusesFrame faults_of task.index task.link task.octets found given))
+    (RefusesFrame task.index task.link task.octets found given))
 
 -- `command`
-abbrev pub CommandsRecord : {O : Type 0} → Bool → (O → Trace) → (O → ℕ) → (O → ℕ) → Record
-    → Result (Reply × ℕ) (BookFault × ℕ)
-    → View → View → Type 0
-CommandsRecord {O} told trace faults_of puts task result v w = (found : BookView O) × (given : BookView O)
-    × Visits told trace faults_of puts found given v.turn w.turn
-    × WithPosition result (known_of_book trace faults_of puts given)
-    (λ answer. IsCommanded faults_of task.index task.octets answer found given v.numbers w.numbers)
+abbrev pub CommandsRecord : Bool → Record → Result (Reply × ℕ) (BookFault × ℕ) → View → View → Type 0
+CommandsRecord told task result v w = (found : BookView) × (given : BookView)
+    × Visits told found given v.turn w.turn
+    × WithPosition result (known_of_book given)
+    (λ answer. IsCommanded task.index task.octets answer found given v.numbers w.numbers)

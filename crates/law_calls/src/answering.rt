@@ -29,7 +29,7 @@ pub fn opening_answers<O: Site>()
     ensures { (begin : Begin) (layout : Layout) (segment : ℕ) (v w : View) (task : Record) (left : List ℕ)
         (result : Result (OpenReply × ℕ) (BookFault × ℕ)) → BeganWith O.told begin v.turn.known.opening
         → v.turn.holds ≡ false
-        → task.kind ≡ Open → w.numbers ≡ v.numbers → OpensRecord O.told O.trace O.faults O.put_faults task left result v
+        → task.kind ≡ Open → w.numbers ≡ v.numbers → OpensRecord O.told task left result v
         w
         → Answered layout begin segment v w task (opened_answer result left) }
 {}
@@ -39,7 +39,7 @@ pub fn commanding_answers<O: Site>()
     ensures { (begin : Begin) (layout : Layout) (segment : ℕ) (v w : View) (task : Record)
         (result : Result (Reply × ℕ) (BookFault × ℕ)) → BeganWith O.told begin v.turn.known.opening
         → v.turn.holds ≡ false
-        → task.kind ≡ Command → CommandsRecord O.told O.trace O.faults O.put_faults task result v w
+        → task.kind ≡ Command → CommandsRecord O.told task result v w
         → Answered layout begin segment v w task (commanded_answer result) }
 {}
 
@@ -48,6 +48,6 @@ pub fn protecting_answers<O: Site>()
     ensures { (begin : Begin) (layout : Layout) (segment : ℕ) (v w : View) (task : Record) (plan : PlanLines)
         (kept : Option Permit) (out : List ℕ) (result : Protected) → BeganWith O.told begin v.turn.known.opening
         → v.turn.holds ≡ false → v.turn.known.opening.plan ≡ plan → task.kind ≡ Protect
-        → IsProtectStep O.told O.trace O.faults O.put_faults plan task.link task.octets out kept result v w
+        → IsProtectStep O.told plan task.link task.octets out kept result v w
         → Answered layout begin segment v w task (protected_answer result out) }
 {}

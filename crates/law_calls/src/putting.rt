@@ -17,23 +17,23 @@ use sdls_outside::Site;
 
 /// Law: who took the turn and gave back the book as it was did so with any records. So are `count` and `permit`.
 pub fn visiting_works<O: Site>()
-    ensures { (begin : Begin) (v w : View) (found : BookView O) (tasks : List Record)
-        → Visited O.told O.trace O.faults O.put_faults begin found found v w → Worked begin v w tasks }
+    ensures { (begin : Begin) (v w : View) (found : BookView) (tasks : List Record)
+        → Visited O.told begin found found v w → Worked begin v w tasks }
 {}
 
 /// Law: who put octets did so with any records.
 pub fn putting_works<O: Site>()
-    ensures { (begin : Begin) (v w : View) (found given : BookView O) (tasks : List Record) (octets : List ℕ)
-        (result : Result (Unit {0}) BookFault) → Visited O.told O.trace O.faults O.put_faults begin found given v w
-        → IsPut O.told O.trace O.faults O.put_faults octets result found given → Worked begin v w tasks }
+    ensures { (begin : Begin) (v w : View) (found given : BookView) (tasks : List Record) (octets : List ℕ)
+        (result : Result (Unit {0}) BookFault) → Visited O.told begin found given v w
+        → IsPut O.told octets result found given → Worked begin v w tasks }
 {}
 
 /// Law: the first put behind a segment settles its answers, where it says that no number spent is at or above its row's
 /// mark.
 pub fn putting_settles<O: Site>()
-    ensures { (begin : Begin) (v w : View) (found given : BookView O) (octets : List ℕ)
-        (result : Result (Unit {0}) BookFault) → Visited O.told O.trace O.faults O.put_faults begin found given v w
-        → IsPut O.told O.trace O.faults O.put_faults octets result found given
-        → IsCovered MOST_KEYS v.numbers (known_of_book O.trace O.faults O.put_faults found)
+    ensures { (begin : Begin) (v w : View) (found given : BookView) (octets : List ℕ)
+        (result : Result (Unit {0}) BookFault) → Visited O.told begin found given v w
+        → IsPut O.told octets result found given
+        → IsCovered MOST_KEYS v.numbers (known_of_book found)
         → SettlesAt begin v w given.standing found.standing (length found.log) }
 {}

@@ -1,8 +1,7 @@
 -- What the units of a drill begin with.
 use Rattle.std.proofs.Common.{◌≡◌, ℕ, ◌≤◌, true, List, [], ◌∷◌, length, Result, Ok, refl, sym, ◌∙◌, ap, subst, arith}
-use Rattle.disk_journal.specs.Image.{Held, held, records, slot_count}
-use Rattle.disk_journal.specs.Initial.{initial_image}
-use Rattle.disk_journal.proofs.Beginning.{Begins, begins}
+use Rattle.unit_image.specs.Image.{Held, held, initial_image, records, slots_of, used_of}
+use Rattle.unit_image.proofs.Images.{Begins, begins}
 use Rattle.sdls_base.specs.declared.states.Direction.TheVariants.{Receive, Send}
 use Rattle.counter_table.specs.declared.view.View.{View}
 use Rattle.law_image.proofs.Planned.{plan_rules}
@@ -67,8 +66,8 @@ module _ (text : List ℕ) (lines : PlanLines) (state : State) (short : length t
         plan = same_lines begin.plan lines (sym opened.says ∙ (ap plan_of laid.plan_text ∙ read));
         start = says.left ∙ (ap restarted last ∙ starts says.first made);
         told_is = opened.began.tells;
-        slots_are = opened.began.slots refl ∙ (ap slot_count image_is ∙ sym laid.of_image.slots);
-        used_are = opened.began.used refl ∙ (ap (λ (i : List ℕ). length (records i)) image_is ∙ sym laid.of_image.used);
+        slots_are = opened.began.slots refl ∙ (ap slots_of image_is ∙ sym laid.of_image.slots);
+        used_are = opened.began.used refl ∙ (ap (λ (i : List ℕ). used_of i) image_is ∙ sym laid.of_image.used);
         plan_is = plan_rules (held (initial_image text slots)).plan begin.plan opened.says;
         rules = shown_rules (initial_image text slots) begin.start opened.shows;
       }

@@ -183,7 +183,7 @@ module _ (layout : Layout) (begin : Begin) (first now : View) (tasks : List Reco
 
   -- the binding of the frame, in the state of each epoch that is reached
   bound_so : (i epoch : ℕ) → epoch ≤ epoch_after entries
-      → protect_reply course.plan (at_epoch course.start entries epoch) 0 (clear_frame i)
+      → protect_reply course.begin.plan (at_epoch course.begin.start entries epoch) 0 (clear_frame i)
       ≡ Ok (Some (bound_to 1 (i % 4 + 1) (suite_on (i % 4)) (key_on (i % 4)) (i % 4 + 1)))
   bound_so i epoch reached =
       let none = no_epochs in

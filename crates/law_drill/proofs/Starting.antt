@@ -1,6 +1,5 @@
 -- The state that the lines of a drill's plan make, where they make one.
-use Rattle.std.proofs.Common.{◌≡◌, ℕ, ◌-◌, Bool, true, false, List, [], ◌∷◌, map, take, drop, Some, Result, Ok, Err, refl, sym, ◌∙◌, ap}
-use Rattle.std.specs.Result.{result_unwrap_or}
+use Rattle.std.proofs.Common.{◌≡◌, ℕ, ◌-◌, Bool, true, false, List, [], ◌∷◌, map, take, drop, Some, Ok, sym, ◌∙◌, ap}
 use Rattle.sha2.specs.Sha256.{sha256}
 use Rattle.sdls_base.specs.declared.change.Change.TheVariants.{Load, KeyStates, Create, Rekey, SaTo}
 use Rattle.sdls_base.specs.declared.states.Direction.{Direction}
@@ -15,7 +14,6 @@ use Rattle.sa_book.specs.declared.sa_row.SaRow.{SaRow}
 use Rattle.unit_plan.specs.declared.plan.PlanKey.{PlanKey}
 use Rattle.unit_plan.specs.declared.plan.PlanSa.{PlanSa}
 use Rattle.unit_plan.specs.declared.plan_error.PlanCause.{PlanCause}
-use Rattle.unit_plan.specs.declared.plan_error.PlanFault.{PlanFault}
 use Rattle.unit_plan.specs.PlanError.{◌>>=◌, check}
 use Rattle.unit_state.specs.declared.state.State.{State}
 use Rattle.unit_state.specs.Applied.{applied}

@@ -25,7 +25,7 @@ use Rattle.law_history.proofs.Used.{UsesNumber, used_below}
 -- ---- the entry of a record is the one of its kind
 
 seen_by : (near : ℕ → ℕ → Type 0) (course : Course) (places : List Place) (state : State) (task : Record) (entry : Entry) → IsOneOf places task
-    → task.kind ≡ Command → entry.index ≡ Some task.index → IsEntry near course.plan state (records_of places) entry → SeesFor state task.octets entry.seen
+    → task.kind ≡ Command → entry.index ≡ Some task.index → IsEntry near course.begin.plan state (records_of places) entry → SeesFor state task.octets entry.seen
 seen_by near course places state task entry served kind index (inl (inl opening)) =
     let own : Some opening.task.index ≡ Some task.index = sym (ap (λ (e : Entry). e.index) opening.entry_is) ∙ index in
     let same : opening.task ≡ task = served.only opening.task opening.there (same_Some opening.task.index task.index own) in
@@ -81,7 +81,7 @@ done_code near course task answer key number kind fits uses =
     uses.0
 
 pub answered_below : (near : ℕ → ℕ → Type 0) (course : Course) (places : List Place) (task : Record) (answer : Answer) (key number : ℕ)
-    → IsLegalHistory course.plan course.start places course.entries → IsOneOf places task → task.kind ≡ Command → Fits near course task answer
+    → IsLegalHistory course.begin.plan course.begin.start places course.entries → IsOneOf places task → task.kind ≡ Command → Fits near course task answer
     → Uses answer key number → number < mark_of (state_before course answer) key
 answered_below near course places task answer key number history served kind fits uses =
     let done = done_code near course task answer key number kind fits uses in
@@ -89,7 +89,7 @@ answered_below near course places task answer key number history served kind fit
     let entry : Entry = record_entry task.index is.seen is.change in
     let state : State = state_before course answer in
     let sees : SeesFor state task.octets is.seen =
-    seen_by (NearWord course.start course.entries (records_of places)) course places state task entry served kind refl
-    (is_entry course.plan course.start (records_of places) _ course.entries history.run (answer.position - 1) entry is.stands.there) in
+    seen_by (NearWord course.begin.start course.entries (records_of places)) course places state task entry served kind refl
+    (is_entry course.begin.plan course.begin.start (records_of places) _ course.entries history.run (answer.position - 1) entry is.stands.there) in
     used_below state task.octets is.seen (is.change, is.reply) key number sees is.step
     (used_reply answer is.reply key number is.told done.0 done.1 uses.1 uses.2)

@@ -71,7 +71,7 @@ kind_code : (near : ℕ → ℕ → Type 0) (course : Course) (task : Record) (a
     → IsCodeOf kind answer.code
 kind_code near course task answer Protect (inl is) = told_code Protect answer _ is.told refl
 kind_code near course task answer Protect (inr (inl is)) =
-    unbound_code answer (protect_reply course.plan (state_in course answer.position) task.link task.octets) is.told
+    unbound_code answer (protect_reply course.begin.plan (state_in course answer.position) task.link task.octets) is.told
 kind_code near course task answer Protect (inr (inr (inl is))) = told_code Protect answer _ is.told refl
 kind_code near course task answer Protect (inr (inr (inr any))) = any_code near course task Protect answer any
 kind_code near course task answer Open (inl is) = open_code answer is.reply is.field is.told
@@ -139,39 +139,39 @@ pub accepts_at : (course : Course) (task : Record) (answer : Answer) (key number
 accepts_at course task answer key number is accepts =
     let acceptance_is = acceptance answer is.reply is.field key number is.told accepts in
     record {
-      entry = frame_entry course.plan (state_before course answer) task.index is.reply;
+      entry = frame_entry course.begin.plan (state_before course answer) task.index is.reply;
       there = is.stands.there;
       spi = acceptance_is.spi;
-      floor = raised_floor course.plan (state_before course answer) key number;
-      change_is = ap (λ (r : OpenReply). (frame_entry course.plan (state_before course answer) task.index r).change) acceptance_is.is;
+      floor = raised_floor course.begin.plan (state_before course answer) key number;
+      change_is = ap (λ (r : OpenReply). (frame_entry course.begin.plan (state_before course answer) task.index r).change) acceptance_is.is;
     }
 
 -- two records' acceptances stand at two places
 apart : (course : Course) (one other : Record) (a b : Answer) → one.index ≢ other.index → IsOpenAnswer course one a → IsOpenAnswer course other b
     → a.position - 1 ≢ b.position - 1
 apart course one other a b differ is_one is_other same =
-    let entries : Some (frame_entry course.plan (state_before course a) one.index is_one.reply)
-    ≡ Some (frame_entry course.plan (state_before course b) other.index is_other.reply) =
+    let entries : Some (frame_entry course.begin.plan (state_before course a) one.index is_one.reply)
+    ≡ Some (frame_entry course.begin.plan (state_before course b) other.index is_other.reply) =
     sym is_one.stands.there ∙ ap (λ (k : ℕ). slice_get course.entries k) same ∙ is_other.stands.there in
     let index : Some one.index ≡ Some other.index = ap (λ (e : Entry). e.index) (same_Some _ _ entries) in
     differ (same_Some one.index other.index index)
 
 pub answers_once : (near : ℕ → ℕ → Type 0) (course : Course) (places : List Place) (one other : Record) (a b : Answer) (key number : ℕ)
-    → IsLegalHistory course.plan course.start places course.entries → one.index ≢ other.index
+    → IsLegalHistory course.begin.plan course.begin.start places course.entries → one.index ≢ other.index
     → Fits near course one a → Fits near course other b → Accepts a key number → Accepts b key number → ⊥
 answers_once near course places one other a b key number history differ fits_one fits_other accepts_one accepts_other =
     let is_one = accepting_opening near course one a key number fits_one accepts_one in
     let is_other = accepting_opening near course other b key number fits_other accepts_other in
     let at_one = accepts_at course one a key number is_one accepts_one in
     let at_other = accepts_at course other b key number is_other accepts_other in
-    let of = of_places course.plan course.start places course.entries history in
+    let of = of_places course.begin.plan course.begin.start places course.entries history in
     ⊎_elim
     (λ (same : a.position - 1 ≡ b.position - 1). apart course one other a b differ is_one is_other same)
     (λ (distinct : a.position - 1 ≢ b.position - 1). ⊎_elim
     (λ (less : a.position - 1 < b.position - 1).
-    accepted_twice course.plan course.start (records_of places) (TurnIn places) course.entries of (a.position - 1) (b.position - 1) key number less at_one at_other)
+    accepted_twice course.begin.plan course.begin.start (records_of places) (TurnIn places) course.entries of (a.position - 1) (b.position - 1) key number less at_one at_other)
     (λ (more : b.position - 1 < a.position - 1).
-    accepted_twice course.plan course.start (records_of places) (TurnIn places) course.entries of (b.position - 1) (a.position - 1) key number more at_other at_one)
+    accepted_twice course.begin.plan course.begin.start (records_of places) (TurnIn places) course.entries of (b.position - 1) (a.position - 1) key number more at_other at_one)
     (let sides : (a.position - 1 < b.position - 1) ⊎ (b.position - 1 < a.position - 1) =
     ⊎_elim (λ x. inl x) (λ x. inr (omega arith)) (cases_lt (a.position - 1) (b.position - 1)) in sides))
     (cases_eq (a.position - 1) (b.position - 1))

@@ -168,12 +168,12 @@ module _ (near wider : ℕ → ℕ → Type 0) (nearer : (key number : ℕ) → 
   abbrev new : Course
   new = grown course more faults
 
-  stays : (p : ℕ) → p ≤ length course.entries → after_first course.start (course.entries ++ more) p ≡ after_first course.start course.entries p
-  stays p low = first_stays course.start course.entries more p low
+  stays : (p : ℕ) → p ≤ length course.entries → after_first course.begin.start (course.entries ++ more) p ≡ after_first course.begin.start course.entries p
+  stays p low = first_stays course.begin.start course.entries more p low
 
   epoch_stays : (epoch : ℕ) → epoch ≤ epoch_after course.entries
-      → at_epoch course.start (course.entries ++ more) epoch ≡ at_epoch course.start course.entries epoch
-  epoch_stays epoch reached = at_epoch_more course.start course.entries more epoch reached
+      → at_epoch course.begin.start (course.entries ++ more) epoch ≡ at_epoch course.begin.start course.entries epoch
+  epoch_stays epoch reached = at_epoch_more course.begin.start course.entries more epoch reached
 
   reached_more : (epoch : ℕ) → epoch ≤ epoch_after course.entries → epoch ≤ epoch_after (course.entries ++ more)
   reached_more epoch reached = let all = epochs_more course.entries more in omega arith
@@ -181,8 +181,8 @@ module _ (near wider : ℕ → ℕ → Type 0) (nearer : (key number : ℕ) → 
   within_more : (p : ℕ) → p ≤ length course.entries → p ≤ length (course.entries ++ more)
   within_more p low = let all = length-append course.entries more in omega arith
 
-  unmarked_more : (p key number : ℕ) → p ≤ length course.entries → IsUnmarked near (after_first course.start course.entries p) key number
-      → IsUnmarked wider (after_first course.start (course.entries ++ more) p) key number
+  unmarked_more : (p key number : ℕ) → p ≤ length course.entries → IsUnmarked near (after_first course.begin.start course.entries p) key number
+      → IsUnmarked wider (after_first course.begin.start (course.entries ++ more) p) key number
   unmarked_more p key number low is =
       subst (λ (s : State). IsUnmarked wider s key number) (sym (stays p low))
       (record { is_near = nearer key number is.is_near; unmarked = is.unmarked; below = is.below })
@@ -194,7 +194,7 @@ module _ (near wider : ℕ → ℕ → Type 0) (nearer : (key number : ℕ) → 
         earlier = can.earlier;
         within = can.within;
         binding = can.binding;
-        bound = subst (λ (s : State). protect_reply course.plan s task.link task.octets ≡ Ok (Some can.binding)) (sym (stays can.earlier earlier)) can.bound;
+        bound = subst (λ (s : State). protect_reply course.begin.plan s task.link task.octets ≡ Ok (Some can.binding)) (sym (stays can.earlier earlier)) can.bound;
         number = can.number;
         is = unmarked_more p can.binding.key can.number low can.is;
       }
@@ -207,7 +207,7 @@ module _ (near wider : ℕ → ℕ → Type 0) (nearer : (key number : ℕ) → 
     from = can.from;
     to = can.to;
     field = can.field;
-    accepts = subst (λ (s : State). IsOpenReply course.plan s task.link task.octets (Accepted can.spi can.key can.number can.from can.to) can.field)
+    accepts = subst (λ (s : State). IsOpenReply course.begin.plan s task.link task.octets (Accepted can.spi can.key can.number can.from can.to) can.field)
         (sym (stays p low)) can.accepts;
     above = subst (λ (s : State). floor_of s can.key < can.number) (sym (stays p low)) can.above;
   }
@@ -269,7 +269,7 @@ module _ (near wider : ℕ → ℕ → Type 0) (nearer : (key number : ℕ) → 
     told = is.told;
     within = within_more answer.position is.within;
     slots_are = is.slots_are;
-    full = λ told. ap (λ (entries : List Entry). course.used + stored_count course.start entries) (take-append-le answer.position course.entries more is.within) ∙ is.full told;
+    full = λ told. ap (λ (entries : List Entry). course.begin.used + stored_count course.begin.start entries) (take-append-le answer.position course.entries more is.within) ∙ is.full told;
     may = append_more task.kind answer.position task is.within is.may;
   })
   any_more task answer (inr (inl is)) = inr (inl (record {
@@ -289,7 +289,7 @@ module _ (near wider : ℕ → ℕ → Type 0) (nearer : (key number : ℕ) → 
   bound_more task answer is = record {
     reached = reached_more answer.position is.reached;
     binding = is.binding;
-    bound = subst (λ (s : State). protect_reply course.plan s task.link task.octets ≡ Ok (Some is.binding)) (sym (epoch_stays answer.position is.reached)) is.bound;
+    bound = subst (λ (s : State). protect_reply course.begin.plan s task.link task.octets ≡ Ok (Some is.binding)) (sym (epoch_stays answer.position is.reached)) is.bound;
     key_is = is.key_is;
   }
 
@@ -308,7 +308,7 @@ module _ (near wider : ℕ → ℕ → Type 0) (nearer : (key number : ℕ) → 
   })
   kind_more Protect task answer (inr (inl is)) = inr (inl (record {
     reached = reached_more answer.position is.reached;
-    told = subst (λ (s : State). unbound_told (protect_reply course.plan s task.link task.octets) ≡ Some (told_by answer))
+    told = subst (λ (s : State). unbound_told (protect_reply course.begin.plan s task.link task.octets) ≡ Some (told_by answer))
         (sym (epoch_stays answer.position is.reached)) is.told;
     epoch_looked_at = is.epoch_looked_at;
   }))
@@ -320,13 +320,13 @@ module _ (near wider : ℕ → ℕ → Type 0) (nearer : (key number : ℕ) → 
   })))
   kind_more Protect task answer (inr (inr (inr any))) = inr (inr (inr (any_more task answer any)))
   kind_more Open task answer (inl is) =
-      let same = sym (before_stays answer (frame_entry course.plan (state_before course answer) task.index is.reply) is.stands) in
+      let same = sym (before_stays answer (frame_entry course.begin.plan (state_before course answer) task.index is.reply) is.stands) in
       inl (record {
         reply = is.reply;
         field = is.field;
-        replies = subst (λ (s : State). IsOpenReply course.plan s task.link task.octets is.reply is.field) same is.replies;
-        stands = subst (λ (s : State). StandsAt new answer (frame_entry course.plan s task.index is.reply)) same
-            (stands_more answer (frame_entry course.plan (state_before course answer) task.index is.reply) is.stands);
+        replies = subst (λ (s : State). IsOpenReply course.begin.plan s task.link task.octets is.reply is.field) same is.replies;
+        stands = subst (λ (s : State). StandsAt new answer (frame_entry course.begin.plan s task.index is.reply)) same
+            (stands_more answer (frame_entry course.begin.plan (state_before course answer) task.index is.reply) is.stands);
         told = is.told;
       })
   kind_more Open task answer (inr any) = inr (any_more task answer any)

@@ -29,7 +29,7 @@ pub fn acceptance_is_told()
 /// Law: the answers to two records accept no number under one key.
 pub fn answers_accept_once()
     ensures { (course : Course) (places : List Place) (one other : Record) (a b : Answer) (key number : ℕ)
-        → IsLegalHistory course.plan course.start places course.entries → one.index ≢ other.index
+        → IsLegalHistory course.begin.plan course.begin.start places course.entries → one.index ≢ other.index
         → Fits anywhere course one a → Fits anywhere course other b
         → Accepts a key number → ¬ Accepts b key number }
 {}
@@ -37,7 +37,7 @@ pub fn answers_accept_once()
 /// Law: the number that the answer to a command says was used is below the mark of its key, before the command's entry.
 pub fn answered_is_below_the_mark()
     ensures { (course : Course) (places : List Place) (task : Record) (answer : Answer) (key number : ℕ)
-        → IsLegalHistory course.plan course.start places course.entries → IsOneOf places task → task.kind ≡ Command
+        → IsLegalHistory course.begin.plan course.begin.start places course.entries → IsOneOf places task → task.kind ≡ Command
         → Fits anywhere course task answer → Uses answer key number
         → number < mark_of (state_before course answer) key }
 {}

@@ -49,7 +49,7 @@ pub fn fits_stays()
     ensures { (course : Course) (more : List Entry) (faults : ℕ) (tasks others : List Record) (task : Record)
         (answer : Answer)
         → course.faults ≤ faults → (Rose course.faults_before course.faults → more ≡ [])
-        → Fits (NearWord course.start course.entries tasks) course task answer
-        → Fits (NearWord course.start (course.entries ++ more) (tasks ++ others)) (grown course more faults) task
+        → Fits (NearWord course.begin.start course.entries tasks) course task answer
+        → Fits (NearWord course.begin.start (course.entries ++ more) (tasks ++ others)) (grown course more faults) task
         answer }
 {}

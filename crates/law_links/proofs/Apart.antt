@@ -9,14 +9,14 @@ use Rattle.law_links.proofs.Begun.{given_all}
 
 -- the unit of an answer has this device field
 abbrev IsOf : List ℕ → Given → Type 0
-IsOf device given = given.course.plan.device ≡ device
+IsOf device given = given.course.begin.plan.device ≡ device
 
 of_device : (device : List ℕ) (runs : List LifeRun) → HaveDevice device runs → All (IsOf device) (given_in runs)
 of_device device [] h = λ k d low. absurd (omega arith)
 of_device device (run ∷ runs) h =
     All-append (IsOf device) (given_of run.course (answers_begun (length run.sunk) run.deeds)) (given_in runs)
     (given_all run.course (IsOf device) (answers_begun (length run.sunk) run.deeds) (λ k d low. h 0 run (omega arith)))
-    (of_device device runs (All-tail (λ (run : LifeRun). run.course.plan.device ≡ device) run runs h))
+    (of_device device runs (All-tail (λ (run : LifeRun). run.course.begin.plan.device ≡ device) run runs h))
 
 apart_triples : (one other : Given) → AreApart one other → AreTriplesApart one other
 apart_triples one other apart octets device number a b = apart.by_octets a.key b.key octets number a.uses b.uses

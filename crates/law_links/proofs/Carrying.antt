@@ -31,16 +31,16 @@ run_tells run is =
     let fits = is.sound.answers k d low in
     let given : Given = record { course = run.course; deed = slice_index_or run.deeds k d } in
     record {
-      sends = λ code. sent (NearWord run.course.start run.course.entries (records_of run.places)) given fits code;
+      sends = λ code. sent (NearWord run.course.begin.start run.course.entries (records_of run.places)) given fits code;
       gets = λ code.
           let opening =
-          accepting_opening (NearWord run.course.start run.course.entries (records_of run.places)) run.course
+          accepting_opening (NearWord run.course.begin.start run.course.entries (records_of run.places)) run.course
           given.deed.task given.deed.answer
           given.deed.answer.key given.deed.answer.number fits (code, refl, refl) in
           let within = slice_get_within run.course.entries (given.deed.answer.position - 1) _ opening.stands.there in
-          got (NearWord run.course.start run.course.entries (records_of run.places)) given
-          (rules_along run.course.plan run.course.start (records_of run.places) (TurnIn run.places) run.course.entries
-          (of_places run.course.plan run.course.start run.places run.course.entries is.sound.history)
+          got (NearWord run.course.begin.start run.course.entries (records_of run.places)) given
+          (rules_along run.course.begin.plan run.course.begin.start (records_of run.places) (TurnIn run.places) run.course.entries
+          (of_places run.course.begin.plan run.course.begin.start run.places run.course.entries is.sound.history)
           (given.deed.answer.position - 1) (omega arith)) fits code;
     }))
 

@@ -10,9 +10,8 @@ use Rattle.sdls_base.specs.declared.states.KeyState.{KeyState}
 use Rattle.sdls_base.specs.declared.states.KeyState.TheVariants.{PreActive, Active, Deactivated, Destroyed}
 use Rattle.sdls_base.specs.declared.states.SaState.TheVariants.{Operational}
 use Rattle.std.specs.Prelude.{Some}
-use Rattle.disk_journal.specs.Forms.{Settles, StaysWithin}
-use Rattle.disk_journal.specs.Image.{Held, held}
-use Rattle.disk_journal.proofs.Becoming.{stays_opened}
+use Rattle.unit_image.specs.Image.{Held, held, Settles, StaysWithin}
+use Rattle.unit_image.proofs.Images.{stays_opened}
 use Rattle.unit_plan.specs.declared.plan.PlanKey.{PlanKey}
 use Rattle.unit_plan.specs.declared.plan.PlanSa.{PlanSa}
 use Rattle.unit_plan.specs.declared.plan_error.PlanCause.{PlanCause}
@@ -161,13 +160,13 @@ shown_before start image at_start state shows settles shown =
 
 module _ (once : ShowsOnce) (device : List ℕ) where
   from_start : (run : LifeRun) → IsRun run → AllHave device run.start → (p : ℕ)
-      → (restarted (after_first run.course.start run.course.entries p)).device ≡ device
+      → (restarted (after_first run.course.begin.start run.course.entries p)).device ≡ device
   from_start run is have p =
-      after_device run.course.start (take p run.course.entries) ∙ have run.course.start (inl is.shows)
+      after_device run.course.begin.start (take p run.course.entries) ∙ have run.course.begin.start (inl is.shows)
 
   left_have : (run : LifeRun) → IsRun run → AllHave device run.start → AllHave device run.image
   left_have run is have state shown = elim is.moment.image_shows [
-    | inl opening ↦ have state (shown_before run.start run.image run.course.start state is.shows opening.1 shown)
+    | inl opening ↦ have state (shown_before run.start run.image run.course.begin.start state is.shows opening.1 shown)
     | inr served ↦ elim shown [
       | inl shows ↦
           ap (λ (s : State). s.device) (sym (once run.image _ state served.shows.shows shows))
@@ -178,17 +177,17 @@ module _ (once : ShowsOnce) (device : List ℕ) where
     ]
   ]
 
-  run_device : (run : LifeRun) → IsRun run → AllHave device run.start → run.course.plan.device ≡ device
+  run_device : (run : LifeRun) → IsRun run → AllHave device run.start → run.course.begin.plan.device ≡ device
   run_device run is have =
-      sym (shown_device run.start run.course.start run.course.plan is.shows is.says)
-      ∙ have run.course.start (inl is.shows)
+      sym (shown_device run.start run.course.begin.start run.course.begin.plan is.shows is.says)
+      ∙ have run.course.begin.start (inl is.shows)
 
   follow_device : (image : List ℕ) (runs : List LifeRun) → AllHave device image → FollowFrom image runs
       → HaveDevice device runs
-  follow_device image [] have follow = All-nil (λ (run : LifeRun). run.course.plan.device ≡ device)
+  follow_device image [] have follow = All-nil (λ (run : LifeRun). run.course.begin.plan.device ≡ device)
   follow_device image (run ∷ runs) have (start, is, follow) =
       let here : AllHave device run.start = subst (AllHave device) (sym start) have in
-      All-cons (λ (run : LifeRun). run.course.plan.device ≡ device) run runs (run_device run is here)
+      All-cons (λ (run : LifeRun). run.course.begin.plan.device ≡ device) run runs (run_device run is here)
       (follow_device run.image runs (left_have run is here) follow)
 
 pub one_device : ShowsOnce → (image : List ℕ) (runs : List LifeRun) (device : List ℕ) → IsLife image runs

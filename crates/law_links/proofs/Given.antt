@@ -65,7 +65,7 @@ module _ (near : ℕ → ℕ → Type 0) (course : Course) (task : Record) (answ
       → IsProtected near course task answer
   protected_by Protect (inl h) of = h
   protected_by Protect (inr (inl h)) of =
-      absurd (not_unbound (protect_reply course.plan (state_in course answer.position) task.link task.octets) h.told)
+      absurd (not_unbound (protect_reply course.begin.plan (state_in course answer.position) task.link task.octets) h.told)
   protected_by Protect (inr (inr (inl h))) of = absurd (other_code _ h.told refl)
   protected_by Protect (inr (inr (inr (inl h)))) of = absurd (other_code _ h.told refl)
   protected_by Protect (inr (inr (inr (inr (inl h))))) of = absurd (other_code _ h.tells.told refl)
@@ -267,12 +267,12 @@ accepts_octets : (given : Given) (line : Link) (room : List ℕ) (row : SaRow) (
     → KeepsRules (state_before given.course given.deed.answer)
     → given.deed.answer.code ≡ 1 → given.deed.answer.key ≡ b.key
     → association_in (state_before given.course given.deed.answer) room ≡ Some row
-    → binding_of given.course.plan (state_before given.course given.deed.answer) line row ≡ Some b
+    → binding_of given.course.begin.plan (state_before given.course given.deed.answer) line row ≡ Some b
     → AcceptsOctets given given.deed.answer.key b.schedule given.deed.answer.number
 accepts_octets given line room row b rules code key named bound =
     let state : State = state_before given.course given.deed.answer in
     let (held, own, there, bytes) =
-    held_by given.course.plan (state_before given.course given.deed.answer) line row b bound in
+    held_by given.course.begin.plan (state_before given.course given.deed.answer) line row b bound in
     let keeps = named_keeps (state_before given.course given.deed.answer) room row rules named in
     let long = key_octets (state_before given.course given.deed.answer) row b.key held rules keeps.key own there in
     record {
@@ -290,12 +290,12 @@ got near given rules fits code =
     accepting_opening near given.course given.deed.task given.deed.answer given.deed.answer.key
     given.deed.answer.number fits (code, refl, refl) in
     let state : State = state_before given.course given.deed.answer in
-    let found : IsFound given.course.plan (state_before given.course given.deed.answer) given.deed.task.link
+    let found : IsFound given.course.begin.plan (state_before given.course given.deed.answer) given.deed.task.link
     given.deed.task.octets given.deed.answer.key
     given.deed.answer.number given.deed.answer.body =
-    found_by given.course.plan (state_before given.course given.deed.answer) given.deed.task.link given.deed.task.octets
+    found_by given.course.begin.plan (state_before given.course given.deed.answer) given.deed.task.link given.deed.task.octets
     given.deed.answer code is.reply is.field is.told
-    (reply_finds given.course.plan (state_before given.course given.deed.answer) given.deed.task.link
+    (reply_finds given.course.begin.plan (state_before given.course given.deed.answer) given.deed.task.link
     given.deed.task.octets is.field is.reply is.replies) in
     record {
       binding = found.binding;

@@ -30,9 +30,9 @@ lower state key m n low taken = record {
 -- ---- in one run
 
 module _ (course : Course) (places : List Place)
-    (history : IsLegalHistory course.plan course.start places course.entries) where
-  abbrev of : OfRun course.plan course.start (records_of places) (TurnIn places) course.entries
-  of = of_places course.plan course.start places course.entries history
+    (history : IsLegalHistory course.begin.plan course.begin.start places course.entries) where
+  abbrev of : OfRun course.begin.plan course.begin.start (records_of places) (TurnIn places) course.entries
+  of = of_places course.begin.plan course.begin.start places course.entries history
 
   places_ascend : (p q key m n : ℕ) → AcceptsAt course.entries p key m → AcceptsAt course.entries q key n → p < q
       → m < n
@@ -40,9 +40,9 @@ module _ (course : Course) (places : List Place)
       ⊎_elim (λ (below : m < n). below)
       (λ (above : n ≤ m). absurd (
       let within : q < length course.entries = slice_get_within course.entries q other.entry other.there in
-      not_taken_at course.plan course.start (records_of places) (TurnIn places) course.entries of q key n other
-      (lower (after_first course.start course.entries q) key m n above
-      (accepted_taken course.plan course.start (records_of places) (TurnIn places) course.entries of p q key m one less
+      not_taken_at course.begin.plan course.begin.start (records_of places) (TurnIn places) course.entries of q key n other
+      (lower (after_first course.begin.start course.entries q) key m n above
+      (accepted_taken course.begin.plan course.begin.start (records_of places) (TurnIn places) course.entries of p q key m one less
       (omega arith)))))
       (cases_lt m n)
 
@@ -71,7 +71,7 @@ module _ (key : ℕ) where
       (record { course = run.course; deed = e }))
       (length run.sunk) run.deeds (λ j e under.
       deeds_ascend run.course run.places is.sound.history
-      (NearWord run.course.start run.course.entries (records_of run.places))
+      (NearWord run.course.begin.start run.course.entries (records_of run.places))
       (slice_index_or run.deeds k d) (slice_index_or run.deeds j e) (is.sound.answers k d low)
       (is.sound.answers j e under) key))))
 
@@ -87,7 +87,7 @@ module _ (key : ℕ) where
         (λ (d : Deed). AcceptsBelow key (slice_index_or given k g) (record { course = run.course; deed = d }))
         (length run.sunk) run.deeds
         (λ j d under m n a b.
-        let old = (left.known run.course.start (inl is.shows) k g low).floored key m a in
+        let old = (left.known run.course.begin.start (inl is.shows) k g low).floored key m a in
         let new = is.sound.accepted_above j d under key n b in
         omega arith))
 

@@ -31,19 +31,19 @@ pub record IsDataField (binding : Binding) (clear field : List ℕ) : Type 0 whe
 
 -- the binding that the checks of a frame to be protected found, in the state of the epoch that the answer tells
 abbrev pub IsSentUnder : Given → Binding → Type 0
-IsSentUnder given binding = protect_reply given.course.plan (state_in given.course given.deed.answer.position)
+IsSentUnder given binding = protect_reply given.course.begin.plan (state_in given.course given.deed.answer.position)
     given.deed.task.link given.deed.task.octets
     ≡ Ok (Some binding)
 
 -- the binding of the association that a frame to be opened names, in the state before its own entry
 pub record IsReceivedUnder (given : Given) (binding : Binding) : Type 0 where
   pub line : Link
-  pub has_line : link_of given.course.plan.links given.deed.task.link ≡ Some line
+  pub has_line : link_of given.course.begin.plan.links given.deed.task.link ≡ Some line
   pub room : List ℕ
   pub has_room : HasRoom line.layout given.deed.task.octets room
   pub row : SaRow
   pub named : association_in (state_before given.course given.deed.answer) room ≡ Some row
-  pub bound : binding_of given.course.plan (state_before given.course given.deed.answer) line row ≡ Some binding
+  pub bound : binding_of given.course.begin.plan (state_before given.course given.deed.answer) line row ≡ Some binding
 
 -- the association that the one frame names agrees with the one that protected the other
 abbrev pub BindingsAgree : Given → Given → Type 0

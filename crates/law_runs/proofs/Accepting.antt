@@ -11,7 +11,7 @@ use Rattle.law_history.proofs.Along.{accepted_above, of_places}
 use Rattle.law_history.proofs.Codes.{accepting_opening, accepts_at, answers_once}
 use Rattle.run_promise.specs.Deed.{Deed, Differ}
 
-module _ (near : ℕ → ℕ → Type 0) (course : Course) (places : List Place) (history : IsLegalHistory course.plan course.start places course.entries) where
+module _ (near : ℕ → ℕ → Type 0) (course : Course) (places : List Place) (history : IsLegalHistory course.begin.plan course.begin.start places course.entries) where
   pub accepts_differ : (deeds : List Deed) → AllPairs (λ (d e : Deed). d.task.index < e.task.index) deeds
       → All (λ (d : Deed). Fits near course d.task d.answer) deeds → AllPairs (Differ Accepts) deeds
   accepts_differ deeds up fit i j x lt within key number one other =
@@ -19,9 +19,9 @@ module _ (near : ℕ → ℕ → Type 0) (course : Course) (places : List Place)
       (slice_index_or deeds i x).answer (slice_index_or deeds j x).answer key number history
       (λ same. let l = up i j x lt within in omega arith) (fit i x (omega arith)) (fit j x within) one other
 
-  pub accepts_above : restarted course.start ≡ course.start → (d : Deed) → Fits near course d.task d.answer → (key number : ℕ)
-      → Accepts d.answer key number → floor_of course.start key < number
+  pub accepts_above : restarted course.begin.start ≡ course.begin.start → (d : Deed) → Fits near course d.task d.answer → (key number : ℕ)
+      → Accepts d.answer key number → floor_of course.begin.start key < number
   accepts_above left d fit key number accepts =
-      accepted_above course.plan course.start (records_of places) (TurnIn places) course.entries
-      (of_places course.plan course.start places course.entries history) left (d.answer.position - 1) key number
+      accepted_above course.begin.plan course.begin.start (records_of places) (TurnIn places) course.entries
+      (of_places course.begin.plan course.begin.start places course.entries history) left (d.answer.position - 1) key number
       (accepts_at course d.task d.answer key number (accepting_opening near course d.task d.answer key number fit accepts) accepts)

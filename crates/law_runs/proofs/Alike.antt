@@ -9,7 +9,7 @@ use Rattle.std.proofs.lemmas.List.{ext_get_or, length-take, take-append-drop, ta
 use Rattle.sdls_base.specs.declared.TheConstants.{MOST_KEYS}
 use Rattle.sdls_base.specs.declared.entry.Entry.{Entry}
 use Rattle.sdls_outside.specs.Faults.{Rose}
-use Rattle.disk_journal.specs.Image.{held, records, slot_count}
+use Rattle.unit_image.specs.Image.{held, slots_of, used_of}
 use Rattle.record_io.specs.declared.answers.Answer.{Answer}
 use Rattle.record_io.specs.declared.code.TheConstants.{NO_MEMORY, JOURNAL_FULL, SITE_FAULT, STOPPED}
 use Rattle.record_io.specs.declared.status.TheConstants as status
@@ -206,18 +206,18 @@ module _ (state : State) (base due : List Entry) (used slots : ℕ)
 -- what a call began with, by what its caller sees
 began_with : Bool → List ℕ → PlanLines → State → Begin
 began_with told image plan state =
-    record { rows = MOST_KEYS; told = told; plan = plan; start = state; slots = slot_count image; used = length (records image) }
+    record { rows = MOST_KEYS; told = told; plan = plan; start = state; slots = slots_of image; used = used_of image }
 
 -- two calls over one image began with the same
-pub began_alike : (call other : CallSeen) (plan : PlanLines) (state : State) → IsTrue call.site.told → IsTrue other.site.told
+pub began_alike : (call other : CallSeen) (plan : PlanLines) (state : State) → IsTrue call.told → IsTrue other.told
     → image_at_entry other ≡ image_at_entry call → begin_of other plan state ≡ begin_of call plan state
 unfolding began_with
 began_alike call other plan state told tells image = ap (λ (b : Bool). began_with b (image_at_entry other) plan state) (tells ∙ sym told)
-    ∙ ap (λ (i : List ℕ). began_with call.site.told i plan state) image
+    ∙ ap (λ (i : List ℕ). began_with call.told i plan state) image
 
 module _ (call other : CallSeen) (run : RunEnds call) (again : RunEnds other) (plan : PlanLines) (state : State)
     (still : IsUnfailed call) (restill : IsUnfailed other)
-    (each : length run.account.answers ≡ length run.account.handled) (reach : length again.account.answers ≡ length again.account.handled) (told : IsTrue call.site.told) (tells : IsTrue other.site.told)
+    (each : length run.account.answers ≡ length run.account.handled) (reach : length again.account.answers ≡ length again.account.handled) (told : IsTrue call.told) (tells : IsTrue other.told)
     (image : image_at_entry other ≡ image_at_entry call) (shows : ShowsAtEntry call plan state)
     (handled : again.account.handled ≡ run.account.handled)
     (one : OneLane (records_of run.account.handled)) (fails : NoneFails run.account.answers) (refails : NoneFails again.account.answers)
@@ -312,10 +312,10 @@ module _ (call other : CallSeen) (run : RunEnds call) (again : RunEnds other) (p
         ∙ ap (λ (l : List Entry). base ++ l) (q.are_due ∙ ap (take q.count) same_due)
 
     abbrev used : ℕ
-    used = length (records (image_at_entry call))
+    used = used_of (image_at_entry call)
 
     abbrev slots : ℕ
-    slots = slot_count (image_at_entry call)
+    slots = slots_of (image_at_entry call)
 
     refused : r.count < length due → (used + stored_count state (base ++ take r.count due) ≡ slots) ⊎ (length (base ++ take r.count due) ≡ MOST_ENTRIES)
     refused few = by_cause (r.refused few)
@@ -333,7 +333,7 @@ module _ (call other : CallSeen) (run : RunEnds call) (again : RunEnds other) (p
             → (used + stored_count state (base ++ take q.count due) ≡ slots) ⊎ (length (base ++ take q.count due) ≡ MOST_ENTRIES)
         by_cause (inl rose) = absurd (restill rose)
         by_cause (inr (inl full)) = inl (subst (λ (l : List Entry). used + stored_count state l ≡ slots) others_are
-            (subst (λ (i : List ℕ). length (records i) + stored_count state other.entries ≡ slot_count i) image full))
+            (subst (λ (i : List ℕ). used_of i + stored_count state other.entries ≡ slots_of i) image full))
         by_cause (inr (inr long)) = inr (ap length (sym others_are) ∙ long)
 
     room : used + stored_count state (base ++ take r.count due) ≤ slots
@@ -341,7 +341,7 @@ module _ (call other : CallSeen) (run : RunEnds call) (again : RunEnds other) (p
 
     reroom : used + stored_count state (base ++ take q.count due) ≤ slots
     reroom = subst (λ (l : List Entry). used + stored_count state l ≤ slots) others_are
-        (subst (λ (i : List ℕ). length (records i) + stored_count state other.entries ≤ slot_count i) image (q.room restill))
+        (subst (λ (i : List ℕ). used_of i + stored_count state other.entries ≤ slots_of i) image (q.room restill))
 
     releases_stored : (count : ℕ) → stored_count (after state base) (take count due) ≡ length (take count due)
     releases_stored count = stored (after state base) 0 r.words count

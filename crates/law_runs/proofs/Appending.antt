@@ -18,12 +18,22 @@ seen_near near far more k (seens.Number n) h = more k n h
 seen_near near far more k (seens.Exhausted n) h = more k n h
 
 module _ (near far : ℕ → ℕ → Type 0) (more : (k n : ℕ) → near k n → far k n) (plan : PlanLines) (start : State) (es : List Entry)
-    (slots used before faults slots' used' before' faults' : ℕ) (told told' : Bool) where
+    (rows rows' slots used before faults slots' used' before' faults' : ℕ) (told told' : Bool) where
   abbrev old : Course
-  old = record { plan = plan; start = start; slots = slots; used = used; told = told; faults_before = before; faults = faults; entries = es }
+  old = record {
+    begin = record { rows = rows; told = told; plan = plan; start = start; slots = slots; used = used };
+    faults_before = before;
+    faults = faults;
+    entries = es;
+  }
 
   abbrev new : Course
-  new = record { plan = plan; start = start; slots = slots'; used = used'; told = told'; faults_before = before'; faults = faults'; entries = es }
+  new = record {
+    begin = record { rows = rows'; told = told'; plan = plan; start = start; slots = slots'; used = used' };
+    faults_before = before';
+    faults = faults';
+    entries = es;
+  }
 
   unmarked : (state : State) (key number : ℕ) → IsUnmarked near state key number → IsUnmarked far state key number
   unmarked state key number h = record { is_near = more key number h.is_near; unmarked = h.unmarked; below = h.below }

@@ -71,9 +71,8 @@ module _ (begin : Begin) (first now : View) (places : List Place) (deeds : List 
       (rules_at_end begin first now places deeds is_opened d whole plan_is started))
 
   -- the run is sound
-  pub sound_run : IsSound begin course places deeds
+  pub sound_run : IsSound course places deeds
   sound_run = record {
-    begins = refl;
     history = history;
     answers = fit;
     pairs = pairs begin first now (records_of places) deeds is_opened d whole rows started kept ascend;
@@ -89,7 +88,7 @@ module _ (begin : Begin) (first now : View) (places : List Place) (deeds : List 
   }
 
   -- and what covers an answer covers it to the end, over the releases
-  pub covered_run : StaysCovered begin course deeds
+  pub covered_run : StaysCovered course deeds
   unfolding legal_run
-  covered_run = stays_covered begin course (records_of places) (TurnIn places) (of_places begin.plan begin.start places (entries_in now ++ releases) history) deeds
+  covered_run = stays_covered course (records_of places) (TurnIn places) (of_places begin.plan begin.start places (entries_in now ++ releases) history) deeds
       (below_releases begin first now (records_of places) deeds is_opened d whole rows started kept words stand releases are)

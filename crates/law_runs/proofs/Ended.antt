@@ -23,8 +23,9 @@ use Rattle.unit_book.specs.Log.{sunk_between}
 use Rattle.law_workers.proofs.Histories.{entries_both}
 use Rattle.run_promise.specs.declared.end.RunEnd.{RunEnd}
 use Rattle.run_promise.specs.declared.end.RunEnd.TheVariants as ends
-use Rattle.run_promise.specs.Call.{CallSeen, ShowsAtEntry, SiteSeen, sunk_since}
-use Rattle.run_promise.specs.Account.{Account, SaysSiteFailed, answers_of_first, begin_of, course_of, deeds_from, due_octets, end_answer, end_octets, end_status}
+use Rattle.run_promise.specs.Call.{CallSeen, ShowsAtEntry, sunk_since}
+use Rattle.run_promise.specs.Site.{SiteSeen}
+use Rattle.run_promise.specs.Account.{Account, SaysSiteFailed, answers_of_first, course_of, deeds_from, due_octets, end_answer, end_octets, end_status}
 use Rattle.run_promise.specs.Causes.{CameBy, PutsDue, PutsFront, TellsEnd}
 use Rattle.law_runs.specs.Doing.{IsFounded, octets_put}
 use Rattle.law_runs.specs.Coming.{HasBroken, HasPut, StopsAtFullHistory, PutsBy, EndsReading}
@@ -53,8 +54,8 @@ use Rattle.unit_image.specs.Shows.{Shows, ShowsNone}
 use Rattle.unit_plan.specs.declared.plan_error.PlanFault.{PlanFault}
 use Rattle.run_promise.specs.Stored.{stored_count}
 use Rattle.unit_plan.specs.PlanLines.{PlanLines}
-use Rattle.disk_journal.specs.Image.{records, slot_count}
-use Rattle.disk_journal.proofs.Images.{records_of as image_records}
+use Rattle.unit_image.specs.Image.{slots_of, used_of}
+use Rattle.unit_image.proofs.Images.{records_of as image_records}
 use Rattle.run_promise.specs.Fits.{MayAppend, Course, Fits}
 use Rattle.record_io.specs.declared.kinds.RecordKind.TheVariants.{Protect}
 use Rattle.law_runs.proofs.Assembled.{sound_run, covered_run}
@@ -148,15 +149,12 @@ between_front base due p between =
 same_ok : (one other : PlanLines) → ◌≡◌ {A = Result PlanLines PlanFault} (Ok one) (Ok other) → one ≡ other
 same_ok one other h = let t = h in cc
 
-module _ {O : Type 0} (told : Bool) (trace : O → Trace) (faults puts : O → ℕ) (site after : O) (source source_after : SourceSeen)
-    (first now : View) (came : RunEnd) (book : BookView O) (words : List ℕ) (entries : List Entry) (status : ℕ)
-    (ran : Ran told trace faults puts site source source_after first now came book words)
-    (end : Finishes told trace faults puts (faults site) words came book after entries status) where
-  abbrev pub seen : O → SiteSeen
-  seen o = record { told = told; trace = trace o; faults = faults o; put_faults = puts o }
-
+module _ (told : Bool) (site after : SiteSeen) (source source_after : SourceSeen)
+    (first now : View) (came : RunEnd) (book : BookView) (words : List ℕ) (entries : List Entry) (status : ℕ)
+    (ran : Ran told site source source_after first now came book words)
+    (end : Finishes told site.faults words came book after entries status) where
   abbrev pub call : CallSeen
-  call = record { source = source; source_after = source_after; site = seen site; site_after = seen after; status = status; entries = entries }
+  call = record { source = source; source_after = source_after; told = told; site = site; site_after = after; status = status; entries = entries }
 
   abbrev pub account : Account
   account = record {
@@ -167,47 +165,47 @@ module _ {O : Type 0} (told : Bool) (trace : O → Trace) (faults puts : O → �
     part = ran.come.part;
     handled = places_of ran.come.of;
     answers = ran.come.answers;
-    last = faults book.site;
+    last = book.site.faults;
   }
 
-  last_site : O
+  last_site : SiteSeen
   last_site = end.last.site
 
   pub last_opened : end.last.opened ≡ book.opened
   last_opened = elim end.puts_end [
-    | inl broken ↦ ap (λ (b : BookView O). b.opened) broken.1 ∙ end.goes_on.opened
-    | inr put ↦ ap (λ (b : BookView O). b.opened) put.1.made ∙ end.goes_on.opened
+    | inl broken ↦ ap (λ (b : BookView). b.opened) broken.1 ∙ end.goes_on.opened
+    | inr put ↦ ap (λ (b : BookView). b.opened) put.1.made ∙ end.goes_on.opened
   ]
 
   pub last_entries : entries_of end.last.log ≡ entries_of end.released.log
   last_entries = elim end.puts_end [
-    | inl broken ↦ ap (λ (b : BookView O). entries_of b.log) broken.1
-    | inr put ↦ ap (λ (b : BookView O). entries_of b.log) put.1.made
-        ∙ entries_both end.released.log (lines.Piece (sunk_between (trace end.released.site) (trace end.last.site)) ∷ [])
+    | inl broken ↦ ap (λ (b : BookView). entries_of b.log) broken.1
+    | inr put ↦ ap (λ (b : BookView). entries_of b.log) put.1.made
+        ∙ entries_both end.released.log (lines.Piece (sunk_between end.released.site.trace end.last.site.trace) ∷ [])
         ∙ append-nil (entries_of end.released.log)
   ]
 
   pub entries_known : entries ≡ entries_of end.released.log
   entries_known = end.entries_are ∙ last_entries
 
-  pub last_later : faults end.released.site ≤ faults end.last.site
+  pub last_later : end.released.site.faults ≤ end.last.site.faults
   last_later = elim end.puts_end [
-    | inl broken ↦ (let a = ap (λ (b : BookView O). faults b.site) broken.1 in omega arith)
+    | inl broken ↦ (let a = ap (λ (b : BookView). b.site.faults) broken.1 in omega arith)
     | inr put ↦ put.1.later
   ]
 
-  after_faults : faults after ≡ faults end.last.site
-  after_faults = ap faults end.site_is
+  after_faults : after.faults ≡ end.last.site.faults
+  after_faults = ap (λ (s : SiteSeen). s.faults) end.site_is
 
-  pub sunk_is : IsTrue told → (trace after).now.sunk ≡ (trace site).now.sunk ++ pieces_of end.last.log
-  sunk_is is_told = ap (λ (o : O). (trace o).now.sunk) end.site_is ∙ (end.kept.history is_told).sunk
-      ∙ ap (λ (l : List ℕ). l ++ pieces_of end.last.log) (ap (λ (o : O). (trace o).now.sunk) last_opened ∙ ran.sunk is_told)
+  pub sunk_is : IsTrue told → after.trace.now.sunk ≡ site.trace.now.sunk ++ pieces_of end.last.log
+  sunk_is is_told = ap (λ (o : SiteSeen). o.trace.now.sunk) end.site_is ∙ (end.kept.history is_told).sunk
+      ∙ ap (λ (l : List ℕ). l ++ pieces_of end.last.log) (ap (λ (o : SiteSeen). o.trace.now.sunk) last_opened ∙ ran.sunk is_told)
 
   released_put : pieces_of end.released.log ≡ octets_put now
-  released_put = released_pieces faults words book end.released end.answer end.releases ∙ ap pieces_of ran.log
+  released_put = released_pieces words book end.released end.answer end.releases ∙ ap pieces_of ran.log
 
-  has_put : (c : RunEnd) → c ≢ ends.PutFailed → PutsBy (begin_by told (trace site).now.image book.plan book.start) now (puts site) (puts book.site) ran.come.answers c
-      → HasPut (begin_by told (trace site).now.image book.plan book.start) now (puts site) (puts book.site) ran.come.answers
+  has_put : (c : RunEnd) → c ≢ ends.PutFailed → PutsBy (begin_by told site.trace.now.image book.plan book.start) now site.put_faults book.site.put_faults ran.come.answers c
+      → HasPut (begin_by told site.trace.now.image book.plan book.start) now site.put_faults book.site.put_faults ran.come.answers
   has_put ends.Ended other h = h
   has_put (ends.Malformed offset) other h = h
   has_put (ends.SourceFault count) other h = h
@@ -217,29 +215,29 @@ module _ {O : Type 0} (told : Bool) (trace : O → Trace) (faults puts : O → �
   has_put ends.SessionFull other h = h
   has_put ends.PutFailed other h = absurd (other refl)
 
-  pub has_broken : came ≡ ends.PutFailed → HasBroken (begin_by told (trace site).now.image book.plan book.start) now (puts site) (puts book.site) ran.come.answers
-  has_broken is = subst (PutsBy (begin_by told (trace site).now.image book.plan book.start) now (puts site) (puts book.site) ran.come.answers) is ran.come.put
+  pub has_broken : came ≡ ends.PutFailed → HasBroken (begin_by told site.trace.now.image book.plan book.start) now site.put_faults book.site.put_faults ran.come.answers
+  has_broken is = subst (PutsBy (begin_by told site.trace.now.image book.plan book.start) now site.put_faults book.site.put_faults ran.come.answers) is ran.come.put
 
   -- the octets of End, by the entries that the released book has
   end_is : answer_octets (end_answer end.end (length (entries_of end.released.log))) ≡ end_octets call end.end
   end_is = ap (λ (es : List Entry). answer_octets (end_answer end.end (length es))) (sym entries_known)
 
-  since : IsTrue told → sunk_since call (trace after).now.sunk ≡ pieces_of end.last.log
-  since is_told = ap (drop (length (trace site).now.sunk)) (sunk_is is_told) ∙ drop-append_seam (trace site).now.sunk (pieces_of end.last.log)
+  since : IsTrue told → sunk_since call after.trace.now.sunk ≡ pieces_of end.last.log
+  since is_told = ap (drop (length site.trace.now.sunk)) (sunk_is is_told) ∙ drop-append_seam site.trace.now.sunk (pieces_of end.last.log)
 
   more_put : length (octets_put now) ≤ length (pieces_of end.last.log)
   more_put = elim end.puts_end [
-    | inl broken ↦ (let a = ap length (ap (λ (b : BookView O). pieces_of b.log) broken.1 ∙ released_put) in omega arith)
+    | inl broken ↦ (let a = ap length (ap (λ (b : BookView). pieces_of b.log) broken.1 ∙ released_put) in omega arith)
     | inr put ↦ (
-        let a = ap length (ap (λ (b : BookView O). pieces_of b.log) put.1.made ∙ pieces_more end.released.log (sunk_between (trace end.released.site) (trace end.last.site))) in
+        let a = ap length (ap (λ (b : BookView). pieces_of b.log) put.1.made ∙ pieces_more end.released.log (sunk_between end.released.site.trace end.last.site.trace)) in
         let b = ap length released_put in
-        let c = length-append (pieces_of end.released.log) (sunk_between (trace end.released.site) (trace end.last.site)) in omega arith
+        let c = length-append (pieces_of end.released.log) (sunk_between end.released.site.trace end.last.site.trace) in omega arith
         )
   ]
 
   -- all answers of the segments before that of a record that was handled were put
   earlier_so : IsTrue told → (place : Place) → Contains (places_of ran.come.of) place
-      → length (answers_octets (answers_of_first place.segment (places_of ran.come.of) ran.come.answers)) ≤ length (sunk_since call (trace after).now.sunk)
+      → length (answers_octets (answers_of_first place.segment (places_of ran.come.of) ran.come.answers)) ≤ length (sunk_since call after.trace.now.sunk)
   earlier_so is_told place there =
       let a = ran.come.earlier is_told place there in
       let b = ap length (since is_told) in
@@ -249,8 +247,8 @@ module _ {O : Type 0} (told : Bool) (trace : O → Trace) (faults puts : O → �
   puts_answers = elim end.puts_end [
     | inl broken ↦
         let h = has_broken broken.0 in
-        let a : puts after ≡ puts end.last.site = ap puts end.site_is in
-        let b : puts end.last.site ≡ puts end.released.site = ap (λ (b : BookView O). puts b.site) broken.1 in
+        let a : after.put_faults ≡ end.last.site.put_faults = ap (λ (s : SiteSeen). s.put_faults) end.site_is in
+        let b : end.last.site.put_faults ≡ end.released.site.put_faults = ap (λ (b : BookView). b.site.put_faults) broken.1 in
         let c = end.same_puts in
         let d = h.one_failed in
         inr (record {
@@ -259,45 +257,45 @@ module _ {O : Type 0} (told : Bool) (trace : O → Trace) (faults puts : O → �
           rose = let r = h.rose in let e = ran.known in let f = ran.known_first in let g = ran.same_faults in let i = end.goes_on.later in
               let j = last_later in let k = after_faults in omega arith;
           sunk = λ is_told.
-              let pieces : pieces_of end.last.log ≡ octets_put now = ap (λ (b : BookView O). pieces_of b.log) broken.1 ∙ released_put in
-              subst (Between (trace site).now.sunk ((trace site).now.sunk ++ due_octets call account))
-              (sym (sunk_is is_told ∙ ap (λ (l : List ℕ). (trace site).now.sunk ++ l) pieces))
-              (front_between (trace site).now.sunk (answers_octets ran.come.answers) (end_octets call end.end) (octets_put now) (h.octets is_told));
+              let pieces : pieces_of end.last.log ≡ octets_put now = ap (λ (b : BookView). pieces_of b.log) broken.1 ∙ released_put in
+              subst (Between site.trace.now.sunk (site.trace.now.sunk ++ due_octets call account))
+              (sym (sunk_is is_told ∙ ap (λ (l : List ℕ). site.trace.now.sunk ++ l) pieces))
+              (front_between site.trace.now.sunk (answers_octets ran.come.answers) (end_octets call end.end) (octets_put now) (h.octets is_told));
           earlier = earlier_so;
         })
     | inr put ↦ go put.1.put put.1 (has_put came put.0 ran.come.put) put.1.counted put.1.sinks put.1.status_is
   ]
     where
-      go : (r : Result (Unit {0}) BookFault) → IsEndPut told trace faults puts end.end end.released end.last status
-          → HasPut (begin_by told (trace site).now.image book.plan book.start) now (puts site) (puts book.site) ran.come.answers
-          → puts end.last.site ≡ sites.after_put r (puts end.released.site)
-          → (IsTrue told → sites.Puts (answer_octets (end_answer end.end (length (entries_of end.released.log)))) r (trace end.released.site) (trace end.last.site))
-          → MatchResult r (λ _. (status ≡ end_status end.end) × (faults end.last.site ≡ faults end.released.site))
-          (λ _. (status ≡ SITE_FAULT) × Rose (faults end.released.site) (faults end.last.site))
+      go : (r : Result (Unit {0}) BookFault) → IsEndPut told end.end end.released end.last status
+          → HasPut (begin_by told site.trace.now.image book.plan book.start) now site.put_faults book.site.put_faults ran.come.answers
+          → end.last.site.put_faults ≡ sites.after_put r end.released.site.put_faults
+          → (IsTrue told → sites.Puts (answer_octets (end_answer end.end (length (entries_of end.released.log)))) r end.released.site.trace end.last.site.trace)
+          → MatchResult r (λ _. (status ≡ end_status end.end) × (end.last.site.faults ≡ end.released.site.faults))
+          (λ _. (status ≡ SITE_FAULT) × Rose end.released.site.faults end.last.site.faults)
           → PutsDue call account ⊎ PutsFront call account
       go (Ok done) p h counted sinks is =
-          let a : puts after ≡ puts end.last.site = ap puts end.site_is in
+          let a : after.put_faults ≡ end.last.site.put_faults = ap (λ (s : SiteSeen). s.put_faults) end.site_is in
           let c = end.same_puts in let d = h.none_failed in
           inl (record {
             none_failed = omega arith;
             status_is = is.0;
             sunk = λ is_told.
-                let piece : sunk_between (trace end.released.site) (trace end.last.site) ≡ answer_octets (end_answer end.end (length (entries_of end.released.log))) =
-                ap (drop (length (trace end.released.site).now.sunk)) (sinks is_told).1
-                ∙ drop-append_seam (trace end.released.site).now.sunk (answer_octets (end_answer end.end (length (entries_of end.released.log)))) in
+                let piece : sunk_between end.released.site.trace end.last.site.trace ≡ answer_octets (end_answer end.end (length (entries_of end.released.log))) =
+                ap (drop (length end.released.site.trace.now.sunk)) (sinks is_told).1
+                ∙ drop-append_seam end.released.site.trace.now.sunk (answer_octets (end_answer end.end (length (entries_of end.released.log)))) in
                 let pieces : pieces_of end.last.log ≡ answers_octets ran.come.answers ++ end_octets call end.end =
-                last_pieces p ∙ ap (λ (l : List ℕ). l ++ sunk_between (trace end.released.site) (trace end.last.site)) (h.octets is_told)
+                last_pieces p ∙ ap (λ (l : List ℕ). l ++ sunk_between end.released.site.trace end.last.site.trace) (h.octets is_told)
                 ∙ ap (λ (l : List ℕ). answers_octets ran.come.answers ++ l) (piece ∙ end_is) in
-                sunk_is is_told ∙ ap (λ (l : List ℕ). (trace site).now.sunk ++ l) pieces;
+                sunk_is is_told ∙ ap (λ (l : List ℕ). site.trace.now.sunk ++ l) pieces;
           })
         where
-          last_pieces : IsEndPut told trace faults puts end.end end.released end.last status
-              → pieces_of end.last.log ≡ octets_put now ++ sunk_between (trace end.released.site) (trace end.last.site)
-          last_pieces p = ap (λ (b : BookView O). pieces_of b.log) p.made
-              ∙ pieces_more end.released.log (sunk_between (trace end.released.site) (trace end.last.site))
-              ∙ ap (λ (l : List ℕ). l ++ sunk_between (trace end.released.site) (trace end.last.site)) released_put
+          last_pieces : IsEndPut told end.end end.released end.last status
+              → pieces_of end.last.log ≡ octets_put now ++ sunk_between end.released.site.trace end.last.site.trace
+          last_pieces p = ap (λ (b : BookView). pieces_of b.log) p.made
+              ∙ pieces_more end.released.log (sunk_between end.released.site.trace end.last.site.trace)
+              ∙ ap (λ (l : List ℕ). l ++ sunk_between end.released.site.trace end.last.site.trace) released_put
       go (Err fault) p h counted sinks is =
-          let a : puts after ≡ puts end.last.site = ap puts end.site_is in
+          let a : after.put_faults ≡ end.last.site.put_faults = ap (λ (s : SiteSeen). s.put_faults) end.site_is in
           let c = end.same_puts in let d = h.none_failed in
           inr (record {
             one_failed = omega arith;
@@ -305,25 +303,25 @@ module _ {O : Type 0} (told : Bool) (trace : O → Trace) (faults puts : O → �
             rose = let r = is.1 in let e = ran.kept.later in let g = ran.same_faults in let i = end.goes_on.later in let k = after_faults in omega arith;
             sunk = λ is_told.
                 let octets : List ℕ = answer_octets (end_answer end.end (length (entries_of end.released.log))) in
-                let between : Between (trace end.released.site).now.sunk ((trace end.released.site).now.sunk ++ answer_octets (end_answer end.end (length (entries_of end.released.log)))) (trace end.last.site).now.sunk =
-                failed_put (answer_octets (end_answer end.end (length (entries_of end.released.log)))) (trace end.released.site) (trace end.last.site) (sinks is_told) in
-                let here = behind_between (trace site).now.sunk (answers_octets ran.come.answers) (answer_octets (end_answer end.end (length (entries_of end.released.log))))
-                (trace end.released.site).now.sunk (trace end.last.site).now.sunk between in
-                let pieces : pieces_of end.last.log ≡ answers_octets ran.come.answers ++ sunk_between (trace end.released.site) (trace end.last.site) =
-                ap (λ (b : BookView O). pieces_of b.log) p.made
-                ∙ pieces_more end.released.log (sunk_between (trace end.released.site) (trace end.last.site))
-                ∙ ap (λ (l : List ℕ). l ++ sunk_between (trace end.released.site) (trace end.last.site)) (released_put ∙ h.octets is_told) in
-                subst (Between (trace site).now.sunk ((trace site).now.sunk ++ due_octets call account))
-                (sym (sunk_is is_told ∙ ap (λ (l : List ℕ). (trace site).now.sunk ++ l) pieces))
-                (subst (λ (l : List ℕ). Between (trace site).now.sunk ((trace site).now.sunk ++ (answers_octets ran.come.answers ++ l))
-                ((trace site).now.sunk ++ (answers_octets ran.come.answers ++ sunk_between (trace end.released.site) (trace end.last.site)))) end_is here);
+                let between : Between end.released.site.trace.now.sunk (end.released.site.trace.now.sunk ++ answer_octets (end_answer end.end (length (entries_of end.released.log)))) end.last.site.trace.now.sunk =
+                failed_put (answer_octets (end_answer end.end (length (entries_of end.released.log)))) end.released.site.trace end.last.site.trace (sinks is_told) in
+                let here = behind_between site.trace.now.sunk (answers_octets ran.come.answers) (answer_octets (end_answer end.end (length (entries_of end.released.log))))
+                end.released.site.trace.now.sunk end.last.site.trace.now.sunk between in
+                let pieces : pieces_of end.last.log ≡ answers_octets ran.come.answers ++ sunk_between end.released.site.trace end.last.site.trace =
+                ap (λ (b : BookView). pieces_of b.log) p.made
+                ∙ pieces_more end.released.log (sunk_between end.released.site.trace end.last.site.trace)
+                ∙ ap (λ (l : List ℕ). l ++ sunk_between end.released.site.trace end.last.site.trace) (released_put ∙ h.octets is_told) in
+                subst (Between site.trace.now.sunk (site.trace.now.sunk ++ due_octets call account))
+                (sym (sunk_is is_told ∙ ap (λ (l : List ℕ). site.trace.now.sunk ++ l) pieces))
+                (subst (λ (l : List ℕ). Between site.trace.now.sunk (site.trace.now.sunk ++ (answers_octets ran.come.answers ++ l))
+                (site.trace.now.sunk ++ (answers_octets ran.come.answers ++ sunk_between end.released.site.trace end.last.site.trace))) end_is here);
             earlier = earlier_so;
           })
 
   -- ---- the end that is told
 
-  entries_added : AreAdded faults words book end.released
-  entries_added = are_added faults words book end.released end.answer end.releases end.risen
+  entries_added : AreAdded words book end.released
+  entries_added = are_added words book end.released end.answer end.releases end.risen
 
   entries_split : entries ≡ entries_in now ++ take entries_added.count (releases book.state 0 words)
   entries_split = entries_known ∙ entries_added.entries
@@ -343,7 +341,7 @@ module _ {O : Type 0} (told : Bool) (trace : O → Trace) (faults puts : O → �
           inr (
             ended.0,
             inl (
-              faults end.released.site,
+              end.released.site.faults,
               rose.1,
               rose.0,
               (let a = last_later in let b = after_faults in omega arith),
@@ -357,7 +355,7 @@ module _ {O : Type 0} (told : Bool) (trace : O → Trace) (faults puts : O → �
               ended.0,
               inr (
                 full.1,
-                (let a = (released_full faults words book end.released end.answer end.releases full.0).0 in let b = ap length entries_known in omega arith),
+                (let a = (released_full words book end.released end.answer end.releases full.0).0 in let b = ap length entries_known in omega arith),
               ),
             ),
           )
@@ -368,31 +366,31 @@ module _ {O : Type 0} (told : Bool) (trace : O → Trace) (faults puts : O → �
   ]
 
   -- with another status than that of a fault of the site the count stood until all answers were put, and behind the release
-  calm : status ≢ SITE_FAULT → (¬ Rose (faults site) (faults book.site)) × (faults after ≡ faults end.released.site) × (status ≡ end_status end.end)
+  calm : status ≢ SITE_FAULT → (¬ Rose site.faults book.site.faults) × (after.faults ≡ end.released.site.faults) × (status ≡ end_status end.end)
   calm other = elim end.puts_end [
     | inl broken ↦ absurd (other broken.2)
     | inr put ↦ go put.1.put put.1.status_is
   ]
     where
-      calm_then : status ≡ end_status end.end → ¬ Rose (faults site) (faults book.site)
+      calm_then : status ≡ end_status end.end → ¬ Rose site.faults book.site.faults
       calm_then is = elim end.end_is [
         | inl failed ↦ absurd (other (is ∙ ap end_status failed.1))
         | inr well ↦ well.0
       ]
 
-      go : (r : Result (Unit {0}) BookFault) → MatchResult r (λ _. (status ≡ end_status end.end) × (faults end.last.site ≡ faults end.released.site))
-          (λ _. (status ≡ SITE_FAULT) × Rose (faults end.released.site) (faults end.last.site))
-          → (¬ Rose (faults site) (faults book.site)) × (faults after ≡ faults end.released.site) × (status ≡ end_status end.end)
+      go : (r : Result (Unit {0}) BookFault) → MatchResult r (λ _. (status ≡ end_status end.end) × (end.last.site.faults ≡ end.released.site.faults))
+          (λ _. (status ≡ SITE_FAULT) × Rose end.released.site.faults end.last.site.faults)
+          → (¬ Rose site.faults book.site.faults) × (after.faults ≡ end.released.site.faults) × (status ≡ end_status end.end)
       go (Ok done) is = (calm_then is.0, after_faults ∙ is.1, is.0)
       go (Err fault) is = absurd (other is.0)
 
-  stood_before : status ≢ SITE_FAULT → faults book.site ≡ faults site
+  stood_before : status ≢ SITE_FAULT → book.site.faults ≡ site.faults
   stood_before other =
       let b = ran.kept.later in let c = ran.same_faults in
-      same_count (faults site) (faults book.site) (omega arith) (calm other).0
+      same_count site.faults book.site.faults (omega arith) (calm other).0
 
   -- behind an input that ended it stood to the end
-  quiet : status ≢ SITE_FAULT → (faults after ≡ faults site) ⊎ (came ≢ ends.Ended)
+  quiet : status ≢ SITE_FAULT → (after.faults ≡ site.faults) ⊎ (came ≢ ends.Ended)
   quiet other =
       let c = calm other in
       elim end.end_is [
@@ -401,29 +399,29 @@ module _ {O : Type 0} (told : Bool) (trace : O → Trace) (faults puts : O → �
           | inl off ↦ inr off.0
           | inr ended ↦ elim ended.1 [
             | inl rose ↦ absurd (other (c.2 ∙ ap end_status rose.1))
-            | inr stood ↦ inl (c.1 ∙ same_count (faults book.site) (faults end.released.site) end.goes_on.later stood.0 ∙ stood_before other)
+            | inr stood ↦ inl (c.1 ∙ same_count book.site.faults end.released.site.faults end.goes_on.later stood.0 ∙ stood_before other)
           ]
         ]
       ]
 
   -- where it did not stand, a release was entered
-  heard : status ≢ SITE_FAULT → faults after ≢ faults site → length (entries_in now) < length entries
-  heard other moved = elim (released_quietly faults words book end.released end.answer end.releases) [
+  heard : status ≢ SITE_FAULT → after.faults ≢ site.faults → length (entries_in now) < length entries
+  heard other moved = elim (released_quietly words book end.released end.answer end.releases) [
     | inl same ↦ absurd (moved ((calm other).1 ∙ same ∙ stood_before other))
     | inr more ↦ let a = ap length entries_known in let b = ap (λ (l : List Logged). length (entries_of l)) ran.log in omega arith
   ]
 
-  faults_told : All (λ (answer : Answer). SaysSiteFailed answer → Rose (faults site) (faults book.site)) ran.come.answers
+  faults_told : All (λ (answer : Answer). SaysSiteFailed answer → Rose site.faults book.site.faults) ran.come.answers
   faults_told k d low fault =
-      let B : Begin = begin_by told (trace site).now.image book.plan book.start in
-      let r = told_rose (IsBetween (begin_by told (trace site).now.image book.plan book.start) first now) (course_in (begin_by told (trace site).now.image book.plan book.start) now)
+      let B : Begin = begin_by told site.trace.now.image book.plan book.start in
+      let r = told_rose (IsBetween (begin_by told site.trace.now.image book.plan book.start) first now) (course_in (begin_by told site.trace.now.image book.plan book.start) now)
       (places_of ran.come.of) ran.come.answers ran.come.few ran.come.done.does.answers.fit k d low fault in
       let a = ran.known in let b = ran.known_first in let c = ran.same_faults in omega arith
 
   -- ---- the run is sound
 
   abbrev begin : Begin
-  begin = begin_by told (trace site).now.image book.plan book.start
+  begin = begin_by told site.trace.now.image book.plan book.start
 
   abbrev places : List Place
   places = places_of ran.come.of
@@ -450,7 +448,7 @@ module _ {O : Type 0} (told : Bool) (trace : O → Trace) (faults puts : O → �
   }
 
   -- where the site had failed nothing was released
-  none_released : Rose (faults book.opened) (faults book.site) → take entries_added.count (releases book.state 0 words) ≡ []
+  none_released : Rose book.opened.faults book.site.faults → take entries_added.count (releases book.state 0 words) ≡ []
   none_released rose =
       let none : entries_of end.goes_on.added ≡ [] = end.goes_on.stopped rose in
       let a : entries_of end.released.log ≡ entries_of book.log =
@@ -460,15 +458,15 @@ module _ {O : Type 0} (told : Bool) (trace : O → Trace) (faults puts : O → �
       empty_entries (take entries_added.count (releases book.state 0 words)) (omega arith)
 
   -- where it had not, the book's state is the one after all entries
-  state_is : ¬ Rose (faults book.opened) (faults book.site) → book.state ≡ histories.after book.start (entries_in now)
+  state_is : ¬ Rose book.opened.faults book.site.faults → book.state ≡ histories.after book.start (entries_in now)
   state_is well =
       let a : after_first book.start (entries_of book.log) book.standing ≡ histories.after book.start (entries_of book.log) =
       ap (λ (n : ℕ). after_first book.start (entries_of book.log) n) (ran.kept.whole well)
       ∙ ap (histories.after book.start) (take_all (length (entries_of book.log)) (entries_of book.log) (omega arith)) in
       ran.kept.led ∙ a ∙ ap (λ (l : List Logged). histories.after book.start (entries_of l)) ran.log
 
-  rose_or : (Rose (faults book.opened) (faults book.site)) ⊎ (¬ Rose (faults book.opened) (faults book.site))
-  rose_or = elim (cases_lt (faults book.site) (min (faults book.opened + 1) 18446744073709551615)) [
+  rose_or : (Rose book.opened.faults book.site.faults) ⊎ (¬ Rose book.opened.faults book.site.faults)
+  rose_or = elim (cases_lt book.site.faults (min (book.opened.faults + 1) 18446744073709551615)) [
     | inl lt ↦ inr (λ rose. absurd (omega arith))
     | inr ge ↦ inl (omega arith)
   ]
@@ -489,7 +487,7 @@ module _ {O : Type 0} (told : Bool) (trace : O → Trace) (faults puts : O → �
   stopped_so : Rose now.turn.known.opening.faults now.turn.known.faults → take entries_added.count (releases book.state 0 words) ≡ []
   stopped_so rose = none_released (let a = ran.known in let b = ran.known_first in let r = rose in omega arith)
 
-  course_is : course_at_end (begin_by told (trace site).now.image book.plan book.start) now (take entries_added.count (releases book.state 0 words)) (faults book.site)
+  course_is : course_at_end (begin_by told site.trace.now.image book.plan book.start) now (take entries_added.count (releases book.state 0 words)) book.site.faults
       ≡ course_of call account book.plan book.start
   course_is =
       ap (λ (n : ℕ). record (course_of call account book.plan book.start) { faults_before = n; entries = entries_in now ++ take entries_added.count (releases book.state 0 words) })
@@ -497,57 +495,56 @@ module _ {O : Type 0} (told : Bool) (trace : O → Trace) (faults puts : O → �
       ∙ ap (λ (l : List Entry). record (course_of call account book.plan book.start) { entries = l }) (sym entries_split)
 
   module _ (is_told : IsTrue told) where
-    abbrev founded : IsFounded (begin_by told (trace site).now.image book.plan book.start) first
+    abbrev founded : IsFounded (begin_by told site.trace.now.image book.plan book.start) first
     founded = ran.founded is_told
 
-    abbrev known_end : EndsRun (begin_by told (trace site).now.image book.plan book.start) first now (places_of ran.come.of) (deeds_from (places_of ran.come.of) ran.come.answers)
-        (λ row. slice_index words row) (take entries_added.count (releases book.state 0 words)) (faults book.site)
-    known_end = ends_run (begin_by told (trace site).now.image book.plan book.start) first now (places_of ran.come.of) ran.come.answers (ran.founded is_told) ran.come.done
-        ran.whole up (λ row. slice_index words row) ran.stand (take entries_added.count (releases book.state 0 words)) are_of_keys (faults book.site)
+    abbrev known_end : EndsRun (begin_by told site.trace.now.image book.plan book.start) first now (places_of ran.come.of) (deeds_from (places_of ran.come.of) ran.come.answers)
+        (λ row. slice_index words row) (take entries_added.count (releases book.state 0 words)) book.site.faults
+    known_end = ends_run (begin_by told site.trace.now.image book.plan book.start) first now (places_of ran.come.of) ran.come.answers (ran.founded is_told) ran.come.done
+        ran.whole up (λ row. slice_index words row) ran.stand (take entries_added.count (releases book.state 0 words)) are_of_keys book.site.faults
         (let a = ran.known in omega arith) stopped_so
 
-    sound_so : IsSound (begin_by told (trace site).now.image book.plan book.start)
-        (course_at_end (begin_by told (trace site).now.image book.plan book.start) now (take entries_added.count (releases book.state 0 words)) (faults book.site))
+    sound_so : IsSound
+        (course_at_end (begin_by told site.trace.now.image book.plan book.start) now (take entries_added.count (releases book.state 0 words)) book.site.faults)
         (places_of ran.come.of) (deeds_from (places_of ran.come.of) ran.come.answers)
     sound_so = let e = known_end in
-        sound_run (begin_by told (trace site).now.image book.plan book.start) first now (places_of ran.come.of) (deeds_from (places_of ran.come.of) ran.come.answers)
+        sound_run (begin_by told site.trace.now.image book.plan book.start) first now (places_of ran.come.of) (deeds_from (places_of ran.come.of) ran.come.answers)
         e.opened e.does e.whole e.rows e.plan_is e.rules e.left (λ row. slice_index words row) e.words_are (take entries_added.count (releases book.state 0 words)) e.releases_are
-        e.pieces e.lined e.once e.ascend (faults book.site) e.fewer e.stopped
+        e.pieces e.lined e.once e.ascend book.site.faults e.fewer e.stopped
 
-    covered_so : StaysCovered (begin_by told (trace site).now.image book.plan book.start) (course_of call account book.plan book.start)
+    covered_so : StaysCovered (course_of call account book.plan book.start)
         (deeds_from (places_of ran.come.of) ran.come.answers)
     covered_so = let e = known_end in
-        subst (λ (c : Course). StaysCovered (begin_by told (trace site).now.image book.plan book.start) c (deeds_from (places_of ran.come.of) ran.come.answers)) course_is
-        (covered_run (begin_by told (trace site).now.image book.plan book.start) first now (places_of ran.come.of) (deeds_from (places_of ran.come.of) ran.come.answers)
+        subst (λ (c : Course). StaysCovered c (deeds_from (places_of ran.come.of) ran.come.answers)) course_is
+        (covered_run (begin_by told site.trace.now.image book.plan book.start) first now (places_of ran.come.of) (deeds_from (places_of ran.come.of) ran.come.answers)
         e.opened e.does e.whole e.rows e.plan_is e.rules e.left (λ row. slice_index words row) e.words_are (take entries_added.count (releases book.state 0 words)) e.releases_are
-        e.pieces e.lined e.once e.ascend (faults book.site) e.fewer e.stopped)
+        e.pieces e.lined e.once e.ascend book.site.faults e.fewer e.stopped)
 
     abbrev run_so : LegalRun book.plan book.start (records_of (places_of ran.come.of)) (TurnIn (places_of ran.come.of)) (entries_in now ++ take entries_added.count (releases book.state 0 words))
-    run_so = legal_run (begin_by told (trace site).now.image book.plan book.start) first now (records_of (places_of ran.come.of)) (deeds_from (places_of ran.come.of) ran.come.answers)
+    run_so = legal_run (begin_by told site.trace.now.image book.plan book.start) first now (records_of (places_of ran.come.of)) (deeds_from (places_of ran.come.of) ran.come.answers)
         known_end.opened known_end.does known_end.whole known_end.rows known_end.rules
-        (rules_at_end (begin_by told (trace site).now.image book.plan book.start) first now (places_of ran.come.of) (deeds_from (places_of ran.come.of) ran.come.answers)
+        (rules_at_end (begin_by told site.trace.now.image book.plan book.start) first now (places_of ran.come.of) (deeds_from (places_of ran.come.of) ran.come.answers)
         known_end.opened known_end.does known_end.whole known_end.plan_is known_end.rules)
         (λ row. slice_index words row) known_end.words_are (take entries_added.count (releases book.state 0 words)) known_end.releases_are
         (TurnIn (places_of ran.come.of)) known_end.pieces known_end.lined known_end.once
 
-    abbrev sound_call_run : IsSound (begin_of call book.plan book.start) (course_of call account book.plan book.start) (places_of ran.come.of)
+    abbrev sound_call_run : IsSound (course_of call account book.plan book.start) (places_of ran.come.of)
         (deeds_from (places_of ran.come.of) ran.come.answers)
     sound_call_run = record {
-      begins = refl;
       history = record {
         plan_is = (ran.founded is_told).plan_is;
         rules = (ran.founded is_told).rules;
         run = moved_run book.plan book.start (records_of (places_of ran.come.of)) (TurnIn (places_of ran.come.of))
             (entries_in now ++ take entries_added.count (releases book.state 0 words)) entries (sym entries_split) run_so;
       };
-      answers = subst (λ (c : Course). All (λ (deed : Deed). Fits (NearWord c.start c.entries (records_of (places_of ran.come.of))) c deed.task deed.answer)
+      answers = subst (λ (c : Course). All (λ (deed : Deed). Fits (NearWord c.begin.start c.entries (records_of (places_of ran.come.of))) c deed.task deed.answer)
           (deeds_from (places_of ran.come.of) ran.come.answers)) course_is sound_so.answers;
       pairs = sound_so.pairs;
       pairs_above = sound_so.pairs_above;
       accepted = sound_so.accepted;
       accepted_above = sound_so.accepted_above;
       one_fault = sound_so.one_fault;
-      order = subst (λ (c : Course). AllPairs (λ one other. InTurn one other → StandsBehind (begin_by told (trace site).now.image book.plan book.start) c.entries one other)
+      order = subst (λ (c : Course). AllPairs (λ one other. InTurn one other → StandsBehind c.begin c.entries one other)
           (deeds_from (places_of ran.come.of) ran.come.answers)) course_is sound_so.order;
       none_made = subst (λ (c : Course). All (λ deed. IsUnmade deed.answer.code → HasNoEntry c.entries deed.task.index)
           (deeds_from (places_of ran.come.of) ran.come.answers)) course_is sound_so.none_made;
@@ -557,36 +554,36 @@ module _ {O : Type 0} (told : Bool) (trace : O → Trace) (faults puts : O → �
 
     started : end.last.start ≡ book.start
     started = elim end.puts_end [
-      | inl broken ↦ ap (λ (b : BookView O). b.start) broken.1 ∙ end.goes_on.start
-      | inr put ↦ ap (λ (b : BookView O). b.start) put.1.made ∙ end.goes_on.start
+      | inl broken ↦ ap (λ (b : BookView). b.start) broken.1 ∙ end.goes_on.start
+      | inr put ↦ ap (λ (b : BookView). b.start) put.1.made ∙ end.goes_on.start
     ]
 
     -- the log goes on from the one at the close
     log_on : (rest : List Logged) × (end.last.log ≡ log_of now ++ rest)
     log_on = elim end.puts_end [
-      | inl broken ↦ (end.goes_on.added, ap (λ (b : BookView O). b.log) broken.1 ∙ end.goes_on.log ∙ ap (λ (l : List Logged). l ++ end.goes_on.added) ran.log)
+      | inl broken ↦ (end.goes_on.added, ap (λ (b : BookView). b.log) broken.1 ∙ end.goes_on.log ∙ ap (λ (l : List Logged). l ++ end.goes_on.added) ran.log)
       | inr put ↦ (
-        end.goes_on.added ++ lines.Piece (sunk_between (trace end.released.site) (trace end.last.site)) ∷ [],
-        ap (λ (b : BookView O). b.log) put.1.made
-            ∙ ap (λ (l : List Logged). l ++ lines.Piece (sunk_between (trace end.released.site) (trace end.last.site)) ∷ [])
+        end.goes_on.added ++ lines.Piece (sunk_between end.released.site.trace end.last.site.trace) ∷ [],
+        ap (λ (b : BookView). b.log) put.1.made
+            ∙ ap (λ (l : List Logged). l ++ lines.Piece (sunk_between end.released.site.trace end.last.site.trace) ∷ [])
             (end.goes_on.log ∙ ap (λ (l : List Logged). l ++ end.goes_on.added) ran.log)
-            ∙ append_assoc (log_of now) end.goes_on.added (lines.Piece (sunk_between (trace end.released.site) (trace end.last.site)) ∷ []),
+            ∙ append_assoc (log_of now) end.goes_on.added (lines.Piece (sunk_between end.released.site.trace end.last.site.trace) ∷ []),
       )
     ]
 
     standing_on : book.standing ≤ end.last.standing
     standing_on = elim end.puts_end [
-      | inl broken ↦ (let a = ap (λ (b : BookView O). b.standing) broken.1 in let b = end.goes_on.standing in omega arith)
-      | inr put ↦ (let a = ap (λ (b : BookView O). b.standing) put.1.made in let b = end.goes_on.standing in omega arith)
+      | inl broken ↦ (let a = ap (λ (b : BookView). b.standing) broken.1 in let b = end.goes_on.standing in omega arith)
+      | inr put ↦ (let a = ap (λ (b : BookView). b.standing) put.1.made in let b = end.goes_on.standing in omega arith)
     ]
 
-    settled_last : AreSettled (begin_of call book.plan book.start) (course_of call account book.plan book.start) end.last.standing end.last.log 0
+    settled_last : AreSettled (course_of call account book.plan book.start) end.last.standing end.last.log 0
         (deeds_from (places_of ran.come.of) ran.come.answers)
     settled_last =
         let (rest, is) = log_on in
-        subst (λ (l : List Logged). AreSettled (begin_of call book.plan book.start) (course_of call account book.plan book.start) end.last.standing l 0
+        subst (λ (l : List Logged). AreSettled (course_of call account book.plan book.start) end.last.standing l 0
         (deeds_from (places_of ran.come.of) ran.come.answers)) (sym is)
-        (settled_more (begin_of call book.plan book.start) (course_in (begin_by told (trace site).now.image book.plan book.start) now) (course_of call account book.plan book.start)
+        (settled_more (course_in (begin_by told site.trace.now.image book.plan book.start) now) (course_of call account book.plan book.start)
         refl book.standing end.last.standing standing_on (log_of now) rest refl (end.entries_are ∙ ap entries_of is) 0
         (deeds_from (places_of ran.come.of) ran.come.answers) (ran.come.settled is_told (ran.founded is_told)))
 
@@ -599,34 +596,34 @@ module _ {O : Type 0} (told : Bool) (trace : O → Trace) (faults puts : O → �
         (elim puts_answers [
           | inl put ↦
               let same : pieces_of end.last.log ≡ due_octets call account =
-              sym (drop-append_seam (trace site).now.sunk (pieces_of end.last.log)) ∙ ap (drop (length (trace site).now.sunk)) (sym (sunk_is is_told) ∙ put.sunk is_told)
-              ∙ drop-append_seam (trace site).now.sunk (due_octets call account) in
+              sym (drop-append_seam site.trace.now.sunk (pieces_of end.last.log)) ∙ ap (drop (length site.trace.now.sunk)) (sym (sunk_is is_told) ∙ put.sunk is_told)
+              ∙ drop-append_seam site.trace.now.sunk (due_octets call account) in
               subst (λ (l : List ℕ). l ≡ take (length l) (due_octets call account)) (sym same) (sym (take_all (length (due_octets call account)) (due_octets call account) (omega arith)))
           | inr front ↦
-              between_front (trace site).now.sunk (due_octets call account) (pieces_of end.last.log)
-              (subst (Between (trace site).now.sunk ((trace site).now.sunk ++ due_octets call account)) (sunk_is is_told) (front.sunk is_told))
+              between_front site.trace.now.sunk (due_octets call account) (pieces_of end.last.log)
+              (subst (Between site.trace.now.sunk (site.trace.now.sunk ++ due_octets call account)) (sunk_is is_told) (front.sunk is_told))
         ])
 
-    pub moments_so : EachMoment (trace site) (trace after)
+    pub moments_so : EachMoment site.trace after.trace
         (λ image sunk. IsEarly call account.told image sunk ⊎ IsServed call account book.plan book.start image sunk)
     moments_so =
         let history = end.kept.history is_told in
-        let serving : EachMoment (trace book.opened) (trace after) (Serves book.start end.last.log end.last.standing (trace book.opened).now.sunk) =
-        subst (λ (o : O). EachMoment (trace book.opened) (trace o) (Serves book.start end.last.log end.last.standing (trace book.opened).now.sunk)) (sym end.site_is)
-        (subst (λ (st : State). EachMoment (trace book.opened) (trace end.last.site) (Serves st end.last.log end.last.standing (trace book.opened).now.sunk)) started
-        (subst (λ (o : O). EachMoment (trace o) (trace end.last.site) (Serves end.last.start end.last.log end.last.standing (trace o).now.sunk)) last_opened history.moments)) in
-        all_moments call account book.plan book.start (trace book.opened) end.last.log end.last.standing (ran.opening is_told) (ran.sunk is_told) serving
+        let serving : EachMoment book.opened.trace after.trace (Serves book.start end.last.log end.last.standing book.opened.trace.now.sunk) =
+        subst (λ (o : SiteSeen). EachMoment book.opened.trace o.trace (Serves book.start end.last.log end.last.standing book.opened.trace.now.sunk)) (sym end.site_is)
+        (subst (λ (st : State). EachMoment book.opened.trace end.last.site.trace (Serves st end.last.log end.last.standing book.opened.trace.now.sunk)) started
+        (subst (λ (o : SiteSeen). EachMoment o.trace end.last.site.trace (Serves end.last.start end.last.log end.last.standing o.trace.now.sunk)) last_opened history.moments)) in
+        all_moments call account book.plan book.start book.opened.trace end.last.log end.last.standing (ran.opening is_told) (ran.sunk is_told) serving
         end.entries_are settled_last covered_so pieces_front
 
   -- ---- its releases
 
-  full_answer : came ≡ ends.Ended → end.end ≡ ends.SessionFull → (end.answer ≡ Err SessionFull) × (¬ Rose (faults site) (faults book.site))
+  full_answer : came ≡ ends.Ended → end.end ≡ ends.SessionFull → (end.answer ≡ Err SessionFull) × (¬ Rose site.faults book.site.faults)
   full_answer is_ended full = elim end.end_is [
-    | inl failed ↦ absurd (let st : end_status (ends.SiteFault (faults book.site)) ≡ end_status ends.SessionFull = ap end_status (sym failed.1 ∙ full) in omega arith)
+    | inl failed ↦ absurd (let st : end_status (ends.SiteFault book.site.faults) ≡ end_status ends.SessionFull = ap end_status (sym failed.1 ∙ full) in omega arith)
     | inr well ↦ elim well.1 [
       | inl other ↦ absurd (other.0 is_ended)
       | inr ended ↦ elim ended.1 [
-        | inl rose ↦ absurd (let st : end_status (ends.SiteFault (faults end.released.site)) ≡ end_status ends.SessionFull = ap end_status (sym rose.1 ∙ full) in omega arith)
+        | inl rose ↦ absurd (let st : end_status (ends.SiteFault end.released.site.faults) ≡ end_status ends.SessionFull = ap end_status (sym rose.1 ∙ full) in omega arith)
         | inr calm ↦ elim calm.1 [
           | inl found ↦ (found.0, well.0)
           | inr none ↦ absurd (let st : end_status ends.Ended ≡ end_status ends.SessionFull = ap end_status (sym none ∙ full) in omega arith)
@@ -638,24 +635,24 @@ module _ {O : Type 0} (told : Bool) (trace : O → Trace) (faults puts : O → �
   drop_lanes : drop (length (entries_in now)) entries ≡ take entries_added.count (releases book.state 0 words)
   drop_lanes = ap (drop (length (entries_in now))) entries_split ∙ drop-append_seam (entries_in now) (take entries_added.count (releases book.state 0 words))
 
-  state_at_end : ¬ Rose (faults book.opened) (faults book.site) → after_first book.start entries (length (entries_in now)) ≡ book.state
+  state_at_end : ¬ Rose book.opened.faults book.site.faults → after_first book.start entries (length (entries_in now)) ≡ book.state
   state_at_end well =
       ap (λ (l : List Entry). histories.after book.start (take (length (entries_in now)) l)) entries_split
       ∙ ap (histories.after book.start) (take_at (entries_in now) (take entries_added.count (releases book.state 0 words)) (length (entries_in now)) refl)
       ∙ sym (state_is well)
 
-  rose_to_end : Rose (faults book.opened) (faults book.site) → Rose (faults site) (faults after)
+  rose_to_end : Rose book.opened.faults book.site.faults → Rose site.faults after.faults
   rose_to_end rose = let a = ran.same_faults in let b = end.goes_on.later in let c = last_later in let d = after_faults in omega arith
 
   -- no more slots are used than there are: the last book's journal is that of its image
-  room_so : CountsSlots told faults (trace site).now.image end.last → IsTrue told → ¬ Rose (faults site) (faults after)
-      → length (records (trace site).now.image) + stored_count book.start entries ≤ slot_count (trace site).now.image
+  room_so : CountsSlots told site.trace.now.image end.last → IsTrue told → ¬ Rose site.faults after.faults
+      → used_of site.trace.now.image + stored_count book.start entries ≤ slots_of site.trace.now.image
   room_so slots is_told stood =
-      let calm : ¬ Rose (faults end.last.opened) (faults end.last.site) =
-      λ rose. stood (let a = ap faults last_opened in let b = ran.same_faults in let c = after_faults in let r = rose in omega arith) in
+      let calm : ¬ Rose end.last.opened.faults end.last.site.faults =
+      λ rose. stood (let a = ap (λ (s : SiteSeen). s.faults) last_opened in let b = ran.same_faults in let c = after_faults in let r = rose in omega arith) in
       let counted = slots is_told calm in
       let journal = (end.kept.current is_told calm).settled.opened.of_image in
-      let few : length (records (trace end.last.site).now.image) ≤ slot_count (trace end.last.site).now.image = (image_records (trace end.last.site).now.image).within in
+      let few : used_of end.last.site.trace.now.image ≤ slots_of end.last.site.trace.now.image = (image_records end.last.site.trace.now.image).within in
       let same : stored_count end.last.start (entries_of end.last.log) ≡ stored_count book.start entries =
       ap (λ (st : State). stored_count st (entries_of end.last.log)) (started is_told) ∙ ap (stored_count book.start) (sym end.entries_are) in
       let a = counted.0 in let b = counted.1 in let c = journal.slots in let d = journal.used in omega arith
@@ -671,9 +668,9 @@ module _ {O : Type 0} (told : Bool) (trace : O → Trace) (faults puts : O → �
   near_so is_told key row is =
       let e = known_end is_told in
       subst (λ (l : List Entry). NearWord book.start l (records_of (places_of ran.come.of)) key (slice_index words row)) (sym entries_split)
-      (word_near (begin_by told (trace site).now.image book.plan book.start) first now (records_of (places_of ran.come.of)) (deeds_from (places_of ran.come.of) ran.come.answers)
+      (word_near (begin_by told site.trace.now.image book.plan book.start) first now (records_of (places_of ran.come.of)) (deeds_from (places_of ran.come.of) ran.come.answers)
       e.opened e.does e.whole e.rows e.rules
-      (rules_at_end (begin_by told (trace site).now.image book.plan book.start) first now (places_of ran.come.of) (deeds_from (places_of ran.come.of) ran.come.answers)
+      (rules_at_end (begin_by told site.trace.now.image book.plan book.start) first now (places_of ran.come.of) (deeds_from (places_of ran.come.of) ran.come.answers)
       e.opened e.does e.whole e.plan_is e.rules)
       (λ row. slice_index words row) e.words_are (take entries_added.count (releases book.state 0 words)) e.releases_are key row
       (ap (λ (st : State). place_of st.keys key) (sym at_close) ∙ is))
@@ -683,19 +680,19 @@ module _ {O : Type 0} (told : Bool) (trace : O → Trace) (faults puts : O → �
       (deeds_from (places_of ran.come.of) ran.come.answers)
   above_so is_told k x low key number row uses is =
       let e = known_end is_told in
-      used_below (begin_by told (trace site).now.image book.plan book.start) first now (records_of (places_of ran.come.of)) (deeds_from (places_of ran.come.of) ran.come.answers)
+      used_below (begin_by told site.trace.now.image book.plan book.start) first now (records_of (places_of ran.come.of)) (deeds_from (places_of ran.come.of) ran.come.answers)
       e.opened e.does e.whole e.rows e.rules
-      (rules_at_end (begin_by told (trace site).now.image book.plan book.start) first now (places_of ran.come.of) (deeds_from (places_of ran.come.of) ran.come.answers)
+      (rules_at_end (begin_by told site.trace.now.image book.plan book.start) first now (places_of ran.come.of) (deeds_from (places_of ran.come.of) ran.come.answers)
       e.opened e.does e.whole e.plan_is e.rules)
       (λ row. slice_index words row) e.words_are (take entries_added.count (releases book.state 0 words)) e.releases_are k x low key number row uses
       (ap (λ (st : State). place_of st.keys key) (sym at_close) ∙ is)
 
   moved_so : IsTrue told → MovedWords call account book.start words
   moved_so is_told =
-      moved_call call account (begin_by told (trace site).now.image book.plan book.start) first now words
+      moved_call call account (begin_by told site.trace.now.image book.plan book.start) first now words
       (take entries_added.count (releases book.state 0 words)) refl (ran.founded is_told).opened ran.stand (known_end is_told).once ran.come.moved entries_split
 
-  released_so : CountsSlots told faults (trace site).now.image end.last → IsTrue told
+  released_so : CountsSlots told site.trace.now.image end.last → IsTrue told
       → (r : IsReleased call account book.start (length (entries_in now))) × (r.words ≡ words)
   released_so slots is_told = elim rose_or [
     | inl rose ↦ (
@@ -727,7 +724,7 @@ module _ {O : Type 0} (told : Bool) (trace : O → Trace) (faults puts : O → �
             stopped = λ r. absurd (well (let a = ran.same_faults in let q = r in omega arith));
             refused = λ few. refused_by (entries_added.refused (omega arith));
             full = λ is_ended full.
-                let a = (released_full faults words book end.released end.answer end.releases (full_answer is_ended full).0).1 in
+                let a = (released_full words book end.released end.answer end.releases (full_answer is_ended full).0).1 in
                 let b = ap length entries_added.entries in
                 let c = length-append (entries_of book.log) (take entries_added.count (releases book.state 0 words)) in
                 let d = length-take entries_added.count (releases book.state 0 words) in
@@ -744,22 +741,22 @@ module _ {O : Type 0} (told : Bool) (trace : O → Trace) (faults puts : O → �
     where
       full_journal : end.released.journal.used ≡ end.released.journal.slots → (end.last.journal.used ≡ end.last.journal.slots)
       full_journal is = elim end.puts_end [
-        | inl broken ↦ ap (λ (b : BookView O). b.journal.used) broken.1 ∙ is ∙ sym (ap (λ (b : BookView O). b.journal.slots) broken.1)
-        | inr put ↦ ap (λ (b : BookView O). b.journal.used) put.1.made ∙ is ∙ sym (ap (λ (b : BookView O). b.journal.slots) put.1.made)
+        | inl broken ↦ ap (λ (b : BookView). b.journal.used) broken.1 ∙ is ∙ sym (ap (λ (b : BookView). b.journal.slots) broken.1)
+        | inr put ↦ ap (λ (b : BookView). b.journal.used) put.1.made ∙ is ∙ sym (ap (λ (b : BookView). b.journal.slots) put.1.made)
       ]
 
       started_last : end.last.start ≡ book.start
       started_last = elim end.puts_end [
-        | inl broken ↦ ap (λ (b : BookView O). b.start) broken.1 ∙ end.goes_on.start
-        | inr put ↦ ap (λ (b : BookView O). b.start) put.1.made ∙ end.goes_on.start
+        | inl broken ↦ ap (λ (b : BookView). b.start) broken.1 ∙ end.goes_on.start
+        | inr put ↦ ap (λ (b : BookView). b.start) put.1.made ∙ end.goes_on.start
       ]
 
-      refused_by : IsRefusedRelease faults end.released
-          → Rose (faults site) (faults after) ⊎ (IsJournalFull call book.start ⊎ (length entries ≡ MOST_ENTRIES))
-      refused_by (inl rose) = inl (let a = ap faults end.goes_on.opened in let b = ran.same_faults in let c = last_later in let d = after_faults in let r = rose in omega arith)
+      refused_by : IsRefusedRelease end.released
+          → Rose site.faults after.faults ⊎ (IsJournalFull call book.start ⊎ (length entries ≡ MOST_ENTRIES))
+      refused_by (inl rose) = inl (let a = ap (λ (s : SiteSeen). s.faults) end.goes_on.opened in let b = ran.same_faults in let c = last_later in let d = after_faults in let r = rose in omega arith)
       refused_by (inr (inl full)) = inr (inr (let a = ap length entries_known in omega arith))
-      refused_by (inr (inr none_free)) = elim (cases_lt (faults end.last.site) (min (faults end.last.opened + 1) 18446744073709551615)) [
-        | inr ge ↦ inl (let a = ap faults last_opened in let b = ran.same_faults in let c = after_faults in omega arith)
+      refused_by (inr (inr none_free)) = elim (cases_lt end.last.site.faults (min (end.last.opened.faults + 1) 18446744073709551615)) [
+        | inr ge ↦ inl (let a = ap (λ (s : SiteSeen). s.faults) last_opened in let b = ran.same_faults in let c = after_faults in omega arith)
         | inl lt ↦
             let c = slots is_told (λ rose. absurd (omega arith)) in
             let u = full_journal none_free in
@@ -770,12 +767,12 @@ module _ {O : Type 0} (told : Bool) (trace : O → Trace) (faults puts : O → �
 
   module _ (shows_one : (image : List ℕ) (one other : State) → Shows image one → Shows image other → one ≡ other)
       (shows_some : (image : List ℕ) (state : State) (offset : ℕ) → Shows image state → ¬ ShowsNone image offset)
-      (slots : CountsSlots told faults (trace site).now.image end.last) where
+      (slots : CountsSlots told site.trace.now.image end.last) where
     plan_same : IsTrue told → (plan : PlanLines) (state : State) → ShowsAtEntry call plan state → plan ≡ book.plan
     plan_same is_told plan state shows = same_ok plan book.plan (sym shows.says ∙ ran.says is_told)
 
     state_same : IsTrue told → (plan : PlanLines) (state : State) → ShowsAtEntry call plan state → state ≡ book.start
-    state_same is_told plan state shows = shows_one (trace site).now.image state book.start shows.shows (ran.shows is_told)
+    state_same is_told plan state shows = shows_one site.trace.now.image state book.start shows.shows (ran.shows is_told)
 
     -- ---- why it ended
 
@@ -804,22 +801,22 @@ module _ {O : Type 0} (told : Bool) (trace : O → Trace) (faults puts : O → �
           unmade = subst (λ (es : List Entry). HasNoEntry es f.place.task.index) (sym same) f.unmade;
         }
       where
-        due_at : (f : StopsAtFullHistory (begin_by told (trace site).now.image book.plan book.start) first now (places_of ran.come.of) ran.come.answers) → entries ≡ entries_in now
+        due_at : (f : StopsAtFullHistory (begin_by told site.trace.now.image book.plan book.start) first now (places_of ran.come.of) ran.come.answers) → entries ≡ entries_in now
             → IsTrue told → (plan : PlanLines) (state : State) → ShowsAtEntry call plan state
-            → (f.place.task.kind ≢ Protect) ⊎ MayAppend (IsBetween (begin_by told (trace site).now.image book.plan book.start) first now) (course_in (begin_by told (trace site).now.image book.plan book.start) now) MOST_ENTRIES f.place.task
+            → (f.place.task.kind ≢ Protect) ⊎ MayAppend (IsBetween (begin_by told site.trace.now.image book.plan book.start) first now) (course_in (begin_by told site.trace.now.image book.plan book.start) now) MOST_ENTRIES f.place.task
             → (f.place.task.kind ≢ Protect) ⊎ MayAppend (NearWord state entries (records_of (places_of ran.come.of))) (course_of call account plan state) MOST_ENTRIES f.place.task
         due_at f same is_told plan state shows (inl other) = inl other
         due_at f same is_told plan state shows (inr may) =
-            let far : (k n : ℕ) → IsBetween (begin_by told (trace site).now.image book.plan book.start) first now k n → NearWord book.start (entries_in now) (records_of (places_of ran.come.of)) k n =
+            let far : (k n : ℕ) → IsBetween (begin_by told site.trace.now.image book.plan book.start) first now k n → NearWord book.start (entries_in now) (records_of (places_of ran.come.of)) k n =
             (let e = known_end is_told in
-            near (begin_by told (trace site).now.image book.plan book.start) first now (records_of (places_of ran.come.of)) (deeds_from (places_of ran.come.of) ran.come.answers)
+            near (begin_by told site.trace.now.image book.plan book.start) first now (records_of (places_of ran.come.of)) (deeds_from (places_of ran.come.of) ran.come.answers)
             e.opened e.does e.whole e.rows e.rules
-            (rules_at_end (begin_by told (trace site).now.image book.plan book.start) first now (places_of ran.come.of) (deeds_from (places_of ran.come.of) ran.come.answers)
+            (rules_at_end (begin_by told site.trace.now.image book.plan book.start) first now (places_of ran.come.of) (deeds_from (places_of ran.come.of) ran.come.answers)
             e.opened e.does e.whole e.plan_is e.rules)) in
             let here : MayAppend (NearWord book.start (entries_in now) (records_of (places_of ran.come.of)))
             (record (course_of call account book.plan book.start) { entries = entries_in now }) MOST_ENTRIES f.place.task =
-            may_append (IsBetween (begin_by told (trace site).now.image book.plan book.start) first now) (NearWord book.start (entries_in now) (records_of (places_of ran.come.of))) far
-            book.plan book.start (entries_in now) _ _ _ _ _ _ _ _ _ _ MOST_ENTRIES f.place.task may in
+            may_append (IsBetween (begin_by told site.trace.now.image book.plan book.start) first now) (NearWord book.start (entries_in now) (records_of (places_of ran.come.of))) far
+            book.plan book.start (entries_in now) _ _ _ _ _ _ _ _ _ _ _ _ MOST_ENTRIES f.place.task may in
             let there : MayAppend (NearWord book.start entries (records_of (places_of ran.come.of))) (course_of call account book.plan book.start) MOST_ENTRIES f.place.task =
             subst (λ (l : List Entry). MayAppend (NearWord book.start l (records_of (places_of ran.come.of))) (record (course_of call account book.plan book.start) { entries = l }) MOST_ENTRIES f.place.task)
             (sym same) here in
@@ -830,9 +827,9 @@ module _ {O : Type 0} (told : Bool) (trace : O → Trace) (faults puts : O → �
     cause_of ends.PutFailed is reads =
         let h = has_broken is in
         let a = h.one_failed in
-        let b = ap puts end.site_is in
-        let c : puts end.last.site ≡ puts end.released.site = elim end.puts_end [
-          | inl broken ↦ ap (λ (b : BookView O). puts b.site) broken.1
+        let b = ap (λ (s : SiteSeen). s.put_faults) end.site_is in
+        let c : end.last.site.put_faults ≡ end.released.site.put_faults = elim end.puts_end [
+          | inl broken ↦ ap (λ (b : BookView). b.site.put_faults) broken.1
           | inr put ↦ absurd (put.0 is)
         ] in
         let d = end.same_puts in omega arith
@@ -842,7 +839,7 @@ module _ {O : Type 0} (told : Bool) (trace : O → Trace) (faults puts : O → �
     -- where its records are of one lane
     exact_so : IsTrue told → OneLane (records_of (places_of ran.come.of)) → IsExact call account book.plan book.start words (length (entries_in now))
     exact_so is_told one =
-        exact_call call account book.plan (begin_by told (trace site).now.image book.plan book.start) first now words
+        exact_call call account book.plan (begin_by told site.trace.now.image book.plan book.start) first now words
         (take entries_added.count (releases book.state 0 words)) refl (ran.founded is_told).opened ran.whole ran.stand (ran.come.exactly one) entries_split
         (ran.known_first ∙ ran.same_faults) ran.known
 
@@ -860,7 +857,7 @@ module _ {O : Type 0} (told : Bool) (trace : O → Trace) (faults puts : O → �
     run_ends_so = record {
       account = account;
       takes = ran.come.takes;
-      answered = ran.come.answered end.end (faults book.site);
+      answered = ran.come.answered end.end book.site.faults;
       cause = cause_of came refl ran.come.reads;
       tells = tells_end;
       put = puts_answers;
@@ -872,5 +869,5 @@ module _ {O : Type 0} (told : Bool) (trace : O → Trace) (faults puts : O → �
       sound = λ is_told plan state shows.
           subst (λ (pl : PlanLines). ServesSoundly call account pl state) (sym (plan_same is_told plan state shows))
           (subst (λ (st : State). ServesSoundly call account book.plan st) (sym (state_same is_told plan state shows)) (sound_call is_told));
-      refused = λ is_told offset none. absurd (shows_some (trace site).now.image book.start offset (ran.shows is_told) none);
+      refused = λ is_told offset none. absurd (shows_some site.trace.now.image book.start offset (ran.shows is_told) none);
     }

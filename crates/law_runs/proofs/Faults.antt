@@ -69,7 +69,7 @@ kind_rose : (near : ℕ → ℕ → Type 0) (course : Course) (task : Record) (a
     → SaysSiteFailed answer → Rose course.faults_before course.faults
 kind_rose near course task answer Protect (inl is) fault = absurd (not_fault answer _ is.told refl fault)
 kind_rose near course task answer Protect (inr (inl is)) fault =
-    absurd (unbound_not answer (protect_reply course.plan (state_in course answer.position) task.link task.octets) is.told fault)
+    absurd (unbound_not answer (protect_reply course.begin.plan (state_in course answer.position) task.link task.octets) is.told fault)
 kind_rose near course task answer Protect (inr (inr (inl is))) fault = absurd (not_fault answer _ is.told refl fault)
 kind_rose near course task answer Protect (inr (inr (inr any))) fault = any_rose near course task answer any fault
 kind_rose near course task answer Open (inl is) fault = absurd (open_not answer is.reply is.field is.told fault)

@@ -3,7 +3,7 @@ use Rattle.std.proofs.Common.{◌≡◌, ℕ, zero, suc, ◌+◌, ◌≤◌, IsT
 use Rattle.std.proofs.lemmas.List.{take_all}
 use Rattle.sdls_base.specs.declared.TheConstants.{MOST_KEYS}
 use Rattle.sdls_base.specs.declared.entry.Entry.{Entry}
-use Rattle.disk_journal.specs.Image.{held}
+use Rattle.unit_image.specs.Image.{held}
 use Rattle.record_io.specs.declared.answers.Answer.{Answer}
 use Rattle.record_io.specs.Places.{Place, records_of}
 use Rattle.unit_plan.specs.Plan.{plan_of}
@@ -79,7 +79,7 @@ few_answers account (ends.NoState offset) h = let e = ap length h.1 in omega ari
 -- ---- two calls
 
 module _ (call other : CallSeen) (run : RunEnds call) (again : RunEnds other) (plan : PlanLines) (state : State)
-    (told : IsTrue call.site.told) (tells : IsTrue other.site.told)
+    (told : IsTrue call.told) (tells : IsTrue other.told)
     (image : image_at_entry other ≡ image_at_entry call) (shows : ShowsAtEntry call plan state)
     (handled : again.account.handled ≡ run.account.handled)
     (one : OneLane (records_of run.account.handled))

@@ -1,9 +1,8 @@
 -- The image that `init` makes of a plan shows a state, and is at rest: for the clause `shown` of `covered_in_a_life`.
-use Rattle.std.proofs.Common.{◌≡◌, ℕ, ◌≤◌, nat_lt, Bool, true, false, List, [], ◌∷◌, length, Result, Ok, refl, sym, ◌∙◌, ap, subst, arith, if◌then◌else◌}
+use Rattle.std.proofs.Common.{◌≡◌, ℕ, ◌≤◌, nat_lt, Bool, true, false, List, [], ◌∷◌, length, Ok, refl, sym, subst, arith, if◌then◌else◌}
 use Rattle.std.proofs.lemmas.Bool.Decides.{nat_tests}
-use Rattle.disk_journal.specs.Image.{Held, held, records, IsOpenedForm}
-use Rattle.disk_journal.specs.Initial.{initial_image}
-use Rattle.disk_journal.proofs.Beginning.{Begins, begins}
+use Rattle.unit_image.specs.Image.{held, initial_image, IsOpenedForm, records}
+use Rattle.unit_image.proofs.Images.{Begins, begins}
 use Rattle.unit_plan.specs.declared.plan_error.PlanCause.TheVariants.{Long}
 use Rattle.unit_plan.specs.Lines.{lines_of}
 use Rattle.unit_plan.specs.Plan.{after, plan_of}
@@ -12,7 +11,7 @@ use Rattle.unit_plan.specs.PlanLines.{PlanLines, no_lines}
 use Rattle.unit_state.specs.declared.state.State.{State}
 use Rattle.unit_state.specs.Restart.{restarted}
 use Rattle.law_image.proofs.Planned.{no_fault, plan_rules}
-use Rattle.unit_image.specs.Shows.{LeadTo, Shows}
+use Rattle.unit_image.specs.Shows.{Shows}
 use Rattle.run_promise.specs.Life.{IsInitial}
 
 -- a plan's text has room in an image

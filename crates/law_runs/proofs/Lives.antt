@@ -6,9 +6,8 @@ use Rattle.std.proofs.lemmas.List.Elements.{All-append}
 use Rattle.std.proofs.lemmas.List.Kept.{AllPairs-cons}
 use Rattle.std.proofs.lemmas.Bool.Decides.{nat_tests}
 use Rattle.sdls_base.specs.declared.entry.Entry.{Entry}
-use Rattle.disk_journal.specs.Image.{held, IsOpenedForm}
-use Rattle.disk_journal.specs.Forms.{Settles, StaysWithin}
-use Rattle.disk_journal.proofs.Becoming.{stays_opened}
+use Rattle.unit_image.specs.Image.{held, IsOpenedForm, Settles, StaysWithin}
+use Rattle.unit_image.proofs.Images.{stays_opened}
 use Rattle.key_book.specs.declared.key_row.KeyRow.{KeyRow}
 use Rattle.record_io.specs.declared.kinds.RecordKind.{RecordKind}
 use Rattle.record_io.specs.declared.kinds.RecordKind.TheVariants.{Protect, Open, Command}
@@ -50,11 +49,10 @@ use Rattle.frame_checks.specs.ProtectingFrames as protecting
 use Rattle.record_io.specs.declared.code.TheConstants.{PROTECTED, DONE}
 use Rattle.unit_plan.specs.PlanLines.{PlanLines, link_of}
 use Rattle.run_promise.specs.ProtectingFrames.{protect_reply, layout_check}
-use Rattle.run_promise.specs.Begin.{Begin}
 use Rattle.run_promise.specs.Deed.{is_protected, Deed, is_ordered, tells_entry, Differ}
 use Rattle.run_promise.specs.Sound.{EachBegun, IsCoveredBy}
 use Rattle.run_promise.specs.Life.{LifeRun, IsRun, FollowFrom, IsLife, left_by, Given, answers_begun, given_of, given_in, state_told, UsesOctets, AcceptsOctets, AreApart, OnceInLife}
-use Rattle.law_runs.specs.Known.{IsShown, Knows, ShowsKnowing, LeavesKnowing}
+use Rattle.law_runs.specs.Known.{IsShown, Knows, LeavesKnowing}
 use Rattle.law_runs.proofs.Initials.{initial_shows, initial_rests}
 
 all_cons : {X : Type 0} (P : X → Type 0) (x : X) (xs : List X) → P x → All P xs → All P (x ∷ xs)
@@ -221,16 +219,15 @@ bound_channel plan state link clear binding is = by_line (link_of plan.links lin
         (is_none (sender_of plan state link line clear)) _ h in
         found _ _ (channel_of plan link line.layout clear) t.0 t.1 t.2
 
-module _ (near : ℕ → ℕ → Type 0) (begin : Begin) (course : Course) (same : begin.plan ≡ course.plan) where
+module _ (near : ℕ → ℕ → Type 0) (course : Course) where
   -- a protected frame tells its epoch
   told_epoch : (deed : Deed) (kind : RecordKind) → deed.task.kind ≡ kind → kind ≡ Protect → deed.answer.code ≡ PROTECTED
-      → FitsKind near course deed.task deed.answer kind → is_ordered begin deed ≡ true
+      → FitsKind near course deed.task deed.answer kind → is_ordered course.begin deed ≡ true
   told_epoch deed Protect is p code (inl h) =
-      let bound : has_channel begin.plan deed.task.link deed.task.octets ≡ true =
-      ap (λ (plan : PlanLines). has_channel plan deed.task.link deed.task.octets) same
-      ∙ bound_channel course.plan (state_in course deed.answer.position) deed.task.link deed.task.octets h.is.binding h.is.bound in
+      let bound : has_channel course.begin.plan deed.task.link deed.task.octets ≡ true =
+      bound_channel course.begin.plan (state_in course deed.answer.position) deed.task.link deed.task.octets h.is.binding h.is.bound in
       rw is (rw bound (rw code refl))
-  told_epoch deed Protect is p code (inr (inl h)) = absurd (not_told (protect_reply course.plan (state_in course deed.answer.position) deed.task.link deed.task.octets) deed.answer h.told code)
+  told_epoch deed Protect is p code (inr (inl h)) = absurd (not_told (protect_reply course.begin.plan (state_in course deed.answer.position) deed.task.link deed.task.octets) deed.answer h.told code)
     where
       not_told : (reply : protecting.Answer) (answer : Answer) → unbound_told reply ≡ Some (told_by answer) → answer.code ≡ PROTECTED → ⊥
       not_told (Ok None) answer e c = let k = ap (λ (t : Told). t.code) (same_Some _ (told_by answer) e) in absurd (omega arith)
@@ -266,16 +263,16 @@ module _ (once : ShowsOnce) (run : LifeRun) (is_run : IsRun run) where
   entries = run.course.entries
 
   abbrev start : State
-  start = run.course.start
+  start = run.course.begin.start
 
-  abbrev of : OfRun run.course.plan run.course.start (records_of run.places) (TurnIn run.places) run.course.entries
-  of = of_places run.course.plan run.course.start run.places run.course.entries is_run.sound.history
+  abbrev of : OfRun run.course.begin.plan run.course.begin.start (records_of run.places) (TurnIn run.places) run.course.entries
+  of = of_places run.course.begin.plan run.course.begin.start run.places run.course.entries is_run.sound.history
 
   abbrev new : List Given
   new = given_of run.course (answers_begun (length run.sunk) run.deeds)
 
   rules_at : (p : ℕ) → p ≤ length entries → KeepsRules (after_first start entries p)
-  rules_at p within = rules_along run.course.plan start (records_of run.places) (TurnIn run.places) entries of p within
+  rules_at p within = rules_along run.course.begin.plan start (records_of run.places) (TurnIn run.places) entries of p within
 
   -- the floor that a release would leave is no higher than the floor, and in the state of an image no lower
   kept_low : (p key : ℕ) → p ≤ length entries → kept_floor (after_first start entries p) key ≤ floor_of (after_first start entries p) key
@@ -302,10 +299,10 @@ module _ (once : ShowsOnce) (run : LifeRun) (is_run : IsRun run) where
   -- what the state at the start knows, each state of the run knows
   known_on : (p : ℕ) → p ≤ length entries → (g : Given) → IsKnown start g → IsKnown (after_first start entries p) g
   known_on p within g h = record {
-    below = λ key number u. below_along run.course.plan start (records_of run.places) (TurnIn run.places) entries of 0 p key number (omega arith) within
+    below = λ key number u. below_along run.course.begin.plan start (records_of run.places) (TurnIn run.places) entries of 0 p key number (omega arith) within
         (under key number (h.below key number u)) (h.below key number u);
     floored = λ key number a.
-        let f = kept_along run.course.plan start (records_of run.places) (TurnIn run.places) entries of 0 p key (omega arith) within in
+        let f = kept_along run.course.begin.plan start (records_of run.places) (TurnIn run.places) entries of 0 p key (omega arith) within in
         let s = kept_at_start key in let l = kept_low p key within in let old = h.floored key number a in omega arith;
     named = λ key octets number u. loaded_later start entries 0 p key octets (omega arith) (h.named key octets number u);
     opened = λ key octets number u. loaded_later start entries 0 p key octets (omega arith) (h.opened key octets number u);
@@ -325,7 +322,7 @@ module _ (once : ShowsOnce) (run : LifeRun) (is_run : IsRun run) where
           (octets_loaded (after_first start entries k) key held (rules_at k within) is (λ e. some (sym h ∙ e)))
 
   -- the state that the answer tells is of no later place than one that covers it
-  told_before : (p : ℕ) → p ≤ length entries → (d : Deed) → Fits (NearWord start entries (records_of run.places)) run.course d.task d.answer → IsCoveredBy run.begin run.course p d
+  told_before : (p : ℕ) → p ≤ length entries → (d : Deed) → Fits (NearWord start entries (records_of run.places)) run.course d.task d.answer → IsCoveredBy run.course p d
       → (key number : ℕ) → Uses d.answer key number
       → (k : ℕ) × (k ≤ p) × (state_told d.task.kind run.course d.answer ≡ after_first start entries k)
   told_before p within d fit h key number uses_it = by_kind d.task.kind refl (fits_code (NearWord start entries (records_of run.places)) run.course d.task d.answer fit)
@@ -333,7 +330,7 @@ module _ (once : ShowsOnce) (run : LifeRun) (is_run : IsRun run) where
       by_kind : (kind : RecordKind) → d.task.kind ≡ kind → IsCodeOf d.task.kind d.answer.code → (k : ℕ) × (k ≤ p) × (state_told kind run.course d.answer ≡ after_first start entries k)
       by_kind Protect is code_of =
           let code : d.answer.code ≡ PROTECTED = only uses_it.0 (subst (λ (z : RecordKind). IsCodeOf z d.answer.code) is code_of) in
-          let ordered = told_epoch (NearWord start entries (records_of run.places)) run.begin run.course is_run.sound.begins d d.task.kind refl is code fit in
+          let ordered = told_epoch (NearWord start entries (records_of run.places)) run.course d d.task.kind refl is code fit in
           let epoch : d.answer.position ≤ epoch_after (take p entries) =
           subst (λ (z : RecordKind). (if is_protected z then d.answer.position else epoch_after (take d.answer.position entries)) ≤ epoch_after (take p entries)) is
           (h.epoch ordered) in
@@ -379,7 +376,7 @@ module _ (once : ShowsOnce) (run : LifeRun) (is_run : IsRun run) where
       by_kind Command is of = absurd (let z : false ≡ true = subst (IsCodeOf Command) code (subst (λ (k : RecordKind). IsCodeOf k d.answer.code) is of) in cc)
 
   covered_known : (p : ℕ) → p ≤ length entries → (d : Deed) → Fits (NearWord start entries (records_of run.places)) run.course d.task d.answer
-      → IsCoveredBy run.begin run.course p d → IsKnown (after_first start entries p) (record { course = run.course; deed = d })
+      → IsCoveredBy run.course p d → IsKnown (after_first start entries p) (record { course = run.course; deed = d })
   covered_known p within d fit h = record {
     below = h.used;
     floored = λ key number a. let l = kept_low p key within in let b = h.accepted key number a in omega arith;
@@ -398,13 +395,13 @@ module _ (once : ShowsOnce) (run : LifeRun) (is_run : IsRun run) where
   begun_fit = begun_any (λ (d : Deed). Fits (NearWord start entries (records_of run.places)) run.course d.task d.answer) (length run.sunk) run.deeds is_run.sound.answers
 
   module _ (given : List Given) (left : IsLeft run.start given) where
-    served_known : (p : ℕ) → p ≤ length entries → EachBegun (IsCoveredBy run.begin run.course p) (length run.sunk) run.deeds
+    served_known : (p : ℕ) → p ≤ length entries → EachBegun (IsCoveredBy run.course p) (length run.sunk) run.deeds
         → All (IsKnown (after_first start entries p)) (given ++ new)
     served_known p within covers = All-append (IsKnown (after_first start entries p)) given new
         (λ k g low. known_on p within (slice_index_or given k g) (left.known start (inl is_run.shows) k g low))
         (given_all run.course (IsKnown (after_first start entries p)) (answers_begun (length run.sunk) run.deeds)
         (λ k d low. covered_known p within (slice_index_or (answers_begun (length run.sunk) run.deeds) k d) (begun_fit k d low)
-        (begun_all (IsCoveredBy run.begin run.course p) (length run.sunk) run.deeds covers k d low)))
+        (begun_all (IsCoveredBy run.course p) (length run.sunk) run.deeds covers k d low)))
 
     none_new : EachBegun (λ (d : Deed). ⊥) (length run.sunk) run.deeds → (P : Given → Type 0) → All P new
     none_new none P = given_all run.course P (answers_begun (length run.sunk) run.deeds)
@@ -454,14 +451,14 @@ module _ (once : ShowsOnce) (run : LifeRun) (is_run : IsRun run) where
           let all : All (IsKnown (after_first start entries served.p)) new =
           given_all run.course (IsKnown (after_first start entries served.p)) (answers_begun (length run.sunk) run.deeds)
           (λ k d low. covered_known served.p within (slice_index_or (answers_begun (length run.sunk) run.deeds) k d) (begun_fit k d low)
-          (begun_all (IsCoveredBy run.begin run.course served.p) (length run.sunk) run.deeds covers k d low)) in
+          (begun_all (IsCoveredBy run.course served.p) (length run.sunk) run.deeds covers k d low)) in
           pairs_append AreApart given new left.apart
           (given_pairs run.course AreApart (answers_begun (length run.sunk) run.deeds) (λ i j d lt low.
           apart_known (after_first start entries served.p) _ _ (rules_at served.p within)
           (covered_known served.p within (slice_index_or (answers_begun (length run.sunk) run.deeds) i d) (begun_fit i d (omega arith))
-          (begun_all (IsCoveredBy run.begin run.course served.p) (length run.sunk) run.deeds covers i d (omega arith)))
+          (begun_all (IsCoveredBy run.course served.p) (length run.sunk) run.deeds covers i d (omega arith)))
           (covered_known served.p within (slice_index_or (answers_begun (length run.sunk) run.deeds) j d) (begun_fit j d low)
-          (begun_all (IsCoveredBy run.begin run.course served.p) (length run.sunk) run.deeds covers j d low))
+          (begun_all (IsCoveredBy run.course served.p) (length run.sunk) run.deeds covers j d low))
           (begun_pairs (Differ Uses) (length run.sunk) run.deeds is_run.sound.pairs i j d lt low)
           (begun_pairs (Differ Accepts) (length run.sunk) run.deeds is_run.sound.accepted i j d lt low)))
           (λ k g low. given_all run.course (AreApart (slice_index_or given k g)) (answers_begun (length run.sunk) run.deeds) (λ j d in'.
@@ -469,7 +466,7 @@ module _ (once : ShowsOnce) (run : LifeRun) (is_run : IsRun run) where
           apart_known (after_first start entries served.p) (slice_index_or given k g) _ (rules_at served.p within)
           (known_on served.p within (slice_index_or given k g) old)
           (covered_known served.p within (slice_index_or (answers_begun (length run.sunk) run.deeds) j d) (begun_fit j d in')
-          (begun_all (IsCoveredBy run.begin run.course served.p) (length run.sunk) run.deeds covers j d in'))
+          (begun_all (IsCoveredBy run.course served.p) (length run.sunk) run.deeds covers j d in'))
           (λ key number u v.
           let a = old.below key number u in
           let b = begun_any (λ (d : Deed). (key number : ℕ) → Uses d.answer key number → mark_of start key ≤ number) (length run.sunk) run.deeds

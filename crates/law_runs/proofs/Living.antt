@@ -1,8 +1,8 @@
 -- A sound call continues each life that left the image at its entry: for the laws of `life`.
-use Rattle.std.proofs.Common.{◌≡◌, ◌⊎◌, ℕ, IsTrue, List, [], ◌∷◌, ◌++◌, length, refl, sym, ◌∙◌, ap, subst, inl, inr, ⊎_elim}
+use Rattle.std.proofs.Common.{◌≡◌, ◌⊎◌, ℕ, IsTrue, List, [], ◌∷◌, ◌++◌, length, refl, sym, ap, subst, inl, inr, ⊎_elim}
 use Rattle.std.specs.Prelude.{Ok}
 use Rattle.sdls_outside.specs.Disk.{Leaves}
-use Rattle.disk_journal.specs.Image.{Held, held}
+use Rattle.unit_image.specs.Image.{Held, held}
 use Rattle.unit_plan.specs.Plan.{plan_of}
 use Rattle.unit_plan.specs.PlanLines.{PlanLines}
 use Rattle.unit_state.specs.declared.state.State.{State}
@@ -10,9 +10,9 @@ use Rattle.unit_image.specs.Shows.{Shows}
 use Rattle.run_promise.specs.Sound.{IsSound, SoundMoment}
 use Rattle.run_promise.specs.Life.{AreEnd, LifeRun, IsRun, IsLife, FollowFrom, left_by, OnceInLife}
 use Rattle.run_promise.specs.Call.{CallSeen, ShowsAtEntry, image_at_entry, sunk_since}
-use Rattle.run_promise.specs.Account.{Account, begin_of, course_of, deeds_in, end_answer, end_octets}
+use Rattle.run_promise.specs.Account.{Account, course_of, deeds_in, end_answer, end_octets}
 use Rattle.run_promise.specs.Ends.{IsEarly, IsServed, IsSoundCall}
-use Rattle.run_promise.specs.Lives.{run_of, LivesOn, AddsCall, KeepsLives, AddsReading, KeepsLivesReading, no_account}
+use Rattle.run_promise.specs.Lives.{run_of, LivesOn, KeepsLives, KeepsLivesReading, no_account}
 use Rattle.law_runs.specs.Known.{LeavesKnowing}
 use Rattle.law_runs.specs.Reads.{ReadsSoundly}
 use Rattle.run_promise.specs.Life.{given_in}
@@ -49,8 +49,8 @@ module _ (well : LivesWell) where
 
   -- a run of which this moment is sound is one more run of the life
   lives_on : (call : CallSeen) (account : Account) (plan : PlanLines) (state : State) (ends left sunk : List ℕ) → ShowsAtEntry call plan state
-      → AreEnd ends → IsSound (begin_of call plan state) (course_of call account plan state) account.handled (deeds_in account)
-      → SoundMoment (begin_of call plan state) (course_of call account plan state) (deeds_in account) ends (image_at_entry call) left sunk
+      → AreEnd ends → IsSound (course_of call account plan state) account.handled (deeds_in account)
+      → SoundMoment (course_of call account plan state) (deeds_in account) ends (image_at_entry call) left sunk
       → (image : List ℕ) (runs : List LifeRun) → IsLife image runs → left_by image runs ≡ image_at_entry call
       → LivesOn image runs (run_of call account plan state ends left sunk)
   lives_on call account plan state ends left sunk shows ended sound moment image runs life left_is =
@@ -66,7 +66,7 @@ module _ (well : LivesWell) where
       record { life = next; once = well.once image _ next }
 
   pub keeps_lives : (call : CallSeen) (account : Account)
-      → (IsTrue call.site.told → (plan : PlanLines) (state : State) → ShowsAtEntry call plan state → IsSoundCall call account plan state)
+      → (IsTrue call.told → (plan : PlanLines) (state : State) → ShowsAtEntry call plan state → IsSoundCall call account plan state)
       → KeepsLives call account
   keeps_lives call account sounds is_told image runs life left_is =
       let (plan, state, shows) = begins_with call image runs life left_is in
@@ -94,8 +94,8 @@ module _ (well : LivesWell) where
 
   pub reading_keeps_lives : (call : CallSeen)
       → ((plan : PlanLines) (state : State) → ShowsAtEntry call plan state
-      → IsSound (begin_of call plan state) (course_of call (no_account call) plan state) [] [])
-      → (IsTrue call.site.told → (plan : PlanLines) (state : State) → ShowsAtEntry call plan state → ReadsSoundly call plan state)
+      → IsSound (course_of call (no_account call) plan state) [] [])
+      → (IsTrue call.told → (plan : PlanLines) (state : State) → ShowsAtEntry call plan state → ReadsSoundly call plan state)
       → KeepsLivesReading call
   reading_keeps_lives call sounds reads is_told image runs life left_is =
       let (plan, state, shows) = begins_with call image runs life left_is in
@@ -112,7 +112,7 @@ module _ (well : LivesWell) where
       }
     where
       lift : (plan : PlanLines) (state : State) → ShowsAtEntry call plan state → (left : List ℕ) → Leaves call.site.trace.now left
-          ⊎ SoundMoment (begin_of call plan state) (course_of call (no_account call) plan state) [] [] (image_at_entry call) left []
+          ⊎ SoundMoment (course_of call (no_account call) plan state) [] [] (image_at_entry call) left []
           → Leaves call.site.trace.now left ⊎ LivesOn image runs (run_of call (no_account call) plan state [] left [])
       lift plan state shows left (inl early) = inl early
       lift plan state shows left (inr moment) =

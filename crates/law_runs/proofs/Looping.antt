@@ -363,7 +363,7 @@ module _ (start before now : SourceSeen) (standing : Standing) (begin : Begin) (
             → (f.task.kind ≢ Protect) ⊎ MayAppend (IsBetween begin first w) (course_in begin w) MOST_ENTRIES f.task
         due (inl other) = inl other
         due (inr may) = inr (subst (λ (es : List Entry). MayAppend (IsBetween begin first w) (record (course_in begin w) { entries = es }) MOST_ENTRIES f.task) (sym h.puts.entries)
-            (may_append (IsBetween begin v mid) (IsBetween begin first w) between_on begin.plan begin.start (entries_in mid) _ _ _ _ _ _ _ _ _ _ MOST_ENTRIES f.task may))
+            (may_append (IsBetween begin v mid) (IsBetween begin first w) between_on begin.plan begin.start (entries_in mid) _ _ _ _ _ _ _ _ _ _ _ _ MOST_ENTRIES f.task may))
 
     more_put : length (octets_put mid) ≤ length (octets_put w)
     more_put =

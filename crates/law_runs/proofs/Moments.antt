@@ -17,7 +17,7 @@ use Rattle.run_promise.specs.Sound.{EachBegun, SoundMoment, deeds_octets}
 use Rattle.law_runs.specs.AtEnd.{StaysCovered}
 use Rattle.law_runs.proofs.SoundMoments.{moment_sound}
 use Rattle.run_promise.specs.Call.{CallSeen, image_at_entry, sunk_since}
-use Rattle.run_promise.specs.Account.{Account, begin_of, course_of, deeds_in, end_octets}
+use Rattle.run_promise.specs.Account.{Account, course_of, deeds_in, end_octets}
 use Rattle.run_promise.specs.Ends.{IsEarly, IsServed}
 
 none_begun : (deeds : List Deed) → EachBegun (λ (d : Deed). ⊥) 0 deeds
@@ -38,7 +38,7 @@ opening_moment call account plan state image sunk (inl leaves, same) =
     })
 opening_moment call account plan state image sunk (inr settles, same) =
     let none = nothing_since call sunk same in
-    inr (subst (SoundMoment (begin_of call plan state) (course_of call account plan state) (deeds_in account) (end_octets call account.told) (image_at_entry call) image) (sym none)
+    inr (subst (SoundMoment (course_of call account plan state) (deeds_in account) (end_octets call account.told) (image_at_entry call) image) (sym none)
     (record { front = refl; image_shows = inl (none_begun (deeds_in account), settles) }))
 
 -- what was sunk since, while the book served
@@ -53,12 +53,12 @@ since_is before a b sunk between =
     is ∙ ap (λ (l : List ℕ). before ++ l) (sym (ap (drop (length before)) is ∙ drop-append_seam before (take (length sunk - length before) b)))
 
 pub serving_moment : (call : CallSeen) (account : Account) (plan : PlanLines) (state : State) (log : List Logged) (standing : ℕ) (image sunk : List ℕ)
-    → call.entries ≡ entries_of log → AreSettled (begin_of call plan state) (course_of call account plan state) standing log 0 (deeds_in account)
-    → StaysCovered (begin_of call plan state) (course_of call account plan state) (deeds_in account)
+    → call.entries ≡ entries_of log → AreSettled (course_of call account plan state) standing log 0 (deeds_in account)
+    → StaysCovered (course_of call account plan state) (deeds_in account)
     → pieces_of log ≡ take (length (pieces_of log)) (deeds_octets (deeds_in account) ++ end_octets call account.told)
     → Serves state log standing call.site.trace.now.sunk image sunk → IsServed call account plan state image sunk
 serving_moment call account plan state log standing image sunk is settled stays put m =
-    moment_sound (begin_of call plan state) (course_of call account plan state) standing log (deeds_in account) (end_octets call account.told) (image_at_entry call)
+    moment_sound (course_of call account plan state) standing log (deeds_in account) (end_octets call account.told) (image_at_entry call)
     call.site.trace.now.sunk image sunk (sunk_since call sunk) is settled stays put
     (since_is call.site.trace.now.sunk (pieces_of (take m.place log)) (pieces_of (take (m.place + 1) log)) sunk m.sinks) m
 
@@ -66,8 +66,8 @@ serving_moment call account plan state log standing image sunk is settled stays 
 pub all_moments : (call : CallSeen) (account : Account) (plan : PlanLines) (state : State) (opened : Trace) (log : List Logged) (standing : ℕ)
     → EachMoment call.site.trace opened (Opening call.site.trace) → opened.now.sunk ≡ call.site.trace.now.sunk
     → EachMoment opened call.site_after.trace (Serves state log standing opened.now.sunk)
-    → call.entries ≡ entries_of log → AreSettled (begin_of call plan state) (course_of call account plan state) standing log 0 (deeds_in account)
-    → StaysCovered (begin_of call plan state) (course_of call account plan state) (deeds_in account)
+    → call.entries ≡ entries_of log → AreSettled (course_of call account plan state) standing log 0 (deeds_in account)
+    → StaysCovered (course_of call account plan state) (deeds_in account)
     → pieces_of log ≡ take (length (pieces_of log)) (deeds_octets (deeds_in account) ++ end_octets call account.told)
     → EachMoment call.site.trace call.site_after.trace (λ image sunk. IsEarly call account.told image sunk ⊎ IsServed call account plan state image sunk)
 all_moments call account plan state opened log standing opening same serving is settled stays put =

@@ -18,11 +18,9 @@ use Rattle.sdls_outside.specs.Site as sites
 use Rattle.sdls_outside.proofs.Moments.{each_puts, each_then, each_weaker, moment_now}
 use Rattle.key_book.specs.declared.key_row.KeyRow.{KeyRow}
 use Rattle.key_book.specs.KeyBook.{AreKeyRows, place_of, row_of}
-use Rattle.disk_journal.specs.Changes.{OnlySyncs}
-use Rattle.disk_journal.specs.Forms.{Settles}
-use Rattle.disk_journal.specs.Image.{held}
-use Rattle.disk_journal.proofs.Images.{records_of}
-use Rattle.disk_journal.proofs.Moments.{only_syncs_moments}
+use Rattle.unit_image.specs.Image.{held, OnlySyncs, Settles}
+use Rattle.unit_image.proofs.Images.{records_of}
+use Rattle.unit_image.proofs.Images.{only_syncs_moments}
 use Rattle.record_io.specs.declared.status.TheConstants.{DONE, SITE_FAULT}
 use Rattle.record_io.specs.Answers.{answer_octets}
 use Rattle.record_io.specs.Reading.{SourceSeen, HasTaken}
@@ -37,6 +35,7 @@ use Rattle.unit_image.specs.declared.fault.OpenFault.{OpenFault}
 use Rattle.unit_image.specs.declared.fault.OpenFault.TheVariants as openings
 use Rattle.unit_image.specs.OpeningImage.{IsOpenCause}
 use Rattle.unit_image.specs.Shows.{Shows, ShowsNone}
+use Rattle.run_promise.specs.Site.{SiteSeen}
 use Rattle.run_promise.specs.Numbers.{release_at, release_of, released_floor, releases, mark_at, mark_of}
 use Rattle.run_promise.specs.Taken.{kept_floor}
 use Rattle.law_history.proofs.Accepting.{kept_restarted}
@@ -46,8 +45,8 @@ use Rattle.run_promise.specs.Sound.{IsSound}
 use Rattle.law_workers.proofs.Rows.{mark_known, row_named, row_placed}
 use Rattle.sdls_base.specs.declared.states.KeyState.TheVariants.{PreActive}
 use Rattle.run_promise.specs.declared.end.RunEnd.TheVariants as ends
-use Rattle.run_promise.specs.Call.{CallSeen, sunk_since, call_seen}
-use Rattle.run_promise.specs.Account.{Account, AreAnswered, begin_of, course_of, end_answer, end_octets, end_status}
+use Rattle.run_promise.specs.Call.{CallSeen, sunk_since}
+use Rattle.run_promise.specs.Account.{Account, AreAnswered, course_of, end_answer, end_octets, end_status}
 use Rattle.run_promise.specs.Causes.{CameBy, PutsDue, PutsFront, TellsEnd}
 use Rattle.run_promise.specs.Ends.{IsEarly, IsOpenRefusal, IsRefused, IsReleased, IsServed, IsSoundCall, IsUnopened, RunEnds}
 use Rattle.law_runs.specs.Refused.{Refused, refused_end}
@@ -165,10 +164,10 @@ not_done (openings.SiteFault count) is = omega arith
 not_done (openings.Image offset) is = omega arith
 not_done openings.NoMemory is = omega arith
 
-module _ {O : Type 0} (told : Bool) (trace : O → Trace) (faults puts : O → ℕ) (site back after : O) (source : SourceSeen) (fault : OpenFault) (status : ℕ)
-    (refused : Refused told trace faults puts site back after fault status) where
+module _ (told : Bool) (site back after : SiteSeen) (source : SourceSeen) (fault : OpenFault) (status : ℕ)
+    (refused : Refused told site back after fault status) where
   abbrev pub call : CallSeen
-  call = call_seen told trace faults puts site after source source status []
+  call = record { source = source; source_after = source; told = told; site = site; site_after = after; status = status; entries = [] }
 
   abbrev pub account : Account
   account = record {
@@ -179,7 +178,7 @@ module _ {O : Type 0} (told : Bool) (trace : O → Trace) (faults puts : O → �
     part = [];
     handled = [];
     answers = [];
-    last = faults back;
+    last = back.faults;
   }
 
   takes : HasTaken source source [] [] []
@@ -197,7 +196,7 @@ module _ {O : Type 0} (told : Bool) (trace : O → Trace) (faults puts : O → �
   answered openings.NoMemory = ((0, refl), refl)
 
   abbrev Cause : OpenFault → Type 0
-  Cause f = IsOpenCause (faults site) (faults back) (λ offset. IsTrue told → ShowsNone (trace site).now.image offset × OnlySyncs (trace site) (trace back)) f
+  Cause f = IsOpenCause site.faults back.faults (λ offset. IsTrue told → ShowsNone site.trace.now.image offset × OnlySyncs site.trace back.trace) f
 
   cause_of : (f : OpenFault) → Cause f → CameBy call account (refused_end f)
   cause_of (openings.SiteFault count) cause = (cause.0, cause.1, refl, refl)
@@ -216,205 +215,204 @@ module _ {O : Type 0} (told : Bool) (trace : O → Trace) (faults puts : O → �
     )
   ]
 
-  quiet : status ≢ SITE_FAULT → faults after ≡ faults site
+  quiet : status ≢ SITE_FAULT → after.faults ≡ site.faults
   quiet other = go refused.put refused.status_is refused.put_cause
     where
-      go : (r : Result (Unit {0}) Failed) → MatchResult r (λ _. status ≡ end_status refused.end) (λ _. status ≡ SITE_FAULT) → HasCause (faults back) (faults after) r
-          → faults after ≡ faults site
+      go : (r : Result (Unit {0}) Failed) → MatchResult r (λ _. status ≡ end_status refused.end) (λ _. status ≡ SITE_FAULT) → HasCause back.faults after.faults r
+          → after.faults ≡ site.faults
       go (Ok done) status_is cause = elim refused.end_is [
         | inl before ↦ absurd (other (status_is ∙ ap end_status before.1))
-        | inr well ↦ cause.stood ∙ same_count (faults site) (faults back) refused.later well.0
+        | inr well ↦ cause.stood ∙ same_count site.faults back.faults refused.later well.0
       ]
       go (Err failed) status_is cause = absurd (other status_is)
 
-  module _ (stays : (o : O) → IsTrue told → Leaves (trace o).now (trace o).now.image) where
-    sunk_same : IsTrue told → (trace back).now.sunk ≡ (trace site).now.sunk
-    sunk_same is_told =
-        ((refused.opening is_told).each (trace back).now.image (trace back).now.sunk
-        (moment_now (trace back) (clock (trace site)) (trace back).now.image (stays back is_told))).1
+  sunk_same : IsTrue told → back.trace.now.sunk ≡ site.trace.now.sunk
+  sunk_same is_told =
+      ((refused.opening is_told).each back.trace.now.image back.trace.now.sunk
+      (moment_now back.trace (clock site.trace) back.trace.now.image ((refused.stays is_told).1))).1
 
-    puts_end : PutsDue call account ⊎ PutsFront call account
-    puts_end = go refused.put refused.sinks refused.counted refused.put_cause refused.status_is
-      where
-        go : (r : Result (Unit {0}) Failed) → (IsTrue told → sites.Puts (answer_octets (end_answer refused.end 0)) r (trace back) (trace after))
-            → puts after ≡ sites.after_put r (puts back) → HasCause (faults back) (faults after) r
-            → MatchResult r (λ _. status ≡ end_status refused.end) (λ _. status ≡ SITE_FAULT) → PutsDue call account ⊎ PutsFront call account
-        go (Ok done) sinks counted cause status_is = inl (record {
-          none_failed = counted ∙ refused.same_puts;
-          status_is = status_is;
-          sunk = λ is_told. (sinks is_told).1 ∙ ap (λ (l : List ℕ). l ++ answer_octets (end_answer refused.end 0)) (sunk_same is_told);
-        })
-        go (Err failed) sinks counted cause status_is = inr (record {
-          one_failed = let same = refused.same_puts in omega arith;
-          status_is = status_is;
-          rose = let rose = cause.failed in let low = refused.later in omega arith;
-          sunk = λ is_told.
-              subst (λ (base : List ℕ). Between base (base ++ answer_octets (end_answer refused.end 0)) (trace after).now.sunk) (sunk_same is_told)
-              (failed_put (answer_octets (end_answer refused.end 0)) (trace back) (trace after) (sinks is_told));
-          earlier = λ is_told place (k, low, is). absurd (omega arith);
-        })
+  puts_end : PutsDue call account ⊎ PutsFront call account
+  puts_end = go refused.put refused.sinks refused.counted refused.put_cause refused.status_is
+    where
+      go : (r : Result (Unit {0}) Failed) → (IsTrue told → sites.Puts (answer_octets (end_answer refused.end 0)) r back.trace after.trace)
+          → after.put_faults ≡ sites.after_put r back.put_faults → HasCause back.faults after.faults r
+          → MatchResult r (λ _. status ≡ end_status refused.end) (λ _. status ≡ SITE_FAULT) → PutsDue call account ⊎ PutsFront call account
+      go (Ok done) sinks counted cause status_is = inl (record {
+        none_failed = counted ∙ refused.same_puts;
+        status_is = status_is;
+        sunk = λ is_told. (sinks is_told).1 ∙ ap (λ (l : List ℕ). l ++ answer_octets (end_answer refused.end 0)) (sunk_same is_told);
+      })
+      go (Err failed) sinks counted cause status_is = inr (record {
+        one_failed = let same = refused.same_puts in omega arith;
+        status_is = status_is;
+        rose = let rose = cause.failed in let low = refused.later in omega arith;
+        sunk = λ is_told.
+            subst (λ (base : List ℕ). Between base (base ++ answer_octets (end_answer refused.end 0)) after.trace.now.sunk) (sunk_same is_told)
+            (failed_put (answer_octets (end_answer refused.end 0)) back.trace after.trace (sinks is_told));
+        earlier = λ is_told place (k, low, is). absurd (omega arith);
+      })
 
-    -- ---- its moments
+  -- ---- its moments
 
-    -- what holds of the image while it is opened holds while End is put
-    with_end : (P : List ℕ → Type 0) → IsTrue told → EachMoment (trace site) (trace back) (λ image sunk. P image × (sunk ≡ (trace site).now.sunk))
-        → EachMoment (trace site) (trace after)
-        (λ image sunk. P image × (sunk_since call sunk ≡ take (length (sunk_since call sunk)) (end_octets call refused.end)))
-    with_end P is_told first =
-        let Q : List ℕ → List ℕ → Type 0 =
-        λ image sunk. P image × (sunk_since call sunk ≡ take (length (sunk_since call sunk)) (end_octets call refused.end)) in
-        each_then (trace site) (trace back) (trace after) Q
-        (each_weaker (trace site) (trace back) (λ image sunk. P image × (sunk ≡ (trace site).now.sunk)) Q
-        (λ image sunk h. (h.0, none_since (trace site).now.sunk (answer_octets (end_answer refused.end 0)) sunk h.1)) first)
-        (each_puts (answer_octets (end_answer refused.end 0)) refused.put (trace back) (trace after) Q (refused.sinks is_told)
-        (λ image sunk leaves between.
-        let h = first.each image (trace back).now.sunk (moment_now (trace back) (clock (trace site)) image leaves) in (
-          h.0,
-          front_since (trace site).now.sunk (answer_octets (end_answer refused.end 0)) sunk
-              (subst (λ (base : List ℕ). Between base (base ++ answer_octets (end_answer refused.end 0)) sunk) h.1 between),
-        )))
+  -- what holds of the image while it is opened holds while End is put
+  with_end : (P : List ℕ → Type 0) → IsTrue told → EachMoment site.trace back.trace (λ image sunk. P image × (sunk ≡ site.trace.now.sunk))
+      → EachMoment site.trace after.trace
+      (λ image sunk. P image × (sunk_since call sunk ≡ take (length (sunk_since call sunk)) (end_octets call refused.end)))
+  with_end P is_told first =
+      let Q : List ℕ → List ℕ → Type 0 =
+      λ image sunk. P image × (sunk_since call sunk ≡ take (length (sunk_since call sunk)) (end_octets call refused.end)) in
+      each_then site.trace back.trace after.trace Q
+      (each_weaker site.trace back.trace (λ image sunk. P image × (sunk ≡ site.trace.now.sunk)) Q
+      (λ image sunk h. (h.0, none_since site.trace.now.sunk (answer_octets (end_answer refused.end 0)) sunk h.1)) first)
+      (each_puts (answer_octets (end_answer refused.end 0)) refused.put back.trace after.trace Q (refused.sinks is_told)
+      (λ image sunk leaves between.
+      let h = first.each image back.trace.now.sunk (moment_now back.trace (clock site.trace) image leaves) in (
+        h.0,
+        front_since site.trace.now.sunk (answer_octets (end_answer refused.end 0)) sunk
+            (subst (λ (base : List ℕ). Between base (base ++ answer_octets (end_answer refused.end 0)) sunk) h.1 between),
+      )))
 
-    unopened : IsTrue told → EachMoment (trace site) (trace after) (IsUnopened call refused.end)
-    unopened is_told =
-        let P : List ℕ → Type 0 = λ image. Leaves (trace site).now image ⊎ Settles (trace site).now.image image in
-        each_weaker (trace site) (trace after)
-        (λ image sunk. P image × (sunk_since call sunk ≡ take (length (sunk_since call sunk)) (end_octets call refused.end))) (IsUnopened call refused.end)
-        (λ image sunk h. record { image_is = h.0; only_end = h.1 }) (with_end P is_told (refused.opening is_told))
+  unopened : IsTrue told → EachMoment site.trace after.trace (IsUnopened call refused.end)
+  unopened is_told =
+      let P : List ℕ → Type 0 = λ image. Leaves site.trace.now image ⊎ Settles site.trace.now.image image in
+      each_weaker site.trace after.trace
+      (λ image sunk. P image × (sunk_since call sunk ≡ take (length (sunk_since call sunk)) (end_octets call refused.end))) (IsUnopened call refused.end)
+      (λ image sunk h. record { image_is = h.0; only_end = h.1 }) (with_end P is_told (refused.opening is_told))
 
-    early : IsTrue told → OnlySyncs (trace site) (trace back) → EachMoment (trace site) (trace after) (IsEarly call refused.end)
-    early is_told syncs =
-        let P : List ℕ → Type 0 = Leaves (trace site).now in
-        each_weaker (trace site) (trace after)
-        (λ image sunk. P image × (sunk_since call sunk ≡ take (length (sunk_since call sunk)) (end_octets call refused.end))) (IsEarly call refused.end)
-        (λ image sunk h. record { leaves = h.0; only_end = h.1 })
-        (with_end P is_told (only_syncs_moments (trace site) (trace back) syncs (stays site is_told)).moments)
+  early : IsTrue told → OnlySyncs site.trace back.trace → EachMoment site.trace after.trace (IsEarly call refused.end)
+  early is_told syncs =
+      let P : List ℕ → Type 0 = Leaves site.trace.now in
+      each_weaker site.trace after.trace
+      (λ image sunk. P image × (sunk_since call sunk ≡ take (length (sunk_since call sunk)) (end_octets call refused.end))) (IsEarly call refused.end)
+      (λ image sunk h. record { leaves = h.0; only_end = h.1 })
+      (with_end P is_told (only_syncs_moments site.trace back.trace syncs ((refused.stays is_told).0)).moments)
 
-    -- ---- an image that shows a state
+  -- ---- an image that shows a state
 
-    module _ (plan : PlanLines) (state : State) where
-      served : (image sunk : List ℕ) → IsUnopened call refused.end image sunk
-          → IsEarly call refused.end image sunk ⊎ IsServed call account plan state image sunk
-      served image sunk m = elim m.image_is [
-        | inl leaves ↦ inl (record { leaves = leaves; only_end = m.only_end })
-        | inr settles ↦ inr (record { front = m.only_end; image_shows = inl (tt, settles) })
-      ]
+  module _ (plan : PlanLines) (state : State) where
+    served : (image sunk : List ℕ) → IsUnopened call refused.end image sunk
+        → IsEarly call refused.end image sunk ⊎ IsServed call account plan state image sunk
+    served image sunk m = elim m.image_is [
+      | inl leaves ↦ inl (record { leaves = leaves; only_end = m.only_end })
+      | inr settles ↦ inr (record { front = m.only_end; image_shows = inl (tt, settles) })
+    ]
 
-      sound_run : IsPlan plan → KeepsRules state → IsSound (begin_of call plan state) (course_of call account plan state) [] []
-      sound_run plan_is rules = no_records _ _ refl plan_is rules refl
+    sound_run : IsPlan plan → KeepsRules state → IsSound (course_of call account plan state) [] []
+    sound_run plan_is rules = no_records _ plan_is rules refl
 
-      sound_call : IsTrue told → IsPlan plan → KeepsRules state → IsSoundCall call account plan state
-      sound_call is_told plan_is rules = record {
-        run = sound_run plan_is rules;
-        moments = each_weaker (trace site) (trace after) (IsUnopened call refused.end)
-            (λ image sunk. IsEarly call refused.end image sunk ⊎ IsServed call account plan state image sunk) served (unopened is_told);
-      }
+    sound_call : IsTrue told → IsPlan plan → KeepsRules state → IsSoundCall call account plan state
+    sound_call is_told plan_is rules = record {
+      run = sound_run plan_is rules;
+      moments = each_weaker site.trace after.trace (IsUnopened call refused.end)
+          (λ image sunk. IsEarly call refused.end image sunk ⊎ IsServed call account plan state image sunk) served (unopened is_told);
+    }
 
-      released : KeepsRules state → restarted state ≡ state → (ends : ℕ) → ends ≤ 0
-          → (r : IsReleased call account state ends) × (r.words ≡ marks_from state 0 MOST_KEYS)
-      released rules left ends low =
-          let none : 0 ≡ ends = omega arith in
-          subst (λ (n : ℕ). (r : IsReleased call account state n) × (r.words ≡ marks_from state 0 MOST_KEYS)) none (
-            record {
-              words = marks_from state 0 MOST_KEYS;
-              rows = marks_counted state 0 MOST_KEYS;
-              count = 0;
-              are_due = refl;
-              stopped = λ rose. refl;
-              refused = λ few. let due = ap length (none_due state rules left 0 MOST_KEYS) in absurd (omega arith);
-              full = λ is_ended full. absurd (not_ended fault is_ended);
-              heard = λ other moved. absurd (moved (quiet other));
-              moved = record {
-                move_of = λ index. Kept;
-                told = λ k d low. absurd (omega arith);
-                between = λ index. tt;
-                word = λ row low.
-                    let a : slice_index (marks_from state 0 MOST_KEYS) row ≡ mark_at state (0 + row) = marks_found state 0 MOST_KEYS row low in
-                    let same : 0 + row ≡ row = omega arith in
-                    let b = ap (mark_at state) same in omega arith;
-              };
-              near = λ key row is.
-                  let in_keys = (row_named state.keys key row (record { id = 0; state = PreActive; bytes = []; digest = []; mark = 0; floor = 0 }) is).0 in
-                  let most = rules.keys.most in
-                  let word : slice_index (marks_from state 0 MOST_KEYS) row ≡ mark_of state key =
-                  marks_found state 0 MOST_KEYS row (omega arith) ∙ ap (mark_at state) (let e : 0 + row ≡ row = omega arith in e) ∙ mark_known state [] key row rules is in
-                  record { least = omega arith; base = mark_of state key; is_base = inl refl; most = omega arith };
-              above = λ k d few. absurd (omega arith);
-              room = λ stood. let few = (records_of (trace site).now.image).within in omega arith;
-            },
-            refl,
-          )
-
-      take_none : (n : ℕ) → take {A = Entry} n [] ≡ []
-      take_none zero = refl
-      take_none (suc n) = refl
-
-      -- nothing was drawn, and the words are the marks
-      exact_none : (words : List ℕ) (ends : ℕ) → words ≡ marks_from state 0 MOST_KEYS → IsExact call account plan state words ends
-      exact_none words ends is = record {
-        moves = [];
-        beyond = [];
-        few = omega arith;
-        each = λ all. refl;
-        told = tt;
-        runs = tt;
-        reserves = λ p entry low there none. absurd (let within = slice_get_within [] p entry there in omega arith);
-        last = λ row low.
-            let a = ap (λ (l : List ℕ). slice_index l row) is in
-            let b : slice_index (marks_from state 0 MOST_KEYS) row ≡ mark_at state (0 + row) = marks_found state 0 MOST_KEYS row low in
-            let same : 0 + row ≡ row = omega arith in
-            let c = ap (mark_at state) same in omega arith;
-        served = ([], [], take_none ends, refl, omega arith, λ all quiet. refl);
-      }
-
-    -- ---- an image that shows none
-
-    module _ (one : (image : List ℕ) (a b : ℕ) → ShowsNone image a → ShowsNone image b → a ≡ b) where
-      refusal : (f : OpenFault) (offset : ℕ) → Cause f → IsTrue told → ShowsNone (trace site).now.image offset → IsOpenRefusal offset (refused_end f)
-      refusal (openings.SiteFault count) offset cause is_told none = inr (inl (count, refl))
-      refusal (openings.Image at) offset cause is_told none = inl (ap ends.NoState (one (trace site).now.image at offset (cause is_told).0 none))
-      refusal openings.NoMemory offset cause is_told none = inr (inr refl)
-
-      syncs : (f : OpenFault) (offset : ℕ) → Cause f → IsTrue told → refused_end f ≡ ends.NoState offset → OnlySyncs (trace site) (trace back)
-      syncs (openings.SiteFault count) offset cause is_told is = absurd (let s = ap end_status is in omega arith)
-      syncs (openings.Image at) offset cause is_told is = (cause is_told).1
-      syncs openings.NoMemory offset cause is_told is = absurd (let s = ap end_status is in omega arith)
-
-      refused_so : IsTrue told → (offset : ℕ) → ShowsNone (trace site).now.image offset → IsRefused call account offset
-      refused_so is_told offset none = record {
-        came_is = refusal fault offset refused.cause is_told none;
-        source_is = refl;
-        no_entries = refl;
-        moments = unopened is_told;
-        image_is = λ is.
-            put_image (answer_octets (end_answer refused.end 0)) refused.put (trace back) (trace after) (refused.sinks is_told)
-            ∙ sync_image (trace site) (trace back) (syncs fault offset refused.cause is_told is);
-        early = λ is. early is_told (syncs fault offset refused.cause is_told is);
-      }
-
-      pub refused_ends : ((text : List ℕ) (plan : PlanLines) → plan_of text ≡ Ok plan → IsPlan plan)
-          → ((image : List ℕ) (state : State) → Shows image state → KeepsRules state)
-          → ((image : List ℕ) (state : State) → Shows image state → restarted state ≡ state) → RunEnds call
-      refused_ends plans rules lefts = record {
-        account = account;
-        takes = takes;
-        answered = answered fault;
-        cause = cause_of fault refused.cause;
-        tells = tells;
-        put = puts_end;
-        faults_told = λ k d low. absurd (omega arith);
-        last_later = refused.later;
-        after_later = refused.put_cause.later;
-        quiet = λ other. inl (quiet other);
-        bounded = omega arith;
-        sound = λ is_told plan state shows.
-            let is_plan = plans (held (trace site).now.image).plan plan shows.says in
-            let keeps = rules (trace site).now.image state shows.shows in
-            let sound = sound_call plan state is_told is_plan keeps in
-            let (r, words) = released plan state keeps (lefts (trace site).now.image state shows.shows)
-            sound.run.history.run.ends sound.run.history.run.within in record {
-              sound = sound;
-              released = r;
-              exact = λ one. exact_none plan state r.words sound.run.history.run.ends words;
+    released : KeepsRules state → restarted state ≡ state → (ends : ℕ) → ends ≤ 0
+        → (r : IsReleased call account state ends) × (r.words ≡ marks_from state 0 MOST_KEYS)
+    released rules left ends low =
+        let none : 0 ≡ ends = omega arith in
+        subst (λ (n : ℕ). (r : IsReleased call account state n) × (r.words ≡ marks_from state 0 MOST_KEYS)) none (
+          record {
+            words = marks_from state 0 MOST_KEYS;
+            rows = marks_counted state 0 MOST_KEYS;
+            count = 0;
+            are_due = refl;
+            stopped = λ rose. refl;
+            refused = λ few. let due = ap length (none_due state rules left 0 MOST_KEYS) in absurd (omega arith);
+            full = λ is_ended full. absurd (not_ended fault is_ended);
+            heard = λ other moved. absurd (moved (quiet other));
+            moved = record {
+              move_of = λ index. Kept;
+              told = λ k d low. absurd (omega arith);
+              between = λ index. tt;
+              word = λ row low.
+                  let a : slice_index (marks_from state 0 MOST_KEYS) row ≡ mark_at state (0 + row) = marks_found state 0 MOST_KEYS row low in
+                  let same : 0 + row ≡ row = omega arith in
+                  let b = ap (mark_at state) same in omega arith;
             };
-        refused = refused_so;
-      }
+            near = λ key row is.
+                let in_keys = (row_named state.keys key row (record { id = 0; state = PreActive; bytes = []; digest = []; mark = 0; floor = 0 }) is).0 in
+                let most = rules.keys.most in
+                let word : slice_index (marks_from state 0 MOST_KEYS) row ≡ mark_of state key =
+                marks_found state 0 MOST_KEYS row (omega arith) ∙ ap (mark_at state) (let e : 0 + row ≡ row = omega arith in e) ∙ mark_known state [] key row rules is in
+                record { least = omega arith; base = mark_of state key; is_base = inl refl; most = omega arith };
+            above = λ k d few. absurd (omega arith);
+            room = λ stood. let few = (records_of site.trace.now.image).within in omega arith;
+          },
+          refl,
+        )
+
+    take_none : (n : ℕ) → take {A = Entry} n [] ≡ []
+    take_none zero = refl
+    take_none (suc n) = refl
+
+    -- nothing was drawn, and the words are the marks
+    exact_none : (words : List ℕ) (ends : ℕ) → words ≡ marks_from state 0 MOST_KEYS → IsExact call account plan state words ends
+    exact_none words ends is = record {
+      moves = [];
+      beyond = [];
+      few = omega arith;
+      each = λ all. refl;
+      told = tt;
+      runs = tt;
+      reserves = λ p entry low there none. absurd (let within = slice_get_within [] p entry there in omega arith);
+      last = λ row low.
+          let a = ap (λ (l : List ℕ). slice_index l row) is in
+          let b : slice_index (marks_from state 0 MOST_KEYS) row ≡ mark_at state (0 + row) = marks_found state 0 MOST_KEYS row low in
+          let same : 0 + row ≡ row = omega arith in
+          let c = ap (mark_at state) same in omega arith;
+      served = ([], [], take_none ends, refl, omega arith, λ all quiet. refl);
+    }
+
+  -- ---- an image that shows none
+
+  module _ (one : (image : List ℕ) (a b : ℕ) → ShowsNone image a → ShowsNone image b → a ≡ b) where
+    refusal : (f : OpenFault) (offset : ℕ) → Cause f → IsTrue told → ShowsNone site.trace.now.image offset → IsOpenRefusal offset (refused_end f)
+    refusal (openings.SiteFault count) offset cause is_told none = inr (inl (count, refl))
+    refusal (openings.Image at) offset cause is_told none = inl (ap ends.NoState (one site.trace.now.image at offset (cause is_told).0 none))
+    refusal openings.NoMemory offset cause is_told none = inr (inr refl)
+
+    syncs : (f : OpenFault) (offset : ℕ) → Cause f → IsTrue told → refused_end f ≡ ends.NoState offset → OnlySyncs site.trace back.trace
+    syncs (openings.SiteFault count) offset cause is_told is = absurd (let s = ap end_status is in omega arith)
+    syncs (openings.Image at) offset cause is_told is = (cause is_told).1
+    syncs openings.NoMemory offset cause is_told is = absurd (let s = ap end_status is in omega arith)
+
+    refused_so : IsTrue told → (offset : ℕ) → ShowsNone site.trace.now.image offset → IsRefused call account offset
+    refused_so is_told offset none = record {
+      came_is = refusal fault offset refused.cause is_told none;
+      source_is = refl;
+      no_entries = refl;
+      moments = unopened is_told;
+      image_is = λ is.
+          put_image (answer_octets (end_answer refused.end 0)) refused.put back.trace after.trace (refused.sinks is_told)
+          ∙ sync_image site.trace back.trace (syncs fault offset refused.cause is_told is);
+      early = λ is. early is_told (syncs fault offset refused.cause is_told is);
+    }
+
+    pub refused_ends : ((text : List ℕ) (plan : PlanLines) → plan_of text ≡ Ok plan → IsPlan plan)
+        → ((image : List ℕ) (state : State) → Shows image state → KeepsRules state)
+        → ((image : List ℕ) (state : State) → Shows image state → restarted state ≡ state) → RunEnds call
+    refused_ends plans rules lefts = record {
+      account = account;
+      takes = takes;
+      answered = answered fault;
+      cause = cause_of fault refused.cause;
+      tells = tells;
+      put = puts_end;
+      faults_told = λ k d low. absurd (omega arith);
+      last_later = refused.later;
+      after_later = refused.put_cause.later;
+      quiet = λ other. inl (quiet other);
+      bounded = omega arith;
+      sound = λ is_told plan state shows.
+          let is_plan = plans (held site.trace.now.image).plan plan shows.says in
+          let keeps = rules site.trace.now.image state shows.shows in
+          let sound = sound_call plan state is_told is_plan keeps in
+          let (r, words) = released plan state keeps (lefts site.trace.now.image state shows.shows)
+          sound.run.history.run.ends sound.run.history.run.within in record {
+            sound = sound;
+            released = r;
+            exact = λ one. exact_none plan state r.words sound.run.history.run.ends words;
+          };
+      refused = refused_so;
+    }

@@ -184,11 +184,11 @@ module _ (begin : Begin) (first now : View) (records : List Record) (deeds : Lis
 -- Each answer fits at the end, where no entry was added once the count of faults had risen.
 pub fits_ended : (records : List Record) (course : Course) (faults : ℕ) (releases : List Entry) (deeds : List Deed) → course.faults ≤ faults
     → (Rose course.faults_before course.faults → releases ≡ [])
-    → All (λ (a : Deed). Fits (NearWord course.start course.entries records) course a.task a.answer) deeds
-    → All (λ (a : Deed). Fits (NearWord course.start (course.entries ++ releases) records)
+    → All (λ (a : Deed). Fits (NearWord course.begin.start course.entries records) course a.task a.answer) deeds
+    → All (λ (a : Deed). Fits (NearWord course.begin.start (course.entries ++ releases) records)
     (record course { faults = faults; entries = course.entries ++ releases }) a.task a.answer) deeds
 fits_ended records course faults releases deeds fewer stopped fit i e low =
-    fits_more (NearWord course.start course.entries records) (NearWord course.start (course.entries ++ releases) records)
-    (λ k n. near_more course.start course.entries releases records k n) course.plan course.start course.slots course.used course.told course.faults_before course.faults faults
+    fits_more (NearWord course.begin.start course.entries records) (NearWord course.begin.start (course.entries ++ releases) records)
+    (λ k n. near_more course.begin.start course.entries releases records k n) course.begin course.faults_before course.faults faults
     course.entries releases fewer (λ risen. let h = ap length (stopped risen) in let s = length-append course.entries releases in omega arith)
     (slice_index_or deeds i e).task (slice_index_or deeds i e).answer (fit i e low)

@@ -32,8 +32,8 @@ use Rattle.std.specs.Prelude.{IfErr}
 -- ---- what was added
 
 -- why a release was refused: the site failed, the run has as many entries as it may, or no slot is free
-abbrev pub IsRefusedRelease : {O : Type 0} → (O → ℕ) → BookView O → Type 0
-IsRefusedRelease faults new = Rose (faults new.opened) (faults new.site)
+abbrev pub IsRefusedRelease : BookView → Type 0
+IsRefusedRelease new = Rose new.opened.faults new.site.faults
     ⊎ ((length (entries_of new.log) ≡ MOST_ENTRIES) ⊎ (new.journal.used ≡ new.journal.slots))
 
 pieces_both : (a b : List Logged) → pieces_of (a ++ b) ≡ pieces_of a ++ pieces_of b
@@ -44,49 +44,49 @@ pieces_both (lines.Piece piece ∷ a) b = ap (λ (l : List ℕ). piece ++ l) (pi
 pieces_same : (log : List Logged) (entry : Entry) → pieces_of (log ++ lines.Entry entry ∷ []) ≡ pieces_of log
 pieces_same log entry = pieces_both log (lines.Entry entry ∷ []) ∙ append-nil (pieces_of log)
 
-made_pieces : {O : Type 0} (faults : O → ℕ) (made : List Entry) (old mid : BookView O) → EnteredInTurn faults made old mid → pieces_of mid.log ≡ pieces_of old.log
-made_pieces {O} faults [] old mid is = ap (λ (b : BookView O). pieces_of b.log) is
-made_pieces {O} faults (entry ∷ made) old mid (next, position, one, rest) =
-    made_pieces faults made next mid rest ∙ ap (λ (b : BookView O). pieces_of b.log) one.1.is ∙ pieces_same old.log entry
+made_pieces : (made : List Entry) (old mid : BookView) → EnteredInTurn made old mid → pieces_of mid.log ≡ pieces_of old.log
+made_pieces [] old mid is = ap (λ (b : BookView). pieces_of b.log) is
+made_pieces (entry ∷ made) old mid (next, position, one, rest) =
+    made_pieces made next mid rest ∙ ap (λ (b : BookView). pieces_of b.log) one.1.is ∙ pieces_same old.log entry
 
-made_all : {O : Type 0} (faults : O → ℕ) (made : List Entry) (old mid : BookView O) → EnteredInTurn faults made old mid
+made_all : (made : List Entry) (old mid : BookView) → EnteredInTurn made old mid
     → (entries_of mid.log ≡ entries_of old.log ++ made) × (mid.opened ≡ old.opened)
-made_all {O} faults [] old mid is =
-    (ap (λ (b : BookView O). entries_of b.log) is ∙ sym (append-nil (entries_of old.log)), ap (λ (b : BookView O). b.opened) is)
-made_all {O} faults (entry ∷ made) old mid (next, position, one, rest) =
-    let (entries, opened) = made_all faults made next mid rest in
+made_all [] old mid is =
+    (ap (λ (b : BookView). entries_of b.log) is ∙ sym (append-nil (entries_of old.log)), ap (λ (b : BookView). b.opened) is)
+made_all (entry ∷ made) old mid (next, position, one, rest) =
+    let (entries, opened) = made_all made next mid rest in
     let here : entries_of next.log ≡ entries_of old.log ++ entry ∷ [] =
-    ap (λ (b : BookView O). entries_of b.log) one.1.is ∙ entries_both old.log (lines.Entry entry ∷ []) in (
+    ap (λ (b : BookView). entries_of b.log) one.1.is ∙ entries_both old.log (lines.Entry entry ∷ []) in (
       entries ∙ ap (λ (l : List Entry). l ++ made) here ∙ append_assoc (entries_of old.log) (entry ∷ []) made,
-      opened ∙ ap (λ (b : BookView O). b.opened) one.1.is,
+      opened ∙ ap (λ (b : BookView). b.opened) one.1.is,
     )
 
 take_front : (xs ys : List Entry) → take (length xs) (xs ++ ys) ≡ xs
 take_front xs ys = take_at xs ys (length xs) refl
 
 -- so many of the releases that are due were added, and fewer than all only where one was refused
-pub record AreAdded {O : Type 0} (faults : O → ℕ) (words : List ℕ) (old new : BookView O) : Type 0 where
+pub record AreAdded (words : List ℕ) (old new : BookView) : Type 0 where
   pub count : ℕ
   pub entries : entries_of new.log ≡ entries_of old.log ++ take count (releases old.state 0 words)
-  pub refused : count < length (releases old.state 0 words) → IsRefusedRelease faults new
+  pub refused : count < length (releases old.state 0 words) → IsRefusedRelease new
 
-ended : {O : Type 0} (faults : O → ℕ) (words : List ℕ) (old mid new : BookView O) (made rest : List Entry) (result : Result (Unit {0}) BookFault)
-    → made ++ rest ≡ releases old.state 0 words → entries_of mid.log ≡ entries_of old.log ++ made → EndsReleases faults rest mid new result
-    → IfErr result (TellsRise faults new) → AreAdded faults words old new
-ended {O} faults words old mid new made [] (Ok done) all entries is risen =
+ended : (words : List ℕ) (old mid new : BookView) (made rest : List Entry) (result : Result (Unit {0}) BookFault)
+    → made ++ rest ≡ releases old.state 0 words → entries_of mid.log ≡ entries_of old.log ++ made → EndsReleases rest mid new result
+    → IfErr result (TellsRise new) → AreAdded words old new
+ended words old mid new made [] (Ok done) all entries is risen =
     let whole : made ≡ releases old.state 0 words = sym (append-nil made) ∙ all in
     record {
       count = length made;
-      entries = ap (λ (b : BookView O). entries_of b.log) is ∙ entries
+      entries = ap (λ (b : BookView). entries_of b.log) is ∙ entries
           ∙ ap (λ (l : List Entry). entries_of old.log ++ l) (sym (ap (take (length made)) (sym all) ∙ take_front made []));
       refused = λ few. absurd (let s = ap length whole in omega arith);
     }
-ended faults words old mid new made [] (Err fault) all entries is risen = absurd is
-ended faults words old mid new made (entry ∷ rest) (Ok done) all entries is risen = absurd is
-ended {O} faults words old mid new made (entry ∷ rest) (Err fault) all entries is risen = go fault is risen
+ended words old mid new made [] (Err fault) all entries is risen = absurd is
+ended words old mid new made (entry ∷ rest) (Ok done) all entries is risen = absurd is
+ended words old mid new made (entry ∷ rest) (Err fault) all entries is risen = go fault is risen
   where
     same : new ≡ mid → entries_of new.log ≡ entries_of old.log ++ take (length made) (releases old.state 0 words)
-    same eq = ap (λ (b : BookView O). entries_of b.log) eq ∙ entries
+    same eq = ap (λ (b : BookView). entries_of b.log) eq ∙ entries
         ∙ ap (λ (l : List Entry). entries_of old.log ++ l) (sym (ap (take (length made)) (sym all) ∙ take_front made (entry ∷ rest)))
 
     left : (e : entries_of new.log ≡ entries_of mid.log ++ entry ∷ []) → entries_of new.log ≡ entries_of old.log ++ take (length made + 1) (releases old.state 0 words)
@@ -97,44 +97,44 @@ ended {O} faults words old mid new made (entry ∷ rest) (Err fault) all entries
         ∙ ap (λ (l : List Entry). entries_of old.log ++ l)
         (sym (ap (λ (n : ℕ). take n (releases old.state 0 words)) (sym size) ∙ ap (take (length (made ++ entry ∷ []))) (sym longer) ∙ take_front (made ++ entry ∷ []) rest))
 
-    unstored : (f : BookFault) → IsUnstored faults entry mid new f → TellsRise faults new f → AreAdded faults words old new
+    unstored : (f : BookFault) → IsUnstored entry mid new f → TellsRise new f → AreAdded words old new
     unstored (SiteFault count) (due, room, rose, told, eq) tells = record {
       count = length made + 1;
-      entries = left (ap (λ (b : BookView O). entries_of b.log) eq ∙ entries_both mid.log (lines.Entry entry ∷ []));
+      entries = left (ap (λ (b : BookView). entries_of b.log) eq ∙ entries_both mid.log (lines.Entry entry ∷ []));
       refused = λ few. inl tells.0;
     }
     unstored (JournalFull slots) (due, used, told, eq) tells = record {
       count = length made;
       entries = same eq;
-      refused = λ few. inr (inr (ap (λ (b : BookView O). b.journal.used) eq ∙ used ∙ sym (ap (λ (b : BookView O). b.journal.slots) eq)));
+      refused = λ few. inr (inr (ap (λ (b : BookView). b.journal.used) eq ∙ used ∙ sym (ap (λ (b : BookView). b.journal.slots) eq)));
     }
     unstored (Stopped count) h tells = absurd h
     unstored SessionFull h tells = absurd h
     unstored NoMemory h tells = absurd h
 
-    barred : (f : BookFault) → IsBarred faults mid f → new ≡ mid → AreAdded faults words old new
+    barred : (f : BookFault) → IsBarred mid f → new ≡ mid → AreAdded words old new
     barred (Stopped count) h eq = record {
       count = length made;
       entries = same eq;
-      refused = λ few. inl (subst (λ (b : BookView O). Rose (faults b.opened) (faults b.site)) (sym eq) h.0);
+      refused = λ few. inl (subst (λ (b : BookView). Rose b.opened.faults b.site.faults) (sym eq) h.0);
     }
     barred SessionFull h eq = record {
       count = length made;
       entries = same eq;
-      refused = λ few. inr (inl (ap (λ (b : BookView O). length (entries_of b.log)) eq ∙ h.1));
+      refused = λ few. inr (inl (ap (λ (b : BookView). length (entries_of b.log)) eq ∙ h.1));
     }
     barred (SiteFault count) h eq = absurd h
     barred (JournalFull slots) h eq = absurd h
     barred NoMemory h eq = absurd h
 
-    go : (f : BookFault) → Refuses faults entry mid new f → TellsRise faults new f → AreAdded faults words old new
+    go : (f : BookFault) → Refuses entry mid new f → TellsRise new f → AreAdded words old new
     go f (inl (h, eq)) tells = barred f h eq
     go f (inr (can, h)) tells = unstored f h tells
 
-pub are_added : {O : Type 0} (faults : O → ℕ) (words : List ℕ) (old new : BookView O) (result : Result (Unit {0}) BookFault)
-    → Releases faults words old new result → IfErr result (TellsRise faults new) → AreAdded faults words old new
-are_added {O} faults words old new result r risen =
-    ended faults words old r.mid new r.made r.rest result r.all (made_all faults r.made old r.mid r.are_made).0 r.ends risen
+pub are_added : (words : List ℕ) (old new : BookView) (result : Result (Unit {0}) BookFault)
+    → Releases words old new result → IfErr result (TellsRise new) → AreAdded words old new
+are_added words old new result r risen =
+    ended words old r.mid new r.made r.rest result r.all (made_all r.made old r.mid r.are_made).0 r.ends risen
 
 -- ---- as releases of keys, by the words of their rows
 
@@ -184,37 +184,37 @@ are_releases start entries words of count rules are p entry high there =
     }
 
 -- a release puts nothing
-end_pieces : {O : Type 0} (faults : O → ℕ) (rest : List Entry) (mid new : BookView O) (result : Result (Unit {0}) BookFault)
-    → EndsReleases faults rest mid new result → pieces_of new.log ≡ pieces_of mid.log
-end_pieces {O} faults [] mid new (Ok done) is = ap (λ (b : BookView O). pieces_of b.log) is
-end_pieces faults [] mid new (Err fault) is = absurd is
-end_pieces faults (entry ∷ rest) mid new (Ok done) is = absurd is
-end_pieces {O} faults (entry ∷ rest) mid new (Err fault) (inl (h, eq)) = ap (λ (b : BookView O). pieces_of b.log) eq
-end_pieces {O} faults (entry ∷ rest) mid new (Err fault) (inr (can, h)) = go fault h
+end_pieces : (rest : List Entry) (mid new : BookView) (result : Result (Unit {0}) BookFault)
+    → EndsReleases rest mid new result → pieces_of new.log ≡ pieces_of mid.log
+end_pieces [] mid new (Ok done) is = ap (λ (b : BookView). pieces_of b.log) is
+end_pieces [] mid new (Err fault) is = absurd is
+end_pieces (entry ∷ rest) mid new (Ok done) is = absurd is
+end_pieces (entry ∷ rest) mid new (Err fault) (inl (h, eq)) = ap (λ (b : BookView). pieces_of b.log) eq
+end_pieces (entry ∷ rest) mid new (Err fault) (inr (can, h)) = go fault h
   where
-    go : (f : BookFault) → IsUnstored faults entry mid new f → pieces_of new.log ≡ pieces_of mid.log
-    go (SiteFault count) (due, room, rose, told, eq) = ap (λ (b : BookView O). pieces_of b.log) eq ∙ pieces_same mid.log entry
-    go (JournalFull slots) (due, used, told, eq) = ap (λ (b : BookView O). pieces_of b.log) eq
+    go : (f : BookFault) → IsUnstored entry mid new f → pieces_of new.log ≡ pieces_of mid.log
+    go (SiteFault count) (due, room, rose, told, eq) = ap (λ (b : BookView). pieces_of b.log) eq ∙ pieces_same mid.log entry
+    go (JournalFull slots) (due, used, told, eq) = ap (λ (b : BookView). pieces_of b.log) eq
     go (Stopped count) h = absurd h
     go SessionFull h = absurd h
     go NoMemory h = absurd h
 
-pub released_pieces : {O : Type 0} (faults : O → ℕ) (words : List ℕ) (old new : BookView O) (result : Result (Unit {0}) BookFault)
-    → Releases faults words old new result → pieces_of new.log ≡ pieces_of old.log
-released_pieces {O} faults words old new result r = end_pieces faults r.rest r.mid new result r.ends ∙ made_pieces faults r.made old r.mid r.are_made
+pub released_pieces : (words : List ℕ) (old new : BookView) (result : Result (Unit {0}) BookFault)
+    → Releases words old new result → pieces_of new.log ≡ pieces_of old.log
+released_pieces words old new result r = end_pieces r.rest r.mid new result r.ends ∙ made_pieces r.made old r.mid r.are_made
 
 -- the book that the releases left is the one found, or has more entries
-ends_quietly : {O : Type 0} (faults : O → ℕ) (rest : List Entry) (mid new : BookView O) (result : Result (Unit {0}) BookFault)
-    → EndsReleases faults rest mid new result → (new ≡ mid) ⊎ (length (entries_of mid.log) < length (entries_of new.log))
-ends_quietly faults [] mid new (Ok done) is = inl is
-ends_quietly faults [] mid new (Err fault) is = absurd is
-ends_quietly faults (entry ∷ rest) mid new (Ok done) is = absurd is
-ends_quietly faults (entry ∷ rest) mid new (Err fault) (inl (h, eq)) = inl eq
-ends_quietly {O} faults (entry ∷ rest) mid new (Err fault) (inr (can, h)) = go fault h
+ends_quietly : (rest : List Entry) (mid new : BookView) (result : Result (Unit {0}) BookFault)
+    → EndsReleases rest mid new result → (new ≡ mid) ⊎ (length (entries_of mid.log) < length (entries_of new.log))
+ends_quietly [] mid new (Ok done) is = inl is
+ends_quietly [] mid new (Err fault) is = absurd is
+ends_quietly (entry ∷ rest) mid new (Ok done) is = absurd is
+ends_quietly (entry ∷ rest) mid new (Err fault) (inl (h, eq)) = inl eq
+ends_quietly (entry ∷ rest) mid new (Err fault) (inr (can, h)) = go fault h
   where
-    go : (f : BookFault) → IsUnstored faults entry mid new f → (new ≡ mid) ⊎ (length (entries_of mid.log) < length (entries_of new.log))
+    go : (f : BookFault) → IsUnstored entry mid new f → (new ≡ mid) ⊎ (length (entries_of mid.log) < length (entries_of new.log))
     go (SiteFault count) (due, room, rose, told, eq) = inr (
-        let a = ap (λ (b : BookView O). length (entries_of b.log)) eq in
+        let a = ap (λ (b : BookView). length (entries_of b.log)) eq in
         let b = ap length (entries_both mid.log (lines.Entry entry ∷ [])) in
         let c = length-append (entries_of mid.log) (entry ∷ []) in omega arith
         )
@@ -223,47 +223,47 @@ ends_quietly {O} faults (entry ∷ rest) mid new (Err fault) (inr (can, h)) = go
     go SessionFull h = absurd h
     go NoMemory h = absurd h
 
-pub released_quietly : {O : Type 0} (faults : O → ℕ) (words : List ℕ) (old new : BookView O) (result : Result (Unit {0}) BookFault)
-    → Releases faults words old new result → (faults new.site ≡ faults old.site) ⊎ (length (entries_of old.log) < length (entries_of new.log))
-released_quietly {O} faults words old new result r = go r.made r.are_made (ends_quietly faults r.rest r.mid new result r.ends)
+pub released_quietly : (words : List ℕ) (old new : BookView) (result : Result (Unit {0}) BookFault)
+    → Releases words old new result → (new.site.faults ≡ old.site.faults) ⊎ (length (entries_of old.log) < length (entries_of new.log))
+released_quietly words old new result r = go r.made r.are_made (ends_quietly r.rest r.mid new result r.ends)
   where
-    go : (made : List Entry) → EnteredInTurn faults made old r.mid → (new ≡ r.mid) ⊎ (length (entries_of r.mid.log) < length (entries_of new.log))
-        → (faults new.site ≡ faults old.site) ⊎ (length (entries_of old.log) < length (entries_of new.log))
-    go [] is (inl same) = inl (ap (λ (b : BookView O). faults b.site) (same ∙ is))
-    go [] is (inr more) = inr (let a = ap (λ (b : BookView O). length (entries_of b.log)) is in omega arith)
+    go : (made : List Entry) → EnteredInTurn made old r.mid → (new ≡ r.mid) ⊎ (length (entries_of r.mid.log) < length (entries_of new.log))
+        → (new.site.faults ≡ old.site.faults) ⊎ (length (entries_of old.log) < length (entries_of new.log))
+    go [] is (inl same) = inl (ap (λ (b : BookView). b.site.faults) (same ∙ is))
+    go [] is (inr more) = inr (let a = ap (λ (b : BookView). length (entries_of b.log)) is in omega arith)
     go (entry ∷ made) is (inl same) = inr (
-        let a = ap length (made_all faults (entry ∷ made) old r.mid is).0 in
+        let a = ap length (made_all (entry ∷ made) old r.mid is).0 in
         let b = length-append (entries_of old.log) (entry ∷ made) in
-        let c = ap (λ (b : BookView O). length (entries_of b.log)) same in omega arith
+        let c = ap (λ (b : BookView). length (entries_of b.log)) same in omega arith
         )
     go (entry ∷ made) is (inr more) = inr (
-        let a = ap length (made_all faults (entry ∷ made) old r.mid is).0 in
+        let a = ap length (made_all (entry ∷ made) old r.mid is).0 in
         let b = length-append (entries_of old.log) (entry ∷ made) in omega arith
         )
 
 -- where the history was found full, a release was due and not made
-full_ends : {O : Type 0} (faults : O → ℕ) (words : List ℕ) (old new : BookView O) (made rest : List Entry) (mid : BookView O) (result : Result (Unit {0}) BookFault)
-    → made ++ rest ≡ releases old.state 0 words → EndsReleases faults rest mid new result → result ≡ Err SessionFull
+full_ends : (words : List ℕ) (old new : BookView) (made rest : List Entry) (mid : BookView) (result : Result (Unit {0}) BookFault)
+    → made ++ rest ≡ releases old.state 0 words → EndsReleases rest mid new result → result ≡ Err SessionFull
     → (entries_of mid.log ≡ entries_of old.log ++ made)
     → (length (entries_of new.log) ≡ MOST_ENTRIES) × (length (entries_of new.log) < length (entries_of old.log) + length (releases old.state 0 words))
-full_ends faults words old new made [] mid (Ok done) all is full entries = absurd (let t = full in cc)
-full_ends faults words old new made [] mid (Err fault) all is full entries = absurd is
-full_ends faults words old new made (entry ∷ rest) mid (Ok done) all is full entries = absurd is
-full_ends {O} faults words old new made (entry ∷ rest) mid (Err fault) all is full entries =
+full_ends words old new made [] mid (Ok done) all is full entries = absurd (let t = full in cc)
+full_ends words old new made [] mid (Err fault) all is full entries = absurd is
+full_ends words old new made (entry ∷ rest) mid (Ok done) all is full entries = absurd is
+full_ends words old new made (entry ∷ rest) mid (Err fault) all is full entries =
     let f : fault ≡ SessionFull = (let t = full in cc) in
-    at (subst (λ (g : BookFault). Refuses faults entry mid new g) f is)
+    at (subst (λ (g : BookFault). Refuses entry mid new g) f is)
   where
-    at : Refuses faults entry mid new SessionFull
+    at : Refuses entry mid new SessionFull
         → (length (entries_of new.log) ≡ MOST_ENTRIES) × (length (entries_of new.log) < length (entries_of old.log) + length (releases old.state 0 words))
     at (inl (h, eq)) = (
-      ap (λ (b : BookView O). length (entries_of b.log)) eq ∙ h.1,
-      (let a = ap length all in let b = length-append made (entry ∷ rest) in let c = ap (λ (b : BookView O). length (entries_of b.log)) eq in
+      ap (λ (b : BookView). length (entries_of b.log)) eq ∙ h.1,
+      (let a = ap length all in let b = length-append made (entry ∷ rest) in let c = ap (λ (b : BookView). length (entries_of b.log)) eq in
           let d = ap length entries in let e = length-append (entries_of old.log) made in omega arith),
     )
     at (inr (can, h)) = absurd h
 
-pub released_full : {O : Type 0} (faults : O → ℕ) (words : List ℕ) (old new : BookView O) (result : Result (Unit {0}) BookFault)
-    → Releases faults words old new result → result ≡ Err SessionFull
+pub released_full : (words : List ℕ) (old new : BookView) (result : Result (Unit {0}) BookFault)
+    → Releases words old new result → result ≡ Err SessionFull
     → (length (entries_of new.log) ≡ MOST_ENTRIES) × (length (entries_of new.log) < length (entries_of old.log) + length (releases old.state 0 words))
-released_full faults words old new result r full =
-    full_ends faults words old new r.made r.rest r.mid result r.all r.ends full (made_all faults r.made old r.mid r.are_made).0
+released_full words old new result r full =
+    full_ends words old new r.made r.rest r.mid result r.all r.ends full (made_all r.made old r.mid r.are_made).0

@@ -1,11 +1,10 @@
 -- A run without records is sound, and so is each moment of a call that reads an image and stores nothing: for
 -- `no_records_are_sound` and `reading_keeps_lives`.
-use Rattle.std.proofs.Common.{◌≡◌, ◌⊎◌, ℕ, IsTrue, List, [], None, refl, sym, subst, inl, inr, ⊎_elim, arith}
+use Rattle.std.proofs.Common.{◌≡◌, ◌⊎◌, ℕ, IsTrue, List, [], refl, sym, subst, inl, inr, ⊎_elim, arith}
 use Rattle.std.proofs.lemmas.Option.{none-some}
 use Rattle.sdls_base.specs.declared.entry.Entry.{Entry}
 use Rattle.sdls_outside.specs.Disk.{Leaves}
-use Rattle.disk_journal.specs.Forms.{HasOneClosed}
-use Rattle.disk_journal.specs.Fault.{image_fault}
+use Rattle.unit_image.specs.Image.{HasOneClosed}
 use Rattle.unit_plan.specs.PlanLines.{PlanLines}
 use Rattle.unit_plan.specs.PlanRules.{IsPlan}
 use Rattle.unit_state.specs.declared.state.State.{State}
@@ -13,17 +12,15 @@ use Rattle.unit_state.specs.Restart.{restarted}
 use Rattle.unit_state.specs.State.{KeepsRules}
 use Rattle.unit_image.specs.Shows.{Shows}
 use Rattle.run_promise.specs.Fits.{Course}
-use Rattle.run_promise.specs.Begin.{Begin}
 use Rattle.run_promise.specs.Sound.{IsSound, SoundMoment}
 use Rattle.run_promise.specs.Call.{CallSeen, ShowsAtEntry, image_at_entry}
-use Rattle.run_promise.specs.Account.{begin_of, course_of}
+use Rattle.run_promise.specs.Account.{course_of}
 use Rattle.run_promise.specs.Lives.{no_account}
 use Rattle.law_runs.specs.Reads.{ReadsSoundly, IsRead, ReadsAlone, StillShows}
 
-none_sound : (begin : Begin) (course : Course) → begin.plan ≡ course.plan → IsPlan course.plan → KeepsRules course.start
-    → IsSound begin (record course { entries = [] }) [] []
-none_sound begin course same plan_is rules = record {
-  begins = same;
+none_sound : (course : Course) → IsPlan course.begin.plan → KeepsRules course.begin.start
+    → IsSound (record course { entries = [] }) [] []
+none_sound course plan_is rules = record {
   history = record {
     plan_is = plan_is;
     rules = rules;
@@ -49,16 +46,16 @@ none_sound begin course same plan_is rules = record {
 }
 
 -- a run without records and without entries is sound
-pub no_records : (begin : Begin) (course : Course) → begin.plan ≡ course.plan → IsPlan course.plan → KeepsRules course.start → course.entries ≡ []
-    → IsSound begin course [] []
-no_records begin course same plan_is rules empty =
-    subst (λ (entries : List Entry). IsSound begin (record course { entries = entries }) [] []) (sym empty) (none_sound begin course same plan_is rules)
+pub no_records : (course : Course) → IsPlan course.begin.plan → KeepsRules course.begin.start → course.entries ≡ []
+    → IsSound course [] []
+no_records course plan_is rules empty =
+    subst (λ (entries : List Entry). IsSound (record course { entries = entries }) [] []) (sym empty) (none_sound course plan_is rules)
 
-module _ (closed : (image : List ℕ) → image_fault image ≡ None → HasOneClosed image)
+module _ (closed : (image : List ℕ) (state : State) → Shows image state → HasOneClosed image)
     (one : (image : List ℕ) (a b : State) → Shows image a → Shows image b → a ≡ b) (call : CallSeen) (plan : PlanLines) (state : State)
     (shows : ShowsAtEntry call plan state) where
   abbrev Sound : List ℕ → Type 0
-  Sound image = SoundMoment (begin_of call plan state) (course_of call (no_account call) plan state) [] [] (image_at_entry call) image []
+  Sound image = SoundMoment (course_of call (no_account call) plan state) [] [] (image_at_entry call) image []
 
   still : (image : List ℕ) → StillShows call image → Sound image
   still image shown = record {
@@ -69,7 +66,7 @@ module _ (closed : (image : List ℕ) → image_fault image ≡ None → HasOneC
         within = omega arith;
         shows = subst (λ (s : State). Shows image (restarted s)) (one (image_at_entry call) shown.0 state shown.1 shows.shows) shown.2;
         forms = λ form is. absurd (shown.3 form is);
-        settled = closed image shown.2.holds.opens;
+        settled = closed image _ shown.2;
       };
       covers = λ q low within. tt;
     });
@@ -81,7 +78,7 @@ module _ (closed : (image : List ℕ) → image_fault image ≡ None → HasOneC
   sound_at image (inr (inr shown)) = inr (still image shown)
 
   -- a call that stores nothing reads soundly
-  pub reads_soundly : IsTrue call.site.told → ReadsAlone call → ReadsSoundly call plan state
+  pub reads_soundly : IsTrue call.told → ReadsAlone call → ReadsSoundly call plan state
   reads_soundly is_told reads =
       let moments = reads is_told in
       record {

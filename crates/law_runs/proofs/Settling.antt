@@ -36,7 +36,7 @@ module _ (begin : Begin) (v w : View) (grows : KnowsMore v w) (stored more : ℕ
   log_is : log_of w ≡ log_of v ++ grows.earlier.log.0
   log_is = grows.earlier.log.1
 
-  settled_one : (at : ℕ) (d : Deed) → AnswerIsSettled begin (course_in begin v) stored (log_of v) at d → AnswerIsSettled begin (course_in begin w) more (log_of w) at d
+  settled_one : (at : ℕ) (d : Deed) → AnswerIsSettled (course_in begin v) stored (log_of v) at d → AnswerIsSettled (course_in begin w) more (log_of w) at d
   settled_one at d h =
       let (r, es) = grown_entries v w grows in
       let inside = h.within in
@@ -69,23 +69,23 @@ module _ (begin : Begin) (v w : View) (grows : KnowsMore v w) (stored more : ℕ
         };
       }
 
-  pub settled_later : (at : ℕ) (ds : List Deed) → AreSettled begin (course_in begin v) stored (log_of v) at ds → AreSettled begin (course_in begin w) more (log_of w) at ds
+  pub settled_later : (at : ℕ) (ds : List Deed) → AreSettled (course_in begin v) stored (log_of v) at ds → AreSettled (course_in begin w) more (log_of w) at ds
   settled_later at [] h = tt
   settled_later at (d ∷ ds) h = (settled_one at d h.0, settled_later (at + length (answer_octets d.answer)) ds h.1)
 
-pub settled_both : (begin : Begin) (course : Course) (stored : ℕ) (log : List Logged) (at next : ℕ) (ds es : List Deed) → next ≡ at + length (deeds_octets ds)
-    → AreSettled begin course stored log at ds → AreSettled begin course stored log next es → AreSettled begin course stored log at (ds ++ es)
-settled_both begin course stored log at next [] es is a b = subst (λ (n : ℕ). AreSettled begin course stored log n es) (omega arith) b
-settled_both begin course stored log at next (d ∷ ds) es is a b =
+pub settled_both : (course : Course) (stored : ℕ) (log : List Logged) (at next : ℕ) (ds es : List Deed) → next ≡ at + length (deeds_octets ds)
+    → AreSettled course stored log at ds → AreSettled course stored log next es → AreSettled course stored log at (ds ++ es)
+settled_both course stored log at next [] es is a b = subst (λ (n : ℕ). AreSettled course stored log n es) (omega arith) b
+settled_both course stored log at next (d ∷ ds) es is a b =
     let size = length-append (answer_octets d.answer) (deeds_octets ds) in
-    (a.0, settled_both begin course stored log (at + length (answer_octets d.answer)) next ds es (omega arith) a.1 b)
+    (a.0, settled_both course stored log (at + length (answer_octets d.answer)) next ds es (omega arith) a.1 b)
 
 -- A segment was handled, and its answers were put: the run is under way with them. W is the view after the segment, z the
 -- one after the puts, of which nothing but the pieces was made.
 pub goes_on : (begin : Begin) (first v w z : View) (stored more : ℕ) (ts us : List Record) (ds es : List Deed) → UnderWay begin first v stored ts ds
     → Does begin v w us es → AllBoth (λ (d e : Deed). d.task.index < e.task.index) ds es → Does begin w z [] []
     → pieces_of (log_of z) ≡ pieces_of (log_of v) ++ deeds_octets es → stored ≤ more
-    → AreSettled begin (course_in begin z) more (log_of z) (length (deeds_octets ds)) es
+    → AreSettled (course_in begin z) more (log_of z) (length (deeds_octets ds)) es
     → UnderWay begin first z more (ts ++ us) (ds ++ es)
 goes_on begin first v w z stored more ts us ds es way segment turns puts put fewer settled =
     let both : Does begin first w (ts ++ us) (ds ++ es) = does_then begin first v w ts us ds es way.does segment turns in
@@ -95,7 +95,7 @@ goes_on begin first v w z stored more ts us ds es way segment turns puts put few
       does = subst (λ (l : List Record). Does begin first z l (ds ++ es)) (append-nil (ts ++ us))
           (subst (Does begin first z ((ts ++ us) ++ [])) (append-nil (ds ++ es)) all);
       put = put ∙ (ap (λ (l : List ℕ). l ++ deeds_octets es) way.put ∙ sym (octets_both ds es));
-      settled = settled_both begin (course_in begin z) more (log_of z) 0 (length (deeds_octets ds)) ds es (omega arith)
+      settled = settled_both (course_in begin z) more (log_of z) 0 (length (deeds_octets ds)) ds es (omega arith)
           (settled_later begin v z (grows_further v w z segment.grows puts.grows) stored more fewer 0 ds way.settled) settled;
     }
 
@@ -103,7 +103,7 @@ module _ (begin : Begin) (u v z : View) (us : List Record) (es : List Deed) (d :
     (stored s count : ℕ) (tells : SettlesAt begin v z stored s count)
     (entered : All (λ (x : Deed). IsTrue (tells_entry x) → x.answer.position ≤ s) es)
     (floored : All (λ (x : Deed). (key number : ℕ) → Accepts x.answer key number → number ≤ kept_floor (after_first begin.start (entries_in z) s) key) es) where
-  covered_one : (k : ℕ) (x : Deed) → k < length es → IsCoveredBy begin (course_in begin z) s (slice_index_or es k x)
+  covered_one : (k : ℕ) (x : Deed) → k < length es → IsCoveredBy (course_in begin z) s (slice_index_or es k x)
   covered_one k x low = record {
     entry = entered k x low;
     epoch = λ o.
@@ -119,12 +119,12 @@ module _ (begin : Begin) (u v z : View) (us : List Record) (es : List Deed) (d :
   }
 
   settled_from : (at : ℕ) (ds : List Deed) → length (pieces_of (take count (log_of z))) ≤ at
-      → All (IsCoveredBy begin (course_in begin z) s) ds → AreSettled begin (course_in begin z) stored (log_of z) at ds
+      → All (IsCoveredBy (course_in begin z) s) ds → AreSettled (course_in begin z) stored (log_of z) at ds
   settled_from at [] before h = tt
   settled_from at (x ∷ ds) before h = (
     record { lines = count; within = tells.within; before = before; entries = s; low = tells.low; is_stored = tells.is_stored; covered = h 0 x (omega arith) },
     settled_from (at + length (answer_octets x.answer)) ds (omega arith) (λ k e low. h (suc k) e (omega arith)),
   )
 
-  pub settle : (at : ℕ) → length (pieces_of (take count (log_of z))) ≤ at → AreSettled begin (course_in begin z) stored (log_of z) at es
+  pub settle : (at : ℕ) → length (pieces_of (take count (log_of z))) ≤ at → AreSettled (course_in begin z) stored (log_of z) at es
   settle at before = settled_from at es before covered_one

@@ -9,7 +9,6 @@ use Rattle.record_io.specs.Answers.{answer_octets}
 use Rattle.run_promise.specs.Log.{entries_of, pieces_of}
 use Rattle.run_promise.specs.Fits.{Course}
 use Rattle.unit_book.specs.Book.{Serves}
-use Rattle.run_promise.specs.Begin.{Begin}
 use Rattle.run_promise.specs.Deed.{Deed}
 use Rattle.law_workers.proofs.Logs.{entries_low}
 use Rattle.run_promise.specs.ShowsAfter.{ShowsAfter}
@@ -39,31 +38,31 @@ pieces_low (lines.Piece o ∷ log) (suc p) (suc q) h =
     let k = pieces_low log p q (omega arith) in
     let a = length-append o (pieces_of (take p log)) in let b = length-append o (pieces_of (take q log)) in omega arith
 
-module _ (begin : Begin) (course : Course) (stored : ℕ) (log : List Logged) (is : course.entries ≡ entries_of log) (place p total : ℕ)
+module _ (course : Course) (stored : ℕ) (log : List Logged) (is : course.entries ≡ entries_of log) (place p total : ℕ)
     (most : total ≤ length (pieces_of (take (place + 1) log))) (least : min stored (length (entries_of (take place log))) ≤ p)
     (within : p ≤ length course.entries) where
   -- an answer that was begun at the place is covered by what the image shows there
-  one_covered : (at : ℕ) (deed : Deed) → AnswerIsSettled begin course stored log at deed → 0 < total - at
-      → ((s : ℕ) → s ≤ p → IsCoveredBy begin course s deed → IsCoveredBy begin course p deed) → IsCoveredBy begin course p deed
+  one_covered : (at : ℕ) (deed : Deed) → AnswerIsSettled course stored log at deed → 0 < total - at
+      → ((s : ℕ) → s ≤ p → IsCoveredBy course s deed → IsCoveredBy course p deed) → IsCoveredBy course p deed
   one_covered at deed s begun stays = stays s.entries (low (cases_lt place s.lines)) s.covered
     where
       low : (place < s.lines) ⊎ (s.lines ≤ place) → s.entries ≤ p
       low (inl lt) = let h = pieces_low log (place + 1) s.lines (omega arith) in let b = s.before in absurd (omega arith)
       low (inr ge) = let h = entries_low log s.lines place ge in let a = s.low in let b = s.is_stored in omega arith
 
-  pub covered : (at : ℕ) (deeds : List Deed) → AreSettled begin course stored log at deeds → StaysCovered begin course deeds
-      → EachBegun (IsCoveredBy begin course p) (total - at) deeds
+  pub covered : (at : ℕ) (deeds : List Deed) → AreSettled course stored log at deeds → StaysCovered course deeds
+      → EachBegun (IsCoveredBy course p) (total - at) deeds
   covered at [] h stays = tt
   covered at (deed ∷ deeds) h stays =
       let rest = covered (at + length (answer_octets deed.answer)) deeds h.1 (λ s q a b k d l. stays s q a b (suc k) d (omega arith)) in
-      (λ begun. one_covered at deed h.0 begun (λ s a. stays s p a within 0 deed (omega arith)), subst (λ (n : ℕ). EachBegun (IsCoveredBy begin course p) n deeds) (omega arith) rest)
+      (λ begun. one_covered at deed h.0 begun (λ s a. stays s p a within 0 deed (omega arith)), subst (λ (n : ℕ). EachBegun (IsCoveredBy course p) n deeds) (omega arith) rest)
 
 -- A moment of the book while it serves is a sound moment of the run, where the pieces put are the answers and a front of End.
-pub moment_sound : (begin : Begin) (course : Course) (standing : ℕ) (log : List Logged) (deeds : List Deed) (ends start before image sunk sunk_since : List ℕ)
-    → course.entries ≡ entries_of log → AreSettled begin course standing log 0 deeds → StaysCovered begin course deeds
+pub moment_sound : (course : Course) (standing : ℕ) (log : List Logged) (deeds : List Deed) (ends start before image sunk sunk_since : List ℕ)
+    → course.entries ≡ entries_of log → AreSettled course standing log 0 deeds → StaysCovered course deeds
     → pieces_of log ≡ take (length (pieces_of log)) (deeds_octets deeds ++ ends) → sunk ≡ before ++ sunk_since
-    → Serves course.start log standing before image sunk → SoundMoment begin course deeds ends start image sunk_since
-moment_sound begin course standing log deeds ends start before image sunk since is settled stays put sunk_is m =
+    → Serves course.begin.start log standing before image sunk → SoundMoment course deeds ends start image sunk_since
+moment_sound course standing log deeds ends start before image sunk since is settled stays put sunk_is m =
     let (p, least, shows) = m.shows in
     let size : length sunk ≡ length before + length since = ap length sunk_is ∙ length-append before since in
     let whole : length (before ++ pieces_of (take (m.place + 1) log)) ≡ length before + length (pieces_of (take (m.place + 1) log)) =
@@ -80,9 +79,9 @@ moment_sound begin course standing log deeds ends start before image sunk since 
       front = inside ∙ (ap (take (length since)) put ∙ take-take (length since) (length (pieces_of log)) (deeds_octets deeds ++ ends) total);
       image_shows = inr (record {
         p = p;
-        shows = subst (λ (es : List Entry). ShowsAfter course.start es p image) (sym is) shows;
-        covers = λ q low within. subst (λ (n : ℕ). EachBegun (IsCoveredBy begin course q) n deeds) (omega arith)
-            (covered begin course standing log is m.place q (length since) most (let l = least in omega arith) within 0 deeds settled stays);
+        shows = subst (λ (es : List Entry). ShowsAfter course.begin.start es p image) (sym is) shows;
+        covers = λ q low within. subst (λ (n : ℕ). EachBegun (IsCoveredBy course q) n deeds) (omega arith)
+            (covered course standing log is m.place q (length since) most (let l = least in omega arith) within 0 deeds settled stays);
       });
     }
   where

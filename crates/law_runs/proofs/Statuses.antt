@@ -111,7 +111,7 @@ module _ (call : CallSeen) (run : RunEnds call) where
         }
   ]
 
-  pub put_due : call.site_after.put_faults ≡ call.site.put_faults → (call.status ≡ end_status run.account.told) × (IsTrue call.site.told
+  pub put_due : call.site_after.put_faults ≡ call.site.put_faults → (call.status ≡ end_status run.account.told) × (IsTrue call.told
       → call.site_after.trace.now.sunk ≡ call.site.trace.now.sunk ++ due_octets call run.account)
   put_due same = elim run.put [
     | inl put ↦ (put.status_is, put.sunk)
@@ -146,7 +146,7 @@ module _ (call : CallSeen) (run : RunEnds call) where
       go SessionFull is cause (inr (well, inr (ended, which))) = absurd (let s : end_status SessionFull ≡ end_status Ended = ap end_status (sym is ∙ ended) in omega arith)
       go PutFailed is cause tells = absurd (omega (arith, cause, same))
 
-  pub refused_left : IsTrue call.site.told → (offset : ℕ) → ShowsNone (image_at_entry call) offset → IsLeftRefused call
+  pub refused_left : IsTrue call.told → (offset : ℕ) → ShowsNone (image_at_entry call) offset → IsLeftRefused call
   refused_left told offset none = record { status_is = which; image_is = left }
     where
       refusal : IsRefused call run.account offset
@@ -293,7 +293,7 @@ module _ (call : CallSeen) (run : RunEnds call) where
   handled_few PutFailed h = let e = ap length h.0 in omega arith
 
   -- the entries are at most two a record, and one a key
-  few_entries : IsTrue call.site.told → (plan : PlanLines) (state : State) → ShowsAtEntry call plan state
+  few_entries : IsTrue call.told → (plan : PlanLines) (state : State) → ShowsAtEntry call plan state
       → length call.entries ≤ 2 * length (places_of run.account.items) + MOST_KEYS
   few_entries told plan state shows =
       let serves = run.sound told plan state shows in

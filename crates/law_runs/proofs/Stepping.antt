@@ -413,6 +413,6 @@ module _ (begin : Begin) (first v mid w : View) (places more : List Place) (answ
         (λ k d low tells. let x = entered k d low tells in let y = settles.standing in omega arith) floored_one
         (length (deeds_octets (deeds_from places answers)))
         (let x = settles.before in let y = ap length (quiet whole_mid) in let z = ap length put in let t = ap length size in omega arith) in
-        subst (λ (l : List Deed). AreSettled begin (course_in begin w) stored (log_of w) 0 l) (sym (deeds_both places more answers next each))
-        (settled_both begin (course_in begin w) stored (log_of w) 0 (length (deeds_octets (deeds_from places answers))) (deeds_from places answers) (deeds_from more next)
+        subst (λ (l : List Deed). AreSettled (course_in begin w) stored (log_of w) 0 l) (sym (deeds_both places more answers next each))
+        (settled_both (course_in begin w) stored (log_of w) 0 (length (deeds_octets (deeds_from places answers))) (deeds_from places answers) (deeds_from more next)
         (omega arith) a b)

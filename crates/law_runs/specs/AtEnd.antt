@@ -53,6 +53,6 @@ course_at_end begin now releases faults = record (course_in begin now) {
 }
 
 -- what covers an answer is covered by each later state: no mark and no floor falls below what was used or accepted
-abbrev pub StaysCovered : Begin → Course → List Deed → Type 0
-StaysCovered begin course deeds = (earlier later : ℕ) → earlier ≤ later → later ≤ length course.entries
-    → All (λ deed. IsCoveredBy begin course earlier deed → IsCoveredBy begin course later deed) deeds
+abbrev pub StaysCovered : Course → List Deed → Type 0
+StaysCovered course deeds = (earlier later : ℕ) → earlier ≤ later → later ≤ length course.entries
+    → All (λ deed. IsCoveredBy course earlier deed → IsCoveredBy course later deed) deeds

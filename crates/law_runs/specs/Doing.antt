@@ -70,7 +70,7 @@ MovedAlone begin first now places answers = OneLane (records_of places) → RunA
 -- each answer was settled before an octet of it was put, so many entries being stored now
 abbrev pub HasSettled : Begin → View → ℕ → List Place → List Answer → Type 0
 HasSettled begin now stored places answers =
-    AreSettled begin (course_in begin now) stored (log_of now) 0 (deeds_from places answers)
+    AreSettled (course_in begin now) stored (log_of now) 0 (deeds_from places answers)
 
 -- The first put behind a segment found a book that settles what the worker had done before: of so many entries that
 -- were stored, no fewer than the worker knew of; so many are stored now.

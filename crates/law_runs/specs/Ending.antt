@@ -2,10 +2,10 @@
 use Rattle.std.specs.Prelude.{◌≡◌, ◌≢◌, ◌⊎◌, ℕ, ◌≤◌, Bool, IsTrue, List, length, Result, Err, IfErr, MatchResult}
 use Rattle.sdls_base.specs.declared.entry.Entry.{Entry}
 use Rattle.sdls_outside.specs.Faults.{Rose}
-use Rattle.sdls_outside.specs.Moments.{Trace}
 use Rattle.sdls_outside.specs.Site as sites
 use Rattle.record_io.specs.declared.status.TheConstants.{SITE_FAULT}
 use Rattle.record_io.specs.Answers.{answer_octets}
+use Rattle.run_promise.specs.Site.{SiteSeen}
 use Rattle.unit_book.specs.declared.fault.BookFault.{BookFault}
 use Rattle.unit_book.specs.declared.fault.BookFault.TheVariants as faults
 use Rattle.unit_book.specs.Book.{BookView, IsKept, with_put}
@@ -27,38 +27,35 @@ IsToldEnd before last now came released told = (Rose before last × (told ≡ en
     ⊎ (told ≡ ends.Ended)))))))
 
 -- End was put, or a front of it.
-pub record IsEndPut {O : Type 0} (told : Bool) (trace : O → Trace) (faults_of puts : O → ℕ) (end : RunEnd)
-    (old new : BookView O) (status : ℕ) : Type 0 where
+pub record IsEndPut (told : Bool) (end : RunEnd) (old new : BookView) (status : ℕ) : Type 0 where
   pub put : Result (Unit {0}) BookFault
-  pub made : new ≡ with_put (sunk_between (trace old.site) (trace new.site)) (record old { site = new.site })
+  pub made : new ≡ with_put (sunk_between old.site.trace new.site.trace) (record old { site = new.site })
   pub sinks : IsTrue told
-      → sites.Puts (answer_octets (end_answer end (length (entries_of old.log)))) put (trace old.site) (trace new.site)
-  pub counted : puts new.site ≡ sites.after_put put (puts old.site)
-  pub later : faults_of old.site ≤ faults_of new.site
-  pub status_is : MatchResult put (λ _. (status ≡ end_status end) × (faults_of new.site ≡ faults_of old.site))
-      (λ _. (status ≡ SITE_FAULT) × Rose (faults_of old.site) (faults_of new.site))
+      → sites.Puts (answer_octets (end_answer end (length (entries_of old.log)))) put old.site.trace new.site.trace
+  pub counted : new.site.put_faults ≡ sites.after_put put old.site.put_faults
+  pub later : old.site.faults ≤ new.site.faults
+  pub status_is : MatchResult put (λ _. (status ≡ end_status end) × (new.site.faults ≡ old.site.faults))
+      (λ _. (status ≡ SITE_FAULT) × Rose old.site.faults new.site.faults)
 
 -- Where a put failed before, nothing more is put.
-abbrev pub PutsEnd : {O : Type 0} → Bool → (O → Trace) → (O → ℕ) → (O → ℕ) → RunEnd → RunEnd → BookView O → BookView O
-    → ℕ → Type 0
-PutsEnd told trace faults_of puts came end old new status =
+abbrev pub PutsEnd : Bool → RunEnd → RunEnd → BookView → BookView → ℕ → Type 0
+PutsEnd told came end old new status =
     ((came ≡ ends.PutFailed) × (new ≡ old) × (status ≡ SITE_FAULT))
-    ⊎ ((came ≢ ends.PutFailed) × IsEndPut told trace faults_of puts end old new status)
+    ⊎ ((came ≢ ends.PutFailed) × IsEndPut told end old new status)
 
 -- The keys were released by these words `next`, and End was put.
-pub record Finishes {O : Type 0} (told : Bool) (trace : O → Trace) (faults_of puts : O → ℕ) (before : ℕ)
-    (words : List ℕ) (came : RunEnd)
-    (book : BookView O) (site : O) (entries : List Entry) (status : ℕ) : Type 0 where
-  pub released : BookView O
+pub record Finishes (told : Bool) (before : ℕ) (words : List ℕ) (came : RunEnd) (book : BookView) (site : SiteSeen)
+    (entries : List Entry) (status : ℕ) : Type 0 where
+  pub released : BookView
   pub answer : Result (Unit {0}) BookFault
-  pub releases : Releases faults_of words book released answer
-  pub goes_on : GoesOn faults_of book released
-  pub risen : IfErr answer (TellsRise faults_of released)
-  pub same_puts : puts released.site ≡ puts book.site
+  pub releases : Releases words book released answer
+  pub goes_on : GoesOn book released
+  pub risen : IfErr answer (TellsRise released)
+  pub same_puts : released.site.put_faults ≡ book.site.put_faults
   pub end : RunEnd
-  pub end_is : IsToldEnd before (faults_of book.site) (faults_of released.site) came answer end
-  pub last : BookView O
-  pub kept : IsKept told trace faults_of last
-  pub puts_end : PutsEnd told trace faults_of puts came end released last status
+  pub end_is : IsToldEnd before book.site.faults released.site.faults came answer end
+  pub last : BookView
+  pub kept : IsKept told last
+  pub puts_end : PutsEnd told came end released last status
   pub site_is : site ≡ last.site
   pub entries_are : entries ≡ entries_of last.log

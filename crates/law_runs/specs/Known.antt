@@ -1,7 +1,7 @@
 -- What a state that a life left knows of its answers (profile).
 use Rattle.std.specs.Prelude.{◌⊎◌, ℕ, ◌<◌, ◌≤◌, List}
 use Rattle.std.specs.List.{All}
-use Rattle.disk_journal.specs.Image.{IsOpenedForm}
+use Rattle.unit_image.specs.Image.{IsOpenedForm}
 use Rattle.unit_state.specs.declared.state.State.{State}
 use Rattle.unit_image.specs.Shows.{Shows}
 use Rattle.run_promise.specs.Answers.{Uses, Accepts}

@@ -2,16 +2,17 @@
 use Rattle.std.specs.Prelude.{◌≡◌, ℕ, ◌+◌, ◌<◌, Bool, IsTrue, List, length, slice_index, Ok}
 use Rattle.sdls_base.specs.declared.TheConstants.{MOST_KEYS}
 use Rattle.sdls_outside.specs.Faults.{Rose}
-use Rattle.sdls_outside.specs.Moments.{Trace, EachMoment}
+use Rattle.sdls_outside.specs.Moments.{EachMoment}
 use Rattle.counter_table.specs.declared.view.View.{View}
 use Rattle.counter_table.specs.Whole.{IsWhole, RowStands}
-use Rattle.disk_journal.specs.Image.{held, records, slot_count}
+use Rattle.unit_image.specs.Image.{held, slots_of, used_of}
 use Rattle.record_io.specs.Reading.{SourceSeen}
 use Rattle.unit_plan.specs.Plan.{plan_of}
 use Rattle.unit_plan.specs.PlanLines.{PlanLines}
 use Rattle.unit_state.specs.declared.state.State.{State}
 use Rattle.unit_image.specs.OpeningImage.{Opening}
 use Rattle.unit_image.specs.Shows.{Shows}
+use Rattle.run_promise.specs.Site.{SiteSeen}
 use Rattle.run_promise.specs.Log.{entries_of}
 use Rattle.run_promise.specs.Stored.{stored_count}
 use Rattle.unit_book.specs.Book.{BookView, IsKept}
@@ -28,33 +29,32 @@ begin_by told image plan start = record {
   told = told;
   plan = plan;
   start = start;
-  slots = slot_count image;
-  used = length (records image);
+  slots = slots_of image;
+  used = used_of image;
 }
 
 -- where the site tells what it holds and has not failed, so many slots of the image are used
-abbrev pub CountsSlots : {O : Type 0} → Bool → (O → ℕ) → List ℕ → BookView O → Type 0
-CountsSlots told faults image book = IsTrue told → ¬ Rose (faults book.opened) (faults book.site)
-    → (book.journal.slots ≡ slot_count image) × (book.journal.used
-    ≡ length (records image) + stored_count book.start (entries_of book.log))
+abbrev pub CountsSlots : Bool → List ℕ → BookView → Type 0
+CountsSlots told image book = IsTrue told → ¬ Rose book.opened.faults book.site.faults
+    → (book.journal.slots ≡ slots_of image) × (book.journal.used
+    ≡ used_of image + stored_count book.start (entries_of book.log))
 
 -- The book was opened on the site, one worker did all that was done from the first view to the last, and the counters
 -- were closed with these words `next`.
-pub record Ran {O : Type 0} (told : Bool) (trace : O → Trace) (faults puts : O → ℕ) (site : O)
-    (source source_after : SourceSeen)
-    (first now : View) (came : RunEnd) (book : BookView O) (words : List ℕ) : Type 0 where
-  pub says : IsTrue told → plan_of (held (trace site).now.image).plan ≡ Ok book.plan
-  pub shows : IsTrue told → Shows (trace site).now.image book.start
-  pub opening : IsTrue told → EachMoment (trace site) (trace book.opened) (Opening (trace site))
-  pub sunk : IsTrue told → (trace book.opened).now.sunk ≡ (trace site).now.sunk
-  pub same_faults : faults book.opened ≡ faults site
-  pub founded : IsTrue told → IsFounded (begin_by told (trace site).now.image book.plan book.start) first
-  pub come : HasCome source source_after (begin_by told (trace site).now.image book.plan book.start) first now
-      (puts site) (puts book.site) book.standing came
+pub record Ran (told : Bool) (site : SiteSeen) (source source_after : SourceSeen) (first now : View) (came : RunEnd)
+    (book : BookView) (words : List ℕ) : Type 0 where
+  pub says : IsTrue told → plan_of (held site.trace.now.image).plan ≡ Ok book.plan
+  pub shows : IsTrue told → Shows site.trace.now.image book.start
+  pub opening : IsTrue told → EachMoment site.trace book.opened.trace (Opening site.trace)
+  pub sunk : IsTrue told → book.opened.trace.now.sunk ≡ site.trace.now.sunk
+  pub same_faults : book.opened.faults ≡ site.faults
+  pub founded : IsTrue told → IsFounded (begin_by told site.trace.now.image book.plan book.start) first
+  pub come : HasCome source source_after (begin_by told site.trace.now.image book.plan book.start) first now
+      site.put_faults book.site.put_faults book.standing came
   pub whole : IsWhole MOST_KEYS now
-  pub kept : IsKept told trace faults book
+  pub kept : IsKept told book
   pub log : book.log ≡ log_of now
-  pub known : now.turn.known.faults ≡ faults book.site
-  pub known_first : now.turn.known.opening.faults ≡ faults book.opened
+  pub known : now.turn.known.faults ≡ book.site.faults
+  pub known_first : now.turn.known.opening.faults ≡ book.opened.faults
   pub rows : length words ≡ MOST_KEYS
   pub stand : (row : ℕ) → row < MOST_KEYS → RowStands row (slice_index words row) now.numbers

@@ -2,15 +2,14 @@
 use Rattle.std.specs.Prelude.{◌⊎◌, ℕ, IsTrue, List, []}
 use Rattle.sdls_outside.specs.Disk.{Leaves}
 use Rattle.sdls_outside.specs.Moments.{EachMoment}
-use Rattle.disk_journal.specs.Image.{IsOpenedForm}
-use Rattle.disk_journal.specs.Forms.{Settles}
+use Rattle.unit_image.specs.Image.{IsOpenedForm, Settles}
 use Rattle.unit_state.specs.declared.state.State.{State}
 use Rattle.unit_state.specs.Restart.{restarted}
 use Rattle.unit_image.specs.Shows.{Shows}
 use Rattle.run_promise.specs.Call.{CallSeen, image_at_entry}
 use Rattle.unit_plan.specs.PlanLines.{PlanLines}
 use Rattle.run_promise.specs.Sound.{SoundMoment}
-use Rattle.run_promise.specs.Account.{begin_of, course_of}
+use Rattle.run_promise.specs.Account.{course_of}
 use Rattle.run_promise.specs.Lives.{no_account}
 
 -- the image shows what a restart leaves of a state that the image at the entry shows, and has no opened form
@@ -25,7 +24,7 @@ IsRead call image = Leaves call.site.trace.now image ⊎ (Settles (image_at_entr
 
 -- each moment of the call is such
 abbrev pub ReadsAlone : CallSeen → Type 0
-ReadsAlone call = IsTrue call.site.told → EachMoment call.site.trace call.site_after.trace
+ReadsAlone call = IsTrue call.told → EachMoment call.site.trace call.site_after.trace
     (λ image sunk. IsRead call image)
 
 -- Each moment is one that a crash at the entry may leave, or a sound one of a run without records, whose octets sunk
@@ -33,5 +32,5 @@ ReadsAlone call = IsTrue call.site.told → EachMoment call.site.trace call.site
 abbrev pub ReadsSoundly : CallSeen → PlanLines → State → Type 0
 ReadsSoundly call plan state = EachMoment call.site.trace call.site_after.trace
     (λ image sunk. Leaves call.site.trace.now image
-    ⊎ SoundMoment (begin_of call plan state) (course_of call (no_account call) plan state) [] [] (image_at_entry call)
+    ⊎ SoundMoment (course_of call (no_account call) plan state) [] [] (image_at_entry call)
     image [])

@@ -24,7 +24,7 @@ pub record DidAll (call : CallSeen) (ends : RunEnds call) : Type 0 where
   pub answered : AnsweredEach ends.account
   pub no_fault : call.site_after.faults ≡ call.site.faults
   pub none_failed : call.site_after.put_faults ≡ call.site.put_faults
-  pub sunk : IsTrue call.site.told
+  pub sunk : IsTrue call.told
       → call.site_after.trace.now.sunk ≡ call.site.trace.now.sunk ++ due_octets call ends.account
 
 -- the run went on to the end of its input: it ended, is malformed, or the source failed
@@ -47,7 +47,7 @@ pub record EndsWithFullHistory (call : CallSeen) (ends : RunEnds call) : Type 0 
 -- Nothing can keep the run from its end but want of memory: the image shows a state, no count rose, the input is whole
 -- and well formed, and not too long for the history.
 pub record IsUnhindered (call : CallSeen) (ends : RunEnds call) (plan : PlanLines) (state : State) : Type 0 where
-  pub site_told : IsTrue call.site.told
+  pub site_told : IsTrue call.told
   pub source_told : IsTrue call.source.told
   pub shows : ShowsAtEntry call plan state
   pub source_well : ¬ Rose call.source.faults call.source_after.faults

@@ -14,22 +14,21 @@ use Rattle.run_promise.specs.Sound.{deeds_octets, IsCoveredBy}
 
 -- The answer was settled before an octet of it was put: so many lines of the log stood then, and so many entries were
 -- stored, whose state covers it. The first octet of the answer is the one at this place among the octets put.
-pub record AnswerIsSettled (begin : Begin) (course : Course) (stored : ℕ) (log : List Logged) (at : ℕ)
-    (deed : Deed) : Type 0 where
+pub record AnswerIsSettled (course : Course) (stored : ℕ) (log : List Logged) (at : ℕ) (deed : Deed) : Type 0 where
   pub lines : ℕ
   pub within : lines ≤ length log
   pub before : length (pieces_of (take lines log)) ≤ at
   pub entries : ℕ
   pub low : entries ≤ length (entries_of (take lines log))
   pub is_stored : entries ≤ stored
-  pub covered : IsCoveredBy begin course entries deed
+  pub covered : IsCoveredBy course entries deed
 
 -- all answers, of which the first begins at this place
-abbrev pub AreSettled : Begin → Course → ℕ → List Logged → ℕ → List Deed → Type 0
-AreSettled begin course stored log at [] = ⊤
-AreSettled begin course stored log at (deed ∷ deeds) =
-    AnswerIsSettled begin course stored log at deed
-    × AreSettled begin course stored log (at + length (answer_octets deed.answer)) deeds
+abbrev pub AreSettled : Course → ℕ → List Logged → ℕ → List Deed → Type 0
+AreSettled course stored log at [] = ⊤
+AreSettled course stored log at (deed ∷ deeds) =
+    AnswerIsSettled course stored log at deed
+    × AreSettled course stored log (at + length (answer_octets deed.answer)) deeds
 
 -- A run under way: what the first worker did since the opening, that the answers were put, and that each was settled
 -- before.
@@ -37,4 +36,4 @@ pub record UnderWay (begin : Begin) (first now : View) (stored : ℕ) (records :
     (deeds : List Deed) : Type 0 where
   pub does : Does begin first now records deeds
   pub put : pieces_of (log_of now) ≡ deeds_octets deeds
-  pub settled : AreSettled begin (course_in begin now) stored (log_of now) 0 deeds
+  pub settled : AreSettled (course_in begin now) stored (log_of now) 0 deeds

@@ -38,7 +38,7 @@ pub fn covered_in_a_life()
 /// image: the life left one that shows a state.
 pub fn sound_call_keeps_lives()
     ensures { (call : CallSeen) (account : Account)
-        → (IsTrue call.site.told → (plan : PlanLines) (state : State) → ShowsAtEntry call plan state
+        → (IsTrue call.told → (plan : PlanLines) (state : State) → ShowsAtEntry call plan state
         → IsSoundCall call account plan state)
         → KeepsLives call account }
 {
@@ -50,8 +50,8 @@ pub fn sound_call_keeps_lives()
 pub fn sound_reading_keeps_lives()
     ensures { (call : CallSeen)
         → ((plan : PlanLines) (state : State) → ShowsAtEntry call plan state
-        → IsSound (begin_of call plan state) (course_of call (no_account call) plan state) [] [])
-        → (IsTrue call.site.told → (plan : PlanLines) (state : State) → ShowsAtEntry call plan state
+        → IsSound (course_of call (no_account call) plan state) [] [])
+        → (IsTrue call.told → (plan : PlanLines) (state : State) → ShowsAtEntry call plan state
         → ReadsSoundly call plan state)
         → KeepsLivesReading call }
 {

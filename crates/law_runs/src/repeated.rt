@@ -30,7 +30,7 @@ pub fn one_input_is_handled_alike()
 /// neither, not even at a release, they have the same entries too.
 pub fn one_lane_answers_alike()
     ensures { (call other : CallSeen) (run : RunEnds call) (again : RunEnds other) (plan : PlanLines) (state : State)
-        → AnsweredEach run.account → AnsweredEach again.account → IsTrue call.site.told → IsTrue other.site.told
+        → AnsweredEach run.account → AnsweredEach again.account → IsTrue call.told → IsTrue other.told
         → image_at_entry other ≡ image_at_entry call → ShowsAtEntry call plan state
         → again.account.handled ≡ run.account.handled → OneLane (records_of run.account.handled)
         → NoneFails run.account.answers → NoneFails again.account.answers
@@ -47,7 +47,7 @@ pub fn one_lane_answers_alike()
 /// full history, or a put that failed, left records without answers.
 pub fn one_lane_fronts_alike()
     ensures { (call other : CallSeen) (run : RunEnds call) (again : RunEnds other) (plan : PlanLines) (state : State)
-        → IsTrue call.site.told → IsTrue other.site.told
+        → IsTrue call.told → IsTrue other.told
         → image_at_entry other ≡ image_at_entry call → ShowsAtEntry call plan state
         → again.account.handled ≡ run.account.handled → OneLane (records_of run.account.handled)
         → (n : ℕ) → n ≤ length run.account.answers → n ≤ length again.account.answers
@@ -64,8 +64,8 @@ pub fn one_lane_fronts_alike()
 pub fn one_lane_runs_alike()
     ensures { (call other : CallSeen) (run : RunEnds call) (again : RunEnds other) (plan : PlanLines) (state : State)
         → EndWell call other → IsTrue call.source.told → IsTrue other.source.told
-        → IsTrue call.site.told
-        → IsTrue other.site.told → other.source.left ≡ call.source.left → image_at_entry other ≡ image_at_entry call
+        → IsTrue call.told
+        → IsTrue other.told → other.source.left ≡ call.source.left → image_at_entry other ≡ image_at_entry call
         → ShowsAtEntry call plan state → OneLane (records_of run.account.handled)
         → NoneWants run.account.answers → NoneWants again.account.answers
         → RunsAlike call other run.account again.account }

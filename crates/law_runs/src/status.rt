@@ -24,7 +24,7 @@ pub fn zero_says_all()
 /// Law: where no put failed, all that is due was put, and the status is that of the end.
 pub fn due_is_put()
     ensures { (call : CallSeen) (run : RunEnds call) → call.site_after.put_faults ≡ call.site.put_faults
-        → (call.status ≡ end_status run.account.told) × (IsTrue call.site.told
+        → (call.status ≡ end_status run.account.told) × (IsTrue call.told
         → call.site_after.trace.now.sunk ≡ call.site.trace.now.sunk ++ due_octets call run.account) }
 {}
 
@@ -62,7 +62,7 @@ pub fn status_five_has_a_fault()
 
 /// Law: a refused image is not answered with status 0, and with its own status it stays as it was.
 pub fn refused_stays()
-    ensures { (call : CallSeen) → RunEnds call → IsTrue call.site.told → (offset : ℕ)
+    ensures { (call : CallSeen) → RunEnds call → IsTrue call.told → (offset : ℕ)
         → ShowsNone (image_at_entry call) offset
         → IsLeftRefused call }
 {}

@@ -37,18 +37,18 @@ pub fn answers_settle()
         → All (λ (deed : Deed). (key number : ℕ) → Accepts deed.answer key number
         → number ≤ kept_floor (after_first begin.start (entries_in new) entries) key) deeds
         → (at : ℕ) → length (pieces_of (take lines (log_of new))) ≤ at
-        → AreSettled begin (course_in begin new) stored (log_of new) at deeds }
+        → AreSettled (course_in begin new) stored (log_of new) at deeds }
 {}
 
 /// Law: a moment of the book while it serves is a sound moment of the run, where each answer was settled before it was
 /// put, and the pieces put are a front of the answers and of End.
 pub fn moment_is_sound()
-    ensures { (begin : Begin) (course : Course) (standing : ℕ) (log : List Logged) (deeds : List Deed)
+    ensures { (course : Course) (standing : ℕ) (log : List Logged) (deeds : List Deed)
         (ends start before image sunk since : List ℕ)
-        → course.entries ≡ entries_of log → AreSettled begin course standing log 0 deeds
-        → StaysCovered begin course deeds
+        → course.entries ≡ entries_of log → AreSettled course standing log 0 deeds
+        → StaysCovered course deeds
         → pieces_of log ≡ take (length (pieces_of log)) (deeds_octets deeds ++ ends) → sunk ≡ before ++ since
-        → Serves course.start log standing before image sunk → SoundMoment begin course deeds ends start image since }
+        → Serves course.begin.start log standing before image sunk → SoundMoment course deeds ends start image since }
 {}
 
 /// Law: a run under way goes on by a segment and the puts of its answers.
@@ -58,7 +58,7 @@ pub fn run_goes_on()
         → UnderWay begin first old stored tasks deeds → Does begin old mid later next
         → AllBoth (λ (one other : Deed). one.task.index < other.task.index) deeds next → Does begin mid new [] []
         → pieces_of (log_of new) ≡ pieces_of (log_of old) ++ deeds_octets next → stored ≤ more
-        → AreSettled begin (course_in begin new) more (log_of new) (length (deeds_octets deeds)) next
+        → AreSettled (course_in begin new) more (log_of new) (length (deeds_octets deeds)) next
         → UnderWay begin first new more (tasks ++ later) (deeds ++ next) }
 {}
 

@@ -1,5 +1,5 @@
 //! Laws of whole runs, from the opening to the end.
-ghost use Rattle.std.specs.Prelude.{◌≡◌, ℕ, ◌<◌, ◌≤◌, List, []};
+ghost use Rattle.std.specs.Prelude.{◌≡◌, Bool, ℕ, ◌<◌, ◌≤◌, List, []};
 ghost use Rattle.std.specs.List.{AllPairs};
 ghost use Rattle.sdls_base.specs.declared.entry.Entry.{Entry};
 ghost use Rattle.counter_table.specs.declared.view.View.{View};
@@ -14,7 +14,8 @@ ghost use Rattle.run_promise.specs.Sound.{IsSound};
 ghost use Rattle.sdls_outside.specs.Faults.{Rose};
 ghost use Rattle.record_io.specs.declared.answers.Answer.{Answer};
 ghost use Rattle.unit_plan.specs.PlanLines.{PlanLines};
-ghost use Rattle.run_promise.specs.Call.{CallSeen, ShowsAtEntry, call_seen};
+ghost use Rattle.run_promise.specs.Call.{CallSeen, ShowsAtEntry};
+ghost use Rattle.run_promise.specs.Site.{SiteSeen};
 ghost use Rattle.run_promise.specs.Account.{Account, begin_of, course_of, deeds_from};
 ghost use Rattle.run_promise.specs.Lives.{KeepsLivesReading, EndsAndLives};
 ghost use Rattle.counter_table.specs.Whole.{IsWhole, RowStands};
@@ -29,10 +30,8 @@ ghost use Rattle.law_runs.specs.Refused.{Refused};
 ghost use Rattle.law_runs.specs.Doing.{HasDone, IsBefore, IsFounded};
 
 use crate::life::{sound_call_keeps_lives, sound_reading_keeps_lives};
-use disk_journal::opening_stays;
 use law_image::shown_keeps_rules;
-use sdls_outside::Site;
-use unit_image::{refused_with_one, shows_one};
+use unit_image::{opening_keeps_forms, refused_with_one, shows_one};
 
 /// Law: a run that one worker did is sound, with the releases behind it, and what covers an answer covers it to the
 /// end.
@@ -40,11 +39,11 @@ pub fn run_is_sound()
     ensures sound { (begin : Begin) (first now : View) (places : List Place) (deeds : List Deed) (words : ℕ → ℕ)
         (releases : List Entry) (faults : ℕ)
         → EndsRun begin first now places deeds words releases faults
-        → IsSound begin (course_at_end begin now releases faults) places deeds }
+        → IsSound (course_at_end begin now releases faults) places deeds }
     ensures covered { (begin : Begin) (first now : View) (places : List Place) (deeds : List Deed) (words : ℕ → ℕ)
         (releases : List Entry) (faults : ℕ)
         → EndsRun begin first now places deeds words releases faults
-        → StaysCovered begin (course_at_end begin now releases faults) deeds }
+        → StaysCovered (course_at_end begin now releases faults) deeds }
 {}
 
 /// Law: what is known of a run at its end, with the releases behind it.
@@ -60,13 +59,21 @@ pub fn run_stands()
 
 /// Law: a call whose book was opened, whose records one worker served, and which released its keys and put End, ends as
 /// a run ends, and continues each life that left the image at its entry.
-pub fn run_ends_well<O: Site>()
-    ensures { (site after : O) (source source_after : SourceSeen) (first now : View) (came : RunEnd) (book : BookView O)
-        (words : List ℕ) (entries : List Entry) (status : ℕ)
-        → Ran O.told O.trace O.faults O.put_faults site source source_after first now came book words
-        → (end : Finishes O.told O.trace O.faults O.put_faults (O.faults site) words came book after entries status)
-        → CountsSlots O.told O.faults (O.trace site).now.image end.last
-        → EndsAndLives (call_seen O.told O.trace O.faults O.put_faults site after source source_after status entries) }
+pub fn run_ends_well()
+    ensures { (told : Bool) (site after : SiteSeen) (source source_after : SourceSeen) (first now : View) (came : RunEnd)
+        (book : BookView) (words : List ℕ) (entries : List Entry) (status : ℕ)
+        → Ran told site source source_after first now came book words
+        → (end : Finishes told site.faults words came book after entries status)
+        → CountsSlots told site.trace.now.image end.last
+        → EndsAndLives (record {
+          source = source;
+          source_after = source_after;
+          told = told;
+          site = site;
+          site_after = after;
+          status = status;
+          entries = entries;
+        }) }
 {
     shows_one();
     refused_with_one();
@@ -75,10 +82,18 @@ pub fn run_ends_well<O: Site>()
 
 /// Law: a call whose book was not opened, which took nothing of its source and put End alone, ends as a run ends, and
 /// continues each life that left the image at its entry.
-pub fn refused_run_ends<O: Site>()
-    ensures { (site back after : O) (source : SourceSeen) (fault : OpenFault) (status : ℕ)
-        → Refused O.told O.trace O.faults O.put_faults site back after fault status
-        → EndsAndLives (call_seen O.told O.trace O.faults O.put_faults site after source source status []) }
+pub fn refused_run_ends()
+    ensures { (told : Bool) (site back after : SiteSeen) (source : SourceSeen) (fault : OpenFault) (status : ℕ)
+        → Refused told site back after fault status
+        → EndsAndLives (record {
+          source = source;
+          source_after = source;
+          told = told;
+          site = site;
+          site_after = after;
+          status = status;
+          entries = [];
+        }) }
 {
     refused_with_one();
     shown_keeps_rules();
@@ -89,7 +104,7 @@ pub fn refused_run_ends<O: Site>()
 pub fn no_records_are_sound()
     ensures { (call : CallSeen) (account : Account) (plan : PlanLines) (state : State) → ShowsAtEntry call plan state
         → call.entries ≡ []
-        → IsSound (begin_of call plan state) (course_of call account plan state) [] [] }
+        → IsSound (course_of call account plan state) [] [] }
 {
     shown_keeps_rules();
 }
@@ -100,7 +115,7 @@ pub fn reading_keeps_lives()
     ensures { (call : CallSeen) → call.entries ≡ [] → ReadsAlone call → KeepsLivesReading call }
 {
     shows_one();
-    opening_stays();
+    opening_keeps_forms();
     no_records_are_sound();
     sound_reading_keeps_lives();
 }

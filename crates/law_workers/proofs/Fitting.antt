@@ -1,5 +1,5 @@
 -- A fit stays a fit while the history grows and more is known to be near.
-use Rattle.std.proofs.Common.{◌≡◌, ℕ, ◌-◌, ◌≤◌, Bool, List, ◌++◌, length, sym, ◌∙◌, ap, subst, arith, inl, inr, ⊎_elim, length-append}
+use Rattle.std.proofs.Common.{◌≡◌, ℕ, ◌-◌, ◌≤◌, List, ◌++◌, length, sym, ◌∙◌, ap, subst, arith, inl, inr, ⊎_elim, length-append}
 use Rattle.std.proofs.lemmas.List.{take-append-le}
 use Rattle.std.proofs.lemmas.Option.{slice_get_within}
 use Rattle.sdls_base.specs.declared.entry.Entry.{Entry}
@@ -10,10 +10,10 @@ use Rattle.record_io.specs.declared.records.Record.{Record}
 use Rattle.record_io.specs.declared.answers.Answer.{Answer}
 use Rattle.record_io.specs.declared.kinds.RecordKind.{RecordKind}
 use Rattle.record_io.specs.declared.kinds.RecordKind.TheVariants.{Protect, Open, Command}
-use Rattle.unit_plan.specs.PlanLines.{PlanLines}
 use Rattle.unit_state.specs.declared.state.State.{State}
 use Rattle.unit_state.specs.History.{after, after_first, at_epoch, epoch_after}
 use Rattle.unit_state.proofs.Histories.{at_epoch_more, epochs_more}
+use Rattle.run_promise.specs.Begin.{Begin}
 use Rattle.run_promise.specs.Entries.{frame_entry}
 use Rattle.run_promise.specs.Legal.{SeenNear}
 use Rattle.run_promise.specs.Fits.{Course, CanReserve, CanRaiseFloor, CanChange, CanDraw, IsUnmarked, CanAppend, MayAppendOnce, TellsRisenCount, FitsAny, FitsKind, Fits, StandsAt, IsBound}
@@ -25,24 +25,24 @@ seen_nearer near far more k (seens.Word n) h = more k n h
 seen_nearer near far more k (seens.Number n) h = more k n h
 seen_nearer near far more k (seens.Exhausted n) h = more k n h
 
-module _ (near far : ℕ → ℕ → Type 0) (more : (k n : ℕ) → near k n → far k n) (plan : PlanLines) (start : State)
-    (slots used : ℕ) (told : Bool) (before f g : ℕ) (es rest : List Entry) (counted : f ≤ g) (closed : Rose before f → length (es ++ rest) ≡ length es) where
+module _ (near far : ℕ → ℕ → Type 0) (more : (k n : ℕ) → near k n → far k n) (begin : Begin)
+    (before f g : ℕ) (es rest : List Entry) (counted : f ≤ g) (closed : Rose before f → length (es ++ rest) ≡ length es) where
   abbrev old : Course
-  old = record { plan = plan; start = start; slots = slots; used = used; told = told; faults_before = before; faults = f; entries = es }
+  old = record { begin = begin; faults_before = before; faults = f; entries = es }
 
   abbrev new : Course
-  new = record { plan = plan; start = start; slots = slots; used = used; told = told; faults_before = before; faults = g; entries = es ++ rest }
+  new = record { begin = begin; faults_before = before; faults = g; entries = es ++ rest }
 
-  first_kept : (p : ℕ) → p ≤ length es → after_first start (es ++ rest) p ≡ after_first start es p
-  first_kept p h = ap (after start) (take-append-le p es rest h)
+  first_kept : (p : ℕ) → p ≤ length es → after_first begin.start (es ++ rest) p ≡ after_first begin.start es p
+  first_kept p h = ap (after begin.start) (take-append-le p es rest h)
 
-  epochs_kept : (e : ℕ) → e ≤ epoch_after es → at_epoch start (es ++ rest) e ≡ at_epoch start es e
-  epochs_kept e h = at_epoch_more start es rest e h
+  epochs_kept : (e : ℕ) → e ≤ epoch_after es → at_epoch begin.start (es ++ rest) e ≡ at_epoch begin.start es e
+  epochs_kept e h = at_epoch_more begin.start es rest e h
 
   reached_more : (e : ℕ) → e ≤ epoch_after es → e ≤ epoch_after (es ++ rest)
   reached_more e h = let k = epochs_more es rest in omega arith
 
-  unmarked_more : (p key number : ℕ) → p ≤ length es → IsUnmarked near (after_first start es p) key number → IsUnmarked far (after_first start (es ++ rest) p) key number
+  unmarked_more : (p key number : ℕ) → p ≤ length es → IsUnmarked near (after_first begin.start es p) key number → IsUnmarked far (after_first begin.start (es ++ rest) p) key number
   unmarked_more p key number low h = record {
     is_near = more key number h.is_near;
     unmarked = rw (first_kept p low) h.unmarked;
@@ -139,7 +139,7 @@ module _ (near far : ℕ → ℕ → Type 0) (more : (k n : ℕ) → near k n �
       inr (inr (inl (record { tells = tells_more _ x h.tells; may = ⊎_elim inl (λ m. inr (once_more t m)) h.may })))
   fits_any t x (inr (inr (inr h))) = inr (inr (inr h))
 
-  before_kept : (x : Answer) (e : Entry) → StandsAt old x e → after_first start (es ++ rest) (x.position - 1) ≡ after_first start es (x.position - 1)
+  before_kept : (x : Answer) (e : Entry) → StandsAt old x e → after_first begin.start (es ++ rest) (x.position - 1) ≡ after_first begin.start es (x.position - 1)
   before_kept x e h = let low = slice_get_within es (x.position - 1) e h.there in first_kept (x.position - 1) (omega arith)
 
   abbrev bound_more : (t : Record) (x : Answer) → IsBound old t x → IsBound new t x
@@ -176,7 +176,7 @@ module _ (near far : ℕ → ℕ → Type 0) (more : (k n : ℕ) → near k n �
         reply = h.reply;
         field = h.field;
         replies = rw same h.replies;
-        stands = subst (λ (s : State). StandsAt new x (frame_entry plan s t.index h.reply)) (sym same) (stands_more x _ h.stands);
+        stands = subst (λ (s : State). StandsAt new x (frame_entry begin.plan s t.index h.reply)) (sym same) (stands_more x _ h.stands);
         told = h.told;
       })
   fits_kind Open t x (inr h) = inr (fits_any t x h)

@@ -200,6 +200,6 @@ module _ (begin : Begin) (v w : View) (tasks : List Record) (deeds : List Deed) 
       let a : Deed = slice_index_or deeds i e in
       let c : Course = course_in begin w in
       let more : Fits (NearWord begin.start (entries_in w) tasks) (record c { entries = c.entries ++ [] }) a.task a.answer =
-      fits_more (IsBetween begin v w) (NearWord begin.start (entries_in w) tasks) near c.plan c.start c.slots c.used c.told c.faults_before c.faults c.faults
+      fits_more (IsBetween begin v w) (NearWord begin.start (entries_in w) tasks) near c.begin c.faults_before c.faults c.faults
       c.entries [] (omega arith) (λ r. ap length (append-nil c.entries)) a.task a.answer (d.answers.fit i e l) in
       subst (λ (es : List Entry). Fits (NearWord begin.start (entries_in w) tasks) (record c { entries = es }) a.task a.answer) (append-nil c.entries) more

@@ -55,11 +55,7 @@ module _ (begin : Begin) (u v w z : View) (low : KnowsMore u v) (high : KnowsMor
   -- what the answers speak of, with other entries and another count of faults before
   abbrev course_with : List Entry → ℕ → Course
   course_with es before = record {
-    plan = begin.plan;
-    start = begin.start;
-    slots = begin.slots;
-    used = begin.used;
-    told = begin.told;
+    begin = begin;
     faults_before = before;
     faults = z.turn.known.faults;
     entries = es;
@@ -73,7 +69,7 @@ module _ (begin : Begin) (u v w z : View) (low : KnowsMore u v) (high : KnowsMor
       λ rose. let s = high.earlier.stopped (subst (λ (o : Opening). Rose o.faults w.turn.known.faults) (sym high.opening) rose) in
       ap length (sym grown) ∙ (sym (entries_counted (log_of z)) ∙ (s ∙ entries_counted (log_of w))) in
       let there : Fits near (course_with (entries_in w ++ r) w.turn.known.opening.faults) t x =
-      fits_more (IsBetween begin v w) near between begin.plan begin.start begin.slots begin.used begin.told
+      fits_more (IsBetween begin v w) near between begin
       w.turn.known.opening.faults w.turn.known.faults z.turn.known.faults (entries_in w) r high.earlier.faults closed t x h in
       let here : Fits near (course_with (entries_in w ++ r) z.turn.known.opening.faults) t x =
       subst (λ (o : Opening). Fits near (course_with (entries_in w ++ r) o.faults) t x) (sym high.opening) there in
@@ -89,7 +85,7 @@ module _ (begin : Begin) (u v w z : View) (low : KnowsMore u v) (high : KnowsMor
       λ rose. let s = high.earlier.stopped (subst (λ (o : Opening). Rose o.faults w.turn.known.faults) (sym high.opening) rose) in
       ap length (sym grown) ∙ (sym (entries_counted (log_of z)) ∙ (s ∙ entries_counted (log_of w))) in
       let there : MayAppend near (course_with (entries_in w ++ r) w.turn.known.opening.faults) p t =
-      can_append (IsBetween begin v w) near between begin.plan begin.start begin.slots begin.used begin.told
+      can_append (IsBetween begin v w) near between begin
       w.turn.known.opening.faults w.turn.known.faults z.turn.known.faults (entries_in w) r high.earlier.faults closed t.kind p t within may in
       let here : MayAppend near (course_with (entries_in w ++ r) z.turn.known.opening.faults) p t =
       subst (λ (o : Opening). MayAppend near (course_with (entries_in w ++ r) o.faults) p t) (sym high.opening) there in

@@ -1,7 +1,7 @@
 -- What a run began with, by what the opening tells (profile).
-use Rattle.std.specs.Prelude.{◌≡◌, Bool, IsTrue, length}
+use Rattle.std.specs.Prelude.{◌≡◌, Bool, IsTrue}
 use Rattle.sdls_base.specs.declared.TheConstants.{MOST_KEYS}
-use Rattle.disk_journal.specs.Image.{records, slot_count}
+use Rattle.unit_image.specs.Image.{slots_of, used_of}
 use Rattle.counter_table.specs.declared.view.Opening.{Opening}
 use Rattle.run_promise.specs.Begin.{Begin}
 
@@ -12,5 +12,5 @@ pub record BeganWith (told : Bool) (begin : Begin) (opening : Opening) : Type 0 
   pub tells : begin.told ≡ told
   pub plan : opening.plan ≡ begin.plan
   pub start : opening.start ≡ begin.start
-  pub slots : IsTrue told → begin.slots ≡ slot_count opening.image
-  pub used : IsTrue told → begin.used ≡ length (records opening.image)
+  pub slots : IsTrue told → begin.slots ≡ slots_of opening.image
+  pub used : IsTrue told → begin.used ≡ used_of opening.image

@@ -25,11 +25,7 @@ use Rattle.run_promise.specs.Deed.{deed_of}
 -- what the answers of a run speak of, as the view knows it
 abbrev pub course_in : Begin → View → Course
 course_in begin view = record {
-  plan = begin.plan;
-  start = begin.start;
-  slots = begin.slots;
-  used = begin.used;
-  told = begin.told;
+  begin = begin;
   faults_before = view.turn.known.opening.faults;
   faults = view.turn.known.faults;
   entries = entries_in view;

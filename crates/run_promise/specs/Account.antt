@@ -2,7 +2,7 @@
 use Rattle.std.specs.Prelude.{◌≡◌, ◌⊎◌, ℕ, ◌<◌, ◌≤◌, nat_lt, if◌then◌else◌, List, [], ◌∷◌, ◌++◌, length}
 use Rattle.std.specs.Prelude.{take}
 use Rattle.sdls_base.specs.declared.TheConstants.{MOST_KEYS}
-use Rattle.disk_journal.specs.Image.{records, slot_count}
+use Rattle.unit_image.specs.Image.{slots_of, used_of}
 use Rattle.record_io.specs.declared.answers.Answer.{Answer}
 use Rattle.record_io.specs.declared.code.TheConstants.{END, SITE_FAULT, STOPPED}
 use Rattle.record_io.specs.declared.status.TheConstants as status
@@ -120,20 +120,16 @@ AreAnswered account (NoState offset) = (account.handled ≡ []) × (account.answ
 abbrev pub begin_of : CallSeen → PlanLines → State → Begin
 begin_of call plan state = record {
   rows = MOST_KEYS;
-  told = call.site.told;
+  told = call.told;
   plan = plan;
   start = state;
-  slots = slot_count (image_at_entry call);
-  used = length (records (image_at_entry call));
+  slots = slots_of (image_at_entry call);
+  used = used_of (image_at_entry call);
 }
 
 abbrev pub course_of : CallSeen → Account → PlanLines → State → Course
 course_of call account plan state = record {
-  plan = plan;
-  start = state;
-  slots = slot_count (image_at_entry call);
-  used = length (records (image_at_entry call));
-  told = call.site.told;
+  begin = begin_of call plan state;
   faults_before = call.site.faults;
   faults = account.last;
   entries = call.entries;

@@ -27,7 +27,7 @@ pub record IsFullAt (call : CallSeen) (account : Account) : Type 0 where
   pub not_failed : ¬ Rose call.site.faults account.last
   pub place : Place
   pub first : slice_get account.handled (length account.answers) ≡ Some place
-  pub due : IsTrue call.site.told → (plan : PlanLines) (state : State) → ShowsAtEntry call plan state
+  pub due : IsTrue call.told → (plan : PlanLines) (state : State) → ShowsAtEntry call plan state
       → (place.task.kind ≢ Protect)
       ⊎ MayAppend (NearWord state call.entries (records_of account.handled)) (course_of call account plan state)
       MOST_ENTRIES place.task
@@ -48,7 +48,7 @@ CameBy call account (SourceFault count) = Rose call.source.faults call.source_af
 CameBy call account (SiteFault count) = Rose call.site.faults account.last × (count ≡ account.last)
     × (call.entries ≡ []) × (call.source_after ≡ call.source)
 CameBy call account NoMemory = ⊤
-CameBy call account (NoState offset) = (IsTrue call.site.told → ShowsNone (image_at_entry call) offset)
+CameBy call account (NoState offset) = (IsTrue call.told → ShowsNone (image_at_entry call) offset)
     × (call.entries ≡ []) × (call.source_after ≡ call.source)
 CameBy call account SessionFull = IsFullAt call account
 CameBy call account PutFailed = call.site.put_faults < call.site_after.put_faults
@@ -70,7 +70,7 @@ TellsEnd call account = (Rose call.site.faults account.last × (account.told ≡
 pub record PutsDue (call : CallSeen) (account : Account) : Type 0 where
   pub none_failed : call.site_after.put_faults ≡ call.site.put_faults
   pub status_is : call.status ≡ end_status account.told
-  pub sunk : IsTrue call.site.told
+  pub sunk : IsTrue call.told
       → call.site_after.trace.now.sunk ≡ call.site.trace.now.sunk ++ due_octets call account
 
 -- A put failed: a front of what is due was put, and the status is that of a fault of the site. A record was handled
@@ -79,9 +79,9 @@ pub record PutsFront (call : CallSeen) (account : Account) : Type 0 where
   pub one_failed : call.site.put_faults < call.site_after.put_faults
   pub status_is : call.status ≡ status.SITE_FAULT
   pub rose : Rose call.site.faults call.site_after.faults
-  pub sunk : IsTrue call.site.told
+  pub sunk : IsTrue call.told
       → Between call.site.trace.now.sunk (call.site.trace.now.sunk ++ due_octets call account)
       call.site_after.trace.now.sunk
-  pub earlier : IsTrue call.site.told → (place : Place) → Contains account.handled place
+  pub earlier : IsTrue call.told → (place : Place) → Contains account.handled place
       → length (answers_octets (answers_of_first place.segment account.handled account.answers))
       ≤ length (sunk_since call call.site_after.trace.now.sunk)

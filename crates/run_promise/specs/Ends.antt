@@ -7,8 +7,7 @@ use Rattle.sdls_base.specs.declared.entry.Entry.{Entry}
 use Rattle.sdls_outside.specs.Faults.{Rose}
 use Rattle.sdls_outside.specs.Disk.{Leaves}
 use Rattle.sdls_outside.specs.Moments.{EachMoment}
-use Rattle.disk_journal.specs.Image.{records, slot_count}
-use Rattle.disk_journal.specs.Forms.{Settles}
+use Rattle.unit_image.specs.Image.{Settles, slots_of, used_of}
 use Rattle.key_book.specs.KeyBook.{place_of}
 use Rattle.record_io.specs.declared.status.TheConstants as status
 use Rattle.record_io.specs.Places.{records_of}
@@ -27,7 +26,7 @@ use Rattle.run_promise.specs.Alone.{OneLane, IsExact}
 use Rattle.run_promise.specs.declared.end.RunEnd.{RunEnd}
 use Rattle.run_promise.specs.declared.end.RunEnd.TheVariants.{Ended, SiteFault, NoMemory, NoState, SessionFull}
 use Rattle.run_promise.specs.Call.{CallSeen, ShowsAtEntry, image_at_entry, sunk_since}
-use Rattle.run_promise.specs.Account.{Account, AreAnswered, SaysSiteFailed, begin_of, course_of, deeds_in, end_octets}
+use Rattle.run_promise.specs.Account.{Account, AreAnswered, SaysSiteFailed, course_of, deeds_in, end_octets}
 use Rattle.run_promise.specs.Causes.{CameBy, TellsEnd, PutsDue, PutsFront}
 use Rattle.run_promise.specs.Words.{MovedWords}
 
@@ -38,12 +37,12 @@ pub record IsEarly (call : CallSeen) (told : RunEnd) (image sunk : List ℕ) : T
 
 -- a moment of a run that served is sound
 abbrev pub IsServed : CallSeen → Account → PlanLines → State → List ℕ → List ℕ → Type 0
-IsServed call account plan state image sunk = SoundMoment (begin_of call plan state) (course_of call account plan state)
+IsServed call account plan state image sunk = SoundMoment (course_of call account plan state)
     (deeds_in account) (end_octets call account.told) (image_at_entry call) image (sunk_since call sunk)
 
 -- The run is sound, and each of its moments is so, or early.
 pub record IsSoundCall (call : CallSeen) (account : Account) (plan : PlanLines) (state : State) : Type 0 where
-  pub run : IsSound (begin_of call plan state) (course_of call account plan state) account.handled (deeds_in account)
+  pub run : IsSound (course_of call account plan state) account.handled (deeds_in account)
   pub moments : EachMoment call.site.trace call.site_after.trace
       (λ image sunk. IsEarly call account.told image sunk ⊎ IsServed call account plan state image sunk)
 
@@ -54,7 +53,7 @@ due_releases call state ends words = releases (after_first state call.entries en
 -- all slots of the image are used, by its own records and by the entries that were stored
 abbrev pub IsJournalFull : CallSeen → State → Type 0
 IsJournalFull call state =
-    length (records (image_at_entry call)) + stored_count state call.entries ≡ slot_count (image_at_entry call)
+    used_of (image_at_entry call) + stored_count state call.entries ≡ slots_of (image_at_entry call)
 
 -- The releases behind the entries of the lanes: those that are due, up to the first that was refused; none where the
 -- site had failed before. One is refused only where the site fails, the journal is full, or the history is full.
@@ -81,7 +80,7 @@ pub record IsReleased (call : CallSeen) (account : Account) (state : State) (end
       (deeds_in account)
   -- no more slots are used than there are, where the site did not fail
   pub room : ¬ Rose call.site.faults call.site_after.faults
-      → length (records (image_at_entry call)) + stored_count state call.entries ≤ slot_count (image_at_entry call)
+      → used_of (image_at_entry call) + stored_count state call.entries ≤ slots_of (image_at_entry call)
 
 -- The image at the entry shows this state of this plan: the run is sound, the keys are released, and one lane alone is
 -- exact.
@@ -129,7 +128,7 @@ pub record RunEnds (call : CallSeen) : Type 0 where
   pub quiet : call.status ≢ status.SITE_FAULT
       → (call.site_after.faults ≡ call.site.faults) ⊎ (account.came ≢ Ended)
   pub bounded : length call.entries ≤ MOST_ENTRIES
-  pub sound : IsTrue call.site.told → (plan : PlanLines) (state : State) → ShowsAtEntry call plan state
+  pub sound : IsTrue call.told → (plan : PlanLines) (state : State) → ShowsAtEntry call plan state
       → ServesSoundly call account plan state
-  pub refused : IsTrue call.site.told → (offset : ℕ) → ShowsNone (image_at_entry call) offset
+  pub refused : IsTrue call.told → (offset : ℕ) → ShowsNone (image_at_entry call) offset
       → IsRefused call account offset

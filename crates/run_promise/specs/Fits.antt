@@ -1,5 +1,5 @@
 -- When an answer fits the record that it answers (profile).
-use Rattle.std.specs.Prelude.{◌≡◌, ◌≢◌, ℕ, ◌+◌, ◌-◌, ◌<◌, ◌≤◌, ◌⊎◌, Bool, IsTrue, List, [], ◌++◌, length, take}
+use Rattle.std.specs.Prelude.{◌≡◌, ◌≢◌, ℕ, ◌+◌, ◌-◌, ◌<◌, ◌≤◌, ◌⊎◌, IsTrue, List, [], ◌++◌, length, take}
 use Rattle.std.specs.Prelude.{slice_get, Some, None, Ok}
 use Rattle.sdls_base.specs.KeyId.{end_of}
 use Rattle.sdls_base.specs.declared.change.Change.{Change}
@@ -7,7 +7,6 @@ use Rattle.sdls_base.specs.declared.change.Change.TheVariants as changes
 use Rattle.sdls_base.specs.declared.entry.Entry.{Entry}
 use Rattle.sdls_base.specs.declared.entry.Seen.{Seen}
 use Rattle.sdls_outside.specs.Faults.{Rose}
-use Rattle.unit_plan.specs.PlanLines.{PlanLines}
 use Rattle.unit_state.specs.declared.state.State.{State}
 use Rattle.unit_state.specs.History.{after_first, at_epoch, epoch_after}
 use Rattle.frame_shield.specs.declared.binding.Binding.{Binding}
@@ -24,6 +23,7 @@ use Rattle.record_io.specs.declared.code.TheConstants.{NO_MEMORY}
 use Rattle.record_io.specs.declared.kinds.RecordKind.{RecordKind}
 use Rattle.record_io.specs.declared.kinds.RecordKind.TheVariants.{Protect, Open, Command}
 use Rattle.record_io.specs.declared.records.Record.{Record}
+use Rattle.run_promise.specs.Begin.{Begin}
 use Rattle.run_promise.specs.Numbers.{mark_of, floor_of}
 use Rattle.run_promise.specs.Entries.{frame_entry, record_entry, IsNeedOf, IsStepOf}
 use Rattle.run_promise.specs.Stored.{stored_count}
@@ -31,25 +31,20 @@ use Rattle.run_promise.specs.Legal.{KeyOf, SeesFor, SeenNear}
 use Rattle.run_promise.specs.ProtectingFrames.{protect_reply}
 use Rattle.run_promise.specs.Answers.{told_by, plain, counting, numbered, opened_told, replied_told, unbound_told}
 
--- What the answers of a run speak of: the plan and the state that the image shows at the start, the slots of the image
--- and those used then, whether the site tells what it holds, its count of faults when the book was opened and as it is
--- known now, and the entries known now.
+-- What the answers of a run speak of: what it began with, the site's count of faults when the book was opened and as it
+-- is known now, and the entries known now.
 pub record Course : Type 0 where
-  pub plan : PlanLines
-  pub start : State
-  pub slots : ℕ
-  pub used : ℕ
-  pub told : Bool
+  pub begin : Begin
   pub faults_before : ℕ
   pub faults : ℕ
   pub entries : List Entry
 
 -- the state after the first p entries, and the one that an epoch began with
 abbrev pub state_after : Course → ℕ → State
-state_after course p = after_first course.start course.entries p
+state_after course p = after_first course.begin.start course.entries p
 
 abbrev pub state_in : Course → ℕ → State
-state_in course epoch = at_epoch course.start course.entries epoch
+state_in course epoch = at_epoch course.begin.start course.entries epoch
 
 -- more entries are known, and a later count of faults
 abbrev pub grown : Course → List Entry → ℕ → Course
@@ -68,7 +63,7 @@ pub record CanReserve (near : ℕ → ℕ → Type 0) (course : Course) (p : ℕ
   pub earlier : ℕ
   pub within : earlier ≤ p
   pub binding : Binding
-  pub bound : protect_reply course.plan (state_after course earlier) task.link task.octets ≡ Ok (Some binding)
+  pub bound : protect_reply course.begin.plan (state_after course earlier) task.link task.octets ≡ Ok (Some binding)
   pub number : ℕ
   pub is : IsUnmarked near (state_after course p) binding.key number
 
@@ -80,7 +75,7 @@ pub record CanRaiseFloor (course : Course) (p : ℕ) (task : Record) : Type 0 wh
   pub from : ℕ
   pub to : ℕ
   pub field : List ℕ
-  pub accepts : IsOpenReply course.plan (state_after course p) task.link task.octets (Accepted spi key number from to)
+  pub accepts : IsOpenReply course.begin.plan (state_after course p) task.link task.octets (Accepted spi key number from to)
       field
   pub above : floor_of (state_after course p) key < number
 
@@ -122,7 +117,7 @@ pub record MayAppendOnce (near : ℕ → ℕ → Type 0) (course : Course) (task
 pub record IsBound (course : Course) (task : Record) (answer : Answer) : Type 0 where
   pub reached : answer.position ≤ epoch_after course.entries
   pub binding : Binding
-  pub bound : protect_reply course.plan (state_in course answer.position) task.link task.octets ≡ Ok (Some binding)
+  pub bound : protect_reply course.begin.plan (state_in course answer.position) task.link task.octets ≡ Ok (Some binding)
   pub key_is : answer.key ≡ binding.key
 
 -- the body is the frame protected under a number that the key's word `next` can have been
@@ -144,10 +139,10 @@ pub record IsExhausted (near : ℕ → ℕ → Type 0) (course : Course) (task :
 -- the position is 0, or the frame is of a channel.
 pub record IsUnbound (course : Course) (task : Record) (answer : Answer) : Type 0 where
   pub reached : answer.position ≤ epoch_after course.entries
-  pub told : unbound_told (protect_reply course.plan (state_in course answer.position) task.link task.octets)
+  pub told : unbound_told (protect_reply course.begin.plan (state_in course answer.position) task.link task.octets)
       ≡ Some (told_by answer)
   pub epoch_looked_at : (answer.position ≡ 0) ⊎ ((channel : ℕ)
-      × (channel_check course.plan task.link task.octets ≡ Ok (Some channel)))
+      × (channel_check course.begin.plan task.link task.octets ≡ Ok (Some channel)))
 
 -- ---- frames opened, and commands
 
@@ -164,8 +159,8 @@ state_before course answer = state_after course (answer.position - 1)
 pub record IsOpenAnswer (course : Course) (task : Record) (answer : Answer) : Type 0 where
   pub reply : OpenReply
   pub field : List ℕ
-  pub replies : IsOpenReply course.plan (state_before course answer) task.link task.octets reply field
-  pub stands : StandsAt course answer (frame_entry course.plan (state_before course answer) task.index reply)
+  pub replies : IsOpenReply course.begin.plan (state_before course answer) task.link task.octets reply field
+  pub stands : StandsAt course answer (frame_entry course.begin.plan (state_before course answer) task.index reply)
   pub told : told_by answer ≡ opened_told reply field
 
 -- the step tells the answer, in the state before the record's entry
@@ -184,9 +179,9 @@ pub record IsCommandAnswer (course : Course) (task : Record) (answer : Answer) :
 pub record IsFull (near : ℕ → ℕ → Type 0) (course : Course) (task : Record) (answer : Answer) : Type 0 where
   pub told : told_by answer ≡ counting JOURNAL_FULL 0 answer.number
   pub within : answer.position ≤ length course.entries
-  pub slots_are : IsTrue course.told → answer.number ≡ course.slots
-  pub full : IsTrue course.told → course.used + stored_count course.start (take answer.position course.entries)
-      ≡ course.slots
+  pub slots_are : IsTrue course.begin.told → answer.number ≡ course.begin.slots
+  pub full : IsTrue course.begin.told → course.begin.used + stored_count course.begin.start (take answer.position course.entries)
+      ≡ course.begin.slots
   pub may : MayAppend near course answer.position task
 
 -- the answer tells a count of faults that rose since the opening, and the count of all entries

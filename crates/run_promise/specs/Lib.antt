@@ -10,6 +10,7 @@ pub mod Legal
 pub mod Run
 pub mod Fits
 pub mod Begin
+pub mod Site
 pub mod Deed
 pub mod Machine
 pub mod Serving

@@ -2,8 +2,7 @@
 use Rattle.std.specs.Prelude.{◌≡◌, ◌≢◌, ◌⊎◌, ⊤, ℕ, ◌-◌, nat_lt, if◌then◌else◌, List, [], ◌∷◌, ◌++◌, length}
 use Rattle.std.specs.Prelude.{IsSomeAnd, Ok}
 use Rattle.std.specs.List.{AllPairs}
-use Rattle.disk_journal.specs.Image.{held}
-use Rattle.disk_journal.specs.Initial.{initial_image}
+use Rattle.unit_image.specs.Image.{held, initial_image}
 use Rattle.record_io.specs.declared.kinds.RecordKind.{RecordKind}
 use Rattle.record_io.specs.declared.kinds.RecordKind.TheVariants.{Protect, Open, Command}
 use Rattle.record_io.specs.declared.answers.Answer.{Answer}
@@ -17,15 +16,13 @@ use Rattle.unit_state.specs.State.{key_row}
 use Rattle.unit_image.specs.Shows.{SaysPlan, Shows}
 use Rattle.run_promise.specs.Answers.{Uses, Accepts}
 use Rattle.run_promise.specs.Fits.{Course, state_in, state_before}
-use Rattle.run_promise.specs.Begin.{Begin}
 use Rattle.run_promise.specs.Deed.{Deed}
 use Rattle.run_promise.specs.Sound.{IsSound, SoundMoment}
 
--- A run of a life: the image at its start; what it began with, its course, its records, and its answers with the octets
--- of End; the image and the octets sunk at the moment at which it ended.
+-- A run of a life: the image at its start; its course, its records, and its answers with the octets of End; the image
+-- and the octets sunk at the moment at which it ended.
 pub record LifeRun : Type 0 where
   pub start : List ℕ
-  pub begin : Begin
   pub course : Course
   pub places : List Place
   pub deeds : List Deed
@@ -40,11 +37,11 @@ AreEnd octets = (octets ≡ []) ⊎ ((end : Answer) × (end.code ≡ END) × (oc
 -- The image at its start says the plan and shows the state that it began with; behind its answers the octets of one End
 -- are due, or none; the run is sound, and so is the moment at which it ended.
 pub record IsRun (run : LifeRun) : Type 0 where
-  pub says : plan_of (held run.start).plan ≡ Ok run.course.plan
-  pub shows : Shows run.start run.course.start
+  pub says : plan_of (held run.start).plan ≡ Ok run.course.begin.plan
+  pub shows : Shows run.start run.course.begin.start
   pub ended : AreEnd run.ends
-  pub sound : IsSound run.begin run.course run.places run.deeds
-  pub moment : SoundMoment run.begin run.course run.deeds run.ends run.start run.image run.sunk
+  pub sound : IsSound run.course run.places run.deeds
+  pub moment : SoundMoment run.course run.deeds run.ends run.start run.image run.sunk
 
 -- each run starts from the image that the one before left
 abbrev pub FollowFrom : List ℕ → List LifeRun → Type 0

@@ -6,7 +6,7 @@ use Rattle.unit_plan.specs.PlanLines.{PlanLines}
 use Rattle.unit_state.specs.declared.state.State.{State}
 use Rattle.run_promise.specs.Life.{LifeRun, IsLife, left_by, OnceInLife}
 use Rattle.run_promise.specs.declared.end.RunEnd.TheVariants.{Ended}
-use Rattle.run_promise.specs.Account.{Account, begin_of, course_of, deeds_in, end_octets}
+use Rattle.run_promise.specs.Account.{Account, course_of, deeds_in, end_octets}
 use Rattle.run_promise.specs.Call.{CallSeen, ShowsAtEntry, image_at_entry, sunk_since}
 use Rattle.run_promise.specs.Ends.{IsEarly, RunEnds}
 
@@ -15,7 +15,6 @@ use Rattle.run_promise.specs.Ends.{IsEarly, RunEnds}
 abbrev pub run_of : CallSeen → Account → PlanLines → State → List ℕ → List ℕ → List ℕ → LifeRun
 run_of call account plan state ends left sunk = record {
   start = image_at_entry call;
-  begin = begin_of call plan state;
   course = course_of call account plan state;
   places = account.handled;
   deeds = deeds_in account;
@@ -41,7 +40,7 @@ pub record AddsCall (call : CallSeen) (account : Account) (image : List ℕ) (ru
 
 -- the call does so for every life that has left the image at its entry
 abbrev pub KeepsLives : CallSeen → Account → Type 0
-KeepsLives call account = IsTrue call.site.told → (image : List ℕ) (runs : List LifeRun) → IsLife image runs
+KeepsLives call account = IsTrue call.told → (image : List ℕ) (runs : List LifeRun) → IsLife image runs
     → left_by image runs ≡ image_at_entry call → AddsCall call account image runs
 
 -- How a call of `run` ends, and what it adds to each life that left the image at its entry.
@@ -75,5 +74,5 @@ pub record AddsReading (call : CallSeen) (image : List ℕ) (runs : List LifeRun
       ⊎ LivesOn image runs (run_of call (no_account call) plan state [] left []))
 
 abbrev pub KeepsLivesReading : CallSeen → Type 0
-KeepsLivesReading call = IsTrue call.site.told → (image : List ℕ) (runs : List LifeRun) → IsLife image runs
+KeepsLivesReading call = IsTrue call.told → (image : List ℕ) (runs : List LifeRun) → IsLife image runs
     → left_by image runs ≡ image_at_entry call → AddsReading call image runs

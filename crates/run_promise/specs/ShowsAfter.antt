@@ -1,8 +1,7 @@
 -- What an image shows in which the entries of a run are stored (profile).
 use Rattle.std.specs.Prelude.{ℕ, ◌<◌, ◌≤◌, List, length}
 use Rattle.sdls_base.specs.declared.entry.Entry.{Entry}
-use Rattle.disk_journal.specs.Image.{IsOpenedForm}
-use Rattle.disk_journal.specs.Forms.{HasOneClosed}
+use Rattle.unit_image.specs.Image.{HasOneClosed, IsOpenedForm}
 use Rattle.unit_state.specs.declared.state.State.{State}
 use Rattle.unit_state.specs.Restart.{restarted}
 use Rattle.unit_state.specs.History.{after_first}

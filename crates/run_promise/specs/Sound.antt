@@ -1,7 +1,7 @@
 -- When a run is sound, and what a crash at one of its moments leaves (profile).
 use Rattle.std.specs.Prelude.{◌≡◌, ◌≢◌, ◌⊎◌, ⊤, ℕ, ◌-◌, ◌<◌, ◌≤◌, IsTrue, List, [], ◌∷◌, ◌++◌, length, map, take}
 use Rattle.std.specs.List.{All, AllPairs}
-use Rattle.disk_journal.specs.Forms.{Settles}
+use Rattle.unit_image.specs.Image.{Settles}
 use Rattle.record_io.specs.Places.{Place, records_of}
 use Rattle.record_io.specs.declared.code.TheConstants.{SITE_FAULT}
 use Rattle.record_io.specs.Answers.{answer_octets, answers_octets}
@@ -11,7 +11,6 @@ use Rattle.run_promise.specs.Run.{NearWord, IsLegalHistory, HasNoEntry}
 use Rattle.run_promise.specs.Answers.{Uses, Accepts, IsUnmade}
 use Rattle.run_promise.specs.Fits.{Course, Fits}
 use Rattle.run_promise.specs.Taken.{kept_floor}
-use Rattle.run_promise.specs.Begin.{Begin}
 use Rattle.run_promise.specs.ShowsAfter.{ShowsAfter}
 use Rattle.run_promise.specs.Deed.{Deed, Differ, InTurn, StandsBehind, tells_entry, is_ordered, epoch_told}
 
@@ -22,30 +21,29 @@ deeds_octets deeds = answers_octets (map (λ deed. deed.answer) deeds)
 -- The run is sound: its history is legal, each answer fits its record, no number is used or accepted twice under a key,
 -- at most one answer says that the site failed while an entry was stored, the answers stand in order, and no entry is
 -- of a record whose answer says that it made none.
-pub record IsSound (begin : Begin) (course : Course) (places : List Place) (deeds : List Deed) : Type 0 where
-  pub begins : begin.plan ≡ course.plan
-  pub history : IsLegalHistory course.plan course.start places course.entries
-  pub answers : All (λ deed. Fits (NearWord course.start course.entries (records_of places)) course deed.task
+pub record IsSound (course : Course) (places : List Place) (deeds : List Deed) : Type 0 where
+  pub history : IsLegalHistory course.begin.plan course.begin.start places course.entries
+  pub answers : All (λ deed. Fits (NearWord course.begin.start course.entries (records_of places)) course deed.task
       deed.answer) deeds
   pub pairs : AllPairs (Differ Uses) deeds
-  pub pairs_above : All (λ deed. (key number : ℕ) → Uses deed.answer key number → mark_of course.start key ≤ number)
+  pub pairs_above : All (λ deed. (key number : ℕ) → Uses deed.answer key number → mark_of course.begin.start key ≤ number)
       deeds
   pub accepted : AllPairs (Differ Accepts) deeds
   pub accepted_above : All (λ deed. (key number : ℕ) → Accepts deed.answer key number
-      → floor_of course.start key < number) deeds
+      → floor_of course.begin.start key < number) deeds
   pub one_fault : AllPairs (λ one other. one.answer.code ≡ SITE_FAULT → other.answer.code ≢ SITE_FAULT) deeds
-  pub order : AllPairs (λ one other. InTurn one other → StandsBehind begin course.entries one other) deeds
+  pub order : AllPairs (λ one other. InTurn one other → StandsBehind course.begin course.entries one other) deeds
   pub none_made : All (λ deed. IsUnmade deed.answer.code → HasNoEntry course.entries deed.task.index) deeds
 
 -- The answer is covered by the state after the first p entries: its own entry, its epoch, its number and what it
 -- accepted are among what that state knows.
-pub record IsCoveredBy (begin : Begin) (course : Course) (p : ℕ) (deed : Deed) : Type 0 where
+pub record IsCoveredBy (course : Course) (p : ℕ) (deed : Deed) : Type 0 where
   pub entry : IsTrue (tells_entry deed) → deed.answer.position ≤ p
-  pub epoch : IsTrue (is_ordered begin deed) → epoch_told course.entries deed ≤ epoch_after (take p course.entries)
+  pub epoch : IsTrue (is_ordered course.begin deed) → epoch_told course.entries deed ≤ epoch_after (take p course.entries)
   pub used : (key number : ℕ) → Uses deed.answer key number
-      → number < mark_of (after_first course.start course.entries p) key
+      → number < mark_of (after_first course.begin.start course.entries p) key
   pub accepted : (key number : ℕ) → Accepts deed.answer key number
-      → number ≤ kept_floor (after_first course.start course.entries p) key
+      → number ≤ kept_floor (after_first course.begin.start course.entries p) key
 
 -- P holds of each answer of which an octet is among the first count octets of the answers
 abbrev pub EachBegun : (Deed → Type 0) → ℕ → List Deed → Type 0
@@ -54,16 +52,15 @@ EachBegun P count (deed ∷ deeds) = (0 < count → P deed) × EachBegun P (coun
 
 -- The image shows the state after the first p entries, which covers each answer that was begun; so does each later
 -- state, as an opened form shows one.
-pub record ShowsServed (begin : Begin) (course : Course) (deeds : List Deed) (image : List ℕ) (count : ℕ) : Type 0 where
+pub record ShowsServed (course : Course) (deeds : List Deed) (image : List ℕ) (count : ℕ) : Type 0 where
   pub p : ℕ
-  pub shows : ShowsAfter course.start course.entries p image
-  pub covers : (q : ℕ) → p ≤ q → q ≤ length course.entries → EachBegun (IsCoveredBy begin course q) count deeds
+  pub shows : ShowsAfter course.begin.start course.entries p image
+  pub covers : (q : ℕ) → p ≤ q → q ≤ length course.entries → EachBegun (IsCoveredBy course q) count deeds
 
 -- A moment of the run: what was sunk is a front of the octets of the answers and of End. While the book is opened no
 -- answer was begun and the image is that at the start, but for its closed gates; while it serves, what the image shows
 -- covers the answers that were begun.
-pub record SoundMoment (begin : Begin) (course : Course) (deeds : List Deed) (ends : List ℕ)
-    (start image sunk : List ℕ) : Type 0 where
+pub record SoundMoment (course : Course) (deeds : List Deed) (ends : List ℕ) (start image sunk : List ℕ) : Type 0 where
   pub front : sunk ≡ take (length sunk) (deeds_octets deeds ++ ends)
   pub image_shows : (EachBegun (λ deed. ⊥) (length sunk) deeds × Settles start image)
-      ⊎ ShowsServed begin course deeds image (length sunk)
+      ⊎ ShowsServed course deeds image (length sunk)

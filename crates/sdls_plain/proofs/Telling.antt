@@ -8,9 +8,8 @@ use Rattle.sdls_outside.specs.Site.{Sank}
 use Rattle.sdls_outside.proofs.Moments.{each_then, each_weaker, moment_now}
 use Rattle.sdls_base.specs.declared.entry.Logged.{Logged}
 use Rattle.sdls_base.specs.declared.entry.Logged.TheVariants as logged
-use Rattle.disk_journal.specs.Changes.{OnlySyncs}
-use Rattle.disk_journal.specs.Image.{held, records}
-use Rattle.disk_journal.proofs.Moments.{only_syncs_moments}
+use Rattle.unit_image.specs.Image.{held, OnlySyncs, used_of}
+use Rattle.unit_image.proofs.Images.{only_syncs_moments}
 use Rattle.unit_plan.specs.Plan.{plan_of}
 use Rattle.status_text.specs.Text.{status_text}
 use Rattle.unit_image.specs.declared.fault.OpenFault.{OpenFault}
@@ -20,6 +19,7 @@ use Rattle.unit_state.specs.Restart.{restarted}
 use Rattle.unit_state.specs.History.{after_first}
 use Rattle.unit_image.specs.OpeningImage.{IsOpenCause, Opening}
 use Rattle.unit_image.specs.Shows.{Shows, ShowsNone}
+use Rattle.run_promise.specs.Site.{SiteSeen}
 use Rattle.unit_book.specs.Book.{BookView, IsKept, Serves, with_put}
 use Rattle.sdls_plain.specs.declared.stat.StatEnd.{StatEnd}
 use Rattle.sdls_plain.specs.declared.stat.StatEnd.TheVariants.{Told, SiteFault, NoMemory, NoState}
@@ -80,24 +80,24 @@ all_moments entry opened last state shows opening alone = each_then entry opened
     (λ image sunk shown. inr (inr (state, shows, shown))) alone)
 
 -- the moments of a book behind its opening, which put one piece
-pub book_moments : {O : Type 0} (told : Bool) (trace : O → Trace) (faults : O → ℕ) (old new : BookView O) (piece : List ℕ)
-    → new ≡ with_put piece (record old { site = new.site }) → old.log ≡ [] → old.opened ≡ old.site → IsKept told trace faults new
-    → IsTrue told → EachMoment (trace old.site) (trace new.site) (λ image sunk. ShowsAlone old.start image)
-book_moments {O} told trace faults old new piece made none first kept is_told =
-    let opened : new.opened ≡ old.site = ap (λ (b : BookView O). b.opened) made ∙ first in
-    let start : new.start ≡ old.start = ap (λ (b : BookView O). b.start) made in
-    let log : new.log ≡ logged.Piece piece ∷ [] = ap (λ (b : BookView O). b.log) made ∙ ap (λ (l : List Logged). l ++ logged.Piece piece ∷ []) none in
-    each_weaker (trace old.site) (trace new.site) (Serves new.start new.log new.standing (trace new.opened).now.sunk)
+pub book_moments : (told : Bool) (old new : BookView) (piece : List ℕ)
+    → new ≡ with_put piece (record old { site = new.site }) → old.log ≡ [] → old.opened ≡ old.site → IsKept told new
+    → IsTrue told → EachMoment old.site.trace new.site.trace (λ image sunk. ShowsAlone old.start image)
+book_moments told old new piece made none first kept is_told =
+    let opened : new.opened ≡ old.site = ap (λ (b : BookView). b.opened) made ∙ first in
+    let start : new.start ≡ old.start = ap (λ (b : BookView). b.start) made in
+    let log : new.log ≡ logged.Piece piece ∷ [] = ap (λ (b : BookView). b.log) made ∙ ap (λ (l : List Logged). l ++ logged.Piece piece ∷ []) none in
+    each_weaker old.site.trace new.site.trace (Serves new.start new.log new.standing new.opened.trace.now.sunk)
     (λ image sunk. ShowsAlone old.start image)
-    (λ image sunk serves. subst (λ (s : State). ShowsAlone s image) start (serves_alone new.start piece new.standing (trace new.opened).now.sunk image sunk
-    (subst (λ (l : List Logged). Serves new.start l new.standing (trace new.opened).now.sunk image sunk) log serves)))
-    (subst (λ (o : O). EachMoment (trace o) (trace new.site) (Serves new.start new.log new.standing (trace new.opened).now.sunk)) opened
+    (λ image sunk serves. subst (λ (s : State). ShowsAlone s image) start (serves_alone new.start piece new.standing new.opened.trace.now.sunk image sunk
+    (subst (λ (l : List Logged). Serves new.start l new.standing new.opened.trace.now.sunk image sunk) log serves)))
+    (subst (λ (o : SiteSeen). EachMoment o.trace new.site.trace (Serves new.start new.log new.standing new.opened.trace.now.sunk)) opened
     (kept.history is_told).moments)
 
 -- what is told of the book is what is due for the image that it was opened on
-pub told_due : {O : Type 0} (told : Bool) (rose : Type 0) (image text : List ℕ) (book : BookView O) (end : StatEnd) → TellsBook book text end
+pub told_due : (told : Bool) (rose : Type 0) (image text : List ℕ) (book : BookView) (end : StatEnd) → TellsBook book text end
     → (IsTrue told → plan_of (held image).plan ≡ Ok book.plan) → (IsTrue told → Shows image book.state)
-    → (IsTrue told → book.journal.used ≡ length (records image)) → StatDue told rose image text end
+    → (IsTrue told → book.journal.used ≡ used_of image) → StatDue told rose image text end
 told_due told rose image text book Told tells plan shows used = λ is. record {
   plan = book.plan;
   state = book.state;
@@ -186,7 +186,7 @@ image_refused before mid None (faults.Image at) offset is cause = subst None (in
 image_refused before mid None faults.NoMemory offset is cause = absurd cc
 
 -- a book that was opened was not refused
-pub not_refused : {O : Type 0} (book : BookView O) (text : List ℕ) (end : StatEnd) (offset : ℕ) → end ≡ NoState offset → TellsBook book text end → ⊥
+pub not_refused : (book : BookView) (text : List ℕ) (end : StatEnd) (offset : ℕ) → end ≡ NoState offset → TellsBook book text end → ⊥
 not_refused book text Told offset is tells = absurd cc
 not_refused book text SiteFault offset is tells = tells
 not_refused book text NoMemory offset is tells = absurd cc

@@ -12,7 +12,7 @@ use Rattle.unit_plan.specs.Plan.{plan_of}
 use Rattle.unit_state.specs.declared.state.State.{State}
 use Rattle.unit_state.specs.Initial.{initial}
 use Rattle.unit_image.specs.Shows.{SaysPlan}
-use Rattle.disk_journal.specs.Initial.{initial_image}
+use Rattle.unit_image.specs.Image.{initial_image}
 use Rattle.sdls_plain.specs.declared.init.InitEnd.{InitEnd}
 use Rattle.sdls_plain.specs.declared.init.InitEnd.TheVariants.{Made, ImageExists, Refused, SourceFault, SiteFault}
 use Rattle.sdls_plain.specs.declared.init.InitEnd.TheVariants.{NoMemory}

@@ -1,9 +1,8 @@
 -- How `stat` ends (profile).
-use Rattle.std.specs.Prelude.{◌≡◌, ◌⊎◌, ℕ, Bool, IsTrue, List, ◌++◌, codes, decimal, length, Ok}
+use Rattle.std.specs.Prelude.{◌≡◌, ◌⊎◌, ℕ, Bool, IsTrue, List, ◌++◌, codes, decimal, Ok}
 use Rattle.sdls_outside.specs.Disk.{Leaves}
 use Rattle.sdls_outside.specs.Moments.{Trace, EachMoment, Between}
-use Rattle.disk_journal.specs.Image.{held, records, IsOpenedForm}
-use Rattle.disk_journal.specs.Forms.{Settles}
+use Rattle.unit_image.specs.Image.{held, IsOpenedForm, Settles, used_of}
 use Rattle.unit_plan.specs.PlanLines.{PlanLines}
 use Rattle.unit_plan.specs.Plan.{plan_of}
 use Rattle.unit_state.specs.declared.state.State.{State}
@@ -46,7 +45,7 @@ pub record TellsState (image text : List ℕ) : Type 0 where
   pub state : State
   pub says : plan_of (held image).plan ≡ Ok plan
   pub shows : Shows image state
-  pub text_is : text ≡ status_text state (length (records image)) plan.slots
+  pub text_is : text ≡ status_text state (used_of image) plan.slots
 
 -- why `stat` ends so, and the text that is due; want of memory needs no cause
 abbrev pub StatDue : Bool → Type 0 → List ℕ → List ℕ → StatEnd → Type 0
@@ -75,7 +74,7 @@ PutsText told text due status old new site_rose =
     (IsTrue told → Between old.now.sunk (old.now.sunk ++ text) new.now.sunk))
 
 -- what is told of a book that was opened: its state, or that memory is wanting
-abbrev pub TellsBook : {O : Type 0} → BookView O → List ℕ → StatEnd → Type 0
+abbrev pub TellsBook : BookView → List ℕ → StatEnd → Type 0
 TellsBook book text Told = text ≡ status_text book.state book.journal.used book.plan.slots
 TellsBook book text SiteFault = ⊥
 TellsBook book text NoMemory = text ≡ line (codes "no memory")

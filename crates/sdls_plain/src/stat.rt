@@ -48,14 +48,14 @@ impl StatEnd {
 
 /// Puts a text through the book, and answers the status: this one, or that of a put that failed.
 fn put_through<O: Site>(book: &mut Book<O>, text: &[u8], status: u8) -> u8
-    requires kept { IsKept O.told O.trace O.faults book.old }
-    ensures kept { IsKept O.told O.trace O.faults book.new }
-    ensures made { book.new ≡ with_put (sunk_between (O.trace book.old.site) (O.trace book.new.site))
+    requires kept { IsKept O.told book.old }
+    ensures kept { IsKept O.told book.new }
+    ensures made { book.new ≡ with_put (sunk_between book.old.site.trace book.new.site.trace)
         (record book.old { site = book.new.site }) }
-    ensures put { PutsText O.told text.now status result (O.trace book.old.site) (O.trace book.new.site)
-        (Rose (O.faults book.old.site) (O.faults book.new.site)) }
-    ensures later { O.faults book.old.site ≤ O.faults book.new.site }
-    ensures quiet { result ≢ SITE_FAULT → O.faults book.new.site ≡ O.faults book.old.site }
+    ensures put { PutsText O.told text.now status result book.old.site.trace book.new.site.trace
+        (Rose book.old.site.faults book.new.site.faults) }
+    ensures later { book.old.site.faults ≤ book.new.site.faults }
+    ensures quiet { result ≢ SITE_FAULT → book.new.site.faults ≡ book.old.site.faults }
 {
     match book.put(text) {
         Ok(()) => status,
@@ -65,14 +65,14 @@ fn put_through<O: Site>(book: &mut Book<O>, text: &[u8], status: u8) -> u8
 
 /// Puts the state of the book as text, or that memory is wanting, and answers the status.
 fn put_state<O: Site>(alloc: Global, book: &mut Book<O>) -> u8
-    requires kept { IsKept O.told O.trace O.faults book.old }
-    ensures kept { IsKept O.told O.trace O.faults book.new }
+    requires kept { IsKept O.told book.old }
+    ensures kept { IsKept O.told book.new }
     ensures made { (piece : List ℕ) × (book.new ≡ with_put piece (record book.old { site = book.new.site })) }
     ensures told { (end : StatEnd) × (text : List ℕ) × TellsBook book.old text end
-        × PutsText O.told text (stat_status end) result (O.trace book.old.site) (O.trace book.new.site)
-        (Rose (O.faults book.old.site) (O.faults book.new.site)) }
-    ensures later { O.faults book.old.site ≤ O.faults book.new.site }
-    ensures quiet { result ≢ SITE_FAULT → O.faults book.new.site ≡ O.faults book.old.site }
+        × PutsText O.told text (stat_status end) result book.old.site.trace book.new.site.trace
+        (Rose book.old.site.faults book.new.site.faults) }
+    ensures later { book.old.site.faults ≤ book.new.site.faults }
+    ensures quiet { result ≢ SITE_FAULT → book.new.site.faults ≡ book.old.site.faults }
 {
     match status_text(alloc, book.state(), book.used(), book.plan().slots()) {
         Ok(text) => put_through(book, &text, DONE),
@@ -82,15 +82,15 @@ fn put_state<O: Site>(alloc: Global, book: &mut Book<O>) -> u8
 
 /// Tells the state of a book that was opened.
 fn tell_state<O: Site>(alloc: Global, mut book: Book<O>) -> Outcome<O>
-    requires kept { IsKept O.told O.trace O.faults book }
+    requires kept { IsKept O.told book }
     requires first { (book.log ≡ []) × (book.opened ≡ book.site) }
     ensures told { (end : StatEnd) × (text : List ℕ) × TellsBook book text end
-        × PutsText O.told text (stat_status end) result.status (O.trace book.site) (O.trace result.site)
-        (Rose (O.faults book.site) (O.faults result.site)) }
-    ensures moments { IsTrue O.told → EachMoment (O.trace book.site) (O.trace result.site)
+        × PutsText O.told text (stat_status end) result.status book.site.trace (O.trace result.site)
+        (Rose book.site.faults (O.faults result.site)) }
+    ensures moments { IsTrue O.told → EachMoment book.site.trace (O.trace result.site)
         (λ image sunk. ShowsAlone book.start image) }
-    ensures later { O.faults book.site ≤ O.faults result.site }
-    ensures quiet { result.status ≢ SITE_FAULT → O.faults result.site ≡ O.faults book.site }
+    ensures later { book.site.faults ≤ O.faults result.site }
+    ensures quiet { result.status ≢ SITE_FAULT → O.faults result.site ≡ book.site.faults }
     ensures no_history { result.entries.items ≡ [] }
 {
     let status = put_state(alloc, &mut book);

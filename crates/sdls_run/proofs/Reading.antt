@@ -12,7 +12,7 @@ is_read call image (inr (inl settles)) = inr (inl settles)
 is_read call image (inr (inr shown)) = inr (inr (shown.0, shown.1, shown.2.shows, shown.2.no_form))
 
 pub reads_alone : (call : CallSeen)
-    → EndsStat call.site.told call.site.trace call.site_after.trace (Rose call.site.faults call.site_after.faults) call.status → ReadsAlone call
+    → EndsStat call.told call.site.trace call.site_after.trace (Rose call.site.faults call.site_after.faults) call.status → ReadsAlone call
 reads_alone call ends is_told =
     each_weaker call.site.trace call.site_after.trace (λ image sunk. StatMoment call.site.trace image) (λ image sunk. IsRead call image)
     (λ image sunk moment. is_read call image moment) (ends.moments is_told)

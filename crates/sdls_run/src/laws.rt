@@ -10,7 +10,7 @@ use law_runs::reading_keeps_lives;
 /// Law: a call that ends as `stat` does, and makes no entry, continues each life that left the image at its entry.
 pub fn stat_keeps_lives()
     ensures { (call : CallSeen) → call.entries ≡ []
-        → EndsStat call.site.told call.site.trace call.site_after.trace (Rose call.site.faults call.site_after.faults)
+        → EndsStat call.told call.site.trace call.site_after.trace (Rose call.site.faults call.site_after.faults)
         call.status
         → KeepsLivesReading call }
 {

@@ -2,7 +2,7 @@ ghost use Rattle.std.specs.Prelude.{◌≡◌, ◌≢◌, ℕ, List, [], IsTrue}
 ghost use Rattle.sdls_outside.specs.Faults.{Rose};
 ghost use Rattle.sdls_outside.specs.Output.{OnlySinks};
 ghost use Rattle.record_io.specs.Reading.{SourceSeen};
-ghost use Rattle.run_promise.specs.Call.{CallSeen, call_seen};
+ghost use Rattle.run_promise.specs.Site.{site_seen};
 ghost use Rattle.run_promise.specs.Lives.{EndsAndLives, KeepsLivesReading};
 ghost use Rattle.sdls_plain.specs.Answer.{EndsCheck, usage_text};
 ghost use Rattle.record_io.specs.Outcome.{Ends};
@@ -49,8 +49,15 @@ pub fn run<R: Threads + Wait + Sync, S: Source, O: Site + Send, G: Gate + Sync>(
     ensures run { IsRunWord words.now →
         let before : SourceSeen = record { told = S.told; left = S.left source.old; faults = S.faults source.old } in
         let after : SourceSeen = record { told = S.told; left = S.left source.new; faults = S.faults source.new } in
-        EndsAndLives (call_seen O.told O.trace O.faults O.put_faults site result.site before after result.status
-        result.entries.items) }
+        EndsAndLives (record {
+          source = before;
+          source_after = after;
+          told = O.told;
+          site = site_seen O.trace O.faults O.put_faults site;
+          site_after = site_seen O.trace O.faults O.put_faults result.site;
+          status = result.status;
+          entries = result.entries.items;
+        }) }
 
     ensures check { (key : List ℕ) → IsCheck words.now key → EndsCheck key
         (λ input. IsTrue S.told → input ≡ S.left source.old) (Rose (S.faults source.old) (S.faults source.new))
@@ -73,9 +80,15 @@ pub fn run<R: Threads + Wait + Sync, S: Source, O: Site + Send, G: Gate + Sync>(
     ensures stat_lives { IsStat words.now →
         let before : SourceSeen = record { told = S.told; left = S.left source.old; faults = S.faults source.old } in
         let after : SourceSeen = record { told = S.told; left = S.left source.new; faults = S.faults source.new } in
-        let call : CallSeen = call_seen O.told O.trace O.faults O.put_faults site result.site before after result.status
-        result.entries.items in
-        KeepsLivesReading call }
+        KeepsLivesReading (record {
+          source = before;
+          source_after = after;
+          told = O.told;
+          site = site_seen O.trace O.faults O.put_faults site;
+          site_after = site_seen O.trace O.faults O.put_faults result.site;
+          status = result.status;
+          entries = result.entries.items;
+        }) }
 
     // A drill puts the counts of the answers of its own two units, which are all frames where no answer tells want of
     // memory. To the site nothing is done but to put, and the image stays.

@@ -3,7 +3,6 @@ use Rattle.std.proofs.Common.{◌≡◌, ◌≢◌, ◌⊎◌, inl, inr, ℕ, ze
 use Rattle.std.proofs.lemmas.Bool.Decides.{nat_tests}
 use mathlib.Core.Logic.{dite}
 use native.Mathlib.Decide.{ℕ_discrete}
-use Rattle.sdls_outside.specs.Moments.{Trace}
 use Rattle.sdls_base.specs.Numbers.{one_if, once_below}
 use Rattle.sdls_base.specs.declared.entry.Logged.{Logged}
 use Rattle.sdls_base.specs.declared.TheConstants.{MOST_KEYS}
@@ -166,13 +165,13 @@ module _ (k : Known) (t u : Turn) (is : u ≡ taking_once k k t) where
       ∙ ap (λ (ps : List ℕ). ps ++ places (length k.log) (length k.log - length k.log)) none
       ∙ no_places (length k.log) (length k.log - length k.log) (omega arith)
 
-module _ {O B : Type 0} (told : Bool) (trace : O → Trace) (faults puts : O → ℕ) (book found : BookView O) where
+module _ {B : Type 0} (told : Bool) (book found : BookView) where
   pub begins : (counters : Counters B) (plan : PlanLines) (worker : Worker B) (t : Turn) (v w u : View)
-      → t ≡ filling (known_of_book trace faults puts book) no_turn → book.log ≡ [] → TakesOnce (known_of_book trace faults puts found) (known_of_book trace faults puts found) t u.turn
-      → IsAsKnown t (known_of_book trace faults puts found) → IsKept told trace faults book → IsKept told trace faults found → v.numbers ≡ first_numbers → IsRaised (known_of_book trace faults puts found) MOST_KEYS v w → u.numbers ≡ w.numbers
+      → t ≡ filling (known_of_book book) no_turn → book.log ≡ [] → TakesOnce (known_of_book found) (known_of_book found) t u.turn
+      → IsAsKnown t (known_of_book found) → IsKept told book → IsKept told found → v.numbers ≡ first_numbers → IsRaised (known_of_book found) MOST_KEYS v w → u.numbers ≡ w.numbers
       → view worker ≡ record { numbers = joined (keeper u.numbers) (newcomer u.numbers); turn = merged u.turn (beginner u.turn) }
       → IsReady counters plan worker → ((view worker).numbers.shares ≡ ALL_SHARES → IsWhole MOST_KEYS (view worker))
-      → Begins trace faults puts book counters plan worker
+      → Begins book counters plan worker
   begins counters plan worker t v w u filled first takes known_as begun kept numbers raised later is ready whole =
       record {
         ready = ready;
@@ -194,7 +193,7 @@ module _ {O B : Type 0} (told : Bool) (trace : O → Trace) (faults puts : O →
         added = λ row h. (exact row h).1;
       } where
         k : Known
-        k = known_of_book trace faults puts found
+        k = known_of_book found
 
         shares : (view worker).numbers.shares ≡ ALL_SHARES
         shares =
@@ -205,19 +204,19 @@ module _ {O B : Type 0} (told : Bool) (trace : O → Trace) (faults puts : O →
 
         made : (view worker).turn.made ≡ []
         made = ap (λ (x : View). x.turn.made) is
-            ∙ back_made (known_of_book trace faults puts found) t u.turn takes.turn
+            ∙ back_made (known_of_book found) t u.turn takes.turn
             (ap (λ (x : Turn). x.made) filled ∙ no_places 0 (length book.log) (ap length first))
 
         log : (view worker).turn.known.log ≡ []
         log = empty_log (view worker).turn.known.log
             (λ place. sym (ap (stands place) made) ∙ (whole shares).made place)
 
-        opening : (view worker).turn.known.opening ≡ (known_of_book trace faults puts book).opening
-        opening = ap (λ (x : View). x.turn.known.opening) is ∙ back_opening (known_of_book trace faults puts found) t u.turn takes.turn
+        opening : (view worker).turn.known.opening ≡ (known_of_book book).opening
+        opening = ap (λ (x : View). x.turn.known.opening) is ∙ back_opening (known_of_book found) t u.turn takes.turn
             ∙ takes.follows.opening ∙ ap (λ (x : Turn). x.known.opening) filled
 
         log_found : found.log ≡ []
-        log_found = sym (ap (λ (x : View). x.turn.known.log) is ∙ back_log (known_of_book trace faults puts found) t u.turn takes.turn) ∙ log
+        log_found = sym (ap (λ (x : View). x.turn.known.log) is ∙ back_log (known_of_book found) t u.turn takes.turn) ∙ log
 
         start : found.start ≡ book.start
         start = ap (λ (o : Opening). o.start) (takes.follows.opening ∙ ap (λ (x : Turn). x.known.opening) filled)
@@ -226,15 +225,15 @@ module _ {O B : Type 0} (told : Bool) (trace : O → Trace) (faults puts : O →
         state = kept.led ∙ ap (λ (ls : List Logged). after_first found.start (entries_of ls) found.standing) log_found
             ∙ first_none found.start found.standing ∙ start
 
-        none_stand : (b : BookView O) → IsKept told trace faults b → b.log ≡ [] → b.standing ≡ 0
+        none_stand : (b : BookView) → IsKept told b → b.log ≡ [] → b.standing ≡ 0
         none_stand b held none =
             let e = ap (λ (ls : List Logged). length (entries_of ls)) none in
             let s = held.stands in omega arith
 
-        known_filled : t.known ≡ known_of_book trace faults puts book
+        known_filled : t.known ≡ known_of_book book
         known_filled = ap (λ (x : Turn). x.known) filled
 
-        put_faults : (view worker).turn.known.put_faults ≡ puts book.site
+        put_faults : (view worker).turn.known.put_faults ≡ book.site.put_faults
         put_faults =
             let a = ap (λ (x : View). x.turn.known.put_faults) is ∙ back_puts k t u.turn takes.turn in
             let b = ap (λ (x : Known). x.put_faults) known_filled in
@@ -243,13 +242,13 @@ module _ {O B : Type 0} (told : Bool) (trace : O → Trace) (faults puts : O →
             let e = ap (λ (x : Known). pieces x.log) known_filled ∙ ap pieces first in
             let f = ap pieces log_found in omega arith
 
-        faults_same : (view worker).turn.known.faults ≡ faults book.site
+        faults_same : (view worker).turn.known.faults ≡ book.site.faults
         faults_same =
             let a = ap (λ (x : View). x.turn.known.faults) is ∙ back_faults k t u.turn takes.turn in
             let b = ap (λ (x : Known). x.faults) known_filled in
             let c = known_as.faults in omega arith
 
-        marked : (row : ℕ) → known_mark (known_of_book trace faults puts found) row ≡ mark_at book.start row
+        marked : (row : ℕ) → known_mark (known_of_book found) row ≡ mark_at book.start row
         marked row = ap (λ (s : State). mark_at s row) state
 
         raised_low : (row : ℕ) → row < MOST_KEYS → top row (view worker).numbers.raised ≤ mark_at book.start row
@@ -289,8 +288,8 @@ module _ {O B : Type 0} (told : Bool) (trace : O → Trace) (faults puts : O →
             by_last next stands_at.last low m one r none bound seen grown where
               by_last : (next : ℕ) → (next ≡ 1) ⊎ (top row (view worker).numbers.nexts ≡ next)
                   → mark_at book.start row ≤ top row (view worker).numbers.nexts
-                  → known_mark (known_of_book trace faults puts found) row ≡ mark_at book.start row
-                  → 1 ≤ known_mark (known_of_book trace faults puts found) row
+                  → known_mark (known_of_book found) row ≡ mark_at book.start row
+                  → 1 ≤ known_mark (known_of_book found) row
                   → top row (view worker).numbers.raised ≤ mark_at book.start row
                   → count_of row (view worker).numbers.drawn ≡ 0
                   → next ≤ max 1 (top row (view worker).numbers.raised) + count_of row (view worker).numbers.drawn

@@ -2,7 +2,6 @@
 use Rattle.std.proofs.Common.{◌≡◌, ◌⊎◌, inl, inr, ℕ, ◌≤◌, Bool, List, ap, subst, ◌∙◌, arith}
 use Rattle.sdls_base.specs.Numbers.{times, once_below}
 use Rattle.sdls_base.specs.declared.TheConstants.{MOST_KEYS}
-use Rattle.sdls_outside.specs.Moments.{Trace}
 use Rattle.counter_table.specs.declared.view.Known.{Known}
 use Rattle.counter_table.specs.declared.view.Numbers.{Numbers}
 use Rattle.counter_table.specs.declared.view.Turn.{Turn}
@@ -24,36 +23,36 @@ covers_before : (v u : Numbers) (book : Known) → u.spent ≡ v.spent → IsCov
 covers_before v u book same covered = λ row x there.
     subst (λ (spent : List (ℕ × ℕ)). times row x spent ≤ once_below x (known_mark book row)) same (covered row x there)
 
-module _ {O : Type 0} (told : Bool) (trace : O → Trace) (faults puts : O → ℕ) where
-  pub covers_none : (v w : View) → w.turn ≡ v.turn → CoversIfTaken told trace faults puts v w
+module _ (told : Bool) where
+  pub covers_none : (v w : View) → w.turn ≡ v.turn → CoversIfTaken told v w
   covers_none v w is = inl (none_looks v.turn w.turn is)
 
-  pub covers_loads : (e : ℕ) (v w : View) → Loads e v.turn w.turn → CoversIfTaken told trace faults puts v w
+  pub covers_loads : (e : ℕ) (v w : View) → Loads e v.turn w.turn → CoversIfTaken told v w
   covers_loads e v w loads = inl (loads_looks e v.turn w.turn loads)
 
-  pub covers_after : (e : ℕ) (v u w : View) → Loads e v.turn u.turn → u.numbers.spent ≡ v.numbers.spent → FindsCovered told trace faults puts u w
-      → CoversIfTaken told trace faults puts v w
+  pub covers_after : (e : ℕ) (v u w : View) → Loads e v.turn u.turn → u.numbers.spent ≡ v.numbers.spent → FindsCovered told u w
+      → CoversIfTaken told v w
   covers_after e v u w loads same finds = inr (
     e,
     (let later = loads.later in omega arith),
     record {
       found = finds.found;
       given = finds.given;
-      visits = subst (λ (t : Turn). Visits told trace faults puts finds.found finds.given t w.turn) loads.is finds.visits;
-      covered = covers_before v.numbers u.numbers (known_of_book trace faults puts finds.found) same finds.covered;
+      visits = subst (λ (t : Turn). Visits told finds.found finds.given t w.turn) loads.is finds.visits;
+      covered = covers_before v.numbers u.numbers (known_of_book finds.found) same finds.covered;
     },
   )
 
   pub covers_on : (v u w : View) → u.numbers ≡ v.numbers → ((u.turn ≡ v.turn) ⊎ ((epoch : ℕ) × Loads epoch v.turn u.turn))
-      → FindsCovered told trace faults puts u w → CoversIfTaken told trace faults puts v w
+      → FindsCovered told u w → CoversIfTaken told v w
   covers_on v u w numbers (inl same) finds = inr (
     v.turn.epoch,
     omega arith,
     record {
       found = finds.found;
       given = finds.given;
-      visits = subst (λ (t : Turn). Visits told trace faults puts finds.found finds.given t w.turn) same finds.visits;
-      covered = covers_before v.numbers u.numbers (known_of_book trace faults puts finds.found) (ap (λ (k : Numbers). k.spent) numbers) finds.covered;
+      visits = subst (λ (t : Turn). Visits told finds.found finds.given t w.turn) same finds.visits;
+      covered = covers_before v.numbers u.numbers (known_of_book finds.found) (ap (λ (k : Numbers). k.spent) numbers) finds.covered;
     },
   )
   covers_on v u w numbers (inr (epoch, loads)) finds =

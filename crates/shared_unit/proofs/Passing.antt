@@ -1,6 +1,5 @@
 -- The parts of a call, put together: what became of the turn.
 use Rattle.std.proofs.Common.{◌≡◌, ◌⊎◌, inl, inr, ℕ, ◌<◌, ◌≤◌, Bool, [], Option, Some, None, Result, Ok, Err, refl, sym, ap, subst, ◌∙◌, append-nil, arith}
-use Rattle.sdls_outside.specs.Moments.{Trace}
 use Rattle.unit_plan.specs.PlanLines.{PlanLines}
 use Rattle.counter_table.specs.declared.view.Opening.{Opening}
 use Rattle.counter_table.specs.declared.view.Turn.{Turn}
@@ -21,25 +20,25 @@ use Rattle.shared_unit.proofs.Steps.{takes_grows}
 use Rattle.shared_unit.proofs.Trust.{permit_stays}
 
 -- a reserve turns no epoch
-pub reserves_changes : {O : Type 0} (faults : O → ℕ) (key n : ℕ) (result : Result ℕ BookFault) (found given : BookView O)
-    → Reserves faults key n result found given → given.changes ≡ found.changes
-reserves_changes {O} faults key n (Ok mark) found given h = by_case h.2 where
+pub reserves_changes : (key n : ℕ) (result : Result ℕ BookFault) (found given : BookView)
+    → Reserves key n result found given → given.changes ≡ found.changes
+reserves_changes key n (Ok mark) found given h = by_case h.2 where
   by_case : ((n < mark_of found.state key) × (given ≡ found))
-      ⊎ ((mark_of found.state key ≤ n) × ((position : ℕ) × Made faults (reserve_of found.plan found.state key n) found given position))
+      ⊎ ((mark_of found.state key ≤ n) × ((position : ℕ) × Made (reserve_of found.plan found.state key n) found given position))
       → given.changes ≡ found.changes
-  by_case (inl p) = ap (λ (b : BookView O). b.changes) p.1
-  by_case (inr p) = let e = ap (λ (b : BookView O). b.changes) p.1.1.1.is in omega arith
-reserves_changes {O} faults key n (Err fault) found given h = by_case h.1 where
-  by_fault : (f : BookFault) → IsUnstored faults (reserve_of found.plan found.state key n) found given f → given.changes ≡ found.changes
-  by_fault (SiteFault count) u = ap (λ (b : BookView O). b.changes) u.4
+  by_case (inl p) = ap (λ (b : BookView). b.changes) p.1
+  by_case (inr p) = let e = ap (λ (b : BookView). b.changes) p.1.1.1.is in omega arith
+reserves_changes key n (Err fault) found given h = by_case h.1 where
+  by_fault : (f : BookFault) → IsUnstored (reserve_of found.plan found.state key n) found given f → given.changes ≡ found.changes
+  by_fault (SiteFault count) u = ap (λ (b : BookView). b.changes) u.4
   by_fault (Stopped count) u = absurd u
-  by_fault (JournalFull slots) u = ap (λ (b : BookView O). b.changes) u.3
+  by_fault (JournalFull slots) u = ap (λ (b : BookView). b.changes) u.3
   by_fault SessionFull u = absurd u
   by_fault NoMemory u = absurd u
 
-  by_case : (IsBarred faults found fault × (given ≡ found))
-      ⊎ (CanEnter faults found × IsUnstored faults (reserve_of found.plan found.state key n) found given fault) → given.changes ≡ found.changes
-  by_case (inl p) = ap (λ (b : BookView O). b.changes) p.1
+  by_case : (IsBarred found fault × (given ≡ found))
+      ⊎ (CanEnter found × IsUnstored (reserve_of found.plan found.state key n) found given fault) → given.changes ≡ found.changes
+  by_case (inl p) = ap (λ (b : BookView). b.changes) p.1
   by_case (inr p) = by_fault fault p.1
 
 pub same_twice : {B : Type 0} (a b c : Worker B) → IsSame a b → IsSame b c → IsSame a c
@@ -73,9 +72,9 @@ loads_looks e v w l = record { epoch = e; later = (let a = l.later in omega arit
 pub none_looks : (v w : Turn) → w ≡ v → Looks v w
 none_looks v w is = record { epoch = v.epoch; later = omega arith; is = is }
 
-module _ {O : Type 0} (told : Bool) (trace : O → Trace) (faults puts : O → ℕ) where
-  pub ready_after : {B : Type 0} (counters : Counters B) (plan : PlanLines) (one other : Worker B) (found given : BookView O)
-      → IsReady counters plan one → IsSame one other → Visits told trace faults puts found given (view one).turn (view other).turn
+module _ (told : Bool) where
+  pub ready_after : {B : Type 0} (counters : Counters B) (plan : PlanLines) (one other : Worker B) (found given : BookView)
+      → IsReady counters plan one → IsSame one other → Visits told found given (view one).turn (view other).turn
       → IsReady counters plan other
   ready_after counters plan one other found given ready same v =
       let is = v.takes.turn in
@@ -86,15 +85,15 @@ module _ {O : Type 0} (told : Bool) (trace : O → Trace) (faults puts : O → �
         planned = ap (λ (t : Turn). t.known.opening.plan) is ∙ ap (λ (o : Opening). o.plan) (v.takes.opening ∙ v.takes.follows.opening) ∙ ready.planned;
       }
 
-  pub visit_takes : (done : BookView O → BookView O → Type 0) (found given : BookView O) (v w : Turn) → Visits told trace faults puts found given v w → done found given
-      → TakesTurn told trace faults puts done v w
+  pub visit_takes : (done : BookView → BookView → Type 0) (found given : BookView) (v w : Turn) → Visits told found given v w → done found given
+      → TakesTurn told done v w
   visit_takes done found given v w visits does =
       record { epoch = v.epoch; later = omega arith; found = found; given = given; visits = visits; does = does }
 
-  pub takes_after : (done : BookView O → BookView O → Type 0) (e : ℕ) (v u w : Turn) → Loads e v u → TakesTurn told trace faults puts done u w
-      → TakesTurn told trace faults puts done v w
+  pub takes_after : (done : BookView → BookView → Type 0) (e : ℕ) (v u w : Turn) → Loads e v u → TakesTurn told done u w
+      → TakesTurn told done v w
   takes_after done e v u w l t =
-      let q : TakesTurn told trace faults puts done (seeing e v) w = subst (λ (k : Turn). TakesTurn told trace faults puts done k w) l.is t in
+      let q : TakesTurn told done (seeing e v) w = subst (λ (k : Turn). TakesTurn told done k w) l.is t in
       record {
         epoch = q.epoch;
         later = (let a = q.later in let b = l.later in omega arith);
@@ -104,42 +103,42 @@ module _ {O : Type 0} (told : Bool) (trace : O → Trace) (faults puts : O → �
         does = q.does;
       }
 
-  pub takes_on : (done : BookView O → BookView O → Type 0) (v u w : Turn) → ((u ≡ v) ⊎ ((epoch : ℕ) × Loads epoch v u)) → TakesTurn told trace faults puts done u w
-      → TakesTurn told trace faults puts done v w
-  takes_on done v u w (inl same) t = subst (λ (k : Turn). TakesTurn told trace faults puts done k w) same t
+  pub takes_on : (done : BookView → BookView → Type 0) (v u w : Turn) → ((u ≡ v) ⊎ ((epoch : ℕ) × Loads epoch v u)) → TakesTurn told done u w
+      → TakesTurn told done v w
+  takes_on done v u w (inl same) t = subst (λ (k : Turn). TakesTurn told done k w) same t
   takes_on done v u w (inr l) t = takes_after done l.0 v u w l.1 t
 
-  pub may_after : (done : BookView O → BookView O → Type 0) (e : ℕ) (v u w : Turn) → Loads e v u → MayTakeTurn told trace faults puts done u w
-      → MayTakeTurn told trace faults puts done v w
+  pub may_after : (done : BookView → BookView → Type 0) (e : ℕ) (v u w : Turn) → Loads e v u → MayTakeTurn told done u w
+      → MayTakeTurn told done v w
   may_after done e v u w l (inl look) =
       let q : Looks (seeing e v) w = subst (λ (k : Turn). Looks k w) l.is look in
       inl (record { epoch = q.epoch; later = (let a = q.later in let b = l.later in omega arith); is = q.is })
   may_after done e v u w l (inr t) = inr (takes_after done e v u w l t)
 
-  pub may_on : (done : BookView O → BookView O → Type 0) (v u w : Turn) → ((u ≡ v) ⊎ ((epoch : ℕ) × Loads epoch v u)) → MayTakeTurn told trace faults puts done u w
-      → MayTakeTurn told trace faults puts done v w
-  may_on done v u w (inl same) t = subst (λ (k : Turn). MayTakeTurn told trace faults puts done k w) same t
+  pub may_on : (done : BookView → BookView → Type 0) (v u w : Turn) → ((u ≡ v) ⊎ ((epoch : ℕ) × Loads epoch v u)) → MayTakeTurn told done u w
+      → MayTakeTurn told done v w
+  may_on done v u w (inl same) t = subst (λ (k : Turn). MayTakeTurn told done k w) same t
   may_on done v u w (inr l) t = may_after done l.0 v u w l.1 t
 
-  abbrev Once : BookView O → BookView O → Type 0
-  Once found given = (key : ℕ) × AddsReserve told trace faults puts key found given
+  abbrev Once : BookView → BookView → Type 0
+  Once found given = (key : ℕ) × AddsReserve told key found given
 
-  pub passes_loads : (e : ℕ) (v w : Turn) → Loads e v w → TakesAtMostOnce told trace faults puts v w
+  pub passes_loads : (e : ℕ) (v w : Turn) → Loads e v w → TakesAtMostOnce told v w
   passes_loads e v w l = inl (loads_looks e v w l)
 
-  pub passes_none : (v w : Turn) → w ≡ v → TakesAtMostOnce told trace faults puts v w
+  pub passes_none : (v w : Turn) → w ≡ v → TakesAtMostOnce told v w
   passes_none v w is = inl (none_looks v w is)
 
-  pub passes_served : (key : ℕ) (found given : BookView O) (v w : Turn) → Visits told trace faults puts found given v w
-      → AddsReserve told trace faults puts key found given → TakesAtMostOnce told trace faults puts v w
+  pub passes_served : (key : ℕ) (found given : BookView) (v w : Turn) → Visits told found given v w
+      → AddsReserve told key found given → TakesAtMostOnce told v w
   passes_served key found given v w s a = inr (visit_takes Once found given v w s (key, a))
 
-  pub passes_after : (e : ℕ) (v u w : Turn) → Loads e v u → TakesAtMostOnce told trace faults puts u w → TakesAtMostOnce told trace faults puts v w
+  pub passes_after : (e : ℕ) (v u w : Turn) → Loads e v u → TakesAtMostOnce told u w → TakesAtMostOnce told v w
   passes_after e v u w l p = may_after Once e v u w l p
 
-  pub passes_funded : (p : Permit) (n : ℕ) (result : Result ℕ BookFault) (v u w : Turn) (found given : BookView O)
-      → Loads p.epoch v u → Visits told trace faults puts found given u w → Reserves faults p.binding.key n result found given
-      → TakesAtMostOnce told trace faults puts v w
+  pub passes_funded : (p : Permit) (n : ℕ) (result : Result ℕ BookFault) (v u w : Turn) (found given : BookView)
+      → Loads p.epoch v u → Visits told found given u w → Reserves p.binding.key n result found given
+      → TakesAtMostOnce told v w
   passes_funded p n result v u w found given l s r =
       passes_after p.epoch v u w l (passes_served p.binding.key found given u w s (inr (n, result, r)))
 
@@ -151,10 +150,10 @@ module _ {O : Type 0} (told : Bool) (trace : O → Trace) (faults puts : O → �
     epoch = l.later;
   })
 
-  pub passes_grows : (v w : Turn) → TakesAtMostOnce told trace faults puts v w → KnowsMoreOfBook v w
+  pub passes_grows : (v w : Turn) → TakesAtMostOnce told v w → KnowsMoreOfBook v w
   passes_grows v w (inl look) = looks_grows v w look
   passes_grows v w (inr t) =
-      let g = takes_grows (known_of_book trace faults puts t.found) (known_of_book trace faults puts t.given) (seeing t.epoch v) w t.visits.takes in
+      let g = takes_grows (known_of_book t.found) (known_of_book t.given) (seeing t.epoch v) w t.visits.takes in
       record {
         earlier = record { log = g.earlier.log; changes = g.earlier.changes; faults = g.earlier.faults; standing = g.earlier.standing; put_faults = g.earlier.put_faults; stopped = g.earlier.stopped; stood = g.earlier.stood };
         sparing = g.sparing;
@@ -162,10 +161,10 @@ module _ {O : Type 0} (told : Bool) (trace : O → Trace) (faults puts : O → �
         epoch = (let a = t.later in let b = g.epoch in omega arith);
       }
 
-  pub kept_stays : (o : Option Permit) (v w : Turn) → TakesAtMostOnce told trace faults puts v w → IsTrueIfKept o v → IsTrueIfKept o w
+  pub kept_stays : (o : Option Permit) (v w : Turn) → TakesAtMostOnce told v w → IsTrueIfKept o v → IsTrueIfKept o w
   kept_stays None v w p k = k
   kept_stays (Some q) v w p k = permit_stays q v w (passes_grows v w p) k
 
-  pub passes_on : (v u w : Turn) → ((u ≡ v) ⊎ ((epoch : ℕ) × Loads epoch v u)) → TakesAtMostOnce told trace faults puts u w
-      → TakesAtMostOnce told trace faults puts v w
+  pub passes_on : (v u w : Turn) → ((u ≡ v) ⊎ ((epoch : ℕ) × Loads epoch v u)) → TakesAtMostOnce told u w
+      → TakesAtMostOnce told v w
   passes_on v u w h p = may_on Once v u w h p

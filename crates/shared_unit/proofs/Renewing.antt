@@ -1,7 +1,6 @@
 -- What was done with a permit, told from before the take to after the giving back.
 use Rattle.std.proofs.Common.{◌≡◌, ◌⊎◌, inl, inr, ℕ, ◌+◌, ◌<◌, ◌≤◌, Bool, List, Option, Some, None, Result, Ok, Err, refl, sym, ap, subst, ◌∙◌, arith}
 use Rattle.sdls_base.specs.KeyId.{end_of}
-use Rattle.sdls_outside.specs.Moments.{Trace}
 use Rattle.unit_plan.specs.PlanLines.{PlanLines}
 use Rattle.frame_shield.specs.declared.protecting_frames.ShieldFault.{ShieldFault}
 use Rattle.frame_checks.specs.ProtectingFrames.{channel_check}
@@ -52,12 +51,12 @@ fails_at plan p link clear fault epoch w used planned unfit same =
     }))
 
 -- a check that fails in the book that was found fails at its epoch
-pub refused_at : {O : Type 0} (told : Bool) (trace : O → Trace) (faults puts : O → ℕ) (link : ℕ) (clear : List ℕ) (fault : ShieldFault) (epoch : ℕ)
-    (found : BookView O) (v w : Turn) → Permits link clear (replies.Refused fault epoch) found → IsLevel found
-    → Visits told trace faults puts found found v w → ((channel : ℕ) × (channel_check found.plan link clear ≡ Ok (Some channel)))
+pub refused_at : (told : Bool) (link : ℕ) (clear : List ℕ) (fault : ShieldFault) (epoch : ℕ)
+    (found : BookView) (v w : Turn) → Permits link clear (replies.Refused fault epoch) found → IsLevel found
+    → Visits told found found v w → ((channel : ℕ) × (channel_check found.plan link clear ≡ Ok (Some channel)))
     → FailsAt link clear fault epoch w
-refused_at told trace faults puts link clear fault epoch found v w h level visit passes =
-    let k : Known = known_of_book trace faults puts found in
+refused_at told link clear fault epoch found v w h level visit passes =
+    let k : Known = known_of_book found in
     subst (λ (t : Turn). FailsAt link clear fault epoch t) (sym visit.takes.turn) (subst (λ (n : ℕ). FailsAt link clear fault n (taking_once k k v)) (sym h.1) (record {
       seen = omega arith;
       reached = level.reached;
@@ -80,9 +79,9 @@ out_tickets row end n v w o = by_case o.1 where
   by_case (inl h) = ap (λ (k : Numbers). k.tickets) h.1
   by_case (inr d) = ap (λ (k : Numbers). k.tickets) d.is
 
-module _ {O : Type 0} (told : Bool) (trace : O → Trace) (faults puts : O → ℕ) (p : Permit) (clear out : List ℕ) where
+module _ (told : Bool) (p : Permit) (clear out : List ℕ) where
   pub done_ready : (d : Done) (v w : View) → IsReadyStep p clear out (readies.Done d) v w
-      → IsKeptStep told trace faults puts p clear out (Some (answers.Done d)) v w
+      → IsKeptStep told p clear out (Some (answers.Done d)) v w
   done_ready d v w h =
       let uses = spends_uses p.row (end_of p.binding.key) d.number v.numbers w.numbers h.3 in
       let turns = ap (λ (t : Turn). t.turns) h.1.is in (
@@ -100,7 +99,7 @@ module _ {O : Type 0} (told : Bool) (trace : O → Trace) (faults puts : O → �
       )
 
   pub done_funded : (d : Done) (t : ℕ × ℕ) (before : List ℕ) (v u w : View) → IsReadyStep p clear before (readies.NeedBlock t) v u
-      → IsFundStep told trace faults puts p t.1 clear out (Ok d) u w → IsKeptStep told trace faults puts p clear out (Some (answers.Done d)) v w
+      → IsFundStep told p t.1 clear out (Ok d) u w → IsKeptStep told p clear out (Some (answers.Done d)) v w
   done_funded d t before v u w need funded =
       let end = end_of p.binding.key in
       let uses : UsesNumber p.row t.1 1 v.numbers w.numbers = funded_uses p.row end t.1 v.numbers u.numbers w.numbers need.4 funded.2 in
@@ -109,8 +108,8 @@ module _ {O : Type 0} (told : Bool) (trace : O → Trace) (faults puts : O → �
       let two = ap (λ (k : Turn). k.turns) visit.takes.turn in
       let more : w.turn.turns ≡ v.turn.turns + 1 = omega arith in
       let tickets = uses.tickets in
-      let funds : Funds faults p.binding.key d.number funded.3.0 funded.3.1 =
-      subst (λ (n : ℕ). Funds faults p.binding.key n funded.3.0 funded.3.1) (sym funded.0) (funded.3.2, funded.3.4) in (
+      let funds : Funds p.binding.key d.number funded.3.0 funded.3.1 =
+      subst (λ (n : ℕ). Funds p.binding.key n funded.3.0 funded.3.1) (sym funded.0) (funded.3.2, funded.3.4) in (
         (
           record {
             fits = need.0;
@@ -119,20 +118,20 @@ module _ {O : Type 0} (told : Bool) (trace : O → Trace) (faults puts : O → �
             back = 1;
             uses = subst (λ (n : ℕ). UsesNumber p.row n 1 v.numbers w.numbers) (sym funded.0) uses;
           },
-          inr (takes_after told trace faults puts (Funds faults p.binding.key d.number) p.epoch v.turn u.turn w.turn need.1
-              (visit_takes told trace faults puts (Funds faults p.binding.key d.number) funded.3.0 funded.3.1 u.turn w.turn visit funds)),
+          inr (takes_after told (Funds p.binding.key d.number) p.epoch v.turn u.turn w.turn need.1
+              (visit_takes told (Funds p.binding.key d.number) funded.3.0 funded.3.1 u.turn w.turn visit funds)),
         ),
         omega arith,
       )
 
   pub refused_funded : (fault : BookFault) (position : ℕ) (t : ℕ × ℕ) (before : List ℕ) (v u w : View) → IsReadyStep p clear before (readies.NeedBlock t) v u
-      → IsFundStep told trace faults puts p t.1 clear out (Err (fault, position)) u w
-      → IsKeptStep told trace faults puts p clear out (Some (answers.Fault fault position)) v w
+      → IsFundStep told p t.1 clear out (Err (fault, position)) u w
+      → IsKeptStep told p clear out (Some (answers.Fault fault position)) v w
   refused_funded fault position t before v u w need funded =
-      let found : BookView O = funded.1.0 in
-      let given : BookView O = funded.1.1 in
+      let found : BookView = funded.1.0 in
+      let given : BookView = funded.1.1 in
       let visit = funded.1.2 in
-      let known : w.turn.known ≡ known_of_book trace faults puts given = ap (λ (k : Turn). k.known) visit.takes.turn in
+      let known : w.turn.known ≡ known_of_book given = ap (λ (k : Turn). k.known) visit.takes.turn in
       let one = ap (λ (k : Turn). k.turns) need.1.is in
       let two = ap (λ (k : Turn). k.turns) visit.takes.turn in
       let back = back_tickets p.row (end_of p.binding.key) t.1 v.numbers u.numbers need.4 in
@@ -145,15 +144,15 @@ module _ {O : Type 0} (told : Bool) (trace : O → Trace) (faults puts : O → �
             t.1,
             need.3,
             inr (subst (λ (k : Numbers). ComesBack p.row (end_of p.binding.key) t.1 v.numbers k) (sym funded.0) need.4),
-            takes_after told trace faults puts (Reserves faults p.binding.key t.1 (Err fault)) p.epoch v.turn u.turn w.turn need.1
-                (visit_takes told trace faults puts (Reserves faults p.binding.key t.1 (Err fault)) found given u.turn w.turn visit funded.1.3),
+            takes_after told (Reserves p.binding.key t.1 (Err fault)) p.epoch v.turn u.turn w.turn need.1
+                (visit_takes told (Reserves p.binding.key t.1 (Err fault)) found given u.turn w.turn visit funded.1.3),
           ),
         ),
         omega arith,
       )
 
   pub exhausted_ready : (n : ℕ) (v w : View) → IsReadyStep p clear out (readies.Exhausted n) v w
-      → IsKeptStep told trace faults puts p clear out (Some (answers.Exhausted p.binding.key n p.epoch)) v w
+      → IsKeptStep told p clear out (Some (answers.Exhausted p.binding.key n p.epoch)) v w
   exhausted_ready n v w h =
       let turns = ap (λ (t : Turn). t.turns) h.1.is in
       let tickets = out_tickets p.row (end_of p.binding.key) n v.numbers w.numbers h.2 in
@@ -161,7 +160,7 @@ module _ {O : Type 0} (told : Bool) (trace : O → Trace) (faults puts : O → �
 
   pub refused_ready : (fault : ShieldFault) (epoch : ℕ) (v u w : View) → IsReadyStep p clear out (readies.Refused fault) v u
       → Loads epoch u.turn w.turn → w.numbers ≡ u.numbers → epoch ≡ p.epoch
-      → IsKeptStep told trace faults puts p clear out (Some (answers.Refused fault epoch)) v w
+      → IsKeptStep told p clear out (Some (answers.Refused fault epoch)) v w
   refused_ready fault epoch v u w h loads numbers same =
       let one = ap (λ (t : Turn). t.turns) h.2 in
       let two = ap (λ (t : Turn). t.turns) loads.is in
@@ -170,23 +169,23 @@ module _ {O : Type 0} (told : Bool) (trace : O → Trace) (faults puts : O → �
       let later : epoch_seen v.turn ≤ epoch = subst (λ (t : Turn). epoch_seen t ≤ epoch) h.2 loads.later in
       ((h.0, same, numbers ∙ h.1, later, inl looks), omega arith)
 
-  module _ (found given : BookView O) where
-    pub finished_changes : (a : Protected) (v w : View) → IsFinished faults p clear out a found given v w → given.changes ≡ found.changes
-    finished_changes (answers.Done d) v w h = reserves_changes faults p.binding.key d.number (Ok h.4.0) found given h.4.1
+  module _ (found given : BookView) where
+    pub finished_changes : (a : Protected) (v w : View) → IsFinished p clear out a found given v w → given.changes ≡ found.changes
+    finished_changes (answers.Done d) v w h = reserves_changes p.binding.key d.number (Ok h.4.0) found given h.4.1
     finished_changes answers.Clear v w h = absurd h
-    finished_changes (answers.Refused fault epoch) v w h = ap (λ (b : BookView O). b.changes) h.4
-    finished_changes (answers.Exhausted key n epoch) v w h = ap (λ (b : BookView O). b.changes) h.5
-    finished_changes (answers.Fault fault position) v w h = reserves_changes faults p.binding.key h.3.0 (Err fault) found given h.3.3
+    finished_changes (answers.Refused fault epoch) v w h = ap (λ (b : BookView). b.changes) h.4
+    finished_changes (answers.Exhausted key n epoch) v w h = ap (λ (b : BookView). b.changes) h.5
+    finished_changes (answers.Fault fault position) v w h = reserves_changes p.binding.key h.3.0 (Err fault) found given h.3.3
 
-    pub finished_adds : (a : Protected) (v w : View) → IsFinished faults p clear out a found given v w
-        → AddsReserve told trace faults puts p.binding.key found given
+    pub finished_adds : (a : Protected) (v w : View) → IsFinished p clear out a found given v w
+        → AddsReserve told p.binding.key found given
     finished_adds (answers.Done d) v w h = inr (d.number, Ok h.4.0, h.4.1)
     finished_adds answers.Clear v w h = absurd h
     finished_adds (answers.Refused fault epoch) v w h = inl h.4
     finished_adds (answers.Exhausted key n epoch) v w h = inl h.5
     finished_adds (answers.Fault fault position) v w h = inr (h.3.0, Err fault, h.3.3)
 
-    finished_turn : (a : Protected) (v w : View) → IsFinished faults p clear out a found given v w
+    finished_turn : (a : Protected) (v w : View) → IsFinished p clear out a found given v w
         → (w.turn ≡ v.turn) ⊎ (w.turn ≡ learning (marks_of given.state) v.turn)
     finished_turn (answers.Done d) v w h = inr h.3
     finished_turn answers.Clear v w h = absurd h
@@ -194,24 +193,24 @@ module _ {O : Type 0} (told : Bool) (trace : O → Trace) (faults puts : O → �
     finished_turn (answers.Exhausted key n epoch) v w h = inl h.4
     finished_turn (answers.Fault fault position) v w h = inl h.2
 
-    pub finished_gives : (a : Protected) (t : Turn) (v w : View) → IsFinished faults p clear out a found given v w → GoesUp faults puts found given
-        → v.turn ≡ taking (known_of_book trace faults puts found) t → MayGive w.turn.known (known_of_book trace faults puts given)
+    pub finished_gives : (a : Protected) (t : Turn) (v w : View) → IsFinished p clear out a found given v w → GoesUp found given
+        → v.turn ≡ taking (known_of_book found) t → MayGive w.turn.known (known_of_book given)
     finished_gives a t v w h g took = by_turn (finished_turn a v w h) where
-      by_turn : (w.turn ≡ v.turn) ⊎ (w.turn ≡ learning (marks_of given.state) v.turn) → MayGive w.turn.known (known_of_book trace faults puts given)
-      by_turn (inl same) = may_give trace faults puts w.turn.known found given (ap (λ (k : Turn). k.known) (same ∙ took)) g (finished_changes a v w h)
-      by_turn (inr learned) = may_give_learned trace faults puts w.turn.known found given
+      by_turn : (w.turn ≡ v.turn) ⊎ (w.turn ≡ learning (marks_of given.state) v.turn) → MayGive w.turn.known (known_of_book given)
+      by_turn (inl same) = may_give w.turn.known found given (ap (λ (k : Turn). k.known) (same ∙ took)) g (finished_changes a v w h)
+      by_turn (inr learned) = may_give_learned w.turn.known found given
           (ap (λ (k : Turn). k.known) learned ∙ ap (λ (k : Turn). (learning (marks_of given.state) k).known) took) g (finished_changes a v w h)
 
-    pub finished_visits : (a : Protected) (t u : Turn) (v w : View) → IsFinished faults p clear out a found given v w → GoesUp faults puts found given
-        → IsKept told trace faults found → IsKept told trace faults given → Follows t (known_of_book trace faults puts found)
-        → v.turn ≡ taking (known_of_book trace faults puts found) t → u ≡ giving (known_of_book trace faults puts given) w.turn → Visits told trace faults puts found given t u
+    pub finished_visits : (a : Protected) (t u : Turn) (v w : View) → IsFinished p clear out a found given v w → GoesUp found given
+        → IsKept told found → IsKept told given → Follows t (known_of_book found)
+        → v.turn ≡ taking (known_of_book found) t → u ≡ giving (known_of_book given) w.turn → Visits told found given t u
     finished_visits a t u v w h g before after follows took gave = by_turn (finished_turn a v w h) where
-      by_turn : (w.turn ≡ v.turn) ⊎ (w.turn ≡ learning (marks_of given.state) v.turn) → Visits told trace faults puts found given t u
-      by_turn (inl same) = visits trace faults puts told found given t w.turn u before after follows g (same ∙ took) gave
-      by_turn (inr learned) = visits_learned trace faults puts told found given t w.turn u before after follows g
+      by_turn : (w.turn ≡ v.turn) ⊎ (w.turn ≡ learning (marks_of given.state) v.turn) → Visits told found given t u
+      by_turn (inl same) = visits told found given t w.turn u before after follows g (same ∙ took) gave
+      by_turn (inr learned) = visits_learned told found given t w.turn u before after follows g
           (learned ∙ ap (learning (marks_of given.state)) took) gave
 
-    pub finished_later : (a : Protected) (d : Done) (v w : View) → a ≡ answers.Done d → IsFinished faults p clear out a found given v w
+    pub finished_later : (a : Protected) (d : Done) (v w : View) → a ≡ answers.Done d → IsFinished p clear out a found given v w
         → d.epoch ≡ p.epoch
     finished_later (answers.Done e) d v w same h = let one : d ≡ e = cc in ap (λ (x : Done). x.epoch) one ∙ h.1.epoch
     finished_later answers.Clear d v w same h = absurd h
@@ -220,23 +219,23 @@ module _ {O : Type 0} (told : Bool) (trace : O → Trace) (faults puts : O → �
     finished_later (answers.Fault fault position) d v w same h = absurd cc
 
     -- the same step, as it is seen from before the take
-    pub finished_under : (a : Protected) (v w x y : View) → IsFinished faults p clear out a found given v w → v.numbers ≡ x.numbers
-        → y.numbers ≡ w.numbers → Visits told trace faults puts found given x.turn y.turn → p.epoch ≡ found.changes
-        → IsUnder told trace faults puts p clear out a x y
+    pub finished_under : (a : Protected) (v w x y : View) → IsFinished p clear out a found given v w → v.numbers ≡ x.numbers
+        → y.numbers ≡ w.numbers → Visits told found given x.turn y.turn → p.epoch ≡ found.changes
+        → IsUnder told p clear out a x y
     finished_under a v w x y h before later s at =
-        by_answer a (subst (λ (k : Numbers). IsFinished faults p clear out a found given (record v { numbers = x.numbers }) (record w { numbers = k })) (sym later)
-        (subst (λ (k : Numbers). IsFinished faults p clear out a found given (record v { numbers = k }) w) before h)) where
-          known : y.turn.known ≡ known_of_book trace faults puts given
+        by_answer a (subst (λ (k : Numbers). IsFinished p clear out a found given (record v { numbers = x.numbers }) (record w { numbers = k })) (sym later)
+        (subst (λ (k : Numbers). IsFinished p clear out a found given (record v { numbers = k }) w) before h)) where
+          known : y.turn.known ≡ known_of_book given
           known = ap (λ (t : Turn). t.known) s.takes.turn
 
           seen : epoch_seen x.turn ≤ p.epoch
           seen = let a = s.takes.follows.epoch in let b = s.takes.follows.earlier.changes in omega arith
 
-          taken : (done : BookView O → BookView O → Type 0) → done found given → TakesTurn told trace faults puts done x.turn y.turn
-          taken done does = visit_takes told trace faults puts done found given x.turn y.turn s does
+          taken : (done : BookView → BookView → Type 0) → done found given → TakesTurn told done x.turn y.turn
+          taken done does = visit_takes told done found given x.turn y.turn s does
 
-          by_answer : (b : Protected) → IsFinished faults p clear out b found given (record v { numbers = x.numbers }) (record w { numbers = y.numbers })
-              → IsUnder told trace faults puts p clear out b x y
+          by_answer : (b : Protected) → IsFinished p clear out b found given (record v { numbers = x.numbers }) (record w { numbers = y.numbers })
+              → IsUnder told p clear out b x y
           by_answer (answers.Done d) k = (
             record {
               fits = k.0;
@@ -245,7 +244,7 @@ module _ {O : Type 0} (told : Bool) (trace : O → Trace) (faults puts : O → �
               back = 0;
               uses = k.2;
             },
-            inr (taken (Funds faults p.binding.key d.number) k.4),
+            inr (taken (Funds p.binding.key d.number) k.4),
           )
           by_answer answers.Clear k = absurd k
           by_answer (answers.Refused fault epoch) k = (k.0, k.1, k.2, (let low = seen in let same = k.1 in omega arith), inr (taken Rests k.4))
@@ -254,12 +253,12 @@ module _ {O : Type 0} (told : Bool) (trace : O → Trace) (faults puts : O → �
             k.0,
             seen,
             k.1 ∙ ap entry_count (sym known),
-            (k.3.0, k.3.1, inl k.3.2, taken (Reserves faults p.binding.key k.3.0 (Err fault)) k.3.3),
+            (k.3.0, k.3.1, inl k.3.2, taken (Reserves p.binding.key k.3.0 (Err fault)) k.3.3),
           )
 
-  pub under_step : (plan : PlanLines) (link : ℕ) (a : Protected) (v w : View) → IsUnder told trace faults puts p clear out a v w
+  pub under_step : (plan : PlanLines) (link : ℕ) (a : Protected) (v w : View) → IsUnder told p clear out a v w
       → IsUsed plan link clear p w.turn → w.turn.known.opening.plan ≡ plan → (o : Option Permit) → o ≡ Some p
-      → IsProtectStep told trace faults puts plan link clear out o a v w
+      → IsProtectStep told plan link clear out o a v w
   under_step plan link (answers.Done d) v w h used planned o same = (p, same, used, h)
   under_step plan link answers.Clear v w h used planned o same = absurd h
   under_step plan link (answers.Refused fault epoch) v w h used planned o same =
@@ -268,8 +267,8 @@ module _ {O : Type 0} (told : Bool) (trace : O → Trace) (faults puts : O → �
   under_step plan link (answers.Fault fault position) v w h used planned o same = (p, used, h)
 
   pub by_kept_step : (plan : PlanLines) (kept : Option Permit) (link : ℕ) (o : Option Protected) (v w : View)
-      → IsKeptStep told trace faults puts p clear out o v w → kept ≡ Some p → IsUsed plan link clear p w.turn
-      → IsByKept told trace faults puts plan kept link clear out o v w
+      → IsKeptStep told p clear out o v w → kept ≡ Some p → IsUsed plan link clear p w.turn
+      → IsByKept told plan kept link clear out o v w
   by_kept_step plan kept link None v w h same used =
       (h.0, inr (h.1.0, h.1.2), λ q other there on_. below q (let one : q ≡ p = cc in one)) where
         below : (q : Permit) → q ≡ p → q.epoch < w.turn.epoch
@@ -281,7 +280,7 @@ module _ {O : Type 0} (told : Bool) (trace : O → Trace) (faults puts : O → �
 
   -- the same, as it is seen from before a load of the epoch
   under_from : (a : Protected) (v u w : View) → u.numbers ≡ v.numbers → ((u.turn ≡ v.turn) ⊎ ((epoch : ℕ) × Loads epoch v.turn u.turn))
-      → IsUnder told trace faults puts p clear out a u w → IsUnder told trace faults puts p clear out a v w
+      → IsUnder told p clear out a u w → IsUnder told p clear out a v w
   under_from (answers.Done d) v u w same turn h = (
     record {
       fits = h.0.fits;
@@ -290,11 +289,11 @@ module _ {O : Type 0} (told : Bool) (trace : O → Trace) (faults puts : O → �
       back = h.0.back;
       uses = subst (λ (k : Numbers). UsesNumber p.row d.number h.0.back k w.numbers) same h.0.uses;
     },
-    may_on told trace faults puts (Funds faults p.binding.key d.number) v.turn u.turn w.turn turn h.1,
+    may_on told (Funds p.binding.key d.number) v.turn u.turn w.turn turn h.1,
   )
   under_from answers.Clear v u w same turn h = absurd h
   under_from (answers.Refused fault epoch) v u w same turn h =
-      (h.0, h.1, h.2 ∙ same, (let on = seen_on v.turn u.turn turn in let low = h.3 in omega arith), may_on told trace faults puts Rests v.turn u.turn w.turn turn h.4)
+      (h.0, h.1, h.2 ∙ same, (let on = seen_on v.turn u.turn turn in let low = h.3 in omega arith), may_on told Rests v.turn u.turn w.turn turn h.4)
   under_from (answers.Exhausted key n epoch) v u w same turn h = (
     (
       h.0.0,
@@ -303,7 +302,7 @@ module _ {O : Type 0} (told : Bool) (trace : O → Trace) (faults puts : O → �
       subst (λ (k : Numbers). RunsOut p.row (end_of key) n k w.numbers) same h.0.3,
       let on = seen_on v.turn u.turn turn in let low = h.0.4 in omega arith,
     ),
-    may_on told trace faults puts Rests v.turn u.turn w.turn turn h.1,
+    may_on told Rests v.turn u.turn w.turn turn h.1,
   )
   under_from (answers.Fault fault position) v u w same turn h = (
     h.0,
@@ -313,36 +312,36 @@ module _ {O : Type 0} (told : Bool) (trace : O → Trace) (faults puts : O → �
       h.3.0,
       h.3.1,
       subst (λ (k : Numbers). Draws p.row (end_of p.binding.key) h.3.0 k w.numbers ⊎ ComesBack p.row (end_of p.binding.key) h.3.0 k w.numbers) same h.3.2,
-      takes_on told trace faults puts (Reserves faults p.binding.key h.3.0 (Err fault)) v.turn u.turn w.turn turn h.3.3,
+      takes_on told (Reserves p.binding.key h.3.0 (Err fault)) v.turn u.turn w.turn turn h.3.3,
     ),
   )
 
-module _ {O : Type 0} (told : Bool) (trace : O → Trace) (faults puts : O → ℕ) where
+module _ (told : Bool) where
   -- a permit of another link or channel is not used
   pub by_other : (plan : PlanLines) (p : Permit) (kept : Option Permit) (link : ℕ) (clear out : List ℕ) (v : View) → kept ≡ Some p
-      → (p.link ≡ link → IsOfPermit plan p clear → ⊥) → IsByKept told trace faults puts plan kept link clear out None v v
+      → (p.link ≡ link → IsOfPermit plan p clear → ⊥) → IsByKept told plan kept link clear out None v v
   by_other plan p kept link clear out v same apart =
       (refl, inl refl, λ q other linked on. absurd (on_it q (let one : q ≡ p = cc in one) linked on)) where
         on_it : (q : Permit) → q ≡ p → q.link ≡ link → IsOfPermit plan q clear → ⊥
         on_it q one linked on = apart (sym (ap (λ (k : Permit). k.link) one) ∙ linked) (subst (λ (k : Permit). IsOfPermit plan k clear) one on)
 
   pub by_none : (plan : PlanLines) (kept : Option Permit) (link : ℕ) (clear out : List ℕ) (v : View) → kept ≡ None
-      → IsByKept told trace faults puts plan kept link clear out None v v
+      → IsByKept told plan kept link clear out None v v
   by_none plan kept link clear out v none = (refl, inl refl, λ q other there on. absurd cc)
 
   -- with the kept permit
   pub kept_step : (plan : PlanLines) (link : ℕ) (clear out : List ℕ) (kept : Option Permit) (a : Protected) (v w : View)
-      → IsByKept told trace faults puts plan kept link clear out (Some a) v w → w.turn.known.opening.plan ≡ plan
-      → IsProtectStep told trace faults puts plan link clear out kept a v w
+      → IsByKept told plan kept link clear out (Some a) v w → w.turn.known.opening.plan ≡ plan
+      → IsProtectStep told plan link clear out kept a v w
   kept_step plan link clear out kept a v w h planned =
-      under_step told trace faults puts h.0 clear out plan link a v w h.3.0 h.2 planned kept h.1
+      under_step told h.0 clear out plan link a v w h.3.0 h.2 planned kept h.1
 
   -- with a new one
   pub step_from : (plan : PlanLines) (link : ℕ) (clear out : List ℕ) (o : Option Permit) (a : Protected) (v u w : View) → u.numbers ≡ v.numbers
       → ((u.turn ≡ v.turn) ⊎ ((epoch : ℕ) × Loads epoch v.turn u.turn)) → (channel : ℕ) → channel_check plan link clear ≡ Ok (Some channel)
-      → IsProtectStep told trace faults puts plan link clear out o a u w → IsProtectStep told trace faults puts plan link clear out o a v w
+      → IsProtectStep told plan link clear out o a u w → IsProtectStep told plan link clear out o a v w
   step_from plan link clear out o (answers.Done d) v u w same turn channel passes h =
-      (h.0, h.1, h.2, under_from told trace faults puts h.0 clear out (answers.Done d) v u w same turn h.3)
+      (h.0, h.1, h.2, under_from told h.0 clear out (answers.Done d) v u w same turn h.3)
   step_from plan link clear out o answers.Clear v u w same turn channel passes h = absurd (no_clear (channel_check plan link clear) passes h.0) where
     no_clear : (r : Result (Option ℕ) ShieldFault) → r ≡ Ok (Some channel) → r ≡ Ok None → ⊥
     no_clear r a b = cc
@@ -350,15 +349,15 @@ module _ {O : Type 0} (told : Bool) (trace : O → Trace) (faults puts : O → �
     no_fault : (r : Result (Option ℕ) ShieldFault) → r ≡ Ok (Some channel) → r ≡ Err fault → ⊥
     no_fault r a b = cc
 
-    by_case : IsRefusedAt told trace faults puts plan link clear fault epoch u.turn w.turn
-        → IsRefusedAt told trace faults puts plan link clear fault epoch v.turn w.turn
+    by_case : IsRefusedAt told plan link clear fault epoch u.turn w.turn
+        → IsRefusedAt told plan link clear fault epoch v.turn w.turn
     by_case (inl k) = absurd (no_fault (channel_check plan link clear) passes k.0)
     by_case (inr k) = inr (
       k.0,
       (let on = seen_on v.turn u.turn turn in let low = k.1 in omega arith),
-      may_on told trace faults puts Rests v.turn u.turn w.turn turn k.2,
+      may_on told Rests v.turn u.turn w.turn turn k.2,
     )
   step_from plan link clear out o (answers.Exhausted key n epoch) v u w same turn channel passes h =
-      (h.0, h.1, under_from told trace faults puts h.0 clear out (answers.Exhausted key n epoch) v u w same turn h.2)
+      (h.0, h.1, under_from told h.0 clear out (answers.Exhausted key n epoch) v u w same turn h.2)
   step_from plan link clear out o (answers.Fault fault position) v u w same turn channel passes h =
-      (h.0, h.1, under_from told trace faults puts h.0 clear out (answers.Fault fault position) v u w same turn h.2)
+      (h.0, h.1, under_from told h.0 clear out (answers.Fault fault position) v u w same turn h.2)

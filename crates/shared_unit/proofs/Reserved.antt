@@ -1,7 +1,6 @@
 -- A reserve that succeeds leaves the mark of the key's row above the number.
 use Rattle.std.proofs.Common.{◌≡◌, ◌⊎◌, inl, inr, ℕ, ◌<◌, ◌≤◌, nat_lt, Bool, true, false, if◌then◌else◌, Some, Ok, refl, ap, ◌∙◌, arith}
 use Rattle.std.proofs.lemmas.Bool.Decides.{nat_tests}
-use Rattle.sdls_outside.specs.Moments.{Trace}
 use Rattle.key_book.specs.KeyBook.{place_of}
 use Rattle.unit_state.proofs.StateLaws.{places_kept}
 use Rattle.counter_table.specs.declared.view.Numbers.{Numbers}
@@ -14,20 +13,20 @@ use Rattle.shared_unit.specs.Numbers.{Lifts}
 use Rattle.shared_unit.specs.Funding.{Reserves}
 use Rattle.unit_book.proofs.Places.{mark_placed}
 
-pub reserves_place : {O : Type 0} (faults : O → ℕ) (key n mark row : ℕ) (found given : BookView O) → Reserves faults key n (Ok mark) found given
+pub reserves_place : (key n mark row : ℕ) (found given : BookView) → Reserves key n (Ok mark) found given
     → place_of found.state.keys key ≡ Some row → place_of given.state.keys key ≡ Some row
-reserves_place {O} faults key n mark row found given h place = by_case h.2 where
+reserves_place key n mark row found given h place = by_case h.2 where
   by_case : ((n < held_mark found.state key) × (given ≡ found))
-      ⊎ ((held_mark found.state key ≤ n) × ((position : ℕ) × Made faults (reserve_of found.plan found.state key n) found given position))
+      ⊎ ((held_mark found.state key ≤ n) × ((position : ℕ) × Made (reserve_of found.plan found.state key n) found given position))
       → place_of given.state.keys key ≡ Some row
-  by_case (inl p) = ap (λ (b : BookView O). place_of b.state.keys key) p.1 ∙ place
-  by_case (inr p) = ap (λ (b : BookView O). place_of b.state.keys key) p.1.1.1.is
+  by_case (inl p) = ap (λ (b : BookView). place_of b.state.keys key) p.1 ∙ place
+  by_case (inr p) = ap (λ (b : BookView). place_of b.state.keys key) p.1.1.1.is
       ∙ places_kept found.state (reserve_of found.plan found.state key n).change key row place
 
-pub reserved_mark : {O : Type 0} (trace : O → Trace) (faults puts : O → ℕ) (key n mark row : ℕ) (found given : BookView O) → Reserves faults key n (Ok mark) found given
-    → place_of found.state.keys key ≡ Some row → n < known_mark (known_of_book trace faults puts given) row
-reserved_mark trace faults puts key n mark row found given h place =
-    let a = mark_placed given.state key row (reserves_place faults key n mark row found given h place) in
+pub reserved_mark : (key n mark row : ℕ) (found given : BookView) → Reserves key n (Ok mark) found given
+    → place_of found.state.keys key ≡ Some row → n < known_mark (known_of_book given) row
+reserved_mark key n mark row found given h place =
+    let a = mark_placed given.state key row (reserves_place key n mark row found given h place) in
     let b = h.1 in
     let c = h.0 in omega arith
 

@@ -2,7 +2,6 @@
 use Rattle.std.proofs.Common.{◌≡◌, ◌⊎◌, inl, inr, ℕ, ◌≤◌, Bool, List, Option, Result, Ok, Err, ap, ◌∙◌}
 use Rattle.sdls_base.specs.declared.entry.Seen.{Seen}
 use Rattle.sdls_base.specs.declared.entry.Seen.TheVariants as sights
-use Rattle.sdls_outside.specs.Moments.{Trace}
 use Rattle.unit_plan.specs.PlanLines.{PlanLines}
 use Rattle.ep_core.specs.declared.need.Need.{Need}
 use Rattle.ep_core.specs.declared.need.Need.TheVariants as needs
@@ -35,8 +34,8 @@ either_shares : (row end n : ℕ) (v w : Numbers) → Draws row end n v w ⊎ Co
 either_shares row end n v w (inl d) = draws_shares row end n v w d
 either_shares row end n v w (inr b) = comes_shares row end n v w b
 
-module _ {O : Type 0} (told : Bool) (trace : O → Trace) (faults puts : O → ℕ) where
-  pub kept_shares : (p : Permit) (clear out : List ℕ) (a : Protected) (v w : View) → IsUnder told trace faults puts p clear out a v w
+module _ (told : Bool) where
+  pub kept_shares : (p : Permit) (clear out : List ℕ) (a : Protected) (v w : View) → IsUnder told p clear out a v w
       → w.numbers.shares ≡ v.numbers.shares
   kept_shares p clear out (answers.Done d) v w h = h.0.uses.shares
   kept_shares p clear out answers.Clear v w h = absurd h
@@ -45,26 +44,25 @@ module _ {O : Type 0} (told : Bool) (trace : O → Trace) (faults puts : O → �
   kept_shares p clear out (answers.Fault fault position) v w h = either_shares _ _ _ v.numbers w.numbers h.3.2
 
   pub step_shares : (plan : PlanLines) (link : ℕ) (clear out : List ℕ) (kept : Option Permit) (a : Protected) (v w : View)
-      → IsProtectStep told trace faults puts plan link clear out kept a v w → w.numbers.shares ≡ v.numbers.shares
+      → IsProtectStep told plan link clear out kept a v w → w.numbers.shares ≡ v.numbers.shares
   step_shares plan link clear out kept (answers.Done d) v w h = h.3.0.uses.shares
   step_shares plan link clear out kept answers.Clear v w h = ap (λ (k : Numbers). k.shares) h.1
   step_shares plan link clear out kept (answers.Refused fault epoch) v w h = ap (λ (k : Numbers). k.shares) h.1
   step_shares plan link clear out kept (answers.Exhausted key n epoch) v w h = out_shares _ _ _ v.numbers w.numbers h.2.0.3
   step_shares plan link clear out kept (answers.Fault fault position) v w h = either_shares _ _ _ v.numbers w.numbers h.2.3.2
 
-module _ {O : Type 0} (faults : O → ℕ) where
-  satisfied_shares : (need : Need) (seen : Seen) (found middle : BookView O) (v w : Numbers) → Satisfies faults need seen found middle v w
-      → w.shares ≡ v.shares
-  satisfied_shares needs.Nothing sights.Nothing found middle v w h = ap (λ (k : Numbers). k.shares) h.1
-  satisfied_shares (needs.Look key) (sights.Word n) found middle v w h = ap (λ (k : Numbers). k.shares) h.1.is
-  satisfied_shares (needs.Raise key number) (sights.Word n) found middle v w h = ap (λ (k : Numbers). k.shares) h.1.is
-  satisfied_shares (needs.Number key) (sights.Number n) found middle v w h = h.uses.shares
-  satisfied_shares (needs.Number key) (sights.Exhausted n) found middle v w h = out_shares _ _ _ v w h.1.out
-  satisfied_shares need seen found middle v w h = absurd h
+satisfied_shares : (need : Need) (seen : Seen) (found middle : BookView) (v w : Numbers) → Satisfies need seen found middle v w
+    → w.shares ≡ v.shares
+satisfied_shares needs.Nothing sights.Nothing found middle v w h = ap (λ (k : Numbers). k.shares) h.1
+satisfied_shares (needs.Look key) (sights.Word n) found middle v w h = ap (λ (k : Numbers). k.shares) h.1.is
+satisfied_shares (needs.Raise key number) (sights.Word n) found middle v w h = ap (λ (k : Numbers). k.shares) h.1.is
+satisfied_shares (needs.Number key) (sights.Number n) found middle v w h = h.uses.shares
+satisfied_shares (needs.Number key) (sights.Exhausted n) found middle v w h = out_shares _ _ _ v w h.1.out
+satisfied_shares need seen found middle v w h = absurd h
 
-  pub commanded_shares : (index : ℕ) (pdu : List ℕ) (result : Result (Reply × ℕ) BookFault) (found given : BookView O) (v w : Numbers)
-      → IsCommanded faults index pdu result found given v w → w.shares ≡ v.shares
-  commanded_shares index pdu (Ok answer) found given v w h = satisfied_shares h.0 h.1 found h.2 v w h.4
-  commanded_shares index pdu (Err fault) found given v w (inl h) = ap (λ (k : Numbers). k.shares) h.2
-  commanded_shares index pdu (Err fault) found given v w (inr (need, is, inl f)) = draws_shares _ _ _ v w f.draws
-  commanded_shares index pdu (Err fault) found given v w (inr (need, is, inr (seen, middle, s, r))) = satisfied_shares need seen found middle v w s
+pub commanded_shares : (index : ℕ) (pdu : List ℕ) (result : Result (Reply × ℕ) BookFault) (found given : BookView) (v w : Numbers)
+    → IsCommanded index pdu result found given v w → w.shares ≡ v.shares
+commanded_shares index pdu (Ok answer) found given v w h = satisfied_shares h.0 h.1 found h.2 v w h.4
+commanded_shares index pdu (Err fault) found given v w (inl h) = ap (λ (k : Numbers). k.shares) h.2
+commanded_shares index pdu (Err fault) found given v w (inr (need, is, inl f)) = draws_shares _ _ _ v w f.draws
+commanded_shares index pdu (Err fault) found given v w (inr (need, is, inr (seen, middle, s, r))) = satisfied_shares need seen found middle v w s

@@ -1,6 +1,5 @@
 -- Permits: they are true where the book gives them, and stay true.
 use Rattle.std.proofs.Common.{◌≡◌, ℕ, List, Some, sym, ap, subst, ◌∙◌, arith}
-use Rattle.sdls_outside.specs.Moments.{Trace}
 use Rattle.key_book.specs.KeyBook.{place_of}
 use Rattle.unit_plan.specs.PlanLines.{PlanLines, link_of}
 use Rattle.unit_state.specs.declared.state.State.{State}
@@ -42,11 +41,11 @@ permit_stays p v w grows is =
     }
 
 -- the held book has the permit's row for its key
-pub row_held : {O : Type 0} (trace : O → Trace) (faults puts : O → ℕ) (p : Permit) (v : Turn) (book : BookView O) → Follows v (known_of_book trace faults puts book) → IsTrueFor p v
+pub row_held : (p : Permit) (v : Turn) (book : BookView) → Follows v (known_of_book book) → IsTrueFor p v
     → IsLevel book → place_of book.state.keys p.binding.key ≡ Some p.row
-row_held trace faults puts p v book follows is level =
+row_held p v book follows is level =
     let more = follows.earlier.log in
-    let k : Known = known_of_book trace faults puts book in
+    let k : Known = known_of_book book in
     let same : state_at k p.epoch ≡ state_at v.known p.epoch = state_at_stays v.known k more.0 p.epoch follows.opening more.1 is.reached in
     sym (level.rows p.binding.key)
     ∙ row_later book.start (entries_of book.log) p.epoch book.changes p.binding.key p.row
@@ -54,10 +53,10 @@ row_held trace faults puts p v book follows is level =
     (ap (λ (s : State). place_of s.keys p.binding.key) same ∙ is.row)
 
 -- what the book permits is true for the worker that found the book so
-pub permit_true : {O : Type 0} (trace : O → Trace) (faults puts : O → ℕ) (link : ℕ) (clear : List ℕ) (p : Permit) (found : BookView O) (given : Known) (v w : Turn)
-    → Permits link clear (replies.Permit p) found → IsLevel found → TakesOnce (known_of_book trace faults puts found) given v w → IsTrueFor p w
-permit_true trace faults puts link clear p found given v w h level s =
-    let k : Known = known_of_book trace faults puts found in
+pub permit_true : (link : ℕ) (clear : List ℕ) (p : Permit) (found : BookView) (given : Known) (v w : Turn)
+    → Permits link clear (replies.Permit p) found → IsLevel found → TakesOnce (known_of_book found) given v w → IsTrueFor p w
+permit_true link clear p found given v w h level s =
+    let k : Known = known_of_book found in
     let here = h.0 in
     let epoch : p.epoch ≡ found.changes = h.2 in
     let bound = check_bound found.plan (state_at k found.changes) link clear p.channel p.binding h.1 (level.binds link clear ∙ h.3) in
@@ -78,15 +77,15 @@ permit_true trace faults puts link clear p found given v w h level s =
     })
 
 -- and is of the frame
-pub of_permit : {O : Type 0} (link : ℕ) (clear : List ℕ) (p : Permit) (found : BookView O) (plan : PlanLines)
+pub of_permit : (link : ℕ) (clear : List ℕ) (p : Permit) (found : BookView) (plan : PlanLines)
     → Permits link clear (replies.Permit p) found → found.plan ≡ plan → IsOfPermit plan p clear
 of_permit link clear p found plan h same =
     ap (λ (l : PlanLines). channel_check l p.link clear) (sym same) ∙ ap (λ (n : ℕ). channel_check found.plan n clear) h.0 ∙ h.1
 
-pub permitted : {O : Type 0} (trace : O → Trace) (faults puts : O → ℕ) (plan : PlanLines) (link : ℕ) (clear : List ℕ) (reply : PermitReply) (found : BookView O) (given : Known) (v w : Turn)
-    → Permits link clear reply found → IsLevel found → TakesOnce (known_of_book trace faults puts found) given v w → found.plan ≡ plan
+pub permitted : (plan : PlanLines) (link : ℕ) (clear : List ℕ) (reply : PermitReply) (found : BookView) (given : Known) (v w : Turn)
+    → Permits link clear reply found → IsLevel found → TakesOnce (known_of_book found) given v w → found.plan ≡ plan
     → IfPermit reply (λ p. IsTrueFor p w × IsOfPermit plan p clear)
-permitted trace faults puts plan link clear (replies.Permit p) found given v w h level s same =
-    (permit_true trace faults puts link clear p found given v w h level s, of_permit link clear p found plan h same)
-permitted trace faults puts plan link clear replies.Clear found given v w h level s same = tt
-permitted trace faults puts plan link clear (replies.Refused fault epoch) found given v w h level s same = tt
+permitted plan link clear (replies.Permit p) found given v w h level s same =
+    (permit_true link clear p found given v w h level s, of_permit link clear p found plan h same)
+permitted plan link clear replies.Clear found given v w h level s same = tt
+permitted plan link clear (replies.Refused fault epoch) found given v w h level s same = tt

@@ -1,6 +1,5 @@
 -- What clauses on the calls say of their answers (profile).
 use Rattle.std.specs.Prelude.{◌≡◌, ℕ, Bool, IsTrue, List, Result, Ok, Err, IfErr}
-use Rattle.sdls_outside.specs.Moments.{Trace}
 use Rattle.sdls_outside.specs.Site as sites
 use Rattle.counter_table.specs.declared.view.Known.{Known}
 use Rattle.unit_book.specs.declared.fault.BookFault.{BookFault}
@@ -15,9 +14,9 @@ WithPosition (Err refused) given P = P (Err refused.0) × (refused.1 ≡ entry_c
 
 -- The octets were put, or a front of them, and are the next line of the log. One more put failed where the answer is a
 -- fault.
-pub record IsPut {O : Type 0} (told : Bool) (trace : O → Trace) (faults puts : O → ℕ) (octets : List ℕ)
-    (result : Result (Unit {0}) BookFault) (found given : BookView O) : Type 0 where
-  pub made : given ≡ with_put (sunk_between (trace found.site) (trace given.site)) (record found { site = given.site })
-  pub put : IsTrue told → sites.Puts octets result (trace found.site) (trace given.site)
-  pub counted : puts given.site ≡ sites.after_put result (puts found.site)
-  pub fault : IfErr result (PutFails (faults found.site) (faults given.site))
+pub record IsPut (told : Bool) (octets : List ℕ) (result : Result (Unit {0}) BookFault)
+    (found given : BookView) : Type 0 where
+  pub made : given ≡ with_put (sunk_between found.site.trace given.site.trace) (record found { site = given.site })
+  pub put : IsTrue told → sites.Puts octets result found.site.trace given.site.trace
+  pub counted : given.site.put_faults ≡ sites.after_put result found.site.put_faults
+  pub fault : IfErr result (PutFails found.site.faults given.site.faults)

@@ -22,7 +22,7 @@ use Rattle.shared_unit.specs.Numbers.{Draws, RunsOut, UsesNumber}
 use Rattle.shared_unit.specs.Funding.{Reserves}
 
 -- The key's word was found, no less than each seen before, and raised to the number.
-pub record RaisesWord {O : Type 0} (key number n : ℕ) (found : BookView O) (v w : Numbers) : Type 0 where
+pub record RaisesWord (key number n : ℕ) (found : BookView) (v w : Numbers) : Type 0 where
   pub row : ℕ
   pub place : place_of found.state.keys key ≡ Some row
   pub later : top row v.nexts ≤ n
@@ -30,23 +30,22 @@ pub record RaisesWord {O : Type 0} (key number n : ℕ) (found : BookView O) (v 
   pub is : w ≡ raising row number n v
 
 -- A number of the key was drawn, reserved where it had to be, and spent.
-pub record DrawsFor {O : Type 0} (faults : O → ℕ) (key n : ℕ) (found middle : BookView O) (v w : Numbers) : Type 0 where
+pub record DrawsFor (key n : ℕ) (found middle : BookView) (v w : Numbers) : Type 0 where
   pub row : ℕ
   pub place : place_of found.state.keys key ≡ Some row
   pub below : n < end_of key
   pub mark : ℕ
-  pub reserved : Reserves faults key n (Ok mark) found middle
+  pub reserved : Reserves key n (Ok mark) found middle
   pub uses : UsesNumber row n 0 v w
 
 -- The key had no number left.
-pub record FindsNone {O : Type 0} (key n : ℕ) (found : BookView O) (v w : Numbers) : Type 0 where
+pub record FindsNone (key n : ℕ) (found : BookView) (v w : Numbers) : Type 0 where
   pub row : ℕ
   pub place : place_of found.state.keys key ≡ Some row
   pub out : RunsOut row (end_of key) n v w
 
 -- A number was drawn, and its reserve refused.
-pub record FailsFor {O : Type 0} (faults : O → ℕ) (need : Need) (fault : BookFault) (found middle : BookView O)
-    (v w : Numbers) : Type 0 where
+pub record FailsFor (need : Need) (fault : BookFault) (found middle : BookView) (v w : Numbers) : Type 0 where
   pub key : ℕ
   pub is : need ≡ needs.Number key
   pub row : ℕ
@@ -54,38 +53,36 @@ pub record FailsFor {O : Type 0} (faults : O → ℕ) (need : Need) (fault : Boo
   pub n : ℕ
   pub below : n < end_of key
   pub draws : Draws row (end_of key) n v w
-  pub reserved : Reserves faults key n (Err fault) found middle
+  pub reserved : Reserves key n (Err fault) found middle
 
 -- what the words showed for the need, and what became of the book and of the numbers
-abbrev pub Satisfies : {O : Type 0} → (O → ℕ) → Need → Seen → BookView O → BookView O → Numbers → Numbers → Type 0
-Satisfies faults needs.Nothing sights.Nothing found middle v w = (middle ≡ found) × (w ≡ v)
-Satisfies faults (needs.Look key) (sights.Word n) found middle v w = (middle ≡ found) × RaisesWord key 1 n found v w
-Satisfies faults (needs.Raise key number) (sights.Word n) found middle v w = (middle ≡ found)
+abbrev pub Satisfies : Need → Seen → BookView → BookView → Numbers → Numbers → Type 0
+Satisfies needs.Nothing sights.Nothing found middle v w = (middle ≡ found) × (w ≡ v)
+Satisfies (needs.Look key) (sights.Word n) found middle v w = (middle ≡ found) × RaisesWord key 1 n found v w
+Satisfies (needs.Raise key number) (sights.Word n) found middle v w = (middle ≡ found)
     × RaisesWord key number n found v w
-Satisfies faults (needs.Number key) (sights.Number n) found middle v w = DrawsFor faults key n found middle v w
-Satisfies faults (needs.Number key) (sights.Exhausted n) found middle v w = (middle ≡ found) × FindsNone key n found v w
-Satisfies faults need seen found middle v w = ⊥
+Satisfies (needs.Number key) (sights.Number n) found middle v w = DrawsFor key n found middle v w
+Satisfies (needs.Number key) (sights.Exhausted n) found middle v w = (middle ≡ found) × FindsNone key n found v w
+Satisfies need seen found middle v w = ⊥
 
-abbrev pub IsSeen : {O : Type 0} → (O → ℕ) → Need → Result Seen BookFault → BookView O → BookView O → View → View
-    → Type 0
-IsSeen faults need (Ok seen) found middle v w =
-    Satisfies faults need seen found middle v.numbers w.numbers
+abbrev pub IsSeen : Need → Result Seen BookFault → BookView → BookView → View → View → Type 0
+IsSeen need (Ok seen) found middle v w =
+    Satisfies need seen found middle v.numbers w.numbers
     × ((w.turn ≡ v.turn) ⊎ (w.turn ≡ learning (marks_of middle.state) v.turn))
-IsSeen faults need (Err fault) found middle v w = FailsFor faults need fault found middle v.numbers w.numbers
+IsSeen need (Err fault) found middle v w = FailsFor need fault found middle v.numbers w.numbers
     × (w.turn ≡ v.turn)
 
 abbrev pub knowing : ℕ → Turn → Turn
 knowing changes v = record v { known = record v.known { changes = changes } }
 
 -- by the answer, what became of the book and of the numbers
-abbrev pub IsCommanded : {O : Type 0} → (O → ℕ) → ℕ → List ℕ → Result (Reply × ℕ) BookFault → BookView O → BookView O
-    → Numbers → Numbers → Type 0
-IsCommanded {O} faults index pdu (Ok answer) found given v w =
-    (need : Need) × (seen : Seen) × (middle : BookView O) × IsNeedOf found.state pdu need
-    × Satisfies faults need seen found middle v w
-    × Handles faults index pdu seen middle given answer.0 answer.1
-IsCommanded {O} faults index pdu (Err fault) found given v w =
+abbrev pub IsCommanded : ℕ → List ℕ → Result (Reply × ℕ) BookFault → BookView → BookView → Numbers → Numbers → Type 0
+IsCommanded index pdu (Ok answer) found given v w =
+    (need : Need) × (seen : Seen) × (middle : BookView) × IsNeedOf found.state pdu need
+    × Satisfies need seen found middle v w
+    × Handles index pdu seen middle given answer.0 answer.1
+IsCommanded index pdu (Err fault) found given v w =
     ((fault ≡ refusals.NoMemory) × (given ≡ found) × (w ≡ v))
-    ⊎ ((need : Need) × IsNeedOf found.state pdu need × (FailsFor faults need fault found given v w
-    ⊎ ((seen : Seen) × (middle : BookView O) × Satisfies faults need seen found middle v w
-    × RefusesMessage faults index pdu seen middle given fault)))
+    ⊎ ((need : Need) × IsNeedOf found.state pdu need × (FailsFor need fault found given v w
+    ⊎ ((seen : Seen) × (middle : BookView) × Satisfies need seen found middle v w
+    × RefusesMessage index pdu seen middle given fault)))

@@ -1,5 +1,5 @@
 -- How a book goes on while a worker holds it (profile).
-use Rattle.std.specs.Prelude.{ℕ, ◌+◌, ◌≤◌}
+use Rattle.std.specs.Prelude.{◌+◌, ◌≤◌}
 use Rattle.counter_table.specs.Known.{pieces}
 use Rattle.unit_book.specs.Marks.{KeepsMarks}
 use Rattle.unit_book.specs.GoesOn.{GoesOn, IsCalm}
@@ -7,9 +7,9 @@ use Rattle.unit_book.specs.Book.{BookView}
 
 -- The book goes on, and no mark fell. No more puts failed than pieces were put, and no fault came where none did and all
 -- entries stand.
-pub record GoesUp {O : Type 0} (faults puts : O → ℕ) (old new : BookView O) : Type 0 where
-  pub goes : GoesOn faults old new
+pub record GoesUp (old new : BookView) : Type 0 where
+  pub goes : GoesOn old new
   pub marks : KeepsMarks old.state new.state
-  pub puts_later : puts old.site ≤ puts new.site
-  pub sparing : puts new.site + pieces old.log ≤ puts old.site + pieces new.log
-  pub calm : puts new.site ≤ puts old.site → IsCalm faults old new
+  pub puts_later : old.site.put_faults ≤ new.site.put_faults
+  pub sparing : new.site.put_faults + pieces old.log ≤ old.site.put_faults + pieces new.log
+  pub calm : new.site.put_faults ≤ old.site.put_faults → IsCalm old new

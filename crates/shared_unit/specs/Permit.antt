@@ -54,7 +54,7 @@ IfPermit replies.Clear P = ⊤
 IfPermit (replies.Refused fault epoch) P = ⊤
 
 -- the answer of `permit`, by the checks in the state of the book
-abbrev pub Permits : {O : Type 0} → ℕ → List ℕ → PermitReply → BookView O → Type 0
+abbrev pub Permits : ℕ → List ℕ → PermitReply → BookView → Type 0
 Permits link clear (replies.Permit permit) book =
     (permit.link ≡ link) × (channel_check book.plan link clear ≡ Ok (Some permit.channel))
     × (permit.epoch ≡ book.changes)

@@ -1,7 +1,6 @@
 -- What `protect` does, by its answer (CCSDS 355.0-B-2, ApplySecurity; permits profile).
 use Rattle.std.specs.Prelude.{◌≡◌, ◌⊎◌, ⊤, ℕ, ◌+◌, ◌<◌, ◌≤◌, Bool, List, Option, Some, None, Result, Ok, Err}
 use Rattle.sdls_base.specs.KeyId.{end_of}
-use Rattle.sdls_outside.specs.Moments.{Trace}
 use Rattle.unit_plan.specs.PlanLines.{PlanLines}
 use Rattle.unit_state.specs.History.{epoch_after}
 use Rattle.frame_shield.specs.declared.protecting_frames.ShieldFault.{ShieldFault}
@@ -86,25 +85,25 @@ pub record Looks (v w : Turn) : Type 0 where
   pub is : w ≡ seeing epoch v
 
 -- the book was given back as it was found
-abbrev pub Rests : {O : Type 0} → BookView O → BookView O → Type 0
+abbrev pub Rests : BookView → BookView → Type 0
 Rests found given = given ≡ found
 
 -- a number of the key was reserved, or its mark was above it already
-abbrev pub Funds : {O : Type 0} → (O → ℕ) → ℕ → ℕ → BookView O → BookView O → Type 0
-Funds faults key n found given = (mark : ℕ) × Reserves faults key n (Ok mark) found given
+abbrev pub Funds : ℕ → ℕ → BookView → BookView → Type 0
+Funds key n found given = (mark : ℕ) × Reserves key n (Ok mark) found given
 
-module _ {O : Type 0} (told : Bool) (trace : O → Trace) (faults puts : O → ℕ) where
+module _ (told : Bool) where
   -- The epoch was loaded, at most, and then the turn was taken once: with this done to the book.
-  pub record TakesTurn (done : BookView O → BookView O → Type 0) (v w : Turn) : Type 0 where
+  pub record TakesTurn (done : BookView → BookView → Type 0) (v w : Turn) : Type 0 where
     pub epoch : ℕ
     pub later : epoch_seen v ≤ epoch_seen (seeing epoch v)
-    pub found : BookView O
-    pub given : BookView O
-    pub visits : Visits told trace faults puts found given (seeing epoch v) w
+    pub found : BookView
+    pub given : BookView
+    pub visits : Visits told found given (seeing epoch v) w
     pub does : done found given
 
   -- the turn was taken once at most, with this done to the book
-  abbrev pub MayTakeTurn : (BookView O → BookView O → Type 0) → Turn → Turn → Type 0
+  abbrev pub MayTakeTurn : (BookView → BookView → Type 0) → Turn → Turn → Type 0
   MayTakeTurn done v w = Looks v w ⊎ TakesTurn done v w
 
   -- The epoch was loaded, at most; or it was, and then the turn was taken once, and the book found is above each number
@@ -112,7 +111,7 @@ module _ {O : Type 0} (told : Bool) (trace : O → Trace) (faults puts : O → �
   abbrev pub CoversIfTaken : View → View → Type 0
   CoversIfTaken v w = Looks v.turn w.turn
       ⊎ ((epoch : ℕ) × (epoch_seen v.turn ≤ epoch_seen (seeing epoch v.turn))
-      × FindsCovered told trace faults puts (record v { turn = seeing epoch v.turn }) w)
+      × FindsCovered told (record v { turn = seeing epoch v.turn }) w)
 
   -- the turn was taken once, and the book found had counted so many changes
   abbrev pub FindsEpoch : Turn → Turn → ℕ → Type 0
@@ -123,9 +122,9 @@ module _ {O : Type 0} (told : Bool) (trace : O → Trace) (faults puts : O → �
   IsEpochOf v w epoch = (w.epoch ≡ epoch) ⊎ FindsEpoch v w epoch
 
   -- one reserve was stored, or refused, or there was none
-  abbrev pub AddsReserve : ℕ → BookView O → BookView O → Type 0
+  abbrev pub AddsReserve : ℕ → BookView → BookView → Type 0
   AddsReserve key found given = (given ≡ found) ⊎
-      ((n : ℕ) × (result : Result ℕ BookFault) × Reserves faults key n result found given)
+      ((n : ℕ) × (result : Result ℕ BookFault) × Reserves key n result found given)
 
   -- the epoch was loaded, and the turn was taken at most once, for at most one reserve
   abbrev pub TakesAtMostOnce : Turn → Turn → Type 0
@@ -138,13 +137,13 @@ module _ {O : Type 0} (told : Bool) (trace : O → Trace) (faults puts : O → �
       × ((n : ℕ) × (n < end_of p.binding.key)
       × (Draws p.row (end_of p.binding.key) n v.numbers w.numbers
       ⊎ ComesBack p.row (end_of p.binding.key) n v.numbers w.numbers)
-      × TakesTurn (Reserves faults p.binding.key n (Err fault)) v.turn w.turn)
+      × TakesTurn (Reserves p.binding.key n (Err fault)) v.turn w.turn)
 
   -- What was done under a permit, by the answer. The turn is taken for a reserve of the number that was drawn here, or
   -- the book is given back as it was found.
   abbrev pub IsUnder : Permit → List ℕ → List ℕ → Protected → View → View → Type 0
   IsUnder p clear out (answers.Done d) v w = IsDrawnAndProtected p clear out d v w
-      × MayTakeTurn (Funds faults p.binding.key d.number) v.turn w.turn
+      × MayTakeTurn (Funds p.binding.key d.number) v.turn w.turn
   IsUnder p clear out answers.Clear v w = ⊥
   IsUnder p clear out (answers.Refused fault epoch) v w =
       LacksLayout p.binding clear fault × (epoch ≡ p.epoch) × (w.numbers ≡ v.numbers) × (epoch_seen v.turn ≤ epoch)

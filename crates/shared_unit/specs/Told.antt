@@ -1,6 +1,5 @@
 -- What a book tells the counters, and what can be read of it (profile).
 use Rattle.std.specs.Prelude.{ℕ, length}
-use Rattle.sdls_outside.specs.Moments.{Trace}
 use Rattle.unit_state.specs.declared.state.State.{State}
 use Rattle.unit_state.specs.History.{at_epoch}
 use Rattle.counter_table.specs.declared.view.Known.{Known}
@@ -8,21 +7,21 @@ use Rattle.unit_book.specs.Book.{BookView}
 use Rattle.run_promise.specs.Numbers.{marks_of}
 use Rattle.run_promise.specs.Log.{entries_of}
 
-abbrev pub known_of_book : {O : Type 0} → (O → Trace) → (O → ℕ) → (O → ℕ) → BookView O → Known
-known_of_book trace faults puts book = record {
+abbrev pub known_of_book : BookView → Known
+known_of_book book = record {
   marks = marks_of book.state;
   log = book.log;
   changes = book.changes;
-  faults = faults book.site;
+  faults = book.site.faults;
   standing = book.standing;
-  put_faults = puts book.site;
+  put_faults = book.site.put_faults;
   opening = record {
     image = book.image;
     plan = book.plan;
     start = book.start;
-    trail = trace book.opened;
+    trail = book.opened.trace;
     faults =
-        faults book.opened;
+        book.opened.faults;
   };
 }
 

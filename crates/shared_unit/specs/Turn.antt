@@ -1,7 +1,6 @@
 -- What a call that takes the turn once makes of what the worker knows of the book (profile).
 use Rattle.std.specs.Prelude.{◌≡◌, ℕ, ◌+◌, ◌-◌, ◌≤◌, Bool, true, false, ◌++◌, length}
 use Rattle.sdls_base.specs.declared.TheConstants.{MOST_KEYS}
-use Rattle.sdls_outside.specs.Moments.{Trace}
 use Rattle.unit_plan.specs.PlanLines.{PlanLines}
 use Rattle.counter_table.specs.declared.view.Known.{Known}
 use Rattle.counter_table.specs.declared.view.Turn.{Turn}
@@ -40,18 +39,17 @@ pub record TakesOnce (found given : Known) (v w : Turn) : Type 0 where
   pub turn : w ≡ taking_once found given v
 
 -- the same of two kept books
-pub record Visits {O : Type 0} (told : Bool) (trace : O → Trace) (faults puts : O → ℕ) (found given : BookView O)
-    (v w : Turn) : Type 0 where
-  pub found_kept : IsKept told trace faults found
-  pub given_kept : IsKept told trace faults given
-  pub takes : TakesOnce (known_of_book trace faults puts found) (known_of_book trace faults puts given) v w
+pub record Visits (told : Bool) (found given : BookView) (v w : Turn) : Type 0 where
+  pub found_kept : IsKept told found
+  pub given_kept : IsKept told given
+  pub takes : TakesOnce (known_of_book found) (known_of_book given) v w
 
 -- The book that a call found under the turn is above each number that the worker had spent: it is below its row's mark.
-pub record FindsCovered {O : Type 0} (told : Bool) (trace : O → Trace) (faults puts : O → ℕ) (v w : View) : Type 0 where
-  pub found : BookView O
-  pub given : BookView O
-  pub visits : Visits told trace faults puts found given v.turn w.turn
-  pub covered : IsCovered MOST_KEYS v.numbers (known_of_book trace faults puts found)
+pub record FindsCovered (told : Bool) (v w : View) : Type 0 where
+  pub found : BookView
+  pub given : BookView
+  pub visits : Visits told found given v.turn w.turn
+  pub covered : IsCovered MOST_KEYS v.numbers (known_of_book found)
 
 -- what a worker knows of the book only grows
 pub record KnowsMoreOfBook (v w : Turn) : Type 0 where

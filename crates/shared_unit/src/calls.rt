@@ -23,9 +23,9 @@ impl<O: Site> Unit<O> {
         requires ready { IsReady self.now.counters self.now.plan worker.old }
         ensures ready { IsReady self.now.counters self.now.plan worker.new }
         ensures numbers { KeepsNumbers worker.old worker.new }
-        ensures counted { (found : BookView O) × Visits O.told O.trace O.faults O.put_faults found found
+        ensures counted { (found : BookView) × Visits O.told found found
             (view worker.old).turn (view worker.new).turn
-            × (result ≡ entry_count (known_of_book O.trace O.faults O.put_faults found)) }
+            × (result ≡ entry_count (known_of_book found)) }
     {
         let held = self.counters.take(rt, worker);
         let count = held.book.count();
@@ -46,12 +46,12 @@ impl<O: Site> Unit<O> {
 
         // No number was spent by the worker that is not below its row's mark in the book that the call found, and who
         // has all shares found the book as it was known.
-        ensures put { (found given : BookView O) × Visits O.told O.trace O.faults O.put_faults found given
+        ensures put { (found given : BookView) × Visits O.told found given
             (view worker.old).turn (view worker.new).turn
-            × IsPut O.told O.trace O.faults O.put_faults octets.now result found given
-            × IsCovered MOST_KEYS (view worker.old).numbers (known_of_book O.trace O.faults O.put_faults found)
+            × IsPut O.told octets.now result found given
+            × IsCovered MOST_KEYS (view worker.old).numbers (known_of_book found)
             × ((view worker.old).numbers.shares ≡ ALL_SHARES
-            → IsAsKnown (view worker.old).turn (known_of_book O.trace O.faults O.put_faults found)) }
+            → IsAsKnown (view worker.old).turn (known_of_book found)) }
     {
         let mut held = self.counters.take(rt, worker);
         let result = held.book.put(octets);
@@ -74,15 +74,15 @@ impl<O: Site> Unit<O> {
         requires ready { IsReady self.now.counters self.now.plan worker.old }
         ensures ready { IsReady self.now.counters self.now.plan worker.new }
         ensures numbers { KeepsNumbers worker.old worker.new }
-        ensures opened { (found given : BookView O) × Visits O.told O.trace O.faults O.put_faults found given
+        ensures opened { (found given : BookView) × Visits O.told found given
             (view worker.old).turn (view worker.new).turn
-            × WithPosition result (known_of_book O.trace O.faults O.put_faults given) (λ answer. MatchResult answer
-            (λ told. OpensWithEntry O.faults index link frame.old (field_in told.0 frame.new) found given told.0 told.1
+            × WithPosition result (known_of_book given) (λ answer. MatchResult answer
+            (λ told. OpensWithEntry index link frame.old (field_in told.0 frame.new) found given told.0 told.1
             × LeavesOctets told.0 frame.old frame.new)
-            (RefusesFrame O.faults index link frame.old found given)) }
+            (RefusesFrame index link frame.old found given)) }
 
         // No number was spent by the worker that is not below its row's mark in the book that the call found.
-        ensures covered { FindsCovered O.told O.trace O.faults O.put_faults (view worker.old) (view worker.new) }
+        ensures covered { FindsCovered O.told (view worker.old) (view worker.new) }
     {
         let mut held = self.counters.take(rt, worker);
         let result = held.book.accept(index, link, frame);

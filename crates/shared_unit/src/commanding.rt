@@ -48,13 +48,13 @@ impl<O: Site> Unit<O> {
         requires turn { (view worker.old).turn.holds ≡ true }
         requires filled { (view worker.old).turn.filled ≡ true }
         requires marks { LowersNoMark (view worker.old).turn.known
-            (known_of_book O.trace O.faults O.put_faults held.old.book) }
+            (known_of_book held.old.book) }
         requires key { (row : ℕ) × (place_of held.old.book.state.keys key ≡ Some row) }
-        requires kept { IsKept O.told O.trace O.faults held.old.book }
+        requires kept { IsKept O.told held.old.book }
         ensures same { IsSame worker.old worker.new }
-        ensures kept { IsKept O.told O.trace O.faults held.new.book }
-        ensures goes_on { GoesUp O.faults O.put_faults held.old.book held.new.book }
-        ensures seen { IsSeen O.faults (needs.Number key) result held.old.book held.new.book (view worker.old)
+        ensures kept { IsKept O.told held.new.book }
+        ensures goes_on { GoesUp held.old.book held.new.book }
+        ensures seen { IsSeen (needs.Number key) result held.old.book held.new.book (view worker.old)
             (view worker.new) }
     {
         let row = self.row_in(held, key);
@@ -77,13 +77,13 @@ impl<O: Site> Unit<O> {
         requires turn { (view worker.old).turn.holds ≡ true }
         requires filled { (view worker.old).turn.filled ≡ true }
         requires marks { LowersNoMark (view worker.old).turn.known
-            (known_of_book O.trace O.faults O.put_faults held.old.book) }
+            (known_of_book held.old.book) }
         requires names { NamesKey held.old.book.state need }
-        requires kept { IsKept O.told O.trace O.faults held.old.book }
+        requires kept { IsKept O.told held.old.book }
         ensures same { IsSame worker.old worker.new }
-        ensures kept { IsKept O.told O.trace O.faults held.new.book }
-        ensures goes_on { GoesUp O.faults O.put_faults held.old.book held.new.book }
-        ensures seen { IsSeen O.faults need result held.old.book held.new.book (view worker.old) (view worker.new) }
+        ensures kept { IsKept O.told held.new.book }
+        ensures goes_on { GoesUp held.old.book held.new.book }
+        ensures seen { IsSeen need result held.old.book held.new.book (view worker.old) (view worker.new) }
     {
         match need {
             Need::Nothing => Ok(Seen::Nothing),
@@ -125,14 +125,14 @@ impl<O: Site> Unit<O> {
         requires own { IsOf self.now.counters worker.old }
         requires turn { (view worker.old).turn.holds ≡ true }
         requires filled { (view worker.old).turn.filled ≡ true }
-        requires known { (view worker.old).turn.known ≡ known_of_book O.trace O.faults O.put_faults held.old.book }
+        requires known { (view worker.old).turn.known ≡ known_of_book held.old.book }
         ensures same { IsSame worker.old worker.new }
-        ensures was_kept { IsKept O.told O.trace O.faults held.old.book }
-        ensures kept { IsKept O.told O.trace O.faults held.new.book }
-        ensures goes_on { GoesUp O.faults O.put_faults held.old.book held.new.book }
-        ensures holds { KnowsHeld (known_of_book O.trace O.faults O.put_faults held.new.book) (view worker.old).turn
+        ensures was_kept { IsKept O.told held.old.book }
+        ensures kept { IsKept O.told held.new.book }
+        ensures goes_on { GoesUp held.old.book held.new.book }
+        ensures holds { KnowsHeld (known_of_book held.new.book) (view worker.old).turn
             (view worker.new).turn }
-        ensures step { IsCommanded O.faults index pdu.now result held.old.book held.new.book (view worker.old).numbers
+        ensures step { IsCommanded index pdu.now result held.old.book held.new.book (view worker.old).numbers
             (view worker.new).numbers }
     {
         let Ok(need) = held.book.need(pdu) else {
@@ -163,14 +163,14 @@ impl<O: Site> Unit<O> {
         ensures ready { IsReady self.now.counters self.now.plan worker.new }
         ensures same { IsSame worker.old worker.new }
         ensures shares { (view worker.new).numbers.shares ≡ (view worker.old).numbers.shares }
-        ensures commanded { (found given : BookView O)
-            × Visits O.told O.trace O.faults O.put_faults found given (view worker.old).turn (view worker.new).turn
-            × WithPosition result (known_of_book O.trace O.faults O.put_faults given)
-            (λ answer. IsCommanded O.faults index pdu.now answer found given (view worker.old).numbers
+        ensures commanded { (found given : BookView)
+            × Visits O.told found given (view worker.old).turn (view worker.new).turn
+            × WithPosition result (known_of_book given)
+            (λ answer. IsCommanded index pdu.now answer found given (view worker.old).numbers
             (view worker.new).numbers) }
 
         // No number was spent by the worker that is not below its row's mark in the book that the call found.
-        ensures covered { FindsCovered O.told O.trace O.faults O.put_faults (view worker.old) (view worker.new) }
+        ensures covered { FindsCovered O.told (view worker.old) (view worker.new) }
     {
         let mut held = self.counters.take(rt, worker);
         let result = self.do_command(worker, &mut held, index, pdu);

@@ -38,15 +38,15 @@ impl<O: Site> Unit<O> {
         requires turn { (view worker.old).turn.holds ≡ true }
         requires filled { (view worker.old).turn.filled ≡ true }
         requires marks { LowersNoMark (view worker.old).turn.known
-            (known_of_book O.trace O.faults O.put_faults held.old.book) }
+            (known_of_book held.old.book) }
         requires row { row < MOST_KEYS }
         requires place { place_of held.old.book.state.keys key ≡ Some row }
         requires ticket { (ticket.0 ≡ row) × (ticket.1 < end_of key) × ((view worker.old).numbers.last ≡ Some ticket) }
         ensures same { IsSame worker.old worker.new }
-        ensures was_kept { IsKept O.told O.trace O.faults held.old.book }
-        ensures kept { IsKept O.told O.trace O.faults held.new.book }
-        ensures goes_on { GoesUp O.faults O.put_faults held.old.book held.new.book }
-        ensures funded { IsFunded O.faults key row ticket.1 result held.old.book held.new.book (view worker.old)
+        ensures was_kept { IsKept O.told held.old.book }
+        ensures kept { IsKept O.told held.new.book }
+        ensures goes_on { GoesUp held.old.book held.new.book }
+        ensures funded { IsFunded key row ticket.1 result held.old.book held.new.book (view worker.old)
             (view worker.new) }
     {
         let number = ticket.number();
@@ -78,12 +78,12 @@ impl<O: Site> Unit<O> {
         requires room { length out.old ≡ FRAME_ROOM }
         ensures ready { IsReady self.now.counters self.now.plan worker.new }
         ensures same { IsSame worker.old worker.new }
-        ensures step { IsFundStep O.told O.trace O.faults O.put_faults permit.now ticket.1 clear.now out.new result
+        ensures step { IsFundStep O.told permit.now ticket.1 clear.now out.new result
             (view worker.old) (view worker.new) }
         ensures leaves { OnErr result (out.new ≡ out.old) }
 
         // No number was spent by the worker that is not below its row's mark in the book that the call found.
-        ensures covered { FindsCovered O.told O.trace O.faults O.put_faults (view worker.old) (view worker.new) }
+        ensures covered { FindsCovered O.told (view worker.old) (view worker.new) }
     {
         let mut held = self.counters.take(rt, worker);
         held.book.look();

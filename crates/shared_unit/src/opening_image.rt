@@ -1,11 +1,12 @@
 //! The beginning of a unit.
 ghost use Rattle.std.specs.Prelude.{◌≡◌, ◌<◌, ◌≤◌, ◌^◌, ℕ, IsTrue, true, [], IfOk, IfErr, MatchResult};
 ghost use Rattle.sdls_outside.specs.Moments.{EachMoment};
-ghost use Rattle.disk_journal.specs.Changes.{OnlySyncs};
+ghost use Rattle.unit_image.specs.Image.{OnlySyncs};
 ghost use Rattle.unit_image.specs.OpeningImage.{IsOpenCause, Opening};
 ghost use Rattle.unit_image.specs.Shows.{ShowsNone};
 ghost use Rattle.counter_table.specs.Known.{known_mark};
 ghost use Rattle.counter_table.specs.Worker.{view, IsOf};
+ghost use Rattle.run_promise.specs.Site.{site_seen};
 ghost use Rattle.unit_book.specs.Book.{BookView, IsKept};
 ghost use Rattle.shared_unit.specs.Sharing.{Begins, BookIsOpened, IsRaised};
 ghost use Rattle.shared_unit.specs.Told.{known_of_book};
@@ -25,7 +26,7 @@ const ROWS: u16 = MOST_KEYS as u16;
 
 // The site of a book that is not needed any more.
 fn site_of<O: Site>(book: Book<O>) -> O
-    ensures { result ≡ book.site }
+    ensures { book.site ≡ site_seen O.trace O.faults O.put_faults result }
 {
     let (site, _entries) = book.into_site();
     site
@@ -37,11 +38,11 @@ impl<O: Site> Unit<O> {
         requires own { IsOf self.now.counters worker.old }
         requires turn { (view worker.old).turn.holds ≡ true }
         requires filled { (view worker.old).turn.filled ≡ true }
-        requires known { (view worker.old).turn.known ≡ known_of_book O.trace O.faults O.put_faults held.now.book }
-        requires marks { (row : ℕ) → known_mark (known_of_book O.trace O.faults O.put_faults held.now.book) row
+        requires known { (view worker.old).turn.known ≡ known_of_book held.now.book }
+        requires marks { (row : ℕ) → known_mark (known_of_book held.now.book) row
             ≤ 2 ^ 48 }
         ensures own { IsOf self.now.counters worker.new }
-        ensures raised { IsRaised (known_of_book O.trace O.faults O.put_faults held.now.book) MOST_KEYS
+        ensures raised { IsRaised (known_of_book held.now.book) MOST_KEYS
             (view worker.old) (view worker.new) }
     {
         for row in 0..ROWS {
@@ -53,11 +54,11 @@ impl<O: Site> Unit<O> {
 
     // A unit over a book that was opened, with all words at its marks. Where memory is wanting the site comes back.
     fn share_book<R: Wait>(rt: &R, alloc: Global, book: Book<O>) -> Result<(Unit<O>, Worker<O>), O>
-        requires kept { IsKept O.told O.trace O.faults book }
+        requires kept { IsKept O.told book }
         requires first { book.log ≡ [] }
-        ensures made { IfOk result (λ made. Begins O.trace O.faults O.put_faults book made.0.counters made.0.plan
+        ensures made { IfOk result (λ made. Begins book made.0.counters made.0.plan
             made.1) }
-        ensures refused { IfErr result (λ site. site ≡ book.site) }
+        ensures refused { IfErr result (λ site. book.site ≡ site_seen O.trace O.faults O.put_faults site) }
     {
         let plan = match book.plan().copy() {
             Ok(plan) => plan,
@@ -87,9 +88,9 @@ impl<O: Site> Unit<O> {
         alloc: Global,
         site: O,
     ) -> Result<(Unit<O>, Worker<O>), (OpenFault, O)>
-        ensures opened { IfOk result (λ made. (book : BookView O)
-            × BookIsOpened O.told O.trace O.faults O.put_faults site book
-            × Begins O.trace O.faults O.put_faults book made.0.counters made.0.plan made.1) }
+        ensures opened { IfOk result (λ made. (book : BookView)
+            × BookIsOpened O.told (site_seen O.trace O.faults O.put_faults site) book
+            × Begins book made.0.counters made.0.plan made.1) }
 
         // Only an image that shows no state is refused as one, and nothing is written then.
         ensures refused { IfErr result (λ refused. IsOpenCause (O.faults site) (O.faults refused.1)

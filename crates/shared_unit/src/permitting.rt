@@ -28,7 +28,7 @@ pub(crate) fn permit_in<O: Site>(
     clear: &[u8],
 ) -> PermitReply
     requires { plan.now ≡ shelf.now.plan }
-    ensures kept { IsKept O.told O.trace O.faults shelf.now }
+    ensures kept { IsKept O.told shelf.now }
     ensures permits { Permits link clear.now result shelf.now }
 {
     let epoch = shelf.changes();
@@ -66,7 +66,7 @@ impl<O: Site> Unit<O> {
         requires ready { IsReady self.now.counters self.now.plan worker.old }
         ensures ready { IsReady self.now.counters self.now.plan worker.new }
         ensures numbers { KeepsNumbers worker.old worker.new }
-        ensures permitted { (found : BookView O) × Visits O.told O.trace O.faults O.put_faults found found
+        ensures permitted { (found : BookView) × Visits O.told found found
             (view worker.old).turn (view worker.new).turn
             × Permits link clear.now result found }
         ensures trusted { IfPermit result (λ permit. IsTrueFor permit (view worker.new).turn

@@ -35,11 +35,11 @@ impl<O: Site> Unit<O> {
         requires room { length out.old ≡ FRAME_ROOM }
         ensures ready { IsReady self.now.counters self.now.plan worker.new }
         ensures same { IsSame worker.old worker.new }
-        ensures turn { TakesAtMostOnce O.told O.trace O.faults O.put_faults (view worker.old).turn
+        ensures turn { TakesAtMostOnce O.told (view worker.old).turn
             (view worker.new).turn }
-        ensures covered { CoversIfTaken O.told O.trace O.faults O.put_faults (view worker.old) (view worker.new) }
+        ensures covered { CoversIfTaken O.told (view worker.old) (view worker.new) }
         ensures epoch { IfSome result (λ answer. IfEpoch answer (λ epoch. (view worker.new).turn.epoch ≡ epoch)) }
-        ensures step { IsKeptStep O.told O.trace O.faults O.put_faults permit.now clear.now out.new result
+        ensures step { IsKeptStep O.told permit.now clear.now out.new result
             (view worker.old) (view worker.new) }
         ensures leaves { LeavesUnanswered result out.old out.new }
     {
@@ -81,11 +81,11 @@ impl<O: Site> Unit<O> {
         requires room { length out.old ≡ FRAME_ROOM }
         ensures ready { IsReady self.now.counters self.now.plan worker.new }
         ensures same { IsSame worker.old worker.new }
-        ensures turn { TakesAtMostOnce O.told O.trace O.faults O.put_faults (view worker.old).turn
+        ensures turn { TakesAtMostOnce O.told (view worker.old).turn
             (view worker.new).turn }
-        ensures covered { CoversIfTaken O.told O.trace O.faults O.put_faults (view worker.old) (view worker.new) }
+        ensures covered { CoversIfTaken O.told (view worker.old) (view worker.new) }
         ensures epoch { IfSome result (λ answer. IfEpoch answer (λ epoch. (view worker.new).turn.epoch ≡ epoch)) }
-        ensures step { IsByKept O.told O.trace O.faults O.put_faults self.now.plan kept.now link clear.now out.new
+        ensures step { IsByKept O.told self.now.plan kept.now link clear.now out.new
             result (view worker.old) (view worker.new) }
         ensures leaves { LeavesUnanswered result out.old out.new }
     {
@@ -117,14 +117,14 @@ impl<O: Site> Unit<O> {
         requires room { length out.old ≡ FRAME_ROOM }
         ensures ready { IsReady self.now.counters self.now.plan worker.new }
         ensures same { IsSame worker.old worker.new }
-        ensures turn { TakesAtMostOnce O.told O.trace O.faults O.put_faults (view worker.old).turn
+        ensures turn { TakesAtMostOnce O.told (view worker.old).turn
             (view worker.new).turn }
-        ensures covered { FindsCovered O.told O.trace O.faults O.put_faults (view worker.old) (view worker.new) }
+        ensures covered { FindsCovered O.told (view worker.old) (view worker.new) }
         ensures kept { IsTrueIfKept kept.new (view worker.new).turn }
-        ensures step { IsProtectStep O.told O.trace O.faults O.put_faults self.now.plan link clear.now out.new kept.new
+        ensures step { IsProtectStep O.told self.now.plan link clear.now out.new kept.new
             result (view worker.old) (view worker.new) }
         ensures leaves { LeavesUnprotected result out.old out.new }
-        ensures epochs { IfEpoch result (FindsEpoch O.told O.trace O.faults O.put_faults (view worker.old).turn
+        ensures epochs { IfEpoch result (FindsEpoch O.told (view worker.old).turn
             (view worker.new).turn) }
         ensures later { (d : Done) → result ≡ Protected.Done d → epoch_seen (view worker.old).turn ≤ d.epoch }
         ensures epoch { (view worker.new).turn.epoch ≡ (view worker.old).turn.epoch }
@@ -163,21 +163,21 @@ impl<O: Site> Unit<O> {
         ensures ready { IsReady self.now.counters self.now.plan worker.new }
         ensures same { IsSame worker.old worker.new }
         ensures shares { (view worker.new).numbers.shares ≡ (view worker.old).numbers.shares }
-        ensures turn { TakesAtMostOnce O.told O.trace O.faults O.put_faults (view worker.old).turn
+        ensures turn { TakesAtMostOnce O.told (view worker.old).turn
             (view worker.new).turn }
         ensures kept { IsTrueIfKept kept.new (view worker.new).turn }
-        ensures step { IsProtectStep O.told O.trace O.faults O.put_faults self.now.plan link clear.now out.new kept.new
+        ensures step { IsProtectStep O.told self.now.plan link clear.now out.new kept.new
             result (view worker.old) (view worker.new) }
         ensures leaves { LeavesUnprotected result out.old out.new }
 
         // No number was spent by the worker that is not below its row's mark in the book that the call found, if it
         // took the turn.
-        ensures covered { CoversIfTaken O.told O.trace O.faults O.put_faults (view worker.old) (view worker.new) }
+        ensures covered { CoversIfTaken O.told (view worker.old) (view worker.new) }
 
         // The epoch beside an answer is the one loaded last, or that of the book held; where the plan is enough there
         // is none.
         ensures epochs { (channel : ℕ) → channel_check self.now.plan link clear.now ≡ Ok (Some channel)
-            → IfEpoch result (IsEpochOf O.told O.trace O.faults O.put_faults (view worker.old).turn
+            → IfEpoch result (IsEpochOf O.told (view worker.old).turn
             (view worker.new).turn) }
 
         // With the kept permit, where its epoch was the one loaded last, the turn is taken for a ticket that came back

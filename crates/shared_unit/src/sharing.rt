@@ -64,8 +64,8 @@ impl<O: Site> Unit<O> {
     pub fn close(self, worker: Worker<O>) -> (Book<O>, Vec<u64>)
         requires ready { IsReady self.counters self.plan worker }
         requires all { (view worker).numbers.shares ≡ ALL_SHARES }
-        ensures kept { IsKept O.told O.trace O.faults result.0 }
-        ensures closes { ClosesCounters MOST_KEYS (view worker) (known_of_book O.trace O.faults O.put_faults result.0)
+        ensures kept { IsKept O.told result.0 }
+        ensures closes { ClosesCounters MOST_KEYS (view worker) (known_of_book result.0)
             result.1.items }
     {
         let counters = self.into_counters();

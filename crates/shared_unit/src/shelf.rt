@@ -34,15 +34,15 @@ pub struct Shelf<O: Site> {
 impl<O: Site> Model for Shelf<O> {
     ghost use Rattle.unit_book.specs.Book.{BookView, IsKept};
 
-    ghost Value = { BookView O };
+    ghost Value = { BookView };
 
     ghost view = { λ shelf. shelf.book };
 
-    ghost invariant = { λ shelf. IsKept O.told O.trace O.faults shelf.book };
+    ghost invariant = { λ shelf. IsKept O.told shelf.book };
 }
 
 impl<O: Site> Counted for Shelf<O> {
-    ghost told = { λ shelf. known_of_book O.trace O.faults O.put_faults shelf };
+    ghost told = { λ shelf. known_of_book shelf };
 
     fn mark(&self, row: u16) -> u64 {
         let row = usize::from(row);
@@ -66,7 +66,7 @@ impl<O: Site + Drop> Drop for Shelf<O> {
 
 impl<O: Site> Shelf<O> {
     pub(crate) fn new(book: Book<O>) -> Shelf<O>
-        requires { IsKept O.told O.trace O.faults book }
+        requires { IsKept O.told book }
         ensures { result ≡ book }
     {
         Shelf { book }
@@ -74,7 +74,7 @@ impl<O: Site> Shelf<O> {
 
     pub(crate) fn into_book(self) -> Book<O>
         ensures same { result ≡ self }
-        ensures kept { IsKept O.told O.trace O.faults result }
+        ensures kept { IsKept O.told result }
     {
         let Shelf { book } = self;
         book
@@ -82,7 +82,7 @@ impl<O: Site> Shelf<O> {
 
     /// For contracts alone: the book is kept.
     pub(crate) fn look(&self)
-        ensures { IsKept O.told O.trace O.faults self.now }
+        ensures { IsKept O.told self.now }
     {
         let _book = &self.book;
     }
@@ -90,7 +90,7 @@ impl<O: Site> Shelf<O> {
     // How many entries the run has.
     pub(crate) fn count(&self) -> u64
         ensures count { result ≡ length (entries_of self.now.log) }
-        ensures kept { IsKept O.told O.trace O.faults self.now }
+        ensures kept { IsKept O.told self.now }
     {
         self.book.count()
     }
@@ -105,7 +105,7 @@ impl<O: Site> Shelf<O> {
         ensures checked { result ≡ protect_check self.now.plan self.now.state link clear.now }
         ensures clear { (result ≡ Ok None) ↔ IsSentClear self.now.plan link clear.now }
         ensures binding { IfOk result (λ found. IfSome found IsBinding) }
-        ensures kept { IsKept O.told O.trace O.faults self.now }
+        ensures kept { IsKept O.told self.now }
     {
         frame_checks::binding(self.book.plan(), self.book.state(), link, clear)
     }
@@ -113,10 +113,10 @@ impl<O: Site> Shelf<O> {
     pub(crate) fn reserve(&mut self, key: KeyId, number: u64) -> Result<u64, BookFault>
         requires there { IsSome (key_row self.old.state key) }
         requires below { number < end_of key }
-        ensures was_kept { IsKept O.told O.trace O.faults self.old }
-        ensures kept { IsKept O.told O.trace O.faults self.new }
-        ensures reserved { Reserves O.faults key number result self.old self.new }
-        ensures goes_on { GoesUp O.faults O.put_faults self.old self.new }
+        ensures was_kept { IsKept O.told self.old }
+        ensures kept { IsKept O.told self.new }
+        ensures reserved { Reserves key number result self.old self.new }
+        ensures goes_on { GoesUp self.old self.new }
     {
         self.book.reserve(key, number)
     }
@@ -127,14 +127,14 @@ impl<O: Site> Shelf<O> {
         link: u8,
         frame: &mut [u8],
     ) -> Result<(OpenReply, u64), BookFault>
-        ensures was_kept { IsKept O.told O.trace O.faults self.old }
-        ensures kept { IsKept O.told O.trace O.faults self.new }
+        ensures was_kept { IsKept O.told self.old }
+        ensures kept { IsKept O.told self.new }
         ensures made { MatchResult result
-            (λ answer. OpensWithEntry O.faults index link frame.old (field_in answer.0 frame.new) self.old self.new
+            (λ answer. OpensWithEntry index link frame.old (field_in answer.0 frame.new) self.old self.new
             answer.0 answer.1
             × LeavesOctets answer.0 frame.old frame.new)
-            (RefusesFrame O.faults index link frame.old self.old self.new) }
-        ensures goes_on { GoesUp O.faults O.put_faults self.old self.new }
+            (RefusesFrame index link frame.old self.old self.new) }
+        ensures goes_on { GoesUp self.old self.new }
         ensures changes { self.new.changes ≡ self.old.changes }
     {
         self.book.accept(index, link, frame)
@@ -142,7 +142,7 @@ impl<O: Site> Shelf<O> {
 
     pub(crate) fn need(&self, pdu: &[u8]) -> Result<Need, NoMemory>
         ensures need { IfOk result (IsNeedOf self.now.state pdu.now) }
-        ensures kept { IsKept O.told O.trace O.faults self.now }
+        ensures kept { IsKept O.told self.now }
     {
         self.book.need(pdu)
     }
@@ -154,21 +154,21 @@ impl<O: Site> Shelf<O> {
         seen: Seen,
     ) -> Result<(Reply, u64), BookFault>
         requires seen { (need : Need) → IsNeedOf self.old.state pdu.now need → MeetsNeed self.old.state need seen }
-        ensures was_kept { IsKept O.told O.trace O.faults self.old }
-        ensures kept { IsKept O.told O.trace O.faults self.new }
+        ensures was_kept { IsKept O.told self.old }
+        ensures kept { IsKept O.told self.new }
         ensures made { MatchResult result
-            (λ answer. Handles O.faults index pdu.now seen self.old self.new answer.0 answer.1)
-            (RefusesMessage O.faults index pdu.now seen self.old self.new) }
-        ensures goes_on { GoesUp O.faults O.put_faults self.old self.new }
+            (λ answer. Handles index pdu.now seen self.old self.new answer.0 answer.1)
+            (RefusesMessage index pdu.now seen self.old self.new) }
+        ensures goes_on { GoesUp self.old self.new }
     {
         self.book.command(index, pdu, seen)
     }
 
     pub(crate) fn put(&mut self, octets: &[u8]) -> Result<(), BookFault>
-        ensures was_kept { IsKept O.told O.trace O.faults self.old }
-        ensures kept { IsKept O.told O.trace O.faults self.new }
-        ensures put { IsPut O.told O.trace O.faults O.put_faults octets.now result self.old self.new }
-        ensures goes_on { GoesUp O.faults O.put_faults self.old self.new }
+        ensures was_kept { IsKept O.told self.old }
+        ensures kept { IsKept O.told self.new }
+        ensures put { IsPut O.told octets.now result self.old self.new }
+        ensures goes_on { GoesUp self.old self.new }
         ensures changes { self.new.changes ≡ self.old.changes }
     {
         self.book.put(octets)

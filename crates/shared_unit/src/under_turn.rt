@@ -6,6 +6,7 @@ ghost use Rattle.frame_shield.specs.Binding.{IsBinding};
 ghost use Rattle.frame_shield.specs.declared.protecting_frames.TheConstants.{FRAME_ROOM};
 ghost use Rattle.counter_table.specs.Known.{LowersNoMark};
 ghost use Rattle.counter_table.specs.Worker.{view, IsOf, IsSame};
+ghost use Rattle.unit_image.specs.Image.{Held};
 ghost use Rattle.unit_book.specs.Book.{IsKept};
 ghost use Rattle.shared_unit.specs.UnderTurn.{IsFinished};
 ghost use Rattle.shared_unit.specs.Going.{GoesUp};
@@ -33,16 +34,16 @@ impl<O: Site> Unit<O> {
         requires turn { (view worker.old).turn.holds ≡ true }
         requires filled { (view worker.old).turn.filled ≡ true }
         requires marks { LowersNoMark (view worker.old).turn.known
-            (known_of_book O.trace O.faults O.put_faults held.old.book) }
+            (known_of_book held.old.book) }
         requires place { place_of held.old.book.state.keys permit.now.binding.key ≡ Some permit.now.row }
         requires row { permit.now.row < MOST_KEYS }
         requires binding { IsBinding permit.now.binding }
-        requires kept { IsKept O.told O.trace O.faults held.old.book }
+        requires kept { IsKept O.told held.old.book }
         requires room { length out.old ≡ FRAME_ROOM }
         ensures same { IsSame worker.old worker.new }
-        ensures kept { IsKept O.told O.trace O.faults held.new.book }
-        ensures goes_on { GoesUp O.faults O.put_faults held.old.book held.new.book }
-        ensures step { IsFinished O.faults permit.now clear.now out.new result held.old.book held.new.book
+        ensures kept { IsKept O.told held.new.book }
+        ensures goes_on { GoesUp held.old.book held.new.book }
+        ensures step { IsFinished permit.now clear.now out.new result held.old.book held.new.book
             (view worker.old) (view worker.new) }
         ensures leaves { LeavesUnprotected result out.old out.new }
     {

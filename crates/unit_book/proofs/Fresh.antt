@@ -4,13 +4,15 @@ use Rattle.std.proofs.lemmas.List.{take_all}
 use Rattle.sdls_outside.specs.Disk.{Leaves}
 use Rattle.sdls_outside.specs.Moments.{Trace, Between}
 use Rattle.sdls_outside.proofs.Moments.{each_same, synced_leaves}
-use Rattle.disk_journal.specs.Journal.{JournalView, IsSettled}
+use Rattle.unit_image.specs.Image.{IsSettled, JournalView}
 use Rattle.unit_plan.specs.PlanLines.{PlanLines}
 use Rattle.unit_state.specs.declared.state.State.{State}
 use Rattle.unit_state.specs.State.{KeepsRules}
 use Rattle.unit_state.specs.Restart.{restarted}
 use Rattle.unit_image.specs.OpeningImage.{SameJournal}
 use Rattle.unit_image.specs.Shows.{Shows}
+use Rattle.unit_image.proofs.Stored.{settled_within}
+use Rattle.run_promise.specs.Site.{SiteSeen}
 use Rattle.unit_book.specs.Book.{ShowsFrom, Serves, IsHistory, IsKept, begun}
 use Rattle.unit_book.proofs.MarksKept.{marks_same}
 use Rattle.unit_book.proofs.Growing.{shows_from_all}
@@ -40,11 +42,11 @@ fresh_history now start journal settled shows =
       shows_now = shows_now;
     }
 
-pub fresh_kept : {O : Type 0} (told : Bool) (trace : O → Trace) (faults : O → ℕ) (site : O) (image : List ℕ) (plan : PlanLines) (start : State) (journal : JournalView)
-    → KeepsRules start → (IsTrue told → IsSettled (trace site) journal) → (IsTrue told → Shows (trace site).now.image (restarted start))
-    → (IsTrue told → SameJournal image (trace site).now.image journal)
-    → IsKept told trace faults (begun site image plan start journal)
-fresh_kept {O} told trace faults site image plan start journal rules settled shows same = record {
+pub fresh_kept : (told : Bool) (site : SiteSeen) (image : List ℕ) (plan : PlanLines) (start : State) (journal : JournalView)
+    → KeepsRules start → (IsTrue told → IsSettled site.trace journal) → (IsTrue told → Shows site.trace.now.image (restarted start))
+    → (IsTrue told → SameJournal image site.trace.now.image journal)
+    → IsKept told (begun site image plan start journal)
+fresh_kept told site image plan start journal rules settled shows same = record {
   later = omega arith;
   stands = omega arith;
   few_left = omega arith;
@@ -55,24 +57,25 @@ fresh_kept {O} told trace faults site image plan start journal rules settled sho
   room = omega arith;
   epoch = refl;
   whole = λ not. refl;
-  history = λ is_told. fresh_history (trace site) start journal (settled is_told) (shows is_told);
+  history = λ is_told. fresh_history site.trace start journal (settled is_told) (shows is_told);
   current = λ is_told not. record {
     settled = settled is_told;
     shows = shows is_told;
   };
   counted = λ is_told not. record {
+    within = settled_within site.trace journal (settled is_told);
     slots = (same is_told).slots;
     used = let count = (same is_told).used in omega arith;
   };
 }
 
 -- the same, as the fields of a new book show it
-pub fresh_shown : {O : Type 0} (told : Bool) (trace : O → Trace) (faults : O → ℕ) (site opened : O) (image : List ℕ) (plan : PlanLines) (state start : State) (journal : JournalView)
-    → opened ≡ site → start ≡ state → KeepsRules state → (IsTrue told → IsSettled (trace site) journal)
-    → (IsTrue told → Shows (trace site).now.image (restarted state))
-    → (IsTrue told → SameJournal image (trace site).now.image journal)
-    → IsKept told trace faults (record (begun site image plan state journal) { opened = opened; start = start })
-fresh_shown {O} told trace faults site opened image plan state start journal same_site same_state rules settled shows same =
-    subst (λ (o : O). IsKept told trace faults (record (begun site image plan state journal) { opened = o; start = start })) (sym same_site)
-    (subst (λ (s : State). IsKept told trace faults (record (begun site image plan state journal) { start = s })) (sym same_state)
-    (fresh_kept told trace faults site image plan state journal rules settled shows same))
+pub fresh_shown : (told : Bool) (site opened : SiteSeen) (image : List ℕ) (plan : PlanLines) (state start : State) (journal : JournalView)
+    → opened ≡ site → start ≡ state → KeepsRules state → (IsTrue told → IsSettled site.trace journal)
+    → (IsTrue told → Shows site.trace.now.image (restarted state))
+    → (IsTrue told → SameJournal image site.trace.now.image journal)
+    → IsKept told (record (begun site image plan state journal) { opened = opened; start = start })
+fresh_shown told site opened image plan state start journal same_site same_state rules settled shows same =
+    subst (λ (o : SiteSeen). IsKept told (record (begun site image plan state journal) { opened = o; start = start })) (sym same_site)
+    (subst (λ (s : State). IsKept told (record (begun site image plan state journal) { start = s })) (sym same_state)
+    (fresh_kept told site image plan state journal rules settled shows same))

@@ -2,8 +2,7 @@
 use Rattle.std.proofs.Common.{◌≡◌, ℕ, ◌+◌, ◌≤◌, List, [], ◌∷◌, ◌++◌, length, refl, sym, ◌∙◌, ap, subst, inl, inr, arith, length-append}
 use Rattle.std.proofs.lemmas.List.{take_all, take-append-le}
 use Rattle.sdls_base.specs.declared.entry.Entry.{Entry}
-use Rattle.disk_journal.specs.Image.{Held, held, IsAtRest}
-use Rattle.disk_journal.specs.Forms.{Holds, HasOneClosed, Becomes, RestsHolding}
+use Rattle.unit_image.specs.Image.{Becomes, HasOneClosed, Held, held, Holds, IsAtRest, RestsHolding}
 use Rattle.unit_state.specs.declared.state.State.{State}
 use Rattle.unit_state.specs.Applied.{applied}
 use Rattle.unit_state.specs.Restart.{restarted}

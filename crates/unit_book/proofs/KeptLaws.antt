@@ -7,7 +7,6 @@ use Rattle.sdls_base.specs.declared.entry.Entry.{Entry}
 use Rattle.sdls_base.specs.declared.entry.Logged.{Logged}
 use Rattle.sdls_base.specs.declared.entry.Logged.TheVariants as logged
 use Rattle.sdls_outside.specs.Faults.{Rose}
-use Rattle.sdls_outside.specs.Moments.{Trace}
 use Rattle.unit_state.specs.declared.state.State.{State}
 use Rattle.unit_state.specs.State.{KeepsRules}
 use Rattle.unit_state.specs.Applied.{applied}
@@ -23,23 +22,23 @@ use Rattle.unit_book.proofs.Serving.{entry_entries}
 use Rattle.unit_book.proofs.Places.{mark_from_one, mark_to_highest, mark_placed, place_below}
 use Rattle.unit_book.proofs.EpochStates.{still_epoch, epoch_first}
 
-pub kept_still : {O : Type 0} (told : Bool) (trace : O → Trace) (faults : O → ℕ) (book : BookView O) → IsKept told trace faults book
+pub kept_still : (told : Bool) (book : BookView) → IsKept told book
     → still book.state ≡ still (epoch_state book)
-kept_still {O} told trace faults book kept =
+kept_still told book kept =
     ap still kept.led ∙ still_epoch book.start (entries_of book.log) book.standing book.changes kept.epoch
 
-pub kept_changes : {O : Type 0} (told : Bool) (trace : O → Trace) (faults : O → ℕ) (book : BookView O) → IsKept told trace faults book
+pub kept_changes : (told : Bool) (book : BookView) → IsKept told book
     → book.changes ≤ epoch_after (entries_of book.log)
-kept_changes {O} told trace faults book kept =
+kept_changes told book kept =
     let is : book.changes ≡ epoch_after (take book.standing (entries_of book.log)) = kept.epoch in
     let low : epoch_after (take book.standing (entries_of book.log)) ≤ epoch_after (entries_of book.log) = epoch_first (entries_of book.log) book.standing in
     omega arith
 
 -- where the site has not failed, all entries stand
-pub kept_whole : {O : Type 0} (told : Bool) (trace : O → Trace) (faults : O → ℕ) (book : BookView O) → IsKept told trace faults book
-    → ¬ Rose (faults book.opened) (faults book.site)
+pub kept_whole : (told : Bool) (book : BookView) → IsKept told book
+    → ¬ Rose book.opened.faults book.site.faults
     → (book.state ≡ after book.start (entries_of book.log)) × (book.changes ≡ epoch_after (entries_of book.log))
-kept_whole {O} told trace faults book kept not =
+kept_whole told book kept not =
     let whole : book.standing ≡ length (entries_of book.log) = kept.whole not in
     let all : length (entries_of book.log) ≤ book.standing = omega arith in (
       kept.led ∙ first_all book.start (entries_of book.log) book.standing all,
@@ -62,19 +61,19 @@ places_after state [] id place there = there
 places_after state (entry ∷ entries) id place there =
     places_after (applied state entry.change) entries id place (places_kept state entry.change id place there)
 
-pub kept_places : {O : Type 0} (told : Bool) (trace : O → Trace) (faults : O → ℕ) (book : BookView O) → IsKept told trace faults book
+pub kept_places : (told : Bool) (book : BookView) → IsKept told book
     → KeepsPlaces book.start book.state
-kept_places {O} told trace faults book kept =
+kept_places told book kept =
     subst (KeepsPlaces book.start) (sym kept.led) (places_after book.start (take book.standing (entries_of book.log)))
 
 last_there : {X : Type 0} (xs : List X) (x : X) → slice_get (xs ++ x ∷ []) (length xs) ≡ Some x
 last_there {X} [] x = refl
 last_there {X} (y ∷ ys) x = last_there ys x
 
-pub made_stands : {O : Type 0} (faults : O → ℕ) (entry : Entry) (old new : BookView O) (position : ℕ) → Made faults entry old new position
+pub made_stands : (entry : Entry) (old new : BookView) (position : ℕ) → Made entry old new position
     → StandsLast entry old.log new.log position
-made_stands {O} faults entry old new position made =
-    let log : new.log ≡ old.log ++ logged.Entry entry ∷ [] = ap (λ (b : BookView O). b.log) made.1.is in
+made_stands entry old new position made =
+    let log : new.log ≡ old.log ++ logged.Entry entry ∷ [] = ap (λ (b : BookView). b.log) made.1.is in
     let entries : entries_of new.log ≡ entries_of old.log ++ entry ∷ [] = ap entries_of log ∙ entry_entries old.log entry in
     record {
       log = log;

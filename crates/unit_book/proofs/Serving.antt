@@ -1,27 +1,24 @@
 -- The run of a book: what its calls do to the moments.
-use Rattle.std.proofs.Common.{◌≡◌, ℕ, ◌+◌, ◌-◌, ◌<◌, ◌≤◌, ◌⊎◌, min, List, [], ◌∷◌, ◌++◌, length, take, drop, refl, sym, ◌∙◌, ap, subst, inl, inr, arith, length-append, get_or, Result, Ok, Err}
+use Rattle.std.proofs.Common.{◌≡◌, ℕ, ◌+◌, ◌-◌, ◌≤◌, ◌⊎◌, min, List, [], ◌∷◌, ◌++◌, length, take, drop, refl, sym, ◌∙◌, ap, subst, inl, inr, arith, length-append, Result, Ok, Err}
 use Rattle.std.proofs.lemmas.List.{take_all, take_at, take-take, take-append-le, take-append-drop, drop_all, drop_at, drop-take, length-drop, append_assoc}
 use Rattle.sdls_base.specs.declared.entry.Entry.{Entry}
 use Rattle.sdls_base.specs.declared.entry.Logged.{Logged}
 use Rattle.sdls_base.specs.declared.entry.Logged.TheVariants as logged
-use Rattle.sdls_outside.specs.Disk.{Disk, Leaves, Outside}
+use Rattle.sdls_outside.specs.Disk.{Leaves}
 use Rattle.sdls_outside.specs.Moments.{Trace, clock, Between, EachMoment}
 use Rattle.sdls_outside.specs.Site.{Sank, Puts}
 use Rattle.sdls_outside.proofs.Moments.{each_then, each_weaker, each_passes, moment_now, sank_synced, synced_leaves, leaves_same}
-use Rattle.disk_journal.specs.Image.{held, grown, IsAtRest}
-use Rattle.disk_journal.specs.Journal.{JournalView, IsJournalOf, IsSettled}
-use Rattle.disk_journal.specs.Changes.{EachImage}
-use Rattle.disk_journal.specs.Forms.{Becomes, RestsHolding}
+use Rattle.unit_image.specs.Image.{EachImage, Held, held, IsAtRest, IsJournalOf, IsSettled, JournalView}
 use Rattle.unit_state.specs.declared.state.State.{State}
-use Rattle.unit_state.specs.Applied.{applied}
 use Rattle.unit_state.specs.Restart.{restarted}
 use Rattle.unit_state.specs.History.{after}
 use Rattle.unit_image.specs.Shows.{Says, Shows}
+use Rattle.unit_image.specs.Storing.{IsStoring}
 use Rattle.run_promise.specs.Log.{entries_of, pieces_of}
 use Rattle.unit_book.specs.Log.{sunk_between}
 use Rattle.unit_book.specs.Book.{ShowsFrom, Serves, IsHistory, IsCurrent}
 use Rattle.unit_book.proofs.Lines.{pieces_more, entries_more, take_more, entries_short, between_more, take_end, take_whole}
-use Rattle.unit_book.proofs.Growing.{shows_from_more, shows_from_less, shows_from_all, shows_becomes, shows_next, after_entry}
+use Rattle.unit_book.proofs.Growing.{shows_from_more, shows_from_less, shows_becomes, shows_next}
 
 -- a moment of a run that goes on by a line
 pub serves_more : (start : State) (log : List Logged) (line : Logged) (standing next : ℕ) (before image sunk : List ℕ)
@@ -190,58 +187,22 @@ entry_pieces log entry = pieces_more log (logged.Entry entry) ∙ append_nil (pi
     append_nil (o ∷ octets) = ap (λ (rest : List ℕ). o ∷ rest) (append_nil octets)
 
 -- What is known where an entry is stored, or is to be stored: what is held says the state after all entries, and what is held
--- with this record more says the state after the entry too.
-pub record NextEntry (start : State) (log : List Logged) (entry : Entry) (image body : List ℕ) : Type 0 where
+-- next says the state after the entry too.
+pub record NextEntry (start : State) (log : List Logged) (entry : Entry) (image : List ℕ) (next : Held) : Type 0 where
   pub says : Says (held image) (restarted (after start (entries_of log)))
-  pub next : Says (grown body (held image)) (restarted (after start (entries_of log ++ entry ∷ [])))
+  pub then : Says next (restarted (after start (entries_of log ++ entry ∷ [])))
 
--- an image of a change to what is held next
-pub record IsGrowing (old body image : List ℕ) : Type 0 where
-  pub becomes : Becomes (held old) (grown body (held old)) image
-  pub rests : RestsHolding (grown body (held old)) image
-
--- two facts of each moment
-pub each_both : (old new : Trace) (P Q : List ℕ → List ℕ → Type 0) → EachMoment old new P → EachMoment old new Q
-    → EachMoment old new (λ image sunk. P image sunk × Q image sunk)
-each_both old new P Q one other = record {
-  later = one.later;
-  each = λ image sunk moment. (one.each image sunk moment, other.each image sunk moment);
-  before = λ time image sunk low moment. elim (one.before time image sunk low moment) [
-    | inl there ↦ inl there
-    | inr p ↦ elim (other.before time image sunk low moment) [
-      | inl there ↦ inl there
-      | inr q ↦ inr (p, q)
-    ]
-  ];
-}
-
--- at each moment of an append the image is growing
-pub grows_each : (old new : Trace) (body : List ℕ)
-    → EachImage old new (Becomes (held old.now.image) (grown body (held old.now.image)))
-    → EachImage old new (RestsHolding (grown body (held old.now.image))) → EachImage old new (IsGrowing old.now.image body)
-grows_each old new body becomes rests =
-    let B : List ℕ → List ℕ → Type 0 =
-    λ image sunk. Becomes (held old.now.image) (grown body (held old.now.image)) image × (sunk ≡ old.now.sunk) in
-    let R : List ℕ → List ℕ → Type 0 = λ image sunk. RestsHolding (grown body (held old.now.image)) image × (sunk ≡ old.now.sunk) in
-    record {
-      moments = each_weaker old new (λ image sunk. B image sunk × R image sunk)
-          (λ image sunk. IsGrowing old.now.image body image × (sunk ≡ old.now.sunk))
-          (λ image sunk both. (record { becomes = both.0.0; rests = both.1.0 }, both.0.1))
-          (each_both old new B R becomes.moments rests.moments);
-      sunk = becomes.sunk;
-    }
-
--- the moments of an append, whose entry is one more
-append_moments : (opened old new : Trace) (start : State) (log : List Logged) (entry : Entry) (standing next_standing : ℕ) (body : List ℕ)
-    → NextEntry start log entry old.now.image body → IsHistory opened old start log standing
+-- the moments while an entry is stored, which is one more
+append_moments : (opened old new : Trace) (start : State) (log : List Logged) (entry : Entry) (standing next_standing : ℕ) (next : Held)
+    → NextEntry start log entry old.now.image next → IsHistory opened old start log standing
     → ((n : ℕ) → n ≤ length (entries_of log) → min n next_standing ≤ min n standing)
-    → EachImage old new (IsGrowing old.now.image body)
+    → EachImage old new (IsStoring (held old.now.image) next)
     → EachMoment opened new (Serves start (log ++ logged.Entry entry ∷ []) next_standing opened.now.sunk)
-append_moments opened old new start log entry standing next_standing body next history least each =
+append_moments opened old new start log entry standing next_standing next says history least each =
     let line : Logged = logged.Entry entry in
     let before : List ℕ = opened.now.sunk in
     let P : List ℕ → List ℕ → Type 0 = Serves start log standing before in
-    let G : List ℕ → List ℕ → Type 0 = λ image sunk. IsGrowing old.now.image body image × (sunk ≡ old.now.sunk) in
+    let G : List ℕ → List ℕ → Type 0 = λ image sunk. IsStoring (held old.now.image) next image × (sunk ≡ old.now.sunk) in
     let Q : List ℕ → List ℕ → Type 0 = Serves start (log ++ line ∷ []) next_standing before in
     let sinks : old.now.sunk ≡ before ++ pieces_of (log ++ line ∷ []) =
     history.sunk ∙ ap (λ (octets : List ℕ). before ++ octets) (sym (entry_pieces log entry)) in
@@ -253,35 +214,35 @@ append_moments opened old new start log entry standing next_standing body next h
     (record { least = omega arith; prefix = sym (take_all (length old.now.sunk) old.now.sunk (omega arith)) }))
     (subst (λ (entries : List Entry). ShowsFrom start entries (min (length (entries_of log)) next_standing) image) (sym (entry_entries log entry))
     (shows_from_less start (entries_of log ++ entry ∷ []) (min (length (entries_of log)) next_standing) (length (entries_of log)) image (omega arith)
-    (growing_shows start log entry old.now.image body image next grows.0)))) each.moments)
+    (growing_shows start log entry old.now.image image next says grows.0)))) each.moments)
   where
-    growing_shows : (start : State) (log : List Logged) (entry : Entry) (old body image : List ℕ) → NextEntry start log entry old body
-        → IsGrowing old body image → ShowsFrom start (entries_of log ++ entry ∷ []) (length (entries_of log)) image
-    growing_shows start log entry old body image next grows =
-        shows_becomes start (entries_of log) entry (held old) (grown body (held old)) image grows.becomes grows.rests next.says next.next
+    growing_shows : (start : State) (log : List Logged) (entry : Entry) (old image : List ℕ) (next : Held) → NextEntry start log entry old next
+        → IsStoring (held old) next image → ShowsFrom start (entries_of log ++ entry ∷ []) (length (entries_of log)) image
+    growing_shows start log entry old image next says grows =
+        shows_becomes start (entries_of log) entry (held old) next image grows.becomes grows.rests says.says says.then
 
-growing_now : (old new : Trace) (body : List ℕ) → EachImage old new (IsGrowing old.now.image body) → (image : List ℕ) → Leaves new.now image
-    → IsGrowing old.now.image body image
-growing_now old new body each image leaves = (each.moments.each image new.now.sunk (moment_now new (clock old) image leaves)).0
+growing_now : (old new : Trace) (next : Held) → EachImage old new (IsStoring (held old.now.image) next) → (image : List ℕ) → Leaves new.now image
+    → IsStoring (held old.now.image) next image
+growing_now old new next each image leaves = (each.moments.each image new.now.sunk (moment_now new (clock old) image leaves)).0
 
 entry_sunk : (opened old new : Trace) (log : List Logged) (entry : Entry) → new.now.sunk ≡ old.now.sunk
     → old.now.sunk ≡ opened.now.sunk ++ pieces_of log → new.now.sunk ≡ opened.now.sunk ++ pieces_of (log ++ logged.Entry entry ∷ [])
 entry_sunk opened old new log entry same is =
     same ∙ is ∙ ap (λ (octets : List ℕ). opened.now.sunk ++ octets) (sym (entry_pieces log entry))
 
--- an append that failed
-pub failed_history : (opened old new : Trace) (start : State) (log : List Logged) (entry : Entry) (standing : ℕ) (body : List ℕ)
-    → NextEntry start log entry old.now.image body → IsHistory opened old start log standing → standing ≡ length (entries_of log)
-    → EachImage old new (IsGrowing old.now.image body) → IsHistory opened new start (log ++ logged.Entry entry ∷ []) standing
-failed_history opened old new start log entry standing body next history whole each = record {
+-- a store that failed
+pub failed_history : (opened old new : Trace) (start : State) (log : List Logged) (entry : Entry) (standing : ℕ) (next : Held)
+    → NextEntry start log entry old.now.image next → IsHistory opened old start log standing → standing ≡ length (entries_of log)
+    → EachImage old new (IsStoring (held old.now.image) next) → IsHistory opened new start (log ++ logged.Entry entry ∷ []) standing
+failed_history opened old new start log entry standing next says history whole each = record {
   sunk = entry_sunk opened old new log entry each.sunk history.sunk;
-  moments = append_moments opened old new start log entry standing standing body next history (λ n low. omega arith) each;
+  moments = append_moments opened old new start log entry standing standing next says history (λ n low. omega arith) each;
   shows_now = λ image leaves.
-      let grows : IsGrowing old.now.image body image = growing_now old new body each image leaves in
+      let grows : IsStoring (held old.now.image) next image = growing_now old new next each image leaves in
       subst (λ (entries : List Entry). ShowsFrom start entries standing image) (sym (entry_entries log entry))
       (subst (λ (n : ℕ). ShowsFrom start (entries_of log ++ entry ∷ []) n image) (sym whole)
-      (shows_becomes start (entries_of log) entry (held old.now.image) (grown body (held old.now.image)) image grows.becomes grows.rests
-      next.says next.next));
+      (shows_becomes start (entries_of log) entry (held old.now.image) next image grows.becomes grows.rests
+      says.says says.then));
 }
 
 -- an image that a crash may leave of a settled journal is the one that reads, at rest
@@ -291,46 +252,21 @@ left_settled trace journal settled image leaves = synced_leaves trace.now image 
 
 -- one that is stored
 pub stored_history : (opened old new : Trace) (start : State) (journal : JournalView) (log : List Logged) (entry : Entry) (standing : ℕ)
-    (body : List ℕ) → NextEntry start log entry old.now.image body → IsHistory opened old start log standing
-    → standing ≡ length (entries_of log) → EachImage old new (IsGrowing old.now.image body)
-    → IsSettled new journal → held new.now.image ≡ grown body (held old.now.image)
+    (next : Held) → NextEntry start log entry old.now.image next → IsHistory opened old start log standing
+    → standing ≡ length (entries_of log) → EachImage old new (IsStoring (held old.now.image) next)
+    → IsSettled new journal → held new.now.image ≡ next
     → IsHistory opened new start (log ++ logged.Entry entry ∷ []) (standing + 1)
-stored_history opened old new start journal log entry standing body next history whole each settled holds = record {
+stored_history opened old new start journal log entry standing next says history whole each settled holds = record {
   sunk = entry_sunk opened old new log entry each.sunk history.sunk;
-  moments = append_moments opened old new start log entry standing (standing + 1) body next history (λ n low. omega arith) each;
+  moments = append_moments opened old new start log entry standing (standing + 1) next says history (λ n low. omega arith) each;
   shows_now = λ image leaves.
       subst (λ (entries : List Entry). ShowsFrom start entries (standing + 1) image) (sym (entry_entries log entry))
       (subst (λ (n : ℕ). ShowsFrom start (entries_of log ++ entry ∷ []) (n + 1) image) (sym whole)
       (subst (λ (octets : List ℕ). ShowsFrom start (entries_of log ++ entry ∷ []) (length (entries_of log) + 1) octets)
       (sym (left_settled new journal settled image leaves))
-      (shows_next start (entries_of log) entry (grown body (held old.now.image)) new.now.image
-      (record { opens = settled.opened.of_image.opens; is = holds }) settled.rests next.next)));
+      (shows_next start (entries_of log) entry next new.now.image
+      (record { opens = settled.opened.of_image.opens; is = holds }) settled.rests says.then)));
 }
-
--- one of which nothing is stored: the image already shows what a restart leaves of the state after it
-pub unstored_history : (opened now : Trace) (start : State) (journal : JournalView) (log : List Logged) (entry : Entry) (standing : ℕ)
-    → restarted (applied (after start (entries_of log)) entry.change) ≡ restarted (after start (entries_of log))
-    → IsHistory opened now start log standing → standing ≡ length (entries_of log) → IsCurrent now start journal (entries_of log)
-    → IsHistory opened now start (log ++ logged.Entry entry ∷ []) (standing + 1)
-unstored_history opened now start journal log entry standing alike history whole current =
-    let line : Logged = logged.Entry entry in
-    let before : List ℕ = opened.now.sunk in
-    let more : entries_of (log ++ line ∷ []) ≡ entries_of log ++ entry ∷ [] = entry_entries log entry in
-    let size : length (entries_of log ++ entry ∷ []) ≡ length (entries_of log) + 1 = length-append (entries_of log) (entry ∷ []) in
-    record {
-      sunk = entry_sunk opened now now log entry refl history.sunk;
-      moments = each_weaker opened now (Serves start log standing before) (Serves start (log ++ line ∷ []) (standing + 1) before)
-          (λ image sunk serves. serves_more start log line standing (standing + 1) before image sunk (λ n low. omega arith) serves) history.moments;
-      shows_now = λ image leaves.
-          let same : image ≡ now.now.image = left_settled now journal current.settled image leaves in
-          let shown : Shows now.now.image (restarted (after start (entries_of log ++ entry ∷ []))) =
-          subst (λ (s : State). Shows now.now.image s) (sym (ap restarted (after_entry start (entries_of log) entry) ∙ alike)) current.shows in
-          subst (λ (entries : List Entry). ShowsFrom start entries (standing + 1) image) (sym more)
-          (subst (λ (n : ℕ). ShowsFrom start (entries_of log ++ entry ∷ []) (n + 1) image) (sym whole)
-          (subst (λ (n : ℕ). ShowsFrom start (entries_of log ++ entry ∷ []) n image) size
-          (subst (λ (octets : List ℕ). ShowsFrom start (entries_of log ++ entry ∷ []) (length (entries_of log ++ entry ∷ [])) octets) (sym same)
-          (shows_from_all start (entries_of log ++ entry ∷ []) now.now.image shown current.settled.rests))));
-    }
 
 -- what a put sank is a front of the octets, and after `Ok` all of them
 pub piece_front : (octets : List ℕ) (old new : Trace) → (new ≡ old) ⊎ Sank octets old new

@@ -8,8 +8,7 @@ use Rattle.sdls_base.specs.declared.entry.Logged.TheVariants as logged
 use Rattle.sdls_outside.specs.Disk.{Leaves}
 use Rattle.sdls_outside.specs.Faults.{Rose}
 use Rattle.sdls_outside.specs.Moments.{Trace, EachMoment, Between}
-use Rattle.disk_journal.specs.Image.{records, slot_count}
-use Rattle.disk_journal.specs.Journal.{JournalView, IsSettled}
+use Rattle.unit_image.specs.Image.{IsSettled, JournalView, slots_of, used_of}
 use Rattle.unit_plan.specs.PlanLines.{PlanLines}
 use Rattle.unit_state.specs.declared.state.State.{State}
 use Rattle.unit_state.specs.State.{KeepsRules}
@@ -24,15 +23,16 @@ use Rattle.unit_book.specs.declared.next.Next.{Next}
 use Rattle.unit_book.specs.declared.next.Next.TheVariants.{Here, Then}
 use Rattle.run_promise.specs.Log.{entries_of, pieces_of}
 use Rattle.run_promise.specs.ShowsAfter.{ShowsAfter}
+use Rattle.run_promise.specs.Site.{SiteSeen}
 use Rattle.run_promise.specs.Stored.{IsStored, stored_count}
 use Rattle.unit_book.specs.Marks.{HasNoRelease, KeepsMarks}
 
 -- The site, and what it was when `open` returned; the image as it was read, its plan, and the state that it showed; the
 -- state now; the journal; the log; how many entries of the log stand: all, but for a last one whose append failed; how
 -- many of those count for the epoch.
-pub record BookView (O : Type 0) : Type 0 where
-  pub site : O
-  pub opened : O
+pub record BookView : Type 0 where
+  pub site : SiteSeen
+  pub opened : SiteSeen
   pub image : List ℕ
   pub plan : PlanLines
   pub start : State
@@ -66,15 +66,16 @@ pub record IsCurrent (now : Trace) (start : State) (journal : JournalView) (entr
   pub shows : Shows now.now.image (restarted (after start entries))
 
 -- The slots are those of the image that was read, and used are one for each of its records and for each entry that
--- takes one.
+-- takes one: never more than there are.
 pub record CountsUsedSlots (image : List ℕ) (start : State) (journal : JournalView)
     (entries : List Entry) : Type 0 where
-  pub slots : journal.slots ≡ slot_count image
-  pub used : journal.used ≡ length (records image) + stored_count start entries
+  pub within : journal.used ≤ journal.slots
+  pub slots : journal.slots ≡ slots_of image
+  pub used : journal.used ≡ used_of image + stored_count start entries
 
 -- What holds of a book between its calls.
-pub record IsKept {O : Type 0} (told : Bool) (trace : O → Trace) (faults : O → ℕ) (book : BookView O) : Type 0 where
-  pub later : faults book.opened ≤ faults book.site
+pub record IsKept (told : Bool) (book : BookView) : Type 0 where
+  pub later : book.opened.faults ≤ book.site.faults
   pub stands : book.standing ≤ length (entries_of book.log)
   -- one entry at most was left out
   pub few_left : length (entries_of book.log) ≤ book.standing + 1
@@ -84,19 +85,19 @@ pub record IsKept {O : Type 0} (told : Bool) (trace : O → Trace) (faults : O �
   pub marks : HasNoRelease (entries_of book.log) → KeepsMarks book.start book.state
   pub room : length (entries_of book.log) ≤ MOST_ENTRIES
   pub epoch : book.changes ≡ epoch_after (take book.standing (entries_of book.log))
-  pub whole : ¬ Rose (faults book.opened) (faults book.site) → book.standing ≡ length (entries_of book.log)
-  pub history : IsTrue told → IsHistory (trace book.opened) (trace book.site) book.start book.log book.standing
-  pub current : IsTrue told → ¬ Rose (faults book.opened) (faults book.site)
-      → IsCurrent (trace book.site) book.start book.journal (entries_of book.log)
-  pub counted : IsTrue told → ¬ Rose (faults book.opened) (faults book.site)
+  pub whole : ¬ Rose book.opened.faults book.site.faults → book.standing ≡ length (entries_of book.log)
+  pub history : IsTrue told → IsHistory book.opened.trace book.site.trace book.start book.log book.standing
+  pub current : IsTrue told → ¬ Rose book.opened.faults book.site.faults
+      → IsCurrent book.site.trace book.start book.journal (entries_of book.log)
+  pub counted : IsTrue told → ¬ Rose book.opened.faults book.site.faults
       → CountsUsedSlots book.image book.start book.journal (entries_of book.log)
 
 -- The site has not failed since the opening, and there is room for an entry.
-abbrev pub CanEnter : {O : Type 0} → (O → ℕ) → BookView O → Type 0
-CanEnter faults book = ¬ Rose (faults book.opened) (faults book.site) × (length (entries_of book.log) < MOST_ENTRIES)
+abbrev pub CanEnter : BookView → Type 0
+CanEnter book = ¬ Rose book.opened.faults book.site.faults × (length (entries_of book.log) < MOST_ENTRIES)
 
 -- the entry is made, and its change with it
-abbrev pub entered : {O : Type 0} → Entry → BookView O → BookView O
+abbrev pub entered : Entry → BookView → BookView
 entered entry book = record book {
   state = applied book.state entry.change;
   log = book.log ++ logged.Entry entry ∷ [];
@@ -105,50 +106,50 @@ entered entry book = record book {
 }
 
 -- the entry is the last of the run; its append failed, and the image may hold it or not
-abbrev pub left_out : {O : Type 0} → Entry → BookView O → BookView O
+abbrev pub left_out : Entry → BookView → BookView
 left_out entry book = record book { log = book.log ++ logged.Entry entry ∷ [] }
 
 -- this was put, or a front of it
-abbrev pub with_put : {O : Type 0} → List ℕ → BookView O → BookView O
+abbrev pub with_put : List ℕ → BookView → BookView
 with_put piece book = record book { log = book.log ++ logged.Piece piece ∷ [] }
 
 -- Why a call is refused before it is looked at: the site failed since the opening, or the run has as many entries as it
 -- may.
-abbrev pub IsBarred : {O : Type 0} → (O → ℕ) → BookView O → BookFault → Type 0
-IsBarred faults book (Stopped count) = Rose (faults book.opened) (faults book.site) × (count ≡ faults book.site)
-IsBarred faults book SessionFull = ¬ Rose (faults book.opened) (faults book.site)
+abbrev pub IsBarred : BookView → BookFault → Type 0
+IsBarred book (Stopped count) = Rose book.opened.faults book.site.faults × (count ≡ book.site.faults)
+IsBarred book SessionFull = ¬ Rose book.opened.faults book.site.faults
     × (length (entries_of book.log) ≡ MOST_ENTRIES)
-IsBarred faults book (SiteFault count) = ⊥
-IsBarred faults book (JournalFull slots) = ⊥
-IsBarred faults book NoMemory = ⊥
+IsBarred book (SiteFault count) = ⊥
+IsBarred book (JournalFull slots) = ⊥
+IsBarred book NoMemory = ⊥
 
 -- Why an entry that may be made is not, and what that leaves. After a fault of the site it is the last of the run.
-abbrev pub IsUnstored : {O : Type 0} → (O → ℕ) → Entry → BookView O → BookView O → BookFault → Type 0
-IsUnstored faults entry old new (SiteFault count) =
+abbrev pub IsUnstored : Entry → BookView → BookView → BookFault → Type 0
+IsUnstored entry old new (SiteFault count) =
     IsTrue (IsStored old.state entry) × (old.journal.used < old.journal.slots)
-    × Rose (faults old.site) (faults new.site)
-    × (count ≡ faults new.site) × (new ≡ left_out entry (record old { site = new.site }))
-IsUnstored faults entry old new (JournalFull slots) =
+    × Rose old.site.faults new.site.faults
+    × (count ≡ new.site.faults) × (new ≡ left_out entry (record old { site = new.site }))
+IsUnstored entry old new (JournalFull slots) =
     IsTrue (IsStored old.state entry) × (old.journal.used ≡ old.journal.slots) × (slots ≡ old.journal.slots)
     × (new ≡ old)
-IsUnstored faults entry old new (Stopped count) = ⊥
-IsUnstored faults entry old new SessionFull = ⊥
-IsUnstored faults entry old new NoMemory = ⊥
+IsUnstored entry old new (Stopped count) = ⊥
+IsUnstored entry old new SessionFull = ⊥
+IsUnstored entry old new NoMemory = ⊥
 
 -- how the next state comes about: by a change that takes no memory, or as this one
 abbrev pub IsNextState : State → Change → Next → Type 0
 IsNextState state change Here = IsLight change
 IsNextState state change (Then next) = next ≡ applied state change
 
--- The entry was made, and its change with it. It took a slot where it is stored.
-pub record Enters {O : Type 0} (entry : Entry) (old new : BookView O) (position : ℕ) : Type 0 where
-  pub site : O
-  pub is : new ≡ entered entry (record old {
-    site = site;
-    journal = record old.journal { used = old.journal.used + (if IsStored old.state entry then 1 else 0) };
-  })
+-- The entry was made, and its change with it. The slots are counted as before.
+pub record Enters (entry : Entry) (old new : BookView) (position : ℕ) : Type 0 where
+  pub site : SiteSeen
+  pub journal : JournalView
+  pub is : new ≡ entered entry (record old { site = site; journal = journal })
   pub position_is : position ≡ length (entries_of new.log)
-  pub free : IsTrue (IsStored old.state entry) → old.journal.used < old.journal.slots
+  pub slots : journal.slots ≡ old.journal.slots
+  pub counted : CountsUsedSlots old.image old.start old.journal (entries_of old.log)
+      → CountsUsedSlots new.image new.start new.journal (entries_of new.log)
 
 -- a put fails only by a fault of the site, which the answer counts
 abbrev pub PutFails : ℕ → ℕ → BookFault → Type 0
@@ -160,16 +161,16 @@ PutFails before now NoMemory = ⊥
 
 -- Why a call that makes this entry is refused, in the order of the refusals. Barred or without a slot, the book is as
 -- it was.
-abbrev pub Refuses : {O : Type 0} → (O → ℕ) → Entry → BookView O → BookView O → BookFault → Type 0
-Refuses faults entry old new fault =
-    (IsBarred faults old fault × (new ≡ old)) ⊎ (CanEnter faults old × IsUnstored faults entry old new fault)
+abbrev pub Refuses : Entry → BookView → BookView → BookFault → Type 0
+Refuses entry old new fault =
+    (IsBarred old fault × (new ≡ old)) ⊎ (CanEnter old × IsUnstored entry old new fault)
 
 -- the call made this entry, and answers its position
-abbrev pub Made : {O : Type 0} → (O → ℕ) → Entry → BookView O → BookView O → ℕ → Type 0
-Made faults entry old new position = CanEnter faults old × Enters entry old new position
+abbrev pub Made : Entry → BookView → BookView → ℕ → Type 0
+Made entry old new position = CanEnter old × Enters entry old new position
 
 -- a book that begins, over a site whose image shows this state
-abbrev pub begun : {O : Type 0} → O → List ℕ → PlanLines → State → JournalView → BookView O
+abbrev pub begun : SiteSeen → List ℕ → PlanLines → State → JournalView → BookView
 begun site image plan start journal = record {
   site = site;
   opened = site;

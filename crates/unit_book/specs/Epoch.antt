@@ -22,7 +22,7 @@ use Rattle.run_promise.specs.Entries.{IsNeedOf}
 use Rattle.unit_book.specs.Book.{BookView}
 
 -- the state at the epoch of a book: after the last of its entries that counts
-abbrev pub epoch_state : {O : Type 0} → BookView O → State
+abbrev pub epoch_state : BookView → State
 epoch_state book = at_epoch book.start (entries_of book.log) book.changes
 
 -- what the sender on a channel of a link binds frames to

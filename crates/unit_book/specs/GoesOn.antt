@@ -1,5 +1,5 @@
 -- What every call on a book leaves.
-use Rattle.std.specs.Prelude.{◌≡◌, ⊤, ℕ, ◌≤◌, List, [], ◌++◌, length}
+use Rattle.std.specs.Prelude.{◌≡◌, ⊤, ◌≤◌, List, [], ◌++◌, length}
 use Rattle.sdls_base.specs.declared.entry.Logged.{Logged}
 use Rattle.sdls_outside.specs.Faults.{Rose}
 use Rattle.unit_state.specs.Laws.{KeepsPlaces}
@@ -12,7 +12,7 @@ use Rattle.unit_book.specs.Book.{BookView}
 -- The opening stands: what was read, its plan and state, the site as it was then, and the slots. The log goes on by the
 -- lines that the call added. Neither the count of faults nor that of changes falls; once the first had risen, no entry
 -- is added, and none stands that did not. Keys keep their places, and their marks do not fall but by a release.
-pub record GoesOn {O : Type 0} (faults : O → ℕ) (old new : BookView O) : Type 0 where
+pub record GoesOn (old new : BookView) : Type 0 where
   pub opened : new.opened ≡ old.opened
   pub image : new.image ≡ old.image
   pub plan : new.plan ≡ old.plan
@@ -20,23 +20,23 @@ pub record GoesOn {O : Type 0} (faults : O → ℕ) (old new : BookView O) : Typ
   pub slots : new.journal.slots ≡ old.journal.slots
   pub added : List Logged
   pub log : new.log ≡ old.log ++ added
-  pub later : faults old.site ≤ faults new.site
+  pub later : old.site.faults ≤ new.site.faults
   pub standing : old.standing ≤ new.standing
   pub changes : old.changes ≤ new.changes
-  pub stopped : Rose (faults old.opened) (faults old.site) → entries_of added ≡ []
-  pub stood : Rose (faults old.opened) (faults old.site) → new.standing ≡ old.standing
+  pub stopped : Rose old.opened.faults old.site.faults → entries_of added ≡ []
+  pub stood : Rose old.opened.faults old.site.faults → new.standing ≡ old.standing
   pub places : KeepsPlaces old.state new.state
   pub marks : HasNoRelease (entries_of added) → KeepsMarks old.state new.state
 
 -- No fault came in the call, where all entries stand: the count of faults had risen before if it has now.
-abbrev pub IsCalm : {O : Type 0} → (O → ℕ) → BookView O → BookView O → Type 0
-IsCalm faults old new = Rose (faults new.opened) (faults new.site) → length (entries_of new.log) ≤ new.standing
-    → Rose (faults old.opened) (faults old.site)
+abbrev pub IsCalm : BookView → BookView → Type 0
+IsCalm old new = Rose new.opened.faults new.site.faults → length (entries_of new.log) ≤ new.standing
+    → Rose old.opened.faults old.site.faults
 
 -- the count that a refusal tells is that of the site, and had risen since the opening
-abbrev pub TellsRise : {O : Type 0} → (O → ℕ) → BookView O → BookFault → Type 0
-TellsRise faults book (SiteFault count) = Rose (faults book.opened) (faults book.site) × (count ≡ faults book.site)
-TellsRise faults book (Stopped count) = Rose (faults book.opened) (faults book.site) × (count ≡ faults book.site)
-TellsRise faults book SessionFull = ⊤
-TellsRise faults book (JournalFull slots) = ⊤
-TellsRise faults book NoMemory = ⊤
+abbrev pub TellsRise : BookView → BookFault → Type 0
+TellsRise book (SiteFault count) = Rose book.opened.faults book.site.faults × (count ≡ book.site.faults)
+TellsRise book (Stopped count) = Rose book.opened.faults book.site.faults × (count ≡ book.site.faults)
+TellsRise book SessionFull = ⊤
+TellsRise book (JournalFull slots) = ⊤
+TellsRise book NoMemory = ⊤

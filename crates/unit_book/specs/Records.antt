@@ -11,29 +11,29 @@ use Rattle.unit_book.specs.declared.fault.BookFault.TheVariants as faults
 use Rattle.unit_book.specs.Book.{BookView, CanEnter, IsBarred, IsUnstored, Made}
 
 -- the frame was opened with this reply, as the checks answer in the state before, and made its entry
-pub record OpensWithEntry {O : Type 0} (faults_of : O → ℕ) (index link : ℕ) (frame field : List ℕ)
-    (old new : BookView O) (reply : OpenReply) (position : ℕ) : Type 0 where
+pub record OpensWithEntry (index link : ℕ) (frame field : List ℕ) (old new : BookView) (reply : OpenReply)
+    (position : ℕ) : Type 0 where
   pub reply_is : IsOpenReply old.plan old.state link frame reply field
-  pub made : Made faults_of (frame_entry old.plan old.state index reply) old new position
+  pub made : Made (frame_entry old.plan old.state index reply) old new position
 
 -- Why a frame makes no entry, in the order of the refusals; what the checks answer of it comes before a want of slots.
-abbrev pub RefusesFrame : {O : Type 0} → (O → ℕ) → ℕ → ℕ → List ℕ → BookView O → BookView O → BookFault → Type 0
-RefusesFrame faults_of index link frame old new fault = (IsBarred faults_of old fault × (new ≡ old))
-    ⊎ (CanEnter faults_of old × ((reply : OpenReply) × (field : List ℕ)
+abbrev pub RefusesFrame : ℕ → ℕ → List ℕ → BookView → BookView → BookFault → Type 0
+RefusesFrame index link frame old new fault = (IsBarred old fault × (new ≡ old))
+    ⊎ (CanEnter old × ((reply : OpenReply) × (field : List ℕ)
     × IsOpenReply old.plan old.state link frame reply field
-    × IsUnstored faults_of (frame_entry old.plan old.state index reply) old new fault))
+    × IsUnstored (frame_entry old.plan old.state index reply) old new fault))
 
 -- the message was handled in the state before, with this reply, and made its entry
-pub record Handles {O : Type 0} (faults_of : O → ℕ) (index : ℕ) (octets : List ℕ) (seen : Seen) (old new : BookView O)
-    (reply : Reply) (position : ℕ) : Type 0 where
+pub record Handles (index : ℕ) (octets : List ℕ) (seen : Seen) (old new : BookView) (reply : Reply)
+    (position : ℕ) : Type 0 where
   pub change : Change
   pub step : IsStepOf old.state octets seen (change, reply)
-  pub made : Made faults_of (record_entry index seen change) old new position
+  pub made : Made (record_entry index seen change) old new position
 
 -- Why a message makes no entry, in the order of the refusals. Want of memory, which needs no cause, leaves the book as
 -- it was.
-abbrev pub RefusesMessage : {O : Type 0} → (O → ℕ) → ℕ → List ℕ → Seen → BookView O → BookView O → BookFault → Type 0
-RefusesMessage faults_of index octets seen old new fault = (IsBarred faults_of old fault × (new ≡ old))
+abbrev pub RefusesMessage : ℕ → List ℕ → Seen → BookView → BookView → BookFault → Type 0
+RefusesMessage index octets seen old new fault = (IsBarred old fault × (new ≡ old))
     ⊎ ((fault ≡ faults.NoMemory) × (new ≡ old))
-    ⊎ (CanEnter faults_of old × ((step : Change × Reply) × IsStepOf old.state octets seen step
-    × IsUnstored faults_of (record_entry index seen step.0) old new fault))
+    ⊎ (CanEnter old × ((step : Change × Reply) × IsStepOf old.state octets seen step
+    × IsUnstored (record_entry index seen step.0) old new fault))

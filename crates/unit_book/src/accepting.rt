@@ -71,19 +71,19 @@ impl<O: Site> Book<O> {
         link: u8,
         frame: &mut [u8],
     ) -> Result<(OpenReply, u64), BookFault>
-        requires kept { IsKept O.told O.trace O.faults self.old }
-        ensures kept { IsKept O.told O.trace O.faults self.new }
+        requires kept { IsKept O.told self.old }
+        ensures kept { IsKept O.told self.new }
         ensures made { MatchResult result
-            (λ answer. OpensWithEntry O.faults index link frame.old (field_in answer.0 frame.new) self.old self.new
+            (λ answer. OpensWithEntry index link frame.old (field_in answer.0 frame.new) self.old self.new
             answer.0 answer.1
             × LeavesOctets answer.0 frame.old frame.new)
-            (RefusesFrame O.faults index link frame.old self.old self.new) }
-        ensures goes_on { GoesOn O.faults self.old self.new }
+            (RefusesFrame index link frame.old self.old self.new) }
+        ensures goes_on { GoesOn self.old self.new }
         ensures marks { KeepsMarks self.old.state self.new.state }
-        ensures risen { IfErr result (TellsRise O.faults self.new) }
-        ensures puts { O.put_faults self.new.site ≡ O.put_faults self.old.site }
-        ensures later { O.faults self.old.site ≤ O.faults self.new.site }
-        ensures calm { IsCalm O.faults self.old self.new }
+        ensures risen { IfErr result (TellsRise self.new) }
+        ensures puts { self.new.site.put_faults ≡ self.old.site.put_faults }
+        ensures later { self.old.site.faults ≤ self.new.site.faults }
+        ensures calm { IsCalm self.old self.new }
     {
         self.may_enter()?;
         let reply = open_frame(&self.plan, &self.state, link, frame);

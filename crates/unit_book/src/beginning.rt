@@ -1,11 +1,12 @@
 // The beginning of a book, and its end.
 ghost use Rattle.std.specs.Prelude.{◌≡◌, ◌≤◌, IsTrue, [], vec_capacity};
-ghost use Rattle.disk_journal.specs.Journal.{IsSettled};
+ghost use Rattle.unit_image.specs.Image.{IsSettled};
 ghost use Rattle.unit_state.specs.State.{KeepsRules};
 ghost use Rattle.unit_state.specs.Restart.{restarted};
 ghost use Rattle.unit_image.specs.OpeningImage.{SameJournal};
 ghost use Rattle.unit_image.specs.Shows.{Shows};
 ghost use Rattle.run_promise.specs.Log.{entries_of};
+ghost use Rattle.run_promise.specs.Site.{site_seen};
 ghost use Rattle.unit_book.specs.Book.{IsKept, begun};
 
 use crate::book::Book;
@@ -25,8 +26,9 @@ impl<O: Site> Book<O> {
         requires same { IsTrue O.told → SameJournal (O.trace taken.value).now.image (O.trace site).now.image
             found.journal }
         requires room { (entries.items ≡ []) × (MOST_ENTRIES ≤ vec_capacity entries) }
-        ensures view { result ≡ begun site (O.trace taken.value).now.image found.plan found.state found.journal }
-        ensures kept { IsKept O.told O.trace O.faults result }
+        ensures view { result ≡ begun (site_seen O.trace O.faults O.put_faults site) (O.trace taken.value).now.image
+            found.plan found.state found.journal }
+        ensures kept { IsKept O.told result }
     {
         let Opened {
             journal,
@@ -51,7 +53,7 @@ impl<O: Site> Book<O> {
 
     /// Gives back the site and the run's entries.
     pub fn into_site(self) -> (O, Vec<Entry>)
-        ensures site { result.0 ≡ self.site }
+        ensures site { self.site ≡ site_seen O.trace O.faults O.put_faults result.0 }
         ensures entries { result.1.items ≡ entries_of self.log }
     {
         let Book {

@@ -4,7 +4,6 @@ ghost use Rattle.std.specs.Prelude.{[], ◌++◌, false};
 ghost use Rattle.sdls_base.specs.declared.change.Change.{Change};
 ghost use Rattle.sdls_outside.specs.Faults.{Rose};
 ghost use Rattle.sdls_outside.specs.Site.{Puts, after_put};
-ghost use Rattle.book_record.specs.Record.{IsRecord};
 ghost use Rattle.unit_state.specs.Applied.{applied};
 ghost use Rattle.unit_state.specs.Allows.{Allows};
 ghost use Rattle.unit_state.specs.Restart.{stored_as};
@@ -19,13 +18,12 @@ use crate::applying::{changes_of, put_next};
 use crate::fault::BookFault;
 use crate::log::{Log, with_entry, with_piece};
 use crate::next::Next;
-use disk_journal::{BODY_LENGTH, Journal, JournalFault};
 use run_promise::MOST_ENTRIES;
 use sdls_base::Entry;
 use sdls_outside::{Failed, Site};
 use std::marker::Model;
 use std::snapshot::Snapshot;
-use unit_image::stored_record;
+use unit_image::{Journal, StoreFault, store};
 use unit_plan::Plan;
 use unit_state::State;
 
@@ -49,15 +47,16 @@ pub struct Book<O: Site> {
 impl<O: Site> Model for Book<O> {
     ghost use Rattle.std.specs.Prelude.{◌≡◌, ◌≤◌, length, vec_capacity};
     ghost use Rattle.run_promise.specs.Log.{entries_of};
+    ghost use Rattle.run_promise.specs.Site.{site_seen};
     ghost use Rattle.unit_book.specs.Log.{lines};
     ghost use Rattle.run_promise.specs.declared.limits.TheConstants.{MOST_ENTRIES};
     ghost use Rattle.unit_book.specs.Book.{BookView};
 
-    ghost Value = { BookView O };
+    ghost Value = { BookView };
 
     ghost view = { λ book. record {
-      site = book.site;
-      opened = book.opened.value;
+      site = site_seen O.trace O.faults O.put_faults book.site;
+      opened = site_seen O.trace O.faults O.put_faults book.opened.value;
       image = (O.trace book.begun.value).now.image;
       plan = book.plan;
       start = book.start.value;
@@ -77,7 +76,7 @@ impl<O: Site> Model for Book<O> {
 impl<O: Site> Book<O> {
     /// Whether the count of the site's faults has risen since the book was opened.
     pub fn has_failed(&self) -> bool
-        ensures { IsTrue result ↔ Rose (O.faults self.entry.now.opened) (O.faults self.entry.now.site) }
+        ensures { IsTrue result ↔ Rose self.entry.now.opened.faults self.entry.now.site.faults }
     {
         let count = self.site.faults();
         count > self.faults || count == u64::MAX
@@ -100,8 +99,8 @@ impl<O: Site> Book<O> {
     /// Whether an entry may be made: the site has not failed, and there is room.
     pub(crate) fn may_enter(&self) -> Result<(), BookFault>
         requires room { length (entries_of self.now.log) ≤ MOST_ENTRIES }
-        ensures may { MatchResult result (λ _. CanEnter O.faults self.entry.now) (IsBarred O.faults self.entry.now) }
-        ensures risen { IfErr result (TellsRise O.faults self.entry.now) }
+        ensures may { MatchResult result (λ _. CanEnter self.entry.now) (IsBarred self.entry.now) }
+        ensures risen { IfErr result (TellsRise self.entry.now) }
     {
         if self.has_failed() {
             return Err(BookFault::Stopped(self.site.faults()));
@@ -136,102 +135,74 @@ impl<O: Site> Book<O> {
         self.entries.push_reserved(entry);
     }
 
-    /// Makes an entry whose record has this body, and stores it.
-    fn store(
-        &mut self,
-        entry: Entry,
-        next: Next,
-        body: &[u8; BODY_LENGTH],
-    ) -> Result<u64, BookFault>
-        requires kept { IsKept O.told O.trace O.faults self.old }
-        requires can { CanEnter O.faults self.old }
+    /// Stores what an entry changes, and makes the entry.
+    fn make_entry(&mut self, entry: Entry, next: Next) -> Result<u64, BookFault>
+        requires kept { IsKept O.told self.old }
+        requires can { CanEnter self.old }
         requires allows { Allows self.old.state entry.change }
         requires makes { IsNextState self.old.state entry.change next }
         requires marks { is_release entry ≡ false → KeepsMarks self.old.state (applied self.old.state entry.change) }
-        requires free { self.old.journal.used < self.old.journal.slots }
-        requires stored { (stored : Change) × (stored_as self.old.state entry.change ≡ Some stored)
-            × IsRecord stored body.now }
-        ensures kept { IsKept O.told O.trace O.faults self.new }
-        ensures made { MatchResult result (Enters entry self.old self.new)
-            (IsUnstored O.faults entry self.old self.new) }
-        ensures sunk { IsTrue O.told → (O.trace self.new.site).now.sunk ≡ (O.trace self.old.site).now.sunk }
-        ensures puts { O.put_faults self.new.site ≡ O.put_faults self.old.site }
-        ensures stood { OnOk result (O.faults self.new.site ≡ O.faults self.old.site) }
-        ensures later { O.faults self.old.site ≤ O.faults self.new.site }
+        ensures kept { IsKept O.told self.new }
+        ensures made { MatchResult result (Enters entry self.old self.new) (IsUnstored entry self.old self.new) }
+        ensures sunk { IsTrue O.told → self.new.site.trace.now.sunk ≡ self.old.site.trace.now.sunk }
+        ensures puts { self.new.site.put_faults ≡ self.old.site.put_faults }
+        ensures stood { OnOk result (self.new.site.faults ≡ self.old.site.faults) }
+        ensures later { self.old.site.faults ≤ self.new.site.faults }
     {
-        match self.journal.append(&mut self.site, body) {
+        match store(
+            &mut self.journal,
+            &mut self.site,
+            &self.state,
+            &entry.change,
+        ) {
             Ok(()) => {
                 self.enter(entry, next);
                 Ok(self.count())
             }
-            Err(JournalFault::SiteFault(count)) => {
+            Err(StoreFault::SiteFault(count)) => {
                 self.note_failed(entry);
                 Err(BookFault::SiteFault(count))
             }
-            Err(_) => unreachable!(),
+            Err(StoreFault::Full(slots)) => Err(BookFault::JournalFull(slots)),
         }
-    }
-
-    /// Makes an entry of which nothing is stored.
-    fn enter_unstored(&mut self, entry: Entry, next: Next) -> u64
-        requires kept { IsKept O.told O.trace O.faults self.old }
-        requires can { CanEnter O.faults self.old }
-        requires allows { Allows self.old.state entry.change }
-        requires makes { IsNextState self.old.state entry.change next }
-        requires marks { is_release entry ≡ false → KeepsMarks self.old.state (applied self.old.state entry.change) }
-        requires unstored { stored_as self.old.state entry.change ≡ None }
-        ensures kept { IsKept O.told O.trace O.faults self.new }
-        ensures made { Enters entry self.old self.new result }
-        ensures site { self.new.site ≡ self.old.site }
-    {
-        self.enter(entry, next);
-        self.count()
     }
 
     /// Makes an entry, and its change with it. Where something is stored for it, that is in every image that a crash
     /// may leave before the answer.
     pub(crate) fn commit(&mut self, entry: Entry, next: Next) -> Result<u64, BookFault>
-        requires kept { IsKept O.told O.trace O.faults self.old }
-        requires can { CanEnter O.faults self.old }
+        requires kept { IsKept O.told self.old }
+        requires can { CanEnter self.old }
         requires allows { Allows self.old.state entry.change }
         requires makes { IsNextState self.old.state entry.change next }
         requires marks { is_release entry ≡ false → KeepsMarks self.old.state (applied self.old.state entry.change) }
-        ensures kept { IsKept O.told O.trace O.faults self.new }
+        ensures kept { IsKept O.told self.new }
         ensures made { MatchResult result (Enters entry self.old self.new)
-            (IsUnstored O.faults entry self.old self.new) }
-        ensures goes_on { GoesOn O.faults self.old self.new }
+            (IsUnstored entry self.old self.new) }
+        ensures goes_on { GoesOn self.old self.new }
         ensures marks { is_release entry ≡ false → KeepsMarks self.old.state self.new.state }
-        ensures risen { IfErr result (TellsRise O.faults self.new) }
-        ensures sunk { IsTrue O.told → (O.trace self.new.site).now.sunk ≡ (O.trace self.old.site).now.sunk }
-        ensures puts { O.put_faults self.new.site ≡ O.put_faults self.old.site }
-        ensures later { O.faults self.old.site ≤ O.faults self.new.site }
-        ensures calm { IsCalm O.faults self.old self.new }
+        ensures risen { IfErr result (TellsRise self.new) }
+        ensures sunk { IsTrue O.told → self.new.site.trace.now.sunk ≡ self.old.site.trace.now.sunk }
+        ensures puts { self.new.site.put_faults ≡ self.old.site.put_faults }
+        ensures later { self.old.site.faults ≤ self.new.site.faults }
+        ensures calm { IsCalm self.old self.new }
     {
-        match stored_record(&self.state, &entry.change) {
-            None => Ok(self.enter_unstored(entry, next)),
-            Some(body) => {
-                if self.journal.used() == self.journal.slots() {
-                    return Err(BookFault::JournalFull(self.journal.slots()));
-                }
-                self.store(entry, next, &body)
-            }
-        }
+        self.make_entry(entry, next)
     }
 
     /// Hands octets to the site's sink. It makes no entry, and still puts after a fault of the disk.
     pub fn put(&mut self, octets: &[u8]) -> Result<(), BookFault>
-        requires kept { IsKept O.told O.trace O.faults self.old }
-        ensures kept { IsKept O.told O.trace O.faults self.new }
-        ensures made { self.new ≡ with_put (sunk_between (O.trace self.old.site) (O.trace self.new.site))
+        requires kept { IsKept O.told self.old }
+        ensures kept { IsKept O.told self.new }
+        ensures made { self.new ≡ with_put (sunk_between self.old.site.trace self.new.site.trace)
             (record self.old { site = self.new.site }) }
-        ensures put { IsTrue O.told → Puts octets.now result (O.trace self.old.site) (O.trace self.new.site) }
-        ensures fault { IfErr result (PutFails (O.faults self.old.site) (O.faults self.new.site)) }
-        ensures goes_on { GoesOn O.faults self.old self.new }
+        ensures put { IsTrue O.told → Puts octets.now result self.old.site.trace self.new.site.trace }
+        ensures fault { IfErr result (PutFails self.old.site.faults self.new.site.faults) }
+        ensures goes_on { GoesOn self.old self.new }
         ensures marks { KeepsMarks self.old.state self.new.state }
-        ensures risen { IfErr result (TellsRise O.faults self.new) }
-        ensures puts { O.put_faults self.new.site ≡ after_put result (O.put_faults self.old.site) }
-        ensures stood { OnOk result (O.faults self.new.site ≡ O.faults self.old.site) }
-        ensures later { O.faults self.old.site ≤ O.faults self.new.site }
+        ensures risen { IfErr result (TellsRise self.new) }
+        ensures puts { self.new.site.put_faults ≡ after_put result self.old.site.put_faults }
+        ensures stood { OnOk result (self.new.site.faults ≡ self.old.site.faults) }
+        ensures later { self.old.site.faults ≤ self.new.site.faults }
     {
         let before = Snapshot::of(&self.site);
         let result = self.site.put(octets);

@@ -86,18 +86,18 @@ impl<O: Site> Book<O> {
     /// Memory is asked for before the first call on the site: the change is made on a copy of the state, which takes
     /// the state's place once the change is stored.
     pub fn command(&mut self, index: u64, pdu: &[u8], seen: Seen) -> Result<(Reply, u64), BookFault>
-        requires kept { IsKept O.told O.trace O.faults self.old }
+        requires kept { IsKept O.told self.old }
         requires seen { (need : Need) → IsNeedOf self.old.state pdu.now need → MeetsNeed self.old.state need seen }
-        ensures kept { IsKept O.told O.trace O.faults self.new }
+        ensures kept { IsKept O.told self.new }
         ensures made { MatchResult result
-            (λ answer. Handles O.faults index pdu.now seen self.old self.new answer.0 answer.1)
-            (RefusesMessage O.faults index pdu.now seen self.old self.new) }
-        ensures goes_on { GoesOn O.faults self.old self.new }
+            (λ answer. Handles index pdu.now seen self.old self.new answer.0 answer.1)
+            (RefusesMessage index pdu.now seen self.old self.new) }
+        ensures goes_on { GoesOn self.old self.new }
         ensures marks { KeepsMarks self.old.state self.new.state }
-        ensures risen { IfErr result (TellsRise O.faults self.new) }
-        ensures puts { O.put_faults self.new.site ≡ O.put_faults self.old.site }
-        ensures later { O.faults self.old.site ≤ O.faults self.new.site }
-        ensures calm { IsCalm O.faults self.old self.new }
+        ensures risen { IfErr result (TellsRise self.new) }
+        ensures puts { self.new.site.put_faults ≡ self.old.site.put_faults }
+        ensures later { self.old.site.faults ≤ self.new.site.faults }
+        ensures calm { IsCalm self.old self.new }
     {
         self.may_enter()?;
         let Ok((change, reply)) = step_of(*self.entries.allocator(), &self.state, pdu, &seen) else {

@@ -1,5 +1,5 @@
 // Laws of books: each function is a statement about the definitions, and does nothing.
-ghost use Rattle.std.specs.Prelude.{◌≡◌, ℕ, ◌≤◌, List};
+ghost use Rattle.std.specs.Prelude.{◌≡◌, ℕ, ◌≤◌, Bool, List};
 ghost use Rattle.sdls_base.specs.declared.entry.Entry.{Entry};
 ghost use Rattle.sdls_outside.specs.Faults.{Rose};
 ghost use Rattle.unit_plan.specs.PlanLines.{PlanLines};
@@ -18,8 +18,6 @@ ghost use Rattle.unit_book.specs.GoesOn.{GoesOn};
 ghost use Rattle.unit_book.specs.Needs.{NamesKey};
 ghost use Rattle.unit_book.specs.Epoch.{epoch_state, ServesAlike, HasBounds, StandsLast};
 
-use sdls_outside::Site;
-
 /// Law: states that differ in marks, floors and highest numbers alone serve alike.
 pub fn states_serve_alike()
     ensures { (plan : PlanLines) (one other : State) → still one ≡ still other → ServesAlike plan one other }
@@ -27,29 +25,29 @@ pub fn states_serve_alike()
 
 /// Law: a book's state and that of its epoch differ in marks, floors and highest numbers alone, so that they serve
 /// alike.
-pub fn serves_at_epoch<O: Site>()
-    ensures still { (book : BookView O) → IsKept O.told O.trace O.faults book
+pub fn serves_at_epoch()
+    ensures still { (told : Bool) (book : BookView) → IsKept told book
         → still book.state ≡ still (epoch_state book) }
-    ensures served { (book : BookView O) → IsKept O.told O.trace O.faults book
+    ensures served { (told : Bool) (book : BookView) → IsKept told book
         → ServesAlike book.plan book.state (epoch_state book) }
 {}
 
 /// Law: the count of changes is not above the epoch of the entries. Where the site has not failed it is the same, and
 /// the state is that after all entries.
-pub fn entries_lead<O: Site>()
-    ensures changes { (book : BookView O) → IsKept O.told O.trace O.faults book
+pub fn entries_lead()
+    ensures changes { (told : Bool) (book : BookView) → IsKept told book
         → book.changes ≤ epoch_after (entries_of book.log) }
-    ensures whole { (book : BookView O) → IsKept O.told O.trace O.faults book
-        → ¬ Rose (O.faults book.opened) (O.faults book.site)
+    ensures whole { (told : Bool) (book : BookView) → IsKept told book
+        → ¬ Rose book.opened.faults book.site.faults
         → (book.state ≡ after book.start (entries_of book.log)) × (book.changes ≡ epoch_after (entries_of book.log)) }
-    ensures places { (book : BookView O) → IsKept O.told O.trace O.faults book → KeepsPlaces book.start book.state }
+    ensures places { (told : Bool) (book : BookView) → IsKept told book → KeepsPlaces book.start book.state }
 {}
 
 /// Law: until a release, no mark is below that of the state at the opening, nor of a place nor of a key.
-pub fn marks_stand<O: Site>()
-    ensures places { (book : BookView O) → IsKept O.told O.trace O.faults book → HasNoRelease (entries_of book.log)
+pub fn marks_stand()
+    ensures places { (told : Bool) (book : BookView) → IsKept told book → HasNoRelease (entries_of book.log)
         → KeepsMarks book.start book.state }
-    ensures keys { (book : BookView O) (key : ℕ) → IsKept O.told O.trace O.faults book
+    ensures keys { (told : Bool) (book : BookView) (key : ℕ) → IsKept told book
         → HasNoRelease (entries_of book.log)
         → mark_of book.start key ≤ mark_of book.state key }
 {}
@@ -60,14 +58,14 @@ pub fn states_have_bounds()
 {}
 
 /// Law: an entry that was made is the last line of the log, and its position the count of entries.
-pub fn entries_stand<O: Site>()
-    ensures { (entry : Entry) (old new : BookView O) (position : ℕ) → Made O.faults entry old new position
+pub fn entries_stand()
+    ensures { (entry : Entry) (old new : BookView) (position : ℕ) → Made entry old new position
         → StandsLast entry old.log new.log position }
 {}
 
 /// Law: what two calls leave, one after the other, is what a call leaves.
-pub fn calls_go_on<O: Site>()
-    ensures { (old mid new : BookView O) → GoesOn O.faults old mid → GoesOn O.faults mid new → GoesOn O.faults old new }
+pub fn calls_go_on()
+    ensures { (old mid new : BookView) → GoesOn old mid → GoesOn mid new → GoesOn old new }
 {}
 
 /// Law: the key that a need names is there, and the number that it names lies below the key's end.

@@ -1,9 +1,8 @@
 // The opening of a book.
 ghost use Rattle.std.specs.Prelude.{◌≡◌, ◌≤◌, IsTrue, Ok, IfOk, IfErr, MatchResult, [], vec_capacity};
+ghost use Rattle.sdls_outside.specs.Disk.{Leaves};
 ghost use Rattle.sdls_outside.specs.Moments.{EachMoment};
-ghost use Rattle.disk_journal.specs.Changes.{OnlySyncs};
-ghost use Rattle.disk_journal.specs.Image.{held};
-ghost use Rattle.disk_journal.specs.Journal.{IsSettled};
+ghost use Rattle.unit_image.specs.Image.{held, IsSettled, OnlySyncs};
 ghost use Rattle.unit_plan.specs.Plan.{plan_of};
 ghost use Rattle.unit_state.specs.State.{KeepsRules};
 ghost use Rattle.unit_image.specs.Shows.{Shows, ShowsNone};
@@ -55,13 +54,13 @@ impl<O: Site> Book<O> {
     /// An answer `Image`, with the offset of the first check that fails, says that the image shows no state; nothing is
     /// written then. Each other refusal is a fault of the site or want of memory.
     pub fn open(alloc: Global, mut site: O) -> Result<Book<O>, (OpenFault, O)>
-        ensures kept { IfOk result (IsKept O.told O.trace O.faults) }
+        ensures kept { IfOk result (IsKept O.told) }
         ensures begun { IfOk result (λ book.
             book ≡ begun book.site (O.trace site).now.image book.plan book.start book.journal) }
         // The image that was read, and the one that the opening left, show the state at the start.
         ensures shows { IsTrue O.told → IfOk result (λ book. Shows (O.trace site).now.image book.start
-            × Shows (O.trace book.site).now.image book.start
-            × SameJournal (O.trace site).now.image (O.trace book.site).now.image book.journal) }
+            × Shows book.site.trace.now.image book.start
+            × SameJournal (O.trace site).now.image book.site.trace.now.image book.journal) }
         ensures plan { IsTrue O.told → IfOk result (λ book. plan_of (held (O.trace site).now.image).plan
             ≡ Ok book.plan) }
 
@@ -72,13 +71,15 @@ impl<O: Site> Book<O> {
 
         // A crash at any moment leaves what one before may have left, or the image but for its closed gates.
         ensures any_moment { IsTrue O.told → MatchResult result
-            (λ book. EachMoment (O.trace site) (O.trace book.site) (Opening (O.trace site)))
+            (λ book. EachMoment (O.trace site) book.site.trace (Opening (O.trace site)))
             (λ refused. EachMoment (O.trace site) (O.trace refused.1) (Opening (O.trace site))) }
-        ensures puts { MatchResult result (λ book. O.put_faults book.site ≡ O.put_faults site)
+        ensures puts { MatchResult result (λ book. book.site.put_faults ≡ O.put_faults site)
             (λ refused. O.put_faults refused.1 ≡ O.put_faults site) }
-        ensures later { MatchResult result (λ book. O.faults site ≤ O.faults book.site)
+        ensures later { MatchResult result (λ book. O.faults site ≤ book.site.faults)
             (λ refused. O.faults site ≤ O.faults refused.1) }
-        ensures stood { IfOk result (λ book. O.faults book.site ≡ O.faults site) }
+        // The image as it reads is one that a crash may leave.
+        ensures stays { IsTrue O.told → IfOk result (λ book. Leaves book.site.trace.now book.site.trace.now.image) }
+        ensures stood { IfOk result (λ book. book.site.faults ≡ O.faults site) }
         // The site's count of faults rises only if a fault of the site is answered.
         ensures calm { IfErr result (λ refused. StandsUnlessFailed (O.faults site) (O.faults refused.1) refused.0) }
     {

@@ -75,18 +75,18 @@ fn release_entry_at(state: &State, place: usize, word: u64) -> Option<Entry>
 impl<O: Site> Book<O> {
     /// Releases the key at a place.
     fn release_at(&mut self, place: usize, word: u64) -> Result<(), BookFault>
-        requires kept { IsKept O.told O.trace O.faults self.old }
+        requires kept { IsKept O.told self.old }
         requires there { place < length self.old.state.keys }
         requires some { 1 ≤ word }
-        ensures kept { IsKept O.told O.trace O.faults self.new }
+        ensures kept { IsKept O.told self.new }
         ensures made { MatchOption (release_at self.old.state place word) ((result ≡ Ok tt) × (self.new ≡ self.old))
-            (λ entry. MatchResult result (λ _. (position : ℕ) × Made O.faults entry self.old self.new position)
-            (Refuses O.faults entry self.old self.new)) }
+            (λ entry. MatchResult result (λ _. (position : ℕ) × Made entry self.old self.new position)
+            (Refuses entry self.old self.new)) }
         ensures keys { length self.new.state.keys ≡ length self.old.state.keys }
-        ensures goes_on { GoesOn O.faults self.old self.new }
-        ensures risen { IfErr result (TellsRise O.faults self.new) }
-        ensures puts { O.put_faults self.new.site ≡ O.put_faults self.old.site }
-        ensures later { O.faults self.old.site ≤ O.faults self.new.site }
+        ensures goes_on { GoesOn self.old self.new }
+        ensures risen { IfErr result (TellsRise self.new) }
+        ensures puts { self.new.site.put_faults ≡ self.old.site.put_faults }
+        ensures later { self.old.site.faults ≤ self.new.site.faults }
     {
         let Some(entry) = release_entry_at(&self.state, place, word) else {
             return Ok(());
@@ -104,15 +104,15 @@ impl<O: Site> Book<O> {
     ///
     /// `next` has a word for each key row; further words are not looked at.
     pub fn release(&mut self, next: &[u64]) -> Result<(), BookFault>
-        requires kept { IsKept O.told O.trace O.faults self.old }
+        requires kept { IsKept O.told self.old }
         requires words { length self.old.state.keys ≤ length next.now }
         requires some { (place : ℕ) → place < length self.old.state.keys → 1 ≤ slice_index next.now place }
-        ensures kept { IsKept O.told O.trace O.faults self.new }
-        ensures released { Releases O.faults next.now self.old self.new result }
-        ensures goes_on { GoesOn O.faults self.old self.new }
-        ensures risen { IfErr result (TellsRise O.faults self.new) }
-        ensures puts { O.put_faults self.new.site ≡ O.put_faults self.old.site }
-        ensures later { O.faults self.old.site ≤ O.faults self.new.site }
+        ensures kept { IsKept O.told self.new }
+        ensures released { Releases next.now self.old self.new result }
+        ensures goes_on { GoesOn self.old self.new }
+        ensures risen { IfErr result (TellsRise self.new) }
+        ensures puts { self.new.site.put_faults ≡ self.old.site.put_faults }
+        ensures later { self.old.site.faults ≤ self.new.site.faults }
     {
         for place in 0..self.state.keys.rows().len() {
             match self.release_at(place, next[place]) {

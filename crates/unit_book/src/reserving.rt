@@ -42,24 +42,24 @@ impl<O: Site> Book<O> {
     /// Sees to it that a key's mark is above a number that was drawn, and answers the mark that then stands. Where it
     /// is above already no entry is made. Takes no memory.
     pub fn reserve(&mut self, key: KeyId, number: u64) -> Result<u64, BookFault>
-        requires kept { IsKept O.told O.trace O.faults self.old }
+        requires kept { IsKept O.told self.old }
         requires there { IsSome (key_row self.old.state key) }
         requires below { number < end_of key }
-        ensures kept { IsKept O.told O.trace O.faults self.new }
+        ensures kept { IsKept O.told self.new }
         ensures unneeded { number < mark_of self.old.state key
             → (result ≡ Ok (mark_of self.old.state key)) × (self.new ≡ self.old) }
         ensures made { mark_of self.old.state key ≤ number → MatchResult result
-            (λ mark. (position : ℕ) × Made O.faults (reserve_of self.old.plan self.old.state key number) self.old
+            (λ mark. (position : ℕ) × Made (reserve_of self.old.plan self.old.state key number) self.old
             self.new position
             × (mark ≡ mark_of self.new.state key))
-            (Refuses O.faults (reserve_of self.old.plan self.old.state key number) self.old self.new) }
+            (Refuses (reserve_of self.old.plan self.old.state key number) self.old self.new) }
         ensures above { (mark : ℕ) → result ≡ Ok mark → number < mark }
-        ensures goes_on { GoesOn O.faults self.old self.new }
+        ensures goes_on { GoesOn self.old self.new }
         ensures marks { KeepsMarks self.old.state self.new.state }
-        ensures risen { IfErr result (TellsRise O.faults self.new) }
-        ensures puts { O.put_faults self.new.site ≡ O.put_faults self.old.site }
-        ensures later { O.faults self.old.site ≤ O.faults self.new.site }
-        ensures calm { IsCalm O.faults self.old self.new }
+        ensures risen { IfErr result (TellsRise self.new) }
+        ensures puts { self.new.site.put_faults ≡ self.old.site.put_faults }
+        ensures later { self.old.site.faults ≤ self.new.site.faults }
+        ensures calm { IsCalm self.old self.new }
     {
         let mark = self.mark(key);
         if number < mark {

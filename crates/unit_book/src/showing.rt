@@ -30,7 +30,7 @@ impl<O: Site> Book<O> {
 
     /// The count of the site's faults.
     pub fn faults(&self) -> u64
-        ensures { result ≡ O.faults self.entry.now.site }
+        ensures { result ≡ self.entry.now.site.faults }
     {
         self.site.faults()
     }
@@ -67,7 +67,7 @@ impl<O: Site> Book<O> {
     /// Makes the first checks of a frame in clear that is to be protected, in their order, and answers what it is to be
     /// protected under. `None` is a frame that is sent as it stands. Takes no memory.
     pub fn binding(&self, link: u8, clear: &[u8]) -> Result<Option<Binding>, ShieldFault>
-        requires { IsKept O.told O.trace O.faults self.now }
+        requires { IsKept O.told self.now }
         ensures checked { result ≡ protect_check self.entry.now.plan self.entry.now.state link clear.now }
         ensures binding { IfOk result (λ found. IfSome found IsBinding) }
     {

@@ -3,8 +3,7 @@ use Rattle.std.proofs.Common.{◌≡◌, ℕ, true, List, length, refl, ◌∙�
 use Rattle.sdls_base.specs.declared.TheConstants.{MOST_KEYS}
 use Rattle.sdls_outside.specs.Moments.{Trace}
 use Rattle.sdls_outside.specs.Crash.{fresh}
-use Rattle.disk_journal.specs.Image.{held, records, slot_count}
-use Rattle.disk_journal.specs.Initial.{initial_image}
+use Rattle.unit_image.specs.Image.{held, initial_image, records, slots_of}
 use Rattle.unit_plan.specs.Plan.{plan_of}
 use Rattle.unit_plan.specs.PlanLines.{PlanLines}
 use Rattle.unit_image.specs.Shows.{Shows}
@@ -12,6 +11,7 @@ use Rattle.counter_table.specs.declared.counters.Counters.{Counters}
 use Rattle.counter_table.specs.declared.counters.Worker.{Worker}
 use Rattle.counter_table.specs.declared.view.Opening.{Opening}
 use Rattle.counter_table.specs.Worker.{view}
+use Rattle.run_promise.specs.Site.{SiteSeen}
 use Rattle.unit_book.specs.Book.{BookView}
 use Rattle.shared_unit.specs.Sharing.{Begins}
 use Rattle.shared_unit.specs.Sharing as sharing
@@ -20,10 +20,10 @@ use Rattle.unit_drill.specs.declared.image.TheConstants.{SLOTS}
 use Rattle.law_drill.specs.Drilled.{UnitIsOpened}
 use Rattle.unit_drill.specs.Drilled.{MayServe}
 
-module _ {O B : Type 0} (trace : O → Trace) (faults puts : O → ℕ) (site : O) (book : BookView O) (counters : Counters B) (planned : PlanLines)
-    (worker : Worker B) (opened : sharing.BookIsOpened true trace faults puts site book)
-    (begins : Begins trace faults puts book counters planned worker) (plan : List ℕ) (holds : trace site ≡ fresh (initial_image plan SLOTS)) where
-  image_is : (trace site).now.image ≡ initial_image plan SLOTS
+module _ {B : Type 0} (site : SiteSeen) (book : BookView) (counters : Counters B) (planned : PlanLines)
+    (worker : Worker B) (opened : sharing.BookIsOpened true site book)
+    (begins : Begins book counters planned worker) (plan : List ℕ) (holds : site.trace ≡ fresh (initial_image plan SLOTS)) where
+  image_is : site.trace.now.image ≡ initial_image plan SLOTS
   image_is = ap (λ (t : Trace). t.now.image) holds
 
   abbrev begin : Begin
@@ -32,7 +32,7 @@ module _ {O B : Type 0} (trace : O → Trace) (faults puts : O → ℕ) (site : 
     told = true;
     plan = book.plan;
     start = book.start;
-    slots = slot_count (view worker).turn.known.opening.image;
+    slots = slots_of (view worker).turn.known.opening.image;
     used = length (records (view worker).turn.known.opening.image);
   }
 
@@ -50,7 +50,7 @@ module _ {O B : Type 0} (trace : O → Trace) (faults puts : O → ℕ) (site : 
           slots = λ told. refl;
           used = λ told. refl;
         };
-        image = ap (λ (o : Opening). o.image) begins.opening ∙ (ap (λ (b : BookView O). b.image) opened.begun_is ∙ image_is);
+        image = ap (λ (o : Opening). o.image) begins.opening ∙ (ap (λ (b : BookView). b.image) opened.begun_is ∙ image_is);
         says = subst (λ (i : List ℕ). plan_of (held i).plan ≡ Ok book.plan) image_is (opened.plan refl);
         shows = subst (λ (i : List ℕ). Shows i book.start) image_is (opened.shows refl).0;
         whole = begins.whole;

@@ -12,7 +12,7 @@ use Rattle.run_promise.specs.Begin.{Begin}
 use Rattle.law_workers.specs.Deeds.{deeds_of}
 use Rattle.law_workers.specs.Order.{Handled, Layout, LiesIn}
 use Rattle.law_workers.specs.Began.{BeganWith}
-use Rattle.disk_journal.specs.Image.{records, slot_count}
+use Rattle.unit_image.specs.Image.{records, slots_of, used_of}
 use Rattle.law_workers.specs.Ends.{EndsSegment}
 use Rattle.law_drill.specs.Drilled.{HandlesSegment, tells_fault}
 use Rattle.law_drill.proofs.Tasks.{OnLane, drill_layout, drill_lies}
@@ -41,8 +41,8 @@ begin_with opening = record {
   told = true;
   plan = opening.plan;
   start = opening.start;
-  slots = slot_count opening.image;
-  used = length (records opening.image);
+  slots = slots_of opening.image;
+  used = used_of opening.image;
 }
 
 -- no more answers than records

@@ -1,6 +1,6 @@
 //! The images of the two units.
 ghost use Rattle.std.specs.Prelude.{◌≡◌, ◌≤◌, IfOk, length};
-ghost use Rattle.disk_journal.specs.Initial.{initial_image};
+ghost use Rattle.unit_image.specs.Image.{initial_image};
 ghost use Rattle.sdls_outside.specs.Crash.{fresh};
 ghost use Rattle.sdls_outside.specs.MemSite.{site_trace};
 ghost use Rattle.law_drill.specs.Plans.{receiver_plan, sender_plan};

@@ -1,3 +1,5 @@
 pub mod Leading
 pub mod Recorded
 pub mod Shown
+pub mod Stored
+pub mod Images

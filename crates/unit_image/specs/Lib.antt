@@ -1,2 +1,4 @@
+pub mod Image
 pub mod Shows
 pub mod OpeningImage
+pub mod Storing

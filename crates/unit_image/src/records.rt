@@ -31,7 +31,7 @@ fn acceptance_record(state: &State, key: KeyId, floor: u64) -> Option<[u8; BODY_
 }
 
 /// The body of the record that is stored for a change which the state allows, where one is stored. Takes no memory.
-pub fn stored_record(state: &State, change: &Change) -> Option<[u8; BODY_LENGTH]>
+pub(crate) fn stored_record(state: &State, change: &Change) -> Option<[u8; BODY_LENGTH]>
     requires allowed { Allows state.now change.now }
     ensures { MatchOption result (stored_as state.now change.now ≡ None)
         (λ body. (stored : Change) × (stored_as state.now change.now ≡ Some stored) × IsRecord stored body) }

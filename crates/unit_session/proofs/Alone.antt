@@ -80,18 +80,18 @@ made_one_more made n each x =
     let a = each x in let b = stands_both x made (places n 1) in let c = stands_one n x in
     grind (arith, nat_tests)
 
-module _ {O : Type 0} (told : Bool) (trace : O → Trace) (faults puts : O → ℕ) (octets : List ℕ) (result : Result (Unit {0}) BookFault)
-    (v w : View) (found given : BookView O) (free : v.turn.holds ≡ false) (numbers : w.numbers ≡ v.numbers)
-    (visits : Visits told trace faults puts found given v.turn w.turn) (put : IsPut told trace faults puts octets result found given)
-    (known : IsAsKnown v.turn (known_of_book trace faults puts found)) where
+module _ (told : Bool) (octets : List ℕ) (result : Result (Unit {0}) BookFault)
+    (v w : View) (found given : BookView) (free : v.turn.holds ≡ false) (numbers : w.numbers ≡ v.numbers)
+    (visits : Visits told found given v.turn w.turn) (put : IsPut told octets result found given)
+    (known : IsAsKnown v.turn (known_of_book found)) where
   abbrev piece : List ℕ
-  piece = sunk_between (trace found.site) (trace given.site)
+  piece = sunk_between found.site.trace given.site.trace
 
-  known_is : w.turn.known ≡ known_of_book trace faults puts given
+  known_is : w.turn.known ≡ known_of_book given
   known_is = ap (λ (t : Turn). t.known) visits.takes.turn
 
   given_log : given.log ≡ log_of v ++ lines.Piece piece ∷ []
-  given_log = ap (λ (b : BookView O). b.log) put.made ∙ ap (λ (l : List Logged). l ++ lines.Piece piece ∷ []) known.log
+  given_log = ap (λ (b : BookView). b.log) put.made ∙ ap (λ (l : List Logged). l ++ lines.Piece piece ∷ []) known.log
 
   log_is : log_of w ≡ log_of v ++ lines.Piece piece ∷ []
   log_is = ap (λ (k : Known). k.log) known_is ∙ given_log
@@ -122,7 +122,7 @@ module _ {O : Type 0} (told : Bool) (trace : O → Trace) (faults puts : O → �
         ap (stands x) made_is ∙ made_one_more v.turn.made (length (log_of v)) whole.made x ∙ ap (once_below x) (sym long);
   }
 
-  rose_from : (r : Result (Unit {0}) BookFault) → IfErr r (PutFails (faults found.site) (faults given.site)) → OnErr r (Rose (faults found.site) (faults given.site))
+  rose_from : (r : Result (Unit {0}) BookFault) → IfErr r (PutFails found.site.faults given.site.faults) → OnErr r (Rose found.site.faults given.site.faults)
   rose_from (Ok done) h = tt
   rose_from (Err (SiteFault count)) h = h.0
   rose_from (Err (Stopped count)) h = absurd h
@@ -130,18 +130,18 @@ module _ {O : Type 0} (told : Bool) (trace : O → Trace) (faults puts : O → �
   rose_from (Err (JournalFull slots)) h = absurd h
   rose_from (Err NoMemory) h = absurd h
 
-  rose_since : (r : Result (Unit {0}) BookFault) → OnErr r (Rose (faults found.site) (faults given.site))
-      → faults found.opened ≤ faults found.site → OnErr r (Rose w.turn.known.opening.faults w.turn.known.faults)
+  rose_since : (r : Result (Unit {0}) BookFault) → OnErr r (Rose found.site.faults given.site.faults)
+      → found.opened.faults ≤ found.site.faults → OnErr r (Rose w.turn.known.opening.faults w.turn.known.faults)
   rose_since (Ok done) h low = tt
   rose_since (Err fault) h low =
-      let a : w.turn.known.faults ≡ faults given.site = ap (λ (k : Known). k.faults) known_is in
-      let b : w.turn.known.opening.faults ≡ faults found.opened =
+      let a : w.turn.known.faults ≡ given.site.faults = ap (λ (k : Known). k.faults) known_is in
+      let b : w.turn.known.opening.faults ≡ found.opened.faults =
       ap (λ (k : Known). k.opening.faults) known_is ∙ ap (λ (o : _). o.faults) visits.takes.opening in
       omega arith
 
-  module _ (works : (begin : Begin) (tasks : List Record) → Visited told trace faults puts begin found given v w → Worked begin v w tasks)
-      (settles : (begin : Begin) → Visited told trace faults puts begin found given v w → SettlesAt begin v w given.standing found.standing (length found.log)) where
-    visited : (begin : Begin) → BeganWith told begin v.turn.known.opening → Visited told trace faults puts begin found given v w
+  module _ (works : (begin : Begin) (tasks : List Record) → Visited told begin found given v w → Worked begin v w tasks)
+      (settles : (begin : Begin) → Visited told begin found given v w → SettlesAt begin v w given.standing found.standing (length found.log)) where
+    visited : (begin : Begin) → BeganWith told begin v.turn.known.opening → Visited told begin found given v w
     visited begin began = record { began = began; free = free; visits = visits; numbers = numbers }
 
     puts_one : (begin : Begin) → BeganWith told begin v.turn.known.opening → PutsPieces begin v w
@@ -171,6 +171,6 @@ module _ {O : Type 0} (told : Bool) (trace : O → Trace) (faults puts : O → �
         numbers = numbers;
       };
       adds = λ is_told. subst (λ (l : List ℕ). Adds octets result (octets_put v) l) (sym octets_are)
-          (sunk_adds octets (octets_put v) result (trace found.site) (trace given.site) (put.put is_told));
+          (sunk_adds octets (octets_put v) result found.site.trace given.site.trace (put.put is_told));
       settles = settles_one;
     }

@@ -9,7 +9,7 @@ use Rattle.counter_table.specs.declared.counters.Worker.{Worker}
 use Rattle.counter_table.specs.declared.view.Opening as openings
 use Rattle.counter_table.specs.Numbers.{top}
 use Rattle.counter_table.specs.Worker.{view}
-use Rattle.disk_journal.specs.Image.{held, records, slot_count}
+use Rattle.unit_image.specs.Image.{held, slots_of, used_of}
 use Rattle.record_io.specs.Reading.{SourceSeen}
 use Rattle.unit_plan.specs.Plan.{plan_of}
 use Rattle.unit_plan.specs.PlanLines.{PlanLines}
@@ -18,6 +18,7 @@ use Rattle.unit_state.specs.declared.state.State.{State}
 use Rattle.unit_state.specs.Restart.{restarted}
 use Rattle.unit_image.specs.OpeningImage.{Opening}
 use Rattle.unit_image.specs.Shows.{Shows}
+use Rattle.run_promise.specs.Site.{SiteSeen}
 use Rattle.run_promise.specs.Log.{entries_of}
 use Rattle.run_promise.specs.Stored.{stored_count}
 use Rattle.unit_book.specs.Book.{BookView}
@@ -36,21 +37,21 @@ pub opened_sunk : (old new : Trace) → EachMoment old new (Opening old) → Lea
 opened_sunk old new each leaves = (each.each new.now.image new.now.sunk (moment_now new (clock old) new.now.image leaves)).1
 
 -- the image that is known of stays while End is put
-image_stays : {O : Type 0} → (told : Bool) (trace : O → Trace) (faults puts : O → ℕ) (came end : RunEnd) (old new : BookView O) (status : ℕ)
-    → PutsEnd told trace faults puts came end old new status → new.image ≡ old.image
-image_stays {O} told trace faults puts came end old new status (inl (came_is, same, status_is)) = ap (λ (b : BookView O). b.image) same
-image_stays {O} told trace faults puts came end old new status (inr (came_is, put)) = ap (λ (b : BookView O). b.image) put.made
+image_stays : (told : Bool) (came end : RunEnd) (old new : BookView) (status : ℕ)
+    → PutsEnd told came end old new status → new.image ≡ old.image
+image_stays told came end old new status (inl (came_is, same, status_is)) = ap (λ (b : BookView). b.image) same
+image_stays told came end old new status (inr (came_is, put)) = ap (λ (b : BookView). b.image) put.made
 
-module _ {O B : Type 0} (told : Bool) (trace : O → Trace) (faults puts : O → ℕ) (site after : O) (opened : BookView O) (counters : Counters B) (plan : PlanLines)
-    (worker : Worker B) (here : BookIsOpened told trace faults puts site opened) (begins : Begins trace faults puts opened counters plan worker)
+module _ {B : Type 0} (told : Bool) (site after : SiteSeen) (opened : BookView) (counters : Counters B) (plan : PlanLines)
+    (worker : Worker B) (here : BookIsOpened told site opened) (begins : Begins opened counters plan worker)
     (source source_after : SourceSeen) (entries : List Entry) (status : ℕ)
-    (runs : RunsUnit told trace faults puts (faults site) source source_after (view worker) after entries status) where
+    (runs : RunsUnit told site.faults source source_after (view worker) after entries status) where
   -- what the book was opened with
-  same_opening : (known_of_book trace faults puts runs.book).opening ≡ (known_of_book trace faults puts opened).opening
+  same_opening : (known_of_book runs.book).opening ≡ (known_of_book opened).opening
   same_opening = runs.closes.follows.opening ∙ runs.opening ∙ begins.opening
 
-  image_is : runs.book.image ≡ (trace site).now.image
-  image_is = ap (λ (o : openings.Opening). o.image) same_opening ∙ ap (λ (b : BookView O). b.image) here.begun_is
+  image_is : runs.book.image ≡ site.trace.now.image
+  image_is = ap (λ (o : openings.Opening). o.image) same_opening ∙ ap (λ (b : BookView). b.image) here.begun_is
 
   plan_is : runs.book.plan ≡ opened.plan
   plan_is = ap (λ (o : openings.Opening). o.plan) same_opening
@@ -58,59 +59,58 @@ module _ {O B : Type 0} (told : Bool) (trace : O → Trace) (faults puts : O →
   start_is : runs.book.start ≡ opened.start
   start_is = ap (λ (o : openings.Opening). o.start) same_opening
 
-  trail_is : trace runs.book.opened ≡ trace opened.site
-  trail_is = ap (λ (o : openings.Opening). o.trail) same_opening ∙ ap (λ (b : BookView O). trace b.opened) here.begun_is
+  trail_is : runs.book.opened.trace ≡ opened.site.trace
+  trail_is = ap (λ (o : openings.Opening). o.trail) same_opening ∙ ap (λ (b : BookView). b.opened.trace) here.begun_is
 
-  faults_are : faults runs.book.opened ≡ faults site
-  faults_are = ap (λ (o : openings.Opening). o.faults) same_opening ∙ ap (λ (b : BookView O). faults b.opened) here.begun_is ∙ here.stood
+  faults_are : runs.book.opened.faults ≡ site.faults
+  faults_are = ap (λ (o : openings.Opening). o.faults) same_opening ∙ ap (λ (b : BookView). b.opened.faults) here.begun_is ∙ here.stood
 
-  pub says : IsTrue told → plan_of (held (trace site).now.image).plan ≡ Ok runs.book.plan
-  says is_told = subst (λ (p : PlanLines). plan_of (held (trace site).now.image).plan ≡ Ok p) (sym plan_is) (here.plan is_told)
+  pub says : IsTrue told → plan_of (held site.trace.now.image).plan ≡ Ok runs.book.plan
+  says is_told = subst (λ (p : PlanLines). plan_of (held site.trace.now.image).plan ≡ Ok p) (sym plan_is) (here.plan is_told)
 
-  shows : IsTrue told → Shows (trace site).now.image runs.book.start
-  shows is_told = subst (Shows (trace site).now.image) (sym start_is) (here.shows is_told).0
+  shows : IsTrue told → Shows site.trace.now.image runs.book.start
+  shows is_told = subst (Shows site.trace.now.image) (sym start_is) (here.shows is_told).0
 
-  began : BeganWith told (begin_by told (trace site).now.image runs.book.plan runs.book.start) (view worker).turn.known.opening
+  began : BeganWith told (begin_by told site.trace.now.image runs.book.plan runs.book.start) (view worker).turn.known.opening
   began =
-      let first : (known_of_book trace faults puts runs.book).opening ≡ (view worker).turn.known.opening = runs.closes.follows.opening ∙ runs.opening in
-      let same : (view worker).turn.known.opening.image ≡ (trace site).now.image =
+      let first : (known_of_book runs.book).opening ≡ (view worker).turn.known.opening = runs.closes.follows.opening ∙ runs.opening in
+      let same : (view worker).turn.known.opening.image ≡ site.trace.now.image =
       ap (λ (o : openings.Opening). o.image) (sym first) ∙ image_is in
       record {
         rows = refl;
         tells = refl;
         plan = ap (λ (o : openings.Opening). o.plan) (sym first);
         start = ap (λ (o : openings.Opening). o.start) (sym first);
-        slots = λ is_told. ap slot_count (sym same);
-        used = λ is_told. ap (λ (i : List ℕ). length (records i)) (sym same);
+        slots = λ is_told. ap slots_of (sym same);
+        used = λ is_told. ap (λ (i : List ℕ). used_of i) (sym same);
       }
 
-  come : HasCome source source_after (begin_by told (trace site).now.image runs.book.plan runs.book.start) (view worker) runs.now
-      (puts site) (puts runs.book.site) runs.book.standing runs.came
+  come : HasCome source source_after (begin_by told site.trace.now.image runs.book.plan runs.book.start) (view worker) runs.now
+      site.put_faults runs.book.site.put_faults runs.book.standing runs.came
   come =
-      let before : (view worker).turn.known.put_faults ≡ puts site = begins.put_faults ∙ here.puts_same in
-      subst (λ (n : ℕ). HasCome source source_after (begin_by told (trace site).now.image runs.book.plan runs.book.start) (view worker) runs.now
-      n (puts runs.book.site) runs.book.standing runs.came) before
-      (subst (λ (n : ℕ). HasCome source source_after (begin_by told (trace site).now.image runs.book.plan runs.book.start) (view worker) runs.now
+      let before : (view worker).turn.known.put_faults ≡ site.put_faults = begins.put_faults ∙ here.puts_same in
+      subst (λ (n : ℕ). HasCome source source_after (begin_by told site.trace.now.image runs.book.plan runs.book.start) (view worker) runs.now
+      n runs.book.site.put_faults runs.book.standing runs.came) before
+      (subst (λ (n : ℕ). HasCome source source_after (begin_by told site.trace.now.image runs.book.plan runs.book.start) (view worker) runs.now
       (view worker).turn.known.put_faults n runs.book.standing runs.came) (sym runs.closes.as_known.put_faults)
-      (subst (λ (n : ℕ). HasCome source source_after (begin_by told (trace site).now.image runs.book.plan runs.book.start) (view worker) runs.now
+      (subst (λ (n : ℕ). HasCome source source_after (begin_by told site.trace.now.image runs.book.plan runs.book.start) (view worker) runs.now
       (view worker).turn.known.put_faults runs.now.turn.known.put_faults n runs.came) (sym runs.closes.as_known.standing)
-      (runs.comes (begin_by told (trace site).now.image runs.book.plan runs.book.start) began)))
+      (runs.comes (begin_by told site.trace.now.image runs.book.plan runs.book.start) began)))
 
-  pub has_run : ((site : O) → IsTrue told → Leaves (trace site).now (trace site).now.image)
-      → ((text : List ℕ) (plan : PlanLines) → plan_of text ≡ Ok plan → IsPlan plan)
+  pub has_run : ((text : List ℕ) (plan : PlanLines) → plan_of text ≡ Ok plan → IsPlan plan)
       → ((image : List ℕ) (state : State) → Shows image state → restarted state ≡ state)
-      → Ran told trace faults puts site source source_after (view worker) runs.now runs.came runs.book runs.words
-  has_run may_stay plans left = record {
+      → Ran told site source source_after (view worker) runs.now runs.came runs.book runs.words
+  has_run plans left = record {
     says = says;
     shows = shows;
-    opening = λ is_told. subst (λ (t : Trace). EachMoment (trace site) t (Opening (trace site))) (sym trail_is) (here.any_moment is_told);
-    sunk = λ is_told. ap (λ (t : Trace). t.now.sunk) trail_is ∙ opened_sunk (trace site) (trace opened.site) (here.any_moment is_told) (may_stay opened.site is_told);
+    opening = λ is_told. subst (λ (t : Trace). EachMoment site.trace t (Opening site.trace)) (sym trail_is) (here.any_moment is_told);
+    sunk = λ is_told. ap (λ (t : Trace). t.now.sunk) trail_is ∙ opened_sunk site.trace opened.site.trace (here.any_moment is_told) (here.stays is_told);
     same_faults = faults_are;
     founded = λ is_told. record {
       rows = refl;
-      plan_is = plans (held (trace site).now.image).plan runs.book.plan (says is_told);
+      plan_is = plans (held site.trace.now.image).plan runs.book.plan (says is_told);
       rules = runs.kept.begins;
-      left = left (trace site).now.image runs.book.start (shows is_told);
+      left = left site.trace.now.image runs.book.start (shows is_told);
       opened = record {
         none_drawn = begins.drawn;
         none_made = begins.made;
@@ -131,12 +131,12 @@ module _ {O B : Type 0} (told : Bool) (trace : O → Trace) (faults puts : O →
   }
 
   -- the slots of the image are counted to the end
-  pub counts : CountsSlots told faults (trace site).now.image runs.finishes.last
+  pub counts : CountsSlots told site.trace.now.image runs.finishes.last
   counts = λ is_told stood.
       let counted = runs.finishes.kept.counted is_told stood in
-      let same : runs.finishes.last.image ≡ (trace site).now.image =
-      image_stays told trace faults puts runs.came runs.finishes.end runs.finishes.released runs.finishes.last status runs.finishes.puts_end
+      let same : runs.finishes.last.image ≡ site.trace.now.image =
+      image_stays told runs.came runs.finishes.end runs.finishes.released runs.finishes.last status runs.finishes.puts_end
       ∙ runs.finishes.goes_on.image ∙ image_is in (
-        counted.slots ∙ ap slot_count same,
-        counted.used ∙ ap (λ (i : List ℕ). length (records i) + stored_count runs.finishes.last.start (entries_of runs.finishes.last.log)) same,
+        counted.slots ∙ ap slots_of same,
+        counted.used ∙ ap (λ (i : List ℕ). used_of i + stored_count runs.finishes.last.start (entries_of runs.finishes.last.log)) same,
       )

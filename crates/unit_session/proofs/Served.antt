@@ -5,7 +5,7 @@ use Rattle.sdls_base.specs.declared.TheConstants.{MOST_KEYS}
 use Rattle.counter_table.specs.declared.view.Opening.{Opening}
 use Rattle.counter_table.specs.declared.view.View.{View}
 use Rattle.counter_table.specs.Whole.{IsWhole}
-use Rattle.disk_journal.specs.Image.{records, slot_count}
+use Rattle.unit_image.specs.Image.{records, slots_of, used_of}
 use Rattle.record_io.specs.declared.answers.Answer.{Answer}
 use Rattle.record_io.specs.declared.records.Record.{Record}
 use Rattle.record_io.specs.Answers.{answers_octets}
@@ -36,8 +36,8 @@ begin_with told opening = record {
   told = told;
   plan = opening.plan;
   start = opening.start;
-  slots = slot_count opening.image;
-  used = length (records opening.image);
+  slots = slots_of opening.image;
+  used = used_of opening.image;
 }
 
 pub began_with : (told : Bool) (opening : Opening) → BeganWith told (begin_with told opening) opening

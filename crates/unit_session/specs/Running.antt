@@ -13,6 +13,7 @@ use Rattle.record_io.specs.declared.status.TheConstants.{SITE_FAULT}
 use Rattle.record_io.specs.Answers.{answer_octets}
 use Rattle.record_io.specs.Reading.{SourceSeen}
 use Rattle.unit_image.specs.declared.fault.OpenFault.{OpenFault}
+use Rattle.run_promise.specs.Site.{SiteSeen}
 use Rattle.unit_book.specs.Book.{BookView, IsKept}
 use Rattle.shared_unit.specs.Told.{known_of_book}
 use Rattle.run_promise.specs.Begin.{Begin}
@@ -26,29 +27,27 @@ use Rattle.unit_session.specs.Serving.{Comes}
 -- The one worker, from the first view to the last, served the input of the source until this end came; then the unit
 -- was closed with these words `next`, and the run was ended, which left the site so. So many faults had been counted
 -- before the run.
-pub record RunsUnit {O : Type 0} (told : Bool) (trace : O → Trace) (faults puts : O → ℕ) (before : ℕ)
-    (source source_after : SourceSeen)
-    (first : View) (site : O) (entries : List Entry) (status : ℕ) : Type 0 where
+pub record RunsUnit (told : Bool) (before : ℕ) (source source_after : SourceSeen) (first : View) (site : SiteSeen)
+    (entries : List Entry) (status : ℕ) : Type 0 where
   pub now : View
   pub came : RunEnd
-  pub book : BookView O
+  pub book : BookView
   pub words : List ℕ
   pub comes : (begin : Begin) → BeganWith told begin first.turn.known.opening
       → Comes source source_after begin first now came
   pub opening : now.turn.known.opening ≡ first.turn.known.opening
   pub whole : IsWhole MOST_KEYS now
-  pub kept : IsKept told trace faults book
-  pub closes : ClosesCounters MOST_KEYS now (known_of_book trace faults puts book) words
-  pub finishes : Finishes told trace faults puts before words came book site entries status
+  pub kept : IsKept told book
+  pub closes : ClosesCounters MOST_KEYS now (known_of_book book) words
+  pub finishes : Finishes told before words came book site entries status
 
 -- where a book was not opened: End was put, or a front of it; so many faults had been counted before the run
-pub record PutsRefusal {O : Type 0} (told : Bool) (trace : O → Trace) (faults_of puts : O → ℕ) (before : ℕ)
-    (fault : OpenFault) (site after : O)
+pub record PutsRefusal (told : Bool) (before : ℕ) (fault : OpenFault) (site after : SiteSeen)
     (status : ℕ) : Type 0 where
   pub end : RunEnd
-  pub end_is : IsToldEnd before (faults_of site) (faults_of site) (refused_end fault) (Ok tt) end
+  pub end_is : IsToldEnd before site.faults site.faults (refused_end fault) (Ok tt) end
   pub put : Result (Unit {0}) Failed
-  pub sinks : IsTrue told → sites.Puts (answer_octets (end_answer end 0)) put (trace site) (trace after)
-  pub counted : puts after ≡ sites.after_put put (puts site)
-  pub cause : HasCause (faults_of site) (faults_of after) put
+  pub sinks : IsTrue told → sites.Puts (answer_octets (end_answer end 0)) put site.trace after.trace
+  pub counted : after.put_faults ≡ sites.after_put put site.put_faults
+  pub cause : HasCause site.faults after.faults put
   pub status_is : MatchResult put (λ _. status ≡ end_status end) (λ _. status ≡ SITE_FAULT)

@@ -3,6 +3,7 @@ ghost use Rattle.std.specs.Prelude.{◌≡◌, ◌↔◌, ◌<◌, ◌≤◌, �
 ghost use Rattle.sdls_outside.specs.Faults.{Rose};
 ghost use Rattle.unit_book.specs.Book.{BookView, IsKept};
 ghost use Rattle.run_promise.specs.Account.{end_answer};
+ghost use Rattle.run_promise.specs.Site.{site_seen};
 ghost use Rattle.law_runs.specs.Ending.{Finishes, IsToldEnd, PutsEnd};
 
 use record_io::status::SITE_FAULT;
@@ -65,9 +66,9 @@ pub(crate) fn answer_of(alloc: Global, end: RunEnd, entries: u64) -> Answer
 
 /// Puts End, and answers the status. Where a put failed before, nothing is put.
 fn put_end<O: Site>(alloc: Global, book: &mut Book<O>, came: RunEnd, told: RunEnd) -> u8
-    requires kept { IsKept O.told O.trace O.faults book.old }
-    ensures kept { IsKept O.told O.trace O.faults book.new }
-    ensures ends { PutsEnd O.told O.trace O.faults O.put_faults came told book.old book.new result }
+    requires kept { IsKept O.told book.old }
+    ensures kept { IsKept O.told book.new }
+    ensures ends { PutsEnd O.told came told book.old book.new result }
 {
     if came == RunEnd::PutFailed {
         return SITE_FAULT;
@@ -88,12 +89,12 @@ pub fn finish<O: Site>(
     before: u64,
     came: RunEnd,
 ) -> Outcome<O>
-    requires kept { IsKept O.told O.trace O.faults book }
+    requires kept { IsKept O.told book }
     requires words { length book.state.keys ≤ length words.now }
     requires some { (place : ℕ) → place < length book.state.keys → 1 ≤ slice_index words.now place }
-    requires later { before ≤ O.faults book.site }
-    ensures finishes { Finishes O.told O.trace O.faults O.put_faults before words.now came book result.site
-        result.entries.items result.status }
+    requires later { before ≤ book.site.faults }
+    ensures finishes { Finishes O.told before words.now came book
+        (site_seen O.trace O.faults O.put_faults result.site) result.entries.items result.status }
 {
     let last = book.faults();
     let released = book.release(words);

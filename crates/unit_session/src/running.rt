@@ -5,7 +5,7 @@ ghost use Rattle.counter_table.specs.Worker.{view};
 ghost use Rattle.record_io.specs.Reading.{SourceSeen};
 ghost use Rattle.run_promise.specs.Lives.{EndsAndLives};
 ghost use Rattle.run_promise.specs.Account.{end_status};
-ghost use Rattle.run_promise.specs.Call.{call_seen};
+ghost use Rattle.run_promise.specs.Site.{site_seen};
 ghost use Rattle.law_runs.specs.Refused.{refused_end};
 ghost use Rattle.unit_session.specs.Putting.{IsAlone};
 ghost use Rattle.unit_session.specs.Running.{PutsRefusal, RunsUnit};
@@ -50,7 +50,8 @@ fn status_of(put: Result<(), Failed>, told: RunEnd) -> u8
 /// Puts End where the book was not opened. `before` is the site's count of faults before the run.
 fn refuse<O: Site>(alloc: Global, before: u64, fault: OpenFault, mut site: O) -> Outcome<O>
     requires later { before ≤ O.faults site }
-    ensures puts { PutsRefusal O.told O.trace O.faults O.put_faults before fault site result.site result.status }
+    ensures puts { PutsRefusal O.told before fault (site_seen O.trace O.faults O.put_faults site)
+        (site_seen O.trace O.faults O.put_faults result.site) result.status }
     ensures entries { result.entries.items ≡ [] }
 {
     let now = site.faults();
@@ -88,8 +89,8 @@ fn serve_unit<R: Threads + Wait + Sync, S: Source, O: Site + Send, G: Gate + Syn
     ensures { let seen : SourceSeen = record { told = S.told; left = S.left source.old; faults = S.faults source.old }
         in
         let after : SourceSeen = record { told = S.told; left = S.left source.new; faults = S.faults source.new } in
-        RunsUnit O.told O.trace O.faults O.put_faults before seen after (view worker) result.site result.entries.items
-        result.status }
+        RunsUnit O.told before seen after (view worker) (site_seen O.trace O.faults O.put_faults result.site)
+        result.entries.items result.status }
 {
     let mut session = Session::new(alloc, unit, worker);
     let came = session.serve_input(rt, alloc, source, gate);
@@ -115,14 +116,21 @@ pub fn run_recorded<R: Threads + Wait + Sync, S: Source, O: Site + Send, G: Gate
     ensures { let before : SourceSeen = record { told = S.told; left = S.left source.old; faults = S.faults source.old }
         in
         let after : SourceSeen = record { told = S.told; left = S.left source.new; faults = S.faults source.new } in
-        EndsAndLives (call_seen O.told O.trace O.faults O.put_faults site result.site before after result.status
-        result.entries.items) }
+        EndsAndLives (record {
+          source = before;
+          source_after = after;
+          told = O.told;
+          site = site_seen O.trace O.faults O.put_faults site;
+          site_after = site_seen O.trace O.faults O.put_faults result.site;
+          status = result.status;
+          entries = result.entries.items;
+        }) }
 {
     let before = site.faults();
     image_stays::<O>();
     shown_keeps_rules();
-    run_ends_well::<O>();
-    refused_run_ends::<O>();
+    run_ends_well();
+    refused_run_ends();
     match Unit::open(rt, alloc, site) {
         Ok((unit, worker)) => serve_unit(rt, alloc, source, gate, unit, worker, before),
         Err((fault, site)) => refuse(alloc, before, fault, site),

@@ -28,15 +28,15 @@ returns-clause-answered g c layout begin segment b =
     let left : List ℕ = c.open_frame-opened.new.frame in
     let (found, given, visits, told) = c.open_frame-opened.ensures.opened in
     let same : c.as_mut_slice.result.now ≡ task.octets = c.as_mut_slice.ensures.value ∙ (c.in-Ok.ensures.items ∙ c.as_slice.ensures) in
-    let opened = subst (λ (l : List ℕ). WithPosition c.open_frame-opened.result (known_of_book g.O.Site.trace g.O.Site.faults g.O.Site.put_faults given)
+    let opened = subst (λ (l : List ℕ). WithPosition c.open_frame-opened.result (known_of_book given)
     (λ answer. MatchResult answer
-    (λ told. OpensWithEntry g.O.Site.faults task.index task.link l (field_in told.0 left) found given told.0 told.1 × LeavesOctets told.0 l left)
-    (RefusesFrame g.O.Site.faults task.index task.link l found given))) same told in
+    (λ told. OpensWithEntry task.index task.link l (field_in told.0 left) found given told.0 told.1 × LeavesOctets told.0 l left)
+    (RefusesFrame task.index task.link l found given))) same told in
     let long : length left ≡ length c.as_mut_slice.result.now = c.open_frame-opened.auto.frame in
     let size : length left ≡ length c.in-Ok.frame.items = long ∙ ap length c.as_mut_slice.ensures.value in
     let all : take c.in-Ok.frame.len (left ++ drop (length left) c.in-Ok.frame.items) ≡ left = slice_whole c.in-Ok.frame.len left c.in-Ok.frame.items size c.in-Ok.frame.ok.0 in
     subst (Answered layout begin segment v w task) (sym (c.opened_answer.ensures ∙ ap (opened_answer c.open_frame-opened.result) all))
-    (opening_answers g.O.Site.told g.O.Site.trace g.O.Site.faults g.O.Site.put_faults begin layout segment task v w found given b c.requires.ready.free c.requires.kind
+    (opening_answers g.O.Site.told begin layout segment task v w found given b c.requires.ready.free c.requires.kind
     c.open_frame-opened.ensures.numbers.1 visits left c.open_frame-opened.result opened)
 
 pub returns-in_default-clause-exactly : goal.returns-in_default-clause-exactly
@@ -49,15 +49,15 @@ returns-clause-exactly g c begin segment b =
     let left : List ℕ = c.open_frame-opened.new.frame in
     let (found, given, visits, told) = c.open_frame-opened.ensures.opened in
     let same : c.as_mut_slice.result.now ≡ task.octets = c.as_mut_slice.ensures.value ∙ (c.in-Ok.ensures.items ∙ c.as_slice.ensures) in
-    let opened = subst (λ (l : List ℕ). WithPosition c.open_frame-opened.result (known_of_book g.O.Site.trace g.O.Site.faults g.O.Site.put_faults given)
+    let opened = subst (λ (l : List ℕ). WithPosition c.open_frame-opened.result (known_of_book given)
     (λ answer. MatchResult answer
-    (λ told. OpensWithEntry g.O.Site.faults task.index task.link l (field_in told.0 left) found given told.0 told.1 × LeavesOctets told.0 l left)
-    (RefusesFrame g.O.Site.faults task.index task.link l found given))) same told in
+    (λ told. OpensWithEntry task.index task.link l (field_in told.0 left) found given told.0 told.1 × LeavesOctets told.0 l left)
+    (RefusesFrame task.index task.link l found given))) same told in
     let long : length left ≡ length c.as_mut_slice.result.now = c.open_frame-opened.auto.frame in
     let size : length left ≡ length c.in-Ok.frame.items = long ∙ ap length c.as_mut_slice.ensures.value in
     let all : take c.in-Ok.frame.len (left ++ drop (length left) c.in-Ok.frame.items) ≡ left = slice_whole c.in-Ok.frame.len left c.in-Ok.frame.items size c.in-Ok.frame.ok.0 in
     subst (AnsweredExactly begin segment v w task) (sym (c.opened_answer.ensures ∙ ap (opened_answer c.open_frame-opened.result) all))
-    (opens_exactly g.O.Site.told g.O.Site.trace g.O.Site.faults g.O.Site.put_faults begin segment task v w found given b c.requires.ready.free c.requires.kind
+    (opens_exactly g.O.Site.told begin segment task v w found given b c.requires.ready.free c.requires.kind
     c.open_frame-opened.ensures.numbers.1 visits c.open_frame-opened.ensures.covered left c.open_frame-opened.result opened)
 
 pub returns-clause-keeps : goal.returns-clause-keeps

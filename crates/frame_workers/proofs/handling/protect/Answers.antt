@@ -21,13 +21,13 @@ pub returns-clause-answered : goal.returns-clause-answered
 returns-clause-answered g c layout begin segment b =
     let v : View = view c.args.worker.now in let w : View = view c.protect-protected.new.worker in let task : Record = c.args.task.now in
     let out : List ℕ = c.protect-protected.new.out in
-    let step = subst (λ (l : List ℕ). IsProtectStep g.O.Site.told g.O.Site.trace g.O.Site.faults g.O.Site.put_faults c.args.unit.now.plan task.link l out
+    let step = subst (λ (l : List ℕ). IsProtectStep g.O.Site.told c.args.unit.now.plan task.link l out
     c.protect-protected.new.kept c.protect-protected.result v w) c.as_slice-clear.ensures c.protect-protected.ensures.step in
     let long : length out ≡ length c.as_mut_slice.result.now = c.protect-protected.auto.out in
     let size : length out ≡ length c.in-Ok.out.items = long ∙ ap length c.as_mut_slice.ensures.value in
     let all : take c.in-Ok.out.len (out ++ drop (length out) c.in-Ok.out.items) ≡ out = slice_whole c.in-Ok.out.len out c.in-Ok.out.items size c.in-Ok.out.ok.0 in
     subst (Answered layout begin segment v w task) (sym (c.protected_answer.ensures ∙ ap (protected_answer c.protect-protected.result) all))
-    (protecting_answers g.O.Site.told g.O.Site.trace g.O.Site.faults g.O.Site.put_faults begin layout segment task v w b c.requires.ready.free c.requires.kind
+    (protecting_answers g.O.Site.told begin layout segment task v w b c.requires.ready.free c.requires.kind
     c.args.unit.now.plan c.protect-protected.new.kept out c.protect-protected.result c.requires.ready.planned step)
 
 pub returns-in_default-clause-exactly : goal.returns-in_default-clause-exactly
@@ -39,12 +39,12 @@ returns-clause-exactly g c begin segment b =
     let v : View = view c.args.worker.now in let w : View = view c.protect-protected.new.worker in let task : Record = c.args.task.now in
     let apart : Layout = record { lane_of = λ i. 0; segment_of = λ i. 0 } in
     let out : List ℕ = c.protect-protected.new.out in
-    let step = subst (λ (l : List ℕ). IsProtectStep g.O.Site.told g.O.Site.trace g.O.Site.faults g.O.Site.put_faults c.args.unit.now.plan task.link l out
+    let step = subst (λ (l : List ℕ). IsProtectStep g.O.Site.told c.args.unit.now.plan task.link l out
     c.protect-protected.new.kept c.protect-protected.result v w) c.as_slice-clear.ensures c.protect-protected.ensures.step in
     let long : length out ≡ length c.as_mut_slice.result.now = c.protect-protected.auto.out in
     let size : length out ≡ length c.in-Ok.out.items = long ∙ ap length c.as_mut_slice.ensures.value in
     let all : take c.in-Ok.out.len (out ++ drop (length out) c.in-Ok.out.items) ≡ out = slice_whole c.in-Ok.out.len out c.in-Ok.out.items size c.in-Ok.out.ok.0 in
     subst (AnsweredExactly begin segment v w task) (sym (c.protected_answer.ensures ∙ ap (protected_answer c.protect-protected.result) all))
-    (protects_exactly g.O.Site.told g.O.Site.trace g.O.Site.faults g.O.Site.put_faults begin apart segment task v w b c.requires.ready.free c.requires.kind
-    (covers_taken g.O.Site.told g.O.Site.trace g.O.Site.faults g.O.Site.put_faults begin v w b c.requires.ready.free c.protect-protected.ensures.covered)
+    (protects_exactly g.O.Site.told begin apart segment task v w b c.requires.ready.free c.requires.kind
+    (covers_taken g.O.Site.told begin v w b c.requires.ready.free c.protect-protected.ensures.covered)
     c.args.unit.now.plan c.protect-protected.new.kept out c.protect-protected.result c.requires.ready.planned step)

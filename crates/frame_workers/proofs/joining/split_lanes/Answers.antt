@@ -1,4 +1,4 @@
-use Rattle.std.proofs.Common.{◌≡◌, ℕ, ◌≤◌, ◌+◌, length, [], ◌∷◌, true, refl, sym, ap, subst, ◌∙◌, arith, length-append, inl, inr}
+use Rattle.std.proofs.Common.{rules, ◌≡◌, ℕ, ◌≤◌, ◌+◌, length, [], ◌∷◌, true, false, refl, sym, ap, subst, ◌∙◌, arith, length-append, inl, inr}
 use Rattle.std.specs.List.{All, AllPairs, list_any}
 use Rattle.std.proofs.lemmas.Bool.{cases_eq}
 use Rattle.std.proofs.lemmas.List.Elements.{All-push}
@@ -50,3 +50,37 @@ rooms-preserved g c =
         | inr off ↦ subst (IsThere n) (sym pushed.items) (there_push n c.rooms.lanes.items _ (inv.each n (omega arith) high there))
       ];
     }
+
+-- a lane without records
+pub rooms-preserved-then-not-is_used : goal.rooms-preserved-then-not-is_used
+rooms-preserved-then-not-is_used g c =
+    let inv = c.rooms.invariant in
+    let items = c.in-Some.ensures.items in
+    let left = c.pop.new.self.items in
+    let ok = c.pop.new.self.ok in let len = c.len-number.ensures in
+    let number : c.len-number.result ≡ length left = omega arith in
+    let less : length c.rooms.rooms.items ≡ length left + 1 = ap length items ∙ length-append left (c.in-Some.answers ∷ []) in
+    let unused : list_any (is_of_lane c.len-number.result) c.args.records.now ≡ false = sym c.is_used.ensures ∙ c.if-not-is_used.true in
+    let many = inv.many in
+    record {
+      is_ready = inv.is_ready;
+      given = inv.given;
+      shares = inv.shares;
+      many = omega arith;
+      rooms = rooms_left c.args.records.now c.rooms.rooms.items left c.in-Some.answers items inv.rooms;
+      room = inv.room;
+      split = inv.split;
+      above = λ k d l. let a = inv.above k d l in omega arith;
+      apart = inv.apart;
+      each = λ n low high there. elim (cases_eq (length left) n) [
+        | inl is ↦ absurd (
+            let here : true ≡ false = sym there ∙ ap (λ (m : ℕ). list_any (is_of_lane m) c.args.records.now) (sym (number ∙ is)) ∙ unused in cc)
+        | inr off ↦ inv.each n (omega arith) high there
+      ];
+    }
+
+pub returns-clause-each : goal.returns-clause-each
+returns-clause-each g c =
+    let none : c.rooms.rooms.items ≡ [] = search rules in
+    let size : length c.rooms.rooms.items ≡ 0 = ap length none in
+    λ number low there. c.rooms.invariant.each number (omega arith) low there

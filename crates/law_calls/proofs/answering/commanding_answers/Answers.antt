@@ -3,4 +3,4 @@ use Rattle.law_calls.proofs.answering.commanding_answers.Goals as goal
 
 pub returns : goal.returns
 returns g c = λ begin layout segment v w task result began free commands (found, given, visits, told).
-    commanding_answers g.O.Site.told g.O.Site.trace g.O.Site.faults g.O.Site.put_faults begin layout segment task v w found given began free commands visits result told
+    commanding_answers g.O.Site.told begin layout segment task v w found given began free commands visits result told

@@ -5,5 +5,5 @@ use Rattle.law_history.proofs.growing.fits_stays.Goals as goal
 
 pub returns : goal.returns
 returns c = λ course more faults tasks others task answer later closed fits.
-    fits_more (NearWord course.start course.entries tasks) (NearWord course.start (course.entries ++ more) (tasks ++ others))
-    (near_more course.start course.entries more tasks others) course more faults later closed task answer fits
+    fits_more (NearWord course.begin.start course.entries tasks) (NearWord course.begin.start (course.entries ++ more) (tasks ++ others))
+    (near_more course.begin.start course.entries more tasks others) course more faults later closed task answer fits

@@ -2,13 +2,10 @@ use Rattle.law_runs.proofs.Refusing.{refused_ends}
 use Rattle.law_runs.proofs.whole.refused_run_ends.Goals as goal
 
 pub returns : goal.returns
-returns g c = λ site back after source fault status refused.
-    record {
-      ends = refused_ends g.O.Site.told g.O.Site.trace g.O.Site.faults g.O.Site.put_faults site back after source fault status refused
-          (λ o is_told. g.met.O.Site.image_may_stay o is_told) c.refused_with_one.ensures.one
-          c.shown_keeps_rules.ensures.plan c.shown_keeps_rules.ensures.state c.shown_keeps_rules.ensures.left;
-      lives = c.sound_call_keeps_lives.ensures _ _ (λ is_told plan state shows.
-          ((refused_ends g.O.Site.told g.O.Site.trace g.O.Site.faults g.O.Site.put_faults site back after source fault status refused
-          (λ o is_told. g.met.O.Site.image_may_stay o is_told) c.refused_with_one.ensures.one
-          c.shown_keeps_rules.ensures.plan c.shown_keeps_rules.ensures.state c.shown_keeps_rules.ensures.left).sound is_told plan state shows).sound);
-    }
+returns c = λ told site back after source fault status refused. record {
+  ends = refused_ends told site back after source fault status refused c.refused_with_one.ensures.one
+      c.shown_keeps_rules.ensures.plan c.shown_keeps_rules.ensures.state c.shown_keeps_rules.ensures.left;
+  lives = c.sound_call_keeps_lives.ensures _ _ (λ is_told plan state shows.
+      ((refused_ends told site back after source fault status refused c.refused_with_one.ensures.one
+      c.shown_keeps_rules.ensures.plan c.shown_keeps_rules.ensures.state c.shown_keeps_rules.ensures.left).sound is_told plan state shows).sound);
+}

@@ -2,7 +2,7 @@ use Rattle.std.proofs.Common.{◌≡◌, IsTrue, subst, sym, ap, arith}
 use Rattle.sdls_outside.specs.Faults.{Rose}
 use Rattle.unit_image.specs.Shows.{Shows, ShowsNone}
 use Rattle.unit_book.specs.Book.{BookView}
-use Rattle.disk_journal.specs.Changes.{OnlySyncs}
+use Rattle.unit_image.specs.Image.{OnlySyncs}
 use Rattle.sdls_plain.specs.Stat.{end_of_open, fault_text, stat_status}
 use Rattle.sdls_plain.proofs.Telling.{all_moments, ends_put, fault_due, image_refused, not_refused, puts_from, refused_left, refused_moments, sunk_same, told_due}
 use Rattle.sdls_plain.proofs.stat.run_stat.Goals as goal
@@ -11,7 +11,7 @@ pub returns-in-Ok-clause-ends : goal.returns-in-Ok-clause-ends
 returns-in-Ok-clause-ends g c =
     let site = c.args.site in let book = c.in-Ok.book in let last = c.tell_state.result.site in
     let told = c.tell_state.ensures.told in
-    let start : book.state ≡ book.start = ap (λ (b : BookView _). b.state) c.in-Ok.ensures.begun in
+    let start : book.state ≡ book.start = ap (λ (b : BookView). b.state) c.in-Ok.ensures.begun in
     let low = c.in-Ok.ensures.later in
     record {
       end = told.0;
@@ -19,10 +19,10 @@ returns-in-Ok-clause-ends g c =
       due = told_due g.O.Site.told _ (g.O.Site.trace site).now.image told.1 book told.0 told.2 c.in-Ok.ensures.plan
           (λ is. subst (Shows (g.O.Site.trace site).now.image) (sym start) (c.in-Ok.ensures.shows is).0)
           (λ is. (c.in-Ok.ensures.shows is).2.used);
-      put = puts_from g.O.Site.told told.1 (stat_status told.0) c.tell_state.result.status (g.O.Site.trace site) (g.O.Site.trace book.site) (g.O.Site.trace last)
-          (Rose (g.O.Site.faults site) (g.O.Site.faults last)) (Rose (g.O.Site.faults book.site) (g.O.Site.faults last)) (λ late. omega (arith, late))
-          (λ is. sunk_same (g.O.Site.trace site) (g.O.Site.trace book.site) (g.met.O.Site.image_may_stay book.site is) (c.in-Ok.ensures.any_moment is)) told.3;
-      moments = λ is. all_moments (g.O.Site.trace site) (g.O.Site.trace book.site) (g.O.Site.trace last) book.start (c.in-Ok.ensures.shows is).0
+      put = puts_from g.O.Site.told told.1 (stat_status told.0) c.tell_state.result.status (g.O.Site.trace site) book.site.trace (g.O.Site.trace last)
+          (Rose (g.O.Site.faults site) (g.O.Site.faults last)) (Rose book.site.faults (g.O.Site.faults last)) (λ late. omega (arith, late))
+          (λ is. sunk_same (g.O.Site.trace site) book.site.trace (c.in-Ok.ensures.stays is) (c.in-Ok.ensures.any_moment is)) told.3;
+      moments = λ is. all_moments (g.O.Site.trace site) book.site.trace (g.O.Site.trace last) book.start (c.in-Ok.ensures.shows is).0
           (c.in-Ok.ensures.any_moment is) (c.tell_state.ensures.moments is);
       refused = λ offset ends is. absurd (not_refused book told.1 told.0 offset ends told.2);
     }

@@ -30,7 +30,7 @@ returns-clause-ends g c =
       record {
         put = Err c.in-Err.field-0;
         made = c.in-Err.ensures.made;
-        sinks = λ is_told. subst (λ (os : List ℕ). sites.Puts {T = Unit {0}} os (Err c.in-Err.field-0) (g.O.Site.trace c.args.book.now.site) (g.O.Site.trace c.put.new.self.site)) octets
+        sinks = λ is_told. subst (λ (os : List ℕ). sites.Puts {T = Unit {0}} os (Err c.in-Err.field-0) c.args.book.now.site.trace c.put.new.self.site.trace) octets
             (c.in-Err.ensures.put is_told);
         counted = c.in-Err.ensures.puts;
         later = c.in-Err.ensures.later;

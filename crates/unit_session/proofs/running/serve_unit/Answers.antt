@@ -3,6 +3,7 @@ use Rattle.record_io.specs.Reading.{SourceSeen}
 use Rattle.counter_table.specs.declared.view.View.{View}
 use Rattle.counter_table.specs.Worker.{view}
 use Rattle.run_promise.specs.Begin.{Begin}
+use Rattle.run_promise.specs.Site.{site_seen}
 use Rattle.law_workers.specs.Began.{BeganWith}
 use Rattle.law_runs.specs.Ending.{Finishes}
 use Rattle.unit_session.specs.Serving.{Comes}
@@ -30,6 +31,6 @@ returns g c =
       whole = c.serve_input-came.ensures.alone.whole;
       kept = c.close-book.ensures.kept;
       closes = c.close-book.ensures.closes;
-      finishes = subst (λ (words : List ℕ). Finishes told g.O.Site.trace g.O.Site.faults g.O.Site.put_faults c.args.before words c.serve_input-came.result
-          c.close-book.result.0 c.finish.result.site c.finish.result.entries.items c.finish.result.status) c.deref.ensures.value c.finish.ensures.finishes;
+      finishes = subst (λ (words : List ℕ). Finishes told c.args.before words c.serve_input-came.result
+          c.close-book.result.0 (site_seen g.O.Site.trace g.O.Site.faults g.O.Site.put_faults c.finish.result.site) c.finish.result.entries.items c.finish.result.status) c.deref.ensures.value c.finish.ensures.finishes;
     }

@@ -6,5 +6,5 @@ use Rattle.shared_unit.proofs.shelf.Shelf.command.Goals as goal
 
 pub returns-clause-goes_on : goal.returns-clause-goes_on
 returns-clause-goes_on g c =
-    subst (λ (b : BookView g.row.O.Denot). GoesUp g.O.Site.faults g.O.Site.put_faults b c.command.new.self) c.self.view_is
-    (goes_up g.O.Site.faults g.O.Site.put_faults c.self.inside.book c.command.new.self c.command.ensures.goes_on c.command.ensures.marks c.command.ensures.puts c.command.ensures.calm)
+    subst (λ (b : BookView). GoesUp b c.command.new.self) c.self.view_is
+    (goes_up c.self.inside.book c.command.new.self c.command.ensures.goes_on c.command.ensures.marks c.command.ensures.puts c.command.ensures.calm)

@@ -7,5 +7,5 @@ use Rattle.shared_unit.proofs.shelf.Shelf.put.Goals as goal
 
 pub returns-clause-goes_on : goal.returns-clause-goes_on
 returns-clause-goes_on g c =
-    subst (λ (b : BookView g.row.O.Denot). GoesUp g.O.Site.faults g.O.Site.put_faults b c.put.new.self) c.self.view_is
-    (goes_up_put g.O.Site.faults g.O.Site.put_faults (sunk_between (g.O.Site.trace c.self.inside.book.site) (g.O.Site.trace c.put.new.self.site)) c.put.result c.self.inside.book c.put.new.self c.put.ensures.goes_on c.put.ensures.marks (ap (λ (b : BookView g.row.O.Denot). b.log) c.put.ensures.made) c.put.ensures.puts c.put.ensures.stood)
+    subst (λ (b : BookView). GoesUp b c.put.new.self) c.self.view_is
+    (goes_up_put (sunk_between c.self.inside.book.site.trace c.put.new.self.site.trace) c.put.result c.self.inside.book c.put.new.self c.put.ensures.goes_on c.put.ensures.marks (ap (λ (b : BookView). b.log) c.put.ensures.made) c.put.ensures.puts c.put.ensures.stood)

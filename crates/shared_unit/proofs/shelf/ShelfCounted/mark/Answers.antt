@@ -15,4 +15,4 @@ returns-then-row-rows g c =
     ∙ sym (get_or-map (λ (held : KeyRow). held.mark) c.self.inside.book.state.keys c.from-row.result some_row 1
     (low _ _ _ c.rows.ensures c.if-row-rows.true)) in
     at ∙ ap (λ (r : ℕ). get_or (map (λ (held : KeyRow). held.mark) c.self.inside.book.state.keys) r 1) c.from-row.ensures
-    ∙ ap (λ (b : BookView g.row.O.Denot). get_or (map (λ (held : KeyRow). held.mark) b.state.keys) c.args.row 1) c.self.view_is
+    ∙ ap (λ (b : BookView). get_or (map (λ (held : KeyRow). held.mark) b.state.keys) c.args.row 1) c.self.view_is

@@ -27,16 +27,16 @@ protect_with_kept-requires-clause-frame g c =
     (same_number c.in-Some.permit.channel c.args.channel (sym c.if-ne.false ∙ c.ne.ensures)) c.requires.channel
 
 pub returns-in_default-clause-turn : goal.returns-in_default-clause-turn
-returns-in_default-clause-turn g c = passes_none g.O.Site.told g.O.Site.trace g.O.Site.faults g.O.Site.put_faults _ _ refl
+returns-in_default-clause-turn g c = passes_none g.O.Site.told _ _ refl
 
 pub returns-clause-step : goal.returns-clause-step
 returns-clause-step g c =
     let p = c.in-Some.permit in
     let v = (view c.args.worker.now).turn in
     let w = (view c.protect_with_kept.new.worker).turn in
-    let is : IsTrueFor p w = permit_stays p v w (passes_grows g.O.Site.told g.O.Site.trace g.O.Site.faults g.O.Site.put_faults v w c.protect_with_kept.ensures.turn)
+    let is : IsTrueFor p w = permit_stays p v w (passes_grows g.O.Site.told v w c.protect_with_kept.ensures.turn)
     (rw c.in-Some.is at c.requires.kept) in
-    by_kept_step g.O.Site.told g.O.Site.trace g.O.Site.faults g.O.Site.put_faults p c.args.clear.now c.protect_with_kept.new.out c.args.self.now.plan c.args.kept.now c.args.link
+    by_kept_step g.O.Site.told p c.args.clear.now c.protect_with_kept.new.out c.args.self.now.plan c.args.kept.now c.args.link
     c.protect_with_kept.result (view c.args.worker.now) (view c.protect_with_kept.new.worker) c.protect_with_kept.ensures.step c.in-Some.is record {
       linked = c.if-permit-link.false;
       frame = of_frame c.args.self.now.plan p c.args.link c.args.channel c.args.clear.now c.if-permit-link.false
@@ -45,4 +45,4 @@ returns-clause-step g c =
     }
 
 pub returns-in_default-clause-covered : goal.returns-in_default-clause-covered
-returns-in_default-clause-covered g c = covers_none g.O.Site.told g.O.Site.trace g.O.Site.faults g.O.Site.put_faults _ _ refl
+returns-in_default-clause-covered g c = covers_none g.O.Site.told _ _ refl

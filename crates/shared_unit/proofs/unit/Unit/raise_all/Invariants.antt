@@ -6,5 +6,5 @@ use Rattle.shared_unit.proofs.unit.Unit.raise_all.Given as goal
 abbrev pub invariant-loop-row : goal.invariant-loop-row
 invariant-loop-row g l = record {
   own : IsOf l.fn.self.counters l.worker;
-  raised : IsRaised (known_of_book g.O.Site.trace g.O.Site.faults g.O.Site.put_faults l.fn.held.book) l.row (view l.fn.worker) (view l.worker);
+  raised : IsRaised (known_of_book l.fn.held.book) l.row (view l.fn.worker) (view l.worker);
 }

@@ -17,33 +17,33 @@ use Rattle.shared_unit.proofs.unit.Unit.share_book.Goals as goal
 
 pub fill-requires-clause-book : goal.fill-requires-clause-book
 fill-requires-clause-book g c =
-    subst (λ (b : BookView g.row.O.Denot). MayFill (known_of_book g.O.Site.trace g.O.Site.faults g.O.Site.put_faults b)) (sym c.new-2.ensures)
-    (may_fill g.O.Site.told g.O.Site.trace g.O.Site.faults g.O.Site.put_faults c.args.book c.requires.kept c.requires.first)
+    subst (λ (b : BookView). MayFill (known_of_book b)) (sym c.new-2.ensures)
+    (may_fill g.O.Site.told c.args.book c.requires.kept c.requires.first)
 
 pub raise_all-requires-clause-marks : goal.raise_all-requires-clause-marks
 raise_all-requires-clause-marks g c = λ row. (bounds_of c.take-held.result.book.state c.look.ensures.rules).to_highest row
 
 pub give-requires-clause-book : goal.give-requires-clause-book
 give-requires-clause-book g c =
-    let found : BookView g.row.O.Denot = c.take-held.result.book in
-    holds_gives g.O.Site.trace g.O.Site.faults g.O.Site.put_faults found found (view c.fill.new.worker).turn (view c.take-held.new.worker).turn (view c.raise_all.new.worker).turn
-    c.take-held.ensures.turn c.raise_all.ensures.raised.holds (goes_itself g.O.Site.faults g.O.Site.put_faults found)
+    let found : BookView = c.take-held.result.book in
+    holds_gives found found (view c.fill.new.worker).turn (view c.take-held.new.worker).turn (view c.raise_all.new.worker).turn
+    c.take-held.ensures.turn c.raise_all.ensures.raised.holds (goes_itself found)
 
 pub returns-clause-made : goal.returns-clause-made
 returns-clause-made g c =
-    let book : BookView g.row.O.Denot = c.args.book in
-    let found : BookView g.row.O.Denot = c.take-held.result.book in
+    let book : BookView = c.args.book in
+    let found : BookView = c.take-held.result.book in
     let first = c.in-Ok-new.ensures.2 in
     let t : Turn = (view c.fill.new.worker).turn in
     let u : View = view c.give.new.worker in
     let other : View = view c.split-other.result in
-    begins g.O.Site.told g.O.Site.trace g.O.Site.faults g.O.Site.put_faults book found c.in-Ok-new.made.0 c.in-Ok.plan c.join.new.worker t
+    begins g.O.Site.told book found c.in-Ok-new.made.0 c.in-Ok.plan c.join.new.worker t
     (view c.take-held.new.worker) (view c.raise_all.new.worker) u
-    (c.fill.ensures.turn ∙ ap (λ (b : BookView g.row.O.Denot). filling (known_of_book g.O.Site.trace g.O.Site.faults g.O.Site.put_faults b) (view c.in-Ok-new.made.1).turn) c.new-2.ensures
-    ∙ ap (λ (x : View). filling (known_of_book g.O.Site.trace g.O.Site.faults g.O.Site.put_faults book) x.turn) first)
+    (c.fill.ensures.turn ∙ ap (λ (b : BookView). filling (known_of_book b) (view c.in-Ok-new.made.1).turn) c.new-2.ensures
+    ∙ ap (λ (x : View). filling (known_of_book book) x.turn) first)
     c.requires.first
-    (holds_visits g.O.Site.trace g.O.Site.faults g.O.Site.put_faults g.O.Site.told found found t (view c.take-held.new.worker).turn (view c.raise_all.new.worker).turn u.turn
-    c.look.ensures c.look.ensures c.take-held.ensures.follows (goes_itself g.O.Site.faults g.O.Site.put_faults found) c.take-held.ensures.turn
+    (holds_visits g.O.Site.told found found t (view c.take-held.new.worker).turn (view c.raise_all.new.worker).turn u.turn
+    c.look.ensures c.look.ensures c.take-held.ensures.follows (goes_itself found) c.take-held.ensures.turn
     c.raise_all.ensures.raised.holds c.give.ensures.turn).takes
     (c.take-held.ensures.as_known (ap (λ (n : Numbers). n.shares) (c.fill.ensures.same.1 ∙ ap (λ (x : View). x.numbers) first)))
     c.requires.kept c.look.ensures

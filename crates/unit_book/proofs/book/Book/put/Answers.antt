@@ -1,7 +1,7 @@
-use Rattle.std.proofs.Common.{sym, subst}
-use Rattle.unit_book.specs.Book.{IsKept}
+use Rattle.std.proofs.Common.{ap}
+use Rattle.run_promise.specs.Site.{SiteSeen, site_seen}
 use Rattle.unit_book.proofs.Serving.{sank_puts}
-use Rattle.unit_book.proofs.Keeping.{kept_put, entries_put, put_shown}
+use Rattle.unit_book.proofs.Keeping.{entries_put, kept_put_shown}
 use Rattle.unit_book.proofs.book.Book.put.Goals as goal
 
 pub invariant_of-self : goal.invariant_of-self
@@ -11,10 +11,9 @@ invariant_of-self g c =
 
 pub returns-clause-kept : goal.returns-clause-kept
 returns-clause-kept g c =
-    let told = g.O.Site.told in
     let trace = g.O.Site.trace in
-    let faults = g.O.Site.faults in
-    subst (IsKept told trace faults) (sym (put_shown trace _ c.put-result.new.self _ _ c.of-before.ensures (c.with_piece.ensures trace)))
-    (kept_put told trace faults c.args.octets.now _ c.put-result.new.self c.put-result.ensures.cause.later
-    (λ is_told. sank_puts c.args.octets.now c.put-result.result (trace c.self.inside.site) (trace c.put-result.new.self) (c.put-result.ensures.put is_told))
-    (subst (IsKept told trace faults) (sym c.self.view_is) c.requires.kept))
+    let after : SiteSeen = site_seen g.O.Site.trace g.O.Site.faults g.O.Site.put_faults c.put-result.new.self in
+    kept_put_shown g.O.Site.told c.args.octets.now c.args.self.now _ after _ _ c.self.view_is (ap trace c.of-before.ensures)
+    (c.with_piece.ensures trace) c.put-result.ensures.cause.later
+    (λ told. sank_puts c.args.octets.now c.put-result.result (trace c.self.inside.site) (trace c.put-result.new.self) (c.put-result.ensures.put told))
+    c.requires.kept

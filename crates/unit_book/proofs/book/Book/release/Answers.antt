@@ -8,8 +8,8 @@ pub loop-place-init : goal.loop-place-init
 loop-place-init g c = record {
   kept = c.requires.kept;
   keys = refl;
-  so_far = none_so_far g.O.Site.faults c.args.next.now c.args.self.now;
-  goes_on = goes_same g.O.Site.faults c.args.self.now;
+  so_far = none_so_far c.args.next.now c.args.self.now;
+  goes_on = goes_same c.args.self.now;
   puts = refl;
   later = omega arith;
 }
@@ -17,17 +17,17 @@ loop-place-init g c = record {
 pub loop-place-preserved : goal.loop-place-preserved
 loop-place-preserved g c =
     let size : length c.rows-place-end.result.now ≡ length c.args.self.now.state.keys =
-    ap (λ rows. length rows) c.rows-place-end.ensures.rows ∙ ap (λ (b : BookView _). length b.state.keys) c.self.view_is in
+    ap (λ rows. length rows) c.rows-place-end.ensures.rows ∙ ap (λ (b : BookView). length b.state.keys) c.self.view_is in
     let words : length c.args.self.now.state.keys ≤ length c.args.next.now = c.requires.words in
     let below : c.loop-place.place < length c.rows-place-end.result.now = c.loop-place-test.true in
-    let later : g.O.Site.faults c.loop-place.self.site ≤ g.O.Site.faults c.release_at.new.self.site = c.release_at.ensures.later in
-    let earlier : g.O.Site.faults c.args.self.now.site ≤ g.O.Site.faults c.loop-place.self.site = c.loop-place.invariant.later in
+    let later : c.loop-place.self.site.faults ≤ c.release_at.new.self.site.faults = c.release_at.ensures.later in
+    let earlier : c.args.self.now.site.faults ≤ c.loop-place.self.site.faults = c.loop-place.invariant.later in
     record {
       kept = c.release_at.ensures.kept;
       keys = c.release_at.ensures.keys ∙ c.loop-place.invariant.keys;
-      so_far = so_far_more g.O.Site.faults c.args.next.now c.loop-place.place 0 c.args.self.now c.loop-place.self c.release_at.new.self
+      so_far = so_far_more c.args.next.now c.loop-place.place 0 c.args.self.now c.loop-place.self c.release_at.new.self
           c.release_at.result (omega arith) c.loop-place.invariant.so_far c.release_at.ensures.made c.in-Ok.is;
-      goes_on = goes_then g.O.Site.faults c.args.self.now c.loop-place.self c.release_at.new.self c.loop-place.invariant.goes_on c.release_at.ensures.goes_on;
+      goes_on = goes_then c.args.self.now c.loop-place.self c.release_at.new.self c.loop-place.invariant.goes_on c.release_at.ensures.goes_on;
       puts = c.release_at.ensures.puts ∙ c.loop-place.invariant.puts;
       later = omega arith;
     }
@@ -35,15 +35,15 @@ loop-place-preserved g c =
 pub returns-in-Err-clause-released : goal.returns-in-Err-clause-released
 returns-in-Err-clause-released g c =
     let size : length c.rows-place-end.result.now ≡ length c.args.self.now.state.keys =
-    ap (λ rows. length rows) c.rows-place-end.ensures.rows ∙ ap (λ (b : BookView _). length b.state.keys) c.self.view_is in
+    ap (λ rows. length rows) c.rows-place-end.ensures.rows ∙ ap (λ (b : BookView). length b.state.keys) c.self.view_is in
     let words : length c.args.self.now.state.keys ≤ length c.args.next.now = c.requires.words in
     let below : c.loop-place.place < length c.rows-place-end.result.now = c.loop-place-test.true in
-    releases_refused g.O.Site.faults c.args.next.now c.loop-place.place 0 c.args.self.now c.loop-place.self c.release_at.new.self
+    releases_refused c.args.next.now c.loop-place.place 0 c.args.self.now c.loop-place.self c.release_at.new.self
     c.in-Err.fault (omega arith) c.loop-place.invariant.so_far c.in-Err.ensures.made
 
 pub returns-in-Err-clause-goes_on : goal.returns-in-Err-clause-goes_on
 returns-in-Err-clause-goes_on g c =
-    goes_then g.O.Site.faults c.args.self.now c.loop-place.self c.release_at.new.self c.loop-place.invariant.goes_on c.release_at.ensures.goes_on
+    goes_then c.args.self.now c.loop-place.self c.release_at.new.self c.loop-place.invariant.goes_on c.release_at.ensures.goes_on
 
 pub returns-in-Err-clause-puts : goal.returns-in-Err-clause-puts
 returns-in-Err-clause-puts g c = c.release_at.ensures.puts ∙ c.loop-place.invariant.puts
@@ -57,7 +57,7 @@ returns-clause-puts g c = c.loop-place.invariant.puts
 pub returns-clause-released : goal.returns-clause-released
 returns-clause-released g c =
     let size : length c.rows-place-end.result.now ≡ length c.args.self.now.state.keys =
-    ap (λ rows. length rows) c.rows-place-end.ensures.rows ∙ ap (λ (b : BookView _). length b.state.keys) c.self.view_is in
+    ap (λ rows. length rows) c.rows-place-end.ensures.rows ∙ ap (λ (b : BookView). length b.state.keys) c.self.view_is in
     let same : length c.loop-place.self.state.keys ≡ length c.args.self.now.state.keys = c.loop-place.invariant.keys in
     let done : length c.rows-place-end.result.now ≤ c.loop-place.place = c.loop-place-test.false in
-    releases_done g.O.Site.faults c.args.next.now c.loop-place.place c.args.self.now c.loop-place.self (omega arith) c.loop-place.invariant.so_far
+    releases_done c.args.next.now c.loop-place.place c.args.self.now c.loop-place.self (omega arith) c.loop-place.invariant.so_far

@@ -29,7 +29,7 @@ pub returns-in-Ok-clause-above : goal.returns-in-Ok-clause-above
 returns-in-Ok-clause-above g c = λ mark is.
     mark_above c.args.self.now.plan c.args.self.now.state c.commit.new.self.state c.args.key c.args.number mark c.requires.kept.rules
     c.requires.there c.requires.below c.reserve_entry-entry.ensures.block
-    (ap (λ (b : BookView _). b.state) c.in-Ok.ensures.made.is
+    (ap (λ (b : BookView). b.state) c.in-Ok.ensures.made.is
     ∙ ap (λ (entry : Entry). applied c.args.self.now.state entry.change) c.reserve_entry-entry.ensures.entry)
     (sym (ok_same c.mark.result mark is) ∙ c.mark.ensures)
 
