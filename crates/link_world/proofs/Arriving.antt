@@ -7,7 +7,7 @@ use Rattle.std.specs.List.{All, Contains, list_any}
 use Rattle.std.proofs.lemmas.Bool.{cases_eq}
 use Rattle.std.proofs.lemmas.Bool.Decides.{nat_tests}
 use Rattle.std.proofs.lemmas.List.Elements.{All-append, All-cons, All-nil, Contains-append_left, Contains-append_right}
-use Rattle.std.proofs.lemmas.Option.{none-some, same_Some}
+use Rattle.std.proofs.lemmas.Option.{none-some, same_Some, slice_get-get_or}
 use Rattle.link_world.specs.declared.link.LinkEvent.{LinkEvent}
 use Rattle.link_world.specs.declared.link.LinkEvent.TheVariants.{Release, Deliver}
 use Rattle.link_world.specs.Delivered.{AreDelivered, IsDeliveredAt}
@@ -75,6 +75,12 @@ shown frame zero (Deliver other ∷ events) e =
     absurd (let z : Deliver other ≡ Release frame = same_Some (Deliver other) (Release frame) e in cc)
 shown frame (suc k) (event ∷ events) e = either (releases_frame frame event) _ (shown frame k events e)
 
+-- a release of the frame is among the events
+pub shown_among : (frame : ℕ) (events : List LinkEvent) → Contains events (Release frame)
+    → list_any (releases_frame frame) events ≡ true
+shown_among frame events (k, low, is) =
+    shown frame k events (slice_get-get_or events k (Release frame) low ∙ ap (λ (e : LinkEvent). Some e) is)
+
 -- ---- what arrives at one event
 
 both : (a b : Bool) → (a && b) ≡ true → (a ≡ true) × (b ≡ true)
@@ -123,7 +129,7 @@ delivered_one count before (Deliver frame) events frames is =
         } in
         (length before, omega arith, here, is)
 
-arrives_one : (count frame : ℕ) (before : List LinkEvent) → frame < count
+pub arrives_one : (count frame : ℕ) (before : List LinkEvent) → frame < count
     → list_any (releases_frame frame) before ≡ true
     → arrival count before (Deliver frame) ≡ frame ∷ []
 arrives_one count frame before low any =

@@ -1,3 +1,4 @@
 pub mod Link
 pub mod Delivered
 pub mod Fate
+pub mod Chunk

@@ -9,7 +9,7 @@ mod fates;
 mod laws;
 mod link;
 
-pub use chunk::fate;
+pub use chunk::{add_deliveries, fate, is_lost};
 pub use fates::Fate;
-pub use laws::arrivals_were_released;
+pub use laws::{arrivals_were_released, released_chunk_arrives};
 pub use link::{LinkEvent, link_run};
