@@ -1,3 +1,4 @@
 pub mod Frames
 pub mod Counting
+pub mod Arriving
 pub mod Line

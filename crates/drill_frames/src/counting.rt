@@ -17,7 +17,7 @@ pub fn count_code(answers: &[Answer], code: u8) -> usize
 }
 
 /// Whether the frame is accepted, and its data field is that with which the frame of this number was made.
-fn gives_field(answer: &Answer, number: u64) -> bool
+pub(crate) fn gives_field(answer: &Answer, number: u64) -> bool
     ensures { result ≡ gives_field number answer.now }
 {
     answer.code == ACCEPTED && same_octets(answer.body.as_slice(), &data_field(number))

@@ -1,8 +1,9 @@
-//! The line that a drill puts.
+//! The lines that drills put.
 ghost use Rattle.std.specs.Prelude.{◌≡◌, ◌++◌, decimal, IfOk, OnOk};
-ghost use Rattle.drill_frames.specs.Line.{drill_text};
+ghost use Rattle.drill_frames.specs.Line.{counted, drill_text, link_text};
 
 use crate::counts::Counts;
+use crate::link_counts::LinkCounts;
 use itoa::Buffer;
 use sdls_base::NoMemory;
 use std::alloc::Global;
@@ -35,6 +36,30 @@ pub fn drill_line(alloc: Global, number: u64, counts: Counts) -> Result<Vec<u8>,
     add_number(&mut line, counts.accepted)?;
     add_text(&mut line, b" rejected ")?;
     add_number(&mut line, counts.rejected)?;
+    add_text(&mut line, b"\n")?;
+    Ok(line)
+}
+
+/// What is counted, and how many there are of it.
+#[tactic(auto, unfolding(crate::specs::Line::counted))]
+fn add_count(line: &mut Vec<u8>, what: &[u8], number: u64) -> Result<(), NoMemory>
+    ensures { OnOk result (line.new.items ≡ line.old.items ++ counted what.now number) }
+{
+    add_text(line, what)?;
+    add_number(line, number)
+}
+
+/// `drill link N protected A lost L accepted B rejected C`, and a line feed.
+#[tactic(auto, unfolding(crate::specs::Line::link_text))]
+pub fn link_line(alloc: Global, number: u64, counts: LinkCounts) -> Result<Vec<u8>, NoMemory>
+    ensures { IfOk result (λ line. line.items ≡ link_text number counts) }
+{
+    let mut line = Vec::new(alloc);
+    add_count(&mut line, b"drill link ", number)?;
+    add_count(&mut line, b" protected ", counts.protected)?;
+    add_count(&mut line, b" lost ", counts.lost)?;
+    add_count(&mut line, b" accepted ", counts.accepted)?;
+    add_count(&mut line, b" rejected ", counts.rejected)?;
     add_text(&mut line, b"\n")?;
     Ok(line)
 }

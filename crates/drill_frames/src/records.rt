@@ -45,7 +45,7 @@ pub fn protect_tasks(alloc: Global, first: u64, end: u64) -> Result<Vec<Record>,
 }
 
 /// A protected frame that is to be opened, as the record with this index.
-fn open_task(index: u64, number: u64, octets: Octets) -> Record
+pub(crate) fn open_task(index: u64, number: u64, octets: Octets) -> Record
     ensures { result ≡ open_task index number octets }
 {
     Record {
