@@ -27,7 +27,7 @@ use Rattle.law_drill.proofs.Lanes.{each}
 use Rattle.law_drill.proofs.Lists.{Below, From, all_counted, answers_all, ascend_then, deed_at, deeds_all, deeds_long, none_counted, pairs_all, zip_long}
 use Rattle.law_drill.proofs.Opened.{Starts}
 use Rattle.law_drill.proofs.Opening.{OpensOnce}
-use Rattle.law_drill.proofs.Receiving.{AreSent, Handed, TellsEntry, WasOpened, entry_told, few_made, fits, near, opened_by, replayed_by}
+use Rattle.law_drill.proofs.Receiving.{AreSent, Handed, IsTurn, TellsEntry, WasOpened, entry_told, few_made, fits, near, opened_by, replayed_by}
 use Rattle.law_drill.proofs.Sending.{Done}
 use Rattle.law_drill.proofs.SentChunks.{IsGood, all_answered, all_good, at, blank, done_more}
 use Rattle.law_drill.proofs.Tasks.{open_ascends}
@@ -36,40 +36,42 @@ use Rattle.law_drill.proofs.Tasks.{open_ascends}
 abbrev pub receiver_layout : Layout
 receiver_layout = record { lane_of = λ index. (index - index / 257) % 4; segment_of = λ index. 0 }
 
-lane_so : (total : ℕ) (octets : ℕ → List ℕ) (task : Record) → Handed total octets task → receiver_layout.lane_of task.index ≡ task.lane
+lane_so : (total : ℕ) (octets : ℕ → List ℕ) (task : Record) → Handed IsTurn total octets task → receiver_layout.lane_of task.index ≡ task.lane
 lane_so total octets task hand =
-    ap (λ (t : Record). (t.index - t.index / 257) % 4) hand.is ∙ (number hand.frame hand.again hand.again_is ∙ sym (ap (λ (t : Record). t.lane) hand.is))
+    let turn = hand.is_at in
+    ap (λ (t : Record). (t.index - t.index / 257) % 4) hand.is ∙ (ap (λ (i : ℕ). (i - i / 257) % 4) turn.is
+    ∙ (number hand.frame turn.again turn.again_is ∙ sym (ap (λ (t : Record). t.lane) hand.is)))
   where
     number : (i a : ℕ) → (a ≡ 0) ⊎ ((a ≡ 256) × (i % 256 ≡ 0)) → (i + a + i / 256 - (i + a + i / 256) / 257) % 4 ≡ i % 4
     number i a (inl none) = let e : (i + a + i / 256) / 257 ≡ i / 256 = omega arith in omega arith
     number i a (inr again) = let h = again.0 in let k = again.1 in let e : (i + a + i / 256) / 257 ≡ i / 256 = omega arith in omega arith
 
-all_lanes : (total : ℕ) (octets : ℕ → List ℕ) (tasks : List Record) → All (Handed total octets) tasks
+all_lanes : (total : ℕ) (octets : ℕ → List ℕ) (tasks : List Record) → All (Handed IsTurn total octets) tasks
     → All (λ (task : Record). receiver_layout.lane_of task.index ≡ task.lane) tasks
 all_lanes total octets tasks all =
-    All-weaker (Handed total octets) (λ (task : Record). receiver_layout.lane_of task.index ≡ task.lane) (lane_so total octets) tasks all
+    All-weaker (Handed IsTurn total octets) (λ (task : Record). receiver_layout.lane_of task.index ≡ task.lane) (lane_so total octets) tasks all
 
-lies_so : (total : ℕ) (octets : ℕ → List ℕ) (tasks : List Record) → All (Handed total octets) tasks → LiesIn receiver_layout 0 tasks
-lies_so total octets tasks all task there = (lane_so total octets task (All-contains (Handed total octets) tasks task all there), refl)
+lies_so : (total : ℕ) (octets : ℕ → List ℕ) (tasks : List Record) → All (Handed IsTurn total octets) tasks → LiesIn receiver_layout 0 tasks
+lies_so total octets tasks all task there = (lane_so total octets task (All-contains (Handed IsTurn total octets) tasks task all there), refl)
 
 -- more frames were sent
 handed_more : (total more : ℕ) (octets longer : ℕ → List ℕ) (tasks : List Record) → total ≤ more → ((i : ℕ) → i < total → octets i ≡ longer i)
-    → All (Handed total octets) tasks → All (Handed more longer) tasks
+    → All (Handed IsTurn total octets) tasks → All (Handed IsTurn more longer) tasks
 handed_more total more octets longer tasks low same all =
-    All-weaker (Handed total octets) (Handed more longer) (λ task hand. record {
+    All-weaker (Handed IsTurn total octets) (Handed IsTurn more longer) (λ task hand. record {
       frame = hand.frame;
       within = let h = hand.within in omega arith;
-      again = hand.again;
-      again_is = hand.again_is;
-      is = hand.is ∙ ap (open_task (hand.frame + hand.again + hand.frame / 256) hand.frame) (same hand.frame hand.within);
+      index = hand.index;
+      is_at = hand.is_at;
+      is = hand.is ∙ ap (open_task hand.index hand.frame) (same hand.frame hand.within);
     }) tasks all
 
 -- ---- the records of a chunk
 
 -- the record opens a frame of the chunk for the first time
 pub record InChunk (total : ℕ) (octets : ℕ → List ℕ) (chunk : ℕ) (task : Record) : Type 0 where
-  pub hand : Handed total octets task
-  pub first_time : hand.again ≡ 0
+  pub hand : Handed IsTurn total octets task
+  pub first_time : hand.is_at.again ≡ 0
   pub ahead : task.index ≡ hand.frame + chunk
   pub low : 256 * chunk ≤ hand.frame
   pub high : hand.frame < 256 * chunk + 256
@@ -96,9 +98,9 @@ opens_in total octets chunk from (answer ∷ answers) sent most low high same =
       hand = record {
         frame = from;
         within = omega arith;
-        again = 0;
-        again_is = inl refl;
-        is = ap (λ (i : ℕ). open_task i from answer.body) index ∙ ap (open_task (from + 0 + from / 256) from) (sym own);
+        index = from + chunk;
+        is_at = record { again = 0; again_is = inl refl; is = index };
+        is = ap (open_task (from + chunk) from) (sym own);
       };
       first_time = refl;
       ahead = refl;
@@ -109,8 +111,8 @@ opens_in total octets chunk from (answer ∷ answers) sent most low high same =
       ap length is ∙ omega (arith, rest.1),
     )
 
-in_hand : (total : ℕ) (octets : ℕ → List ℕ) (chunk : ℕ) (tasks : List Record) → All (InChunk total octets chunk) tasks → All (Handed total octets) tasks
-in_hand total octets chunk tasks all = All-weaker (InChunk total octets chunk) (Handed total octets) (λ task is. is.hand) tasks all
+in_hand : (total : ℕ) (octets : ℕ → List ℕ) (chunk : ℕ) (tasks : List Record) → All (InChunk total octets chunk) tasks → All (Handed IsTurn total octets) tasks
+in_hand total octets chunk tasks all = All-weaker (InChunk total octets chunk) (Handed IsTurn total octets) (λ task is. is.hand) tasks all
 
 in_from : (total : ℕ) (octets : ℕ → List ℕ) (chunk : ℕ) (tasks : List Record) → All (InChunk total octets chunk) tasks → All (From (257 * chunk)) tasks
 in_from total octets chunk tasks all =
@@ -155,7 +157,7 @@ pub record TakenAll (begin : Begin) (first now : View) (total chunks : ℕ) (oct
   pub tasks : List Record
   pub deeds : List Deed
   pub done : Done receiver_layout begin first now tasks deeds
-  pub handed : All (Handed total octets) tasks
+  pub handed : All (Handed IsTurn total octets) tasks
   pub ascend : Ascend tasks
   pub below : All (Below (257 * chunks)) tasks
   pub below_deeds : All (λ (deed : Deed). Below (257 * chunks) deed.task) deeds
@@ -175,7 +177,7 @@ none_taken begin first octets opened rows whole starts = record {
     rules = starts.rules;
     once = λ index. omega arith;
   };
-  handed = All-nil (Handed 0 octets);
+  handed = All-nil (Handed IsTurn 0 octets);
   ascend = λ i j d before low. absurd (omega arith);
   below = All-nil (Below 0);
   below_deeds = All-nil (λ (deed : Deed). Below 0 deed.task);
@@ -205,11 +207,11 @@ module _ (once : OpensOnce) (begin : Begin) (first now mid next : View) (chunk :
   abbrev old : List Record
   old = so_far.tasks
 
-  old_handed : All (Handed total longer) old
+  old_handed : All (Handed IsTurn total longer) old
   old_handed = handed_more (256 * chunk) total octets longer old (omega arith) same so_far.handed
 
-  handed_mid : All (Handed total longer) (old ++ new)
-  handed_mid = All-append (Handed total longer) old new old_handed (in_hand total longer chunk new in_chunk.0)
+  handed_mid : All (Handed IsTurn total longer) (old ++ new)
+  handed_mid = All-append (Handed IsTurn total longer) old new old_handed (in_hand total longer chunk new in_chunk.0)
 
   abbrev old_deeds : List Deed
   old_deeds = so_far.deeds
@@ -229,7 +231,7 @@ module _ (once : OpensOnce) (begin : Begin) (first now mid next : View) (chunk :
 
   all_opened : length opened ≡ length new
   all_opened =
-      let e = few_made once receiver_layout begin first mid (old ++ new) _ done_mid starts.plan starts.start starts.told_is starts.slots_are starts.used_are
+      let e = few_made IsTurn once receiver_layout begin first mid (old ++ new) _ done_mid starts.plan starts.start starts.told_is starts.slots_are starts.used_are
       total few_mid numbers longer sent handed_mid (all_lanes total longer (old ++ new) handed_mid) in
       all_answered begin now mid new opened opens.full opens.ends e
 
@@ -240,7 +242,7 @@ module _ (once : OpensOnce) (begin : Begin) (first now mid next : View) (chunk :
   again_is : replay_tasks chunk (256 * chunk) (head ∷ rest) ≡ repeated ∷ []
   again_is = ap (λ (b : Bool). if b then repeated ∷ [] else []) (eq-eqb head.code codes_of.PROTECTED (All-head IsSent head rest codes))
 
-  repeated_hand : Handed total longer repeated
+  repeated_hand : Handed IsTurn total longer repeated
   repeated_hand =
       let chunk_is : (256 * chunk) / 256 ≡ chunk = omega arith in
       let index : 256 * chunk + 256 + chunk ≡ 256 * chunk + 256 + 256 * chunk / 256 = omega arith in
@@ -248,13 +250,13 @@ module _ (once : OpensOnce) (begin : Begin) (first now mid next : View) (chunk :
       record {
         frame = 256 * chunk;
         within = omega arith;
-        again = 256;
-        again_is = inr (refl, omega arith);
-        is = ap (λ (i : ℕ). open_task i (256 * chunk) head.body) index ∙ ap (open_task (256 * chunk + 256 + 256 * chunk / 256) (256 * chunk)) (sym body);
+        index = 256 * chunk + 256 + chunk;
+        is_at = record { again = 256; again_is = inr (refl, omega arith); is = index };
+        is = ap (open_task (256 * chunk + 256 + chunk) (256 * chunk)) (sym body);
       }
 
-  one_handed : All (Handed total longer) (repeated ∷ [])
-  one_handed = All-cons (Handed total longer) repeated [] repeated_hand (All-nil (Handed total longer))
+  one_handed : All (Handed IsTurn total longer) (repeated ∷ [])
+  one_handed = All-cons (Handed IsTurn total longer) repeated [] repeated_hand (All-nil (Handed IsTurn total longer))
 
   replays_one : HandlesSegment begin mid next (repeated ∷ []) again
   replays_one = subst (λ (ts : List Record). HandlesSegment begin mid next ts again) again_is replays
@@ -265,8 +267,8 @@ module _ (once : OpensOnce) (begin : Begin) (first now mid next : View) (chunk :
   abbrev every_deed : List Deed
   every_deed = (old_deeds ++ new_deeds) ++ deeds_of 0 (repeated ∷ []) again
 
-  handed_all : All (Handed total longer) every
-  handed_all = All-append (Handed total longer) (old ++ new) (repeated ∷ []) handed_mid one_handed
+  handed_all : All (Handed IsTurn total longer) every
+  handed_all = All-append (Handed IsTurn total longer) (old ++ new) (repeated ∷ []) handed_mid one_handed
 
   mid_ascend : Ascend (old ++ new)
   mid_ascend =
@@ -300,35 +302,35 @@ module _ (once : OpensOnce) (begin : Begin) (first now mid next : View) (chunk :
 
   all_again : length again ≡ 1
   all_again =
-      let e = few_made once receiver_layout begin first next every _ done_all starts.plan starts.start starts.told_is starts.slots_are starts.used_are
+      let e = few_made IsTurn once receiver_layout begin first next every _ done_all starts.plan starts.start starts.told_is starts.slots_are starts.used_are
       total few_all numbers longer sent handed_all (all_lanes total longer every handed_all) in
       all_answered begin mid next (repeated ∷ []) again replays_one.full replays_one.ends e
 
   -- ---- what is counted
 
   abbrev Opened : Record → Answer → Type 0
-  Opened task answer = WasOpened once receiver_layout begin first next every every_deed done_all starts.plan starts.start starts.told_is starts.slots_are
+  Opened task answer = WasOpened IsTurn once receiver_layout begin first next every every_deed done_all starts.plan starts.start starts.told_is starts.slots_are
       starts.used_are
       total few_all numbers longer sent handed_all (all_lanes total longer every handed_all) task (task.index - chunk) answer
 
   abbrev FitsHere : Deed → Type 0
-  FitsHere deed = Fits (near once receiver_layout begin first next every every_deed done_all starts.plan starts.start starts.told_is starts.slots_are
+  FitsHere deed = Fits (near IsTurn once receiver_layout begin first next every every_deed done_all starts.plan starts.start starts.told_is starts.slots_are
       starts.used_are
       total few_all numbers longer sent handed_all (all_lanes total longer every handed_all)) (course_in begin next) deed.task deed.answer
 
   all_fit : All FitsHere every_deed
-  all_fit = fits once receiver_layout begin first next every every_deed done_all starts.plan starts.start starts.told_is starts.slots_are starts.used_are
+  all_fit = fits IsTurn once receiver_layout begin first next every every_deed done_all starts.plan starts.start starts.told_is starts.slots_are starts.used_are
       total few_all numbers longer sent handed_all (all_lanes total longer every handed_all)
 
   -- a record that was answered well tells its entry
   abbrev Tells : Record → Answer → Type 0
-  Tells task answer = TellsEntry once receiver_layout begin first next every every_deed done_all starts.plan starts.start starts.told_is starts.slots_are
+  Tells task answer = TellsEntry IsTurn once receiver_layout begin first next every every_deed done_all starts.plan starts.start starts.told_is starts.slots_are
       starts.used_are
       total few_all numbers longer sent handed_all (all_lanes total longer every handed_all) task answer
 
-  tells_so : (deed : Deed) → Handed total longer deed.task → FitsHere deed → IsGood deed.answer → Tells deed.task deed.answer
+  tells_so : (deed : Deed) → Handed IsTurn total longer deed.task → FitsHere deed → IsGood deed.answer → Tells deed.task deed.answer
   tells_so deed hand fit good =
-      entry_told once receiver_layout begin first next every every_deed done_all starts.plan starts.start starts.told_is starts.slots_are starts.used_are
+      entry_told IsTurn once receiver_layout begin first next every every_deed done_all starts.plan starts.start starts.told_is starts.slots_are starts.used_are
       total few_all numbers longer sent handed_all
       (all_lanes total longer every handed_all) deed.task hand deed.answer fit good.no_fault good.not_stopped good.not_wanting
 
@@ -346,11 +348,11 @@ module _ (once : OpensOnce) (begin : Begin) (first now mid next : View) (chunk :
       let fit = all_right FitsHere old_deeds new_deeds (all_left FitsHere (old_deeds ++ new_deeds) (deeds_of 0 (repeated ∷ []) again) all_fit) j d low in
       let ahead = is.ahead in
       let frame : is.hand.frame ≡ deed.task.index - chunk = omega arith in
-      subst (λ (i : ℕ). WasOpened once receiver_layout begin first next every every_deed done_all starts.plan starts.start starts.told_is starts.slots_are
+      subst (λ (i : ℕ). WasOpened IsTurn once receiver_layout begin first next every every_deed done_all starts.plan starts.start starts.told_is starts.slots_are
       starts.used_are
       total few_all numbers longer sent handed_all (all_lanes total longer every handed_all) deed.task i deed.answer) frame
-      (opened_by once receiver_layout begin first next every every_deed done_all starts.plan starts.start starts.told_is starts.slots_are starts.used_are
-      total few_all numbers longer sent handed_all (all_lanes total longer every handed_all) deed.task is.hand deed.answer is.first_time there
+      (opened_by IsTurn once receiver_layout begin first next every every_deed done_all starts.plan starts.start starts.told_is starts.slots_are starts.used_are
+      total few_all numbers longer sent handed_all (all_lanes total longer every handed_all) (λ frame index turn. turn) deed.task is.hand deed.answer is.first_time there
       (tells_so deed is.hand fit good))
 
   -- the first frame, when it was opened for the first time
@@ -362,7 +364,7 @@ module _ (once : OpensOnce) (begin : Begin) (first now mid next : View) (chunk :
       ap (λ (b : Bool). if b then first_open ∷ open_tasks chunk (256 * chunk + 1) rest else open_tasks chunk (256 * chunk + 1) rest)
       (eq-eqb head.code codes_of.PROTECTED (All-head IsSent head rest codes))
 
-  first_hand : Handed total longer first_open
+  first_hand : Handed IsTurn total longer first_open
   first_hand =
       let chunk_is : (256 * chunk) / 256 ≡ chunk = omega arith in
       let index : 256 * chunk + chunk ≡ 256 * chunk + 0 + 256 * chunk / 256 = omega arith in
@@ -370,13 +372,13 @@ module _ (once : OpensOnce) (begin : Begin) (first now mid next : View) (chunk :
       record {
         frame = 256 * chunk;
         within = omega arith;
-        again = 0;
-        again_is = inl refl;
-        is = ap (λ (i : ℕ). open_task i (256 * chunk) head.body) index ∙ ap (open_task (256 * chunk + 0 + 256 * chunk / 256) (256 * chunk)) (sym body);
+        index = 256 * chunk + chunk;
+        is_at = record { again = 0; again_is = inl refl; is = index };
+        is = ap (open_task (256 * chunk + chunk) (256 * chunk)) (sym body);
       }
 
   abbrev OpenedFrame : Record → ℕ → Answer → Type 0
-  OpenedFrame task frame answer = WasOpened once receiver_layout begin first next every every_deed done_all starts.plan starts.start starts.told_is
+  OpenedFrame task frame answer = WasOpened IsTurn once receiver_layout begin first next every every_deed done_all starts.plan starts.start starts.told_is
       starts.slots_are starts.used_are
       total few_all numbers longer sent handed_all (all_lanes total longer every handed_all) task frame answer
 
@@ -410,9 +412,9 @@ module _ (once : OpensOnce) (begin : Begin) (first now mid next : View) (chunk :
       (λ (task : Record). task ≡ repeated))) j d low in
       let good = deeds_answers IsGood 0 (repeated ∷ []) again (all_good again replays.quiet again_wants) j d low in
       let fit = all_right FitsHere (old_deeds ++ new_deeds) (deeds_of 0 (repeated ∷ []) again) all_fit j d low in
-      let hand : Handed total longer deed.task = subst (λ (t : Record). Handed total longer t) (sym is) repeated_hand in
+      let hand : Handed IsTurn total longer deed.task = subst (λ (t : Record). Handed IsTurn total longer t) (sym is) repeated_hand in
       let tells : Tells repeated deed.answer = subst (λ (t : Record). Tells t deed.answer) is (tells_so deed hand fit good) in
-      replayed_by once receiver_layout begin first next every every_deed done_all starts.plan starts.start starts.told_is starts.slots_are starts.used_are
+      replayed_by IsTurn once receiver_layout begin first next every every_deed done_all starts.plan starts.start starts.told_is starts.slots_are starts.used_are
       total few_all numbers longer sent handed_all (all_lanes total longer every handed_all) first_open repeated first_hand repeated_hand deed.answer
       (at opened 0)
       first_among repeated_among refl (omega arith) first_opened tells

@@ -57,13 +57,19 @@ pub record AreSent (total : ℕ) (numbers : ℕ → ℕ) (octets : ℕ → List 
   pub most : (i : ℕ) → i < total → numbers i ≤ 100001
   pub ascend : (i j : ℕ) → i < j → j < total → i % 4 ≡ j % 4 → numbers i < numbers j
 
--- the record opens a frame for the first time, or the first of a chunk again
-pub record Handed (total : ℕ) (octets : ℕ → List ℕ) (task : Record) : Type 0 where
+-- the record opens one of the frames, and such an index goes with it
+pub record Handed (IsAt : ℕ → ℕ → Type 0) (total : ℕ) (octets : ℕ → List ℕ) (task : Record) : Type 0 where
   pub frame : ℕ
   pub within : frame < total
+  pub index : ℕ
+  pub is_at : IsAt frame index
+  pub is : task ≡ open_task index frame (octets frame)
+
+-- the index of a record that opens a frame for the first time, or the first of a chunk again
+pub record IsTurn (frame index : ℕ) : Type 0 where
   pub again : ℕ
   pub again_is : (again ≡ 0) ⊎ ((again ≡ 256) × (frame % 256 ≡ 0))
-  pub is : task ≡ open_task (frame + again + frame / 256) frame (octets frame)
+  pub is : index ≡ frame + again + frame / 256
 
 field_is : (i : ℕ) → data_field i ≡ field_by (field_octet i)
 unfolding field_octets
@@ -74,12 +80,12 @@ earlier i a j (inl none) low = omega arith
 earlier i a j (inr again) low = let h = again.0 in let k = again.1 in omega arith
 
 -- records that open frames draw no number
-none_draws : (total : ℕ) (octets : ℕ → List ℕ) (tasks : List Record) → All (Handed total octets) tasks → drawers tasks ≡ 0
-none_draws total octets [] all = refl
-none_draws total octets (task ∷ tasks) all =
-    let h = All-head (Handed total octets) task tasks all in
+none_draws : (IsAt : ℕ → ℕ → Type 0) (total : ℕ) (octets : ℕ → List ℕ) (tasks : List Record) → All (Handed IsAt total octets) tasks → drawers tasks ≡ 0
+none_draws IsAt total octets [] all = refl
+none_draws IsAt total octets (task ∷ tasks) all =
+    let h = All-head (Handed IsAt total octets) task tasks all in
     let none : draws task.kind ≡ false = ap (λ (t : Record). draws t.kind) h.is in
-    let rest = none_draws total octets tasks (All-tail (Handed total octets) task tasks all) in
+    let rest = none_draws IsAt total octets tasks (All-tail (Handed IsAt total octets) task tasks all) in
     let one : if◌then◌else◌ {A = ℕ} (draws task.kind) 1 0 ≡ 0 = ap (λ (b : Bool). if◌then◌else◌ {A = ℕ} b 1 0) none in
     omega arith
 
@@ -94,11 +100,11 @@ reserve_counts (one ∷ es) zero entry there none =
     none_index_by one.index (reserves_of es) (ap (λ (e : Entry). e.index) same ∙ none)
 reserve_counts (one ∷ es) (suc p) entry there none = let h = reserve_counts es p entry there none in omega arith
 
-module _ (once : OpensOnce) (layout : Layout) (begin : Begin) (first now : View) (tasks : List Record) (deeds : List Deed)
+module _ (IsAt : ℕ → ℕ → Type 0) (once : OpensOnce) (layout : Layout) (begin : Begin) (first now : View) (tasks : List Record) (deeds : List Deed)
     (done : Done layout begin first now tasks deeds) (plan : begin.plan ≡ receiver_lines) (start : begin.start ≡ receiving (each 0) (each 0))
     (told : begin.told ≡ true) (slots : begin.slots ≡ 8192) (used : begin.used ≡ 0)
     (total : ℕ) (few : length tasks ≤ 200000) (numbers : ℕ → ℕ) (octets : ℕ → List ℕ) (sent : AreSent total numbers octets)
-    (handed : All (Handed total octets) tasks) (lanes : All (λ (task : Record). layout.lane_of task.index ≡ task.lane) tasks) where
+    (handed : All (Handed IsAt total octets) tasks) (lanes : All (λ (task : Record). layout.lane_of task.index ≡ task.lane) tasks) where
   abbrev pub entries : List Entry
   entries = entries_in now
 
@@ -125,11 +131,11 @@ module _ (once : OpensOnce) (layout : Layout) (begin : Begin) (first now : View)
       elim legal_so [
         | inl opening ↦ opening
         | inr (inl procedure) ↦
-            let h = All-contains (Handed total octets) tasks procedure.task handed procedure.there in
+            let h = All-contains (Handed IsAt total octets) tasks procedure.task handed procedure.there in
             let kind : Open ≡ Command = sym (ap (λ (t : Record). t.kind) h.is) ∙ procedure.kind_is in absurd (cc)
         | inr (inr reserve) ↦
             let most = few_reserves begin first now tasks deeds done.handled.does done.whole none_made in
-            let none = none_draws total octets tasks handed in
+            let none = none_draws IsAt total octets tasks handed in
             let least = reserve_counts entries p entry there (ap (λ (e : Entry). e.index) reserve.entry_is) in absurd (omega arith)
       ]
 
@@ -141,7 +147,7 @@ module _ (once : OpensOnce) (layout : Layout) (begin : Begin) (first now : View)
     pub there : slice_get entries place ≡ Some entry
     pub task : Record
     pub among : Contains tasks task
-    pub hand : Handed total octets task
+    pub hand : Handed IsAt total octets task
     pub index : entry.index ≡ Some task.index
     pub is_lane : hand.frame % 4 ≡ lane
     pub number_is : numbers hand.frame ≡ number
@@ -171,7 +177,7 @@ module _ (once : OpensOnce) (layout : Layout) (begin : Begin) (first now : View)
   }
 
   -- what the receiver replies to a record in the state after some entries
-  replies_to : (p : ℕ) (t : Taken (take p entries) 100001) (task : Record) (hand : Handed total octets task) (reply : OpenReply) (field : List ℕ)
+  replies_to : (p : ℕ) (t : Taken (take p entries) 100001) (task : Record) (hand : Handed IsAt total octets task) (reply : OpenReply) (field : List ℕ)
       → IsOpenReply receiver_lines (after (receiving (each 0) (each 0)) (take p entries)) task.link task.octets reply field
       → Judges (row_on Receive t.highs (hand.frame % 4)) (hand.frame % 4 + 1) (key_on (hand.frame % 4)) (numbers hand.frame)
       (data_field hand.frame) reply field
@@ -215,8 +221,8 @@ module _ (once : OpensOnce) (layout : Layout) (begin : Begin) (first now : View)
     abbrev opening : IsOpening receiver_lines (after (receiving (each 0) (each 0)) (take p entries)) tasks entry
     opening = opening_at p entry there
 
-    abbrev hand : Handed total octets opening.task
-    hand = All-contains (Handed total octets) tasks opening.task handed opening.there
+    abbrev hand : Handed IsAt total octets opening.task
+    hand = All-contains (Handed IsAt total octets) tasks opening.task handed opening.there
 
     abbrev lane : ℕ
     lane = hand.frame % 4
@@ -358,23 +364,33 @@ module _ (once : OpensOnce) (layout : Layout) (begin : Begin) (first now : View)
       (length tasks + drawers tasks) 0 done.handled.lined none_made
       p q one.index other.index a b at_p at_q index_a index_b low (inl (lane_one ∙ (same ∙ sym lane_other)))
 
-  lane_is : (task : Record) (hand : Handed total octets task) → task.lane ≡ hand.frame % 4
+  lane_is : (task : Record) (hand : Handed IsAt total octets task) → task.lane ≡ hand.frame % 4
   lane_is task hand = ap (λ (t : Record). t.lane) hand.is
 
-  index_is : (task : Record) (hand : Handed total octets task) → task.index ≡ hand.frame + hand.again + hand.frame / 256
+  index_is : (task : Record) (hand : Handed IsAt total octets task) → task.index ≡ hand.index
   index_is task hand = ap (λ (t : Record). t.index) hand.is
 
+  -- the index tells which turn of the frame it is
+  abbrev pub TellsTurn : Type 0
+  TellsTurn = (frame index : ℕ) → IsAt frame index → IsTurn frame index
+
+  abbrev pub IsFirst : TellsTurn → (task : Record) → Handed IsAt total octets task → Type 0
+  IsFirst turn task hand = (turn hand.frame hand.index hand.is_at).again ≡ 0
+
   -- the highest number of the lane, before a frame is opened for the first time
-  below_number : (place : ℕ) (entry : Entry) (task : Record) (hand : Handed total octets task) → hand.again ≡ 0 → Contains tasks task
+  below_number : (turn : TellsTurn) (place : ℕ) (entry : Entry) (task : Record) (hand : Handed IsAt total octets task) → IsFirst turn task hand
+      → Contains tasks task
       → slice_get entries place ≡ Some entry → entry.index ≡ Some task.index → (high : ℕ) → OfFrame place (hand.frame % 4) high → high < numbers hand.frame
-  below_number place entry task hand first_time among there index high is =
+  below_number turn place entry task hand first_time among there index high is =
       let same_lane : is.task.lane ≡ task.lane = lane_is is.task is.hand ∙ (is.is_lane ∙ sym (lane_is task hand)) in
-      let mine = index_is task hand in
-      let theirs = index_is is.task is.hand in
+      let my_turn = turn hand.frame hand.index hand.is_at in
+      let their_turn = turn is.hand.frame is.hand.index is.hand.is_at in
+      let mine : task.index ≡ hand.frame + my_turn.again + hand.frame / 256 = index_is task hand ∙ my_turn.is in
+      let theirs : is.task.index ≡ is.hand.frame + their_turn.again + is.hand.frame / 256 = index_is is.task is.hand ∙ their_turn.is in
       let before = is.before in
       elim (cases_lt is.task.index task.index) [
         | inl low ↦
-            let frames : is.hand.frame < hand.frame = earlier is.hand.frame is.hand.again hand.frame is.hand.again_is (omega arith) in
+            let frames : is.hand.frame < hand.frame = earlier is.hand.frame their_turn.again hand.frame their_turn.again_is (omega arith) in
             let up = sent.ascend is.hand.frame hand.frame frames hand.within is.is_lane in
             let number_is = is.number_is in omega arith
         | inr ge ↦ elim (cases_lt task.index is.task.index) [
@@ -399,21 +415,23 @@ module _ (once : OpensOnce) (layout : Layout) (begin : Begin) (first now : View)
     pub floor : ℕ
     pub change : entry.change ≡ changes.Accepted spi (key_on (frame % 4)) (numbers frame) floor
 
-  fresh_number : (place : ℕ) (entry : Entry) (task : Record) (hand : Handed total octets task) → hand.again ≡ 0 → Contains tasks task
+  fresh_number : (turn : TellsTurn) (place : ℕ) (entry : Entry) (task : Record) (hand : Handed IsAt total octets task) → IsFirst turn task hand
+      → Contains tasks task
       → slice_get entries place ≡ Some entry → entry.index ≡ Some task.index → (t : Took place (take place entries))
       → IsFresh (record { high = t.taken.highs (hand.frame % 4); width = 4294967296 }) (numbers hand.frame) (end_of (key_on (hand.frame % 4)))
-  fresh_number place entry task hand first_time among there index t =
+  fresh_number turn place entry task hand first_time among there index t =
       let lane = hand.frame % 4 in
       let least = sent.least hand.frame hand.within in
       let most = sent.most hand.frame hand.within in
       let end = end_on lane (omega arith) in
       let above : t.taken.highs lane < numbers hand.frame = ⊎_elim (λ none. (let e : t.taken.highs lane < numbers hand.frame = omega arith in e))
-      (λ is. below_number place entry task hand first_time among there index (t.taken.highs lane) is) (t.from lane (omega arith)) in
+      (λ is. below_number turn place entry task hand first_time among there index (t.taken.highs lane) is) (t.from lane (omega arith)) in
       record { above = above; within = omega arith; below_end = omega arith }
 
-  pub opened_by : (task : Record) (hand : Handed total octets task) (answer : Answer) → hand.again ≡ 0 → Contains tasks task → TellsEntry task answer
+  pub opened_by : (turn : TellsTurn) (task : Record) (hand : Handed IsAt total octets task) (answer : Answer) → IsFirst turn task hand
+      → Contains tasks task → TellsEntry task answer
       → WasOpened task hand.frame answer
-  opened_by task hand answer first_time among is =
+  opened_by turn task hand answer first_time among is =
       let place = answer.position - 1 in
       let low = slice_get_within entries place _ is.there in
       let t = took place (omega arith) in
@@ -432,10 +450,24 @@ module _ (once : OpensOnce) (layout : Layout) (begin : Begin) (first now : View)
               floor = raised_floor receiver_lines state (key_on (hand.frame % 4)) (numbers hand.frame);
               change = ap (frame_change receiver_lines state) reply;
             }
-        | refuses high width reply stale ↦ absurd (stale (fresh_number place _ task hand first_time among is.there refl t))
+        | refuses high width reply stale ↦ absurd (stale (fresh_number turn place _ task hand first_time among is.there refl t))
       ]
 
-  pub replayed_by : (one task : Record) (own : Handed total octets one) (hand : Handed total octets task) (answer before : Answer) → Contains tasks one
+  -- whatever turn it is, the frame is accepted with its data field, or refused for its number
+  pub judged_by : (task : Record) (hand : Handed IsAt total octets task) (answer : Answer) → TellsEntry task answer
+      → ((answer.code ≡ codes_of.ACCEPTED) × (answer.body ≡ data_field hand.frame)) ⊎ (answer.code ≡ codes_of.NUMBER)
+  judged_by task hand answer is =
+      let place = answer.position - 1 in
+      let low = slice_get_within entries place _ is.there in
+      let t = took place (omega arith) in
+      elim (replies_to place t.taken task hand is.reply is.field is.replies) [
+        | takes from to reply field fresh ↦
+            let tells = is.tells ∙ ap (λ (r : OpenReply). opened_told r is.field) reply in
+            inl (ap (λ (x : Told). x.code) tells, ap (λ (x : Told). x.body) tells ∙ field)
+        | refuses high width reply stale ↦ inr (ap (λ (x : Told). x.code) (is.tells ∙ ap (λ (r : OpenReply). opened_told r is.field) reply))
+      ]
+
+  pub replayed_by : (one task : Record) (own : Handed IsAt total octets one) (hand : Handed IsAt total octets task) (answer before : Answer) → Contains tasks one
       → Contains tasks task
       → own.frame ≡ hand.frame → one.index < task.index → WasOpened one own.frame before → TellsEntry task answer → answer.code ≡ codes_of.NUMBER
   replayed_by one task own hand answer before is_one among same low was is =
@@ -469,7 +501,7 @@ module _ (once : OpensOnce) (layout : Layout) (begin : Begin) (first now : View)
       told_true h = h
 
   -- an answer that tells no fault and no want of memory tells the record's entry
-  pub entry_told : (task : Record) (hand : Handed total octets task) (answer : Answer) → Fits near course task answer → answer.code ≢ codes_of.SITE_FAULT
+  pub entry_told : (task : Record) (hand : Handed IsAt total octets task) (answer : Answer) → Fits near course task answer → answer.code ≢ codes_of.SITE_FAULT
       → answer.code ≢ codes_of.STOPPED → answer.code ≢ codes_of.NO_MEMORY → TellsEntry task answer
   entry_told task hand answer fits no_fault not_stopped not_wanting =
       let kind : task.kind ≡ Open = ap (λ (t : Record). t.kind) hand.is in
