@@ -20,6 +20,9 @@ use record_io::{Answer, Record};
 use sdls_base::{NoMemory, Octets};
 use std::alloc::Global;
 
+/// The places that a chunk has for the records of frames that arrive: more than there are of these.
+pub const CHUNK_PLACES: u64 = 1_024;
+
 /// The releases of a chunk: its frames that were protected, by their numbers in it.
 #[tactic(auto, using(crate::proofs::Arrivals::release_more, crate::proofs::Arrivals::release_skips))]
 fn releases(alloc: Global, sent: &[Answer]) -> Result<Vec<LinkEvent>, NoMemory>

@@ -13,7 +13,7 @@ mod line;
 mod link_counts;
 mod records;
 
-pub use arriving::{arrived_frames, arrived_tasks, count_given, count_lost};
+pub use arriving::{CHUNK_PLACES, arrived_frames, arrived_tasks, count_given, count_lost};
 pub use counting::{count_accepted, count_code, count_fields};
 pub use counts::Counts;
 pub use line::{drill_line, link_line};

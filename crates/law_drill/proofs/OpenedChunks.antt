@@ -55,10 +55,10 @@ lies_so : (total : ℕ) (octets : ℕ → List ℕ) (tasks : List Record) → Al
 lies_so total octets tasks all task there = (lane_so total octets task (All-contains (Handed IsTurn total octets) tasks task all there), refl)
 
 -- more frames were sent
-handed_more : (total more : ℕ) (octets longer : ℕ → List ℕ) (tasks : List Record) → total ≤ more → ((i : ℕ) → i < total → octets i ≡ longer i)
-    → All (Handed IsTurn total octets) tasks → All (Handed IsTurn more longer) tasks
-handed_more total more octets longer tasks low same all =
-    All-weaker (Handed IsTurn total octets) (Handed IsTurn more longer) (λ task hand. record {
+pub handed_more : (IsAt : ℕ → ℕ → Type 0) (total more : ℕ) (octets longer : ℕ → List ℕ) (tasks : List Record) → total ≤ more → ((i : ℕ) → i < total → octets i ≡ longer i)
+    → All (Handed IsAt total octets) tasks → All (Handed IsAt more longer) tasks
+handed_more IsAt total more octets longer tasks low same all =
+    All-weaker (Handed IsAt total octets) (Handed IsAt more longer) (λ task hand. record {
       frame = hand.frame;
       within = let h = hand.within in omega arith;
       index = hand.index;
@@ -122,15 +122,15 @@ in_below : (total : ℕ) (octets : ℕ → List ℕ) (chunk : ℕ) (tasks : List
 in_below total octets chunk tasks all =
     All-weaker (InChunk total octets chunk) (Below (257 * chunk + 256)) (λ task is. let a = is.ahead in let h = is.high in omega arith) tasks all
 
-further_below : (bound more : ℕ) (tasks : List Record) → bound ≤ more → All (Below bound) tasks → All (Below more) tasks
+pub further_below : (bound more : ℕ) (tasks : List Record) → bound ≤ more → All (Below bound) tasks → All (Below more) tasks
 further_below bound more tasks low all = All-weaker (Below bound) (Below more) (λ task is. omega arith) tasks all
 
-further_deeds : (bound more : ℕ) (deeds : List Deed) → bound ≤ more → All (λ (deed : Deed). Below bound deed.task) deeds
+pub further_deeds : (bound more : ℕ) (deeds : List Deed) → bound ≤ more → All (λ (deed : Deed). Below bound deed.task) deeds
     → All (λ (deed : Deed). Below more deed.task) deeds
 further_deeds bound more deeds low all =
     All-weaker (λ (deed : Deed). Below bound deed.task) (λ (deed : Deed). Below more deed.task) (λ deed is. omega arith) deeds all
 
-all_right : {A : Type 0} (P : A → Type 0) (xs ys : List A) → All P (xs ++ ys) → All P ys
+pub all_right : {A : Type 0} (P : A → Type 0) (xs ys : List A) → All P (xs ++ ys) → All P ys
 all_right P [] ys all = all
 all_right P (x ∷ xs) ys all = all_right P xs ys (All-tail P x (xs ++ ys) all)
 
@@ -138,7 +138,7 @@ all_left : {A : Type 0} (P : A → Type 0) (xs ys : List A) → All P (xs ++ ys)
 all_left P [] ys all = All-nil P
 all_left P (x ∷ xs) ys all = All-cons P x xs (All-head P x (xs ++ ys) all) (all_left P xs ys (All-tail P x (xs ++ ys) all))
 
-deeds_answers : (P : Answer → Type 0) (segment : ℕ) (tasks : List Record) (answers : List Answer) → All P answers
+pub deeds_answers : (P : Answer → Type 0) (segment : ℕ) (tasks : List Record) (answers : List Answer) → All P answers
     → All (λ (deed : Deed). P deed.answer) (deeds_of segment tasks answers)
 deeds_answers P segment [] answers all = All-nil (λ (deed : Deed). P deed.answer)
 deeds_answers P segment (task ∷ tasks) [] all = All-nil (λ (deed : Deed). P deed.answer)
@@ -146,7 +146,7 @@ deeds_answers P segment (task ∷ tasks) (answer ∷ answers) all =
     All-cons (λ (deed : Deed). P deed.answer) (deed_of segment task answer) (deeds_of segment tasks answers)
     (All-head P answer answers all) (deeds_answers P segment tasks answers (All-tail P answer answers all))
 
-bytes_same : (octets : List ℕ) → bytes_eq octets octets ≡ true
+pub bytes_same : (octets : List ℕ) → bytes_eq octets octets ≡ true
 bytes_same [] = refl
 bytes_same (x ∷ xs) = and_from (nat_eq x x) (bytes_eq xs xs) (eq-eqb x x refl) (bytes_same xs)
 
@@ -208,7 +208,7 @@ module _ (once : OpensOnce) (begin : Begin) (first now mid next : View) (chunk :
   old = so_far.tasks
 
   old_handed : All (Handed IsTurn total longer) old
-  old_handed = handed_more (256 * chunk) total octets longer old (omega arith) same so_far.handed
+  old_handed = handed_more IsTurn (256 * chunk) total octets longer old (omega arith) same so_far.handed
 
   handed_mid : All (Handed IsTurn total longer) (old ++ new)
   handed_mid = All-append (Handed IsTurn total longer) old new old_handed (in_hand total longer chunk new in_chunk.0)

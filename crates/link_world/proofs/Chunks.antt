@@ -13,7 +13,7 @@ use Rattle.link_world.proofs.Arriving.{arrives_one, shown_among}
 
 -- ---- the frames that are delivered are of the chunk
 
-abbrev Under : ℕ → ℕ → Type 0
+abbrev pub Under : ℕ → ℕ → Type 0
 Under bound frame = frame < bound
 
 turn_low : (k : ℕ) (fate : Fate) → All (Under (suc k)) (in_turn k fate)
@@ -42,7 +42,7 @@ lates_low zero = All-nil (Under 0)
 lates_low (suc k) =
     All-append (Under (suc k)) (lates k) (late k (fate_of k)) (higher k (lates k) (lates_low k)) (late_low k (fate_of k))
 
-delivered_low : (count : ℕ) → All (Under count) (deliveries count)
+pub delivered_low : (count : ℕ) → All (Under count) (deliveries count)
 delivered_low count = All-append (Under count) (turns count) (lates count) (turns_low count) (lates_low count)
 
 -- ---- they arrive

@@ -1,0 +1,5 @@
+pub mod Complete
+pub mod Frames
+pub mod Opened
+pub mod Records
+pub mod Told
