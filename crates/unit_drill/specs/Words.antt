@@ -15,3 +15,9 @@ pub record IsDrill (words : List (String Global)) (number : ℕ) : Type 0 where
   pub digits : List ℕ
   pub words_are : map string_bytes words ≡ codes "drill" ∷ digits ∷ []
   pub spells : AreFrames digits number
+
+-- the words are `drill link N`, for this number
+pub record IsLinkDrill (words : List (String Global)) (number : ℕ) : Type 0 where
+  pub digits : List ℕ
+  pub words_are : map string_bytes words ≡ codes "drill" ∷ codes "link" ∷ digits ∷ []
+  pub spells : AreFrames digits number

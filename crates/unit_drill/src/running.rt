@@ -24,7 +24,7 @@ use std::sync::Wait;
 use std::thread::Threads;
 
 /// The number behind the last frame of a chunk.
-fn end_of(number: u64, chunk: u64) -> u64
+pub(crate) fn end_of(number: u64, chunk: u64) -> u64
     requires { chunk ≤ 1024 }
     ensures { result ≡ min number (CHUNK * (chunk + 1)) }
 {
@@ -72,7 +72,7 @@ fn line_of<R: Threads + Wait + Sync, G: Gate + Sync>(
 }
 
 /// Puts a text, and answers the status: this one, or that of a put that failed.
-fn put_text<O: Site>(site: &mut O, text: &[u8], status: u8) -> u8
+pub(crate) fn put_text<O: Site>(site: &mut O, text: &[u8], status: u8) -> u8
     ensures ends { Ends O.told (O.trace site.old) (O.trace site.new)
         (Rose (O.faults site.old) (O.faults site.new)) text.now status result }
     ensures quiet { result ≢ SITE_FAULT → O.faults site.new ≡ O.faults site.old }

@@ -1,6 +1,6 @@
-//! The words that ask for a drill.
+//! The words that ask for drills.
 ghost use Rattle.std.specs.Prelude.{◌≡◌, ℕ, MatchOption};
-ghost use Rattle.unit_drill.specs.Words.{AreFrames, IsDrill};
+ghost use Rattle.unit_drill.specs.Words.{AreFrames, IsDrill, IsLinkDrill};
 
 use unit_plan::number_of;
 
@@ -23,6 +23,18 @@ pub fn drill_number(words: &[String]) -> Option<u64>
 {
     match words {
         [command, digits] if command.as_str() == "drill" => frames_of(digits.as_str()),
+        _ => None,
+    }
+}
+
+/// The number of frames of the words `drill link N`, or nothing where these are not the words.
+pub fn link_drill_number(words: &[String]) -> Option<u64>
+    ensures { MatchOption result ((number : ℕ) → ¬ IsLinkDrill words.now number) (IsLinkDrill words.now) }
+{
+    match words {
+        [command, link, digits] if command.as_str() == "drill" && link.as_str() == "link" => {
+            frames_of(digits.as_str())
+        }
         _ => None,
     }
 }

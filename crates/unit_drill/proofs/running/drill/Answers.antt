@@ -1,4 +1,4 @@
-use Rattle.std.proofs.Common.{◌≡◌, ℕ, codes, inl, inr, refl, sym, ◌∙◌, ap, subst}
+use Rattle.std.proofs.Common.{ℕ, codes, inl, inr, refl, sym, ◌∙◌, ap, subst}
 use Rattle.sdls_outside.specs.Faults.{Rose}
 use Rattle.record_io.specs.Outcome.{Ends, line}
 use Rattle.unit_drill.proofs.running.drill.Goals as goal

@@ -1,0 +1,94 @@
+//! The drill over a link.
+ghost use Rattle.std.specs.Prelude.{◌≡◌, ◌≢◌, ◌≤◌, List, [], IfOk};
+ghost use Rattle.sdls_outside.specs.Faults.{Rose};
+ghost use Rattle.record_io.specs.declared.answers.Answer.{Answer};
+ghost use Rattle.drill_frames.specs.declared.link_counts.LinkCounts.{LinkCounts};
+ghost use Rattle.drill_frames.specs.Line.{link_text};
+ghost use Rattle.law_link_drill.specs.Linked.{IsLinkDrilled};
+ghost use Rattle.unit_drill.specs.OverLink.{AreLinkCounts, EndsLinkDrill};
+
+use crate::chunk::Pair;
+use crate::image::{receiver_plan, sender_plan};
+use crate::running::{end_of, put_text};
+use crate::unit::DrillUnit;
+use crate::words::MOST_FRAMES;
+use drill_frames::{CHUNK, LinkCounts, link_line};
+use frame_workers::Gate;
+use law_link_drill::link_drill_is_complete;
+use record_io::Outcome;
+use record_io::status::{DONE, NO_MEMORY, SITE_FAULT};
+use sdls_base::NoMemory;
+use sdls_outside::Site;
+use std::alloc::Global;
+use std::sync::Wait;
+use std::thread::Threads;
+
+/// The counts of a drill of this many frames over a link.
+fn link_counts_of<R: Threads + Wait + Sync, G: Gate + Sync>(
+    rt: &R,
+    alloc: Global,
+    number: u64,
+    gate: &G,
+) -> Result<LinkCounts, NoMemory>
+    requires { number ≤ MOST_FRAMES }
+    ensures { IfOk result (λ counts. (answers : List Answer) × IsLinkDrilled number answers counts) }
+{
+    let mut pair = Pair {
+        sender: DrillUnit::open(rt, alloc, sender_plan())?,
+        receiver: DrillUnit::open(rt, alloc, receiver_plan())?,
+    };
+    let mut counts = LinkCounts::none();
+    for chunk in 0..(number + (CHUNK - 1)) / CHUNK {
+        let end = end_of(number, chunk);
+        let more = pair.serve_link_chunk(rt, alloc, chunk, end, gate)?;
+        counts = counts.plus(more);
+    }
+    Ok(counts)
+}
+
+/// The line of a drill of this many frames over a link.
+fn link_line_of<R: Threads + Wait + Sync, G: Gate + Sync>(
+    rt: &R,
+    alloc: Global,
+    number: u64,
+    gate: &G,
+) -> Result<Vec<u8>, NoMemory>
+    requires { number ≤ MOST_FRAMES }
+    ensures { IfOk result (λ line. (counts : LinkCounts) × AreLinkCounts number counts
+        × (line.items ≡ link_text number counts)) }
+{
+    let counts = link_counts_of(rt, alloc, number, gate)?;
+    // For contracts alone: where no answer told want of memory, all frames are counted.
+    link_drill_is_complete();
+    link_line(alloc, number, counts)
+}
+
+/// Runs a drill of this many frames over a link, on four lanes, and writes its line: how many frames the one unit
+/// protected, how many of them the link lost, how many the other accepted with their data fields, and how many it
+/// rejected for their number. If memory runs out, or the site of one of these units fails, it writes that in place of
+/// the line. The gate is called before and after each record.
+///
+/// The units and all that they hold are gone afterwards. To the site that is handed in nothing is done but to write.
+pub fn drill_link<R: Threads + Wait + Sync, O: Site, G: Gate + Sync>(
+    rt: &R,
+    alloc: Global,
+    number: u64,
+    mut site: O,
+    gate: &G,
+) -> Outcome<O>
+    requires { number ≤ MOST_FRAMES }
+    ensures ends { EndsLinkDrill number O.told (O.trace site) (O.trace result.site)
+        (Rose (O.faults site) (O.faults result.site)) result.status }
+    ensures quiet { result.status ≢ SITE_FAULT → O.faults result.site ≡ O.faults site }
+    ensures no_history { result.entries.items ≡ [] }
+{
+    let status = match link_line_of(rt, alloc, number, gate) {
+        Ok(line) => put_text(&mut site, &line, DONE),
+        Err(NoMemory) => put_text(&mut site, b"no memory\n", NO_MEMORY),
+    };
+    Outcome {
+        status,
+        site,
+        entries: Vec::new(alloc),
+    }
+}
