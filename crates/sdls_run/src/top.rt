@@ -12,7 +12,8 @@ ghost use Rattle.sdls_plain.specs.Stat.{EndsStat};
 ghost use Rattle.sdls_plain.specs.Taking.{TakesFew};
 ghost use Rattle.sdls_plain.specs.Words.{IsCheck, IsInit, IsNoCommand, IsRunWord, IsStat};
 ghost use Rattle.unit_drill.specs.Drilled.{EndsDrill};
-ghost use Rattle.unit_drill.specs.Words.{IsDrill};
+ghost use Rattle.unit_drill.specs.OverLink.{EndsLinkDrill};
+ghost use Rattle.unit_drill.specs.Words.{IsDrill, IsLinkDrill};
 
 use crate::laws::stat_keeps_lives;
 use record_io::Outcome;
@@ -22,7 +23,7 @@ use sdls_plain::{is_run, run_plain};
 use std::alloc::Global;
 use std::sync::Wait;
 use std::thread::Threads;
-use unit_drill::{drill, drill_number};
+use unit_drill::{drill, drill_link, drill_number, link_drill_number};
 use unit_session::{Gate, run_recorded};
 
 /// Serves the words after the program's name, and answers the status, the site and the run's entries.
@@ -34,6 +35,7 @@ use unit_session::{Gate, run_recorded};
 ///
 /// `drill N` makes two units in memory and N frames from their numbers, has the one protect them and the other open
 /// them, on four lanes, and puts one line. It reads nothing from the source, and leaves the image as it was.
+/// `drill link N` does so over a link between the two, which loses some frames, and delivers others twice or late.
 ///
 /// It hands all other words to [`run_plain`], whose clauses are its own.
 pub fn run<R: Threads + Wait + Sync, S: Source, O: Site + Send, G: Gate + Sync>(
@@ -94,8 +96,12 @@ pub fn run<R: Threads + Wait + Sync, S: Source, O: Site + Send, G: Gate + Sync>(
     // memory. To the site nothing is done but to put, and the image stays.
     ensures drill { (number : ℕ) → IsDrill words.now number → EndsDrill number
         O.told (O.trace site) (O.trace result.site) (Rose (O.faults site) (O.faults result.site)) result.status }
+    // Over a link they are all frames that arrive, and those that the link loses, where no answer tells want of memory.
+    ensures drill_link { (number : ℕ) → IsLinkDrill words.now number → EndsLinkDrill number
+        O.told (O.trace site) (O.trace result.site) (Rose (O.faults site) (O.faults result.site)) result.status }
 
     ensures usage { IsNoCommand words.now → ¬ IsRunWord words.now → ((number : ℕ) → ¬ IsDrill words.now number)
+        → ((number : ℕ) → ¬ IsLinkDrill words.now number)
         → Ends O.told (O.trace site) (O.trace result.site) (Rose (O.faults site) (O.faults result.site))
         usage_text USAGE result.status }
     ensures untouched { IsNoCommand words.now → ¬ IsRunWord words.now → source.new ≡ source.old }
@@ -109,8 +115,11 @@ pub fn run<R: Threads + Wait + Sync, S: Source, O: Site + Send, G: Gate + Sync>(
     if is_run(words) {
         return run_recorded(rt, alloc, source, site, gate);
     }
-    match drill_number(words) {
-        Some(number) => drill(rt, alloc, number, site, gate),
+    if let Some(number) = drill_number(words) {
+        return drill(rt, alloc, number, site, gate);
+    }
+    match link_drill_number(words) {
+        Some(number) => drill_link(rt, alloc, number, site, gate),
         None => {
             stat_keeps_lives();
             run_plain(alloc, words, source, site)

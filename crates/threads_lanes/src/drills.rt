@@ -1,4 +1,4 @@
-// A drill, as its gate sees it.
+// Drills, as their gate sees them.
 use crate::runs::call;
 use sdls_outside::{MemSite, SureSource};
 use sdls_run::Gate;
@@ -42,5 +42,27 @@ fn a_drill_handles_its_records(rt: HostRuntime) -> Result<(), Fail> {
     );
     assert_eq!(rt; gate.passed.load(Ordering::SeqCst), 2004);
     assert_eq!(rt; gate.done.load(Ordering::SeqCst), 2004);
+    Ok(())
+}
+
+/// A thousand frames are protected, and 1,015 arrive over the link: 856 of them once or more, the repeated ones twice.
+/// The gate is called before and after 2,015 records.
+#[test]
+fn a_drill_over_a_link_handles_what_arrives(rt: HostRuntime) -> Result<(), Fail> {
+    let alloc = rt.alloc();
+    let gate = Counting {
+        passed: AtomicU64::new(0),
+        done: AtomicU64::new(0),
+    };
+    let mut source = SureSource::new(Vec::new(alloc));
+    let site = MemSite::new(alloc, Vec::new(alloc), Vec::new(alloc), None);
+    let (status, entries, site) = call(&rt, alloc, "drill link 1000", &mut source, site, &gate)?;
+    assert_eq!(rt; (status, entries), (DONE, 0));
+    assert_eq!(rt;
+        site.sunk(),
+        b"drill link 1000 protected 1000 lost 144 accepted 802 rejected 213\n".as_slice()
+    );
+    assert_eq!(rt; gate.passed.load(Ordering::SeqCst), 2015);
+    assert_eq!(rt; gate.done.load(Ordering::SeqCst), 2015);
     Ok(())
 }

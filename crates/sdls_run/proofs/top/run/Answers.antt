@@ -16,4 +16,7 @@ returns-in-None-clause-stat_lives g c is =
     c.stat_keeps_lives.ensures call c.run_plain.ensures.no_history (c.run_plain.ensures.stat is)
 
 pub returns-in-None-clause-drill : goal.returns-in-None-clause-drill
-returns-in-None-clause-drill g c = λ number is. absurd (c.in-None.ensures number is)
+returns-in-None-clause-drill g c = λ number is. absurd (c.in_default.ensures number is)
+
+pub returns-in-None-clause-drill_link : goal.returns-in-None-clause-drill_link
+returns-in-None-clause-drill_link g c = λ number is. absurd (c.in-None.ensures number is)
