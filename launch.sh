@@ -264,7 +264,7 @@ Examples:
 HELP
     else
         cat <<'HELP'
-usage: sdls check KEY | init | stat | run | drill N
+usage: sdls check KEY | init | stat | run | drill N | drill link N
 A space link security unit (CCSDS 355.0-B-2 and 355.1-B-1). It works on the file unit.img in the current folder.
 
   check KEY    reads one AOS transfer frame, and prints its data field or the first check that failed;
@@ -274,6 +274,7 @@ A space link security unit (CCSDS 355.0-B-2 and 355.1-B-1). It works on the file
   run          reads recorded input, serves it with unit.img, and writes an answer for each record;
                both are octets, which `sdls_text` makes from text and prints as text
   drill N      protects and opens N generated frames with two units in memory, and prints the counts
+  drill link N the same over a link between the two that loses, repeats and delays frames
   --help       prints this page
   --version    prints the commit and the kit that the program is built from
 
