@@ -48,23 +48,23 @@ new_state_within (Some Unkeyed) = omega arith
 new_state_within (Some Keyed) = omega arith
 new_state_within (Some Operational) = omega arith
 
-direction_within : (direction : Direction) → IsWithin 1 2 (direction_code direction)
+pub direction_within : (direction : Direction) → IsWithin 1 2 (direction_code direction)
 direction_within Send = record { from = omega arith; to = omega arith }
 direction_within Receive = record { from = omega arith; to = omega arith }
 
-suite_within : (suite : Suite) → IsWithin 1 2 (suite_code suite)
+pub suite_within : (suite : Suite) → IsWithin 1 2 (suite_code suite)
 suite_within Cmac = record { from = omega arith; to = omega arith }
 suite_within Gcm = record { from = omega arith; to = omega arith }
 
 -- ---- numbers
 
-key_again : (key : ℕ) → IsKey key → from_be_bytes w16 (to_be_bytes w16 key) ≡ key
+pub key_again : (key : ℕ) → IsKey key → from_be_bytes w16 (to_be_bytes w16 key) ≡ key
 key_again key is = from_be_bytes-to_be_bytes_2 key is.1
 
-spi_again : (spi : ℕ) → IsSpi spi → from_be_bytes w16 (to_be_bytes w16 spi) ≡ spi
+pub spi_again : (spi : ℕ) → IsSpi spi → from_be_bytes w16 (to_be_bytes w16 spi) ≡ spi
 spi_again spi is = from_be_bytes-to_be_bytes_2 spi (omega (arith, is.1))
 
-number_again : (n : ℕ) → n < 2 ^ 64 → from_be_bytes w64 (to_be_bytes w64 n) ≡ n
+pub number_again : (n : ℕ) → n < 2 ^ 64 → from_be_bytes w64 (to_be_bytes w64 n) ≡ n
 number_again n is = from_be_bytes-to_be_bytes_8 n is
 
 -- ---- lists

@@ -1,5 +1,5 @@
 -- The records in which changes are stored (profile): a kind, the length of the data, the data, zeros to the end.
-use Rattle.std.specs.Prelude.{◌≡◌, ◌≢◌, ⊤, ℕ, ◌-◌, ◌+◌, ◌^◌, ◌<◌, ◌≤◌, List, [], ◌∷◌, ◌++◌, length, replicate}
+use Rattle.std.specs.Prelude.{◌≡◌, ◌≢◌, ⊤, ℕ, ◌-◌, ◌+◌, ◌^◌, ◌<◌, List, [], ◌∷◌, ◌++◌, length, replicate}
 use Rattle.std.specs.List.{flat_map, All}
 use Rattle.std.specs.Int.{w16, w64, to_be_bytes}
 use Rattle.sdls_base.specs.Bounds.{AreChannels, IsKeyLength, IsKeyCount}

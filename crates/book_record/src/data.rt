@@ -1,9 +1,10 @@
-//! The data of a record, put one field after the other.
+//! The data of a record or of a row, put one field after the other.
 ghost use Rattle.std.specs.Prelude.{◌≡◌, ◌+◌, ◌≤◌, [], ◌∷◌, ◌++◌, length};
 ghost use Rattle.std.specs.Int.{w16, w64, to_be_bytes};
+ghost use Rattle.book_record.specs.Padded.{padded};
 ghost use Rattle.book_record.specs.Record.{body_of};
 
-use crate::layout::{DATA_ROOM, HEADER};
+use crate::layout::{DATA_ROOM, HEADER, MOST_PADDED};
 use sdls_base::{BODY_LENGTH, put};
 use std::marker::Model;
 
@@ -60,6 +61,27 @@ impl Data {
         ensures { self.new ≡ self.old ++ to_be_bytes w64 n }
     {
         self.put(&n.to_be_bytes());
+    }
+
+    /// Puts octets, and zeros behind them up to so many.
+    pub(crate) fn put_padded(&mut self, field: &[u8], width: usize)
+        requires fits { length field.now ≤ width }
+        requires width { width ≤ MOST_PADDED }
+        requires room { length self.old + width ≤ DATA_ROOM }
+        ensures { self.new ≡ self.old ++ padded width field.now }
+    {
+        self.put(field);
+        self.put(&[0; MOST_PADDED][..width - field.len()]);
+    }
+
+    /// The data with zeros behind it, as a row of so many octets.
+    pub(crate) fn row<const N: usize>(&self) -> [u8; N]
+        requires { length self.now ≤ N }
+        ensures { result ≡ padded N self.now }
+    {
+        let mut row = [0; N];
+        put(&mut row, 0, &self.octets[..self.end]);
+        row
     }
 
     /// The body of a record of a kind with this data.

@@ -2,9 +2,11 @@
 ghost use Rattle.std.specs.Prelude.{◌≡◌, ◌+◌, ◌<◌, ◌≤◌, ◌↔◌, IsTrue, length, take, drop};
 ghost use Rattle.std.specs.List.Sorted.{IsStrictlyIncreasing};
 ghost use Rattle.sdls_base.specs.Bounds.{AreChannels, IsKeyLength, IsKeyCount};
-ghost use Rattle.sdls_base.specs.Code.{key_state_of, new_state_of, direction_of, suite_of};
+ghost use Rattle.sdls_base.specs.Code.{key_state_of, sa_state_of, new_state_of, direction_of, suite_of};
+ghost use Rattle.book_record.specs.KeyParts.{IsRowKeyLength};
 ghost use Rattle.book_record.specs.Record.{IsKey, IsSpi};
 ghost use Rattle.book_record.specs.Reading.{Judges, IsWithin, octet_at, word_at, number_at};
+ghost use Rattle.book_record.specs.RowReading.{held_of};
 
 use crate::record_error::RecordError;
 use sdls_base::{
@@ -12,7 +14,7 @@ use sdls_base::{
 };
 
 /// So many octets from a place on.
-fn array<const N: usize>(body: &[u8], at: usize) -> [u8; N]
+pub(crate) fn array<const N: usize>(body: &[u8], at: usize) -> [u8; N]
     requires { at + N ≤ length body.now }
     ensures { result ≡ take N (drop at body.now) }
 {
@@ -67,6 +69,48 @@ pub(crate) fn key_length(number: u8) -> Result<usize, RecordError>
         16 | 32 => Ok(usize::from(number)),
         _ => Err(RecordError::Malformed),
     }
+}
+
+/// The length of the key in a row, in octets: 0 where the row has none of the key.
+pub(crate) fn row_key_length(number: u8) -> Result<usize, RecordError>
+    ensures { Judges result (IsRowKeyLength number) number }
+{
+    match number {
+        0 | 16 | 32 => Ok(usize::from(number)),
+        _ => Err(RecordError::Malformed),
+    }
+}
+
+/// A count of channels that a row has room for.
+pub(crate) fn channel_count(number: u8) -> Result<usize, RecordError>
+    ensures { Judges result (number ≤ MOST_CHANNELS) number }
+{
+    match usize::from(number) {
+        count @ 0..=MOST_CHANNELS => Ok(count),
+        _ => Err(RecordError::Malformed),
+    }
+}
+
+/// The state of the key in a row.
+pub(crate) fn row_key_state(number: u8) -> Result<KeyState, RecordError>
+    ensures { Judges result (IsWithin 1 4 number) (key_state_of number) }
+{
+    KeyState::from_code(number).ok_or(RecordError::Malformed)
+}
+
+/// The state of the association in a row.
+pub(crate) fn row_sa_state(number: u8) -> Result<SaState, RecordError>
+    ensures { Judges result (IsWithin 1 3 number) (sa_state_of number) }
+{
+    SaState::from_code(number).ok_or(RecordError::Malformed)
+}
+
+/// The key that a row names: 0 names none.
+pub(crate) fn held_key(row: &[u8], at: usize) -> Option<KeyId>
+    requires { at + 2 ≤ length row.now }
+    ensures { result ≡ held_of (word_at at row.now) }
+{
+    KeyId::new(word(row, at))
 }
 
 /// The state that keys take: never the one in which they are loaded.

@@ -1,7 +1,11 @@
 ghost use Rattle.std.specs.Prelude.{◌≡◌, ℕ, List, Some};
 ghost use Rattle.sdls_base.specs.declared.change.Change.{Change};
+ghost use Rattle.book_record.specs.declared.key_parts.KeyParts.{KeyParts};
+ghost use Rattle.book_record.specs.declared.sa_parts.SaParts.{SaParts};
+ghost use Rattle.book_record.specs.KeyParts.{IsKeyRow};
 ghost use Rattle.book_record.specs.Reading.{change_of};
 ghost use Rattle.book_record.specs.Record.{IsRecord};
+ghost use Rattle.book_record.specs.SaParts.{IsSaRow};
 
 /// Law: no two changes have one record.
 pub fn one_change()
@@ -11,4 +15,16 @@ pub fn one_change()
 /// Law: a record is that of the change which stands at the places of its kind.
 pub fn change_of_its_kind()
     ensures { (change : Change) (body : List ℕ) → IsRecord change body → change_of body ≡ Some change }
+{}
+
+/// Law: no two keys have one row.
+#[tactic(auto, using(crate::proofs::Rows::one_key_row))]
+pub fn one_key_row()
+    ensures { (a b : KeyParts) (row : List ℕ) → IsKeyRow a row → IsKeyRow b row → a ≡ b }
+{}
+
+/// Law: no two associations have one row.
+#[tactic(auto, using(crate::proofs::Rows::one_sa_row))]
+pub fn one_sa_row()
+    ensures { (a b : SaParts) (row : List ℕ) → IsSaRow a row → IsSaRow b row → a ≡ b }
 {}

@@ -1,21 +1,33 @@
 //! The records in which changes of the unit's state are stored: a body of 511 octets for each change, both ways. The
-//! layout is profile.
+//! rows of a bank besides: 96 octets for each key, and 32 for each security association. The layouts are profile.
 //!
 //! [`write_record`] writes the record of a change, and takes no memory. [`read_record`] reads a body, and refuses what
 //! is no record. Each change has one record, and each record one change.
+//!
+//! [`write_key_row`], [`read_key_row`], [`write_sa_row`] and [`read_sa_row`] do the same for rows. What is written is
+//! borrowed. No image has a bank yet, so no command writes a row.
 #![tactic(auto)]
 
 mod data;
 mod fields;
+mod key_parts;
+mod key_rows;
 mod kind;
 mod laws;
 mod layout;
 mod reading;
 mod record_error;
+mod sa_parts;
+mod sa_rows;
 mod writing;
 
-pub use laws::{change_of_its_kind, one_change};
+pub use key_parts::{KeyParts, KeyView};
+pub use key_rows::{read_key_row, write_key_row};
+pub use laws::{change_of_its_kind, one_change, one_key_row, one_sa_row};
+pub use layout::{KEY_ROW_LENGTH, SA_ROW_LENGTH};
 pub use reading::read_record;
 pub use record_error::RecordError;
+pub use sa_parts::{SaParts, SaView};
+pub use sa_rows::{read_sa_row, write_sa_row};
 pub use sdls_base::BODY_LENGTH;
 pub use writing::write_record;

@@ -1,0 +1,48 @@
+-- What stands at the places of a row, and when it may stand there (profile).
+use Rattle.std.specs.Prelude.{ℕ, ◌==◌, if◌then◌else◌, List, take, drop, Option, Some, None}
+use Rattle.sdls_base.specs.Bounds.{AreChannels}
+use Rattle.sdls_base.specs.Code.{key_state_of, sa_state_of, direction_of, suite_of}
+use Rattle.book_record.specs.declared.layout.TheConstants.{DIGEST_LENGTH}
+use Rattle.book_record.specs.declared.key_parts.KeyParts.{KeyParts}
+use Rattle.book_record.specs.declared.sa_parts.SaParts.{SaParts}
+use Rattle.book_record.specs.KeyParts.{IsRowKeyLength}
+use Rattle.book_record.specs.Reading.{IsWithin, octet_at, word_at, number_at, channels_at}
+use Rattle.book_record.specs.Record.{IsKey, IsSpi}
+
+-- ---- a key's row
+
+abbrev pub key_parts_at : List ℕ → KeyParts
+key_parts_at row = record {
+  id = word_at 0 row;
+  state = key_state_of (octet_at 2 row);
+  bytes = take (octet_at 3 row) (drop 4 row);
+  digest = take DIGEST_LENGTH (drop 36 row);
+  mark = number_at 68 row;
+  floor = number_at 76 row;
+}
+
+abbrev pub MayBeKeyRow : List ℕ → Type 0
+MayBeKeyRow row = IsKey (word_at 0 row) × IsWithin 1 4 (octet_at 2 row) × IsRowKeyLength (octet_at 3 row)
+
+-- ---- an association's row
+
+-- the key that a number names: 0 names none
+abbrev pub held_of : ℕ → Option ℕ
+held_of number = if number == 0 then None else Some number
+
+abbrev pub sa_parts_at : List ℕ → SaParts
+sa_parts_at row = record {
+  sa = record {
+    spi = word_at 0 row;
+    direction = direction_of (octet_at 2 row);
+    suite = suite_of (octet_at 3 row);
+    window = number_at 16 row;
+    channels = channels_at 7 row;
+  };
+  state = sa_state_of (octet_at 4 row);
+  key = held_of (word_at 5 row);
+}
+
+abbrev pub MayBeSaRow : List ℕ → Type 0
+MayBeSaRow row = IsSpi (word_at 0 row) × IsWithin 1 2 (octet_at 2 row) × IsWithin 1 2 (octet_at 3 row)
+    × IsWithin 1 3 (octet_at 4 row) × AreChannels (channels_at 7 row)

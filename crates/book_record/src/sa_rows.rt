@@ -1,0 +1,94 @@
+//! The rows of security associations.
+ghost use Rattle.std.specs.Prelude.{◌≡◌, length, IfOk, IfSome};
+ghost use Rattle.sdls_base.specs.Bounds.{AreChannels};
+ghost use Rattle.book_record.specs.declared.sa_parts.SaParts.{SaParts};
+ghost use Rattle.book_record.specs.SaParts.{viewed, held_code, sa_row_octets, HasSaTypes, IsSaRow};
+ghost use Rattle.book_record.specs.Record.{IsKey};
+ghost use Rattle.book_record.specs.Reading.{Judges, IsReadUnlessNoMemory};
+ghost use Rattle.book_record.specs.RowReading.{sa_parts_at, MayBeSaRow};
+
+use crate::data::Data;
+use crate::fields::{
+    are_channels, channel_count, direction, held_key, number, row_sa_state, spi, suite,
+};
+use crate::layout::{CHANNEL_ROOM, SA_ROW_LENGTH};
+use crate::record_error::RecordError;
+use crate::sa_parts::{SaParts, SaView};
+use sdls_base::{KeyId, NewSa, Octets};
+use std::alloc::Global;
+
+/// The number of a key, 0 where there is none.
+fn held_code(key: Option<KeyId>) -> u16
+    ensures number { result ≡ held_code key }
+    ensures types { IfSome key IsKey }
+{
+    match key {
+        None => 0,
+        Some(id) => id.get(),
+    }
+}
+
+/// Writes the row of an association, 32 octets: index, direction, suite, state, key, count of channels, channels in 8
+/// octets, window, zeros. Takes no memory.
+#[tactic(auto, unfolding(crate::specs::SaParts::sa_row_octets))]
+pub fn write_sa_row(parts: &SaView<'_>) -> [u8; SA_ROW_LENGTH]
+    requires { AreChannels parts.now.channels.now }
+    ensures spelled { result ≡ sa_row_octets (viewed parts.now) }
+    // What is written is a row, which `read_sa_row` reads as these parts.
+    ensures row_of { IsSaRow (viewed parts.now) result }
+{
+    let mut octets = Data::new();
+    octets.put_word(parts.spi.get());
+    octets.put_octet(parts.direction as u8);
+    octets.put_octet(parts.suite as u8);
+    octets.put_octet(parts.state as u8);
+    octets.put_word(held_code(parts.key));
+    octets.put_octet(parts.channels.len() as u8);
+    octets.put_padded(parts.channels, CHANNEL_ROOM);
+    octets.put_number(parts.window);
+    octets.row()
+}
+
+/// The parts at the places of a row, whatever stands in the octets that are not used.
+fn sa_parts(alloc: Global, row: &[u8]) -> Result<SaParts, RecordError>
+    requires { length row.now ≡ SA_ROW_LENGTH }
+    ensures { Judges result (MayBeSaRow row.now) (sa_parts_at row.now) }
+{
+    let spi = spi(row, 0)?;
+    let direction = direction(row[2])?;
+    let suite = suite(row[3])?;
+    let state = row_sa_state(row[4])?;
+    let count = channel_count(row[7])?;
+    let channels = &row[8..8 + count];
+    if !are_channels(channels) {
+        return Err(RecordError::Malformed);
+    }
+    Ok(SaParts {
+        sa: NewSa {
+            spi,
+            direction,
+            suite,
+            window: number(row, 16),
+            channels: Octets::new(Vec::from_slice(alloc, channels)?),
+        },
+        state,
+        key: held_key(row, 5),
+    })
+}
+
+/// Reads the row of an association, which is all 32 octets. `Malformed` comes exactly where they are no row of an
+/// association: also where an octet behind the channels, or at the end, is not zero.
+pub fn read_sa_row(alloc: Global, row: &[u8; SA_ROW_LENGTH]) -> Result<SaParts, RecordError>
+    // What is read has these octets as its row.
+    ensures found { IfOk result (λ parts. IsSaRow parts row.now) }
+    // What has these octets as its row is read, unless memory runs out.
+    ensures only { (parts : SaParts) → IsSaRow parts row.now → IsReadUnlessNoMemory result parts }
+{
+    let parts = sa_parts(alloc, row)?;
+    // An association has one row: the octets that are not used are compared with it.
+    if write_sa_row(&parts.view()) == *row {
+        Ok(parts)
+    } else {
+        Err(RecordError::Malformed)
+    }
+}
