@@ -158,8 +158,8 @@ fn ascend(numbers: &[u8]) -> bool
     true
 }
 
-/// Whether these are one to eight channels, ascending.
-pub(crate) fn are_channels(numbers: &[u8]) -> bool
+/// Whether these are one to eight channels, ascending. Whether one is above 63 is not looked at.
+pub fn are_channels(numbers: &[u8]) -> bool
     ensures { IsTrue result ↔ AreChannels numbers.now }
 {
     !numbers.is_empty() && numbers.len() <= MOST_CHANNELS && ascend(numbers)

@@ -1,0 +1,23 @@
+ghost use Rattle.std.specs.Prelude.{◌≡◌};
+ghost use Rattle.book_rows.specs.declared.rows_fault.RowsFault.TheVariants.{NoMemory};
+
+use thiserror::Error;
+
+/// Why no state was made of rows.
+#[derive(Clone, Copy, Debug, PartialEq, Eq, Error)]
+pub enum RowsFault {
+    /// The rows break a rule of a state.
+    #[error("rows break a rule")]
+    Unfit,
+    /// Memory was wanting.
+    #[error("no memory")]
+    NoMemory,
+}
+
+impl From<sdls_base::NoMemory> for RowsFault {
+    ghost from_gives = { λ _ fault. fault ≡ NoMemory };
+
+    fn from(_refused: sdls_base::NoMemory) -> RowsFault {
+        RowsFault::NoMemory
+    }
+}
