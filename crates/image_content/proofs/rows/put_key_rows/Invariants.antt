@@ -1,0 +1,10 @@
+use Rattle.std.proofs.Common.{◌≡◌, ◌+◌, ◌*◌, ◌++◌, take}
+use Rattle.image_content.specs.Content.{key_rows}
+use Rattle.book_record.specs.declared.layout.TheConstants.{KEY_ROW_LENGTH}
+use Rattle.image_content.proofs.rows.put_key_rows.Given as goal
+
+abbrev pub invariant-loop-row : goal.invariant-loop-row
+invariant-loop-row l = record {
+  place : l.end ≡ l.at + KEY_ROW_LENGTH * l.row-index;
+  written : take l.end l.out ≡ take l.at l.fn.out ++ key_rows (take l.row-index l.rows);
+}

@@ -1,0 +1,10 @@
+use Rattle.std.proofs.Common.{◌≡◌, ◌+◌, ◌*◌, ◌++◌, take}
+use Rattle.image_content.specs.Content.{sa_rows}
+use Rattle.book_record.specs.declared.layout.TheConstants.{SA_ROW_LENGTH}
+use Rattle.image_content.proofs.rows.put_sa_rows.Given as goal
+
+abbrev pub invariant-loop-row : goal.invariant-loop-row
+invariant-loop-row l = record {
+  place : l.end ≡ l.at + SA_ROW_LENGTH * l.row-index;
+  written : take l.end l.out ≡ take l.at l.fn.out ++ sa_rows (take l.row-index l.rows);
+}

@@ -1,0 +1,12 @@
+//! The content of a bank: the rows of all keys and associations of a unit's state, 51,703 octets (profile). It is what
+//! an image will hold of a state. The highest numbers that were accepted are not in it: a restart sets them.
+//!
+//! [`write_content`] writes it without taking memory. Read `specs/Content.antt` first. No image has a bank yet.
+#![tactic(auto)]
+
+mod layout;
+mod rows;
+mod writing;
+
+pub use layout::CONTENT_LENGTH;
+pub use writing::write_content;
