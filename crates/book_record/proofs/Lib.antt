@@ -2,4 +2,4 @@ mod Again
 mod Bodies
 mod Lengths
 mod Lists
-mod Rows
+pub mod Rows

@@ -32,13 +32,13 @@ row_put n end octets row e front rest =
     sym (take-append-drop end row) ∙ ap (λ (s : List ℕ). s ++ drop end row) front
     ∙ ap (λ (s : List ℕ). octets ++ s) (rest ∙ drop-replicate end n 0 ∙ ap (λ (m : ℕ). replicate (n - m) 0) e)
 
-padded_length : (width : ℕ) (octets : List ℕ) → length octets ≤ width → length (padded width octets) ≡ width
+pub padded_length : (width : ℕ) (octets : List ℕ) → length octets ≤ width → length (padded width octets) ≡ width
 padded_length width octets fits =
     let none : ℕ = 0 in
     omega (arith, fits, length-append octets (replicate (width - length octets) none), length-replicate (width - length octets) none)
 
 -- the octets in front of the zeros
-padded_front : (width : ℕ) (octets rest : List ℕ) → take (length octets) (padded width octets ++ rest) ≡ octets
+pub padded_front : (width : ℕ) (octets rest : List ℕ) → take (length octets) (padded width octets ++ rest) ≡ octets
 padded_front width octets rest =
     let zeros = replicate (width - length octets) 0 in
     ap (λ (s : List ℕ). take (length octets) s) (append_assoc octets zeros rest) ∙ take-append_seam octets (zeros ++ rest)
@@ -102,6 +102,24 @@ row_bytes_fit row size may =
     subst IsRowKeyLength (sym (length-take-le (octet_at 3 row) (drop 4 row)
     (omega (arith, size, row_key_length_small (octet_at 3 row) may.2, length-drop 4 row)))) may.2
 
+pub key_row_length : (parts : KeyParts) (row : List ℕ) → IsKeyRow parts row → length row ≡ KEY_ROW_LENGTH
+unfolding key_row_octets
+key_row_length parts row is =
+    let room = padded KEY_ROOM parts.bytes in
+    let marked = to_be_bytes w64 parts.mark in
+    let floored = to_be_bytes w64 parts.floor in
+    let front = to_be_bytes w16 parts.id ++ key_state_code parts.state ∷ length parts.bytes ∷ (room ++ parts.digest ++ marked ++ floored) in
+    let short : length front ≤ KEY_ROW_LENGTH =
+    omega (
+      arith,
+      padded_length KEY_ROOM parts.bytes (row_key_length_small (length parts.bytes) is.fits),
+      is.types.digest,
+      length-append (room ++ parts.digest ++ marked) floored,
+      length-append (room ++ parts.digest) marked,
+      length-append room parts.digest,
+    ) in
+    ap length is.spelled ∙ padded_length KEY_ROW_LENGTH front short
+
 -- no two keys have one row
 pub one_key_row : (a b : KeyParts) (row : List ℕ) → IsKeyRow a row → IsKeyRow b row → a ≡ b
 one_key_row a b row is also = sym (key_row_says a row is).value ∙ (key_row_says b row also).value
@@ -160,6 +178,17 @@ sa_row_again parts types fits =
 
 pub sa_row_says : (parts : SaParts) (row : List ℕ) → IsSaRow parts row → SaRowSays parts row
 sa_row_says parts row is = subst (SaRowSays parts) (sym is.spelled) (sa_row_again parts is.types is.fits)
+
+pub sa_row_length : (parts : SaParts) (row : List ℕ) → IsSaRow parts row → length row ≡ SA_ROW_LENGTH
+unfolding sa_row_octets
+sa_row_length parts row is =
+    let new = parts.sa in
+    let room = padded CHANNEL_ROOM new.channels in
+    let front = to_be_bytes w16 new.spi ++ direction_code new.direction ∷ suite_code new.suite ∷ sa_state_code parts.state
+    ∷ (to_be_bytes w16 (held_code parts.key) ++ length new.channels ∷ (room ++ to_be_bytes w64 new.window)) in
+    let short : length front ≤ SA_ROW_LENGTH =
+    omega (arith, padded_length CHANNEL_ROOM new.channels is.fits.most, length-append room (to_be_bytes w64 new.window)) in
+    ap length is.spelled ∙ padded_length SA_ROW_LENGTH front short
 
 -- no two associations have one row
 pub one_sa_row : (a b : SaParts) (row : List ℕ) → IsSaRow a row → IsSaRow b row → a ≡ b

@@ -1,6 +1,7 @@
 ghost use Rattle.std.specs.Prelude.{◌≡◌};
 ghost use Rattle.book_rows.specs.declared.rows_fault.RowsFault.TheVariants.{NoMemory};
 
+use std::alloc::AllocFailed;
 use thiserror::Error;
 
 /// Why no state was made of rows.
@@ -18,6 +19,14 @@ impl From<sdls_base::NoMemory> for RowsFault {
     ghost from_gives = { λ _ fault. fault ≡ NoMemory };
 
     fn from(_refused: sdls_base::NoMemory) -> RowsFault {
+        RowsFault::NoMemory
+    }
+}
+
+impl<T: Drop> From<AllocFailed<T>> for RowsFault {
+    ghost from_gives = { λ _ fault. fault ≡ NoMemory };
+
+    fn from(_refused: AllocFailed<T>) -> RowsFault {
         RowsFault::NoMemory
     }
 }

@@ -1,1 +1,4 @@
 mod Fields
+mod RowsRead
+mod Highs
+mod Contents

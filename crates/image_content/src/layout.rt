@@ -12,3 +12,9 @@ pub(crate) const SA_ROWS: usize = SA_ROW_LENGTH * MOST_ASSOCIATIONS;
 
 /// The octets of a content: the counts, what is not used, the rows.
 pub const CONTENT_LENGTH: usize = 3 + GAP + KEY_ROWS + SA_ROWS;
+
+/// Where the rows of keys begin.
+pub(crate) const KEYS_AT: usize = 3 + GAP;
+
+/// Where the rows of associations begin.
+pub(crate) const ASSOCIATIONS_AT: usize = KEYS_AT + KEY_ROWS;

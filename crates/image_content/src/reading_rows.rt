@@ -1,0 +1,178 @@
+//! The rows of a content, read.
+
+ghost use Rattle.std.specs.Prelude.{◌≡◌, ◌↔◌, ◌*◌, ℕ, List, IsTrue, length, replicate, IfOk, IfErr};
+ghost use Rattle.std.specs.Option.{option_map, option_map_or};
+ghost use Rattle.key_book.specs.declared.key_row.KeyRow.{KeyRow};
+ghost use Rattle.key_book.specs.KeyBook.{row_of};
+ghost use Rattle.sa_book.specs.declared.sa_row.SaRow.{SaRow};
+ghost use Rattle.unit_state.specs.Restart.{restarted_high};
+ghost use Rattle.book_record.specs.KeyParts.{IsKeyRow};
+ghost use Rattle.book_record.specs.SaParts.{IsSaRow};
+ghost use Rattle.book_rows.specs.Rows.{HasRowsCause};
+ghost use Rattle.image_content.specs.Content.{key_parts, sa_parts};
+ghost use Rattle.image_content.specs.Reading.{IsRestartedRow, AreKeyRows, AreSaRows};
+
+use book_record::{
+    KEY_ROW_LENGTH, KeyParts, RecordError, SA_ROW_LENGTH, SaParts, read_key_row, read_sa_row,
+};
+use book_rows::RowsFault;
+use key_book::KeyRow;
+use replay_window::Window;
+use sa_book::SaRow;
+use sdls_base::{Direction, KeyId, NewSa};
+use std::alloc::Global;
+
+pub(crate) fn are_zeros(octets: &[u8]) -> bool
+    ensures { IsTrue result ↔ (octets.now ≡ replicate (length octets.now) 0) }
+{
+    for octet in octets {
+        if *octet != 0 {
+            return false;
+        }
+    }
+    true
+}
+
+fn key_row_of(parts: KeyParts) -> KeyRow
+    ensures { key_parts result ≡ parts }
+{
+    let KeyParts {
+        id,
+        state,
+        bytes,
+        digest,
+        mark,
+        floor,
+    } = parts;
+    KeyRow {
+        id,
+        state,
+        bytes,
+        digest,
+        mark,
+        floor,
+    }
+}
+
+/// The row of a key that these octets are.
+fn key_row(alloc: Global, octets: &[u8]) -> Result<KeyRow, RowsFault>
+    requires { length octets.now ≡ KEY_ROW_LENGTH }
+    ensures found { IfOk result (λ row. IsKeyRow (key_parts row) octets.now) }
+    ensures fault { IfErr result (λ fault. HasRowsCause fault ((row : KeyRow) → ¬ IsKeyRow (key_parts row) octets.now)) }
+{
+    let mut row = [0; KEY_ROW_LENGTH];
+    row.copy_from_slice(octets);
+    match read_key_row(alloc, &row) {
+        Ok(parts) => Ok(key_row_of(parts)),
+        Err(RecordError::Malformed) => Err(RowsFault::Unfit),
+        Err(RecordError::NoMemory) => Err(RowsFault::NoMemory),
+    }
+}
+
+fn find(keys: &[KeyRow], id: KeyId) -> Option<&KeyRow>
+    ensures { option_map (λ row. row.now) result ≡ row_of keys.now id }
+{
+    keys.iter().find(|row| row.id == id)
+}
+
+fn floor_of(keys: &[KeyRow], id: KeyId) -> u64
+    ensures { result ≡ option_map_or (λ row. row.floor) (row_of keys.now id) 0 }
+{
+    match find(keys, id) {
+        Some(row) => row.floor,
+        None => 0,
+    }
+}
+
+/// The highest number that a restart gives an association.
+fn high_of(keys: &[KeyRow], parts: &SaParts) -> u64
+    ensures { result ≡ restarted_high keys.now parts.now.sa.direction parts.now.key 0 }
+{
+    match (parts.sa.direction, parts.key) {
+        (Direction::Receive, Some(key)) => floor_of(keys, key),
+        (Direction::Receive, None) | (Direction::Send, _) => 0,
+    }
+}
+
+fn sa_row_of(parts: SaParts, high: u64) -> SaRow
+    ensures said { sa_parts result ≡ parts }
+    ensures high { result.window.high ≡ high }
+{
+    let SaParts { sa, state, key } = parts;
+    let NewSa {
+        spi,
+        direction,
+        suite,
+        window,
+        channels,
+    } = sa;
+    SaRow {
+        spi,
+        direction,
+        suite,
+        state,
+        key,
+        channels,
+        window: Window {
+            high,
+            width: window,
+        },
+    }
+}
+
+/// The row of an association that these octets are, as a restart leaves it.
+fn sa_row(alloc: Global, keys: &[KeyRow], octets: &[u8]) -> Result<SaRow, RowsFault>
+    requires { length octets.now ≡ SA_ROW_LENGTH }
+    ensures found { IfOk result (λ row. IsRestartedRow keys.now row octets.now) }
+    ensures fault { IfErr result (λ fault. HasRowsCause fault
+        ((row : SaRow) → ¬ IsRestartedRow keys.now row octets.now)) }
+{
+    let mut row = [0; SA_ROW_LENGTH];
+    row.copy_from_slice(octets);
+    match read_sa_row(alloc, &row) {
+        Ok(parts) => {
+            let high = high_of(keys, &parts);
+            Ok(sa_row_of(parts, high))
+        }
+        Err(RecordError::Malformed) => Err(RowsFault::Unfit),
+        Err(RecordError::NoMemory) => Err(RowsFault::NoMemory),
+    }
+}
+
+/// The rows of keys that these octets are, one behind the other.
+pub(crate) fn key_rows(alloc: Global, octets: &[u8]) -> Result<Vec<KeyRow>, RowsFault>
+    requires { (count : ℕ) × (length octets.now ≡ KEY_ROW_LENGTH * count) }
+    ensures found { IfOk result (λ rows. AreKeyRows rows.items octets.now) }
+    ensures fault { IfErr result (λ fault. HasRowsCause fault
+        ((rows : List KeyRow) → ¬ AreKeyRows rows octets.now)) }
+{
+    let mut rows = Vec::new(alloc);
+    let mut rest = octets;
+    while !rest.is_empty() {
+        let (first, behind) = rest.split_at(KEY_ROW_LENGTH);
+        rows.push(key_row(alloc, first)?)?;
+        rest = behind;
+    }
+    Ok(rows)
+}
+
+/// The rows of associations that these octets are, one behind the other, as a restart leaves them.
+pub(crate) fn sa_rows(
+    alloc: Global,
+    keys: &[KeyRow],
+    octets: &[u8],
+) -> Result<Vec<SaRow>, RowsFault>
+    requires { (count : ℕ) × (length octets.now ≡ SA_ROW_LENGTH * count) }
+    ensures found { IfOk result (λ rows. AreSaRows keys.now rows.items octets.now) }
+    ensures fault { IfErr result (λ fault. HasRowsCause fault
+        ((rows : List SaRow) → ¬ AreSaRows keys.now rows octets.now)) }
+{
+    let mut rows = Vec::new(alloc);
+    let mut rest = octets;
+    while !rest.is_empty() {
+        let (first, behind) = rest.split_at(SA_ROW_LENGTH);
+        rows.push(sa_row(alloc, keys, first)?)?;
+        rest = behind;
+    }
+    Ok(rows)
+}
