@@ -12,8 +12,8 @@
 //! an octet.
 //!
 //! `record BODY` prints what is read of the body of a record, and whether the record of that is the body again. A body
-//! is hexadecimal words, with zeros where no word stands; `@510` before a word says the place where it stands. `key ROW`
-//! and `sa ROW` do the same for the row of a key and of an association.
+//! is hexadecimal words, with zeros where no word stands; `@510` before a word says the place where it stands.
+//! `key ROW` and `sa ROW` do the same for the row of a key and of an association.
 #![tactic(auto)]
 
 mod association_steps;

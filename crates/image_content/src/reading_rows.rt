@@ -58,7 +58,8 @@ fn key_row_of(parts: KeyParts) -> KeyRow
 fn key_row(alloc: Global, octets: &[u8]) -> Result<KeyRow, RowsFault>
     requires { length octets.now ≡ KEY_ROW_LENGTH }
     ensures found { IfOk result (λ row. IsKeyRow (key_parts row) octets.now) }
-    ensures fault { IfErr result (λ fault. HasRowsCause fault ((row : KeyRow) → ¬ IsKeyRow (key_parts row) octets.now)) }
+    ensures fault { IfErr result (λ fault. HasRowsCause fault
+        ((row : KeyRow) → ¬ IsKeyRow (key_parts row) octets.now)) }
 {
     let mut row = [0; KEY_ROW_LENGTH];
     row.copy_from_slice(octets);
