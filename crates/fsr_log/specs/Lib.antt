@@ -1,0 +1,5 @@
+pub mod Noted
+pub mod Message
+pub mod Report
+pub mod Steps
+pub mod Reply

@@ -1,0 +1,62 @@
+-- The answers of a run, as its log takes them (profile).
+use Rattle.std.specs.Prelude.{ℕ, ◌+◌, ◌==◌, ◌&&◌, ◌||◌, Bool, true, false, List, [], ◌∷◌, Option, Some, None}
+use Rattle.std.specs.Int.{is_in_range}
+use Rattle.record_io.specs.declared.answers.Answer.{Answer}
+use Rattle.record_io.specs.declared.kinds.RecordKind.{RecordKind}
+use Rattle.record_io.specs.declared.kinds.RecordKind.TheVariants.{Protect, Open, Command}
+use Rattle.record_io.specs.declared.code.TheConstants.{ACCEPTED, REFUSED, LAYOUT, SPI, NUMBER, EXHAUSTED, SITE_FAULT}
+use Rattle.record_io.specs.declared.code.TheConstants.{NO_MEMORY}
+use Rattle.fsr_log.specs.declared.events.Event.{Event}
+use Rattle.fsr_log.specs.declared.messages.TheConstants.{ERASE_LOG, ALARM_RESET}
+use Rattle.fsr_log.specs.declared.notes.TheConstants.{MONITORED}
+use Rattle.fsr_log.specs.declared.replies.TheConstants.{REPLY}
+
+-- an answer, with the number and the kind of its record; a monitoring message has no kind
+pub record Noted : Type 0 where
+  pub index : ℕ
+  pub kind : Option RecordKind
+  pub answer : Answer
+
+-- a refusal: codes 04, 10 to 17, 20 and 31 to 33
+abbrev pub is_event : ℕ → Bool
+is_event code = (code == REFUSED)
+    || (is_in_range LAYOUT NUMBER code || ((code == EXHAUSTED) || is_in_range SITE_FAULT NO_MEMORY code))
+
+-- a code that raises the alarm: 12 to 17
+abbrev pub is_alarm : ℕ → Bool
+is_alarm code = is_in_range SPI NUMBER code
+
+-- a code whose answer carries the key and the number that a frame had: 01 and 17
+abbrev pub is_seen : ℕ → Bool
+is_seen code = (code == ACCEPTED) || (code == NUMBER)
+
+abbrev pub is_open : Option RecordKind → Bool
+is_open None = false
+is_open (Some Protect) = false
+is_open (Some Open) = true
+is_open (Some Command) = false
+
+abbrev pub begins_with : ℕ → List ℕ → Bool
+begins_with first [] = false
+begins_with first (octet ∷ octets) = octet == first
+
+-- the answer is the reply with this tag to a monitoring message
+abbrev pub is_reply : ℕ → Answer → Bool
+is_reply tag answer = (answer.code == MONITORED) && begins_with tag answer.body
+
+-- an Erase log was answered
+abbrev pub is_erase : Noted → Bool
+is_erase noted = is_reply (REPLY + ERASE_LOG) noted.answer
+
+-- an Alarm reset was answered
+abbrev pub is_reset : Noted → Bool
+is_reset noted = is_reply (REPLY + ALARM_RESET) noted.answer
+
+-- what the log keeps of a refusal
+abbrev pub event_of : Noted → Event
+event_of noted = record {
+  index = noted.index;
+  code = noted.answer.code;
+  detail = noted.answer.detail;
+  number = noted.answer.number;
+}

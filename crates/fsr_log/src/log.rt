@@ -1,0 +1,132 @@
+//! The log.
+ghost use Rattle.std.specs.Prelude.{◌≡◌, ◌*◌, ◌≤◌, List, [], ◌∷◌, ◌++◌, length, IfOk};
+ghost use Rattle.fsr_log.specs.declared.events.TheConstants.{EVENT, MOST_EVENTS};
+ghost use Rattle.fsr_log.specs.Noted.{Noted};
+ghost use Rattle.fsr_log.specs.Report.{report_of};
+ghost use Rattle.fsr_log.specs.Reply.{Answers, dump, first_of_word, reply_of, report_word};
+
+use crate::events::{EVENT, Event, MOST_EVENTS, put_events};
+use crate::messages::{
+    ALARM_RESET, DUMP_LOG, ERASE_LOG, LOG_STATUS, Monitoring, PING, SELF_TEST, read_monitoring,
+};
+use crate::notes::{alarm, last_open, last_seen, note_event};
+use crate::replies::{REPORT_WORD, counts, reply_octets, tested};
+use circular_buffer::HeapCircularBuffer;
+use record_io::{Answer, RecordKind, code};
+use sdls_base::{NoMemory, Octets};
+use std::alloc::Global;
+use std::marker::Model;
+
+/// The last refusals of a run, and what its report word says.
+#[derive(Drop)]
+pub struct Log {
+    events: HeapCircularBuffer<Event>,
+    alarm: bool,
+    last_open: u8,
+    seen: (u16, u64),
+}
+
+impl Model for Log {
+    ghost use Rattle.std.specs.Prelude.{◌≡◌};
+    ghost use Rattle.fsr_log.specs.declared.events.TheConstants.{MOST_EVENTS};
+    ghost use Rattle.fsr_log.specs.Report.{Report};
+
+    ghost Value = { Report };
+
+    ghost view = { λ log. record {
+      events = log.events.items;
+      alarm = log.alarm;
+      last_open = log.last_open;
+      key = log.seen.0;
+      number = log.seen.1;
+    } };
+
+    ghost invariant = { λ log. log.events.capacity ≡ MOST_EVENTS };
+}
+
+impl Log {
+    /// The log of a run without an answer.
+    pub fn new(alloc: Global) -> Result<Log, NoMemory>
+        ensures { IfOk result (λ log. log ≡ report_of []) }
+    {
+        let events = HeapCircularBuffer::with_capacity(alloc, MOST_EVENTS)?;
+        Ok(Log {
+            events,
+            alarm: false,
+            last_open: 0,
+            seen: (0, 0),
+        })
+    }
+
+    /// Notes the answer to the record with this number and kind; a monitoring message has no kind. It takes no memory.
+    pub fn note(&mut self, index: u64, kind: Option<RecordKind>, answer: &Answer)
+        ensures { (notes : List Noted) → self.old ≡ report_of notes
+            → self.new ≡ report_of (notes ++ record { index = index; kind = kind; answer = answer.now } ∷ []) }
+    {
+        note_event(&mut self.events, index, answer);
+        self.alarm = alarm(self.alarm, answer);
+        self.last_open = last_open(self.last_open, kind, answer.code);
+        self.seen = last_seen(self.seen, answer);
+    }
+
+    /// The first octet of the report word.
+    fn first_of_word(&self) -> u8
+        ensures { result ≡ first_of_word self.now }
+    {
+        let number = self.last_open == code::NUMBER;
+        let mac = self.last_open == code::MAC;
+        let association = matches!(self.last_open, code::SPI..=code::COVERAGE);
+        REPORT_WORD
+            + 8 * u8::from(self.alarm)
+            + 4 * u8::from(number)
+            + 2 * u8::from(mac)
+            + u8::from(association)
+    }
+
+    fn report_word(&self) -> [u8; 4]
+        ensures { result ≡ report_word self.now }
+    {
+        let (key, number) = self.seen;
+        let [high, low] = key.to_be_bytes();
+        [self.first_of_word(), high, low, (number % 256) as u8]
+    }
+
+    /// The events, the oldest first.
+    fn dump(&self, alloc: Global) -> Result<Vec<u8>, NoMemory>
+        ensures octets { IfOk result (λ out. out.items ≡ dump self.now.events) }
+        ensures short { IfOk result (λ out. length out.items ≤ EVENT * MOST_EVENTS) }
+    {
+        let (front, back) = self.events.as_slices();
+        let mut out = Vec::with_capacity(alloc, EVENT * self.events.len())?;
+        put_events(&mut out, front)?;
+        put_events(&mut out, back)?;
+        Ok(out)
+    }
+
+    fn reply(&self, alloc: Global, message: &Monitoring) -> Result<Vec<u8>, NoMemory>
+        ensures { IfOk result (λ out. out.items ≡ reply_of self.now message.now) }
+    {
+        match message {
+            Monitoring::Ping => reply_octets(alloc, PING, &self.report_word()),
+            Monitoring::LogStatus => reply_octets(alloc, LOG_STATUS, &counts(self.events.len())),
+            Monitoring::DumpLog => reply_octets(alloc, DUMP_LOG, &self.dump(alloc)?),
+            Monitoring::EraseLog => reply_octets(alloc, ERASE_LOG, &counts(0)),
+            Monitoring::SelfTest(block) => reply_octets(alloc, SELF_TEST, &tested(*block)),
+            Monitoring::AlarmReset => reply_octets(alloc, ALARM_RESET, &[]),
+        }
+    }
+
+    /// Answers octets that should be a monitoring message: the reply, or the offset of their first fault. The log stays
+    /// as it is: what an Erase log or an Alarm reset changes comes when its answer is noted.
+    pub fn answer(&self, alloc: Global, message: &[u8]) -> Result<Result<Octets, u32>, NoMemory>
+        ensures { IfOk result (Answers self.now message.now) }
+    {
+        match read_monitoring(message) {
+            Ok(message) => {
+                let reply = self.reply(alloc, &message)?;
+                Ok(Ok(Octets::new(reply)))
+            }
+            Err(offset) => Ok(Err(offset)),
+        }
+    }
+}

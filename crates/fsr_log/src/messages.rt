@@ -1,0 +1,105 @@
+//! Monitoring messages.
+ghost use Rattle.std.specs.Prelude.{◌≡◌, length, Some};
+ghost use Rattle.ep_codec.specs.Command.{message};
+ghost use Rattle.fsr_log.specs.Message.{HasTag, Reads, data_length, monitoring_octets};
+
+use ep_codec::word_at;
+
+/// The tag of a Ping.
+pub const PING: u8 = 0x31;
+
+/// The tag of a Log status.
+pub const LOG_STATUS: u8 = 0x32;
+
+/// The tag of a Dump log.
+pub const DUMP_LOG: u8 = 0x33;
+
+/// The tag of an Erase log.
+pub const ERASE_LOG: u8 = 0x34;
+
+/// The tag of a Self test.
+pub const SELF_TEST: u8 = 0x35;
+
+/// The tag of an Alarm reset.
+pub const ALARM_RESET: u8 = 0x37;
+
+/// The octets of the block of a Self test.
+pub const BLOCK: usize = 16;
+
+/// The octets before the data of a message: its tag, and the length of the data in bits.
+const HEADER: usize = 3;
+
+/// A monitoring message.
+#[derive(Clone, Copy, Debug, PartialEq, Eq)]
+pub enum Monitoring {
+    /// Asks for the report word.
+    Ping,
+    /// Asks how many events the log keeps, and how many more fit.
+    LogStatus,
+    /// Asks for the events.
+    DumpLog,
+    /// Takes the events out of the log.
+    EraseLog,
+    /// Asks for a block enciphered and authenticated under a known key.
+    SelfTest([u8; BLOCK]),
+    /// Ends the alarm.
+    AlarmReset,
+}
+
+/// How many octets of data the message with this tag has, if there is one.
+fn data_length(tag: u8) -> Option<usize>
+    ensures { result ≡ data_length tag }
+{
+    match tag {
+        PING | LOG_STATUS | DUMP_LOG | ERASE_LOG | ALARM_RESET => Some(0),
+        SELF_TEST => Some(BLOCK),
+        _ => None,
+    }
+}
+
+/// The tag of the message that these octets are, or the offset of their first fault.
+fn tag_in(octets: &[u8]) -> Result<u8, u32>
+    ensures { HasTag octets.now result }
+{
+    let [tag, _, _, body @ ..] = octets else {
+        return Err(octets.len() as u32);
+    };
+    let len = data_length(*tag).ok_or(0u32)?;
+    if usize::from(word_at(octets, 1)) != 8 * len {
+        return Err(1);
+    }
+    if body.len() < len {
+        return Err(octets.len() as u32);
+    }
+    if body.len() > len {
+        return Err((HEADER + len) as u32);
+    }
+    Ok(*tag)
+}
+
+/// The message with this tag and data.
+fn message_of(tag: u8, body: &[u8]) -> Monitoring
+    requires { data_length tag ≡ Some (length body.now) }
+    ensures { monitoring_octets result ≡ message tag body.now }
+{
+    match tag {
+        PING => Monitoring::Ping,
+        LOG_STATUS => Monitoring::LogStatus,
+        DUMP_LOG => Monitoring::DumpLog,
+        ERASE_LOG => Monitoring::EraseLog,
+        SELF_TEST => {
+            let mut block = [0; BLOCK];
+            block.copy_from_slice(body);
+            Monitoring::SelfTest(block)
+        }
+        _ => Monitoring::AlarmReset,
+    }
+}
+
+/// Reads a monitoring message, which is all of the octets; or says the offset of their first fault.
+pub(crate) fn read_monitoring(octets: &[u8]) -> Result<Monitoring, u32>
+    ensures { Reads octets.now result }
+{
+    let tag = tag_in(octets)?;
+    Ok(message_of(tag, &octets[HEADER..]))
+}
