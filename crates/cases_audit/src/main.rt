@@ -2,14 +2,17 @@
 //! and what it answers is printed; `#` and a title is printed as it is.
 //!
 //! `new` begins a recording, `run OCTETS` adds a run with its length, and `octets OCTETS` adds these octets alone.
+//! `many N` adds a run of N frames protected under key 1, with the numbers from 1 on.
 //! `audit` prints what the audit says. `fronts OCTETS` prints what it says with each front of these octets as a run
 //! more, for the lengths whose answer is another than that of the length before, and `cuts` the same of each front of
-//! the whole. Octets are words of hexadecimal digits; `x1024` before a word says how often it stands there.
+//! the whole. `pieces` prints what it says with sources that give at most 1 to 64 octets a call, if one says something
+//! else than `audit`; `fails` what it says with one that fails at a call, for the calls whose answer is another than
+//! that of the call before. Octets are words of hexadecimal digits; `x1024` before a word says how often it stands there.
 #![tactic(auto)]
 
 mod auditing;
 
-use auditing::{audited, changes, put_run};
+use auditing::{audited, changes, failures, in_pieces, put_many, put_run};
 use case_lines::{Answers, octets, print_answers, said};
 use std::alloc::Global;
 
@@ -35,11 +38,14 @@ impl Table {
                 let more = octets(alloc, &mut rest.split_whitespace())?;
                 self.recording.extend_from_slice(&more)?;
             }
+            "many" => put_many(alloc, &mut self.recording, rest.parse()?)?,
             "audit" => return Ok(Some(audited(alloc, &self.recording)?)),
             "fronts" => {
                 let run = octets(alloc, &mut rest.split_whitespace())?;
                 return Ok(Some(changes(alloc, &self.recording, &run, true)?));
             }
+            "pieces" => return Ok(Some(in_pieces(alloc, &self.recording)?)),
+            "fails" => return Ok(Some(failures(alloc, &self.recording)?)),
             "cuts" => return Ok(Some(changes(alloc, &[], &self.recording, false)?)),
             _ => return Ok(Some(said(alloc, "no step")?)),
         }

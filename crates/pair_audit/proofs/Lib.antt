@@ -6,6 +6,8 @@ pub mod Fronts
 pub mod Repeating
 pub mod Headers
 pub mod OneRecording
+pub mod Takings
 pub mod Walking
+pub mod Within
 pub mod Runs
 pub mod OneEnd

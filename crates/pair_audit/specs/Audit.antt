@@ -55,6 +55,12 @@ pub record IsAsBefore (old new : Audit) : Type 0 where
   pub acceptance_count : new.acceptance_count ≡ old.acceptance_count
   pub count : new.fed ≡ old.fed
 
+-- the answer has this code, and this number of the key
+pub record Says (code key number : ℕ) (answer : Answer) : Type 0 where
+  pub code_is : answer.code ≡ code
+  pub key_is : answer.key ≡ key
+  pub number_is : answer.number ≡ number
+
 -- ---- what is told
 
 -- both answers use the number that is told, or both accept it

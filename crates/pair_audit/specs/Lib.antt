@@ -2,6 +2,7 @@ pub mod Marks
 pub mod Places
 pub mod Repeats
 pub mod Audit
+pub mod Taking
 pub mod Counted
 pub mod Reading
 pub mod Recording

@@ -33,6 +33,12 @@ header_said head = record {
   number = head.number;
 }
 
+-- the octets are the header that says so, and its code is an answer's
+pub record IsKnownHead (octets : List ℕ) (head : Head) : Type 0 where
+  pub spelled : octets ≡ header_octets (header_said head)
+  pub widths : HasWidths (header_said head)
+  pub known : IsAnswerCode head.code
+
 -- the answer with this header whose body is what stands behind, as far as that goes; it has so many octets
 pub record IsBehind (header : Header) (behind : List ℕ) (answer : Answer) (count : ℕ) : Type 0 where
   pub answer_is : answer ≡ as_answer (record { header = header; front = take header.octets behind })

@@ -95,3 +95,7 @@ AuditSays input (Clean count uses acceptances) = (runs : List (List ℕ)) × (an
 AuditSays input (Repeated repeat) = (runs : List (List ℕ)) × (answers : List Answer)
     × ReadsRuns input runs answers [] × IsTheRepeat answers repeat
 AuditSays input (BreaksAt offset) = IsMalformedAt input offset
+
+-- this is said of an input
+abbrev pub AuditFound : (List ℕ → Type 0) → AuditEnd → Type 0
+AuditFound IsInput end = (input : List ℕ) × IsInput input × AuditSays input end

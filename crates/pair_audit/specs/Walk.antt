@@ -1,10 +1,12 @@
 -- How far an audit has come in a recording (profile). Private: the clause of `audit_recording` speaks of the whole.
-use Rattle.std.specs.Prelude.{◌≡◌, ◌⊎◌, ℕ, ◌+◌, ◌<◌, ◌≤◌, ◌^◌, List, [], ◌∷◌, ◌++◌, length, take, drop, Option, Some}
-use Rattle.std.specs.Prelude.{None, MatchOption}
+use Rattle.std.specs.Prelude.{◌≡◌, ◌≢◌, ◌⊎◌, ℕ, ◌+◌, ◌<◌, ◌≤◌, Bool, IsTrue, List, [], ◌∷◌, ◌++◌, length, take, drop}
+use Rattle.std.specs.Prelude.{Option, Some, None, MatchOption}
 use Rattle.std.specs.List.{All}
 use Rattle.record_io.specs.declared.answers.Answer.{Answer}
 use Rattle.record_io.specs.declared.answers.TheConstants.{ANSWER_HEADER}
 use Rattle.record_io.specs.Answers.{IsAnswer, answers_octets}
+use Rattle.record_io.specs.Input.{MOST_OCTETS}
+use Rattle.record_io.specs.Steps.{still_counted}
 use Rattle.pair_audit.specs.declared.audit.Audit.{Audit}
 use Rattle.pair_audit.specs.declared.audit.Repeat.{Repeat}
 use Rattle.pair_audit.specs.declared.walk.Step.{Step}
@@ -16,8 +18,9 @@ use Rattle.pair_audit.specs.declared.walk.NextRun.TheVariants as nexts
 use Rattle.pair_audit.specs.Audit.{KnowsAudit}
 use Rattle.pair_audit.specs.Counted.{CountsAnswers}
 use Rattle.pair_audit.specs.Reading.{IsAnswerCode, StandsInFront, UnknownInFront}
-use Rattle.pair_audit.specs.Recording.{HasUnknown, IsTheRepeat, LacksRun, ReadsRuns, RunCounts, run_octets}
+use Rattle.pair_audit.specs.Recording.{HasUnknown, IsTheRepeat, LacksRun, RunCounts, RunsCount, recording, run_octets}
 use Rattle.pair_audit.specs.Repeats.{RepeatNothing}
+use Rattle.pair_audit.specs.Taking.{Taking}
 
 -- the first repeat of the answers, or none
 abbrev pub IsOutcome : List Answer → Option Repeat → Type 0
@@ -40,12 +43,29 @@ pub record Walked (octets : List ℕ) (place : ℕ) (own : List Answer) : Type 0
   pub told : (All IsAnswer own × (take place octets ≡ answers_octets own))
       ⊎ ((place ≡ length octets) × CountsAnswers octets own)
 
--- an answer was taken, or none stands in front
-abbrev pub StepTold : Audit → Audit → Option Repeat → List ℕ → Step → Type 0
-StepTold old new first octets (steps.Answer count later) =
-    (answer : Answer) × StandsInFront octets answer count × Takes old new first later (answer ∷ [])
-StepTold old new first octets steps.Unknown = UnknownInFront octets
-StepTold old new first octets steps.End = (new ≡ old) × (length octets < ANSWER_HEADER)
+-- whatever fills a run of which so many octets are left up behind these, this answer stands in front
+pub record StandsWithin (left : ℕ) (octets : List ℕ) (answer : Answer) : Type 0 where
+  pub within : length octets ≤ left
+  pub header : ANSWER_HEADER ≤ length octets
+  pub stands : (rest : List ℕ) → length octets + length rest ≡ left
+      → StandsInFront (octets ++ rest) answer (length octets)
+
+-- these octets of the run were taken: an answer; or a header whose code is none; or all that there is
+abbrev pub StepSaid : Bool → ℕ → ℕ → Audit → Audit → Option Repeat → List ℕ → List ℕ → List ℕ → Step → Type 0
+StepSaid told taken left old new first octets left_old left_new (steps.Answer count later) =
+    Taking told taken count octets left_old left_new × (length octets ≡ count)
+    × ((answer : Answer) × StandsWithin left octets answer × Takes old new first later (answer ∷ []))
+StepSaid told taken left old new first octets left_old left_new steps.Unknown =
+    Taking told taken ANSWER_HEADER octets left_old left_new × (length octets ≡ ANSWER_HEADER) × UnknownInFront octets
+StepSaid told taken left old new first octets left_old left_new steps.Cut =
+    Taking told taken left octets left_old left_new × (length octets < left)
+
+-- Of a run of so many octets these were taken, and the audit was fed these answers: they are what is counted, whatever
+-- fills it up.
+pub record InRun (len : ℕ) (octets : List ℕ) (own : List Answer) : Type 0 where
+  pub within : length octets ≤ len
+  pub few : length own ≤ length octets
+  pub walked : (rest : List ℕ) → length octets + length rest ≡ len → Walked (octets ++ rest) (length octets) own
 
 -- behind answers whose codes are those of answers a header stands whose code is none
 pub record UnknownAt (octets : List ℕ) (place : ℕ) : Type 0 where
@@ -56,40 +76,48 @@ pub record UnknownAt (octets : List ℕ) (place : ℕ) : Type 0 where
   pub front : take place octets ≡ answers_octets answers
   pub within : place ≤ length octets
 
--- the answers of a run were taken, or one of its codes is none
-abbrev pub RunTold : Audit → Audit → Option Repeat → List ℕ → RunEnd → Type 0
-RunTold old new first octets (ends.Whole later) = (own : List Answer) × CountsAnswers octets own
-    × All (λ answer. IsAnswerCode answer.code) own × (length own ≤ length octets) × Takes old new first later own
-RunTold old new first octets (ends.Unknown place) = UnknownAt octets place
+-- the run is whole, and its answers were taken; or one of its codes is none; or the input ends in it
+abbrev pub RunSaid : ℕ → Audit → Audit → Option Repeat → List ℕ → RunEnd → Type 0
+RunSaid len old new first octets (ends.Whole later) = (length octets ≡ len) × ((own : List Answer)
+    × CountsAnswers octets own × All (λ answer. IsAnswerCode answer.code) own × (length own ≤ length octets)
+    × Takes old new first later own)
+RunSaid len old new first octets (ends.Unknown place) = (length octets ≡ len) × UnknownAt octets place
+RunSaid len old new first octets ends.Cut = length octets < len
 
-pub record RunInFront (octets sunk : List ℕ) : Type 0 where
-  pub short : length sunk < 2 ^ 32
-  pub behind : List ℕ
-  pub spelled : octets ≡ run_octets sunk ++ behind
-
--- a run in front was taken, with so many octets
-pub record TakesRun (old new : Audit) (first later : Option Repeat) (octets : List ℕ) (count : ℕ) : Type 0 where
+-- a run was taken, with so many octets
+pub record TakesRun (old new : Audit) (first later : Option Repeat) (octets : List ℕ) : Type 0 where
   pub sunk : List ℕ
-  pub behind : List ℕ
   pub own : List Answer
-  pub spelled : octets ≡ run_octets sunk ++ behind
+  pub spelled : octets ≡ run_octets sunk
   pub counts : RunCounts sunk own
-  pub few : length own ≤ count
-  pub count_is : count ≡ 4 + length sunk
+  pub few : length own ≤ length sunk
   pub takes : Takes old new first later own
 
-abbrev pub NextTold : Audit → Audit → Option Repeat → List ℕ → NextRun → Type 0
-NextTold old new first octets (nexts.Taken count later) = TakesRun old new first later octets count
-NextTold old new first octets (nexts.Broken place) = (LacksRun octets × (place ≡ 0)) ⊎ HasUnknown octets place
+-- what counts of the octets from here on is malformed at this one of them
+pub record BreaksFrom (told : Bool) (taken : ℕ) (left_old : List ℕ) (place : ℕ) : Type 0 where
+  pub rest : List ℕ
+  pub rest_is : IsTrue told → still_counted taken left_old ≡ rest
+  pub some : rest ≢ []
+  pub within : taken + place ≤ MOST_OCTETS
+  pub fault : (LacksRun rest × (place ≡ 0)) ⊎ HasUnknown rest place
 
--- these runs were read up to the place, and the audit was fed the answers that they count
-pub record ReadSoFar (input : List ℕ) (place : ℕ) (count : ℕ) (audit : Audit) (first : Option Repeat) : Type 0 where
+abbrev pub NextSaid : Bool → ℕ → Audit → Audit → Option Repeat → List ℕ → List ℕ → NextRun → Type 0
+NextSaid told taken old new first left_old left_new (nexts.Taken count later) = (octets : List ℕ)
+    × Taking told taken count octets left_old left_new × (length octets ≡ count) × TakesRun old new first later octets
+NextSaid told taken old new first left_old left_new (nexts.Broken place) = BreaksFrom told taken left_old place
+NextSaid told taken old new first left_old left_new nexts.End =
+    (new ≡ old) × (IsTrue told → still_counted taken left_old ≡ [])
+
+-- these runs were read, and the audit was fed the answers that they count
+pub record ReadSoFar (told : Bool) (taken count : ℕ) (audit : Audit) (first : Option Repeat)
+    (left_old left_new : List ℕ) : Type 0 where
   pub runs : List (List ℕ)
   pub answers : List Answer
-  pub within : place ≤ length input
-  pub few : length answers ≤ place
-  pub reads : ReadsRuns input runs answers (drop place input)
+  pub moved : IsTrue told → left_old ≡ recording runs ++ left_new
+  pub taken_is : taken ≡ length (recording runs)
+  pub runs_are : RunsCount runs answers
+  pub few : length answers ≤ taken
   pub count_is : count ≡ length runs
-  pub count_few : count ≤ place
+  pub count_few : count ≤ taken
   pub knows : KnowsAudit answers audit
   pub outcome : IsOutcome answers first

@@ -2,8 +2,8 @@
 ghost use Rattle.std.specs.Prelude.{◌≡◌, ℕ, ◌+◌, ◌<◌, ◌^◌, ◌++◌, List, [], ◌∷◌, Bool, true, false, Option, IfOk, OnErr};
 ghost use Rattle.std.specs.Prelude.{MatchOption, length};
 ghost use Rattle.record_io.specs.declared.answers.Answer.{Answer};
-ghost use Rattle.pair_audit.specs.Audit.{FeedsAcceptance, FeedsUse, IsAsBefore, KnowsAudit, TellsOf};
-ghost use Rattle.pair_audit.specs.Audit.{acceptances_in, repeat_at, uses_in};
+ghost use Rattle.pair_audit.specs.Audit.{FeedsAcceptance, FeedsUse, IsAsBefore, KnowsAudit, Says};
+ghost use Rattle.pair_audit.specs.Audit.{TellsOf, acceptances_in, repeat_at, uses_in};
 
 use crate::marks::{Mark, mark_of};
 use crate::places::enter;
@@ -92,6 +92,32 @@ impl Audit {
         Ok(repeat_of(false, key, number, second, before))
     }
 
+    /// Takes an answer by its code and by the number of the key, and says which earlier one it repeats, if any: the first
+    /// of them. Of its body an audit needs nothing.
+    pub fn feed_header(
+        &mut self,
+        code: u8,
+        key: u16,
+        number: u64,
+    ) -> Result<Option<Repeat>, NoMemory>
+        requires { (fed : List Answer) × KnowsAudit fed self.old × (length fed + 1 < 2 ^ 64) }
+        ensures knows { IfOk result (λ _. (fed : List Answer) (answer : Answer) → Says code key number answer
+            → KnowsAudit fed self.old → KnowsAudit (fed ++ answer ∷ []) self.new) }
+        ensures told { IfOk result (λ told. (fed : List Answer) (answer : Answer) → Says code key number answer
+            → KnowsAudit fed self.old → TellsOf fed answer told) }
+        ensures kept { OnErr result (IsAsBefore self.old self.new) }
+        ensures knows_still { OnErr result ((fed : List Answer) → KnowsAudit fed self.old → KnowsAudit fed self.new) }
+    {
+        match mark_of(code, key) {
+            Mark::Uses => self.feed_use(key, number),
+            Mark::Accepts => self.feed_acceptance(key, number),
+            Mark::Neither => {
+                self.fed += 1;
+                Ok(None)
+            }
+        }
+    }
+
     /// Takes the next answer, and says which earlier one it repeats, if any: the first of them. An audit knows the
     /// answers that it was fed, which are to be fewer than 2^64 with this one.
     pub fn feed(&mut self, answer: &Answer) -> Result<Option<Repeat>, NoMemory>
@@ -104,14 +130,7 @@ impl Audit {
         ensures kept { OnErr result (IsAsBefore self.old self.new) }
         ensures knows_still { OnErr result ((fed : List Answer) → KnowsAudit fed self.old → KnowsAudit fed self.new) }
     {
-        match mark_of(answer) {
-            Mark::Uses => self.feed_use(answer.key, answer.number),
-            Mark::Accepts => self.feed_acceptance(answer.key, answer.number),
-            Mark::Neither => {
-                self.fed += 1;
-                Ok(None)
-            }
-        }
+        self.feed_header(answer.code, answer.key, answer.number)
     }
 
     /// How many answers use a number of a key, and how many accept one.

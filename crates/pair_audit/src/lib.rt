@@ -1,8 +1,9 @@
-//! An audit of what runs of a unit put: whether two answers use one number of a key, or accept one (profile). It looks
+//! An audit of what runs of a unit wrote: whether two answers use one number of a key, or accept one (profile). It looks
 //! at answers alone, and trusts no unit.
 //!
-//! [`Audit::feed`] takes the answers one after the other and says of each which earlier one it repeats;
-//! [`read_answer`] reads one at the front of octets. What octets of runs count is defined in `specs`.
+//! [`audit_recording`] reads a whole recording of runs from a source, in one pass. [`Audit::feed`] takes answers one
+//! after the other, from wherever a caller has them, and says of each which earlier one it repeats; [`read_answer`]
+//! reads one at the front of octets. What octets of runs count is defined in `specs`.
 #![tactic(auto)]
 
 mod audit;
@@ -10,6 +11,8 @@ mod laws;
 mod marks;
 mod places;
 mod reading;
+mod stop;
+mod taking;
 mod walk;
 
 pub use audit::{Audit, Repeat};
@@ -18,4 +21,5 @@ pub use laws::{
     recording_reads_once,
 };
 pub use reading::{AnswerError, MONITOR_FAULT, MONITORED, read_answer};
+pub use stop::AuditStop;
 pub use walk::{AuditEnd, audit_recording};

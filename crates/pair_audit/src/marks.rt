@@ -1,7 +1,6 @@
 // What an answer says of a number of a key.
 ghost use Rattle.pair_audit.specs.Marks.{Marks};
 
-use record_io::Answer;
 use record_io::code::{ACCEPTED, DONE, PROTECTED};
 
 // What it does with the number.
@@ -12,14 +11,14 @@ pub(crate) enum Mark {
     Neither,
 }
 
-/// What the answer does with its number.
-pub(crate) fn mark_of(answer: &Answer) -> Mark
-    ensures { Marks answer.now result }
+/// What an answer with this code and this key does with its number.
+pub(crate) fn mark_of(code: u8, key: u16) -> Mark
+    ensures { Marks code key result }
 {
-    match answer.code {
+    match code {
         PROTECTED => Mark::Uses,
         ACCEPTED => Mark::Accepts,
-        DONE if answer.key != 0 => Mark::Uses,
+        DONE if key != 0 => Mark::Uses,
         _ => Mark::Neither,
     }
 }

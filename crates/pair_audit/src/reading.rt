@@ -1,8 +1,9 @@
 //! Answers, read from octets.
-ghost use Rattle.std.specs.Prelude.{◌≡◌, ◌<◌, ◌≤◌, ◌^◌, ◌↔◌, IfOk, IfSome, None, Ok, Err, length, slice_index};
+ghost use Rattle.std.specs.Prelude.{◌≡◌, ◌<◌, ◌≤◌, ◌^◌, ◌↔◌, IfOk, IfSome, None, Ok, Err, length, slice_index, MatchOption};
 ghost use Rattle.record_io.specs.Answers.{HasWidths, header_octets};
 ghost use Rattle.record_io.specs.declared.answers.TheConstants.{ANSWER_HEADER};
-ghost use Rattle.pair_audit.specs.Reading.{IsBehind, IsAnswerCode, StandsInFront, header_said, is_answer_code};
+ghost use Rattle.pair_audit.specs.Reading.{IsBehind, IsAnswerCode, IsKnownHead, StandsInFront, UnknownInFront};
+ghost use Rattle.pair_audit.specs.Reading.{header_said, is_answer_code};
 ghost use Rattle.pair_audit.specs.declared.reading.AnswerError.TheVariants as errors;
 
 use ep_codec::{double_word_at, number_at, word_at};
@@ -89,6 +90,17 @@ fn head_of(header: &[u8]) -> Head
         position: number_at(header, 8),
         number: number_at(header, 16),
     }
+}
+
+/// What a header says, or `None` if its code is that of no answer.
+pub(crate) fn known_head(header: &[u8]) -> Option<Head>
+    requires { length header.now ≡ ANSWER_HEADER }
+    ensures { MatchOption result (UnknownInFront header.now) (IsKnownHead header.now) }
+{
+    if !is_code(header[0]) {
+        return None;
+    }
+    Some(head_of(header))
 }
 
 /// Reads the answer behind whose header these octets stand, and says how many octets it has.

@@ -1,19 +1,33 @@
 //! The audit of a whole recording.
-ghost use Rattle.std.specs.Prelude.{◌≡◌, ℕ, ◌+◌, ◌-◌, ◌<◌, ◌^◌, IfOk, List, MatchOption, length};
-ghost use Rattle.std.specs.Bool.{Decides};
+ghost use Rattle.std.specs.Prelude.{◌≡◌, ◌⊎◌, ℕ, ◌+◌, ◌<◌, ◌≤◌, ◌++◌, IfOk, IsTrue, List, [], false, length};
+ghost use Rattle.std.specs.Prelude.{◌^◌, take};
+ghost use Rattle.std.specs.Int.{w32, to_be_bytes};
 ghost use Rattle.record_io.specs.declared.answers.Answer.{Answer};
+ghost use Rattle.record_io.specs.declared.answers.TheConstants.{ANSWER_HEADER};
+ghost use Rattle.record_io.specs.Input.{MOST_OCTETS};
 ghost use Rattle.pair_audit.specs.Audit.{KnowsAudit};
-ghost use Rattle.pair_audit.specs.Recording.{AuditSays, BeginsRecording, LacksRun};
-ghost use Rattle.pair_audit.specs.Walk.{NextTold, RunInFront, RunTold, StepTold, earlier_of};
+ghost use Rattle.pair_audit.specs.Recording.{AuditFound, AuditSays, ReadsRuns, recording_beginning};
+ghost use Rattle.pair_audit.specs.Taking.{HasStopCause, Taking};
+ghost use Rattle.pair_audit.specs.Walk.{IsOutcome, NextSaid, RunSaid, StepSaid, earlier_of};
+ghost use Rattle.pair_audit.specs.declared.walk.RunEnd.TheVariants as ends;
 
 use crate::audit::{Audit, Repeat};
-use crate::reading::{AnswerError, read_answer};
+use crate::reading::known_head;
+use crate::stop::AuditStop;
+use crate::taking::{fill, skip};
 use ep_codec::double_word_at;
-use sdls_base::NoMemory;
+use record_io::ANSWER_HEADER;
+use sdls_outside::Source;
 use std::alloc::Global;
 
 /// The octets that a recording begins with.
 const BEGINNING: [u8; 8] = *b"SDLSAUD1";
+
+/// The octets of a run's length.
+const LENGTH: usize = 4;
+
+/// The most octets of bodies that are passed over in one piece.
+const PIECE: usize = 2048;
 
 /// What the audit of a recording says.
 #[derive(Clone, Copy, Debug, PartialEq, Eq)]
@@ -33,27 +47,32 @@ pub enum AuditEnd {
 // What stands next in a run.
 pub(crate) enum Step {
     // An answer of so many octets, with the first repeat up to it.
-    Answer { count: usize, first: Option<Repeat> },
+    Answer { count: u64, first: Option<Repeat> },
     // A header whose code is that of no answer.
     Unknown,
-    // Less than a header.
-    End,
+    // The input ends in it.
+    Cut,
 }
 
 // What is so of a run.
+#[derive(Clone, Copy)]
 pub(crate) enum RunEnd {
     // Its answers were taken, with the first repeat up to them.
     Whole(Option<Repeat>),
     // At this octet of it a header stands whose code is that of no answer.
-    Unknown(usize),
+    Unknown(u64),
+    // The input ends in it.
+    Cut,
 }
 
 // What stands next in a recording.
 pub(crate) enum NextRun {
     // A run of so many octets with its length, and the first repeat up to it.
-    Taken { count: usize, first: Option<Repeat> },
+    Taken { count: u64, first: Option<Repeat> },
     // It is malformed at this octet from here.
-    Broken(usize),
+    Broken(u64),
+    // The input ends.
+    End,
 }
 
 fn earlier(first: Option<Repeat>, told: Option<Repeat>) -> Option<Repeat>
@@ -65,44 +84,83 @@ fn earlier(first: Option<Repeat>, told: Option<Repeat>) -> Option<Repeat>
     }
 }
 
-/// Takes the answer at the front of the octets.
-fn audit_answer(
-    alloc: Global,
+/// Takes the next answer of a run of which so many octets are left. Its body is passed over.
+fn audit_answer<S: Source>(
+    source: &mut S,
     audit: &mut Audit,
     first: Option<Repeat>,
-    octets: &[u8],
-) -> Result<Step, NoMemory>
-    requires { (fed : List Answer) × KnowsAudit fed audit.old × (length fed + 1 < 2 ^ 64) }
-    ensures { IfOk result (StepTold audit.old audit.new first octets.now) }
+    taken: u64,
+    left: u64,
+    room: &mut [u8],
+) -> Result<Step, AuditStop>
+    requires fed { (fed : List Answer) × KnowsAudit fed audit.old × (length fed ≤ taken) }
+    requires room { (0 < length room.old) × (ANSWER_HEADER ≤ left) }
+    ensures said { IfOk result (λ step. (octets : List ℕ) × StepSaid S.told taken left audit.old audit.new first octets
+        (S.left source.old) (S.left source.new) step) }
+    ensures sized { length room.new ≡ length room.old }
+    ensures cause { HasStopCause (S.faults source.old) (S.faults source.new) result }
 {
-    match read_answer(alloc, octets) {
-        Err(AnswerError::NoMemory) => Err(NoMemory),
-        Err(AnswerError::Code) => Ok(Step::Unknown),
-        Ok(None) => Ok(Step::End),
-        Ok(Some((answer, count))) => {
-            let told = audit.feed(&answer)?;
-            Ok(Step::Answer {
-                count,
-                first: earlier(first, told),
-            })
-        }
+    let mut header = [0; ANSWER_HEADER];
+    if fill(source, taken, &mut header)? < ANSWER_HEADER {
+        return Ok(Step::Cut);
     }
+    let Some(head) = known_head(&header) else {
+        return Ok(Step::Unknown);
+    };
+    let told = audit.feed_header(head.code, head.key, head.number)?;
+    let behind = taken + ANSWER_HEADER as u64;
+    let len = u64::from(head.len).min(left - ANSWER_HEADER as u64);
+    if skip(source, behind, len, room)? < len {
+        return Ok(Step::Cut);
+    }
+    Ok(Step::Answer {
+        count: ANSWER_HEADER as u64 + len,
+        first: earlier(first, told),
+    })
 }
 
-/// Takes the answers of a run.
-fn audit_run(
-    alloc: Global,
+/// Passes over what is left of a run of which this is so, unless the input ends in it.
+fn pass_rest<S: Source>(
+    source: &mut S,
+    taken: u64,
+    left: u64,
+    room: &mut [u8],
+    end: RunEnd,
+) -> Result<RunEnd, AuditStop>
+    requires { 0 < length room.old }
+    ensures passed { IfOk result (λ said. (octets : List ℕ)
+        × Taking S.told taken left octets (S.left source.old) (S.left source.new)
+        × (((length octets ≡ left) × (said ≡ end)) ⊎ ((length octets < left) × (said ≡ ends.Cut)))) }
+    ensures sized { length room.new ≡ length room.old }
+    ensures cause { HasStopCause (S.faults source.old) (S.faults source.new) result }
+{
+    if skip(source, taken, left, room)? < left {
+        return Ok(RunEnd::Cut);
+    }
+    Ok(end)
+}
+
+/// Takes the answers of a run of so many octets.
+fn audit_run<S: Source>(
+    source: &mut S,
     audit: &mut Audit,
     before: Option<Repeat>,
-    octets: &[u8],
-) -> Result<RunEnd, NoMemory>
-    requires { (fed : List Answer) × KnowsAudit fed audit.old × (length fed + length octets.now + 1 < 2 ^ 64) }
-    ensures { IfOk result (RunTold audit.old audit.new before octets.now) }
+    taken: u64,
+    len: u64,
+    room: &mut [u8],
+) -> Result<RunEnd, AuditStop>
+    requires fed { (fed : List Answer) × KnowsAudit fed audit.old × (length fed ≤ taken) }
+    requires room { 0 < length room.old }
+    ensures said { IfOk result (λ end. (octets : List ℕ)
+        × Taking S.told taken len octets (S.left source.old) (S.left source.new)
+        × RunSaid len audit.old audit.new before octets end) }
+    ensures sized { length room.new ≡ length room.old }
+    ensures cause { HasStopCause (S.faults source.old) (S.faults source.new) result }
 {
     let mut first = before;
-    let mut place = 0;
-    'answers: while place < octets.len() {
-        match audit_answer(alloc, audit, first, &octets[place..])? {
+    let mut place: u64 = 0;
+    'answers: while ANSWER_HEADER as u64 <= len - place {
+        match audit_answer(source, audit, first, taken + place, len - place, room)? {
             Step::Answer {
                 count,
                 first: later,
@@ -110,92 +168,145 @@ fn audit_run(
                 place += count;
                 first = later;
             }
-            Step::Unknown => return Ok(RunEnd::Unknown(place)),
-            Step::End => return Ok(RunEnd::Whole(first)),
+            Step::Unknown => {
+                let behind = place + ANSWER_HEADER as u64;
+                return pass_rest(
+                    source,
+                    taken + behind,
+                    len - behind,
+                    room,
+                    RunEnd::Unknown(place),
+                );
+            }
+            Step::Cut => return Ok(RunEnd::Cut),
         }
     }
-    Ok(RunEnd::Whole(first))
+    pass_rest(
+        source,
+        taken + place,
+        len - place,
+        room,
+        RunEnd::Whole(first),
+    )
 }
 
-/// The run at the front of the octets, without its length; `None` where no run is whole.
-fn run_at(octets: &[u8]) -> Option<&[u8]>
-    ensures { MatchOption result (LacksRun octets.now) (λ sunk. RunInFront octets.now sunk.now) }
+/// The length that 4 octets spell.
+fn length_of(octets: &[u8]) -> u32
+    requires { length octets.now ≡ LENGTH }
+    ensures spelled { octets.now ≡ to_be_bytes w32 result }
+    ensures short { result < 2 ^ 32 }
 {
-    if octets.len() < 4 {
-        return None;
-    }
-    let len = double_word_at(octets, 0) as usize;
-    let behind = &octets[4..];
-    if behind.len() < len {
-        return None;
-    }
-    Some(&behind[..len])
+    double_word_at(octets, 0)
 }
 
-/// Takes the run at the front of the octets.
-fn audit_next(
-    alloc: Global,
+/// Takes the next run.
+fn audit_next<S: Source>(
+    source: &mut S,
     audit: &mut Audit,
     first: Option<Repeat>,
-    octets: &[u8],
-) -> Result<NextRun, NoMemory>
-    requires { (fed : List Answer) × KnowsAudit fed audit.old × (length fed + length octets.now + 1 < 2 ^ 64) }
-    ensures { IfOk result (NextTold audit.old audit.new first octets.now) }
+    taken: u64,
+    room: &mut [u8],
+) -> Result<NextRun, AuditStop>
+    requires fed { (fed : List Answer) × KnowsAudit fed audit.old × (length fed ≤ taken) }
+    requires room { 0 < length room.old }
+    ensures said { IfOk result (NextSaid S.told taken audit.old audit.new first (S.left source.old)
+        (S.left source.new)) }
+    ensures sized { length room.new ≡ length room.old }
+    ensures cause { HasStopCause (S.faults source.old) (S.faults source.new) result }
 {
-    let Some(sunk) = run_at(octets) else {
-        return Ok(NextRun::Broken(0));
-    };
-    match audit_run(alloc, audit, first, sunk)? {
+    let mut length = [0; LENGTH];
+    match fill(source, taken, &mut length)? {
+        0 => return Ok(NextRun::End),
+        LENGTH => {}
+        _ => return Ok(NextRun::Broken(0)),
+    }
+    let len = u64::from(length_of(&length));
+    match audit_run(source, audit, first, taken + LENGTH as u64, len, room)? {
         RunEnd::Whole(later) => Ok(NextRun::Taken {
-            count: 4 + sunk.len(),
+            count: LENGTH as u64 + len,
             first: later,
         }),
-        RunEnd::Unknown(place) => Ok(NextRun::Broken(4 + place)),
+        RunEnd::Unknown(place) => Ok(NextRun::Broken(LENGTH as u64 + place)),
+        RunEnd::Cut => Ok(NextRun::Broken(0)),
     }
 }
 
-/// If the octets begin as a recording does.
-fn begins(input: &[u8]) -> bool
-    ensures { Decides result (BeginsRecording input.now) }
+/// What is said behind so many runs, by the first repeat up to there.
+fn end_of(audit: &Audit, first: Option<Repeat>, runs: u64) -> AuditEnd
+    ensures { (input : List ℕ) (read : List (List ℕ)) (fed : List Answer) → ReadsRuns input read fed []
+        → KnowsAudit fed audit.now → IsOutcome fed first → runs ≡ length read → AuditSays input result }
 {
-    input.starts_with(&BEGINNING)
+    match first {
+        Some(repeat) => AuditEnd::Repeated(repeat),
+        None => {
+            let (uses, acceptances) = audit.counts();
+            AuditEnd::Clean {
+                runs,
+                uses,
+                acceptances,
+            }
+        }
+    }
 }
 
-/// Audits a recording of runs: whether it is in order, and whether two of the answers that it counts use, or accept,
-/// one number of a key. What is malformed is told before a repeat. It takes memory for the numbers, and for the body
-/// of one answer at a time.
-pub fn audit_recording(alloc: Global, input: &[u8]) -> Result<AuditEnd, NoMemory>
-    ensures { IfOk result (AuditSays input.now) }
+/// Audits the runs behind the beginning.
+fn audit_runs<S: Source>(
+    alloc: Global,
+    source: &mut S,
+    room: &mut [u8],
+) -> Result<AuditEnd, AuditStop>
+    requires { 0 < length room.old }
+    ensures found { IfOk result (AuditFound (λ input. IsTrue S.told
+        → input ≡ take MOST_OCTETS (recording_beginning ++ S.left source.old))) }
+    ensures cause { HasStopCause (S.faults source.old) (S.faults source.new) result }
 {
-    if !begins(input) {
-        return Ok(AuditEnd::BreaksAt(0));
-    }
     let mut audit = Audit::new(alloc);
     let mut first = None;
     let mut count: u64 = 0;
-    let mut place = BEGINNING.len();
-    'runs: while place < input.len() {
-        match audit_next(alloc, &mut audit, first, &input[place..])? {
+    let mut taken = BEGINNING.len() as u64;
+    'runs: loop {
+        match audit_next(source, &mut audit, first, taken, room)? {
             NextRun::Taken {
                 count: octets,
                 first: later,
             } => {
-                place += octets;
+                taken += octets;
                 count += 1;
                 first = later;
             }
-            NextRun::Broken(at) => return Ok(AuditEnd::BreaksAt((place + at) as u64)),
+            NextRun::Broken(at) => return Ok(AuditEnd::BreaksAt(taken + at)),
+            NextRun::End => return Ok(end_of(&audit, first, count)),
         }
     }
-    match first {
-        Some(repeat) => Ok(AuditEnd::Repeated(repeat)),
-        None => {
-            let (uses, acceptances) = audit.counts();
-            Ok(AuditEnd::Clean {
-                runs: count,
-                uses,
-                acceptances,
-            })
-        }
+}
+
+/// Takes the beginning, and says if it is that of a recording.
+fn begin<S: Source>(source: &mut S) -> Result<bool, AuditStop>
+    ensures begun { IfOk result (λ begun. IsTrue begun → IsTrue S.told
+        → S.left source.old ≡ recording_beginning ++ S.left source.new) }
+    ensures refused { IfOk result (λ begun. begun ≡ false → AuditFound (λ input. IsTrue S.told
+        → input ≡ take MOST_OCTETS (S.left source.old)) (AuditEnd.BreaksAt 0)) }
+    ensures cause { HasStopCause (S.faults source.old) (S.faults source.new) result }
+{
+    let mut octets = [0; BEGINNING.len()];
+    if fill(source, 0, &mut octets)? < BEGINNING.len() {
+        return Ok(false);
     }
+    Ok(octets == BEGINNING)
+}
+
+/// Audits a recording of runs in one pass: whether it is in order, and whether two of the answers that it counts use,
+/// or accept, one number of a key. What is malformed is said before a repeat. It takes memory for the numbers alone;
+/// bodies are passed over. An input has its first 2^64 - 1 octets.
+pub fn audit_recording<S: Source>(alloc: Global, source: &mut S) -> Result<AuditEnd, AuditStop>
+    ensures found { IfOk result (AuditFound (λ input. IsTrue S.told
+        → input ≡ take MOST_OCTETS (S.left source.old))) }
+    // The source failed only if its count of faults rose; else that stood.
+    ensures cause { HasStopCause (S.faults source.old) (S.faults source.new) result }
+{
+    if !begin(source)? {
+        return Ok(AuditEnd::BreaksAt(0));
+    }
+    let mut room = [0; PIECE];
+    audit_runs(alloc, source, &mut room)
 }

@@ -1,13 +1,14 @@
-use Rattle.std.proofs.Common.{drop}
-use Rattle.pair_audit.specs.declared.walk.NextRun.TheVariants as nexts
-use Rattle.pair_audit.specs.Walk.{NextTold}
-use Rattle.pair_audit.proofs.Runs.{read_more}
-use Rattle.pair_audit.proofs.Walking.{rest_range}
+use Rattle.std.proofs.Common.{IsTrue, take, ap, ◌∙◌, sym, rules}
+use Rattle.record_io.specs.Input.{MOST_OCTETS}
+use Rattle.pair_audit.proofs.Seen.{ok_more}
 use Rattle.pair_audit.proofs.walk.audit_recording.Goals as goal
 
-pub runs-preserved : goal.runs-preserved
-runs-preserved c =
-    let told : NextTold c.runs.audit c.audit_next.new.audit c.runs.first (drop c.runs.place c.args.input.now) (nexts.Taken c.in-Taken.octets c.in-Taken.later) =
-    rw (rest_range c.args.input.now c.runs.place) at (rw c.in-Taken.is at c.in_ok-octets.ensures) in
-    read_more c.args.input.now c.runs.place c.runs.count c.in-Taken.octets c.runs.audit c.audit_next.new.audit c.runs.first c.in-Taken.later
-    c.runs.invariant told
+pub returns-then-not-branch-clause-found : goal.returns-then-not-branch-clause-found
+returns-then-not-branch-clause-found g c = c.in_ok-begin.ensures.refused c.if-not-branch.true
+
+pub returns-clause-found : goal.returns-clause-found
+returns-clause-found g c =
+    let is : IsTrue c.in_ok-begin.field-0 = search rules in
+    ok_more c.audit_runs.result _ _
+    (λ end found. (found.0, (λ told. found.1 told ∙ ap (take MOST_OCTETS) (sym (c.in_ok-begin.ensures.begun is told))), found.2))
+    c.audit_runs.ensures.found
