@@ -7,8 +7,8 @@ use Rattle.pair_audit.specs.declared.walk.AuditEnd.{AuditEnd}
 use Rattle.pair_audit.specs.Recording.{AuditFound}
 use Rattle.audit_run.specs.Text.{audit_status, audit_text}
 
--- The line and the status that are due: what an audit says of the input; if the source failed, that. Out of memory needs
--- no cause.
+-- The line and the status that are due: what an audit says of the input; if the source failed, that. Out of memory
+-- needs no cause.
 abbrev pub AuditDue : (List ℕ → Type 0) → Type 0 → List ℕ → ℕ → Type 0
 AuditDue IsInput source_rose text status =
     ((end : AuditEnd) × AuditFound IsInput end × (text ≡ audit_text end) × (status ≡ audit_status end))

@@ -5,9 +5,8 @@
 //! `many N` adds a run of N frames protected under key 1, with the numbers from 1 on.
 //! `audit` prints what the audit says. `fronts OCTETS` prints what it says with each front of these octets as a run
 //! more, for the lengths whose answer is another than that of the length before, and `cuts` the same of each front of
-//! the whole. `pieces` prints what it says with sources that give at most 1 to 64 octets a call, if one says something
-//! else than `audit`; `fails` what it says with one that fails at a call, for the calls whose answer is another than
-//! that of the call before. Octets are words of hexadecimal digits; `x1024` before a word says how often it stands there.
+//! the whole. `pieces` prints what it says, or which source of pieces of 1 to 64 octets makes it say something else;
+//! `fails` what it says if the source fails at its first call, its second and so on, where that changes. Octets are words of hexadecimal digits; `x1024` before a word says how often it stands there.
 #![tactic(auto)]
 
 mod auditing;

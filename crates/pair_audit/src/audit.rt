@@ -92,8 +92,8 @@ impl Audit {
         Ok(repeat_of(false, key, number, second, before))
     }
 
-    /// Takes an answer by its code and by the number of the key, and says which earlier one it repeats, if any: the first
-    /// of them. Of its body an audit needs nothing.
+    /// Takes an answer by its code and by the number of the key, and says which earlier one it repeats, if any: the
+    /// first of them. Of its body an audit needs nothing.
     pub fn feed_header(
         &mut self,
         code: u8,

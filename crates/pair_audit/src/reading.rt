@@ -1,5 +1,6 @@
 //! Answers, read from octets.
-ghost use Rattle.std.specs.Prelude.{◌≡◌, ◌<◌, ◌≤◌, ◌^◌, ◌↔◌, IfOk, IfSome, None, Ok, Err, length, slice_index, MatchOption};
+ghost use Rattle.std.specs.Prelude.{◌≡◌, ◌<◌, ◌≤◌, ◌^◌, ◌↔◌, IfOk, IfSome, None, Ok, Err, MatchOption, length};
+ghost use Rattle.std.specs.Prelude.{slice_index};
 ghost use Rattle.record_io.specs.Answers.{HasWidths, header_octets};
 ghost use Rattle.record_io.specs.declared.answers.TheConstants.{ANSWER_HEADER};
 ghost use Rattle.pair_audit.specs.Reading.{IsBehind, IsAnswerCode, IsKnownHead, StandsInFront, UnknownInFront};

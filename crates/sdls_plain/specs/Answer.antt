@@ -10,7 +10,7 @@ use Rattle.sdls_plain.specs.Check.{PassesChecks, IsFirstFault, data_field}
 use Rattle.sdls_outside.specs.Output.{Delivers}
 
 abbrev pub usage_text : List ℕ
-usage_text = line (codes "usage: sdls check KEY, init, run, stat, drill N, drill link N")
+usage_text = line (codes "usage: sdls check KEY, init, run, stat, drill N, drill link N, audit")
 
 abbrev pub source_fault_text : List ℕ
 source_fault_text = line (codes "source fault")

@@ -27,6 +27,10 @@ IsStat words = map string_bytes words ≡ codes "stat" ∷ []
 abbrev pub IsRunWord : List (String Global) → Type 0
 IsRunWord words = map string_bytes words ≡ codes "run" ∷ []
 
+-- the one word is `audit`
+abbrev pub IsAudit : List (String Global) → Type 0
+IsAudit words = map string_bytes words ≡ codes "audit" ∷ []
+
 -- the words are none of `check KEY`, `init` and `stat`
 abbrev pub IsNoCommand : List (String Global) → Type 0
 IsNoCommand words = ((key : List ℕ) → ¬ IsCheck words key) × (¬ IsInit words) × (¬ IsStat words)

@@ -23,7 +23,7 @@ use record_io::Outcome;
 use sdls_outside::{Failed, Site, Source};
 use std::alloc::Global;
 
-const USAGE_TEXT: &[u8] = b"usage: sdls check KEY, init, run, stat, drill N, drill link N\n";
+const USAGE_TEXT: &[u8] = b"usage: sdls check KEY, init, run, stat, drill N, drill link N, audit\n";
 
 /// Runs `check KEY`.
 fn run_check<S: Source, O: Site>(

@@ -1,5 +1,5 @@
 ghost use Rattle.std.specs.Prelude.{◌≡◌, ◌↔◌, ℕ, List, IsTrue, MatchOption};
-ghost use Rattle.sdls_plain.specs.Words.{IsCheck, IsInit, IsKey, IsRunWord, IsStat};
+ghost use Rattle.sdls_plain.specs.Words.{IsAudit, IsCheck, IsInit, IsKey, IsRunWord, IsStat};
 
 use aes_block::Schedule;
 
@@ -58,6 +58,16 @@ pub fn is_run(words: &[String]) -> bool
 {
     match words {
         [command] => command.as_str() == "run",
+        _ => false,
+    }
+}
+
+/// Whether the words are `audit` alone.
+pub fn is_audit(words: &[String]) -> bool
+    ensures { IsTrue result ↔ IsAudit words.now }
+{
+    match words {
+        [command] => command.as_str() == "audit",
         _ => false,
     }
 }

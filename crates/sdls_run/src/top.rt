@@ -1,6 +1,7 @@
-ghost use Rattle.std.specs.Prelude.{◌≡◌, ◌≢◌, ℕ, List, [], IsTrue};
+ghost use Rattle.std.specs.Prelude.{◌≡◌, ◌≢◌, ℕ, List, [], IsTrue, take};
 ghost use Rattle.sdls_outside.specs.Faults.{Rose};
 ghost use Rattle.sdls_outside.specs.Output.{OnlySinks};
+ghost use Rattle.record_io.specs.Input.{MOST_OCTETS};
 ghost use Rattle.record_io.specs.Reading.{SourceSeen};
 ghost use Rattle.run_promise.specs.Site.{site_seen};
 ghost use Rattle.run_promise.specs.Lives.{EndsAndLives, KeepsLivesReading};
@@ -10,16 +11,18 @@ ghost use Rattle.record_io.specs.declared.status.TheConstants.{SITE_FAULT, SOURC
 ghost use Rattle.sdls_plain.specs.Init.{EndsInit};
 ghost use Rattle.sdls_plain.specs.Stat.{EndsStat};
 ghost use Rattle.sdls_plain.specs.Taking.{TakesFew};
-ghost use Rattle.sdls_plain.specs.Words.{IsCheck, IsInit, IsNoCommand, IsRunWord, IsStat};
+ghost use Rattle.sdls_plain.specs.Words.{IsAudit, IsCheck, IsInit, IsNoCommand, IsRunWord, IsStat};
+ghost use Rattle.audit_run.specs.Ends.{EndsAudit};
 ghost use Rattle.unit_drill.specs.Drilled.{EndsDrill};
 ghost use Rattle.unit_drill.specs.OverLink.{EndsLinkDrill};
 ghost use Rattle.unit_drill.specs.Words.{IsDrill, IsLinkDrill};
 
 use crate::laws::stat_keeps_lives;
+use audit_run::run_audit;
 use record_io::Outcome;
 use record_io::status::USAGE;
 use sdls_outside::{Site, Source};
-use sdls_plain::{is_run, run_plain};
+use sdls_plain::{is_audit, is_run, run_plain};
 use std::alloc::Global;
 use std::sync::Wait;
 use std::thread::Threads;
@@ -36,6 +39,9 @@ use unit_session::{Gate, run_recorded};
 /// `drill N` makes two units in memory and N frames from their numbers, has the one protect them and the other open
 /// them, on four lanes, and puts one line. It reads nothing from the source, and leaves the image as it was.
 /// `drill link N` does so over a link between the two, which loses some frames, and delivers others twice or late.
+///
+/// `audit` reads a recording of runs from the source, in one pass, and puts one line: that all is well, the first
+/// repeat of a number under a key, or where the recording is malformed. It leaves the image as it was.
 ///
 /// It hands all other words to [`run_plain`], whose clauses are its own.
 pub fn run<R: Threads + Wait + Sync, S: Source, O: Site + Send, G: Gate + Sync>(
@@ -64,7 +70,8 @@ pub fn run<R: Threads + Wait + Sync, S: Source, O: Site + Send, G: Gate + Sync>(
     ensures check { (key : List ℕ) → IsCheck words.now key → EndsCheck key
         (λ input. IsTrue S.told → input ≡ S.left source.old) (Rose (S.faults source.old) (S.faults source.new))
         O.told (O.trace site) (O.trace result.site) (Rose (O.faults site) (O.faults result.site)) result.status }
-    ensures taken { IsTrue S.told → ¬ IsRunWord words.now → TakesFew words.now (S.left source.old) (S.left source.new) }
+    ensures taken { IsTrue S.told → ¬ IsRunWord words.now → ¬ IsAudit words.now
+        → TakesFew words.now (S.left source.old) (S.left source.new) }
 
     ensures init { IsInit words.now → EndsInit
         (λ input. IsTrue S.told → input ≡ S.left source.old) (source.new ≡ source.old)
@@ -100,11 +107,18 @@ pub fn run<R: Threads + Wait + Sync, S: Source, O: Site + Send, G: Gate + Sync>(
     ensures drill_link { (number : ℕ) → IsLinkDrill words.now number → EndsLinkDrill number
         O.told (O.trace site) (O.trace result.site) (Rose (O.faults site) (O.faults result.site)) result.status }
 
-    ensures usage { IsNoCommand words.now → ¬ IsRunWord words.now → ((number : ℕ) → ¬ IsDrill words.now number)
-        → ((number : ℕ) → ¬ IsLinkDrill words.now number)
+    // An audit puts what is said of the whole input, and does nothing else to the site.
+    ensures audit { IsAudit words.now → EndsAudit
+        (λ input. IsTrue S.told → input ≡ take MOST_OCTETS (S.left source.old))
+        (Rose (S.faults source.old) (S.faults source.new))
+        O.told (O.trace site) (O.trace result.site) (Rose (O.faults site) (O.faults result.site)) result.status }
+
+    ensures usage { IsNoCommand words.now → ¬ IsRunWord words.now → ¬ IsAudit words.now
+        → ((number : ℕ) → ¬ IsDrill words.now number) → ((number : ℕ) → ¬ IsLinkDrill words.now number)
         → Ends O.told (O.trace site) (O.trace result.site) (Rose (O.faults site) (O.faults result.site))
         usage_text USAGE result.status }
-    ensures untouched { IsNoCommand words.now → ¬ IsRunWord words.now → source.new ≡ source.old }
+    ensures untouched { IsNoCommand words.now → ¬ IsRunWord words.now → ¬ IsAudit words.now
+        → source.new ≡ source.old }
     // With words other than `run` a fault is never hidden: with another status the counts stood. Of `run` its own
     // clause says so.
     ensures quiet { ¬ IsRunWord words.now → result.status ≢ SITE_FAULT → O.faults result.site ≡ O.faults site }
@@ -114,6 +128,9 @@ pub fn run<R: Threads + Wait + Sync, S: Source, O: Site + Send, G: Gate + Sync>(
 {
     if is_run(words) {
         return run_recorded(rt, alloc, source, site, gate);
+    }
+    if is_audit(words) {
+        return run_audit(alloc, source, site);
     }
     if let Some(number) = drill_number(words) {
         return drill(rt, alloc, number, site, gate);
