@@ -2,9 +2,13 @@
 //! writes the recorded input that they say; `sdls_text show` prints the lines of recorded input; `sdls_text answers`
 //! reads answers and prints their lines, and behind `--json` each as a JSON object. `text_streams` decides what is
 //! written. `sdls_text plan` reads a plan and prints its lines at fault, or the state that it makes, as `plan_text` says.
+//! `sdls_text recording FILE..` reads the files that it names, and writes them as a recording, as `recorded_runs` says.
 #![tactic(auto)]
 
+mod recording;
+
 use plan_text::{PlanEnd, put_plan};
+use recording::put_recording;
 use sdls_outside::{FileSite, StdSource};
 use std::alloc::AllocError;
 use std::process::ExitCode;
@@ -18,12 +22,14 @@ usage: sdls_text records < TEXT > INPUT
        sdls_text show < INPUT > TEXT
        sdls_text answers [--json] < ANSWERS > TEXT
        sdls_text plan < PLAN
+       sdls_text recording FILE.. > RECORDING
 Recorded input and answers of `sdls run`, as text.
 
   records      reads lines of text, and writes the recorded input that they say
   show         reads recorded input, and prints its lines
   answers      reads answers, and prints a line for each; with --json each line is a JSON object
   plan         reads a plan, and prints each line at fault, or the state that the plan makes
+  recording    reads files, each the answers that a run wrote, and writes them as the input of `sdls audit`
   --help       prints this page
   --version    prints the version
 
@@ -41,7 +47,8 @@ Examples:
   sdls_text show < input.bin
   sdls run < input.bin | sdls_text answers
   sdls run < input.bin | sdls_text answers --json
-  sdls_text plan < plan.txt && sdls init < plan.txt";
+  sdls_text plan < plan.txt && sdls init < plan.txt
+  sdls_text recording monday.bin tuesday.bin | sdls audit";
 
 /// What the program is; from what it was built its launcher says.
 const VERSION: &str = "sdls_text for recorded input SDLSREC1";
@@ -53,6 +60,7 @@ enum Mode {
     Show,
     Answers(Form),
     Plan,
+    Recording,
     Help,
     Version,
 }
@@ -66,10 +74,14 @@ fn words<R: Env + AllocGlobal>(rt: &R) -> Result<Vec<String>, AllocError> {
     }
 }
 
-/// What is asked for by the one word that there is to be; `answers` may have an option behind it.
+/// What is asked for by the one word that there is to be; `answers` may have an option behind it, and `recording` has
+/// names of files.
 fn asked(words: &[String]) -> Option<Mode> {
     if words.len() == 2 && words[0].as_str() == "answers" && words[1].as_str() == "--json" {
         return Some(Mode::Answers(Form::Json));
+    }
+    if words.len() > 1 && words[0].as_str() == "recording" {
+        return Some(Mode::Recording);
     }
     if words.len() != 1 {
         return None;
@@ -122,6 +134,7 @@ fn main(rt: HostRuntime) -> ExitCode {
     let end = match mode {
         Mode::Help => return ExitCode::from(print_page(&rt, HELP)),
         Mode::Version => return ExitCode::from(print_page(&rt, VERSION)),
+        Mode::Recording => return ExitCode::from(put_recording(rt, words.as_slice())),
         // of this site nothing but its sink is used, which is standard output
         Mode::Records => put_records(alloc, &mut source, &mut FileSite::new(rt)),
         Mode::Show => put_lines(alloc, &mut source, &mut FileSite::new(rt)),

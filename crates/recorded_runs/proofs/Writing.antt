@@ -1,0 +1,28 @@
+-- What puts of a run do to the sink, for `copy_piece`, `copy` and `put_run`.
+use Rattle.std.proofs.Common.{◌≡◌, ℕ, Bool, IsTrue, IfOk, List, [], ◌++◌, Result, Ok, Err, ap, sym, ◌∙◌, append_assoc}
+use Rattle.sdls_outside.specs.Moments.{Trace}
+use Rattle.sdls_outside.specs.Site.{Puts}
+use Rattle.sdls_outside.specs.Output.{Delivers, OnlySinks}
+use Rattle.sdls_outside.proofs.Delivering.{delivers_put, sinks_then}
+use Rattle.recorded_runs.specs.Written.{Copied}
+
+only_delivered : {T E : Type 0} (text : List ℕ) (r : Result T E) (old new : Trace) → Delivers text r old new → OnlySinks old new
+only_delivered text (Ok x) old new sinks = sinks.only_sinks
+only_delivered text (Err e) old new front = front.only_sinks
+
+pub only_put : {T E : Type 0} (octets : List ℕ) (r : Result T E) (old new : Trace) → Puts octets r old new → OnlySinks old new
+only_put octets r old new puts = only_delivered octets r old new (delivers_put octets r old new puts)
+
+pub copied_more : (source_told sink_told : Bool) (done more first middle last : List ℕ) (old mid new : Trace)
+    → Copied source_told sink_told done first middle old mid → Copied source_told sink_told more middle last mid new
+    → Copied source_told sink_told (done ++ more) first last old new
+copied_more source_told sink_told done more first middle last old mid new x y = record {
+  moved = λ is. x.moved is ∙ ap (λ (l : List ℕ). done ++ l) (y.moved is) ∙ sym (append_assoc done more last);
+  sinks = λ is. sinks_then done more old mid new (x.sinks is) (y.sinks is);
+}
+
+-- what is so if nothing is left
+pub if_ended : {T E : Type 0} (r : Result T E) (told : Bool) (left : List ℕ) (P : Type 0) → (IsTrue told → IfOk r (λ _. left ≡ []))
+    → ((IsTrue told → left ≡ []) → P) → IfOk r (λ _. P)
+if_ended (Ok x) told left P ended is = is ended
+if_ended (Err e) told left P ended is = tt
