@@ -141,6 +141,8 @@ take_lock() {
 # Says in one sentence what happened and what to do, by the word, the status and a look at the folder.
 explain() {
     case "$1 $status" in
+    "audit 3") say "standard input is no recording of runs from the offset on that standard output gives: make one by" \
+        "\`sdls_text recording FILE..\`" ;;
     "init 3") say "standard input is no plan, and no image was made: mend the line that standard output names" ;;
     "run 3") say "$(unread_input)" ;;
     "init 4") say "standard input could not be read, and no image was made: call init again" ;;
@@ -237,12 +239,14 @@ usage: sdls_text records < TEXT > INPUT
        sdls_text show < INPUT > TEXT
        sdls_text answers [--json] < ANSWERS > TEXT
        sdls_text plan < PLAN
+       sdls_text recording FILE.. > RECORDING
 Recorded input and answers of `sdls run`, as text.
 
   records      reads lines of text, and writes the recorded input that they say
   show         reads recorded input, and prints its lines
   answers      reads answers, and prints a line for each; with --json each line is a JSON object
   plan         reads a plan, and prints each line at fault, or the state that the plan makes
+  recording    reads files, each the answers that a run wrote, and writes them as the input of `sdls audit`
   --help       prints this page
   --version    prints the version
 
@@ -261,10 +265,11 @@ Examples:
   sdls run < input.bin | sdls_text answers
   sdls run < input.bin | sdls_text answers --json
   sdls_text plan < plan.txt && sdls init < plan.txt
+  sdls_text recording monday.bin tuesday.bin | sdls audit
 HELP
     else
         cat <<'HELP'
-usage: sdls check KEY | init | stat | run | drill N | drill link N
+usage: sdls check KEY | init | stat | run | drill N | drill link N | audit
 A space link security unit (CCSDS 355.0-B-2 and 355.1-B-1). It works on the file unit.img in the current folder.
 
   check KEY    reads one AOS transfer frame, and prints its data field or the first check that failed;
@@ -275,10 +280,12 @@ A space link security unit (CCSDS 355.0-B-2 and 355.1-B-1). It works on the file
                both are octets, which `sdls_text` makes from text and prints as text
   drill N      protects and opens N generated frames with two units in memory, and prints the counts
   drill link N the same over a link between the two that loses, repeats and delays frames
+  audit        reads the answers that runs wrote, as `sdls_text recording` frames them, and prints whether a number of a
+               key was used twice, or accepted twice; it needs no unit.img
   --help       prints this page
   --version    prints the commit and the kit that the program is built from
 
-Status: 0 done; 1 the frame is refused; 2 other words; 3 the input is at fault; 4 standard input could not be read;
+Status: 0 done; 1 the frame is refused, or a number stands twice; 2 other words; 3 the input is at fault; 4 standard input could not be read;
 5 the disk or standard output failed; 6 out of memory; 7 the image is there already, or is none; 8 the run has its
 most entries. Of the launcher: 70 the program could not be built; 71 the folder or the image could not be locked;
 75 another unit holds one of them.
