@@ -4,7 +4,6 @@ use Rattle.sdls_base.specs.declared.entry.Entry.{Entry}
 use Rattle.sdls_base.specs.declared.TheConstants.{MOST_KEYS}
 use Rattle.sdls_outside.specs.declared.source.Failed.{Failed}
 use Rattle.sdls_outside.specs.Faults.{HasCause}
-use Rattle.sdls_outside.specs.Moments.{Trace}
 use Rattle.sdls_outside.specs.Site as sites
 use Rattle.counter_table.specs.declared.view.View.{View}
 use Rattle.counter_table.specs.Close.{ClosesCounters}
