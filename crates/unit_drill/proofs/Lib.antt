@@ -1,3 +1,4 @@
 pub mod DrillWords
+pub mod Ending
 pub mod Opened
 pub mod Served

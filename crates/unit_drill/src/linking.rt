@@ -9,14 +9,14 @@ ghost use Rattle.unit_drill.specs.OverLink.{AreLinkCounts, EndsLinkDrill};
 
 use crate::chunk::Pair;
 use crate::image::{receiver_plan, sender_plan};
-use crate::running::{end_of, put_text};
+use crate::running::{end_of, end_with};
 use crate::unit::DrillUnit;
 use crate::words::MOST_FRAMES;
 use drill_frames::{CHUNK, LinkCounts, link_line};
 use frame_workers::Gate;
 use law_link_drill::link_drill_is_complete;
 use record_io::Outcome;
-use record_io::status::{DONE, NO_MEMORY, SITE_FAULT};
+use record_io::status::SITE_FAULT;
 use sdls_base::NoMemory;
 use sdls_outside::Site;
 use std::alloc::Global;
@@ -73,7 +73,7 @@ pub fn drill_link<R: Threads + Wait + Sync, O: Site, G: Gate + Sync>(
     rt: &R,
     alloc: Global,
     number: u64,
-    mut site: O,
+    site: O,
     gate: &G,
 ) -> Outcome<O>
     requires { number ≤ MOST_FRAMES }
@@ -82,13 +82,5 @@ pub fn drill_link<R: Threads + Wait + Sync, O: Site, G: Gate + Sync>(
     ensures quiet { result.status ≢ SITE_FAULT → O.faults result.site ≡ O.faults site }
     ensures no_history { result.entries.items ≡ [] }
 {
-    let status = match link_line_of(rt, alloc, number, gate) {
-        Ok(line) => put_text(&mut site, &line, DONE),
-        Err(NoMemory) => put_text(&mut site, b"no memory\n", NO_MEMORY),
-    };
-    Outcome {
-        status,
-        site,
-        entries: Vec::new(alloc),
-    }
+    end_with(alloc, link_line_of(rt, alloc, number, gate), site)
 }

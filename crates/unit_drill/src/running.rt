@@ -1,7 +1,7 @@
 //! The drill.
-ghost use Rattle.std.specs.Prelude.{◌≡◌, ◌≢◌, ◌+◌, ◌*◌, ◌≤◌, min, List, [], ◌++◌, IfOk};
+ghost use Rattle.std.specs.Prelude.{◌≡◌, ◌≢◌, ◌+◌, ◌*◌, ◌≤◌, min, List, [], ◌++◌, IfErr, IfOk, codes};
 ghost use Rattle.sdls_outside.specs.Faults.{Rose};
-ghost use Rattle.record_io.specs.Outcome.{Ends};
+ghost use Rattle.record_io.specs.Outcome.{Ends, line};
 ghost use Rattle.drill_frames.specs.declared.counts.Counts.{Counts};
 ghost use Rattle.drill_frames.specs.Line.{drill_text};
 ghost use Rattle.record_io.specs.declared.answers.Answer.{Answer};
@@ -72,7 +72,7 @@ fn line_of<R: Threads + Wait + Sync, G: Gate + Sync>(
 }
 
 /// Puts a text, and answers the status: this one, or that of a put that failed.
-pub(crate) fn put_text<O: Site>(site: &mut O, text: &[u8], status: u8) -> u8
+fn put_text<O: Site>(site: &mut O, text: &[u8], status: u8) -> u8
     ensures ends { Ends O.told (O.trace site.old) (O.trace site.new)
         (Rose (O.faults site.old) (O.faults site.new)) text.now status result }
     ensures quiet { result ≢ SITE_FAULT → O.faults site.new ≡ O.faults site.old }
@@ -80,6 +80,30 @@ pub(crate) fn put_text<O: Site>(site: &mut O, text: &[u8], status: u8) -> u8
     match site.put(text) {
         Ok(()) => status,
         Err(Failed) => SITE_FAULT,
+    }
+}
+
+/// Ends a drill: writes the line that was made, or that memory ran out. To the site nothing else is done.
+pub(crate) fn end_with<O: Site>(
+    alloc: Global,
+    made: Result<Vec<u8>, NoMemory>,
+    mut site: O,
+) -> Outcome<O>
+    ensures written { IfOk made (λ text. Ends O.told (O.trace site) (O.trace result.site)
+        (Rose (O.faults site) (O.faults result.site)) text.items DONE result.status) }
+    ensures wanting { IfErr made (λ _. Ends O.told (O.trace site) (O.trace result.site)
+        (Rose (O.faults site) (O.faults result.site)) (line (codes "no memory")) NO_MEMORY result.status) }
+    ensures quiet { result.status ≢ SITE_FAULT → O.faults result.site ≡ O.faults site }
+    ensures no_history { result.entries.items ≡ [] }
+{
+    let status = match made {
+        Ok(text) => put_text(&mut site, &text, DONE),
+        Err(NoMemory) => put_text(&mut site, b"no memory\n", NO_MEMORY),
+    };
+    Outcome {
+        status,
+        site,
+        entries: Vec::new(alloc),
     }
 }
 
@@ -93,7 +117,7 @@ pub fn drill<R: Threads + Wait + Sync, O: Site, G: Gate + Sync>(
     rt: &R,
     alloc: Global,
     number: u64,
-    mut site: O,
+    site: O,
     gate: &G,
 ) -> Outcome<O>
     requires { number ≤ MOST_FRAMES }
@@ -102,13 +126,5 @@ pub fn drill<R: Threads + Wait + Sync, O: Site, G: Gate + Sync>(
     ensures quiet { result.status ≢ SITE_FAULT → O.faults result.site ≡ O.faults site }
     ensures no_history { result.entries.items ≡ [] }
 {
-    let status = match line_of(rt, alloc, number, gate) {
-        Ok(line) => put_text(&mut site, &line, DONE),
-        Err(NoMemory) => put_text(&mut site, b"no memory\n", NO_MEMORY),
-    };
-    Outcome {
-        status,
-        site,
-        entries: Vec::new(alloc),
-    }
+    end_with(alloc, line_of(rt, alloc, number, gate), site)
 }

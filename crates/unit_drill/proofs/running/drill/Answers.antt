@@ -1,35 +1,9 @@
-use Rattle.std.proofs.Common.{ℕ, codes, inl, inr, refl, sym, ◌∙◌, ap, subst}
 use Rattle.sdls_outside.specs.Faults.{Rose}
-use Rattle.record_io.specs.Outcome.{Ends, line}
+use Rattle.unit_drill.proofs.Ending.{ends_drill}
 use Rattle.unit_drill.proofs.running.drill.Goals as goal
-use Rattle.unit_drill.proofs.running.drill.Goals.{in-Ok, in-Err}
 
 pub returns-clause-ends : goal.returns-clause-ends
-returns-clause-ends g c = elim c.match-line_of.branch [
-  | in-Ok w ↦ (
-    w.deref.result.now,
-    0,
-    inl (w.in-Ok.ensures.0, w.in-Ok.ensures.1, w.deref.ensures.value ∙ w.in-Ok.ensures.2, refl),
-    subst (λ site. Ends g.O.Site.told (g.O.Site.trace c.args.site) (g.O.Site.trace site) (Rose (g.O.Site.faults c.args.site) (g.O.Site.faults site))
-        w.deref.result.now 0 c.match-line_of.status) (sym w.site-is)
-        (subst (λ (status : ℕ). Ends g.O.Site.told (g.O.Site.trace c.args.site) (g.O.Site.trace w.put_text-status.new.site)
-        (Rose (g.O.Site.faults c.args.site) (g.O.Site.faults w.put_text-status.new.site)) w.deref.result.now 0 status)
-        (sym w.status-is) w.put_text-status.ensures.ends),
-  )
-  | in-Err w ↦ (
-    line (codes "no memory"),
-    6,
-    inr (refl, refl),
-    subst (λ site. Ends g.O.Site.told (g.O.Site.trace c.args.site) (g.O.Site.trace site) (Rose (g.O.Site.faults c.args.site) (g.O.Site.faults site))
-        (line (codes "no memory")) 6 c.match-line_of.status) (sym w.site-is)
-        (subst (λ (status : ℕ). Ends g.O.Site.told (g.O.Site.trace c.args.site) (g.O.Site.trace w.put_text-status-in-Err.new.site)
-        (Rose (g.O.Site.faults c.args.site) (g.O.Site.faults w.put_text-status-in-Err.new.site)) (line (codes "no memory")) 6 status) (sym w.status-is)
-        w.put_text-status-in-Err.ensures.ends),
-  )
-]
-
-pub returns-clause-quiet : goal.returns-clause-quiet
-returns-clause-quiet g c = λ other. elim c.match-line_of.branch [
-  | in-Ok w ↦ ap g.O.Site.faults w.site-is ∙ w.put_text-status.ensures.quiet (λ is. other (w.status-is ∙ is))
-  | in-Err w ↦ ap g.O.Site.faults w.site-is ∙ w.put_text-status-in-Err.ensures.quiet (λ is. other (w.status-is ∙ is))
-]
+returns-clause-ends g c =
+    ends_drill (λ text. text.items) c.args.number g.O.Site.told (g.O.Site.trace c.args.site) (g.O.Site.trace c.end_with.result.site)
+    (Rose (g.O.Site.faults c.args.site) (g.O.Site.faults c.end_with.result.site)) c.end_with.result.status c.line_of.result
+    c.line_of.ensures c.end_with.ensures.written c.end_with.ensures.wanting
