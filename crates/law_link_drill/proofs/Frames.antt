@@ -1,4 +1,4 @@
--- The frames that arrive where all were protected, and how many they are.
+-- The frames that arrive if all were protected, and how many they are.
 use Rattle.std.proofs.Common.{◌≡◌, ℕ, zero, suc, ◌+◌, ◌*◌, ◌%◌, ◌==◌, ◌&&◌, ◌<◌, ◌≤◌, Bool, true, false, cond, List, [], ◌∷◌, ◌++◌, length, map, refl, sym, ◌∙◌, ap, subst, arith}
 use Rattle.std.specs.List.{All, Contains, count_by, range_with_len, zip}
 use Rattle.std.proofs.lemmas.Bool.{eq-eqb}

@@ -71,7 +71,7 @@ none_taken begin first octets opened rows whole starts = record {
   few = omega arith;
 }
 
--- One more chunk. All its frames were sent, and no answer of the receiver tells want of memory.
+-- One more chunk. All its frames were sent, and no answer of the receiver says that memory ran out.
 module _ (once : OpensOnce) (begin : Begin) (first now next : View) (chunk : ℕ) (octets longer : ℕ → List ℕ) (numbers : ℕ → ℕ)
     (starts : Starts begin receiver_lines (receiving (each 0) (each 0))) (so_far : TakenLink begin first now (256 * chunk) chunk octets)
     (later : List Answer) (codes : All IsSent later) (short : length later ≤ 256) (few : 256 * chunk + length later ≤ 100000)

@@ -71,6 +71,6 @@ pub record AreAllCounted (number : ℕ) (counts : LinkCounts) : Type 0 where
   pub lost : counts.lost ≡ lost_of number
   pub told : counts.accepted + counts.rejected ≡ arrived_of number
 
--- where no answer tells want of memory, all are counted
+-- if no answer says that memory ran out, all are counted
 abbrev pub IsLinkComplete : ℕ → List Answer → LinkCounts → Type 0
 IsLinkComplete number answers counts = list_any tells_want answers ≡ false → AreAllCounted number counts

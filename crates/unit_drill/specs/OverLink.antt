@@ -8,21 +8,21 @@ use Rattle.drill_frames.specs.declared.link_counts.LinkCounts.{LinkCounts}
 use Rattle.drill_frames.specs.Line.{link_text}
 use Rattle.law_link_drill.specs.Linked.{IsLinkComplete, IsLinkDrilled}
 
--- These are the counts of a drill over a link of so many frames: those of the answers of its units. Where no answer
--- tells want of memory, all frames are protected, those that the link loses are lost, and each that arrives is accepted
+-- These are the counts of a drill over a link of so many frames: those of the answers of its units. If no answer says
+-- that memory ran out, all frames are protected, those that the link loses are lost, and each that arrives is accepted
 -- or rejected.
 pub record AreLinkCounts (number : ℕ) (counts : LinkCounts) : Type 0 where
   pub answers : List Answer
   pub drilled : IsLinkDrilled number answers counts
   pub complete : IsLinkComplete number answers counts
 
--- the line and the status of a drill over a link; want of memory needs no cause
+-- the line and the status of a drill over a link; that memory ran out needs no cause
 abbrev pub LinkDrillDue : ℕ → List ℕ → ℕ → Type 0
 LinkDrillDue number text status =
     ((counts : LinkCounts) × AreLinkCounts number counts × (text ≡ link_text number counts) × (status ≡ statuses.DONE))
     ⊎ ((text ≡ line (codes "no memory")) × (status ≡ statuses.NO_MEMORY))
 
--- How `drill link N` ends: with the text that is due put once, and nothing else done to the site.
+-- How `drill link N` ends: the text that is due is written once, and nothing else is done to the site.
 abbrev pub EndsLinkDrill : ℕ → Bool → Trace → Trace → Type 0 → ℕ → Type 0
 EndsLinkDrill number told old new site_rose status = (text : List ℕ) × (due : ℕ) × LinkDrillDue number text due
     × Ends told old new site_rose text due status

@@ -58,7 +58,7 @@ fn link_line_of<R: Threads + Wait + Sync, G: Gate + Sync>(
         × (line.items ≡ link_text number counts)) }
 {
     let counts = link_counts_of(rt, alloc, number, gate)?;
-    // For contracts alone: where no answer told want of memory, all frames are counted.
+    // For contracts alone: if no answer says that memory ran out, all frames are counted.
     link_drill_is_complete();
     link_line(alloc, number, counts)
 }
