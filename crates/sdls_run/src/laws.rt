@@ -1,10 +1,23 @@
-//! The law that joins `stat` to the lives of a unit.
-ghost use Rattle.std.specs.Prelude.{◌≡◌, []};
+//! The laws that join `stat` and `audit` to the lives of a unit.
+ghost use Rattle.std.specs.Prelude.{◌≡◌, ◌⊎◌, ◌≤◌, ℕ, Bool, IsTrue, List, [], length, take};
+ghost use Rattle.std.specs.List.{All};
 ghost use Rattle.sdls_outside.specs.Faults.{Rose};
+ghost use Rattle.sdls_outside.specs.Moments.{Trace};
+ghost use Rattle.sdls_outside.specs.Output.{Sinks};
+ghost use Rattle.record_io.specs.declared.answers.Answer.{Answer};
+ghost use Rattle.record_io.specs.declared.status.TheConstants.{DONE, NO_MEMORY};
+ghost use Rattle.record_io.specs.Input.{MOST_OCTETS};
+ghost use Rattle.run_promise.specs.Life.{IsLife, LifeRun};
+ghost use Rattle.pair_audit.specs.Audit.{acceptances_in, uses_in};
+ghost use Rattle.pair_audit.specs.Recording.{RunsCount, recording};
+ghost use Rattle.law_audit.specs.Recorded.{IsSpelled, SankFew, sunk_by};
+ghost use Rattle.audit_run.specs.Ends.{EndsAudit};
+ghost use Rattle.audit_run.specs.Text.{clean_text};
 ghost use Rattle.run_promise.specs.Call.{CallSeen};
 ghost use Rattle.run_promise.specs.Lives.{KeepsLivesReading};
 ghost use Rattle.sdls_plain.specs.Stat.{EndsStat};
 
+use law_audit::recorded_life_is_clean;
 use law_runs::reading_keeps_lives;
 
 /// Law: a call that ends as `stat` does, and makes no entry, continues each life that left the image at its entry.
@@ -15,4 +28,18 @@ pub fn stat_keeps_lives()
         → KeepsLivesReading call }
 {
     reading_keeps_lives();
+}
+
+/// Law: of the runs of a life that were kept, an audit of what they sank ends with the line that all is well and status
+/// 0, or out of memory with status 6, if neither the source nor the site fails.
+pub fn audit_passes_a_life()
+    ensures { (image : List ℕ) (runs : List LifeRun) (kept : LifeRun → Bool) (told : Bool) (old new : Trace)
+        (status : ℕ) → IsLife image runs → All IsSpelled runs → All SankFew runs
+        → length (recording (sunk_by kept runs)) ≤ MOST_OCTETS
+        → EndsAudit (λ input. input ≡ take MOST_OCTETS (recording (sunk_by kept runs))) ⊥ told old new ⊥ status
+        → ((answers : List Answer) × RunsCount (sunk_by kept runs) answers × (status ≡ DONE)
+        × (IsTrue told → Sinks (clean_text (length (sunk_by kept runs)) (uses_in answers) (acceptances_in answers))
+        old new)) ⊎ (status ≡ NO_MEMORY) }
+{
+    recorded_life_is_clean();
 }

@@ -24,6 +24,7 @@ pub use law_runs::{
     refused_stays, status_five_has_a_fault, status_tells_what_came, unhindered_run_completes,
     used_once_in_a_life, zero_says_all,
 };
+pub use laws::audit_passes_a_life;
 pub use record_io::{Outcome, status};
 pub use sdls_plain::{InitEnd, Refusal, check_frame, run_plain};
 pub use top::run;
