@@ -5,7 +5,7 @@ use Rattle.record_io.specs.declared.code.TheConstants.{PROTECTED, ACCEPTED, DONE
 use Rattle.pair_audit.specs.declared.marks.Mark.{Mark}
 use Rattle.pair_audit.specs.declared.marks.Mark.TheVariants as marks
 
--- what says so of a use: a frame protected, or a command done that drew a number
+-- code and key of an answer that uses a number: a frame protected, or a command done that drew one
 abbrev pub SaysUse : ℕ → ℕ → Type 0
 SaysUse code key = (code ≡ PROTECTED) ⊎ ((code ≡ DONE) × (key ≢ 0))
 

@@ -40,7 +40,7 @@ use unit_session::{Gate, run_recorded};
 /// them, on four lanes, and puts one line. It reads nothing from the source, and leaves the image as it was.
 /// `drill link N` does so over a link between the two, which loses some frames, and delivers others twice or late.
 ///
-/// `audit` reads a recording of runs from the source, in one pass, and puts one line: that all is well, the first
+/// `audit` reads a recording of runs from the source, in one pass, and writes one line: that all is well, the first
 /// repeat of a number under a key, or where the recording is malformed. It leaves the image as it was.
 ///
 /// It hands all other words to [`run_plain`], whose clauses are its own.
@@ -107,7 +107,7 @@ pub fn run<R: Threads + Wait + Sync, S: Source, O: Site + Send, G: Gate + Sync>(
     ensures drill_link { (number : ℕ) → IsLinkDrill words.now number → EndsLinkDrill number
         O.told (O.trace site) (O.trace result.site) (Rose (O.faults site) (O.faults result.site)) result.status }
 
-    // An audit puts what is said of the whole input, and does nothing else to the site.
+    // An audit writes what is said of the whole input, and does nothing else to the site.
     ensures audit { IsAudit words.now → EndsAudit
         (λ input. IsTrue S.told → input ≡ take MOST_OCTETS (S.left source.old))
         (Rose (S.faults source.old) (S.faults source.new))
