@@ -45,7 +45,7 @@ padded_front width octets rest =
 
 -- ---- a key's row
 
-row_key_length_small : (n : ℕ) → IsRowKeyLength n → n ≤ 32
+pub row_key_length_small : (n : ℕ) → IsRowKeyLength n → n ≤ 32
 row_key_length_small n (inl e) = omega (arith, e)
 row_key_length_small n (inr (inl e)) = omega (arith, e)
 row_key_length_small n (inr (inr e)) = omega (arith, e)

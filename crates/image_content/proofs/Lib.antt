@@ -2,3 +2,4 @@ mod Fields
 mod RowsRead
 mod Highs
 mod Contents
+mod Changing

@@ -1,5 +1,5 @@
 -- The content of a bank (profile): the counts of rows, and the rows of keys and associations.
-use Rattle.std.specs.Prelude.{ℕ, List, ◌∷◌, ◌++◌, length, replicate}
+use Rattle.std.specs.Prelude.{ℕ, ◌+◌, List, ◌∷◌, ◌++◌, length, take, drop, replicate}
 use Rattle.std.specs.List.{flat_map}
 use Rattle.std.specs.Int.{w16, to_be_bytes}
 use Rattle.book_record.specs.declared.key_parts.KeyParts.{KeyParts}
@@ -49,3 +49,7 @@ sa_rows associations = flat_map (λ row. sa_row_octets (sa_parts row)) associati
 unfoldable pub content_of : State → List ℕ
 content_of state = to_be_bytes w16 (length state.keys) ++ length state.associations ∷ (replicate GAP 0
     ++ padded KEY_ROWS (key_rows state.keys) ++ padded SA_ROWS (sa_rows state.associations))
+
+-- octets with others in their place from a place on
+abbrev pub replaced : ℕ → List ℕ → List ℕ → List ℕ
+replaced at new octets = take at octets ++ new ++ drop (at + length new) octets

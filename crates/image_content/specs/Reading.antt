@@ -1,5 +1,5 @@
 -- What is read of a content (profile).
-use Rattle.std.specs.Prelude.{◌≡◌, ℕ, ◌+◌, ◌-◌, ◌*◌, ◌≤◌, List, take, drop, replicate, All}
+use Rattle.std.specs.Prelude.{◌≡◌, ℕ, ◌+◌, ◌-◌, ◌*◌, ◌≤◌, List, length, take, drop, replicate, All}
 use Rattle.sdls_base.specs.declared.TheConstants.{MOST_KEYS, MOST_ASSOCIATIONS}
 use Rattle.book_record.specs.declared.layout.TheConstants.{KEY_ROW_LENGTH, SA_ROW_LENGTH}
 use Rattle.book_record.specs.Reading.{octet_at, word_at}
@@ -53,6 +53,13 @@ keys_in content = take (KEY_ROW_LENGTH * key_count content) (drop KEYS_AT conten
 
 abbrev pub associations_in : List ℕ → List ℕ
 associations_in content = take (SA_ROW_LENGTH * sa_count content) (drop ASSOCIATIONS_AT content)
+
+-- The rows of a state are values of their types, and as many as a content has room for.
+pub record HasRows (state : State) : Type 0 where
+  pub keys : All (λ row. IsKeyRow (key_parts row) (key_row_octets (key_parts row))) state.keys
+  pub associations : All (λ row. IsSaRow (sa_parts row) (sa_row_octets (sa_parts row))) state.associations
+  pub most_keys : length state.keys ≤ MOST_KEYS
+  pub most_associations : length state.associations ≤ MOST_ASSOCIATIONS
 
 -- The content is that of the state, which keeps its rules, and of which a restart leaves what it is. Its rows are
 -- values of their types.

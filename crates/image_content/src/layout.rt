@@ -18,3 +18,6 @@ pub(crate) const KEYS_AT: usize = 3 + GAP;
 
 /// Where the rows of associations begin.
 pub(crate) const ASSOCIATIONS_AT: usize = KEYS_AT + KEY_ROWS;
+
+/// Where the mark of a key stands in its row, with the floor behind it.
+pub(crate) const MARK_AT: usize = 68;

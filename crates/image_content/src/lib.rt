@@ -12,7 +12,7 @@ mod reading_rows;
 mod rows;
 mod writing;
 
-pub use laws::{one_state, restart_leaves_content};
+pub use laws::{key_row_changes, marks_change, one_state, restart_leaves_content, sa_row_changes};
 pub use layout::CONTENT_LENGTH;
 pub use reading::read_content;
 pub use writing::write_content;
