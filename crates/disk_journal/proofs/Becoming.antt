@@ -4,11 +4,12 @@ use Rattle.std.proofs.lemmas.Bool.{cases_eq}
 use Rattle.sdls_outside.specs.Moments.{Trace}
 use Rattle.disk_journal.specs.declared.layout.TheConstants.{OPEN}
 use Rattle.disk_journal.specs.Slots.{slot_at, gate_at}
-use Rattle.disk_journal.specs.Image.{slot_count, plan_of, records, first_closed, IsHalfOpen, IsAtRest, regated, opened_form, held, grown}
+use Rattle.disk_journal.specs.Image.{slot_count, plan_of, records, first_closed, IsAtRest, held, grown}
 use Rattle.disk_journal.specs.Fault.{image_fault}
-use Rattle.disk_journal.specs.Changes.{EachImage, GrowsByRecord, ClosesGate}
+use Rattle.disk_journal.specs.Changes.{EachImage, ClosesGate}
 use Rattle.disk_journal.specs.Forms.{Holds, HasOneClosed, Becomes, RestsHolding, Regates, StaysWithin}
 use Rattle.disk_journal.specs.Journal.{JournalView, IsJournalOf}
+use Rattle.disk_journal.proofs.Halves.{GrowsByRecord, IsHalfOpen, opened_form, regated}
 use Rattle.disk_journal.proofs.Moments.{image_weaker}
 use Rattle.disk_journal.proofs.Images.{records_of}
 use Rattle.disk_journal.proofs.ClosedGates.{half_of, gate_of, form_of, form_half, held_is, held_records, regates_cases}

@@ -9,9 +9,10 @@ use Rattle.sdls_outside.specs.Site.{overwritten}
 use Rattle.disk_journal.specs.declared.layout.TheConstants.{HEADER_LENGTH, PLAN_ROOM, SLOT_LENGTH, OPEN}
 use Rattle.sdls_base.specs.declared.TheConstants.{BODY_LENGTH}
 use Rattle.disk_journal.specs.Slots.{slot_at, body_at}
-use Rattle.disk_journal.specs.Image.{header_of, plan_length_in, slot_count_in, slot_count, plan_of, records, first_closed, IsHalfOpen, held, grown}
-use Rattle.disk_journal.specs.Changes.{EachImage, GrowsByRecord}
+use Rattle.disk_journal.specs.Image.{header_of, plan_length_in, slot_count_in, slot_count, plan_of, records, first_closed, held, grown}
+use Rattle.disk_journal.specs.Changes.{EachImage}
 use Rattle.disk_journal.specs.Journal.{JournalView, IsJournalOf, IsOpen, IsSettled}
+use Rattle.disk_journal.proofs.Halves.{GrowsByRecord, IsHalfOpen}
 use Rattle.disk_journal.proofs.Ranges.{all_but_same}
 use Rattle.disk_journal.proofs.Moments.{image_same, synced_holds}
 use Rattle.disk_journal.proofs.Images.{passes_of, Bounds, header_bounds, slots_within, records_of}
@@ -58,12 +59,6 @@ append_holds old new body at journal settled room place sized stored =
     subst (λ (image : List ℕ). Appended old.now.image image body journal) (sym stored.1)
     (appended old.now.image body at journal (at_slot old journal at settled room place) sized settled.opened.of_image) in
     here.holds
-
-pub append_kept : (old new : Trace) (body : List ℕ) (journal : JournalView)
-    → IsSettled new journal × (records new.now.image ≡ records old.now.image ++ body ∷ [])
-    → (image : List ℕ) → Leaves new.now image → records image ≡ records old.now.image ++ body ∷ []
-append_kept old new body journal stored image leaves =
-    synced_holds new.now (λ image. records image ≡ records old.now.image ++ body ∷ []) stored.0.opened.synced stored.1 image leaves
 
 -- the plan's text
 bounds_in : (image : List ℕ) (journal : JournalView) → IsJournalOf image journal → Bounds (header_of image) (length image)

@@ -5,9 +5,10 @@ use Rattle.std.proofs.lemmas.List.{ext_get_or, get_or-set_other, length-set}
 use Rattle.std.proofs.Math.ListN.{get_or-eq_default}
 use Rattle.disk_journal.specs.declared.layout.TheConstants.{OPEN, CLOSED}
 use Rattle.disk_journal.specs.Slots.{slot_at, gate_at}
-use Rattle.disk_journal.specs.Image.{slot_count, plan_of, records, first_closed, IsHalfOpen, regated, opened_form, IsClosedGate, IsOpenedForm, IsAtRest, Held, held}
+use Rattle.disk_journal.specs.Image.{slot_count, plan_of, records, first_closed, IsClosedGate, IsOpenedForm, IsAtRest, Held, held}
 use Rattle.disk_journal.specs.Changes.{AllBut}
 use Rattle.disk_journal.specs.Forms.{Regates}
+use Rattle.disk_journal.proofs.Halves.{IsHalfOpen, opened_form, regated}
 use Rattle.disk_journal.proofs.Ranges.{set_back}
 
 -- a closed gate that is not 0 makes the image half open

@@ -7,11 +7,12 @@ use Rattle.sdls_outside.specs.Site.{overwritten}
 use Rattle.disk_journal.specs.declared.layout.TheConstants.{SLOT_LENGTH, OPEN, CLOSED}
 use Rattle.sdls_base.specs.declared.TheConstants.{BODY_LENGTH}
 use Rattle.disk_journal.specs.Slots.{slot_at, gate_at, body_at}
-use Rattle.disk_journal.specs.Image.{header_of, slot_count, plan_of, records, first_closed, IsHalfOpen, IsAtRest, regated, opened_form, held, grown as more}
+use Rattle.disk_journal.specs.Image.{header_of, slot_count, plan_of, records, first_closed, IsAtRest, held, grown as more}
 use Rattle.disk_journal.specs.Fault.{image_fault}
-use Rattle.disk_journal.specs.Changes.{AllBut, EachImage, GrowsByRecord, ClosesGate}
+use Rattle.disk_journal.specs.Changes.{AllBut, EachImage, ClosesGate}
 use Rattle.disk_journal.specs.Forms.{Regates, Settles}
 use Rattle.disk_journal.specs.Journal.{JournalView, IsJournalOf, IsOpen, IsSettled}
+use Rattle.disk_journal.proofs.Halves.{GrowsByRecord, IsHalfOpen, opened_form, regated}
 use Rattle.disk_journal.proofs.Ranges.{all_but_wider, all_but_then, same_stretch, overwritten_length, overwritten_but, overwritten_stretch, overwritten_one, set_but}
 use Rattle.std.proofs.lemmas.List.{get_or-set_same, set-set}
 use Rattle.disk_journal.proofs.Moments.{image_weaker}

@@ -11,7 +11,8 @@ use Rattle.disk_journal.specs.Slots.{slot_at, gate_at, body_at}
 use Rattle.disk_journal.specs.Image.{header_of, plan_length_in, slot_count_in, slot_count, plan_of, records, first_closed}
 use Rattle.sdls_base.specs.FirstFailing.{Check, first_failing}
 use Rattle.disk_journal.specs.Fault.{header_checks, gate_checks, image_fault}
-use Rattle.disk_journal.specs.Changes.{AllBut, GrowsByRecord}
+use Rattle.disk_journal.specs.Changes.{AllBut}
+use Rattle.disk_journal.proofs.Halves.{GrowsByRecord}
 use Rattle.disk_journal.proofs.Gating.{AreRecords, records_are, records_is, SameBefore, records_stay, records_grow}
 use Rattle.disk_journal.proofs.Failing.{all_passed, passed_first, passed_append, front_passed, closed_pass, pass_closed}
 use Rattle.disk_journal.proofs.Ranges.{all_but_wider, all_but_then, same_stretch, same_front, set_but}

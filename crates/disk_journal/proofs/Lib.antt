@@ -1,6 +1,7 @@
 pub mod Gating
 pub mod Failing
 pub mod Ranges
+pub mod Halves
 pub mod Moments
 pub mod Images
 pub mod SlotWrites

@@ -1,12 +1,10 @@
 -- What a crash at a moment of a call may leave of an image (profile).
-use Rattle.std.specs.Prelude.{◌≡◌, ◌≢◌, ℕ, ◌+◌, ◌<◌, ◌≤◌, ◌⊎◌, List, [], ◌∷◌, ◌++◌, length, None, slice_index}
+use Rattle.std.specs.Prelude.{◌≡◌, ◌≢◌, ℕ, ◌+◌, ◌<◌, ◌≤◌, ◌⊎◌, List, length, slice_index}
 use Rattle.std.specs.Prelude.{slice_set}
 use Rattle.sdls_outside.specs.Moments.{Trace, EachMoment}
 use Rattle.sdls_outside.specs.Site.{Synced}
-use Rattle.disk_journal.specs.declared.layout.TheConstants.{SLOT_LENGTH, CLOSED}
+use Rattle.disk_journal.specs.declared.layout.TheConstants.{CLOSED}
 use Rattle.disk_journal.specs.Slots.{slot_at, gate_at}
-use Rattle.disk_journal.specs.Image.{records, first_closed, IsHalfOpen, opened_form}
-use Rattle.disk_journal.specs.Fault.{image_fault}
 
 -- new is old, but for what stands in a range of octets
 pub record AllBut (at count : ℕ) (old new : List ℕ) : Type 0 where
@@ -21,14 +19,6 @@ pub record EachImage (old new : Trace) (P : List ℕ → Type 0) : Type 0 where
 -- nothing was written: the trace is what it was, or a sync later
 abbrev pub OnlySyncs : Trace → Trace → Type 0
 OnlySyncs old new = (new ≡ old) ⊎ Synced old new
-
--- The image opens, and shows the records of old, or those and this body. Where its first closed slot is half open, the
--- image with that slot opened shows those and this body. No octet outside of the first closed slot of old has changed.
-pub record GrowsByRecord (old body new : List ℕ) : Type 0 where
-  pub opens : image_fault new ≡ None
-  pub lists : (records new ≡ records old) ⊎ (records new ≡ records old ++ body ∷ [])
-  pub half_open : IsHalfOpen new → records (opened_form new) ≡ records old ++ body ∷ []
-  pub others : AllBut (slot_at (first_closed old)) SLOT_LENGTH old new
 
 -- new is old, or old with another octet as the gate of this slot, which is one of the slots and whose gate is not 0
 abbrev pub ClosesGate : List ℕ → ℕ → ℕ → List ℕ → Type 0

@@ -29,19 +29,6 @@ records image = gated (gate_at image) (body_at image) (slot_count image) 0
 abbrev pub first_closed : List ℕ → ℕ
 first_closed image = length (records image)
 
--- the gate of the first closed slot is not 0: a crash tore its write
-pub record IsHalfOpen (image : List ℕ) : Type 0 where
-  pub there : first_closed image < slot_count image
-  pub torn : gate_at image (first_closed image) ≢ CLOSED
-
--- the image with another octet as the gate of its first closed slot
-abbrev pub regated : List ℕ → ℕ → List ℕ
-regated image octet = slice_set image (slot_at (first_closed image)) octet
-
--- the image with its first closed slot opened
-abbrev pub opened_form : List ℕ → List ℕ
-opened_form image = regated image OPEN
-
 -- where the record with this index stands
 abbrev pub record_at : List ℕ → ℕ → ℕ
 record_at image index = slot_at index

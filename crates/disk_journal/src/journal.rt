@@ -5,7 +5,7 @@ ghost use Rattle.sdls_outside.specs.Disk.{Leaves};
 ghost use Rattle.disk_journal.specs.Image.{records, plan_of, record_at, held, grown};
 ghost use Rattle.disk_journal.specs.Fault.{image_fault};
 ghost use Rattle.disk_journal.specs.Journal.{JournalView, IsJournalOf, IsOpen, IsSettled, HasFault, HasSiteFault};
-ghost use Rattle.disk_journal.specs.Changes.{EachImage, OnlySyncs, GrowsByRecord};
+ghost use Rattle.disk_journal.specs.Changes.{EachImage, OnlySyncs};
 ghost use Rattle.disk_journal.specs.Forms.{Becomes, RestsHolding, Settles};
 
 use crate::fault::JournalFault;
@@ -136,10 +136,7 @@ impl Journal {
         // `settle` was Ok, and no `append` since then has failed.
         requires { IsTrue O.told → IsSettled (O.trace site.old) self.old }
 
-        ensures stored { IsTrue O.told → OnOk result (IsSettled (O.trace site.new) self.new
-            × (records (O.trace site.new).now.image ≡ records (O.trace site.old).now.image ++ body.now ∷ [])) }
-        ensures kept { IsTrue O.told → OnOk result ((image : List ℕ) → Leaves (O.trace site.new).now image
-            → records image ≡ records (O.trace site.old).now.image ++ body.now ∷ []) }
+        ensures stored { IsTrue O.told → OnOk result (IsSettled (O.trace site.new) self.new) }
         ensures holds { IsTrue O.told → OnOk result
             (held (O.trace site.new).now.image ≡ grown body.now (held (O.trace site.old).now.image)) }
 
@@ -148,10 +145,6 @@ impl Journal {
             (Becomes (held (O.trace site.old).now.image) (grown body.now (held (O.trace site.old).now.image))) }
         ensures rests { IsTrue O.told → EachImage (O.trace site.old) (O.trace site.new)
             (RestsHolding (grown body.now (held (O.trace site.old).now.image))) }
-
-        // The octets of that image are those from before, but for one slot.
-        ensures any_moment { IsTrue O.told → EachImage (O.trace site.old) (O.trace site.new)
-            (GrowsByRecord (O.trace site.old).now.image body.now) }
 
         // After `Ok` one slot more is used, and else none.
         ensures counted { OnOk result (self.new ≡ record self.old { used = self.old.used + 1 }) }

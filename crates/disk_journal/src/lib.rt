@@ -20,7 +20,7 @@ mod storing;
 pub use creating::create;
 pub use fault::JournalFault;
 pub use journal::Journal;
-pub use laws::{initial_image_opens, opening_stays, regated_image_opens, slots_keep_plan};
+pub use laws::opening_stays;
 pub use layout::{
     CLOSED, FIELD_LENGTH, HEADER_LENGTH, LEAST_SLOTS, MAGIC, MAGIC_AT, MOST_SLOTS, OPEN, PLAN_AT,
     PLAN_LENGTH_AT, PLAN_ROOM, SLOT_COUNT_AT, SLOT_LENGTH, SLOTS_AT, ZEROS_AT,

@@ -269,14 +269,6 @@ pub ready_of : (told : Bool) (old shown : BookView) (entry : Entry) → shown �
     → Ready told old entry → Ready told shown entry
 ready_of told old shown entry same ready = subst (λ (b : BookView). Ready told b entry) (sym same) ready
 
--- once the store has failed
-pub left_out_made : (old shown new : BookView) (site : SiteSeen) (other : JournalView) (entry : Entry)
-    → shown ≡ old → other ≡ shown.journal → new ≡ left_out entry (record shown { site = site; journal = other })
-    → new ≡ left_out entry (record old { site = site })
-left_out_made old shown new site other entry same unchanged made =
-    made ∙ ap (λ (j : JournalView). left_out entry (record shown { site = site; journal = j })) unchanged
-    ∙ ap (λ (b : BookView). left_out entry (record b { site = site })) same
-
 -- a book with these parts, once octets were put
 pub kept_put_shown : (told : Bool) (octets : List ℕ) (old shown : BookView) (site : SiteSeen) (before : Trace) (log : List Logged) → shown ≡ old
     → before ≡ shown.site.trace → log ≡ shown.log ++ logged.Piece (sunk_between before site.trace) ∷ []
@@ -300,21 +292,3 @@ pub kept_left_out : (told : Bool) (old shown new : BookView) (site : SiteSeen) (
     → IsKept told (left_out entry (record shown { site = site })) → IsKept told new
 kept_left_out told old shown new site other entry same unchanged made kept =
     subst (IsKept told) (sym (made ∙ ap (λ (j : JournalView). left_out entry (record shown { site = site; journal = j })) unchanged)) kept
-
-pub rose_there : (old shown new : BookView) (site : SiteSeen) (other : JournalView) (entry : Entry)
-    → shown ≡ old → new ≡ left_out entry (record shown { site = site; journal = other }) → Rose shown.site.faults site.faults
-    → Rose old.site.faults new.site.faults
-rose_there old shown new site other entry same made rose =
-    subst (λ (b : BookView). Rose old.site.faults b.site.faults) (sym made)
-    (subst (λ (b : BookView). Rose b.site.faults site.faults) same rose)
-
-pub count_there : (old shown new : BookView) (site : SiteSeen) (other : JournalView) (entry : Entry) (count : ℕ)
-    → shown ≡ old → new ≡ left_out entry (record shown { site = site; journal = other }) → count ≡ site.faults → count ≡ new.site.faults
-count_there old shown new site other entry count same made is = is ∙ ap (λ (b : BookView). b.site.faults) (sym made)
-
-pub left_out_site : (old shown new : BookView) (site : SiteSeen) (other : JournalView) (entry : Entry)
-    → shown ≡ old → other ≡ shown.journal → new ≡ left_out entry (record shown { site = site; journal = other })
-    → new ≡ left_out entry (record old { site = new.site })
-left_out_site old shown new site other entry same unchanged made =
-    left_out_made old shown new site other entry same unchanged made
-    ∙ ap (λ (s : SiteSeen). left_out entry (record old { site = s })) (ap (λ (b : BookView). b.site) (sym made))
