@@ -1,5 +1,5 @@
 -- Where the records of a journal lead to.
-use Rattle.std.proofs.Common.{◌≡◌, ◌≢◌, ℕ, suc, ◌+◌, List, [], ◌∷◌, ◌++◌, take, Some, refl, sym, ◌∙◌, ap, subst, inl, inr, arith}
+use Rattle.std.proofs.Common.{◌≡◌, ℕ, suc, ◌+◌, List, [], ◌∷◌, ◌++◌, take, Some, sym, ◌∙◌, ap, subst, arith}
 use Rattle.std.specs.List.{slice_get}
 use Rattle.std.proofs.Math.Seq.{take-suc}
 use Rattle.std.proofs.lemmas.Option.{slice_get_within, get_or_from_slice_get}
@@ -8,12 +8,12 @@ use Rattle.book_record.specs.Record.{IsRecord}
 use Rattle.unit_state.specs.declared.state.State.{State}
 use Rattle.unit_state.specs.Applied.{applied}
 use Rattle.unit_state.specs.Allows.{Allows}
-use Rattle.unit_state.specs.Restart.{restarted, IsStorable, AreAlike}
+use Rattle.unit_state.specs.Restart.{restarted}
 use Rattle.unit_state.specs.Laws.{StoresWell}
 use Rattle.unit_state.proofs.Again.{applied_alike}
 use Rattle.unit_state.proofs.Allowed.{allowed_alike}
 use Rattle.disk_journal.specs.Image.{Held, grown}
-use Rattle.unit_image.specs.Shows.{LeadTo, Says, IsNoChangeAt, IsBadRecord}
+use Rattle.unit_image.specs.Shows.{LeadTo, Says}
 use Rattle.unit_image.specs.OpeningImage.{TakesRecord}
 
 -- one record more

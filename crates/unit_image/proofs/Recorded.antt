@@ -2,11 +2,8 @@
 use Rattle.std.proofs.Common.{◌≡◌, ◌≢◌, ℕ, ◌≤◌, List, [], ◌∷◌, length, Option, None, Some, refl, sym, ◌∙◌, ap, subst, arith}
 use Rattle.std.specs.Option.{option_map_or, option_or}
 use Rattle.std.proofs.lemmas.Option.{none-some}
-use Rattle.std.specs.List.{All}
-use Rattle.sdls_base.specs.Bounds.{IsKeyLength}
 use Rattle.sdls_base.specs.declared.change.Change.{Change}
 use Rattle.sdls_base.specs.declared.change.Change.TheVariants.{Marks, Load, KeyStates, Create, Rekey, SaTo, SetNumber, SetWindow, Accepted, Nothing}
-use Rattle.sdls_base.specs.declared.key_item.KeyItem.{KeyItem}
 use Rattle.sdls_base.specs.declared.states.KeyState.{KeyState}
 use Rattle.sdls_base.specs.declared.states.KeyState.TheVariants.{PreActive, Active, Deactivated, Destroyed}
 use Rattle.key_book.specs.declared.key_row.KeyRow.{KeyRow}
@@ -16,7 +13,7 @@ use Rattle.key_book.specs.declared.key_refusal.KeyRefusal.{KeyRefusal}
 use Rattle.key_book.specs.declared.key_refusal.KeyRefusal.TheVariants.{WrongState, UnknownKey}
 use Rattle.sa_book.specs.SaBook.{in_use}
 use Rattle.unit_state.specs.declared.state.State.{State}
-use Rattle.unit_state.specs.Allows.{Allows, IsSessionKey}
+use Rattle.unit_state.specs.Allows.{Allows}
 use Rattle.unit_state.specs.Restart.{IsStorable}
 use Rattle.book_record.specs.Record.{HasRecord, IsRecord}
 

@@ -1,5 +1,5 @@
 -- An image shows one state, or is refused with one offset.
-use Rattle.std.proofs.Common.{◌≡◌, ◌≢◌, ℕ, zero, suc, ◌+◌, ◌<◌, ◌≤◌, ◌⊎◌, List, [], ◌∷◌, length, take, Option, Some, None, Result, Ok, Err, refl, sym, ◌∙◌, ap, subst, inl, inr, arith}
+use Rattle.std.proofs.Common.{◌≡◌, ℕ, zero, suc, ◌<◌, List, [], ◌∷◌, take, Option, Some, None, Result, Ok, Err, refl, sym, ◌∙◌, ap, subst, inl, inr, arith}
 use Rattle.std.specs.List.{slice_get}
 use Rattle.std.proofs.lemmas.Bool.{cases_lt}
 use Rattle.std.proofs.lemmas.List.{take-take}
@@ -14,10 +14,8 @@ use Rattle.unit_state.specs.Initial.{initial}
 use Rattle.unit_state.specs.Applied.{applied}
 use Rattle.unit_state.specs.Allows.{Allows}
 use Rattle.unit_state.specs.Restart.{restarted}
-use Rattle.disk_journal.specs.declared.layout.TheConstants.{PLAN_AT, SLOT_COUNT_AT}
 use Rattle.disk_journal.specs.Image.{Held, held, record_at}
-use Rattle.disk_journal.specs.Fault.{image_fault}
-use Rattle.unit_image.specs.Shows.{SaysPlan, LeadTo, Says, Shows, IsNoChangeAt, IsBadRecord, SaysNone, ShowsNone}
+use Rattle.unit_image.specs.Shows.{SaysPlan, LeadTo, Says, Shows, IsBadRecord, SaysNone, ShowsNone}
 
 abbrev ok_or : {X : Type 0} → X → Result X PlanFault → X
 ok_or other (Ok x) = x

@@ -1,7 +1,6 @@
 -- What the store of a change does to the image: for `store`.
-use Rattle.std.proofs.Common.{◌≡◌, ◌⊎◌, ◌≤◌, ℕ, length, List, None, Some, refl, sym, ap, subst, inl, inr, Result, Ok, Err, OnOk, arith}
+use Rattle.std.proofs.Common.{◌≡◌, ◌≤◌, ℕ, length, List, None, Some, refl, sym, subst, inl, inr, Result, Ok, Err, OnOk, arith}
 use Rattle.sdls_base.specs.declared.change.Change.{Change}
-use Rattle.sdls_outside.specs.Disk.{Leaves}
 use Rattle.sdls_outside.specs.Moments.{Trace, EachMoment}
 use Rattle.sdls_outside.proofs.Moments.{each_same, each_weaker, synced_leaves}
 use Rattle.book_record.specs.Record.{IsRecord}

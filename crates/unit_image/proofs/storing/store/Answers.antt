@@ -12,7 +12,7 @@ returns-then-used-slots-clause-stores g c = λ told. stores_full c.args.state.no
 pub returns-in-Ok-clause-stores : goal.returns-in-Ok-clause-stores
 returns-in-Ok-clause-stores g c = λ told. stores_record c.args.state.now c.args.change.now c.in-Some.body (g.O.Site.trace c.args.site.now)
     c.requires.rules c.requires.allowed c.in-Some.ensures _ c.append.new.self (g.O.Site.trace c.append.new.site)
-    (c.in-Ok.ensures.becomes told) (c.in-Ok.ensures.rests told) ((c.in-Ok.ensures.stored told).0, c.in-Ok.ensures.holds told)
+    (c.in-Ok.ensures.becomes told) (c.in-Ok.ensures.rests told) (c.in-Ok.ensures.stored told, c.in-Ok.ensures.holds told)
 
 pub returns-in-Err-SiteFault-clause-stores : goal.returns-in-Err-SiteFault-clause-stores
 returns-in-Err-SiteFault-clause-stores g c = λ told. stores_record c.args.state.now c.args.change.now c.in-Some.body (g.O.Site.trace c.args.site.now)
