@@ -29,8 +29,8 @@ impl Link {
         Ok(())
     }
 
-    /// Takes a frame in this round. Of eight, one is lost, one comes twice, one a round later and again after three, one
-    /// two rounds later.
+    /// Takes a frame in this round. Of eight, one is lost, one comes twice, one a round later and again after three,
+    /// one two rounds later.
     pub fn take(
         &mut self,
         alloc: Global,

@@ -1,5 +1,6 @@
 -- The frames of a drill that arrive over a link, chunk by chunk, and the records of the unit that opens them (profile).
-use Rattle.std.specs.Prelude.{ℕ, ◌+◌, ◌-◌, ◌*◌, ◌%◌, ◌==◌, ◌&&◌, List, [], ◌∷◌, ◌++◌, length, map, if◌then◌else◌, Option, None, Some, slice_get}
+use Rattle.std.specs.Prelude.{ℕ, ◌+◌, ◌-◌, ◌*◌, ◌%◌, ◌==◌, ◌&&◌, List, [], ◌∷◌, ◌++◌, length, map, if◌then◌else◌}
+use Rattle.std.specs.Prelude.{Option, None, Some, slice_get}
 use Rattle.std.specs.List.{count_by, range_with_len, zip}
 use Rattle.link_world.specs.declared.link.LinkEvent.{LinkEvent}
 use Rattle.link_world.specs.declared.link.LinkEvent.TheVariants.{Release, Deliver}
@@ -44,14 +45,16 @@ arrived_task place number octets = open_task (DRILL_LANES * place + number % DRI
 abbrev pub arrived_tasks : ℕ → ℕ → List Answer → List ℕ → List Record
 arrived_tasks place first sent [] = []
 arrived_tasks place first sent (number ∷ numbers) =
-    arrived_task place number (octets_in (slice_get sent (number - first))) ∷ arrived_tasks (place + 1) first sent numbers
+    arrived_task place number (octets_in (slice_get sent (number - first)))
+    ∷ arrived_tasks (place + 1) first sent numbers
 
 -- ---- the counts
 
 -- the frames of a chunk that were protected and lost
 abbrev pub count_lost : List Answer → ℕ
 count_lost sent =
-    count_by (λ (p : ℕ × Answer). (p.1.code == PROTECTED) && is_lost (fate_of p.0)) (zip (range_with_len 0 (length sent)) sent)
+    count_by (λ (p : ℕ × Answer). (p.1.code == PROTECTED) && is_lost (fate_of p.0))
+    (zip (range_with_len 0 (length sent)) sent)
 
 -- the answers that give the data fields of these frames
 abbrev pub count_given : List ℕ → List Answer → ℕ

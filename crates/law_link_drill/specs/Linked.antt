@@ -10,7 +10,8 @@ use Rattle.run_promise.specs.Begin.{Begin}
 use Rattle.drill_frames.specs.declared.arriving.TheConstants.{CHUNK_PLACES}
 use Rattle.drill_frames.specs.declared.link_counts.LinkCounts.{LinkCounts}
 use Rattle.drill_frames.specs.declared.records.TheConstants.{CHUNK}
-use Rattle.drill_frames.specs.Arriving.{arrived_frames, arrived_tasks, count_given, count_lost, link_sum_of, no_link_counts}
+use Rattle.drill_frames.specs.Arriving.{arrived_frames, arrived_tasks, count_given, count_lost}
+use Rattle.drill_frames.specs.Arriving.{link_sum_of, no_link_counts}
 use Rattle.drill_frames.specs.Counting.{count_code}
 use Rattle.drill_frames.specs.Frames.{protect_tasks}
 use Rattle.law_drill.specs.Drilled.{HandlesSegment, UnitIsOpened, tells_want}
@@ -41,7 +42,8 @@ AreLinkChunks sender receiver number s v (suc chunks) t w answers counts =
     × (chunk : IsLinkChunk sender receiver chunks (min number (CHUNK * (chunks + 1))) t0 t w0 w more)
     × (answers ≡ earlier ++ (chunk.sent ++ chunk.opened)) × (counts ≡ link_sum_of before more)
 
--- the counts of a drill over a link: two units were opened, and handled its frames to the last chunk, with these answers
+-- the counts of a drill over a link: two units were opened, and handled its frames to the last chunk, with these
+-- answers
 pub record IsLinkDrilled (number : ℕ) (answers : List Answer) (counts : LinkCounts) : Type 0 where
   pub sender : Begin
   pub receiver : Begin

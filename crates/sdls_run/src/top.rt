@@ -103,7 +103,7 @@ pub fn run<R: Threads + Wait + Sync, S: Source, O: Site + Send, G: Gate + Sync>(
     // memory. To the site nothing is done but to put, and the image stays.
     ensures drill { (number : ℕ) → IsDrill words.now number → EndsDrill number
         O.told (O.trace site) (O.trace result.site) (Rose (O.faults site) (O.faults result.site)) result.status }
-    // Over a link they are all frames that arrive, and those that the link loses, if no answer says that memory ran out.
+    // Over a link they are all that arrive, and all that the link loses, if no answer says that memory ran out.
     ensures drill_link { (number : ℕ) → IsLinkDrill words.now number → EndsLinkDrill number
         O.told (O.trace site) (O.trace result.site) (Rose (O.faults site) (O.faults result.site)) result.status }
 

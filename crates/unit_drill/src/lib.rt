@@ -3,8 +3,8 @@
 //! again; one line tells the counts of the answers.
 //!
 //! [`drill`] is the call, and [`drill_number`] reads the words that ask for it. Read `specs/Drilled.antt` first: what
-//! the units were handed, and what is counted of their answers. With [`drill_link`] the frames go over a link that loses,
-//! repeats and delays them (crate `link_world`); [`link_drill_number`] reads its words.
+//! the units were handed, and what is counted of their answers. With [`drill_link`] the frames go over a link that
+//! loses, repeats and delays them (crate `link_world`); [`link_drill_number`] reads its words.
 #![tactic(auto)]
 
 mod chunk;
