@@ -1,5 +1,5 @@
--- A bare plan reads as the plan without keys and associations: for `bare_plan_reads`.
-use Rattle.std.proofs.Common.{◌≡◌, ◌≢◌, ℕ, ◌+◌, ◌≤◌, Bool, true, false, List, [], ◌∷◌, ◌++◌, length, Option, Some, None, Result, Ok, Err, refl, sym, ap, ◌∙◌, subst, arith, ◌⊎◌, inl, inr, length-append}
+-- A bare plan that is short reads as the plan without keys and associations: for `bare_plan_reads`.
+use Rattle.std.proofs.Common.{◌≡◌, ◌≢◌, ℕ, ◌+◌, ◌≤◌, Bool, true, false, List, [], ◌∷◌, ◌++◌, length, Option, Some, None, Result, Ok, Err, refl, sym, ap, ◌∙◌, subst, arith, ◌⊎◌, inl, inr}
 use Rattle.std.specs.Prelude.{◌==◌, nat_lt, nat_le, if◌then◌else◌, not, ◌||◌, codes, filter}
 use Rattle.std.specs.List.{flat_map, onto_first, AllByRecursion}
 use Rattle.std.specs.Str.{bytes_eq}
@@ -65,17 +65,6 @@ lines_room (x ∷ xs) = elim (cases_eq x 10) [
   | inr other ↦ rw (ne_eqb x 10 other) (let more = onto_room x (length xs) (lines_of xs) (lines_room xs) in grind arith)
 ]
 
-kept_room : (p : List ℕ → Bool) (lines : List (List ℕ)) → length (flat_map ended (filter p lines)) ≤ length (flat_map ended lines)
-kept_room p [] = omega arith
-kept_room p (line ∷ lines) = kept (p line) (kept_room p lines) where
-  kept : (b : Bool) → length (flat_map ended (filter p lines)) ≤ length (flat_map ended lines)
-      → length (flat_map ended (if b then line ∷ filter p lines else filter p lines)) ≤ length (flat_map ended (line ∷ lines))
-  kept true fewer = omega (arith, fewer, length-append (ended line) (flat_map ended (filter p lines)), length-append (ended line) (flat_map ended lines))
-  kept false fewer = omega (arith, fewer, length-append (ended line) (flat_map ended lines))
-
-pub bare_plan_is_short : (text : List ℕ) → length (bare_of text) ≤ length text + 1
-bare_plan_is_short text = omega (arith, kept_room is_bare (lines_of text), lines_room text)
-
 -- ---- what a line says does not look at keys and associations, nor at its number
 
 abbrev Same : {A : Type 0} → Result A PlanFault → Result A PlanFault → Type 0
@@ -96,7 +85,7 @@ require_same : {A : Type 0} (n m : ℕ) (cause : PlanCause) (o : Option A) → S
 require_same n m cause None = λ a e. absurd cc
 require_same n m cause (Some x) = λ a e. e
 
-check_same : (n m : ℕ) (cause : PlanCause) (b : Bool) → Same (check n cause b) (check m cause b)
+pub check_same : (n m : ℕ) (cause : PlanCause) (b : Bool) → Same (check n cause b) (check m cause b)
 check_same n m cause true = λ a e. e
 check_same n m cause false = λ a e. absurd cc
 
@@ -165,7 +154,7 @@ channel_bares n m plan words =
 
 -- ---- the line of a key or an association leaves the rest of a plan
 
-abbrev Keeps : PlanLines → Result PlanLines PlanFault → Type 0
+abbrev pub Keeps : PlanLines → Result PlanLines PlanFault → Type 0
 Keeps plan r = (next : PlanLines) → r ≡ Ok next → without_rows next ≡ without_rows plan
 
 bind_keeps : {A : Type 0} (plan : PlanLines) (r : Result A PlanFault) (f : A → Result PlanLines PlanFault) → ((a : A) → Keeps plan (f a)) → Keeps plan (r >>= f)
@@ -202,7 +191,7 @@ is_word word text = told (bytes_eq word text) (bytes_eq-Decides word text).0 whe
   told true is = inl (is refl)
   told false is = inr refl
 
-taken_keeps : (n : ℕ) (plan : PlanLines) (words : List (List ℕ)) → names_rows words ≡ true → Keeps plan (taken n plan words)
+pub taken_keeps : (n : ℕ) (plan : PlanLines) (words : List (List ℕ)) → names_rows words ≡ true → Keeps plan (taken n plan words)
 unfolding taken
 taken_keeps n plan [] named = absurd cc
 taken_keeps n plan (word ∷ words) named = elim (is_word word (codes "key")) [
@@ -290,13 +279,13 @@ leads : (lines : List (List ℕ)) → Leads lines
 leads [] = λ n m plan. bind_bares _ _ _ _ (check_same n m Order (plan.heads == 5)) (λ whole. ok_bares plan _ refl)
 leads (line ∷ lines) = leads_on line lines (is_skipped line) (names_rows (words_of line)) refl refl (leads lines)
 
-not_long : (b : Bool) (r : Result PlanLines PlanFault) (plan : PlanLines) → (if b then fault 1 Long else r) ≡ Ok plan → r ≡ Ok plan
+pub not_long : (b : Bool) (r : Result PlanLines PlanFault) (plan : PlanLines) → (if b then fault 1 Long else r) ≡ Ok plan → r ≡ Ok plan
 not_long true r plan e = absurd cc
 not_long false r plan e = e
 
-pub bare_plan_reads : (text : List ℕ) (plan : PlanLines) → plan_of text ≡ Ok plan → length (bare_of text) ≤ 65536
+pub reads_if_short : (text : List ℕ) (plan : PlanLines) → plan_of text ≡ Ok plan → length (bare_of text) ≤ 65536
     → plan_of (bare_of text) ≡ Ok (without_rows plan)
-bare_plan_reads text plan is short =
+reads_if_short text plan is short =
     let lines = filter is_bare (lines_of text) in
     let read : lines_of (bare_of text) ≡ lines = lines_read lines (kept_are is_bare (lines_of text) (lines_are text)) in
     let all = not_long (nat_lt 65536 (length text)) (after 1 no_lines (lines_of text)) plan is in

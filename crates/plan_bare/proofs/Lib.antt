@@ -1,1 +1,3 @@
 mod BareReading
+mod WordCosts
+mod BareRoom
