@@ -1,5 +1,8 @@
-//! Tables of bare plans and of contents, for `plan_bare` and `image_content`. A line of standard input is a step, and
-//! what it answers is printed; `#` and a title is printed as it is.
+//! Tables of rows, of bare plans and of contents, for `book_record`, `plan_bare` and `image_content`. A line of standard
+//! input is a step, and what it answers is printed; `#` and a title is printed as it is.
+//!
+//! `key ROW` and `sa ROW` print what is read of the row of a key or of an association, behind `same` if writing that
+//! gives the row again. A row is hexadecimal words, with zeros behind them; behind `xN` the next word stands N times.
 //!
 //! `: LINE` adds a line to a plan's text, and `new` begins an empty one. `bare` prints what the bare plan reads as, and
 //! its text with `/` for each line feed. `made` writes the content of the plan's state, and prints how many keys and
@@ -10,6 +13,7 @@
 
 mod bare;
 mod contents;
+mod rows;
 
 use case_lines::{Answers, Gathered, part_of, print_answers, said, set_part_of};
 use std::alloc::Global;
@@ -41,6 +45,8 @@ impl Bank {
     /// What a step answers that changes nothing.
     fn told(&self, alloc: Global, step: &str, rest: &str) -> anyhow::Result<String> {
         match step {
+            "key" => rows::key(alloc, rest),
+            "sa" => rows::association(alloc, rest),
             "bare" => bare::answer(alloc, self.text.as_str()),
             "at" => part_of(alloc, &self.content, rest),
             "read" => contents::read(alloc, &self.content),

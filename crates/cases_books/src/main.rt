@@ -13,7 +13,6 @@
 //!
 //! `record BODY` prints what is read of the body of a record, and whether the record of that is the body again. A body
 //! is hexadecimal words, with zeros where no word stands; `@510` before a word says the place where it stands.
-//! `key ROW` and `sa ROW` do the same for the row of a key and of an association.
 #![tactic(auto)]
 
 mod association_steps;
@@ -22,7 +21,6 @@ mod key_steps;
 mod keys;
 mod plans;
 mod records;
-mod rows;
 mod text;
 
 use association_steps::AssociationTable;
@@ -58,8 +56,6 @@ impl Table {
     fn read(&self, alloc: Global, word: &str, rest: &str) -> Option<anyhow::Result<String>> {
         match word {
             "record" => Some(records::answer(alloc, rest)),
-            "key" => Some(rows::key(alloc, rest)),
-            "sa" => Some(rows::association(alloc, rest)),
             _ => plans::answer(alloc, &self.text, word, rest),
         }
     }

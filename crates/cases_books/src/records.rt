@@ -21,13 +21,13 @@ fn octets(alloc: Global, text: &str) -> anyhow::Result<Vec<u8>> {
     Ok(octets)
 }
 
-/// The octets of a line, with zeros behind them up to so many.
-pub fn padded<const N: usize>(alloc: Global, text: &str) -> anyhow::Result<[u8; N]> {
+/// The body of a line.
+fn body(alloc: Global, text: &str) -> anyhow::Result<[u8; BODY_LENGTH]> {
     let mut octets = octets(alloc, text)?;
-    octets.resize(N, 0)?;
-    let mut padded = [0; N];
-    padded.copy_from_slice(&octets);
-    Ok(padded)
+    octets.resize(BODY_LENGTH, 0)?;
+    let mut body = [0; BODY_LENGTH];
+    body.copy_from_slice(&octets);
+    Ok(body)
 }
 
 /// What is read of a body, and a word for whether the record of that is the body again.
@@ -50,7 +50,7 @@ fn change_text(alloc: Global, change: &Change, again: &str) -> anyhow::Result<St
 
 /// What a body answers.
 pub fn answer(alloc: Global, text: &str) -> anyhow::Result<String> {
-    let body = padded(alloc, text)?;
+    let body = body(alloc, text)?;
     match read_again(alloc, &body) {
         Ok((change, again)) => change_text(alloc, &change, again),
         Err(error) => Ok(format!(in alloc; "{error}")?),

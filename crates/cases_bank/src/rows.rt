@@ -1,12 +1,20 @@
 // Rows of keys and associations, read and written again.
-use crate::records::padded;
 use book_record::{
     KEY_ROW_LENGTH, KeyParts, SA_ROW_LENGTH, SaParts, read_key_row, read_sa_row, write_key_row,
     write_sa_row,
 };
-use case_lines::{direction_name, key_state_name, sa_state_name, suite_name};
+use case_lines::{direction_name, key_state_name, octets, sa_state_name, suite_name};
 use sdls_base::KeyId;
 use std::alloc::Global;
+
+/// The octets of a line, with zeros behind them up to those of a row.
+fn row<const N: usize>(alloc: Global, text: &str) -> anyhow::Result<[u8; N]> {
+    let mut octets = octets(alloc, &mut text.split_whitespace())?;
+    octets.resize(N, 0)?;
+    let mut row = [0; N];
+    row.copy_from_slice(&octets);
+    Ok(row)
+}
 
 /// A word for whether a row is what was read.
 fn again(same: bool) -> &'static str {
@@ -26,7 +34,7 @@ fn key_text(alloc: Global, parts: &KeyParts, again: &str) -> anyhow::Result<Stri
 
 /// What the row of a key answers.
 pub fn key(alloc: Global, text: &str) -> anyhow::Result<String> {
-    let row: [u8; KEY_ROW_LENGTH] = padded(alloc, text)?;
+    let row: [u8; KEY_ROW_LENGTH] = row(alloc, text)?;
     match read_key_row(alloc, &row) {
         Ok(parts) => {
             let same = write_key_row(&parts.view()) == row;
@@ -56,7 +64,7 @@ fn sa_text(alloc: Global, parts: &SaParts, again: &str) -> anyhow::Result<String
 
 /// What the row of an association answers.
 pub fn association(alloc: Global, text: &str) -> anyhow::Result<String> {
-    let row: [u8; SA_ROW_LENGTH] = padded(alloc, text)?;
+    let row: [u8; SA_ROW_LENGTH] = row(alloc, text)?;
     match read_sa_row(alloc, &row) {
         Ok(parts) => {
             let same = write_sa_row(&parts.view()) == row;
