@@ -1,7 +1,7 @@
 //! Monitoring messages that are answered.
 use case_lines::said;
-use fsr_log::{Log, MONITORED};
-use record_io::Answer;
+use fsr_log::Log;
+use record_io::{Answer, code};
 use sdls_base::Octets;
 use std::alloc::Global;
 
@@ -25,7 +25,7 @@ fn answer_to(alloc: Global, log: &Log, message: &[u8]) -> anyhow::Result<String>
 /// Notes the reply, as the answer that carries it.
 fn note_reply(log: &mut Log, body: Octets) {
     let answer = Answer {
-        code: MONITORED,
+        code: code::MONITORED,
         detail: 0,
         key: 0,
         position: 0,

@@ -8,7 +8,7 @@ use Rattle.record_io.specs.declared.code.TheConstants.{ACCEPTED, REFUSED, LAYOUT
 use Rattle.record_io.specs.declared.code.TheConstants.{NO_MEMORY}
 use Rattle.fsr_log.specs.declared.events.Event.{Event}
 use Rattle.fsr_log.specs.declared.messages.TheConstants.{ERASE_LOG, ALARM_RESET}
-use Rattle.fsr_log.specs.declared.notes.TheConstants.{MONITORED}
+use Rattle.record_io.specs.declared.code.TheConstants.{MONITORED}
 use Rattle.fsr_log.specs.declared.replies.TheConstants.{REPLY}
 
 -- an answer, with the number and the kind of its record; a monitoring message has no kind

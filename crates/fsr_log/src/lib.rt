@@ -18,5 +18,4 @@ pub use log::Log;
 pub use messages::{
     ALARM_RESET, BLOCK, DUMP_LOG, ERASE_LOG, LOG_STATUS, Monitoring, PING, SELF_TEST,
 };
-pub use notes::MONITORED;
 pub use replies::{REPLY, REPORT_WORD, SELF_TEST_KEY};

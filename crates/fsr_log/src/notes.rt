@@ -9,9 +9,6 @@ use crate::replies::REPLY;
 use circular_buffer::HeapCircularBuffer;
 use record_io::{Answer, RecordKind, code};
 
-/// The code of the answer to a monitoring message: the body is the reply.
-pub const MONITORED: u8 = 0x05;
-
 /// If a code is that of a refusal, which the log keeps.
 fn is_event(code: u8) -> bool
     ensures { result ≡ is_event code }
@@ -37,7 +34,7 @@ fn is_reply(answer: &Answer, tag: u8) -> bool
     ensures { result ≡ is_reply tag answer.now }
 {
     match answer.body.as_slice() {
-        [first, ..] => answer.code == MONITORED && *first == tag,
+        [first, ..] => answer.code == code::MONITORED && *first == tag,
         [] => false,
     }
 }

@@ -20,7 +20,7 @@ use Rattle.run_promise.specs.Deed.{Deed}
 use Rattle.run_promise.specs.Sound.{deeds_octets}
 use Rattle.run_promise.specs.Life.{Given, LifeRun, IsRun, FollowFrom, IsLife, OnceInLife, AreApart, answers_begun, given_of, given_in}
 use Rattle.pair_audit.specs.Counted.{CountsAnswers, TellsAlike, TellAlike, counted_of}
-use Rattle.pair_audit.specs.Reading.{IsAnswerCode}
+use Rattle.record_io.specs.AnswerReading.{IsAnswerCode}
 use Rattle.pair_audit.specs.Recording.{RunCounts, RunsCount, ReadsRuns, recording, recording_beginning, runs_octets}
 use Rattle.pair_audit.specs.Repeats.{AreUnlike, RepeatNothing}
 use Rattle.law_audit.specs.Recorded.{IsEndSpelled, IsSpelled, SankFew, sunk_by}

@@ -8,7 +8,8 @@ use Rattle.std.proofs.lemmas.List.{length-take, length-take-le, take-append-le}
 use Rattle.std.proofs.lemmas.List.Elements.{All-head, All-tail, All-nil, All-cons}
 use Rattle.record_io.specs.declared.answers.Answer.{Answer}
 use Rattle.record_io.specs.Answers.{Cut, IsAnswer, ShowsAnswers, header_octets, header_of, answer_octets, answers_octets}
-use Rattle.pair_audit.specs.Counted.{as_answer, told_last, CountsAnswers, counted_of, TellAlike}
+use Rattle.pair_audit.specs.Counted.{told_last, CountsAnswers, counted_of, TellAlike}
+use Rattle.record_io.specs.AnswerReading.{as_answer}
 
 alike_same : (answers : List Answer) → TellAlike answers answers
 alike_same [] = tt

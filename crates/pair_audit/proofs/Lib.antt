@@ -4,7 +4,6 @@ pub mod Seen
 pub mod Feeding
 pub mod Fronts
 pub mod Repeating
-pub mod Headers
 pub mod OneRecording
 pub mod Takings
 pub mod Walking

@@ -13,7 +13,7 @@ use Rattle.pair_audit.specs.declared.audit.Repeat.{Repeat}
 use Rattle.pair_audit.specs.declared.walk.AuditEnd.{AuditEnd}
 use Rattle.pair_audit.specs.declared.walk.AuditEnd.TheVariants.{Clean, Repeated, BreaksAt}
 use Rattle.pair_audit.specs.Audit.{BothTell, acceptances_in, uses_in}
-use Rattle.pair_audit.specs.Reading.{IsAnswerCode}
+use Rattle.record_io.specs.AnswerReading.{IsAnswerCode}
 use Rattle.pair_audit.specs.Recording.{AuditSays, HasUnknown, IsMalformedAt, IsTheRepeat, LacksRun, RunCounts, RunsCount, run_octets, runs_octets}
 use Rattle.pair_audit.specs.Repeats.{AreUnlike, IsFirstRepeat, Repeats, RepeatNothing}
 use Rattle.pair_audit.proofs.Fronts.{ShownOnce}

@@ -8,8 +8,9 @@ use Rattle.std.proofs.lemmas.Nat.{from_be_bytes-to_be_bytes_2, from_be_bytes-to_
 use Rattle.sdls_base.proofs.Endings.{take_front, drop_front}
 use Rattle.record_io.specs.declared.answers.Answer.{Answer}
 use Rattle.record_io.specs.Answers.{Header, header_octets, header_of, answer_octets, answers_octets, HasWidths, IsAnswer, Cut, EndsWith}
-use Rattle.pair_audit.specs.Counted.{CountsAnswers, as_answer, told_last}
-use Rattle.pair_audit.specs.Reading.{IsAnswerCode}
+use Rattle.pair_audit.specs.Counted.{CountsAnswers, told_last}
+use Rattle.record_io.specs.AnswerReading.{as_answer}
+use Rattle.record_io.specs.AnswerReading.{IsAnswerCode}
 use Rattle.pair_audit.specs.Recording.{run_octets, runs_octets, RunCounts, RunsCount, ReadsRuns, LacksRun, HasUnknown, IsMalformedAt}
 use Rattle.pair_audit.proofs.Fronts.{ShownOnce, counted_once}
 

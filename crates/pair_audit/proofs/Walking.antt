@@ -12,8 +12,9 @@ use Rattle.record_io.specs.Answers.{Header, Cut, HasWidths, IsAnswer, IsCut, ans
 use Rattle.pair_audit.specs.declared.audit.Audit.{Audit}
 use Rattle.pair_audit.specs.declared.audit.Repeat.{Repeat}
 use Rattle.pair_audit.specs.Audit.{KnowsAudit, TellsOf, TellsRepeat}
-use Rattle.pair_audit.specs.Counted.{CountsAnswers, as_answer}
-use Rattle.pair_audit.specs.Reading.{IsAnswerCode, StandsInFront, UnknownInFront}
+use Rattle.pair_audit.specs.Counted.{CountsAnswers}
+use Rattle.record_io.specs.AnswerReading.{as_answer}
+use Rattle.record_io.specs.AnswerReading.{IsAnswerCode, StandsInFront, UnknownInFront}
 use Rattle.pair_audit.specs.Recording.{IsTheRepeat}
 use Rattle.pair_audit.specs.Repeats.{AreUnlike, RepeatNothing}
 use Rattle.pair_audit.specs.Walk.{IsOutcome, Takes, UnknownAt, Walked, earlier_of}

@@ -7,12 +7,13 @@ use Rattle.record_io.specs.declared.answers.Answer.{Answer}
 use Rattle.record_io.specs.Answers.{header_octets}
 use Rattle.pair_audit.specs.declared.audit.Audit.{Audit}
 use Rattle.pair_audit.specs.declared.audit.Repeat.{Repeat}
-use Rattle.pair_audit.specs.declared.reading.Head.{Head}
+use Rattle.record_io.specs.declared.answer_reading.AnswerHead.{AnswerHead}
 use Rattle.pair_audit.specs.declared.walk.RunEnd.{RunEnd}
 use Rattle.pair_audit.specs.declared.walk.RunEnd.TheVariants as ends
 use Rattle.pair_audit.specs.Audit.{Says}
-use Rattle.pair_audit.specs.Counted.{CountsAnswers, as_answer}
-use Rattle.pair_audit.specs.Reading.{IsAnswerCode, IsKnownHead, StandsInFront, UnknownInFront, header_said}
+use Rattle.pair_audit.specs.Counted.{CountsAnswers}
+use Rattle.record_io.specs.AnswerReading.{as_answer}
+use Rattle.record_io.specs.AnswerReading.{IsAnswerCode, IsKnownHead, StandsInFront, UnknownInFront, header_said}
 use Rattle.pair_audit.specs.Taking.{Taking}
 use Rattle.pair_audit.specs.Walk.{InRun, RunSaid, StandsWithin, Takes, UnknownAt, Walked}
 use Rattle.pair_audit.proofs.Takings.{taking_then}
@@ -21,10 +22,10 @@ use Rattle.pair_audit.proofs.Walking.{walked_end, walked_more, walked_none, walk
 -- ---- an answer
 
 -- the answer with this header and this body
-abbrev pub answer_with : Head → List ℕ → Answer
+abbrev pub answer_with : AnswerHead → List ℕ → Answer
 answer_with head body = as_answer (record { header = header_said head; front = body })
 
-pub says_head : (head : Head) (body : List ℕ) → Says head.code head.key head.number (answer_with head body)
+pub says_head : (head : AnswerHead) (body : List ℕ) → Says head.code head.key head.number (answer_with head body)
 says_head head body = record { code_is = refl; key_is = refl; number_is = refl }
 
 no_more : (rest : List ℕ) → length rest ≡ 0 → rest ≡ []
@@ -36,7 +37,7 @@ take_filled n body rest few (inl whole) = take-append-le n body rest (omega arit
 take_filled n body rest few (inr none) =
     ap (λ (l : List ℕ). take n (body ++ l)) (no_more rest none) ∙ ap (take n) (append-nil body) ∙ take_all n body few
 
-pub stands_within : (left len : ℕ) (header body : List ℕ) (head : Head) → IsKnownHead header head → length header ≡ 24 → 24 ≤ left
+pub stands_within : (left len : ℕ) (header body : List ℕ) (head : AnswerHead) → IsKnownHead header head → length header ≡ 24 → 24 ≤ left
     → length body ≡ len → len ≤ head.len → len ≤ left - 24 → (len ≡ head.len) ⊎ (len ≡ left - 24)
     → StandsWithin left (header ++ body) (answer_with head body)
 stands_within left len header body head known size enough body_size within_head within_left full = record {

@@ -3,17 +3,7 @@ use Rattle.std.specs.Prelude.{◌≡◌, ⊤, ℕ, ◌-◌, nat_lt, if◌then◌
 use Rattle.record_io.specs.declared.answers.Answer.{Answer}
 use Rattle.record_io.specs.declared.answers.TheConstants.{ANSWER_HEADER}
 use Rattle.record_io.specs.Answers.{Cut, ShowsAnswers, answer_octets}
-
--- what a cut answer tells: its header, and as much of its body as there is
-abbrev pub as_answer : Cut → Answer
-as_answer cut = record {
-  code = cut.header.code;
-  detail = cut.header.detail;
-  key = cut.header.key;
-  position = cut.header.position;
-  number = cut.header.number;
-  body = cut.front;
-}
+use Rattle.record_io.specs.AnswerReading.{as_answer}
 
 abbrev pub told_last : Option Cut → List Answer
 told_last None = []

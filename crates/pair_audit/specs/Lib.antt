@@ -4,6 +4,5 @@ pub mod Repeats
 pub mod Audit
 pub mod Taking
 pub mod Counted
-pub mod Reading
 pub mod Recording
 pub mod Walk

@@ -9,7 +9,7 @@ use Rattle.pair_audit.specs.declared.walk.AuditEnd.{AuditEnd}
 use Rattle.pair_audit.specs.declared.walk.AuditEnd.TheVariants.{Clean, Repeated, BreaksAt}
 use Rattle.pair_audit.specs.Audit.{BothTell, uses_in, acceptances_in}
 use Rattle.pair_audit.specs.Counted.{CountsAnswers}
-use Rattle.pair_audit.specs.Reading.{IsAnswerCode}
+use Rattle.record_io.specs.AnswerReading.{IsAnswerCode}
 use Rattle.pair_audit.specs.Repeats.{IsFirstRepeat, RepeatNothing}
 
 abbrev pub recording_beginning : List ℕ

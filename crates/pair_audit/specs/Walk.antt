@@ -17,7 +17,7 @@ use Rattle.pair_audit.specs.declared.walk.NextRun.{NextRun}
 use Rattle.pair_audit.specs.declared.walk.NextRun.TheVariants as nexts
 use Rattle.pair_audit.specs.Audit.{KnowsAudit}
 use Rattle.pair_audit.specs.Counted.{CountsAnswers}
-use Rattle.pair_audit.specs.Reading.{IsAnswerCode, StandsInFront, UnknownInFront}
+use Rattle.record_io.specs.AnswerReading.{IsAnswerCode, StandsInFront, UnknownInFront}
 use Rattle.pair_audit.specs.Recording.{HasUnknown, IsTheRepeat, LacksRun, RunCounts, RunsCount, recording, run_octets}
 use Rattle.pair_audit.specs.Repeats.{RepeatNothing}
 use Rattle.pair_audit.specs.Taking.{Taking}

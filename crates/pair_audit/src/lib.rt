@@ -2,15 +2,14 @@
 //! looks at answers alone, and trusts no unit.
 //!
 //! [`audit_recording`] reads a whole recording of runs from a source, in one pass. [`Audit::feed`] takes answers one
-//! after the other, from wherever a caller has them, and says of each which earlier one it repeats; [`read_answer`]
-//! reads one at the front of octets. What octets of runs count is defined in `specs`.
+//! after the other, from wherever a caller has them, and says of each which earlier one it repeats. What octets of runs
+//! count is defined in `specs`.
 #![tactic(auto)]
 
 mod audit;
 mod laws;
 mod marks;
 mod places;
-mod reading;
 mod stop;
 mod taking;
 mod walk;
@@ -20,6 +19,5 @@ pub use laws::{
     audit_says_one, first_told_is_first, fronts_count, fronts_show, none_told_repeats_nothing,
     recording_reads_once,
 };
-pub use reading::{AnswerError, MONITOR_FAULT, MONITORED, read_answer};
 pub use stop::AuditStop;
 pub use walk::{AuditEnd, audit_recording};

@@ -6,3 +6,4 @@ pub mod Placing
 pub mod Wholes
 pub mod OneReading
 pub mod OneAnswer
+pub mod AnswerHeaders

@@ -4,3 +4,4 @@ pub mod Reading
 pub mod Steps
 pub mod Answers
 pub mod Outcome
+pub mod AnswerReading

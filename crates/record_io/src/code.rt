@@ -15,6 +15,12 @@ pub const DONE: u8 = 0x03;
 /// The command is refused: the detail says why.
 pub const REFUSED: u8 = 0x04;
 
+/// A monitoring message is answered: the body is the reply. Units that keep a log write it.
+pub const MONITORED: u8 = 0x05;
+
+/// A monitoring message is malformed. Units that keep a log write it.
+pub const MONITOR_FAULT: u8 = 0x06;
+
 /// The frame breaks its layout: the detail is the fault, or 0 where there is no such link.
 pub const LAYOUT: u8 = 0x10;
 

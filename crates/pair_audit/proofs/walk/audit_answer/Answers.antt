@@ -1,6 +1,6 @@
 use Rattle.std.proofs.Common.{◌≡◌, ◌+◌, ◌-◌, ◌≤◌, ◌⊎◌, ◌++◌, length, arith, rules, length-append}
 use Rattle.pair_audit.specs.Taking.{Taking}
-use Rattle.pair_audit.specs.Reading.{IsKnownHead}
+use Rattle.record_io.specs.AnswerReading.{IsKnownHead}
 use Rattle.pair_audit.proofs.Takings.{taking_short, taking_then}
 use Rattle.pair_audit.proofs.Walking.{takes_one}
 use Rattle.pair_audit.proofs.Within.{answer_with, says_head, stands_within}

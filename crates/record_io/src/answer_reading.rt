@@ -3,25 +3,20 @@ ghost use Rattle.std.specs.Prelude.{◌≡◌, ◌<◌, ◌≤◌, ◌^◌, ◌�
 ghost use Rattle.std.specs.Prelude.{slice_index};
 ghost use Rattle.record_io.specs.Answers.{HasWidths, header_octets};
 ghost use Rattle.record_io.specs.declared.answers.TheConstants.{ANSWER_HEADER};
-ghost use Rattle.pair_audit.specs.Reading.{IsBehind, IsAnswerCode, IsKnownHead, StandsInFront, UnknownInFront};
-ghost use Rattle.pair_audit.specs.Reading.{header_said, is_answer_code};
-ghost use Rattle.pair_audit.specs.declared.reading.AnswerError.TheVariants as errors;
+ghost use Rattle.record_io.specs.AnswerReading.{IsBehind, IsAnswerCode, IsKnownHead, StandsInFront, UnknownInFront};
+ghost use Rattle.record_io.specs.AnswerReading.{header_said, is_answer_code};
+ghost use Rattle.record_io.specs.declared.answer_reading.AnswerError.TheVariants as errors;
 
-use ep_codec::{double_word_at, number_at, word_at};
-use record_io::code::{
+use crate::answers::{ANSWER_HEADER, Answer};
+use crate::code::{
     ACCEPTED, CHANNEL, CLEAR, COVERAGE, DIRECTION, DONE, END, EXHAUSTED, JOURNAL_FULL, LAYOUT, MAC,
-    NO_MEMORY, NUMBER, PROTECTED, REFUSED, SITE_FAULT, SPI, STATE, STOPPED,
+    MONITOR_FAULT, MONITORED, NO_MEMORY, NUMBER, PROTECTED, REFUSED, SITE_FAULT, SPI, STATE,
+    STOPPED,
 };
-use record_io::{ANSWER_HEADER, Answer};
+use ep_codec::{double_word_at, number_at, word_at};
 use sdls_base::Octets;
 use std::alloc::{AllocError, Global};
 use thiserror::Error;
-
-/// A monitoring message is answered: the body is the reply. Units that keep a log put it.
-pub const MONITORED: u8 = 0x05;
-
-/// A monitoring message is malformed. Units that keep a log put it.
-pub const MONITOR_FAULT: u8 = 0x06;
 
 /// The codes of answers.
 const KNOWN: [u8; 21] = [
@@ -54,17 +49,18 @@ pub enum AnswerError {
     /// A header stands there whose code is that of no answer.
     #[error("unknown code")]
     Code,
-    /// Memory was wanting.
+    /// Out of memory.
     #[error("no memory")]
     NoMemory,
 }
 
-/// What a header says.
+/// What the header of an answer says.
 #[derive(Clone, Copy)]
-pub(crate) struct Head {
+pub struct AnswerHead {
     pub code: u8,
     pub detail: u8,
     pub key: u16,
+    /// The octets of the body.
     pub len: u32,
     pub position: u64,
     pub number: u64,
@@ -77,13 +73,13 @@ fn is_code(code: u8) -> bool
     KNOWN.contains(&code)
 }
 
-fn head_of(header: &[u8]) -> Head
+fn head_of(header: &[u8]) -> AnswerHead
     requires { length header.now ≡ ANSWER_HEADER }
     ensures spelled { header.now ≡ header_octets (header_said result) }
     ensures widths { HasWidths (header_said result) }
     ensures code { result.code ≡ slice_index header.now 0 }
 {
-    Head {
+    AnswerHead {
         code: header[0],
         detail: header[1],
         key: word_at(header, 2),
@@ -94,7 +90,7 @@ fn head_of(header: &[u8]) -> Head
 }
 
 /// What a header says, or `None` if its code is that of no answer.
-pub(crate) fn known_head(header: &[u8]) -> Option<Head>
+pub fn known_head(header: &[u8]) -> Option<AnswerHead>
     requires { length header.now ≡ ANSWER_HEADER }
     ensures { MatchOption result (UnknownInFront header.now) (IsKnownHead header.now) }
 {
@@ -105,7 +101,7 @@ pub(crate) fn known_head(header: &[u8]) -> Option<Head>
 }
 
 /// Reads the answer behind whose header these octets stand, and says how many octets it has.
-fn read_body(alloc: Global, head: &Head, behind: &[u8]) -> Result<(Answer, usize), AllocError>
+fn read_body(alloc: Global, head: &AnswerHead, behind: &[u8]) -> Result<(Answer, usize), AllocError>
     requires { length behind.now < 2 ^ 63 }
     ensures { IfOk result (λ read. IsBehind (header_said head.now) behind.now read.0 read.1) }
 {

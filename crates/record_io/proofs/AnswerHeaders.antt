@@ -5,7 +5,7 @@ use Rattle.std.proofs.lemmas.List.{append-nil, drop_all}
 use Rattle.ep_codec.specs.Field.{octet_at, word_at, double_word_at, number_at}
 use Rattle.ep_codec.proofs.FieldFacts.{AreOctets, octet_field, word_field, double_word_field, number_field, word_small, double_word_small, number_small}
 use Rattle.record_io.specs.Answers.{Header, header_octets}
-use Rattle.pair_audit.specs.Reading.{IsAnswerCode, UnknownInFront}
+use Rattle.record_io.specs.AnswerReading.{IsAnswerCode, UnknownInFront}
 
 -- the octets of a header are those of its fields
 pub header_spelled : (octets : List ℕ) → AreOctets octets → length octets ≡ 24 → octets ≡ header_octets (record {

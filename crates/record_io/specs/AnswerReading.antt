@@ -6,10 +6,9 @@ use Rattle.record_io.specs.declared.answers.TheConstants.{ANSWER_HEADER}
 use Rattle.record_io.specs.declared.code.TheConstants.{PROTECTED, ACCEPTED, CLEAR, DONE, REFUSED, LAYOUT, CHANNEL, SPI}
 use Rattle.record_io.specs.declared.code.TheConstants.{DIRECTION, STATE, COVERAGE, MAC, NUMBER, EXHAUSTED, JOURNAL_FULL}
 use Rattle.record_io.specs.declared.code.TheConstants.{SITE_FAULT, STOPPED, NO_MEMORY, END}
-use Rattle.record_io.specs.Answers.{Header, HasWidths, header_octets}
-use Rattle.pair_audit.specs.declared.reading.Head.{Head}
-use Rattle.pair_audit.specs.declared.reading.TheConstants.{MONITORED, MONITOR_FAULT}
-use Rattle.pair_audit.specs.Counted.{as_answer}
+use Rattle.record_io.specs.Answers.{Cut, Header, HasWidths, header_octets}
+use Rattle.record_io.specs.declared.code.TheConstants.{MONITORED, MONITOR_FAULT}
+use Rattle.record_io.specs.declared.answer_reading.AnswerHead.{AnswerHead}
 
 abbrev pub answer_codes : List ℕ
 answer_codes = PROTECTED ∷ ACCEPTED ∷ CLEAR ∷ DONE ∷ REFUSED ∷ MONITORED ∷ MONITOR_FAULT ∷ LAYOUT ∷ CHANNEL ∷ SPI
@@ -23,7 +22,7 @@ is_answer_code code = list_any (λ known. known == code) answer_codes
 abbrev pub IsAnswerCode : ℕ → Type 0
 IsAnswerCode code = IsTrue (is_answer_code code)
 
-abbrev pub header_said : Head → Header
+abbrev pub header_said : AnswerHead → Header
 header_said head = record {
   code = head.code;
   detail = head.detail;
@@ -34,10 +33,21 @@ header_said head = record {
 }
 
 -- the octets are the header that says so, and its code is an answer's
-pub record IsKnownHead (octets : List ℕ) (head : Head) : Type 0 where
+pub record IsKnownHead (octets : List ℕ) (head : AnswerHead) : Type 0 where
   pub spelled : octets ≡ header_octets (header_said head)
   pub widths : HasWidths (header_said head)
   pub known : IsAnswerCode head.code
+
+-- what a cut answer tells: its header, and as much of its body as there is
+abbrev pub as_answer : Cut → Answer
+as_answer cut = record {
+  code = cut.header.code;
+  detail = cut.header.detail;
+  key = cut.header.key;
+  position = cut.header.position;
+  number = cut.header.number;
+  body = cut.front;
+}
 
 -- the answer with this header whose body is what stands behind, as far as that goes; it has so many octets
 pub record IsBehind (header : Header) (behind : List ℕ) (answer : Answer) (count : ℕ) : Type 0 where

@@ -1,6 +1,6 @@
 use Rattle.std.proofs.Common.{arith, rules}
-use Rattle.pair_audit.proofs.Headers.{unknown_front}
-use Rattle.pair_audit.proofs.reading.known_head.Goals as goal
+use Rattle.record_io.proofs.AnswerHeaders.{unknown_front}
+use Rattle.record_io.proofs.answer_reading.known_head.Goals as goal
 
 pub returns-then-not-is_code : goal.returns-then-not-is_code
 returns-then-not-is_code c =
