@@ -1,9 +1,9 @@
 -- A unit that was opened on a site in memory: for `DrillUnit::open`.
-use Rattle.std.proofs.Common.{◌≡◌, ℕ, true, List, length, refl, ◌∙◌, ap, subst, Ok}
+use Rattle.std.proofs.Common.{◌≡◌, ℕ, true, List, refl, ◌∙◌, ap, subst, Ok}
 use Rattle.sdls_base.specs.declared.TheConstants.{MOST_KEYS}
 use Rattle.sdls_outside.specs.Moments.{Trace}
 use Rattle.sdls_outside.specs.Crash.{fresh}
-use Rattle.unit_image.specs.Image.{held, initial_image, records, slots_of}
+use Rattle.unit_image.specs.Image.{held, initial_image, slots_of, used_of}
 use Rattle.unit_plan.specs.Plan.{plan_of}
 use Rattle.unit_plan.specs.PlanLines.{PlanLines}
 use Rattle.unit_image.specs.Shows.{Shows}
@@ -33,7 +33,7 @@ module _ {B : Type 0} (site : SiteSeen) (book : BookView) (counters : Counters B
     plan = book.plan;
     start = book.start;
     slots = slots_of (view worker).turn.known.opening.image;
-    used = length (records (view worker).turn.known.opening.image);
+    used = used_of (view worker).turn.known.opening.image;
   }
 
   pub opened_begins : MayServe counters planned worker × ((begin : Begin) × UnitIsOpened plan begin (view worker))

@@ -12,7 +12,7 @@ use Rattle.run_promise.specs.Begin.{Begin}
 use Rattle.law_workers.specs.Deeds.{deeds_of}
 use Rattle.law_workers.specs.Order.{Handled, Layout, LiesIn}
 use Rattle.law_workers.specs.Began.{BeganWith}
-use Rattle.unit_image.specs.Image.{records, slots_of, used_of}
+use Rattle.unit_image.specs.Image.{slots_of, used_of}
 use Rattle.law_workers.specs.Ends.{EndsSegment}
 use Rattle.law_drill.specs.Drilled.{HandlesSegment, tells_fault}
 use Rattle.law_drill.proofs.Tasks.{OnLane, drill_layout, drill_lies}

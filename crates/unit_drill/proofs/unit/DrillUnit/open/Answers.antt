@@ -4,4 +4,4 @@ use Rattle.unit_drill.proofs.unit.DrillUnit.open.Goals as goal
 pub returns-in-Ok : goal.returns-in-Ok
 returns-in-Ok g c =
     let made = c.in-Ok.ensures.opened in
-    opened_begins _ _ _ _ made.0 _ _ _ made.1 made.2 c.args.plan.now c.in_ok-site.ensures
+    opened_begins _ made.0 _ _ _ made.1 made.2 c.args.plan.now c.in_ok-site.ensures
