@@ -2,12 +2,9 @@
 ghost use Rattle.std.specs.Prelude.{◌≡◌, IfOk};
 ghost use Rattle.plan_text.specs.Check.{Judges, SaysFault, Tells};
 
-use crate::above::Above;
-use crate::books::refused_lines;
 use crate::mending::plan_without;
 use crate::note::{PlanNote, note_of};
-use crate::reader::Fault;
-use crate::wanted::Wanted;
+use plan_wanted::{Above, Fault, Wanted, refused_lines};
 use sdls_base::NoMemory;
 use status_text::status_text;
 use std::alloc::Global;

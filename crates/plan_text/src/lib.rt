@@ -1,17 +1,13 @@
 //! A plan checked before `sdls init` takes it (profile): each line at fault, with the word and what was expected there,
 //! or a summary of the state that the plan makes.
 //!
-//! [`check_plan`] checks a text, and [`put_plan`] what a source gives.
+//! [`check_plan`] checks a text, and [`put_plan`] what a source gives. `plan_wanted` finds what is at fault.
 #![tactic(auto)]
 
-mod above;
-mod books;
 mod check;
-mod line;
 mod mending;
 mod note;
 mod put;
-mod reader;
 mod wanted;
 
 pub use check::{Checked, check_plan};

@@ -1,7 +1,8 @@
 //! What is said of a line at fault.
 ghost use Rattle.std.specs.Prelude.{◌≡◌, IfOk};
 
-use crate::reader::Fault;
+use crate::wanted::{wanted_number, wanted_text};
+use plan_wanted::Fault;
 use sdls_base::NoMemory;
 use std::alloc::Global;
 use text_words::{put_decimal, put_octets};
@@ -112,8 +113,8 @@ pub(crate) fn note_of(
     let mut text = Vec::new(alloc);
     put_place(&mut text, octets, fault.word)?;
     put_octets(&mut text, b": expected ")?;
-    put_octets(&mut text, fault.wanted.text())?;
-    if let Some(number) = fault.wanted.number() {
+    put_octets(&mut text, wanted_text(fault.wanted))?;
+    if let Some(number) = wanted_number(fault.wanted) {
         put_decimal(&mut text, number)?;
     }
     Ok(PlanNote { line, text })

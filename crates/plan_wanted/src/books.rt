@@ -1,10 +1,12 @@
 //! What the books of keys and associations refuse, line by line.
-ghost use Rattle.std.specs.Prelude.{length, All};
+ghost use Rattle.std.specs.Prelude.{length, All, IfOk, OnOk};
 ghost use Rattle.sdls_base.specs.Bounds.{IsKeyLength};
+ghost use Rattle.unit_plan.specs.PlanLines.{PlanLines};
 ghost use Rattle.unit_plan.specs.PlanRules.{IsAssociation};
+ghost use Rattle.plan_wanted.specs.Wanted.{IsLineOf};
 
 use crate::reader::Fault;
-use crate::wanted::Wanted;
+use crate::wanted::{Refused, Wanted};
 use key_book::{KeyBook, KeyRefusal};
 use sa_book::{SaBook, SaRefusal};
 use sdls_base::{Change, ChannelList, Direction, KeyList, KeyState, NoMemory, SaState, Spi, Suite};
@@ -19,39 +21,39 @@ fn other(word: u32) -> Fault {
     }
 }
 
+fn refused(word: u32, refused: Refused) -> Fault {
+    Fault {
+        word,
+        wanted: Wanted::Refused(refused),
+    }
+}
+
 fn key_fault(refusal: KeyRefusal) -> Fault {
     match refusal {
-        KeyRefusal::DuplicateKey(key) => Fault {
-            word: 4,
-            wanted: Wanted::OtherOctets(u64::from(key.get())),
-        },
-        KeyRefusal::BookFull => Fault {
-            word: 1,
-            wanted: Wanted::KeyRoom,
-        },
+        KeyRefusal::DuplicateKey(key) => refused(4, Refused::OtherOctets(u64::from(key.get()))),
+        KeyRefusal::BookFull => refused(1, Refused::KeyRoom),
         _ => other(1),
     }
 }
 
-fn suite_key(suite: Suite) -> Wanted {
+fn suite_key(suite: Suite) -> Refused {
     match suite {
-        Suite::Cmac => Wanted::CmacKey,
-        Suite::Gcm => Wanted::GcmKey,
+        Suite::Cmac => Refused::CmacKey,
+        Suite::Gcm => Refused::GcmKey,
     }
 }
 
 fn association_fault(suite: Suite, refusal: SaRefusal) -> Fault {
-    let (word, wanted) = match refusal {
-        SaRefusal::TableFull => (1, Wanted::AssociationRoom),
-        SaRefusal::WrongSuite => (5, suite_key(suite)),
-        SaRefusal::KeyNotActive(_) => (5, Wanted::ActiveKey),
-        SaRefusal::KeyTaken(spi) => (5, Wanted::FreeKey(u64::from(spi.get()))),
-        SaRefusal::PastEnd(end) => (6, Wanted::NumberBelow(end)),
-        SaRefusal::BelowFloor(least) => (6, Wanted::NumberFrom(least)),
-        SaRefusal::ChannelTaken(spi) => (8, Wanted::FreeChannels(u64::from(spi.get()))),
-        _ => (1, Wanted::Other),
-    };
-    Fault { word, wanted }
+    match refusal {
+        SaRefusal::TableFull => refused(1, Refused::AssociationRoom),
+        SaRefusal::WrongSuite => refused(5, suite_key(suite)),
+        SaRefusal::KeyNotActive(_) => refused(5, Refused::ActiveKey),
+        SaRefusal::KeyTaken(spi) => refused(5, Refused::FreeKey(u64::from(spi.get()))),
+        SaRefusal::PastEnd(end) => refused(6, Refused::NumberBelow(end)),
+        SaRefusal::BelowFloor(least) => refused(6, Refused::NumberFrom(least)),
+        SaRefusal::ChannelTaken(spi) => refused(8, Refused::FreeChannels(u64::from(spi.get()))),
+        _ => other(1),
+    }
 }
 
 fn bare(alloc: Global, plan: &Plan) -> Result<State, NoMemory> {
@@ -150,46 +152,56 @@ fn take_association(state: &mut State, found: &PlanSa) -> Result<Option<Fault>, 
     Ok(None)
 }
 
-/// Takes the keys whose lines lie between two, and adds what is refused.
+/// Adds what is refused of a line, if anything is.
+fn add_refused(
+    faults: &mut Vec<(u32, Fault)>,
+    line: u32,
+    refused: Option<Fault>,
+) -> Result<(), NoMemory>
+    ensures { (plan : PlanLines) → IsLineOf plan line → All (λ fault. IsLineOf plan fault.0) faults.old.items
+        → OnOk result (All (λ fault. IsLineOf plan fault.0) faults.new.items) }
+{
+    if let Some(fault) = refused {
+        faults.push((line, fault))?;
+    }
+    Ok(())
+}
+
+/// Takes the keys of a plan whose lines lie between two, and adds what is refused.
 fn take_keys(
     alloc: Global,
     state: &mut State,
-    keys: &[PlanKey],
+    plan: &Plan,
     above: u32,
     below: u32,
     faults: &mut Vec<(u32, Fault)>,
 ) -> Result<(), NoMemory>
-    requires { All (λ key. IsKeyLength (length key.item.bytes)) keys.now }
+    ensures { All (λ fault. IsLineOf plan.now fault.0) faults.old.items
+        → OnOk result (All (λ fault. IsLineOf plan.now fault.0) faults.new.items) }
 {
-    for key in keys {
-        if above < key.line && key.line < below {
-            if let Some(fault) = take_key(alloc, &mut state.keys, key)? {
-                faults.push((key.line, fault))?;
-            }
+    for key in plan.keys() {
+        if key.line <= above || below <= key.line {
+            continue;
         }
+        let refused = take_key(alloc, &mut state.keys, key)?;
+        add_refused(faults, key.line, refused)?;
     }
     Ok(())
 }
 
 /// What the books refuse of a plan: each line, and the word at fault.
-pub(crate) fn refused_lines(alloc: Global, plan: &Plan) -> Result<Vec<(u32, Fault)>, NoMemory> {
+pub fn refused_lines(alloc: Global, plan: &Plan) -> Result<Vec<(u32, Fault)>, NoMemory>
+    ensures { IfOk result (λ faults. All (λ fault. IsLineOf plan.now fault.0) faults.items) }
+{
     let mut state = bare(alloc, plan)?;
     let mut faults = Vec::new(alloc);
     let mut above = 0;
     for found in plan.associations() {
-        take_keys(
-            alloc,
-            &mut state,
-            plan.keys(),
-            above,
-            found.line,
-            &mut faults,
-        )?;
-        if let Some(fault) = take_association(&mut state, found)? {
-            faults.push((found.line, fault))?;
-        }
+        take_keys(alloc, &mut state, plan, above, found.line, &mut faults)?;
+        let refused = take_association(&mut state, found)?;
+        add_refused(&mut faults, found.line, refused)?;
         above = found.line;
     }
-    take_keys(alloc, &mut state, plan.keys(), above, u32::MAX, &mut faults)?;
+    take_keys(alloc, &mut state, plan, above, u32::MAX, &mut faults)?;
     Ok(faults)
 }

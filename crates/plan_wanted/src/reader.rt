@@ -1,15 +1,15 @@
 //! The words of a line, each with its place.
 
-use crate::wanted::Wanted;
+use crate::wanted::{Spelling, Wanted};
 use sdls_base::NoMemory;
 use std::alloc::{AllocError, AllocFailed};
 use unit_plan::{Words, number_of};
 
 /// The place of a word at fault among the words of its line, from 1, and what was expected there.
 #[derive(Clone, Copy)]
-pub(crate) struct Fault {
-    pub(crate) word: u32,
-    pub(crate) wanted: Wanted,
+pub struct Fault {
+    pub word: u32,
+    pub wanted: Wanted,
 }
 
 /// Why a line was read no further.
@@ -104,7 +104,7 @@ impl<'a> Reader<'a> {
     pub(crate) fn end(&mut self) -> Result<(), Stop> {
         self.word = self.word.saturating_add(1);
         match self.words.next() {
-            Some(_) => Err(self.fault(Wanted::End)),
+            Some(_) => Err(self.fault(Wanted::Spelling(Spelling::End))),
             None => Ok(()),
         }
     }

@@ -1,8 +1,13 @@
 //! The tests of a line, from left to right: the first word at fault.
+ghost use Rattle.std.specs.Prelude.{◌≡◌, Ok, None, IsTrue};
+ghost use Rattle.unit_plan.specs.Plan.{is_skipped};
+ghost use Rattle.plan_wanted.specs.Wanted.{missing_head};
 
 use crate::above::{Above, Frames, Spot};
 use crate::reader::{Fault, Reader, Stop, are_digits, at_fault};
-use crate::wanted::Wanted;
+use crate::wanted::{
+    AssociationWord, ChannelWord, HeadWord, KeyWord, LinkWord, NamedAbove, Spelling, Wanted,
+};
 use sdls_base::{MOST_WINDOW, NoMemory};
 use std::alloc::Global;
 use unit_plan::{Words, number_of};
@@ -13,22 +18,22 @@ const MARK: [u8; 3] = [0xef, 0xbb, 0xbf];
 /// What a word is, whatever the line, or what is wrong with it.
 fn test_word(word: &[u8], place: u32, is_last: bool) -> Result<(), Stop> {
     if word.is_empty() {
-        return Err(at_fault(place, Wanted::OneSpace));
+        return Err(at_fault(place, Wanted::Spelling(Spelling::OneSpace)));
     }
     if place == 1 && word.starts_with(&MARK) {
-        return Err(at_fault(place, Wanted::NoMark));
+        return Err(at_fault(place, Wanted::Spelling(Spelling::NoMark)));
     }
     if word.contains(&b'\t') {
-        return Err(at_fault(place, Wanted::NoTab));
+        return Err(at_fault(place, Wanted::Spelling(Spelling::NoTab)));
     }
     if is_last && word.ends_with(b"\r") {
-        return Err(at_fault(place, Wanted::LineFeed));
+        return Err(at_fault(place, Wanted::Spelling(Spelling::LineFeed)));
     }
     if !word.iter().all(|octet| octet.is_ascii_graphic()) {
-        return Err(at_fault(place, Wanted::Ascii));
+        return Err(at_fault(place, Wanted::Spelling(Spelling::Ascii)));
     }
     if word.starts_with(b"#") {
-        return Err(at_fault(place, Wanted::NoComment));
+        return Err(at_fault(place, Wanted::Spelling(Spelling::NoComment)));
     }
     Ok(())
 }
@@ -96,40 +101,40 @@ fn mask(words: &mut Reader<'_>, digits: usize, wanted: Wanted) -> Result<(), Sto
 }
 
 fn tc(words: &mut Reader<'_>) -> Result<Frames, Stop> {
-    let segments = words.choice(b"seg", b"noseg", Wanted::Segments)?;
-    words.choice(b"fecf", b"nofecf", Wanted::Fecf)?;
+    let segments = words.choice(b"seg", b"noseg", Wanted::Link(LinkWord::Segments))?;
+    words.choice(b"fecf", b"nofecf", Wanted::Link(LinkWord::Fecf))?;
     if segments {
-        mask(words, 12, Wanted::LongMask)?;
+        mask(words, 12, Wanted::Link(LinkWord::LongMask))?;
         return Ok(Frames::Segments);
     }
-    mask(words, 10, Wanted::ShortMask)?;
+    mask(words, 10, Wanted::Link(LinkWord::ShortMask))?;
     Ok(Frames::Tc)
 }
 
 fn tm(words: &mut Reader<'_>) -> Result<Frames, Stop> {
-    words.number(48, 2_048, Wanted::Length)?;
-    words.choice(b"fecf", b"nofecf", Wanted::Fecf)?;
-    mask(words, 12, Wanted::LongMask)?;
+    words.number(48, 2_048, Wanted::Link(LinkWord::Length))?;
+    words.choice(b"fecf", b"nofecf", Wanted::Link(LinkWord::Fecf))?;
+    mask(words, 12, Wanted::Link(LinkWord::LongMask))?;
     Ok(Frames::Tm)
 }
 
 fn aos(words: &mut Reader<'_>) -> Result<Frames, Stop> {
-    let length = words.number(48, 2_048, Wanted::Length)?;
+    let length = words.number(48, 2_048, Wanted::Link(LinkWord::Length))?;
     let place = words.place();
-    let insert = words.number(0, 64, Wanted::Insert)?;
+    let insert = words.number(0, 64, Wanted::Link(LinkWord::Insert))?;
     let least = insert.saturating_add(48);
     if length < least {
-        return Err(at_fault(place, Wanted::LengthFrom(least)));
+        return Err(at_fault(place, Wanted::Link(LinkWord::LengthFrom(least))));
     }
-    words.choice(b"ocf", b"noocf", Wanted::Ocf)?;
-    words.choice(b"fecf", b"nofecf", Wanted::Fecf)?;
-    mask(words, 12, Wanted::LongMask)?;
+    words.choice(b"ocf", b"noocf", Wanted::Link(LinkWord::Ocf))?;
+    words.choice(b"fecf", b"nofecf", Wanted::Link(LinkWord::Fecf))?;
+    mask(words, 12, Wanted::Link(LinkWord::LongMask))?;
     Ok(Frames::Aos)
 }
 
 /// What a link's line says of its frames.
 fn read_frames(words: &mut Reader<'_>) -> Result<Frames, Stop> {
-    let kind = words.next(Wanted::Frames)?;
+    let kind = words.next(Wanted::Link(LinkWord::Frames))?;
     let frames = if kind == b"tc".as_slice() {
         tc(words)
     } else if kind == b"tm".as_slice() {
@@ -137,7 +142,7 @@ fn read_frames(words: &mut Reader<'_>) -> Result<Frames, Stop> {
     } else if kind == b"aos".as_slice() {
         aos(words)
     } else {
-        Err(words.fault(Wanted::Frames))
+        Err(words.fault(Wanted::Link(LinkWord::Frames)))
     };
     let frames = frames?;
     words.end()?;
@@ -153,21 +158,21 @@ fn no_map(words: &mut Reader<'_>, wanted: Wanted) -> Result<Option<u64>, Stop> {
 }
 
 fn any_map(words: &mut Reader<'_>) -> Result<Option<u64>, Stop> {
-    let word = words.next(Wanted::MapOrNone)?;
+    let word = words.next(Wanted::Channel(ChannelWord::MapOrNone))?;
     if word == b"-".as_slice() {
         return Ok(None);
     }
     match number_of(word) {
         Some(n) => Ok(Some(n)),
-        None => Err(words.fault(Wanted::MapOrNone)),
+        None => Err(words.fault(Wanted::Channel(ChannelWord::MapOrNone))),
     }
 }
 
 fn read_map(words: &mut Reader<'_>, frames: Frames) -> Result<Option<u64>, Stop> {
     match frames {
-        Frames::Segments => Ok(Some(words.number(0, 63, Wanted::Map)?)),
+        Frames::Segments => Ok(Some(words.number(0, 63, Wanted::Channel(ChannelWord::Map))?)),
         Frames::Unknown => any_map(words),
-        Frames::Tc | Frames::Tm | Frames::Aos => no_map(words, Wanted::NoMap),
+        Frames::Tc | Frames::Tm | Frames::Aos => no_map(words, Wanted::Channel(ChannelWord::NoMap)),
     }
 }
 
@@ -183,8 +188,16 @@ fn greatest(frames: Frames) -> (u64, u64) {
 /// What a channel's line says of the place on a link behind its number.
 fn read_spot(words: &mut Reader<'_>, link: u64, frames: Frames) -> Result<Spot, Stop> {
     let (spacecrafts, channels) = greatest(frames);
-    let spacecraft = words.number(0, spacecrafts, Wanted::Spacecraft(spacecrafts))?;
-    let channel = words.number(0, channels, Wanted::VirtualChannel(channels))?;
+    let spacecraft = words.number(
+        0,
+        spacecrafts,
+        Wanted::Channel(ChannelWord::Spacecraft(spacecrafts)),
+    )?;
+    let channel = words.number(
+        0,
+        channels,
+        Wanted::Channel(ChannelWord::VirtualChannel(channels)),
+    )?;
     let map = read_map(words, frames)?;
     words.end()?;
     Ok(Spot {
@@ -196,9 +209,9 @@ fn read_spot(words: &mut Reader<'_>, link: u64, frames: Frames) -> Result<Spot, 
 }
 
 /// What has a line above already is at fault.
-fn test_new(word: u32, wanted: Option<Wanted>) -> Result<(), Stop> {
-    match wanted {
-        Some(wanted) => Err(at_fault(word, wanted)),
+fn test_new(word: u32, known: Option<NamedAbove>) -> Result<(), Stop> {
+    match known {
+        Some(known) => Err(at_fault(word, Wanted::NamedAbove(known))),
         None => Ok(()),
     }
 }
@@ -207,19 +220,19 @@ fn test_new(word: u32, wanted: Option<Wanted>) -> Result<(), Stop> {
 fn test_head(words: &mut Reader<'_>, head: u8) -> Result<(), Stop> {
     match head {
         0 => {
-            words.number(1, 1, Wanted::Version)?;
+            words.number(1, 1, Wanted::HeadWord(HeadWord::Version))?;
         }
         1 => {
-            let word = words.next(Wanted::Device)?;
+            let word = words.next(Wanted::HeadWord(HeadWord::Device))?;
             if !are_digits(word, 8) {
-                return Err(words.fault(Wanted::Device));
+                return Err(words.fault(Wanted::HeadWord(HeadWord::Device)));
             }
         }
         2 => {
-            words.number(16, 65_536, Wanted::Slots)?;
+            words.number(16, 65_536, Wanted::HeadWord(HeadWord::Slots))?;
         }
         _ => {
-            words.number(1, 65_536, Wanted::Count)?;
+            words.number(1, 65_536, Wanted::HeadWord(HeadWord::Count))?;
         }
     }
     words.end()
@@ -250,7 +263,7 @@ impl Above {
     }
 
     fn test_link(&mut self, line: u32, words: &mut Reader<'_>) -> Result<(), Stop> {
-        let link = words.number(0, 15, Wanted::Link)?;
+        let link = words.number(0, 15, Wanted::Link(LinkWord::Number))?;
         let known = self.links.note(link, line)?;
         let read = read_frames(words);
         if known.is_none() {
@@ -261,32 +274,32 @@ impl Above {
             self.note_frames(link, frames)?;
         }
         read?;
-        test_new(2, known.map(Wanted::NewLink))
+        test_new(2, known.map(NamedAbove::NewLink))
     }
 
     fn test_channel(&mut self, line: u32, words: &mut Reader<'_>) -> Result<(), Stop> {
-        let channel = words.number(0, 63, Wanted::Channel)?;
+        let channel = words.number(0, 63, Wanted::Channel(ChannelWord::Number))?;
         let known = self.channels.note(channel, line)?;
-        let link = words.number(0, 15, Wanted::Link)?;
+        let link = words.number(0, 15, Wanted::Link(LinkWord::Number))?;
         let Some(frames) = self.frames_of(link) else {
-            return Err(at_fault(3, Wanted::KnownLink));
+            return Err(at_fault(3, Wanted::NamedAbove(NamedAbove::KnownLink)));
         };
         let spot = read_spot(words, link, frames)?;
         let taken = self.note_spot(spot, line)?;
-        test_new(2, known.map(Wanted::NewChannel))?;
-        test_new(3, taken.map(Wanted::NewPlace))
+        test_new(2, known.map(NamedAbove::NewChannel))?;
+        test_new(3, taken.map(NamedAbove::NewPlace))
     }
 
     fn test_key(&mut self, line: u32, words: &mut Reader<'_>) -> Result<(), Stop> {
-        let key = words.number(1, 65_535, Wanted::Key)?;
+        let key = words.number(1, 65_535, Wanted::Key(KeyWord::Number))?;
         let known = self.keys.note(key, line)?;
-        words.choice(b"preactive", b"active", Wanted::KeyState)?;
-        let word = words.next(Wanted::KeyDigits)?;
+        words.choice(b"preactive", b"active", Wanted::Key(KeyWord::State))?;
+        let word = words.next(Wanted::Key(KeyWord::Digits))?;
         if !are_digits(word, 32) && !are_digits(word, 64) {
-            return Err(words.fault(Wanted::KeyDigits));
+            return Err(words.fault(Wanted::Key(KeyWord::Digits)));
         }
         words.end()?;
-        test_new(2, known.map(Wanted::NewKey))
+        test_new(2, known.map(NamedAbove::NewKey))
     }
 
     /// Tests the channels of a list, whose commas became spaces.
@@ -295,14 +308,14 @@ impl Above {
         let mut count: u32 = 0;
         for item in Words::of(list) {
             let Some(n) = number_of(item) else {
-                return Err(at_fault(word, Wanted::Channels));
+                return Err(at_fault(word, Wanted::Association(AssociationWord::Channels)));
             };
             count = count.saturating_add(1);
             if n < least || n > 63 || count > 8 {
-                return Err(at_fault(word, Wanted::Channels));
+                return Err(at_fault(word, Wanted::Association(AssociationWord::Channels)));
             }
             if self.channels.line_of(n).is_none() {
-                return Err(at_fault(word, Wanted::KnownChannel(n)));
+                return Err(at_fault(word, Wanted::NamedAbove(NamedAbove::KnownChannel(n))));
             }
             least = n.saturating_add(1);
         }
@@ -310,7 +323,7 @@ impl Above {
     }
 
     fn test_channels(&self, alloc: Global, words: &mut Reader<'_>) -> Result<(), Stop> {
-        let word = words.next(Wanted::Channels)?;
+        let word = words.next(Wanted::Association(AssociationWord::Channels))?;
         let mut list = Vec::new(alloc);
         for octet in word {
             list.push(if *octet == b',' { b' ' } else { *octet })?;
@@ -324,19 +337,23 @@ impl Above {
         line: u32,
         words: &mut Reader<'_>,
     ) -> Result<(), Stop> {
-        let spi = words.number(1, 65_534, Wanted::Spi)?;
+        let spi = words.number(1, 65_534, Wanted::Association(AssociationWord::Spi))?;
         let known = self.associations.note(spi, line)?;
-        words.choice(b"send", b"receive", Wanted::Direction)?;
-        words.choice(b"cmac", b"gcm", Wanted::Suite)?;
-        let key = words.number(1, 65_535, Wanted::Key)?;
+        words.choice(
+            b"send",
+            b"receive",
+            Wanted::Association(AssociationWord::Direction),
+        )?;
+        words.choice(b"cmac", b"gcm", Wanted::Association(AssociationWord::Suite))?;
+        let key = words.number(1, 65_535, Wanted::Key(KeyWord::Number))?;
         if self.keys.line_of(key).is_none() {
-            return Err(at_fault(5, Wanted::KnownKey));
+            return Err(at_fault(5, Wanted::NamedAbove(NamedAbove::KnownKey)));
         }
-        words.number(0, 1 << 48, Wanted::Number)?;
-        words.number(1, MOST_WINDOW, Wanted::Window)?;
+        words.number(0, 1 << 48, Wanted::Association(AssociationWord::Number))?;
+        words.number(1, MOST_WINDOW, Wanted::Association(AssociationWord::Window))?;
         self.test_channels(alloc, words)?;
         words.end()?;
-        test_new(2, known.map(Wanted::NewSpi))
+        test_new(2, known.map(NamedAbove::NewSpi))
     }
 
     fn test_later_kind(
@@ -401,13 +418,15 @@ impl Above {
         self.test_later_kind(alloc, line, kind, &mut words)
     }
 
-    /// The first word of a line that is at fault. An empty line and a comment have none.
-    pub(crate) fn fault_of(
+    /// The first word of a line that is at fault. An empty line and a comment have none, and change nothing.
+    pub fn fault_of(
         &mut self,
         alloc: Global,
         line: u32,
         text: &[u8],
-    ) -> Result<Option<Fault>, NoMemory> {
+    ) -> Result<Option<Fault>, NoMemory>
+        ensures skipped { IsTrue (is_skipped text.now) → (result ≡ Ok None) × (self.new ≡ self.old) }
+    {
         if text.is_empty() || text[0] == b'#' {
             return Ok(None);
         }
@@ -419,7 +438,9 @@ impl Above {
     }
 
     /// Which of the first five lines is missing at the end.
-    pub(crate) fn missing_head(&self) -> Option<Fault> {
+    pub fn missing_head(&self) -> Option<Fault>
+        ensures { result ≡ missing_head self.now.heads }
+    {
         if self.heads >= 5 {
             return None;
         }

@@ -1,6 +1,8 @@
 //! What the lines above a line name, those at fault too: a line that names a link of a line at fault is not at fault
 //! for that.
 
+ghost use Rattle.std.specs.Prelude.{◌≡◌};
+
 use crate::reader::Stop;
 use std::alloc::Global;
 
@@ -60,9 +62,9 @@ impl Named {
 
 /// What the lines above name.
 #[derive(Drop)]
-pub(crate) struct Above {
+pub struct Above {
     /// How many of the first five lines there are, or were missed.
-    pub(crate) heads: u8,
+    pub heads: u8,
     pub(crate) links: Named,
     frames: Vec<(u64, Frames)>,
     pub(crate) channels: Named,
@@ -72,7 +74,10 @@ pub(crate) struct Above {
 }
 
 impl Above {
-    pub(crate) fn new(alloc: Global) -> Above {
+    /// Before the first line.
+    pub fn new(alloc: Global) -> Above
+        ensures { result.heads ≡ 0 }
+    {
         Above {
             heads: 0,
             links: Named::new(alloc),
