@@ -1,0 +1,9 @@
+pub mod Banks
+pub mod Image
+pub mod Fault
+pub mod Forms
+pub mod Changes
+pub mod Journal
+pub mod Rest
+pub mod Initial
+pub mod Verdict

@@ -1,0 +1,37 @@
+//! The journal of records over two banks in an image file, which a crash at any moment leaves with what it held before
+//! the call, or with what the call makes of it (profile). No unit has such an image yet.
+//!
+//! An image has a header, a plan's text and two banks. A bank is a gate, a generation, a content and slots; a slot is a
+//! gate octet and a body. The open bank is the current one, or of two open ones the one of the later generation; the
+//! records are the bodies of its slots before the first closed one. [`create`] writes an image without records,
+//! [`Journal::open`] checks one and writes nothing, and [`Journal::settle`] brings it to rest. [`Journal::append`] adds
+//! a record, and [`Journal::turn`] writes another content into the other bank, in place of the content and the records.
+//! No call takes memory.
+#![tactic(auto)]
+
+mod choosing;
+mod creating;
+mod fault;
+mod gates;
+mod header;
+mod journal;
+mod laws;
+mod layout;
+mod opening_image;
+mod settling;
+mod storing;
+mod turning;
+
+pub use creating::create;
+pub use disk_journal::{
+    CLOSED, FIELD_LENGTH, HEADER_LENGTH, LEAST_SLOTS, MAGIC_AT, MOST_SLOTS, OPEN, PLAN_AT,
+    PLAN_LENGTH_AT, PLAN_ROOM, SLOT_COUNT_AT, SLOT_LENGTH, ZEROS_AT,
+};
+pub use fault::JournalFault;
+pub use journal::Journal;
+pub use laws::{initial_image_opens, opening_stays, rest_is_whole};
+pub use layout::{
+    BANKS_AT, Bank, CONTENT_AT, CONTENT_LENGTH, FIRST_GENERATION, GENERATION_AT, GENERATION_LENGTH,
+    Layout, MAGIC,
+};
+pub use sdls_base::BODY_LENGTH;
