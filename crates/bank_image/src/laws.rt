@@ -1,0 +1,49 @@
+// Laws of images: each function is a statement about the definitions, and does nothing.
+ghost use Rattle.std.specs.Prelude.{◌≡◌, ℕ, List};
+ghost use Rattle.sdls_base.specs.declared.change.Change.{Change};
+ghost use Rattle.book_record.specs.Record.{IsRecord};
+ghost use Rattle.unit_state.specs.declared.state.State.{State};
+ghost use Rattle.unit_state.specs.Applied.{applied};
+ghost use Rattle.unit_state.specs.Restart.{restarted};
+ghost use Rattle.unit_state.specs.Laws.{StoresWell};
+ghost use Rattle.image_content.specs.Reading.{IsContent};
+ghost use Rattle.bank_journal.specs.Image.{Held, grown, turned};
+ghost use Rattle.bank_image.specs.Shows.{Says, Shows, ShowsNone};
+
+use book_record::one_change;
+use image_content::one_state;
+use unit_state::restarts_once;
+
+/// Law: an image shows at most one state.
+pub fn shows_one()
+    ensures { (image : List ℕ) (one other : State) → Shows image one → Shows image other → one ≡ other }
+{
+    one_change();
+    one_state();
+}
+
+/// Law: an image that shows a state is refused with no offset, and no image with two.
+pub fn refused_with_one()
+    ensures none { (image : List ℕ) (state : State) (offset : ℕ) → Shows image state → ¬ ShowsNone image offset }
+    ensures one { (image : List ℕ) (one other : ℕ) → ShowsNone image one → ShowsNone image other → one ≡ other }
+{
+    one_change();
+    one_state();
+}
+
+/// Law: what is held says a state; with the record of what is stored for a change, it says the state after that change.
+pub fn says_grown()
+    ensures { (what : Held) (state : State) (change stored : Change) (body : List ℕ) → Says what (restarted state)
+        → StoresWell state change stored → IsRecord stored body
+        → Says (grown body what) (restarted (applied state change)) }
+{}
+
+/// Law: what is held says a state; with the content of the state after a change in place of content and records, it says
+/// that state.
+pub fn says_turned()
+    ensures { (what : Held) (state : State) (change : Change) (content : List ℕ) → Says what (restarted state)
+        → IsContent (restarted (applied state change)) content
+        → Says (turned content what) (restarted (applied state change)) }
+{
+    restarts_once();
+}
