@@ -1,8 +1,10 @@
--- States that serve alike bind frames alike, for the law `binding_stays`.
-use Rattle.std.proofs.Common.{◌≡◌, ℕ, Bool, List, [], ◌∷◌, Option, Some, None, refl, ap, ◌∙◌}
+-- States that serve alike bind frames alike, for the laws `binding_stays` and `opener_stays`.
+use Rattle.std.proofs.Common.{◌≡◌, ℕ, Bool, nat_eq, List, [], ◌∷◌, map, Option, Some, None, refl, sym, ap, ◌∙◌}
 use Rattle.std.specs.Prelude.{is_none, unwrap_or, Ok, Err}
+use Rattle.std.specs.List.{find}
 use Rattle.std.specs.Option.{option_map, option_map_or, option_and_then}
 use Rattle.std.proofs.lemmas.Option.{same_Some}
+use Rattle.sdls_base.proofs.Searches.{find-map}
 use Rattle.sdls_base.specs.FirstFailing.{first_failing}
 use Rattle.sdls_base.specs.declared.link.Link.{Link}
 use Rattle.sdls_base.specs.declared.states.Suite.{Suite}
@@ -11,13 +13,16 @@ use Rattle.sa_book.specs.declared.sa_row.SaRow.{SaRow}
 use Rattle.sa_book.specs.SaBook.{sender_on}
 use Rattle.unit_plan.specs.PlanLines.{PlanLines, link_of}
 use Rattle.unit_state.specs.declared.state.State.{State}
-use Rattle.unit_state.specs.State.{key_row}
-use Rattle.unit_state.specs.Restart.{still_key, still_association}
+use Rattle.unit_state.specs.State.{association_row, key_row}
+use Rattle.unit_state.specs.Restart.{still, still_key, still_association}
 use Rattle.unit_state.specs.Laws.{ServeAlike}
 use Rattle.frame_shield.specs.declared.binding.Binding.{Binding}
 use Rattle.frame_shield.specs.declared.protecting_frames.ShieldFault.TheVariants.{Layout, Channel, State as NoSender}
 use Rattle.frame_checks.specs.Binding.{binding_of}
 use Rattle.frame_checks.specs.Header.{lacks_header, is_clear, channel_of}
+use Rattle.frame_checks.specs.declared.trying.Opener.{Opener}
+use Rattle.frame_checks.specs.OpeningFrames.{association_checks}
+use Rattle.frame_checks.specs.Trying.{IsOpener}
 use Rattle.frame_checks.specs.ProtectingFrames.{Answer, sender_of, answer_on, protect_check}
 
 abbrev made : PlanLines → Link → ℕ → Suite → ℕ → KeyRow → Binding
@@ -84,3 +89,41 @@ pub checks_alike : (plan : PlanLines) (one other : State) (link : ℕ) (clear : 
     → protect_check plan one link clear ≡ protect_check plan other link clear
 checks_alike plan one other link clear alike =
     on_links (link_of plan.links link) (answer_on plan one link clear) (answer_on plan other link clear) (Err (Layout 0)) (λ line. answers plan one other link clear line alike)
+
+-- ---- what frames are opened under
+
+find_still : {X : Type 0} (p : X → Bool) (g : X → X) (xs : List X) → ((x : X) → p (g x) ≡ p x) → option_map g (find p xs) ≡ find p (map g xs)
+find_still p g xs same = sym (find-map p g xs same)
+
+rows_alike : (one other : State) (spi : ℕ) → still one ≡ still other
+    → option_map still_association (association_row one spi) ≡ option_map still_association (association_row other spi)
+rows_alike one other spi e =
+    find_still (λ (row : SaRow). nat_eq row.spi spi) still_association one.associations (λ _. refl)
+    ∙ ap (λ (s : State). find (λ (row : SaRow). nat_eq row.spi spi) s.associations) e
+    ∙ sym (find_still (λ (row : SaRow). nat_eq row.spi spi) still_association other.associations (λ _. refl))
+
+-- a row that differs in its highest number alone
+pub record HasLike (o : Option SaRow) (row : SaRow) : Type 0 where
+  pub like : SaRow
+  pub there : o ≡ Some like
+  pub still : still_association row ≡ still_association like
+
+like_in : (o : Option SaRow) (row : SaRow) → option_map still_association (Some row) ≡ option_map still_association o → HasLike o row
+like_in None row e = absurd (cc)
+like_in (Some like) row e = record { like = like; there = refl; still = same_Some (still_association row) (still_association like) e }
+
+pub opener_stays : (plan : PlanLines) (one other : State) (opener : Opener) → ServeAlike one other → still one ≡ still other
+    → IsOpener plan one opener → IsOpener plan other opener
+opener_stays plan one other opener alike same is =
+    let spi = opener.binding.spi in
+    let line = opener.binding.link in
+    let o = like_in (association_row other spi) is.row (ap (option_map still_association) (sym is.there) ∙ rows_alike one other spi same) in
+    record {
+      line = is.line;
+      binding = is.binding;
+      row = o.like;
+      there = o.there;
+      passes = ap (λ (row : SaRow). first_failing (association_checks row opener.channel)) (sym o.still) ∙ is.passes;
+      bound = sym (bound_alike plan one other line o.like.spi o.like.suite o.like.key alike)
+          ∙ ap (λ (row : SaRow). bound plan one line row.spi row.suite row.key) (sym o.still) ∙ is.bound;
+    }

@@ -106,3 +106,8 @@ bound_by plan state line row (Some key) b own e = bound_held plan state line row
 
 pub bound_to : (plan : PlanLines) (state : State) (line : Link) (row : SaRow) (b : Binding) → binding_of plan state line row ≡ Some b → IsBoundTo state line row b
 bound_to plan state line row b e = bound_by plan state line row row.key b refl e
+
+-- the link of a binding is the one that it was made for
+pub bound_link : (plan : PlanLines) (state : State) (line : Link) (row : SaRow) (b : Binding) → binding_of plan state line row ≡ Some b
+    → binding_of plan state b.link row ≡ Some b
+bound_link plan state line row b e = ap (λ (l : Link). binding_of plan state l row) (bound_to plan state line row b e).link ∙ e

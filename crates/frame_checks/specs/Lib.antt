@@ -4,3 +4,4 @@ pub mod Binding
 pub mod Header
 pub mod OpeningFrames
 pub mod ProtectingFrames
+pub mod Trying

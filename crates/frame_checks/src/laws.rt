@@ -8,6 +8,8 @@ ghost use Rattle.frame_checks.specs.declared.open_reply.OpenReply.{OpenReply};
 ghost use Rattle.frame_checks.specs.Accepting.{MayBeAccepted, OnAccepted};
 ghost use Rattle.frame_checks.specs.OpeningFrames.{IsOpenReply};
 ghost use Rattle.frame_checks.specs.ProtectingFrames.{protect_check};
+ghost use Rattle.frame_checks.specs.declared.trying.Opener.{Opener};
+ghost use Rattle.frame_checks.specs.Trying.{IsOpener};
 
 use unit_state::serve_alike;
 
@@ -15,6 +17,14 @@ use unit_state::serve_alike;
 pub fn binding_stays()
     ensures { (plan : PlanLines) (one other : State) (link : ℕ) (clear : List ℕ) → still one ≡ still other
         → protect_check plan one link clear ≡ protect_check plan other link clear }
+{
+    serve_alike();
+}
+
+/// Law: and what opens frames in the one opens them in the other.
+pub fn opener_stays()
+    ensures { (plan : PlanLines) (one other : State) (opener : Opener) → still one ≡ still other
+        → IsOpener plan one opener → IsOpener plan other opener }
 {
     serve_alike();
 }

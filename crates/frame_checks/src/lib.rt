@@ -5,6 +5,9 @@
 //! those of them for which the plan is enough. `open_frame` makes those of a frame that was received, in their order,
 //! and opens it in place. Neither changes the state: what an acceptance leaves is the caller's to make and to store. No
 //! call takes memory.
+//!
+//! `try_frame` makes what of this no other frame can change, under what `opener_of` found: the checks for which the plan
+//! is enough, the MAC, and the cipher. `open_tried` judges the number afterwards, in the state as it stands then.
 #![tactic(auto)]
 
 mod header;
@@ -12,8 +15,10 @@ mod laws;
 mod open_reply;
 mod opening_frames;
 mod protecting_frames;
+mod trying;
 
-pub use laws::{accepted_may_be, binding_stays};
+pub use laws::{accepted_may_be, binding_stays, opener_stays};
 pub use open_reply::OpenReply;
 pub use opening_frames::open_frame;
 pub use protecting_frames::{binding, channel};
+pub use trying::{Opener, open_tried, opener_of, try_frame};

@@ -1,4 +1,4 @@
-ghost use Rattle.std.specs.Prelude.{◌≡◌, ◌≤◌, length, take, Some, IfOk, IfErr, IfSome};
+ghost use Rattle.std.specs.Prelude.{◌≡◌, ◌≤◌, List, ℕ, length, take, Some, IfOk, IfErr, IfSome};
 ghost use Rattle.std.specs.Int.{w16, to_be_bytes};
 ghost use Rattle.std.specs.Option.{option_map};
 ghost use Rattle.sdls_base.specs.FirstFailing.{first_failing};
@@ -9,7 +9,8 @@ ghost use Rattle.unit_state.specs.State.{KeepsRules};
 ghost use Rattle.frame_checks.specs.Accepting.{LeavesOctets, MayBeAccepted, OnAccepted, field_in};
 ghost use Rattle.frame_checks.specs.Addressed.{IsAddressed, IsRefusedBefore};
 ghost use Rattle.frame_checks.specs.OpeningFrames.{IsJudged, IsOpenReply, IsReplyOn, association_checks};
-ghost use Rattle.frame_checks.specs.OpeningFrames.{association_in};
+ghost use Rattle.frame_checks.specs.OpeningFrames.{association_in, index_in};
+ghost use Rattle.frame_checks.specs.Trying.{IsUnshielded};
 
 use crate::header::{channel_of, is_clear, room_of};
 use crate::open_reply::OpenReply;
@@ -24,9 +25,18 @@ use unit_state::State;
 
 /// The channel that a frame is of, and the association that it names.
 #[derive(Clone, Copy)]
-struct Addressed<'a> {
-    channel: ChannelId,
-    row: &'a SaRow,
+pub(crate) struct Addressed<'a> {
+    pub(crate) channel: ChannelId,
+    pub(crate) row: &'a SaRow,
+}
+
+/// The security parameter index at the front of a room, where that is not reserved.
+pub(crate) fn index_in(room: &[u8]) -> Option<Spi>
+    requires { 2 ≤ length room.now }
+    ensures named { result ≡ index_in room.now }
+    ensures index { IfSome result (λ spi. to_be_bytes w16 spi ≡ take 2 room.now) }
+{
+    Spi::new(read_spi(room)?)
 }
 
 /// The association that a room names.
@@ -35,7 +45,7 @@ fn association_in<'a>(state: &'a State, room: &[u8]) -> Option<&'a SaRow>
     ensures named { option_map (λ row. row.now) result ≡ association_in state.now room.now }
     ensures index { IfSome result (λ row. to_be_bytes w16 row.now.spi ≡ take 2 room.now) }
 {
-    let spi = Spi::new(read_spi(room)?)?;
+    let spi = index_in(room)?;
     match state.associations.status(spi) {
         Ok(row) => Some(row),
         Err(_) => None,
@@ -43,7 +53,7 @@ fn association_in<'a>(state: &'a State, room: &[u8]) -> Option<&'a SaRow>
 }
 
 /// Makes the checks before those of the association.
-fn address<'a>(
+pub(crate) fn address<'a>(
     plan: &Plan,
     state: &'a State,
     link: u8,
@@ -75,7 +85,7 @@ fn address<'a>(
 }
 
 /// The first of the checks of an association, for a frame of the channel, that fails.
-fn refusal_of(row: &SaRow, channel: ChannelId) -> Option<OpenReply>
+pub(crate) fn refusal_of(row: &SaRow, channel: ChannelId) -> Option<OpenReply>
     ensures { result ≡ first_failing (association_checks row.now channel) }
 {
     if row.direction != Direction::Receive {
@@ -90,15 +100,14 @@ fn refusal_of(row: &SaRow, channel: ChannelId) -> Option<OpenReply>
     None
 }
 
-/// Opens a frame where its MAC is right, and then judges its number.
-fn judge(row: &SaRow, binding: &Binding, frame: &mut [u8]) -> OpenReply
-    requires binding { IsBinding binding.now }
-    requires frame { CarriesIndex binding.now frame.old }
-    ensures judged { IsJudged row.now binding.now frame.old result (field_in result frame.new) }
-    ensures octets { LeavesOctets result frame.old frame.new }
+/// The reply to a frame that was opened under the binding, or whose MAC is wrong: its number is judged last.
+pub(crate) fn judge_number(row: &SaRow, binding: &Binding, opened: Opened) -> OpenReply
+    ensures judged { (old new : List ℕ) → IsUnshielded binding.now old new opened
+        → IsJudged row.now binding.now old result (field_in result new) }
+    ensures octets { (old new : List ℕ) → IsUnshielded binding.now old new opened → LeavesOctets result old new }
 {
     let (spi, key) = (binding.spi, binding.key);
-    match unshield(binding, frame) {
+    match opened {
         Opened::BadMac => OpenReply::Mac,
         Opened::Field { number, from, to } => match row.window.judge(number, key.end()) {
             Verdict::Fresh => OpenReply::Accepted {
@@ -116,6 +125,17 @@ fn judge(row: &SaRow, binding: &Binding, frame: &mut [u8]) -> OpenReply
             },
         },
     }
+}
+
+/// Opens a frame where its MAC is right, and then judges its number.
+fn judge(row: &SaRow, binding: &Binding, frame: &mut [u8]) -> OpenReply
+    requires binding { IsBinding binding.now }
+    requires frame { CarriesIndex binding.now frame.old }
+    ensures judged { IsJudged row.now binding.now frame.old result (field_in result frame.new) }
+    ensures octets { LeavesOctets result frame.old frame.new }
+{
+    let opened = unshield(binding, frame);
+    judge_number(row, binding, opened)
 }
 
 /// Makes the checks from those of the association on.

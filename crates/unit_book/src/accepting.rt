@@ -7,15 +7,17 @@ ghost use Rattle.unit_state.specs.Restart.{IsLight};
 ghost use Rattle.unit_state.specs.Laws.{IsNoMarks};
 ghost use Rattle.frame_checks.specs.Accepting.{field_in, LeavesOctets, MayBeAccepted, OnAccepted};
 ghost use Rattle.unit_book.specs.Marks.{KeepsMarks};
-ghost use Rattle.unit_book.specs.Book.{IsKept};
+ghost use Rattle.unit_book.specs.Book.{CanEnter, IsKept, IsUnstored, Made};
 ghost use Rattle.unit_book.specs.GoesOn.{GoesOn, IsCalm, TellsRise};
-ghost use Rattle.run_promise.specs.Entries.{raised_floor, frame_change};
+ghost use Rattle.frame_checks.specs.Trying.{IsOpener, IsTried};
+ghost use Rattle.run_promise.specs.Entries.{raised_floor, frame_change, frame_entry};
 ghost use Rattle.unit_book.specs.Records.{OpensWithEntry, RefusesFrame};
 
 use crate::book::Book;
 use crate::fault::BookFault;
 use crate::next::Next;
-use frame_checks::{OpenReply, open_frame};
+use frame_checks::{OpenReply, Opener, open_frame, open_tried};
+use frame_shield::Opened;
 use sdls_base::{Change, Entry, KeyId, Seen};
 use sdls_outside::Site;
 
@@ -60,6 +62,34 @@ impl<O: Site> Book<O> {
         }
     }
 
+    /// Makes the entry of a frame, and its change with it. Answers the reply and its position.
+    fn enter_frame(&mut self, index: u64, reply: OpenReply) -> Result<(OpenReply, u64), BookFault>
+        requires kept { IsKept O.told self.old }
+        requires can { CanEnter self.old }
+        requires accepted { OnAccepted reply (MayBeAccepted self.old.state) }
+        ensures kept { IsKept O.told self.new }
+        ensures made { MatchResult result
+            (λ answer. (answer.0 ≡ reply)
+            × Made (frame_entry self.old.plan self.old.state index reply) self.old self.new answer.1)
+            (IsUnstored (frame_entry self.old.plan self.old.state index reply) self.old self.new) }
+        ensures goes_on { GoesOn self.old self.new }
+        ensures marks { KeepsMarks self.old.state self.new.state }
+        ensures risen { IfErr result (TellsRise self.new) }
+        ensures puts { self.new.site.put_faults ≡ self.old.site.put_faults }
+        ensures later { self.old.site.faults ≤ self.new.site.faults }
+        ensures calm { IsCalm self.old self.new }
+    {
+        let entry = Entry {
+            index: Some(index),
+            seen: Seen::Nothing,
+            change: self.frame_change(&reply),
+        };
+        match self.commit(entry, Next::Here) {
+            Ok(position) => Ok((reply, position)),
+            Err(fault) => Err(fault),
+        }
+    }
+
     /// Handles the record with this number, whose frame came on this link: makes the checks of opening in their order,
     /// and where none fails, accepts the number and opens the frame in place (CCSDS 355.0-B-2, ProcessSecurity).
     /// Answers the reply and its position. A floor that rises is stored before the answer. Takes no memory.
@@ -87,14 +117,39 @@ impl<O: Site> Book<O> {
     {
         self.may_enter()?;
         let reply = open_frame(&self.plan, &self.state, link, frame);
-        let entry = Entry {
-            index: Some(index),
-            seen: Seen::Nothing,
-            change: self.frame_change(&reply),
-        };
-        match self.commit(entry, Next::Here) {
-            Ok(position) => Ok((reply, position)),
-            Err(fault) => Err(fault),
-        }
+        self.enter_frame(index, reply)
+    }
+
+    /// Handles the record with this number, whose frame was tried under an opener of the book's state
+    /// ([`try_frame`](frame_checks::try_frame)): judges its number, and where that is fresh, accepts it. Answers and
+    /// stores as [`accept`](Book::accept) does for the frame's octets as they came. Takes no memory.
+    pub fn accept_tried(
+        &mut self,
+        index: u64,
+        opener: &Opener,
+        link: u8,
+        octets: &[u8],
+        frame: &[u8],
+        opened: Opened,
+    ) -> Result<(OpenReply, u64), BookFault>
+        requires kept { IsKept O.told self.old }
+        requires opener { IsOpener self.old.plan self.old.state opener.now }
+        requires tried { IsTried self.old.plan opener.now link octets.now frame.now opened }
+        ensures kept { IsKept O.told self.new }
+        ensures made { MatchResult result
+            (λ answer. OpensWithEntry index link octets.now (field_in answer.0 frame.now) self.old self.new
+            answer.0 answer.1
+            × LeavesOctets answer.0 octets.now frame.now)
+            (RefusesFrame index link octets.now self.old self.new) }
+        ensures goes_on { GoesOn self.old self.new }
+        ensures marks { KeepsMarks self.old.state self.new.state }
+        ensures risen { IfErr result (TellsRise self.new) }
+        ensures puts { self.new.site.put_faults ≡ self.old.site.put_faults }
+        ensures later { self.old.site.faults ≤ self.new.site.faults }
+        ensures calm { IsCalm self.old self.new }
+    {
+        self.may_enter()?;
+        let reply = open_tried(&self.plan, &self.state, opener, link, octets, frame, opened);
+        self.enter_frame(index, reply)
     }
 }

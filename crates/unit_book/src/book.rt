@@ -89,6 +89,13 @@ impl<O: Site> Book<O> {
         self.entries.len() as u64
     }
 
+    /// How many of them stand: all but a last one whose append failed.
+    pub fn standing(&self) -> u64
+        ensures { result ≡ self.entry.now.standing }
+    {
+        self.standing
+    }
+
     /// How many entries count for the epoch, a failed last one left out.
     pub fn changes(&self) -> u64
         ensures { result ≡ self.entry.now.changes }

@@ -6,4 +6,4 @@ use Rattle.frame_checks.proofs.opening_frames.association_in.Goals as goal
 pub returns-in-Ok-clause-index : goal.returns-in-Ok-clause-index
 returns-in-Ok-clause-index c =
     let same = row_index c.args.state.now c.in_ok-spi.spi c.in-Ok.row.now c.in-Ok.ensures.row in
-    ap (to_be_bytes w16) (same ∙ c.in_ok-spi.ensures.1) ∙ c.in_ok-read_spi.ensures.found
+    ap (to_be_bytes w16) same ∙ c.in_ok-spi.ensures.index

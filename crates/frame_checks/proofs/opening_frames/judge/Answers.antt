@@ -1,5 +1,13 @@
-use Rattle.std.proofs.Common.{refl}
 use Rattle.frame_checks.proofs.opening_frames.judge.Goals as goal
 
-pub returns-in-BadMac-clause-judged : goal.returns-in-BadMac-clause-judged
-returns-in-BadMac-clause-judged c = λ number opened opens. c.in-BadMac.ensures.bad_mac.0 refl number opened opens
+pub returns-clause-judged : goal.returns-clause-judged
+returns-clause-judged c =
+    let e = c.unshield-opened.ensures in
+    c.judge_number.ensures.judged c.args.frame.now c.unshield-opened.new.frame
+    (record { field = e.field; bad_mac = λ bad. e.bad_mac.0 bad; unchanged = λ bad. e.unchanged bad })
+
+pub returns-clause-octets : goal.returns-clause-octets
+returns-clause-octets c =
+    let e = c.unshield-opened.ensures in
+    c.judge_number.ensures.octets c.args.frame.now c.unshield-opened.new.frame
+    (record { field = e.field; bad_mac = λ bad. e.bad_mac.0 bad; unchanged = λ bad. e.unchanged bad })

@@ -1,5 +1,5 @@
 use Rattle.unit_book.proofs.MarksKept.{no_marks_kept}
-use Rattle.unit_book.proofs.book.Book.accept.Goals as goal
+use Rattle.unit_book.proofs.book.Book.enter_frame.Goals as goal
 
 pub commit-requires-clause-marks : goal.commit-requires-clause-marks
 commit-requires-clause-marks g c = λ not.
