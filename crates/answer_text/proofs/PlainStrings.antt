@@ -1,5 +1,5 @@
 -- The strings of a line in JSON need no escape, for the law of that.
-use Rattle.std.proofs.Common.{◌≡◌, ℕ, zero, suc, ◌<◌, ◌/◌, ◌%◌, ◌==◌, ◌∷◌, [], ◌++◌, List, Option, Some, None, Bool, true, false, IsTrue, if◌then◌else◌, slice_index, refl, sym, ap, ◌∙◌, arith, All, inl, inr}
+use Rattle.std.proofs.Common.{◌≡◌, ℕ, zero, suc, ◌<◌, ◌/◌, ◌%◌, ◌==◌, ◌∷◌, [], ◌++◌, List, Option, Some, None, Bool, true, false, IsTrue, if◌then◌else◌, slice_index, drop, length, refl, sym, ap, ◌∙◌, arith, All, inl, inr}
 use Rattle.std.proofs.lemmas.Bool.{cases_lt}
 use Rattle.std.specs.Prelude.{◌&&◌, IsSomeAnd, MatchOption, codes}
 use Rattle.std.proofs.lemmas.List.Elements.{All-head, All-tail}
@@ -17,14 +17,19 @@ use Rattle.ep_codec.specs.declared.reply_pdu.ReplyPdu.{ReplyPdu}
 use Rattle.ep_codec.specs.declared.reply_pdu.ReplyPdu.TheVariants as replies
 use Rattle.record_io.specs.declared.answers.Answer.{Answer}
 use Rattle.answer_text.specs.declared.codes.Code.{Code}
-use Rattle.answer_text.specs.declared.codes.Code.TheVariants.{Protected, Accepted, Clear, Done, Refused, Layout, Channel, Spi, Direction, State, Coverage, Mac, Number, Exhausted, JournalFull, SiteFault, Stopped, NoMemory, End}
-use Rattle.answer_text.specs.Code.{code_word, word_of, layout_details, state_details, refusal_details, end_numbers}
-use Rattle.answer_text.specs.Part.{Part}
+use Rattle.answer_text.specs.declared.codes.Code.TheVariants.{Protected, Accepted, Clear, Done, Refused, Monitored, MonitorFault, Layout, Channel, Spi, Direction, State, Coverage, Mac, Number, Exhausted, JournalFull, SiteFault, Stopped, NoMemory, End}
+use Rattle.answer_text.specs.Code.{code_at, code_word, word_of, layout_details, state_details, refusal_details, end_numbers}
+use Rattle.answer_text.specs.Part.{Part, word_of_code}
 use Rattle.answer_text.specs.Part.Part.{named, number, word}
 use Rattle.answer_text.specs.Reply.{reply_name, reply_values}
-use Rattle.answer_text.specs.Line.{HasValues, done_parts, drawn, numbered, window_parts}
+use Rattle.answer_text.specs.declared.monitor.MonitorReply.{MonitorReply}
+use Rattle.answer_text.specs.declared.monitor.MonitorReply.TheVariants as monitoring
+use Rattle.answer_text.specs.declared.monitor.TheConstants.{EVENT}
+use Rattle.ep_codec.specs.Field.{octet_at}
+use Rattle.answer_text.specs.Monitor.{monitor_reply}
+use Rattle.answer_text.specs.Line.{HasValues, done_parts, drawn, monitored_parts, numbered, window_parts}
 use Rattle.answer_text.proofs.ValueParts.{values_more}
-use Rattle.answer_text.specs.Plain.{are_plain_parts, are_plain_rows, is_plain_octet, is_plain_part, is_plain_text}
+use Rattle.answer_text.specs.Plain.{are_plain_events, are_plain_parts, are_plain_rows, is_plain_octet, is_plain_part, is_plain_text}
 
 both : (a b : Bool) → a ≡ true → b ≡ true → (a && b) ≡ true
 both a b left right = rw (left, right) refl
@@ -35,6 +40,8 @@ plain_code Accepted = refl
 plain_code Clear = refl
 plain_code Done = refl
 plain_code Refused = refl
+plain_code Monitored = refl
+plain_code MonitorFault = refl
 plain_code Layout = refl
 plain_code Channel = refl
 plain_code Spi = refl
@@ -142,6 +149,26 @@ plain_done answer reply =
     plain_append (drawn answer) (reply_values reply) (plain_drawn_if (answer.key == 0) answer.key answer.number) (plain_reply_values reply) in
     plain_append (reply_name reply) (named (codes "entry") answer.position ∷ behind) (plain_reply_name reply) is_behind
 
+plain_event_word : (code : Option Code) → is_plain_text (word_of_code code) ≡ true
+plain_event_word None = refl
+plain_event_word (Some code) = plain_code code
+
+plain_events : (count : ℕ) (carried : List ℕ) → are_plain_events count carried ≡ true
+plain_events zero carried = refl
+plain_events (suc count) carried =
+    both (is_plain_text (word_of_code (code_at (octet_at 8 carried)))) (are_plain_events count (drop 18 carried))
+    (plain_event_word (code_at (octet_at 8 carried))) (plain_events count (drop 18 carried))
+
+plain_monitored : (answer : Answer) (reply : MonitorReply) → are_plain_parts (monitored_parts answer reply) ≡ true
+plain_monitored answer monitoring.Ping = refl
+plain_monitored answer monitoring.LogStatus = refl
+plain_monitored answer monitoring.DumpLog =
+    let carried = drop 3 answer.body in
+    both (are_plain_events (length carried / EVENT) carried) true (plain_events (length carried / EVENT) carried) refl
+plain_monitored answer monitoring.EraseLog = refl
+plain_monitored answer monitoring.SelfTest = refl
+plain_monitored answer monitoring.AlarmReset = refl
+
 plain_window : (body : List ℕ) → are_plain_parts (window_parts body) ≡ true
 unfolding window_parts
 plain_window body = refl
@@ -179,6 +206,10 @@ match_plain (row ∷ table) octet A B P Q plain none more has =
     match_step (row.0 == octet) row.1 (word_of table octet) A B P Q (more row.1 (and_left (is_plain_text row.1) (are_plain_words table) plain))
     (match_plain table octet A B P Q (and_right (is_plain_text row.1) (are_plain_words table) plain) none more) has
 
+every_plain : {X : Type 0} (o : Option X) (P Q : X → Type 0) → ((x : X) → Q x) → IsSomeAnd o P → IsSomeAnd o (λ x. P x × Q x)
+every_plain None P Q all has = has
+every_plain (Some x) P Q all has = (has, all x)
+
 with_plain : (code : Code) (answer : Answer) (P : List Part → Type 0) → HasValues code answer P
     → HasValues code answer (λ values. P values × IsTrue (are_plain_parts values))
 unfolding HasValues
@@ -192,6 +223,12 @@ with_plain Refused answer P has =
       some_plain refusal_details answer.detail (λ refusal. P (parts refusal))
           (λ refusal. P (parts refusal) × (are_plain_parts (parts refusal) ≡ true)) refl (λ refusal plain is. (is, rw plain refl)) has.1,
     )
+with_plain Monitored answer P has = (
+  has.0,
+  every_plain (monitor_reply answer.body) (λ reply. P (monitored_parts answer reply))
+      (λ reply. are_plain_parts (monitored_parts answer reply) ≡ true) (plain_monitored answer) has.1,
+)
+with_plain MonitorFault answer P has = (has.0, (has.1, refl))
 with_plain Layout answer P has =
     let parts : List ℕ → List Part = λ fault. word (codes "fault") fault ∷ named (codes "position") answer.position ∷ [] in (
       has.0,
@@ -228,7 +265,7 @@ with_plain End answer P has =
           (λ is. (is.0, (is.1, refl))) (λ name plain is. (is, rw plain refl)) has.2,
     )
 
-some_fact : (o : Option (List ℕ)) (C : Type 0) → IsSomeAnd o (λ _. C) → C
+some_fact : {X : Type 0} (o : Option X) (C : Type 0) → IsSomeAnd o (λ _. C) → C
 some_fact None C has = absurd has
 some_fact (Some x) C has = has
 
@@ -244,6 +281,8 @@ fact_of Accepted answer C has = has.1
 fact_of Clear answer C has = has.1
 fact_of Done answer C has = has.2.2
 fact_of Refused answer C has = some_fact (word_of refusal_details answer.detail) C has.1
+fact_of Monitored answer C has = some_fact (monitor_reply answer.body) C has.1
+fact_of MonitorFault answer C has = has.1
 fact_of Layout answer C has = some_fact (word_of layout_details answer.detail) C has.2
 fact_of Channel answer C has = has.1
 fact_of Spi answer C has = has.1

@@ -3,14 +3,15 @@ use Rattle.std.proofs.Common.{◌≡◌, ◌∷◌, [], ◌++◌, ℕ, List, Opt
 use Rattle.std.specs.Prelude.{IsSomeAnd, MatchOption, codes}
 use Rattle.record_io.specs.declared.answers.Answer.{Answer}
 use Rattle.answer_text.specs.declared.codes.Code.{Code}
-use Rattle.answer_text.specs.declared.codes.Code.TheVariants.{Protected, Accepted, Clear, Done, Refused, Layout, Channel, Spi, Direction, State, Coverage, Mac, Number, Exhausted, JournalFull, SiteFault, Stopped, NoMemory, End}
+use Rattle.answer_text.specs.declared.codes.Code.TheVariants.{Protected, Accepted, Clear, Done, Refused, Monitored, MonitorFault, Layout, Channel, Spi, Direction, State, Coverage, Mac, Number, Exhausted, JournalFull, SiteFault, Stopped, NoMemory, End}
 use Rattle.answer_text.specs.declared.error.TextError.{TextError}
 use Rattle.answer_text.specs.declared.error.TextError.TheVariants as errors
 use Rattle.answer_text.specs.declared.form.Form.{Form}
 use Rattle.answer_text.specs.Part.{Part}
 use Rattle.answer_text.specs.Part.Part.{named, number, word}
 use Rattle.answer_text.specs.Code.{code_at, word_of, layout_details, state_details, refusal_details, end_numbers}
-use Rattle.answer_text.specs.Line.{HasLine, HasValues, IsOfFormats, LacksLine, line_text}
+use Rattle.answer_text.specs.Monitor.{monitor_reply}
+use Rattle.answer_text.specs.Line.{HasLine, HasValues, IsOfFormats, LacksLine, line_text, monitored_parts}
 
 some_more : {X : Type 0} (o : Option X) (P Q : X → Type 0) → ((x : X) → P x → Q x) → IsSomeAnd o P → IsSomeAnd o Q
 some_more None P Q more has = has
@@ -35,6 +36,12 @@ values_more Refused answer P Q more has =
       some_more {X = List ℕ} (word_of refusal_details answer.detail) (λ refusal. P (parts refusal))
           (λ refusal. Q (parts refusal)) (λ refusal is. more (parts refusal) is) has.1,
     )
+values_more Monitored answer P Q more has = (
+  has.0,
+  some_more (monitor_reply answer.body) (λ reply. P (monitored_parts answer reply)) (λ reply. Q (monitored_parts answer reply))
+      (λ reply is. more (monitored_parts answer reply) is) has.1,
+)
+values_more MonitorFault answer P Q more has = (has.0, more _ has.1)
 values_more Layout answer P Q more has =
     let parts : List ℕ → List Part = λ fault. word (codes "fault") fault ∷ named (codes "position") answer.position ∷ [] in (
       has.0,

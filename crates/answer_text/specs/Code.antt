@@ -2,11 +2,13 @@
 use Rattle.std.specs.Prelude.{ℕ, ◌==◌, if◌then◌else◌, codes, List, [], ◌∷◌, Option, Some, None, find}
 use Rattle.record_io.specs.declared.code.TheConstants.{ACCEPTED, CHANNEL, CLEAR, COVERAGE, DIRECTION, DONE, END}
 use Rattle.record_io.specs.declared.code.TheConstants.{EXHAUSTED, JOURNAL_FULL, LAYOUT, MAC, NO_MEMORY, NUMBER}
+use Rattle.record_io.specs.declared.code.TheConstants.{MONITORED, MONITOR_FAULT}
 use Rattle.record_io.specs.declared.code.TheConstants.{PROTECTED, REFUSED, SITE_FAULT, SPI, STATE, STOPPED}
 use Rattle.record_io.specs.declared.status.TheConstants.{MALFORMED, NO_STATE, SOURCE_FAULT}
 use Rattle.record_io.specs.declared.status.TheConstants as statuses
 use Rattle.answer_text.specs.declared.codes.Code.{Code}
 use Rattle.answer_text.specs.declared.codes.Code.TheVariants.{Protected, Accepted, Clear, Done, Refused, Layout}
+use Rattle.answer_text.specs.declared.codes.Code.TheVariants.{Monitored, MonitorFault}
 use Rattle.answer_text.specs.declared.codes.Code.TheVariants.{Channel, Spi, Direction, State, Coverage, Mac, Number}
 use Rattle.answer_text.specs.declared.codes.Code.TheVariants.{Exhausted, JournalFull, SiteFault, Stopped, NoMemory, End}
 
@@ -16,6 +18,8 @@ code_octet Accepted = ACCEPTED
 code_octet Clear = CLEAR
 code_octet Done = DONE
 code_octet Refused = REFUSED
+code_octet Monitored = MONITORED
+code_octet MonitorFault = MONITOR_FAULT
 code_octet Layout = LAYOUT
 code_octet Channel = CHANNEL
 code_octet Spi = SPI
@@ -37,6 +41,8 @@ code_word Accepted = codes "accepted"
 code_word Clear = codes "clear"
 code_word Done = codes "done"
 code_word Refused = codes "refused"
+code_word Monitored = codes "monitored"
+code_word MonitorFault = codes "monitor-fault"
 code_word Layout = codes "layout"
 code_word Channel = codes "channel"
 code_word Spi = codes "spi"
@@ -53,8 +59,8 @@ code_word NoMemory = codes "no-memory"
 code_word End = codes "end"
 
 abbrev pub all_codes : List Code
-all_codes = Protected ∷ Accepted ∷ Clear ∷ Done ∷ Refused ∷ Layout ∷ Channel ∷ Spi ∷ Direction ∷ State ∷ Coverage ∷ Mac
-    ∷ Number ∷ Exhausted ∷ JournalFull ∷ SiteFault ∷ Stopped ∷ NoMemory ∷ End ∷ []
+all_codes = Protected ∷ Accepted ∷ Clear ∷ Done ∷ Refused ∷ Monitored ∷ MonitorFault ∷ Layout ∷ Channel ∷ Spi
+    ∷ Direction ∷ State ∷ Coverage ∷ Mac ∷ Number ∷ Exhausted ∷ JournalFull ∷ SiteFault ∷ Stopped ∷ NoMemory ∷ End ∷ []
 
 -- the code with this octet
 unfoldable pub code_at : ℕ → Option Code

@@ -1,6 +1,7 @@
-pub mod Part
 pub mod Code
+pub mod Part
 pub mod Reply
+pub mod Monitor
 pub mod Line
 pub mod Standing
 pub mod Listing

@@ -1,6 +1,6 @@
 -- Answers as text, a line an answer, as words or as a JSON object (profile).
 use Rattle.std.specs.Prelude.{◌≡◌, ⊤, ℕ, ◌≤◌, ◌==◌, if◌then◌else◌, codes, decimal, List, [], ◌∷◌, ◌++◌, length}
-use Rattle.std.specs.Prelude.{IsSomeAnd, MatchOption}
+use Rattle.std.specs.Prelude.{IsSomeAnd, MatchOption, drop}
 use Rattle.record_io.specs.declared.answers.Answer.{Answer}
 use Rattle.ep_codec.specs.declared.reply_pdu.ReplyPdu.{ReplyPdu}
 use Rattle.ep_codec.specs.ReplyPdu.{IsReplyPdu}
@@ -8,6 +8,7 @@ use Rattle.ep_codec.specs.Field.{number_at}
 use Rattle.record_io.specs.declared.status.TheConstants.{SESSION_FULL}
 use Rattle.answer_text.specs.declared.codes.Code.{Code}
 use Rattle.answer_text.specs.declared.codes.Code.TheVariants.{Protected, Accepted, Clear, Done, Refused, Layout}
+use Rattle.answer_text.specs.declared.codes.Code.TheVariants.{Monitored, MonitorFault}
 use Rattle.answer_text.specs.declared.codes.Code.TheVariants.{Channel, Spi, Direction, State, Coverage, Mac, Number}
 use Rattle.answer_text.specs.declared.codes.Code.TheVariants.{Exhausted, JournalFull, SiteFault, Stopped, NoMemory, End}
 use Rattle.answer_text.specs.declared.error.TextError.{TextError}
@@ -19,6 +20,8 @@ use Rattle.answer_text.specs.Code.{word_of}
 use Rattle.answer_text.specs.Part.{Part, member, parts_text, quoted, spaced}
 use Rattle.answer_text.specs.Part.Part.{named, number, word, octets}
 use Rattle.answer_text.specs.Reply.{reply_name, reply_values}
+use Rattle.answer_text.specs.declared.monitor.MonitorReply.{MonitorReply}
+use Rattle.answer_text.specs.Monitor.{monitor_name, monitor_reply, monitor_values}
 
 -- a number of a key, and the position by its name
 abbrev pub numbered : Answer → List ℕ → List Part
@@ -58,6 +61,17 @@ pub record IsCounting (answer : Answer) : Type 0 where
 abbrev pub counting_parts : Answer → List ℕ → List Part
 counting_parts answer name = named name answer.number ∷ named (codes "entries") answer.position ∷ []
 
+-- there is nothing but a position and a body
+pub record IsBodyAlone (answer : Answer) : Type 0 where
+  pub no_detail : answer.detail ≡ 0
+  pub no_key : answer.key ≡ 0
+  pub no_number : answer.number ≡ 0
+
+-- of a monitoring message that was answered: the message, the count of entries, and what the reply carries
+abbrev pub monitored_parts : Answer → MonitorReply → List Part
+monitored_parts answer reply = word (codes "reply") (monitor_name reply)
+    ∷ (named (codes "entries") answer.position ∷ monitor_values reply (drop 3 answer.body))
+
 -- The answer is one of this code, and P holds of the parts that its line says.
 unfoldable pub HasValues : Code → Answer → (List Part → Type 0) → Type 0
 HasValues Protected answer P =
@@ -71,6 +85,9 @@ HasValues Done answer P = (answer.detail ≡ 0) × (answer.key ≡ 0 → answer.
 HasValues Refused answer P = IsBare answer × IsSomeAnd (word_of refusal_details answer.detail)
     (λ refusal. P (word (codes "refusal") refusal ∷ number (codes "number") answer.number
     ∷ named (codes "entry") answer.position ∷ []))
+HasValues Monitored answer P = IsBodyAlone answer × IsSomeAnd (monitor_reply answer.body)
+    (λ reply. P (monitored_parts answer reply))
+HasValues MonitorFault answer P = IsCounting answer × P (counting_parts answer (codes "offset"))
 HasValues Layout answer P = IsBare answer × (answer.number ≡ 0) × IsSomeAnd (word_of layout_details answer.detail)
     (λ fault. P (word (codes "fault") fault ∷ named (codes "position") answer.position ∷ []))
 HasValues Channel answer P = IsPlain answer × P (named (codes "position") answer.position ∷ [])

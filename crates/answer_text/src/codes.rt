@@ -4,7 +4,8 @@ ghost use Rattle.answer_text.specs.Code.{code_at, code_word};
 
 use record_io::code::{
     ACCEPTED, CHANNEL, CLEAR, COVERAGE, DIRECTION, DONE, END, EXHAUSTED, JOURNAL_FULL, LAYOUT, MAC,
-    NO_MEMORY, NUMBER, PROTECTED, REFUSED, SITE_FAULT, SPI, STATE, STOPPED,
+    MONITOR_FAULT, MONITORED, NO_MEMORY, NUMBER, PROTECTED, REFUSED, SITE_FAULT, SPI, STATE,
+    STOPPED,
 };
 
 /// What an answer is.
@@ -15,6 +16,8 @@ pub(crate) enum Code {
     Clear,
     Done,
     Refused,
+    Monitored,
+    MonitorFault,
     Layout,
     Channel,
     Spi,
@@ -43,6 +46,8 @@ impl Code {
             CLEAR => Some(Code::Clear),
             DONE => Some(Code::Done),
             REFUSED => Some(Code::Refused),
+            MONITORED => Some(Code::Monitored),
+            MONITOR_FAULT => Some(Code::MonitorFault),
             LAYOUT => Some(Code::Layout),
             CHANNEL => Some(Code::Channel),
             SPI => Some(Code::Spi),
@@ -70,6 +75,8 @@ impl Code {
             Code::Clear => b"clear",
             Code::Done => b"done",
             Code::Refused => b"refused",
+            Code::Monitored => b"monitored",
+            Code::MonitorFault => b"monitor-fault",
             Code::Layout => b"layout",
             Code::Channel => b"channel",
             Code::Spi => b"spi",

@@ -11,6 +11,7 @@ mod form;
 mod laws;
 mod line;
 mod listing;
+mod monitor;
 mod putting;
 mod reading;
 mod reply;

@@ -10,8 +10,8 @@ use sdls_base::{NoMemory, Octets};
 use sdls_outside::{Failed, Source, collect};
 use std::alloc::Global;
 
-/// The most octets of an answer's body.
-pub const MOST_BODY: u32 = 2048;
+/// The most octets of an answer's body: a dump of 256 events, 18 octets each, behind the 3 octets of a reply's header.
+pub const MOST_BODY: u32 = 4611;
 
 /// What stands next in a source of answers.
 #[derive(Drop)]

@@ -1,16 +1,18 @@
 //! The values of answers, by their codes.
 #![tactic(auto, unfolding(crate::specs::Line::HasValues))]
 
-ghost use Rattle.std.specs.Prelude.{◌≡◌, ◌++◌, ◌∷◌, [], ◌↔◌, IsTrue, OnOk, IfErr, length};
+ghost use Rattle.std.specs.Prelude.{◌≡◌, ◌≤◌, ◌++◌, ◌∷◌, [], ◌↔◌, IsTrue, OnOk, IfErr, drop, length};
 ghost use Rattle.answer_text.specs.declared.codes.Code.TheVariants as codes;
 ghost use Rattle.answer_text.specs.Part.{Part, parts_text};
 ghost use Rattle.answer_text.specs.Line.{HasValues, IsBare, IsCounting, IsPlain, LacksUnlessNoMemory, LacksValues};
-ghost use Rattle.answer_text.specs.Line.{counting_parts, done_parts, drawn, numbered, window_parts};
+ghost use Rattle.answer_text.specs.Line.{counting_parts, done_parts, drawn, monitored_parts, numbered, window_parts};
+ghost use Rattle.answer_text.specs.Monitor.{has_form};
 
 use crate::codes::Code;
 use crate::details::{end_number, layout_detail, refusal_detail, state_detail};
 use crate::error::TextError;
 use crate::form::Form;
+use crate::monitor::{MonitorReply, monitor_name, monitor_reply, put_monitor_values};
 use crate::putting::{put_drawn, put_named, put_named_octets, put_number, put_word};
 use crate::reply::{put_reply_name, put_reply_values};
 use ep_codec::{PduError, ReplyPdu, number_at, read_reply};
@@ -151,6 +153,43 @@ fn refused(text: &mut Vec<u8>, form: Form, answer: &Answer) -> Result<(), TextEr
     Ok(())
 }
 
+/// Puts the message that was answered, the count of entries, and what the reply carries.
+fn put_monitored(
+    alloc: Global,
+    text: &mut Vec<u8>,
+    form: Form,
+    answer: &Answer,
+    reply: MonitorReply,
+) -> Result<(), NoMemory>
+    requires formed { IsTrue (has_form reply (drop 3 answer.now.body)) }
+    requires long { 3 ≤ length answer.now.body }
+    ensures { OnOk result (text.new.items ≡ text.old.items ++ parts_text form (monitored_parts answer.now reply)) }
+{
+    put_word(text, form, b"reply", monitor_name(reply))?;
+    put_named(text, form, b"entries", answer.position)?;
+    put_monitor_values(alloc, text, form, reply, &answer.body.as_slice()[3..])
+}
+
+fn monitored(
+    alloc: Global,
+    text: &mut Vec<u8>,
+    form: Form,
+    answer: &Answer,
+) -> Result<(), TextError>
+    ensures put { OnOk result (HasValues codes.Monitored answer.now
+        (λ values. text.new.items ≡ text.old.items ++ parts_text form values)) }
+    ensures lacks { IfErr result (LacksValues codes.Monitored answer.now) }
+{
+    if answer.detail != 0 || answer.key != 0 || answer.number != 0 {
+        return Err(TextError::NoAnswer);
+    }
+    let Some(reply) = monitor_reply(answer.body.as_slice()) else {
+        return Err(TextError::NoAnswer);
+    };
+    put_monitored(alloc, text, form, answer, reply)?;
+    Ok(())
+}
+
 fn layout(text: &mut Vec<u8>, form: Form, answer: &Answer) -> Result<(), TextError>
     ensures put { OnOk result (HasValues codes.Layout answer.now
         (λ values. text.new.items ≡ text.old.items ++ parts_text form values)) }
@@ -286,6 +325,8 @@ pub(crate) fn put_values(
         Code::Accepted => accepted(alloc, text, form, answer),
         Code::Done => done(alloc, text, form, answer),
         Code::Refused => refused(text, form, answer),
+        Code::Monitored => monitored(alloc, text, form, answer),
+        Code::MonitorFault => counting(text, form, answer, b"offset"),
         Code::Layout => layout(text, form, answer),
         Code::State => state(text, form, answer),
         Code::Number => number(text, form, answer),

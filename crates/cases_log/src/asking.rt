@@ -1,7 +1,7 @@
 //! Monitoring messages that are answered.
 use case_lines::said;
 use fsr_log::Log;
-use record_io::{Answer, code};
+use record_io::{Answer, RecordKind, code};
 use sdls_base::Octets;
 use std::alloc::Global;
 
@@ -32,7 +32,7 @@ fn note_reply(log: &mut Log, body: Octets) {
         number: 0,
         body,
     };
-    log.note(0, None, &answer);
+    log.note(0, RecordKind::Monitor, &answer);
 }
 
 /// The answer to a message, which is noted.

@@ -18,13 +18,13 @@ fn answer_of(alloc: Global, code: u8, detail: u8, key: u16, number: u64) -> Answ
     }
 }
 
-/// The next word as the kind of a record, none of a monitoring message.
-fn kind_of(words: &mut SplitWhitespace<'_>) -> Option<RecordKind> {
-    match words.next()? {
-        "protect" => Some(RecordKind::Protect),
-        "open" => Some(RecordKind::Open),
-        "command" => Some(RecordKind::Command),
-        _ => None,
+/// The next word as the kind of a record.
+fn kind_of(words: &mut SplitWhitespace<'_>) -> RecordKind {
+    match words.next().unwrap_or("") {
+        "protect" => RecordKind::Protect,
+        "open" => RecordKind::Open,
+        "command" => RecordKind::Command,
+        _ => RecordKind::Monitor,
     }
 }
 
@@ -54,6 +54,6 @@ pub fn refuse(alloc: Global, log: &mut Log, line: &str) {
     let code = code_of(&mut words);
     for index in first..end {
         let answer = answer_of(alloc, code, 0, 0, index);
-        log.note(index, Some(RecordKind::Open), &answer);
+        log.note(index, RecordKind::Open, &answer);
     }
 }

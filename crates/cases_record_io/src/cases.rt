@@ -44,6 +44,7 @@ fn word(kind: RecordKind) -> &'static str {
         RecordKind::Protect => "protect",
         RecordKind::Open => "open",
         RecordKind::Command => "command",
+        RecordKind::Monitor => "monitor",
     }
 }
 
@@ -74,7 +75,7 @@ fn push_segment(
     alloc: Global,
     text: &mut String,
     records: &[Record],
-    end: SegmentEnd,
+    end: &SegmentEnd,
 ) -> Result<(), AllocError> {
     let count = records.len();
     let shown = format!(in alloc; "{count}")?;
@@ -85,6 +86,11 @@ fn push_segment(
     }
     let shown = match end {
         SegmentEnd::More => format!(in alloc; " more, ")?,
+        SegmentEnd::Monitor(record) => {
+            text.push_str(" then")?;
+            push_record(alloc, text, Some(record))?;
+            format!(in alloc; ", ")?
+        }
         SegmentEnd::End => format!(in alloc; " end")?,
         SegmentEnd::Malformed(offset) => format!(in alloc; " malformed {offset}")?,
         SegmentEnd::SourceFault(faults) => format!(in alloc; " fault {faults}")?,
@@ -99,8 +105,8 @@ pub fn answer(alloc: Global, case: &Case, len: usize) -> anyhow::Result<String> 
     let mut text = String::new(alloc);
     for _ in 0..MOST_SEGMENTS {
         let (records, end) = reader.next_segment(alloc, &mut source)?;
-        push_segment(alloc, &mut text, &records, end)?;
-        if end != SegmentEnd::More {
+        push_segment(alloc, &mut text, &records, &end)?;
+        if !matches!(end, SegmentEnd::More | SegmentEnd::Monitor(_)) {
             break;
         }
     }

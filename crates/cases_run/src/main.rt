@@ -2,9 +2,9 @@
 //! standard input is a step; `# TITLE`, and what a command answers, is printed.
 //!
 //! `plan LINE` gathers a line of a plan, `octets HEX` some of the input. `records` begins a recorded input anew, and
-//! `protect LANE LINK HEX`, `open LANE LINK HEX`, `command LANE HEX` and `fence` gather its items. `pieces N` sets how
-//! many octets the source gives at most in a call, `source CALL..` and `failing CALL..` list the calls on source and
-//! site that are to fail, counted from 0.
+//! `protect LANE LINK HEX`, `open LANE LINK HEX`, `command LANE HEX`, `monitor LANE HEX` and `fence` gather its items.
+//! `pieces N` sets how many octets the source gives at most in a call, `source CALL..` and `failing CALL..` list the
+//! calls on source and site that are to fail, counted from 0.
 //!
 //! `init` runs with the gathered plan as input, `run`, `stat`, `check KEY` and other words with the gathered input. Of
 //! a run are told its status, the count of its entries, and each answer: code, detail, key, position, number, body; of

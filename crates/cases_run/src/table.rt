@@ -98,11 +98,12 @@ impl Table {
         let (kind, place) = match word {
             "protect" => (1, 2),
             "open" => (2, 2),
-            _ => (3, 1),
+            "command" => (3, 1),
+            _ => (4, 1),
         };
         let octets = hex::decode(alloc, word_at(rest, place))?;
         let lane = (number_at(rest, 0) % 256) as u8;
-        let link = if kind == 3 {
+        let link = if kind >= 3 {
             0
         } else {
             (number_at(rest, 1) % 256) as u8
@@ -185,7 +186,7 @@ impl Table {
             "plan" => self.plan.push(rest)?,
             "records" => self.input = Vec::from_slice(alloc, BEGINNING)?,
             "fence" => self.item(0, 0, 0, &[])?,
-            "protect" | "open" | "command" => self.record(alloc, word, rest)?,
+            "protect" | "open" | "command" | "monitor" => self.record(alloc, word, rest)?,
             "octets" => {
                 let octets = hex::decode(alloc, rest)?;
                 self.input.extend_from_slice(octets.as_slice())?;

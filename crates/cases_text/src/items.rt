@@ -16,7 +16,8 @@ fn input_of(alloc: Global, case: &str) -> anyhow::Result<SureSource> {
     Ok(SureSource::new(octets))
 }
 
-/// Puts the lines of the next segment, and answers how it ends. No case has so many records that a segment ends without
+/// Puts the lines of the next segment, and of the Monitor record that ends it, and answers how it ends: `More` if the
+/// next segment is to be read. No case has so many records that a segment ends without
 /// a fence.
 fn put_segment(
     alloc: Global,
@@ -28,10 +29,17 @@ fn put_segment(
     for record in records {
         put_record(alloc, text, record)?;
     }
-    if end == SegmentEnd::More {
-        put_fence(alloc, text)?;
+    match end {
+        SegmentEnd::More => {
+            put_fence(alloc, text)?;
+            Ok(SegmentEnd::More)
+        }
+        SegmentEnd::Monitor(record) => {
+            put_record(alloc, text, record)?;
+            Ok(SegmentEnd::More)
+        }
+        _ => Ok(end),
     }
-    Ok(end)
 }
 
 /// The lines of the items of a case, up to the end or the first octets that are none; then `/` and the offset of these

@@ -8,6 +8,7 @@ use mathlib.Core.Logic.{dite}
 use native.Mathlib.Decide.{ℕ_discrete}
 use lib.ListN.{get_elem?}
 use Rattle.atomic_table.proofs.Lists.{at_set, set_here, set_else}
+use Rattle.counter_table.specs.declared.turns.TheConstants.{EPOCH}
 use Rattle.counter_table.specs.declared.view.Known.{Known}
 use Rattle.counter_table.specs.declared.view.Turn.{Turn}
 use Rattle.sdls_outside.specs.Faults.{Rose}
@@ -102,7 +103,7 @@ module _ {B : Type 0} (told : B → Known) (count : ℕ) (words : List ℕ) (hom
   out_where n = ⊎_elim (λ h. absurd (n h.turn)) (λ k. ⊎_elim (λ h. absurd (n h.turn)) (λ o. o) k) fits.place
 
   -- another word of the turn that is not 0
-  pub again_fits : (words' : List ℕ) → 0 < get_or words' 0 0 → get_or words' 1 0 ≡ get_or words 1 0
+  pub again_fits : (words' : List ℕ) → 0 < get_or words' 0 0 → get_or words' EPOCH 0 ≡ get_or words EPOCH 0
       → ((row : ℕ) → row < count → get_or words' (limit_at row) 0 ≡ get_or words (limit_at row) 0)
       → word ≢ 0 → TurnFits told count words' homes turns book filled
   again_fits words' turn same_epoch same_limits n =
@@ -132,8 +133,8 @@ module _ {B : Type 0} (told : B → Known) (count : ℕ) (words : List ℕ) (hom
     here w = set_here turns id w (at_below turns id v at)
 
     -- a worker that knows as much as before, and that holds the turn where it did
-    pub see_fits : (words' : List ℕ) (epoch : ℕ) → get_or words' 0 0 ≡ word → get_or words' 1 0 ≡ get_or words 1 0
-        → ((row : ℕ) → row < count → get_or words' (limit_at row) 0 ≡ get_or words (limit_at row) 0) → epoch ≡ get_or words 1 0
+    pub see_fits : (words' : List ℕ) (epoch : ℕ) → get_or words' 0 0 ≡ word → get_or words' EPOCH 0 ≡ get_or words EPOCH 0
+        → ((row : ℕ) → row < count → get_or words' (limit_at row) 0 ≡ get_or words (limit_at row) 0) → epoch ≡ get_or words EPOCH 0
         → TurnFits told count words' homes (set turns id (seeing epoch v)) book filled
     see_fits words' epoch same_turn same_epoch same_limits is =
         let w = seeing epoch v in
@@ -159,7 +160,7 @@ module _ {B : Type 0} (told : B → Known) (count : ℕ) (words : List ℕ) (hom
               (let k = fits.each id v at in record { earlier = k.earlier; sparing = k.sparing; epoch = let e = fits.epoch in omega arith; opening = k.opening; blank = k.blank; made = k.made; one = k.one; other = k.other }) fits.each;
         }
 
-    pub take_fits : (words' : List ℕ) (b : B) → 0 < get_or words' 0 0 → get_or words' 1 0 ≡ get_or words 1 0
+    pub take_fits : (words' : List ℕ) (b : B) → 0 < get_or words' 0 0 → get_or words' EPOCH 0 ≡ get_or words EPOCH 0
         → ((row : ℕ) → row < count → get_or words' (limit_at row) 0 ≡ get_or words (limit_at row) 0)
         → v.filled ≡ true → IsAtHome told word homes turns book filled → told b ≡ book → homes ≡ some (Some b) ∷ []
         → TurnFits told count words' (set homes 0 slot.none) (set turns id (taking (told b) v)) book filled
@@ -196,7 +197,7 @@ module _ {B : Type 0} (told : B → Known) (count : ℕ) (words : List ℕ) (hom
               } fits.each;
         }
 
-    pub give_fits : (words' : List ℕ) (b : B) → get_or words' 0 0 ≡ 0 → get_or words' 1 0 ≡ get_or words 1 0
+    pub give_fits : (words' : List ℕ) (b : B) → get_or words' 0 0 ≡ 0 → get_or words' EPOCH 0 ≡ get_or words EPOCH 0
         → ((row : ℕ) → row < count → get_or words' (limit_at row) 0 ≡ get_or words (limit_at row) 0)
         → v.holds ≡ true → v.filled ≡ true → MayGive v.known (told b)
         → TurnFits told count words' (set homes 0 (some (Some b))) (set turns id (giving (told b) v)) (told b) filled
@@ -260,7 +261,7 @@ module _ {B : Type 0} (told : B → Known) (count : ℕ) (words : List ℕ) (hom
         given p (suc x) y h f g = f (omega arith)
 
     -- the marks of the held book become known, and a limit is lifted to one of them
-    pub lift_fits : (words' : List ℕ) (held : Known) (lifted : ℕ) → get_or words' 0 0 ≡ word → get_or words' 1 0 ≡ get_or words 1 0
+    pub lift_fits : (words' : List ℕ) (held : Known) (lifted : ℕ) → get_or words' 0 0 ≡ word → get_or words' EPOCH 0 ≡ get_or words EPOCH 0
         → (get_or words' (limit_at lifted) 0 ≡ max (get_or words (limit_at lifted) 0) (known_mark held lifted))
         → ((row : ℕ) → row < count → row ≢ lifted → get_or words' (limit_at row) 0 ≡ get_or words (limit_at row) 0)
         → v.holds ≡ true → v.filled ≡ true → LowersNoMark v.known held
@@ -319,7 +320,7 @@ module _ {B : Type 0} (told : B → Known) (count : ℕ) (words : List ℕ) (hom
         }
 
     -- the epoch and the holder's count of changes go on together
-    pub turn_fits : (words' : List ℕ) → get_or words' 0 0 ≡ word → get_or words' 1 0 ≡ get_or words 1 0 + 1
+    pub turn_fits : (words' : List ℕ) → get_or words' 0 0 ≡ word → get_or words' EPOCH 0 ≡ get_or words EPOCH 0 + 1
         → ((row : ℕ) → row < count → get_or words' (limit_at row) 0 ≡ get_or words (limit_at row) 0)
         → v.holds ≡ true → v.filled ≡ true
         → TurnFits told count words' homes (set turns id (turning v)) record book { changes = book.changes + 1 } filled
@@ -389,7 +390,7 @@ module _ {B : Type 0} (told : B → Known) (count : ℕ) (words : List ℕ) (hom
           sum : holders turns ≡ 0
           sum = total_only (λ u. one_if u.holds) turns id v at (λ j u e n. ap (λ z. one_if z.holds) (alone j u e n)) ∙ is_zero v.holds free
 
-      pub empty_fits : (words' : List ℕ) → 0 < get_or words' 0 0 → get_or words' 1 0 ≡ get_or words 1 0
+      pub empty_fits : (words' : List ℕ) → 0 < get_or words' 0 0 → get_or words' EPOCH 0 ≡ get_or words EPOCH 0
           → ((row : ℕ) → row < count → get_or words' (limit_at row) 0 ≡ get_or words (limit_at row) 0)
           → v.holds ≡ false
           → TurnFits told count words' (set homes 0 slot.none) (set turns id (record v { holds = true })) book filled
@@ -418,7 +419,7 @@ module _ {B : Type 0} (told : B → Known) (count : ℕ) (words : List ℕ) (hom
                 record { earlier = k.earlier; sparing = k.sparing; epoch = k.epoch; opening = k.opening; blank = k.blank; made = k.made; one = k.one; other = k.other } fits.each;
           }
 
-      pub fill_fits : (words' : List ℕ) (b : B) → get_or words' 0 0 ≡ 0 → get_or words' 1 0 ≡ get_or words 1 0
+      pub fill_fits : (words' : List ℕ) (b : B) → get_or words' 0 0 ≡ 0 → get_or words' EPOCH 0 ≡ get_or words EPOCH 0
           → ((row : ℕ) → row < count → get_or words' (limit_at row) 0 ≡ get_or words (limit_at row) 0)
           → v.holds ≡ true → MayFill (told b)
           → TurnFits told count words' (set homes 0 (some (Some b))) (set turns id (filling (told b) v)) (told b) true

@@ -7,6 +7,7 @@ use mathlib.Core.Logic.{dite}
 use native.Mathlib.Decide.{ℕ_discrete}
 use lib.ListN.{get_elem?}
 use Rattle.atomic_table.specs.Table.{State, opening, Final, Seen}
+use Rattle.counter_table.specs.declared.turns.TheConstants.{EPOCH}
 use Rattle.counter_table.specs.declared.view.Known.{Known}
 use Rattle.counter_table.specs.declared.view.View.{View}
 use Rattle.counter_table.specs.Known.{unknown}
@@ -48,25 +49,25 @@ value_there (x ∷ xs) zero n e = sym (some-injective x n e)
 value_there (x ∷ xs) (suc i) n e = value_there xs i n e
 
 abbrev pub first_words : ℕ → List ℕ
-first_words count = set (set (replicate (ROW_WORDS * count + ROW_WORDS) 1) 0 0) 1 0
+first_words count = set (set (replicate (ROW_WORDS * count + ROW_WORDS) 1) 0 0) EPOCH 0
 
 module _ (count : ℕ) where
   size : length (first_words count) ≡ ROW_WORDS * count + ROW_WORDS
-  size = length-set (set (replicate (ROW_WORDS * count + ROW_WORDS) 1) 0 0) 1 0 ∙ (length-set (replicate (ROW_WORDS * count + ROW_WORDS) 1) 0 0 ∙ length-replicate (ROW_WORDS * count + ROW_WORDS) 1)
+  size = length-set (set (replicate (ROW_WORDS * count + ROW_WORDS) 1) 0 0) EPOCH 0 ∙ (length-set (replicate (ROW_WORDS * count + ROW_WORDS) 1) 0 0 ∙ length-replicate (ROW_WORDS * count + ROW_WORDS) 1)
 
   word_turn : get_or (first_words count) 0 0 ≡ 0
   word_turn =
       let b : 0 < length (replicate (ROW_WORDS * count + ROW_WORDS) 1) = omega (arith, length-replicate {A = ℕ} (ROW_WORDS * count + ROW_WORDS) 1) in
-      get_or-set_other (set (replicate (ROW_WORDS * count + ROW_WORDS) 1) 0 0) 1 0 0 0 (λ e. omega arith) ∙ get_or-set_same (replicate (ROW_WORDS * count + ROW_WORDS) 1) 0 0 0 b
+      get_or-set_other (set (replicate (ROW_WORDS * count + ROW_WORDS) 1) 0 0) EPOCH 0 0 0 (λ e. omega arith) ∙ get_or-set_same (replicate (ROW_WORDS * count + ROW_WORDS) 1) 0 0 0 b
 
-  word_epoch : get_or (first_words count) 1 0 ≡ 0
+  word_epoch : get_or (first_words count) EPOCH 0 ≡ 0
   word_epoch =
-      let b : 1 < length (set (replicate (ROW_WORDS * count + ROW_WORDS) 1) 0 0) = omega (arith, length-replicate {A = ℕ} (ROW_WORDS * count + ROW_WORDS) 1, length-set {A = ℕ} (replicate (ROW_WORDS * count + ROW_WORDS) 1) 0 0) in
-      get_or-set_same (set (replicate (ROW_WORDS * count + ROW_WORDS) 1) 0 0) 1 0 0 b
+      let b : EPOCH < length (set (replicate (ROW_WORDS * count + ROW_WORDS) 1) 0 0) = omega (arith, length-replicate {A = ℕ} (ROW_WORDS * count + ROW_WORDS) 1, length-set {A = ℕ} (replicate (ROW_WORDS * count + ROW_WORDS) 1) 0 0) in
+      get_or-set_same (set (replicate (ROW_WORDS * count + ROW_WORDS) 1) 0 0) EPOCH 0 0 b
 
-  word_row : (j : ℕ) → 1 < j → j < ROW_WORDS * count + ROW_WORDS → get_or (first_words count) j 0 ≡ 1
+  word_row : (j : ℕ) → EPOCH < j → j < ROW_WORDS * count + ROW_WORDS → get_or (first_words count) j 0 ≡ 1
   word_row j low high =
-      get_or-set_other (set (replicate (ROW_WORDS * count + ROW_WORDS) 1) 0 0) 1 j 0 0 (λ e. omega arith)
+      get_or-set_other (set (replicate (ROW_WORDS * count + ROW_WORDS) 1) 0 0) EPOCH j 0 0 (λ e. omega arith)
       ∙ (get_or-set_other (replicate (ROW_WORDS * count + ROW_WORDS) 1) 0 j 0 0 (λ e. omega arith) ∙ get_or-replicate (ROW_WORDS * count + ROW_WORDS) j 1 0 high)
 
   none_below : (p : ℕ) → once_below p 0 ≡ 0

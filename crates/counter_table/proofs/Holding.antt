@@ -9,6 +9,7 @@ use lib.Seq.{map-set, set-get_or}
 use Rattle.atomic_table.specs.Table.{State, Me, Allows, Splits, Joins, keeps}
 use Rattle.atomic_table.specs.Table as act
 use Rattle.atomic_table.proofs.Lists.{at_set, at_map, at_snoc, set_again, set_else}
+use Rattle.counter_table.specs.declared.turns.TheConstants.{EPOCH}
 use Rattle.counter_table.specs.declared.view.Known.{Known}
 use Rattle.counter_table.specs.declared.view.Numbers.{Numbers}
 use Rattle.counter_table.specs.declared.view.Turn.{Turn}
@@ -40,11 +41,11 @@ fit_words count words words' views size same fits =
 low_size : (words : List ℕ) (i n : ℕ) → length (set words i n) ≡ length words
 low_size words i n = length-set words i n
 
-low_rows : (count : ℕ) (words : List ℕ) (i n : ℕ) → i < 2 → (row : ℕ) → row < count
+low_rows : (count : ℕ) (words : List ℕ) (i n : ℕ) → i < ROW_WORDS → (row : ℕ) → row < count
     → (get_or (set words i n) (next_at row) 0 ≡ get_or words (next_at row) 0) × (get_or (set words i n) (limit_at row) 0 ≡ get_or words (limit_at row) 0)
 low_rows count words i n low row b = (get_or-set_other words i (next_at row) n 0 (λ e. omega arith), get_or-set_other words i (limit_at row) n 0 (λ e. omega arith))
 
-low_limits : (count : ℕ) (words : List ℕ) (i n : ℕ) → i < 2 → (row : ℕ) → row < count → get_or (set words i n) (limit_at row) 0 ≡ get_or words (limit_at row) 0
+low_limits : (count : ℕ) (words : List ℕ) (i n : ℕ) → i < ROW_WORDS → (row : ℕ) → row < count → get_or (set words i n) (limit_at row) 0 ≡ get_or words (limit_at row) 0
 low_limits count words i n low row b = (low_rows count words i n low row b).1
 
 module _ {B : Type 0} (told : B → Known) (count : ℕ) where
@@ -54,7 +55,7 @@ module _ {B : Type 0} (told : B → Known) (count : ℕ) where
     same_numbers words' fits = subst (NumbersFit count words') (sym (set_again (numbers_of s.views) id v.numbers (at_numbers told count s id v v at kept))) fits
 
     -- a step on the turn or the epoch
-    low_step : (i n : ℕ) → i < 2 → (homes' : List (slot.Option (Option B))) (turn : Turn) (book : Known) (filled : Bool) → 0 < v.numbers.shares
+    low_step : (i n : ℕ) → i < ROW_WORDS → (homes' : List (slot.Option (Option B))) (turn : Turn) (book : Known) (filled : Bool) → 0 < v.numbers.shares
         → TurnFits told count (set s.words i n) homes' (set (turns_of s.views) id turn) book filled
         → IsKept told count record { words = set s.words i n; homes = homes'; views = set s.views id record { numbers = v.numbers; turn = turn } }
     low_step i n low homes' turn book filled alive fits =
@@ -104,7 +105,7 @@ module _ {B : Type 0} (told : B → Known) (count : ℕ) where
               ap (λ z. get_elem? z 0) home.book.1,
               low_step s id m.0 at kept 0 t (omega arith) (set s.homes 0 slot.none) (taking (told b) m.0.turn) kept.book kept.filled alive
                   (take_fits told count s.words s.homes (turns_of s.views) kept.book kept.filled fits id m.0.turn mine (set s.words 0 t) b
-                  (let e = first_set s.words kept.numbers.size t in omega arith) (get_or-set_other s.words 0 1 t 0 (λ e. omega arith)) (low_limits count s.words 0 t (omega arith)) full home home.book.2 home.book.1),
+                  (let e = first_set s.words kept.numbers.size t in omega arith) (get_or-set_other s.words 0 EPOCH t 0 (λ e. omega arith)) (low_limits count s.words 0 t (omega arith)) full home home.book.2 home.book.1),
               (
                 (λ z. (
                   b,
@@ -131,7 +132,7 @@ module _ {B : Type 0} (told : B → Known) (count : ℕ) where
           low_step s id m.0 at kept 0 t (omega arith) s.homes m.0.turn kept.book kept.filled alive
               (subst (λ z. TurnFits told count (set s.words 0 t) s.homes z kept.book kept.filled) (sym (set_again (turns_of s.views) id m.0.turn mine))
               (again_fits told count s.words s.homes (turns_of s.views) kept.book kept.filled fits (set s.words 0 t)
-              (let e = first_set s.words kept.numbers.size t in omega arith) (get_or-set_other s.words 0 1 t 0 (λ e. omega arith)) (low_limits count s.words 0 t (omega arith)) some_word)),
+              (let e = first_set s.words kept.numbers.size t in omega arith) (get_or-set_other s.words 0 EPOCH t 0 (λ e. omega arith)) (low_limits count s.words 0 t (omega arith)) some_word)),
           ((λ z. absurd (some_word z)), (λ n. refl)),
         )
 
@@ -145,7 +146,7 @@ module _ {B : Type 0} (told : B → Known) (count : ℕ) where
           tt,
           low_step s id v at kept 0 0 (omega arith) (set s.homes 0 (some (Some b))) (giving (told b) v.turn) (told b) kept.filled alive
               (give_fits told count s.words s.homes (turns_of s.views) kept.book kept.filled kept.turn id v.turn mine (set s.words 0 0) b
-              (first_set s.words kept.numbers.size 0) (get_or-set_other s.words 0 1 0 0 (λ e. omega arith)) (low_limits count s.words 0 0 (omega arith)) holds full may),
+              (first_set s.words kept.numbers.size 0) (get_or-set_other s.words 0 EPOCH 0 0 (λ e. omega arith)) (low_limits count s.words 0 0 (omega arith)) holds full may),
           (λ c e. (refl, ap (λ z. let r : View = record v { turn = giving (told z) v.turn } in r) (same_slot b c e))),
         )
 
@@ -161,7 +162,7 @@ module _ {B : Type 0} (told : B → Known) (count : ℕ) where
           ap (λ z. get_elem? z 0) u.none,
           low_step s id v at kept 0 2 (omega arith) (set s.homes 0 slot.none) (record v.turn { holds = true }) kept.book kept.filled (omega arith)
               (empty_fits told count s.words s.homes (turns_of s.views) kept.book kept.filled kept.turn id v.turn mine others blank (set s.words 0 2)
-              (let e = first_set s.words kept.numbers.size 2 in omega arith) (get_or-set_other s.words 0 1 2 0 (λ e. omega arith)) (low_limits count s.words 0 2 (omega arith)) free),
+              (let e = first_set s.words kept.numbers.size 2 in omega arith) (get_or-set_other s.words 0 EPOCH 2 0 (λ e. omega arith)) (low_limits count s.words 0 2 (omega arith)) free),
           (refl, refl),
         )
 
@@ -176,7 +177,7 @@ module _ {B : Type 0} (told : B → Known) (count : ℕ) where
           tt,
           low_step s id v at kept 0 0 (omega arith) (set s.homes 0 (some (Some b))) (filling (told b) v.turn) (told b) true (omega arith)
               (fill_fits told count s.words s.homes (turns_of s.views) kept.book kept.filled kept.turn id v.turn mine others blank (set s.words 0 0) b
-              (first_set s.words kept.numbers.size 0) (get_or-set_other s.words 0 1 0 0 (λ e. omega arith)) (low_limits count s.words 0 0 (omega arith)) holds may),
+              (first_set s.words kept.numbers.size 0) (get_or-set_other s.words 0 EPOCH 0 0 (λ e. omega arith)) (low_limits count s.words 0 0 (omega arith)) holds may),
           (λ c e. (refl, ap (λ z. let r : View = record v { turn = filling (told z) v.turn } in r) (same_slot b c e))),
         )
 
@@ -212,35 +213,35 @@ module _ {B : Type 0} (told : B → Known) (count : ℕ) where
           both_parts told count s id v w at kept (set s.words (limit_at row) n') s.homes (record kept.book { marks = held.marks }) kept.filled
               (numbers_lift count s.words (numbers_of s.views) id v.numbers row (at_numbers told count s id v v at kept) kept.numbers below alive mark)
               (lift_fits told count s.words s.homes (turns_of s.views) kept.book kept.filled kept.turn id v.turn mine (set s.words (limit_at row) n') held row
-              (limit_apart count s.words words_size row n' below 0 (λ e. omega arith)) (limit_apart count s.words words_size row n' below 1 (λ e. omega arith))
+              (limit_apart count s.words words_size row n' below 0 (λ e. omega arith)) (limit_apart count s.words words_size row n' below EPOCH (λ e. omega arith))
               (limit_set count s.words words_size row n' below ∙ ap (max l) is)
               (λ q b a. limit_apart count s.words words_size row n' below (limit_at q) (λ e. a (omega arith))) holds full rising)
               alive,
           (refl, refl),
         )
 
-    pub see_allows : (m : Me (Option B) View) → 0 < m.0.numbers.shares → Allows (IsKept told count) slots id m 1 (λ n. n) (sees m)
+    pub see_allows : (m : Me (Option B) View) → 0 < m.0.numbers.shares → Allows (IsKept told count) slots id m EPOCH (λ n. n) (sees m)
     see_allows m alive s kept size at bound =
-        let n = get_or s.words 1 0 in
+        let n = get_or s.words EPOCH 0 in
         let v = m.0 in
         let mine = turn_at s id v at kept in
         let w : View = record v { turn = seeing n v.turn } in
-        let same : set s.words 1 n ≡ s.words = set-get_or s.words 1 0 in
+        let same : set s.words EPOCH n ≡ s.words = set-get_or s.words EPOCH 0 in
         let k = kept.turn.each id v.turn mine in
         let earlier = k.earlier.changes in let epoch = k.epoch in let is = kept.turn.epoch in (
           w,
           keeps,
           tt,
-          low_step s id v at kept 1 n (omega arith) s.homes (seeing n v.turn) kept.book kept.filled alive
-              (see_fits told count s.words s.homes (turns_of s.views) kept.book kept.filled kept.turn id v.turn mine (set s.words 1 n) n
-              (ap (λ z. get_or z 0 0) same) (ap (λ z. get_or z 1 0) same) (λ row b. ap (λ z. get_or z (limit_at row) 0) same) refl),
+          low_step s id v at kept EPOCH n (omega arith) s.homes (seeing n v.turn) kept.book kept.filled alive
+              (see_fits told count s.words s.homes (turns_of s.views) kept.book kept.filled kept.turn id v.turn mine (set s.words EPOCH n) n
+              (ap (λ z. get_or z 0 0) same) (ap (λ z. get_or z EPOCH 0) same) (λ row b. ap (λ z. get_or z (limit_at row) 0) same) refl),
           ((refl, refl), omega arith, (λ h. is ∙ sym (ap (λ z. z.changes) (holder_knows told count s.words s.homes (turns_of s.views) kept.book kept.filled kept.turn id v.turn mine h)))),
         )
 
     pub turn_allows : (m : Me (Option B) View) → 0 < m.0.numbers.shares → m.0.turn.holds ≡ true → m.0.turn.filled ≡ true → m.0.turn.known.changes + 1 < 2 ^ 64
-        → Allows (IsKept told count) slots id m 1 (λ n. (n + 1) % 2 ^ 64) (turns m)
+        → Allows (IsKept told count) slots id m EPOCH (λ n. (n + 1) % 2 ^ 64) (turns m)
     turn_allows m alive holds full room s kept size at bound =
-        let n = get_or s.words 1 0 in
+        let n = get_or s.words EPOCH 0 in
         let v = m.0 in
         let mine = turn_at s id v at kept in
         let w : View = record v { turn = turning v.turn } in
@@ -248,21 +249,21 @@ module _ {B : Type 0} (told : B → Known) (count : ℕ) where
         let is : n ≡ v.turn.known.changes = kept.turn.epoch ∙ sym (ap (λ z. z.changes) knows) in
         let n' = (n + 1) % 2 ^ 64 in
         let plus : n' ≡ n + 1 = omega arith in
-        let b : 1 < length s.words = let z = kept.numbers.size in omega arith in (
+        let b : EPOCH < length s.words = let z = kept.numbers.size in omega arith in (
           w,
           keeps,
           tt,
-          low_step s id v at kept 1 n' (omega arith) s.homes (turning v.turn) (record kept.book { changes = kept.book.changes + 1 }) kept.filled alive
-              (turn_fits told count s.words s.homes (turns_of s.views) kept.book kept.filled kept.turn id v.turn mine (set s.words 1 n')
-              (get_or-set_other s.words 1 0 n' 0 (λ e. omega arith)) ((rw get_or-set_same refl) ∙ plus) (low_limits count s.words 1 n' (omega arith)) holds full),
+          low_step s id v at kept EPOCH n' (omega arith) s.homes (turning v.turn) (record kept.book { changes = kept.book.changes + 1 }) kept.filled alive
+              (turn_fits told count s.words s.homes (turns_of s.views) kept.book kept.filled kept.turn id v.turn mine (set s.words EPOCH n')
+              (get_or-set_other s.words EPOCH 0 n' 0 (λ e. omega arith)) ((rw get_or-set_same refl) ∙ plus) (low_limits count s.words EPOCH n' (omega arith)) holds full),
           ((refl, refl), is),
         )
 
-    pub look_allows : (m : Me (Option B) View) → 0 < m.0.numbers.shares → Allows (IsKept told count) slots id m 1 (λ n. n) (looks count m)
+    pub look_allows : (m : Me (Option B) View) → 0 < m.0.numbers.shares → Allows (IsKept told count) slots id m EPOCH (λ n. n) (looks count m)
     look_allows m alive s kept size at bound =
-        let n = get_or s.words 1 0 in
+        let n = get_or s.words EPOCH 0 in
         let v = m.0 in
-        let same : set s.words 1 n ≡ s.words = set-get_or s.words 1 0 in
+        let same : set s.words EPOCH n ≡ s.words = set-get_or s.words EPOCH 0 in
         let views : set s.views id v ≡ s.views = set_again s.views id v at in (
           v,
           keeps,

@@ -6,6 +6,7 @@ use lib.ListN.{get_elem?}
 use lib.Seq.{map-set, set-get_or}
 use Rattle.atomic_table.specs.Table.{State, Me, Allows, keeps}
 use Rattle.atomic_table.proofs.Lists.{at_set, at_map, set_again}
+use Rattle.counter_table.specs.declared.turns.TheConstants.{EPOCH}
 use Rattle.counter_table.specs.declared.view.Known.{Known}
 use Rattle.counter_table.specs.declared.view.Numbers.{Numbers}
 use Rattle.counter_table.specs.declared.view.Turn.{Turn}
@@ -28,7 +29,7 @@ peeking_shares row x l v = elim (ltb x l) as (λ b. (if b then spending row x l 
 module _ {B : Type 0} (told : B → Known) (count : ℕ) where
   -- a step that leaves the turn, the epoch and the limits leaves the rest of the book's part too
   pub words_fit : (words words' : List ℕ) (homes : List (slot.Option (Option B))) (turns : List Turn) (book : Known) (filled : Bool)
-      → get_or words' 0 0 ≡ get_or words 0 0 → get_or words' 1 0 ≡ get_or words 1 0
+      → get_or words' 0 0 ≡ get_or words 0 0 → get_or words' EPOCH 0 ≡ get_or words EPOCH 0
       → ((row : ℕ) → row < count → get_or words' (limit_at row) 0 ≤ known_mark book row)
       → TurnFits told count words homes turns book filled → TurnFits told count words' homes turns book filled
   words_fit words words' homes turns book filled turn epoch limits fits =
@@ -66,7 +67,7 @@ module _ {B : Type 0} (told : B → Known) (count : ℕ) where
         }
 
     -- a step after which the worker knows no more of the book
-    pub numbers_alone : (words' : List ℕ) → w.turn ≡ v.turn → 0 < w.numbers.shares → get_or words' 0 0 ≡ get_or s.words 0 0 → get_or words' 1 0 ≡ get_or s.words 1 0
+    pub numbers_alone : (words' : List ℕ) → w.turn ≡ v.turn → 0 < w.numbers.shares → get_or words' 0 0 ≡ get_or s.words 0 0 → get_or words' EPOCH 0 ≡ get_or s.words EPOCH 0
         → ((row : ℕ) → row < count → get_or words' (limit_at row) 0 ≡ get_or s.words (limit_at row) 0)
         → NumbersFit count words' (set (numbers_of s.views) id w.numbers) → IsKept told count record { words = words'; homes = s.homes; views = set s.views id w }
     numbers_alone words' same alive turn epoch limits numbers =
@@ -82,7 +83,7 @@ module _ {B : Type 0} (told : B → Known) (count : ℕ) where
     next_alone row n' b same alive numbers =
         let size = kept.numbers.size in
         numbers_alone (set s.words (next_at row) n') same alive
-        (next_apart count s.words size row n' b 0 (λ e. omega arith)) (next_apart count s.words size row n' b 1 (λ e. omega arith))
+        (next_apart count s.words size row n' b 0 (λ e. omega arith)) (next_apart count s.words size row n' b EPOCH (λ e. omega arith))
         (λ q c. next_apart count s.words size row n' b (limit_at q) (λ e. omega arith)) numbers
 
     -- a load of a word `limit`
@@ -92,7 +93,7 @@ module _ {B : Type 0} (told : B → Known) (count : ℕ) where
     limit_alone row b same alive numbers =
         let l = get_or s.words (limit_at row) 0 in let size = kept.numbers.size in
         numbers_alone (set s.words (limit_at row) l) same alive
-        (limit_apart count s.words size row l b 0 (λ e. omega arith)) (limit_apart count s.words size row l b 1 (λ e. omega arith))
+        (limit_apart count s.words size row l b 0 (λ e. omega arith)) (limit_apart count s.words size row l b EPOCH (λ e. omega arith))
         (λ q c. loaded (limit_at row) (limit_at q)) numbers
       where
         loaded : (i j : ℕ) → get_or (set s.words i (get_or s.words i 0)) j 0 ≡ get_or s.words j 0

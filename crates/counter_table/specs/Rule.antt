@@ -1,6 +1,6 @@
 -- Profile: the rule of the counters, which holds between any two steps of any workers.
--- The words are the turn (0 free; else taken, and 3 if a worker waits for it), the epoch, and from word ROW_WORDS on
--- ROW_WORDS words for each row.
+-- The words are the turn (0 free; else taken, and 3 if a worker waits for it), at `epoch_at` the epoch, and from word
+-- ROW_WORDS on ROW_WORDS words for each row.
 -- The first of these is `next`, and the second `limit`.
 use Rattle.std.specs.Prelude.{◌≡◌, ◌⊎◌, ℕ, ◌+◌, ◌*◌, ◌^◌, ◌<◌, ◌≤◌, max, Bool, true, false, List, [], ◌∷◌, length, map}
 use Rattle.std.specs.Prelude.{slice_index, Some, None, Option}
@@ -8,6 +8,7 @@ use mathlib.Core.Option as slot
 use lib.ListN.{get_elem?}
 use Rattle.atomic_table.specs.Table.{State}
 use Rattle.counter_table.specs.declared.drawing.TheConstants.{ROW_WORDS}
+use Rattle.counter_table.specs.declared.turns.TheConstants.{EPOCH}
 use Rattle.counter_table.specs.declared.view.Known.{Known}
 use Rattle.counter_table.specs.declared.view.Numbers.{Numbers}
 use Rattle.counter_table.specs.declared.view.Turn.{Turn}
@@ -21,6 +22,10 @@ use Rattle.counter_table.specs.Turn.{stands, no_turn}
 abbrev pub greatest : {V : Type 0} → (V → ℕ) → List V → ℕ
 greatest f [] = 0
 greatest f (v ∷ vs) = max (f v) (greatest f vs)
+
+-- the places of the words
+abbrev pub epoch_at : ℕ
+epoch_at = EPOCH
 
 abbrev pub next_at : ℕ → ℕ
 next_at row = ROW_WORDS * row + ROW_WORDS
@@ -116,7 +121,7 @@ module _ {B : Type 0} (told : B → Known) where
     pub place : IsAtHome (slice_index words 0) homes views book filled
         ⊎ (IsUnfilled (slice_index words 0) homes views book filled
         ⊎ IsOut (slice_index words 0) homes views book filled)
-    pub epoch : slice_index words 1 ≡ book.changes
+    pub epoch : slice_index words epoch_at ≡ book.changes
     pub limits : (row : ℕ) → row < count → slice_index words (limit_at row) ≤ known_mark book row
     -- all places of the log, each made once
     pub made : (place : ℕ) → total (λ v. stands place v.made) views ≡ once_below place (length book.log)

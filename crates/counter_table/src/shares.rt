@@ -5,6 +5,8 @@ ghost use mathlib.Core.Option.{some};
 ghost use lib.ListN.{get_elem?};
 ghost use Rattle.std.specs.Mem.Slots.{slots_items, slots_len, IsFull};
 ghost use Rattle.sdls_base.specs.Numbers.{times};
+ghost use Rattle.counter_table.specs.declared.drawing.TheConstants.{ROW_WORDS};
+ghost use Rattle.counter_table.specs.declared.turns.TheConstants.{EPOCH};
 ghost use Rattle.counter_table.specs.Numbers.{ALL_SHARES, joined, keeper, newcomer};
 ghost use Rattle.counter_table.specs.Turn.{beginner, merged};
 ghost use Rattle.counter_table.specs.Rule.{next_at};
@@ -16,6 +18,7 @@ ghost use Rattle.counter_table.specs.Worker.{view, rows_of, IsOf, IsSame};
 use crate::counters::{Counters, Worker};
 use crate::drawing::{ROW_WORDS, next_word};
 use crate::rule::{Counted, Looks, Shares, Told};
+use crate::turns::EPOCH;
 use atomic_table::{Closed, Table};
 use sdls_base::NoMemory;
 use std::alloc::{AllocError, Global};
@@ -24,11 +27,11 @@ use std::marker::Brand;
 // The words at the start: turn and epoch are 0, and each row begins with 1.
 fn first_words(alloc: Global, rows: u16) -> Result<Vec<u64>, AllocError>
     ensures { IfOk result (λ words. words.items ≡ slice_set (slice_set (replicate (ROW_WORDS * rows + ROW_WORDS) 1) 0 0)
-        1 0) }
+        EPOCH 0) }
 {
     let mut words = Vec::from_elem(alloc, 1, ROW_WORDS * usize::from(rows) + ROW_WORDS)?;
     words[0] = 0;
-    words[1] = 0;
+    words[EPOCH] = 0;
     Ok(words)
 }
 
@@ -124,7 +127,7 @@ impl<B: Counted> Counters<B> {
     {
         // For contracts alone.
         let _rows = rows;
-        self.table.shared.load::<Looks<T>>(&mut worker.seat, 1);
+        self.table.shared.load::<Looks<T>>(&mut worker.seat, EPOCH);
     }
 }
 

@@ -24,7 +24,8 @@ const TAKEN: u64 = 2;
 // Taken, and waited for.
 const WAITED: u64 = 3;
 
-const EPOCH: usize = 1;
+/// The word of the epoch: on a cache line of its own, which no turn writes to.
+pub(crate) const EPOCH: usize = 8;
 
 impl<B: Counted> Counters<B> {
     /// Puts the first book in its place. All workers but this one were joined.

@@ -7,3 +7,5 @@ pub mod Places
 pub mod Splits
 pub mod Segments
 pub mod Crossing
+pub mod Bodies
+pub mod Used

@@ -1,14 +1,13 @@
 -- The lanes of a segment, as they run (profile).
 use Rattle.std.specs.Prelude.{◌≡◌, ◌≢◌, ℕ, zero, suc, ◌<◌, ◌≤◌, ◌==◌, Bool, true, false, List, [], ◌∷◌, ◌++◌}
 use Rattle.std.specs.Prelude.{if◌then◌else◌, length, reverse, take, slice_get, Some, Vec, vec_capacity}
-use Rattle.std.specs.List.{All, Contains, list_any}
+use Rattle.std.specs.List.{All, Contains, list_any, slice_index_or}
 use Rattle.counter_table.specs.declared.counters.Worker.{Worker}
 use Rattle.counter_table.specs.declared.view.View.{View}
 use Rattle.counter_table.specs.Worker.{view}
 use Rattle.record_io.specs.declared.records.Record.{Record}
 use Rattle.record_io.specs.declared.answers.Answer.{Answer}
 use Rattle.record_io.specs.declared.kinds.TheConstants.{LANES}
-use Rattle.shared_unit.specs.Protecting.{IsTrueIfKept}
 use Rattle.run_promise.specs.Begin.{Begin}
 use Rattle.law_workers.specs.Views.{starting}
 use Rattle.run_promise.specs.Deed.{Deed}
@@ -18,13 +17,14 @@ use Rattle.law_workers.specs.Lanes.{is_of_lane, of_lane, Part}
 use Rattle.law_workers.specs.Alone.{MovedInTurn}
 use Rattle.law_workers.specs.Began.{BeganWith}
 use Rattle.frame_workers.specs.declared.lane.Lane.{Lane}
+use Rattle.frame_workers.specs.Permits.{AreTrueFor}
 use Rattle.law_workers.specs.Ends.{EndsSegment}
 
 module _ {B : Type 0} (ready : Worker B → Type 0) where
   -- the lane may run: its worker is ready, what it keeps is true, and it has room for the answers
   pub record CanRun (tasks : List Record) (lane : Lane B) : Type 0 where
     pub is_ready : ready lane.worker
-    pub kept : IsTrueIfKept lane.kept (view lane.worker).turn
+    pub kept : All (λ permits. AreTrueFor permits (view lane.worker).turn) lane.kept
     pub empty : lane.answers.items ≡ []
     pub room : length tasks ≤ vec_capacity lane.answers
     pub going : lane.full ≡ false
@@ -69,6 +69,11 @@ answers_of number (part ∷ parts) = if part.number == number then part.answers 
 pub record IsRoom {A : Type 0} (tasks : List Record) (number : ℕ) (room : Vec Answer A) : Type 0 where
   pub empty : room.items ≡ []
   pub roomy : list_any (is_of_lane number) tasks ≡ true → length tasks ≤ vec_capacity room
+
+-- the lanes with a record are these
+abbrev pub IsUsed : List Bool → List Record → Type 0
+IsUsed lanes tasks = (number : ℕ) → number < LANES
+    → slice_index_or lanes number false ≡ list_any (is_of_lane number) tasks
 
 -- two lanes have not one number
 abbrev pub HaveOwnNumbers : {B : Type 0} → Lane B → Lane B → Type 0

@@ -1,1 +1,3 @@
 pub mod Lanes
+pub mod Permits
+pub mod Bodies

@@ -1,11 +1,12 @@
 // The answers to records, by what the calls on the unit answered.
-ghost use Rattle.std.specs.Prelude.{◌≡◌, ◌≤◌, ◌++◌, vec_capacity, slice_range, take};
+ghost use Rattle.std.specs.Prelude.{◌≡◌, ◌≤◌, ◌++◌, [], length, vec_capacity, slice_range, take};
 ghost use Rattle.std.specs.Int.{w64, to_be_bytes};
 ghost use Rattle.sdls_base.specs.Code.{sa_state_code};
 ghost use Rattle.frame_checks.specs.Accepting.{field_in};
 ghost use Rattle.record_io.specs.declared.code.TheConstants.{PROTECTED};
 ghost use Rattle.run_promise.specs.Answers as told;
 ghost use Rattle.law_calls.specs.Answering as answering;
+ghost use Rattle.frame_workers.specs.Bodies.{FitsIn};
 
 use ep_core::Reply;
 use frame_checks::OpenReply;
@@ -211,13 +212,16 @@ pub(crate) fn commanded_answer(
 }
 
 /// A frame that was protected into the front of the room.
-fn answer_done(done: Done, mut room: Vec<u8>) -> Answer
-    ensures { result ≡ answering.answer_of (told.numbered PROTECTED done.key done.number (take done.length room.items))
+fn answer_done(done: Done, room: &[u8], mut body: Vec<u8>) -> Answer
+    requires room { done.length ≤ length room.now }
+    requires body { (body.items ≡ []) × (done.length ≤ vec_capacity body) }
+    ensures { result ≡ answering.answer_of (told.numbered PROTECTED done.key done.number (take done.length room.now))
         done.epoch }
 {
-    room.truncate(done.length);
-    room.shrink_to_fit();
-    answer_under_key(code::PROTECTED, done.key, done.number, done.epoch, room)
+    let Ok(()) = body.extend_from_slice(&room[..done.length]) else {
+        unreachable!()
+    };
+    answer_under_key(code::PROTECTED, done.key, done.number, done.epoch, body)
 }
 
 /// By the first check that fails of a frame that is to be protected.
@@ -231,12 +235,19 @@ fn answer_refusal(alloc: Global, fault: ShieldFault, epoch: u64) -> Answer
     }
 }
 
-/// By what `protect` answered; `room` is what it wrote to.
-pub(crate) fn protected_answer(alloc: Global, outcome: Protected, room: Vec<u8>) -> Option<Answer>
-    ensures { result ≡ answering.protected_answer outcome room.items }
+/// By what `protect` answered; `room` is what it wrote to, and `body` an empty body with room for the frame.
+pub(crate) fn protected_answer(
+    alloc: Global,
+    outcome: Protected,
+    room: &[u8],
+    body: Vec<u8>,
+) -> Option<Answer>
+    requires empty { body.items ≡ [] }
+    requires fits { FitsIn outcome (length room.now) (vec_capacity body) }
+    ensures { result ≡ answering.protected_answer outcome room.now }
 {
     match outcome {
-        Protected::Done(done) => Some(answer_done(done, room)),
+        Protected::Done(done) => Some(answer_done(done, room, body)),
         Protected::Clear => Some(answer_with(alloc, code::CLEAR, 0, 0, 0)),
         Protected::Refused(fault, epoch) => Some(answer_refusal(alloc, fault, epoch)),
         Protected::Exhausted(key, number, epoch) => Some(answer_under_key(

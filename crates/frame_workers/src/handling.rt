@@ -1,11 +1,12 @@
 // One record.
-ghost use Rattle.std.specs.Prelude.{◌≡◌, ◌≤◌, ℕ, IfOk, length, vec_capacity};
+ghost use Rattle.std.specs.Prelude.{◌≡◌, ◌≢◌, ◌≤◌, ◌+◌, ℕ, All, [], IfOk, length, vec_capacity};
+ghost use Rattle.frame_shield.specs.declared.protecting_frames.TheConstants.{FRAME_ROOM};
 ghost use Rattle.counter_table.specs.Worker.{view};
 ghost use Rattle.record_io.specs.declared.kinds.RecordKind.TheVariants as kinds;
-ghost use Rattle.shared_unit.specs.declared.permit.Permit.{Permit};
-ghost use Rattle.shared_unit.specs.Permit.{IsTrueFor};
+ghost use Rattle.shared_unit.specs.Opening.{IsOpenTrueIfKept};
 ghost use Rattle.shared_unit.specs.Protecting.{IsTrueIfKept};
-ghost use Rattle.shared_unit.specs.Turn.{IsReady};
+ghost use Rattle.shared_unit.specs.Turn.{IsReady, KnowsMoreOfBook};
+ghost use Rattle.frame_workers.specs.Permits.{AreTrueFor};
 ghost use Rattle.run_promise.specs.Begin.{Begin};
 ghost use Rattle.law_workers.specs.Order.{Layout};
 ghost use Rattle.law_calls.specs.Answering.{Answered, AnsweredExactly};
@@ -14,34 +15,42 @@ ghost use Rattle.law_workers.specs.Began.{BeganWith};
 use crate::answering::{
     WINDOW_OCTETS, answer_no_memory, commanded_answer, opened_answer, protected_answer,
 };
-use frame_shield::FRAME_ROOM;
+use crate::permits::{PLACES, Permits, place_for};
 use record_io::{Answer, Record, RecordKind};
 use sdls_outside::Site;
-use shared_unit::{Permit, Unit, Worker};
+use shared_unit::{OpenPermit, Permit, Unit, Worker};
 use std::alloc::{AllocError, Global};
 use std::sync::Wait;
 
-/// A room for a protected frame.
-fn take_room(alloc: Global) -> Result<Vec<u8>, AllocError>
-    ensures { IfOk result (λ room. length room.items ≡ FRAME_ROOM) }
+/// What a frame gains at most: security header and MAC, 30 octets, and the error control field.
+const MOST_GAIN: usize = 32;
+
+/// An empty body, with room for a frame of so many octets once it is protected.
+fn body_for(alloc: Global, clear: &[u8]) -> Result<Vec<u8>, AllocError>
+    ensures empty { IfOk result (λ body. body.items ≡ []) }
+    ensures room { IfOk result (λ body. length clear.now + MOST_GAIN ≤ vec_capacity body) }
 {
-    vec![in alloc; 0; FRAME_ROOM]
+    Vec::with_capacity(alloc, clear.len() + MOST_GAIN)
 }
 
-/// Protects the record's frame.
+/// Protects the record's frame in the room, which is of the lane. The answer's body is taken first, so that no number
+/// is used for a frame whose answer wants memory.
 fn protect<R: Wait, O: Site>(
     rt: &R,
     alloc: Global,
     unit: &Unit<O>,
     worker: &mut Worker<O>,
     kept: &mut Option<Permit>,
+    room: &mut [u8],
     task: &Record,
 ) -> Option<Answer>
     requires kind { task.now.kind ≡ kinds.Protect }
     requires ready { IsReady unit.now.counters unit.now.plan worker.old }
     requires kept { IsTrueIfKept kept.old (view worker.old).turn }
+    requires room { length room.old ≡ FRAME_ROOM }
     ensures ready { IsReady unit.now.counters unit.now.plan worker.new }
     ensures kept { IsTrueIfKept kept.new (view worker.new).turn }
+    ensures grows { KnowsMoreOfBook (view worker.old).turn (view worker.new).turn }
     ensures shares { (view worker.new).numbers.shares ≡ (view worker.old).numbers.shares }
     ensures answered { (layout : Layout) (begin : Begin) (segment : ℕ)
         → BeganWith O.told begin (view worker.old).turn.known.opening
@@ -49,12 +58,12 @@ fn protect<R: Wait, O: Site>(
     ensures exactly { (begin : Begin) (segment : ℕ) → BeganWith O.told begin (view worker.old).turn.known.opening
         → AnsweredExactly begin segment (view worker.old) (view worker.new) task.now result }
 {
-    let Ok(mut out) = take_room(alloc) else {
+    let clear = task.octets.as_slice();
+    let Ok(body) = body_for(alloc, clear) else {
         return Some(answer_no_memory(alloc));
     };
-    let clear = task.octets.as_slice();
-    let protected = unit.protect(rt, worker, kept, task.link, clear, out.as_mut_slice());
-    protected_answer(alloc, protected, out)
+    let protected = unit.protect(rt, worker, kept, task.link, clear, room);
+    protected_answer(alloc, protected, room, body)
 }
 
 /// A copy of the octets, with room for the answer that tells a window.
@@ -73,13 +82,15 @@ fn open<R: Wait, O: Site>(
     alloc: Global,
     unit: &Unit<O>,
     worker: &mut Worker<O>,
+    kept: &mut Option<OpenPermit>,
     task: &Record,
 ) -> Option<Answer>
     requires kind { task.now.kind ≡ kinds.Open }
     requires ready { IsReady unit.now.counters unit.now.plan worker.old }
+    requires kept { IsOpenTrueIfKept kept.old (view worker.old).turn }
     ensures ready { IsReady unit.now.counters unit.now.plan worker.new }
-    ensures keeps { (permit : Permit) → IsTrueFor permit (view worker.old).turn
-        → IsTrueFor permit (view worker.new).turn }
+    ensures kept { IsOpenTrueIfKept kept.new (view worker.new).turn }
+    ensures grows { KnowsMoreOfBook (view worker.old).turn (view worker.new).turn }
     ensures shares { (view worker.new).numbers.shares ≡ (view worker.old).numbers.shares }
     ensures answered { (layout : Layout) (begin : Begin) (segment : ℕ)
         → BeganWith O.told begin (view worker.old).turn.known.opening
@@ -87,10 +98,19 @@ fn open<R: Wait, O: Site>(
     ensures exactly { (begin : Begin) (segment : ℕ) → BeganWith O.told begin (view worker.old).turn.known.opening
         → AnsweredExactly begin segment (view worker.old) (view worker.new) task.now result }
 {
-    let Ok(mut frame) = copy_octets(alloc, task.octets.as_slice()) else {
+    let octets = task.octets.as_slice();
+    let Ok(mut frame) = copy_octets(alloc, octets) else {
         return Some(answer_no_memory(alloc));
     };
-    let opened = unit.open_frame(rt, worker, task.index, task.link, frame.as_mut_slice());
+    let opened = unit.open_frame(
+        rt,
+        worker,
+        kept,
+        task.index,
+        task.link,
+        octets,
+        frame.as_mut_slice(),
+    );
     opened_answer(alloc, opened, frame)
 }
 
@@ -105,8 +125,7 @@ fn command<R: Wait, O: Site>(
     requires kind { task.now.kind ≡ kinds.Command }
     requires ready { IsReady unit.now.counters unit.now.plan worker.old }
     ensures ready { IsReady unit.now.counters unit.now.plan worker.new }
-    ensures keeps { (permit : Permit) → IsTrueFor permit (view worker.old).turn
-        → IsTrueFor permit (view worker.new).turn }
+    ensures grows { KnowsMoreOfBook (view worker.old).turn (view worker.new).turn }
     ensures shares { (view worker.new).numbers.shares ≡ (view worker.old).numbers.shares }
     ensures answered { (layout : Layout) (begin : Begin) (segment : ℕ)
         → BeganWith O.told begin (view worker.old).turn.known.opening
@@ -118,19 +137,23 @@ fn command<R: Wait, O: Site>(
     commanded_answer(alloc, commanded)
 }
 
-/// Handles a record. There is no answer where the run has as many entries as it may.
-pub(crate) fn handle<R: Wait, O: Site>(
+/// Handles a record, none of a monitoring message, under the permits that are kept for frames like its own.
+fn handle_under<R: Wait, O: Site>(
     rt: &R,
     alloc: Global,
     unit: &Unit<O>,
     worker: &mut Worker<O>,
-    kept: &mut Option<Permit>,
+    kept: &mut Permits,
+    room: &mut [u8],
     task: &Record,
 ) -> Option<Answer>
+    requires plain { task.now.kind ≢ kinds.Monitor }
     requires ready { IsReady unit.now.counters unit.now.plan worker.old }
-    requires kept { IsTrueIfKept kept.old (view worker.old).turn }
+    requires kept { AreTrueFor kept.old (view worker.old).turn }
+    requires room { length room.old ≡ FRAME_ROOM }
     ensures ready { IsReady unit.now.counters unit.now.plan worker.new }
-    ensures kept { IsTrueIfKept kept.new (view worker.new).turn }
+    ensures kept { AreTrueFor kept.new (view worker.new).turn }
+    ensures grows { KnowsMoreOfBook (view worker.old).turn (view worker.new).turn }
     ensures shares { (view worker.new).numbers.shares ≡ (view worker.old).numbers.shares }
     ensures answered { (layout : Layout) (begin : Begin) (segment : ℕ)
         → BeganWith O.told begin (view worker.old).turn.known.opening
@@ -139,8 +162,38 @@ pub(crate) fn handle<R: Wait, O: Site>(
         → AnsweredExactly begin segment (view worker.old) (view worker.new) task.now result }
 {
     match task.kind {
-        RecordKind::Protect => protect(rt, alloc, unit, worker, kept, task),
-        RecordKind::Open => open(rt, alloc, unit, worker, task),
+        RecordKind::Protect => protect(rt, alloc, unit, worker, &mut kept.to_protect, room, task),
+        RecordKind::Open => open(rt, alloc, unit, worker, &mut kept.to_open, task),
         RecordKind::Command => command(rt, alloc, unit, worker, task),
+        RecordKind::Monitor => unreachable!(),
     }
+}
+
+/// Handles a record, none of a monitoring message, and a frame that is to be protected in the room. There is no answer
+/// where the run has as many entries as it may.
+pub(crate) fn handle<R: Wait, O: Site>(
+    rt: &R,
+    alloc: Global,
+    unit: &Unit<O>,
+    worker: &mut Worker<O>,
+    kept: &mut [Permits; PLACES],
+    room: &mut [u8],
+    task: &Record,
+) -> Option<Answer>
+    requires plain { task.now.kind ≢ kinds.Monitor }
+    requires ready { IsReady unit.now.counters unit.now.plan worker.old }
+    requires kept { All (λ permits. AreTrueFor permits (view worker.old).turn) kept.old }
+    requires room { length room.old ≡ FRAME_ROOM }
+    ensures ready { IsReady unit.now.counters unit.now.plan worker.new }
+    ensures kept { All (λ permits. AreTrueFor permits (view worker.new).turn) kept.new }
+    ensures grows { KnowsMoreOfBook (view worker.old).turn (view worker.new).turn }
+    ensures shares { (view worker.new).numbers.shares ≡ (view worker.old).numbers.shares }
+    ensures answered { (layout : Layout) (begin : Begin) (segment : ℕ)
+        → BeganWith O.told begin (view worker.old).turn.known.opening
+        → Answered layout begin segment (view worker.old) (view worker.new) task.now result }
+    ensures exactly { (begin : Begin) (segment : ℕ) → BeganWith O.told begin (view worker.old).turn.known.opening
+        → AnsweredExactly begin segment (view worker.old) (view worker.new) task.now result }
+{
+    let place = place_for(task);
+    handle_under(rt, alloc, unit, worker, &mut kept[place], room, task)
 }

@@ -3,29 +3,53 @@ ghost use Rattle.std.specs.Prelude.{◌≡◌, ◌≢◌, ◌<◌, ◌≤◌, �
 ghost use Rattle.std.specs.List.{AllPairs, list_any};
 ghost use Rattle.sdls_base.specs.declared.TheConstants.{MOST_KEYS};
 ghost use Rattle.counter_table.specs.Worker.{view};
+ghost use Rattle.record_io.specs.declared.records.Record.{Record};
 ghost use Rattle.shared_unit.specs.Turn.{IsReady};
 ghost use Rattle.law_workers.specs.Lanes.{giving_shares, is_of_lane, MeetAll, meeting_all, Part};
-ghost use Rattle.frame_workers.specs.Lanes.{answers_of, HaveOwnNumbers, IsRoom, IsSplit, IsThere, left_at, parts_of};
+ghost use Rattle.frame_workers.specs.Lanes.{answers_of, HaveOwnNumbers, IsRoom, IsSplit, IsThere, IsUsed, left_at, parts_of};
 
 use crate::lane::Lane;
+use crate::permits::no_permits;
+use frame_shield::FRAME_ROOM;
 use record_io::{Answer, LANES, Record};
 use sdls_base::NoMemory;
 use sdls_outside::Site;
 use shared_unit::{Shelf, Unit, Worker};
 use std::alloc::Global;
 
-/// Whether a record is of the lane.
-fn is_used(records: &[Record], number: u8) -> bool
-    ensures { result ≡ list_any (is_of_lane number) records.now }
+/// The lanes that there may be.
+const MOST_LANES: usize = LANES as usize;
+
+/// Which lanes have records.
+#[derive(Drop)]
+pub(crate) struct Used {
+    pub(crate) lanes: [bool; MOST_LANES],
+}
+
+/// Which lanes the records are of.
+pub(crate) fn used_lanes(records: &[Record]) -> Used
+    requires { All (λ (task : Record). task.lane < LANES) records.now }
+    ensures { IsUsed result.lanes records.now }
 {
-    records.iter().any(|task| task.lane == number)
+    let mut lanes = [false; MOST_LANES];
+    for task in records {
+        lanes[usize::from(task.lane)] = true;
+    }
+    Used { lanes }
 }
 
 /// A room for the answers of a lane: for as many as there are records, where one of them is the lane's.
-fn room_for(alloc: Global, records: &[Record], number: u8) -> Result<Vec<Answer>, NoMemory>
+fn room_for(
+    alloc: Global,
+    records: &[Record],
+    used: &Used,
+    number: u8,
+) -> Result<Vec<Answer>, NoMemory>
+    requires used { IsUsed used.now.lanes records.now }
+    requires number { number < LANES }
     ensures { IfOk result (λ room. IsRoom records.now number room) }
 {
-    if !is_used(records, number) {
+    if !used.lanes[usize::from(number)] {
         return Ok(Vec::new(alloc));
     }
     let room = Vec::with_capacity(alloc, records.len())?;
@@ -33,14 +57,19 @@ fn room_for(alloc: Global, records: &[Record], number: u8) -> Result<Vec<Answer>
 }
 
 /// Rooms for the answers of the lanes.
-pub(crate) fn rooms_for(alloc: Global, records: &[Record]) -> Result<Vec<Vec<Answer>>, NoMemory>
+pub(crate) fn rooms_for(
+    alloc: Global,
+    records: &[Record],
+    used: &Used,
+) -> Result<Vec<Vec<Answer>>, NoMemory>
+    requires used { IsUsed used.now.lanes records.now }
     ensures many { IfOk result (λ rooms. length rooms.items ≡ LANES) }
     ensures rooms { IfOk result (λ rooms. (k : ℕ) (d : _) → k < LANES
         → IsRoom records.now k (slice_index_or rooms.items k d)) }
 {
     let mut rooms = Vec::with_capacity(alloc, usize::from(LANES))?;
     for number in 0..LANES {
-        let room = room_for(alloc, records, number)?;
+        let room = room_for(alloc, records, used, number)?;
         rooms.push_reserved(room);
     }
     Ok(rooms)
@@ -51,11 +80,13 @@ pub(crate) fn split_lanes<O: Site>(
     unit: &Unit<O>,
     worker: &mut Worker<O>,
     records: &[Record],
+    used: &Used,
     mut rooms: Vec<Vec<Answer>>,
     lanes: &mut Vec<Lane<Shelf<O>>>,
 )
     requires ready { IsReady unit.now.counters unit.now.plan worker.old }
     requires shares { LANES < (view worker.old).numbers.shares }
+    requires used { IsUsed used.now.lanes records.now }
     requires many { length rooms.items ≡ LANES }
     requires rooms { (k : ℕ) (d : _) → k < LANES → IsRoom records.now k (slice_index_or rooms.items k d) }
     requires room { (lanes.old.items ≡ []) × (LANES ≤ vec_capacity lanes.old) }
@@ -70,16 +101,17 @@ pub(crate) fn split_lanes<O: Site>(
 {
     'rooms: while let Some(answers) = rooms.pop() {
         let number = rooms.len() as u8;
-        if !is_used(records, number) {
+        if !used.lanes[usize::from(number)] {
             continue;
         }
         let split = unit.split(worker);
         lanes.push_reserved(Lane {
             number,
             worker: split,
-            kept: None,
+            kept: no_permits(),
             answers,
             full: false,
+            room: [0; FRAME_ROOM],
         });
     }
 }

@@ -1,27 +1,33 @@
 // A lane of a segment, and its run.
-ghost use Rattle.std.specs.Prelude.{◌≡◌, ◌<◌, ℕ, All, length, slice_index_or};
+ghost use Rattle.std.specs.Prelude.{◌≡◌, ◌≢◌, ◌<◌, ℕ, All, length, slice_index_or};
+ghost use Rattle.record_io.specs.declared.kinds.RecordKind.TheVariants.{Monitor};
+ghost use Rattle.record_io.specs.declared.records.Record.{Record};
 ghost use Rattle.shared_unit.specs.Turn.{IsReady};
 ghost use Rattle.law_workers.specs.Deeds.{Ascend};
 ghost use Rattle.frame_workers.specs.Lanes.{CanRun, HasRun};
 
 use crate::gate::Gate;
 use crate::handling::handle;
+use crate::permits::{PLACES, Permits};
+use frame_shield::FRAME_ROOM;
 use record_io::{Answer, Record};
 use sdls_outside::Site;
-use shared_unit::{Permit, Shelf, Unit};
+use shared_unit::{Shelf, Unit};
 use std::alloc::Global;
 use std::sync::Wait;
 use std::thread;
 use std::thread::Threads;
 
-/// A lane of a segment: its number, its worker with what the worker protects frames under, and the answers to its
+/// A lane of a segment: its number, its worker with what the worker handles frames under, and the answers to its
 /// records, up to one for which the history was full.
 pub(crate) struct Lane<B> {
     pub(crate) number: u8,
     pub(crate) worker: counter_table::Worker<B>,
-    pub(crate) kept: Option<Permit>,
+    pub(crate) kept: [Permits; PLACES],
     pub(crate) answers: Vec<Answer>,
     pub(crate) full: bool,
+    /// Where the lane's frames are protected.
+    pub(crate) room: [u8; FRAME_ROOM],
 }
 
 impl<B> Drop for Lane<B> {
@@ -32,6 +38,7 @@ impl<B> Drop for Lane<B> {
             kept: _,
             answers: _,
             full: _,
+            room: _,
         } = self;
     }
 }
@@ -47,6 +54,7 @@ impl<B> Lane<B> {
             kept: _,
             answers,
             full: _,
+            room: _,
         } = self;
         (worker, answers)
     }
@@ -61,6 +69,7 @@ fn run_lane<R: Wait, O: Site, G: Gate>(
     gate: &G,
     lane: &mut Lane<Shelf<O>>,
 )
+    requires plain { All (λ (task : Record). task.kind ≢ Monitor) records.now }
     requires ascend { Ascend records.now }
     requires can { CanRun (IsReady unit.now.counters unit.now.plan) records.now lane.old }
     ensures ran { HasRun (IsReady unit.now.counters unit.now.plan) O.told records.now lane.old lane.new }
@@ -70,7 +79,15 @@ fn run_lane<R: Wait, O: Site, G: Gate>(
             continue;
         }
         gate.pass(task.lane, task.index);
-        let answer = handle(rt, alloc, unit, &mut lane.worker, &mut lane.kept, task);
+        let answer = handle(
+            rt,
+            alloc,
+            unit,
+            &mut lane.worker,
+            &mut lane.kept,
+            &mut lane.room,
+            task,
+        );
         gate.done(task.lane, task.index);
         match answer {
             Some(answer) => lane.answers.push_reserved(answer),
@@ -91,6 +108,7 @@ pub(crate) fn run_lanes<R: Threads + Wait + Sync, O: Site + Send, G: Gate + Sync
     gate: &G,
     lanes: &mut [Lane<Shelf<O>>],
 )
+    requires plain { All (λ (task : Record). task.kind ≢ Monitor) records.now }
     requires ascend { Ascend records.now }
     requires can { All (CanRun (IsReady unit.now.counters unit.now.plan) records.now) lanes.old }
     ensures ran { (k : ℕ) (d : _) → k < length lanes.old

@@ -10,6 +10,7 @@ mod gate;
 mod handling;
 mod joining;
 mod lane;
+mod permits;
 mod placing;
 mod segment;
 

@@ -1,9 +1,10 @@
 // A segment.
-ghost use Rattle.std.specs.Prelude.{◌≡◌, ◌<◌, ◌≤◌, ℕ, All, [], IfOk, OnErr, length};
+ghost use Rattle.std.specs.Prelude.{◌≡◌, ◌≢◌, ◌<◌, ◌≤◌, ℕ, All, [], IfOk, OnErr, length};
 ghost use Rattle.sdls_base.specs.declared.TheConstants.{MOST_KEYS};
 ghost use Rattle.counter_table.specs.Whole.{IsWhole};
 ghost use Rattle.counter_table.specs.Worker.{view};
 ghost use Rattle.counter_table.specs.Numbers.{ALL_SHARES};
+ghost use Rattle.record_io.specs.declared.kinds.RecordKind.TheVariants.{Monitor};
 ghost use Rattle.record_io.specs.declared.records.Record.{Record};
 ghost use Rattle.shared_unit.specs.Turn.{IsReady};
 ghost use Rattle.run_promise.specs.Begin.{Begin};
@@ -18,7 +19,7 @@ ghost use Rattle.law_workers.specs.Ends.{EndsSegment};
 ghost use Rattle.frame_workers.specs.Lanes.{left_at};
 
 use crate::gate::Gate;
-use crate::joining::{join_lanes, rooms_for, split_lanes};
+use crate::joining::{join_lanes, rooms_for, split_lanes, used_lanes};
 use crate::lane::run_lanes;
 use crate::placing::place_answers;
 use record_io::{Answer, LANES, Record};
@@ -65,6 +66,7 @@ fn look_back<O: Site>(unit: &Unit<O>, worker: &mut Worker<O>)
 
 /// Handles the records of a segment, the lanes at the same time, each by a worker of its own, and the records of a lane
 /// one after the other. The answers stand in the order of the records. Where memory is wanting, no record was handled.
+/// None of them is a Monitor record, which no worker handles.
 pub fn run_segment<R: Threads + Wait + Sync, O: Site + Send, G: Gate + Sync>(
     rt: &R,
     alloc: Global,
@@ -76,6 +78,7 @@ pub fn run_segment<R: Threads + Wait + Sync, O: Site + Send, G: Gate + Sync>(
     requires ready { IsReady unit.now.counters unit.now.plan worker.old }
     requires shares { LANES < (view worker.old).numbers.shares }
     requires lanes { All (λ (task : Record). task.lane < LANES) records.now }
+    requires plain { All (λ (task : Record). task.kind ≢ Monitor) records.now }
     requires ascend { Ascend records.now }
     ensures ready { IsReady unit.now.counters unit.now.plan worker.new }
     ensures shares { (view worker.new).numbers.shares ≡ (view worker.old).numbers.shares }
@@ -108,11 +111,12 @@ pub fn run_segment<R: Threads + Wait + Sync, O: Site + Send, G: Gate + Sync>(
     ensures whole { (view worker.old).numbers.shares ≡ ALL_SHARES
         → IfOk result (λ segment. IsWhole MOST_KEYS (view worker.new)) }
 {
-    let rooms = rooms_for(alloc, records)?;
+    let used = used_lanes(records);
+    let rooms = rooms_for(alloc, records, &used)?;
     let mut lanes = Vec::with_capacity(alloc, usize::from(LANES))?;
     let mut parts = empty_rooms(alloc)?;
     let mut answers = Vec::with_capacity(alloc, records.len())?;
-    split_lanes(unit, worker, records, rooms, &mut lanes);
+    split_lanes(unit, worker, records, &used, rooms, &mut lanes);
     run_lanes(rt, alloc, unit, records, gate, lanes.as_mut_slice());
     join_lanes(unit, worker, lanes, parts.as_mut_slice());
     look_back(unit, worker);

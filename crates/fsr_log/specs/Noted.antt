@@ -1,9 +1,9 @@
 -- The answers of a run, as its log takes them (profile).
-use Rattle.std.specs.Prelude.{ℕ, ◌+◌, ◌==◌, ◌&&◌, ◌||◌, Bool, true, false, List, [], ◌∷◌, Option, Some, None}
+use Rattle.std.specs.Prelude.{ℕ, ◌+◌, ◌==◌, ◌&&◌, ◌||◌, Bool, true, false, List, [], ◌∷◌}
 use Rattle.std.specs.Int.{is_in_range}
 use Rattle.record_io.specs.declared.answers.Answer.{Answer}
 use Rattle.record_io.specs.declared.kinds.RecordKind.{RecordKind}
-use Rattle.record_io.specs.declared.kinds.RecordKind.TheVariants.{Protect, Open, Command}
+use Rattle.record_io.specs.declared.kinds.RecordKind.TheVariants.{Protect, Open, Command, Monitor}
 use Rattle.record_io.specs.declared.code.TheConstants.{ACCEPTED, REFUSED, LAYOUT, SPI, NUMBER, EXHAUSTED, SITE_FAULT}
 use Rattle.record_io.specs.declared.code.TheConstants.{NO_MEMORY}
 use Rattle.fsr_log.specs.declared.events.Event.{Event}
@@ -11,10 +11,10 @@ use Rattle.fsr_log.specs.declared.messages.TheConstants.{ERASE_LOG, ALARM_RESET}
 use Rattle.record_io.specs.declared.code.TheConstants.{MONITORED}
 use Rattle.fsr_log.specs.declared.replies.TheConstants.{REPLY}
 
--- an answer, with the number and the kind of its record; a monitoring message has no kind
+-- an answer, with the number and the kind of its record
 pub record Noted : Type 0 where
   pub index : ℕ
-  pub kind : Option RecordKind
+  pub kind : RecordKind
   pub answer : Answer
 
 -- a refusal: codes 04, 10 to 17, 20 and 31 to 33
@@ -30,11 +30,11 @@ is_alarm code = is_in_range SPI NUMBER code
 abbrev pub is_seen : ℕ → Bool
 is_seen code = (code == ACCEPTED) || (code == NUMBER)
 
-abbrev pub is_open : Option RecordKind → Bool
-is_open None = false
-is_open (Some Protect) = false
-is_open (Some Open) = true
-is_open (Some Command) = false
+abbrev pub is_open : RecordKind → Bool
+is_open Protect = false
+is_open Open = true
+is_open Command = false
+is_open Monitor = false
 
 abbrev pub begins_with : ℕ → List ℕ → Bool
 begins_with first [] = false

@@ -17,5 +17,6 @@ pub use laws::{events_fit, message_without_fault, one_message};
 pub use log::Log;
 pub use messages::{
     ALARM_RESET, BLOCK, DUMP_LOG, ERASE_LOG, LOG_STATUS, Monitoring, PING, SELF_TEST,
+    read_monitoring, write_monitoring,
 };
 pub use replies::{REPLY, REPORT_WORD, SELF_TEST_KEY};

@@ -58,8 +58,8 @@ impl Log {
         })
     }
 
-    /// Notes the answer to the record with this number and kind; a monitoring message has no kind. It takes no memory.
-    pub fn note(&mut self, index: u64, kind: Option<RecordKind>, answer: &Answer)
+    /// Notes the answer to the record with this number and kind. It takes no memory.
+    pub fn note(&mut self, index: u64, kind: RecordKind, answer: &Answer)
         ensures { (notes : List Noted) → self.old ≡ report_of notes
             → self.new ≡ report_of (notes ++ record { index = index; kind = kind; answer = answer.now } ∷ []) }
     {

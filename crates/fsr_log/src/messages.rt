@@ -1,9 +1,11 @@
 //! Monitoring messages.
-ghost use Rattle.std.specs.Prelude.{◌≡◌, length, Some};
+ghost use Rattle.std.specs.Prelude.{◌≡◌, ◌^◌, ◌<◌, length, Some, IfOk};
 ghost use Rattle.ep_codec.specs.Command.{message};
 ghost use Rattle.fsr_log.specs.Message.{HasTag, Reads, data_length, monitoring_octets};
 
 use ep_codec::word_at;
+use sdls_base::{NoMemory, Octets};
+use std::alloc::Global;
 
 /// The tag of a Ping.
 pub const PING: u8 = 0x31;
@@ -97,9 +99,37 @@ fn message_of(tag: u8, body: &[u8]) -> Monitoring
 }
 
 /// Reads a monitoring message, which is all of the octets; or says the offset of their first fault.
-pub(crate) fn read_monitoring(octets: &[u8]) -> Result<Monitoring, u32>
+pub fn read_monitoring(octets: &[u8]) -> Result<Monitoring, u32>
     ensures { Reads octets.now result }
 {
     let tag = tag_in(octets)?;
     Ok(message_of(tag, &octets[HEADER..]))
+}
+
+/// The octets of the message with this tag and data.
+pub(crate) fn message_octets(alloc: Global, tag: u8, body: &[u8]) -> Result<Vec<u8>, NoMemory>
+    requires short { length body.now < 2 ^ 13 }
+    ensures { IfOk result (λ out. out.items ≡ message tag body.now) }
+{
+    let bits = 8 * body.len() as u16;
+    let mut out = Vec::new(alloc);
+    out.push(tag)?;
+    out.extend_from_slice(&bits.to_be_bytes())?;
+    out.extend_from_slice(body)?;
+    Ok(out)
+}
+
+/// Writes a monitoring message.
+pub fn write_monitoring(alloc: Global, message: &Monitoring) -> Result<Octets, NoMemory>
+    ensures { IfOk result (λ octets. octets ≡ monitoring_octets message.now) }
+{
+    let octets = match message {
+        Monitoring::Ping => message_octets(alloc, PING, &[])?,
+        Monitoring::LogStatus => message_octets(alloc, LOG_STATUS, &[])?,
+        Monitoring::DumpLog => message_octets(alloc, DUMP_LOG, &[])?,
+        Monitoring::EraseLog => message_octets(alloc, ERASE_LOG, &[])?,
+        Monitoring::SelfTest(block) => message_octets(alloc, SELF_TEST, block)?,
+        Monitoring::AlarmReset => message_octets(alloc, ALARM_RESET, &[])?,
+    };
+    Ok(Octets::new(octets))
 }

@@ -63,11 +63,11 @@ pub(crate) fn alarm(before: bool, answer: &Answer) -> bool
 }
 
 /// The code of the last answer to an Open record.
-pub(crate) fn last_open(before: u8, kind: Option<RecordKind>, code: u8) -> u8
+pub(crate) fn last_open(before: u8, kind: RecordKind, code: u8) -> u8
     ensures { result ≡ (if is_open kind then code else before) }
 {
     match kind {
-        Some(RecordKind::Open) => code,
+        RecordKind::Open => code,
         _ => before,
     }
 }

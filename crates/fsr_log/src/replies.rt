@@ -5,7 +5,7 @@ ghost use Rattle.fsr_log.specs.declared.events.TheConstants.{MOST_EVENTS};
 ghost use Rattle.fsr_log.specs.Reply.{counts, tested};
 
 use crate::events::MOST_EVENTS;
-use crate::messages::BLOCK;
+use crate::messages::{BLOCK, message_octets};
 use aes_block::Schedule;
 use cmac::mac;
 use sdls_base::NoMemory;
@@ -26,12 +26,7 @@ pub(crate) fn reply_octets(alloc: Global, tag: u8, body: &[u8]) -> Result<Vec<u8
     requires short { length body.now < 2 ^ 13 }
     ensures { IfOk result (λ out. out.items ≡ message (REPLY + tag) body.now) }
 {
-    let bits = 8 * body.len() as u16;
-    let mut out = Vec::new(alloc);
-    out.push(REPLY + tag)?;
-    out.extend_from_slice(&bits.to_be_bytes())?;
-    out.extend_from_slice(body)?;
-    Ok(out)
+    message_octets(alloc, REPLY + tag, body)
 }
 
 /// How many events there are, and how many more fit.

@@ -2,4 +2,6 @@ pub mod Texts
 pub mod NumberLists
 pub mod ChannelLists
 pub mod CommandLengths
+pub mod MonitorLengths
+pub mod AskedWords
 mod Skipped

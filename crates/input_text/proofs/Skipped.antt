@@ -5,7 +5,8 @@ use Rattle.std.specs.Prelude.{◌==◌}
 use Rattle.std.proofs.lemmas.Bool.{cases_eq, ne_eqb}
 use Rattle.std.proofs.lemmas.Bool.Decides.{nat_tests}
 use Rattle.input_text.specs.declared.line.Line.{Line}
-use Rattle.input_text.specs.declared.line.Line.TheVariants.{Fence, Protect, Open, Command, Message}
+use Rattle.input_text.specs.declared.line.Line.TheVariants.{Fence, Protect, Open, Command, Message, Monitor}
+use Rattle.input_text.proofs.AskedWords.{some_line}
 use Rattle.input_text.specs.Plain.{is_skipped, line_said, said_words}
 use Rattle.input_text.specs.Line.{Says, line_words}
 
@@ -36,6 +37,7 @@ some_words (Protect lane link octets) none = absurd cc
 some_words (Open lane link octets) none = absurd cc
 some_words (Command lane command) none = absurd cc
 some_words (Message lane octets) none = absurd cc
+some_words (Monitor lane link asked) none = some_line lane link asked none
 
 pub skipped_says_nothing : (text : List ℕ) (line : Line) → is_skipped text ≡ true → Says text line → ⊥
 skipped_says_nothing text line is says = some_words line (sym says.words ∙ skipped_none text is)

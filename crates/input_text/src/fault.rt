@@ -5,13 +5,25 @@ use crate::seen::Seen;
 use std::alloc::{AllocError, AllocFailed};
 use thiserror::Error;
 
+/// The word of a Self test: within an attribute it would name a test of the crate.
+const SELF_TEST: &str = "self-test";
+
 /// What was expected at a word.
 #[derive(Clone, Copy, Debug, Error)]
 pub enum Expected {
-    #[error("protect, open, command or fence")]
+    #[error("protect, open, command, fence or at, or a monitoring message, which is ping, log-status, dump-log, erase-log, \
+         {name}, alarm-reset or monitor", name = SELF_TEST)]
     Kind,
+    #[error("ping, log-status, dump-log, erase-log, {name}, alarm-reset or monitor", name = SELF_TEST)]
+    Message,
     #[error("a lane, 0 to 15")]
     Lane,
+    #[error("a lane, 0 to 255")]
+    AnyLane,
+    #[error("a link, 1 to 255, for the lane is 0")]
+    Elsewhere,
+    #[error("3 to 2048 octets, two hexadecimal digits each")]
+    Asked,
     #[error("a link, 0 to 255")]
     Link,
     #[error("octets or a procedure, which are rekeying, activate, deactivate, verify, destroy, inventory, compose, \

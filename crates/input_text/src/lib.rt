@@ -3,6 +3,7 @@
 //! [`read_line`] says what a line says, and [`put_item`] adds its octets to a text.
 #![tactic(auto)]
 
+mod asked;
 mod commands;
 mod fault;
 mod fields;
@@ -14,6 +15,7 @@ mod plain;
 mod seen;
 mod values;
 
+pub use asked::Asked;
 pub use fault::{Expected, LineError, LineFault};
 pub use item::put_item;
 pub use line::{Line, read_line};

@@ -9,8 +9,10 @@ ghost use Rattle.text_words.specs.Words.{octets_word};
 ghost use Rattle.input_text.specs.Fields.{AnswersField, AreRecorded};
 ghost use Rattle.input_text.specs.Command.{command_words, IsCommand};
 ghost use Rattle.input_text.specs.Plain.{is_skipped};
-ghost use Rattle.input_text.specs.Line.{IsLane, IsLine, Says, line_words};
+ghost use Rattle.input_text.specs.Monitor.{IsAsked, asked_words};
+ghost use Rattle.input_text.specs.Line.{IsElsewhere, IsLane, IsLine, Says, line_words};
 
+use crate::asked::{Asked, read_asked};
 use crate::commands::command_named;
 use crate::fault::{Expected, LineError, LineFault};
 use crate::fields::Fields;
@@ -34,6 +36,8 @@ pub enum Line {
     Command { lane: u8, command: Command },
     /// `command LANE octets OCTETS`: a message by its octets, whatever they are.
     Message { lane: u8, octets: Octets },
+    /// `ping`, `monitor OCTETS` and others, and before it `at LANE LINK`, if one of these is not 0.
+    Monitor { lane: u8, link: u8, asked: Asked },
 }
 
 fn lane(fields: &mut Fields<'_>) -> Result<u8, LineError>
@@ -115,6 +119,62 @@ fn command(alloc: Global, fields: &mut Fields<'_>) -> Result<Line, LineError>
     message(alloc, lane, fields)
 }
 
+/// A monitoring message by its name, behind its lane and its link.
+#[tactic(auto, using(crate::proofs::AskedWords::some_words))]
+fn elsewhere(alloc: Global, lane: u8, link: u8, fields: &mut Fields<'_>) -> Result<Line, LineError>
+    requires { IsElsewhere lane link }
+    ensures read { IfOk result (λ line. (codes "at" ∷ decimal lane ∷ decimal link ∷ fields.old ≡ line_words line)
+        × IsLine line) }
+    ensures only { (asked : Asked) → IsAsked asked → fields.old ≡ asked_words asked
+        → AnswersField result (lines.Monitor lane link asked) }
+{
+    match fields.next() {
+        Some(word) => {
+            let asked = read_asked(alloc, word, fields, Expected::Message)?;
+            Ok(Line::Monitor { lane, link, asked })
+        }
+        None => Err(fields.fault(Expected::Message)),
+    }
+}
+
+/// A link, and a monitoring message behind it. Lane and link are not both 0.
+fn behind_lane(alloc: Global, lane: u8, fields: &mut Fields<'_>) -> Result<Line, LineError>
+    ensures read { IfOk result (λ line. (codes "at" ∷ decimal lane ∷ fields.old ≡ line_words line) × IsLine line) }
+    ensures only { (link : ℕ) (asked : Asked) → link < 2 ^ 8 → IsElsewhere lane link → IsAsked asked
+        → fields.old ≡ decimal link ∷ asked_words asked → AnswersField result (lines.Monitor lane link asked) }
+{
+    let link = fields.bounded(Expected::Link, 0, 255)? as u8;
+    if lane == 0 && link == 0 {
+        return Err(fields.fault(Expected::Elsewhere));
+    }
+    elsewhere(alloc, lane, link, fields)
+}
+
+/// What stands behind `at`: a lane and a link, and a monitoring message.
+fn at(alloc: Global, fields: &mut Fields<'_>) -> Result<Line, LineError>
+    ensures read { IfOk result (λ line. (codes "at" ∷ fields.old ≡ line_words line) × IsLine line) }
+    ensures only { (lane link : ℕ) (asked : Asked) → lane < 2 ^ 8 → link < 2 ^ 8 → IsElsewhere lane link → IsAsked asked
+        → fields.old ≡ decimal lane ∷ decimal link ∷ asked_words asked
+        → AnswersField result (lines.Monitor lane link asked) }
+{
+    let lane = fields.bounded(Expected::AnyLane, 0, 255)?;
+    behind_lane(alloc, lane as u8, fields)
+}
+
+/// A monitoring message by its name, at lane 0 and link 0.
+fn monitor(alloc: Global, word: &[u8], fields: &mut Fields<'_>) -> Result<Line, LineError>
+    ensures read { IfOk result (λ line. (word.now ∷ fields.old ≡ line_words line) × IsLine line) }
+    ensures only { (asked : Asked) → IsAsked asked → word.now ∷ fields.old ≡ asked_words asked
+        → AnswersField result (lines.Monitor 0 0 asked) }
+{
+    let asked = read_asked(alloc, word, fields, Expected::Kind)?;
+    Ok(Line::Monitor {
+        lane: 0,
+        link: 0,
+        asked,
+    })
+}
+
 /// What the words of a line say.
 fn said(alloc: Global, fields: &mut Fields<'_>) -> Result<Line, LineError>
     ensures read { IfOk result (λ line. (fields.old ≡ line_words line) × IsLine line) }
@@ -128,6 +188,9 @@ fn said(alloc: Global, fields: &mut Fields<'_>) -> Result<Line, LineError>
         → fields.old ≡ line_words (lines.Command lane command) → AnswersField result (lines.Command lane command) }
     ensures message { (lane : ℕ) (octets : List ℕ) → IsLane lane → AreRecorded octets
         → fields.old ≡ line_words (lines.Message lane octets) → AnswersField result (lines.Message lane octets) }
+    ensures monitor { (lane link : ℕ) (asked : Asked) → lane < 2 ^ 8 → link < 2 ^ 8 → IsAsked asked
+        → fields.old ≡ line_words (lines.Monitor lane link asked)
+        → AnswersField result (lines.Monitor lane link asked) }
 {
     match fields.next() {
         Some(word) if word == b"fence".as_slice() => {
@@ -143,7 +206,9 @@ fn said(alloc: Global, fields: &mut Fields<'_>) -> Result<Line, LineError>
             Ok(Line::Open { lane, link, octets })
         }
         Some(word) if word == b"command".as_slice() => command(alloc, fields),
-        _ => Err(fields.fault(Expected::Kind)),
+        Some(word) if word == b"at".as_slice() => at(alloc, fields),
+        Some(word) => monitor(alloc, word, fields),
+        None => Err(fields.fault(Expected::Kind)),
     }
 }
 

@@ -1,4 +1,4 @@
--- What a message carries as octets are octets, where the message is, for `command_line`.
+-- What a message carries as octets are octets, where the message is, for `command_line` and `asked_of`.
 use Rattle.std.proofs.Common.{◌≡◌, ℕ, zero, suc, ◌*◌, List, [], ◌∷◌, ◌++◌, length, arith}
 use Rattle.std.specs.Int.{w16, to_be_bytes}
 use Rattle.hex.specs.Hex.{IsBytes}
@@ -6,6 +6,11 @@ use Rattle.ep_codec.specs.Command.{command_octets, message, sealed_data}
 use Rattle.ep_codec.specs.declared.command.Command.{Command}
 use Rattle.ep_codec.specs.declared.command.Command.TheVariants.{Rekeying, Activate, Deactivate, Verify, Destroy, Inventory, Compose, ReadNumber, Create, Delete, SetWindow, Rekey, Expire, SetNumber, Start, Stop, Status}
 use Rattle.input_text.specs.Command.{HasOctets}
+use Rattle.fsr_log.specs.declared.messages.Monitoring.{Monitoring}
+use Rattle.fsr_log.specs.declared.messages.Monitoring.TheVariants as messages
+use Rattle.fsr_log.specs.declared.messages.TheConstants.{SELF_TEST}
+use Rattle.fsr_log.specs.Message.{monitoring_octets}
+use Rattle.input_text.specs.Monitor.{HasBytes}
 
 behind_one : (x : ℕ) (xs : List ℕ) → IsBytes (x ∷ xs) → IsBytes xs
 behind_one x xs are i = are (suc i)
@@ -48,3 +53,12 @@ has_octets (SetNumber spi number) octets are spelled = tt
 has_octets (Start spi) octets are spelled = tt
 has_octets (Stop spi) octets are spelled = tt
 has_octets (Status spi) octets are spelled = tt
+
+-- the same of a monitoring message, for `asked_of`
+pub has_bytes : (asked : Monitoring) (octets : List ℕ) → IsBytes octets → octets ≡ monitoring_octets asked → HasBytes asked
+has_bytes messages.Ping octets are spelled = tt
+has_bytes messages.LogStatus octets are spelled = tt
+has_bytes messages.DumpLog octets are spelled = tt
+has_bytes messages.EraseLog octets are spelled = tt
+has_bytes (messages.SelfTest block) octets are spelled = data_of SELF_TEST block (rw spelled at are)
+has_bytes messages.AlarmReset octets are spelled = tt

@@ -1,7 +1,14 @@
 -- The words of a line in bounds have no space, for `line_says_itself` and `put_line`.
-use Rattle.std.proofs.Common.{◌≡◌, ℕ, ◌^◌, ◌<◌, ◌≤◌, IsTrue, List, [], ◌∷◌, ◌++◌, length, map, codes, refl, sym, ap, ◌∙◌, arith}
+use Rattle.std.proofs.Common.{◌≡◌, ℕ, ◌^◌, ◌<◌, ◌≤◌, Bool, true, false, if◌then◌else◌, IsTrue, List, [], ◌∷◌, ◌++◌, length, map, codes, refl, sym, ap, ◌∙◌, arith, append_assoc}
 use Rattle.std.specs.Fmt.{decimal}
+use Rattle.std.specs.Prelude.{◌==◌, ◌&&◌}
+use Rattle.hex.specs.Hex.{encode_lower}
+use Rattle.fsr_log.specs.declared.messages.Monitoring.TheVariants as messages
+use Rattle.input_text.specs.declared.asked.Asked.{Asked}
+use Rattle.input_text.specs.declared.asked.Asked.TheVariants as asks
+use Rattle.input_text.specs.Monitor.{IsAsked, asked_words}
 use Rattle.std.proofs.lemmas.Bool.Decides.{nat_tests}
+use Rattle.std.proofs.lemmas.List.{append-nil}
 use Rattle.record_io.specs.declared.kinds.TheConstants.{LANES}
 use Rattle.sdls_base.specs.declared.states.Direction.{Direction}
 use Rattle.sdls_base.specs.declared.states.Direction.TheVariants.{Send, Receive}
@@ -19,7 +26,7 @@ use Rattle.input_text.specs.Command.{value_words, command_words}
 use Rattle.input_text.specs.Line.{IsLine, line_words}
 use Rattle.unit_plan.specs.Lines.{words_of, lines_of}
 use Rattle.input_text.specs.Plain.{line_said, said_words}
-use Rattle.item_text.specs.Spelling.{joined, line_text}
+use Rattle.item_text.specs.Spelling.{at_text, joined, line_text, spaced}
 use Rattle.item_text.proofs.PlainWords.{IsPlain, ArePlain, all_said, joined_kept, joined_read, joined_line, decimal_plain, decimals_plain, digits_plain, octets_plain}
 
 key_small : (key : ℕ) → IsTrue (is_key key) → key < 2 ^ 64
@@ -122,6 +129,63 @@ pub record HasPlainWords (line : Line) : Type 0 where
   pub plain : IsPlain word
   pub each : ArePlain words
 
+-- the words of a monitoring message are plain, and there is one
+pub record HasPlainAsked (words : List (List ℕ)) : Type 0 where
+  pub word : List ℕ
+  pub rest : List (List ℕ)
+  pub are : words ≡ word ∷ rest
+  pub plain : IsPlain word
+  pub each : ArePlain rest
+
+plain_name : (word : List ℕ) → IsPlain word → HasPlainAsked (word ∷ [])
+plain_name word is = record { word = word; rest = []; are = refl; plain = is; each = tt }
+
+plain_digits : (word : List ℕ) (octets : List ℕ) → IsPlain word → 0 < length octets → HasPlainAsked (word ∷ encode_lower octets ∷ [])
+plain_digits word octets is some = record {
+  word = word;
+  rest = encode_lower octets ∷ [];
+  are = refl;
+  plain = is;
+  each = (digits_plain octets some, tt);
+}
+
+plain_asked : (asked : Asked) → IsAsked asked → HasPlainAsked (asked_words asked)
+unfolding asked_words IsAsked
+plain_asked (asks.Message messages.Ping) is = plain_name (codes "ping") (refl, refl, refl, refl)
+plain_asked (asks.Message messages.LogStatus) is = plain_name (codes "log-status") (refl, refl, refl, refl)
+plain_asked (asks.Message messages.DumpLog) is = plain_name (codes "dump-log") (refl, refl, refl, refl)
+plain_asked (asks.Message messages.EraseLog) is = plain_name (codes "erase-log") (refl, refl, refl, refl)
+plain_asked (asks.Message (messages.SelfTest block)) is =
+    let long = is.0 in plain_digits (codes "self-test") block (refl, refl, refl, refl) (omega (arith, long))
+plain_asked (asks.Message messages.AlarmReset) is = plain_name (codes "alarm-reset") (refl, refl, refl, refl)
+plain_asked (asks.Octets octets) is =
+    let long = is.some in plain_digits (codes "monitor") octets (refl, refl, refl, refl) (omega (arith, long))
+
+record HasPlainIf (here : Bool) (lane link : ℕ) (asked : Asked) : Type 0 where
+  word : List ℕ
+  words : List (List ℕ)
+  are : (if here then [] else codes "at" ∷ decimal lane ∷ decimal link ∷ []) ++ asked_words asked ≡ word ∷ words
+  plain : IsPlain word
+  each : ArePlain words
+
+monitor_if : (here : Bool) (lane link : ℕ) (asked : Asked) → lane < 2 ^ 8 → link < 2 ^ 8 → HasPlainAsked (asked_words asked)
+    → HasPlainIf here lane link asked
+monitor_if true lane link asked lane_few link_few has =
+    record { word = has.word; words = has.rest; are = has.are; plain = has.plain; each = has.each }
+monitor_if false lane link asked lane_few link_few has = record {
+  word = codes "at";
+  words = decimal lane ∷ decimal link ∷ asked_words asked;
+  are = refl;
+  plain = (refl, refl, refl, refl);
+  each = (link_plain lane lane_few, (link_plain link link_few, rw has.are (has.plain, has.each)));
+}
+
+has_monitor : (lane link : ℕ) (asked : Asked) → HasPlainIf ((lane == 0) && (link == 0)) lane link asked
+    → HasPlainWords (lines.Monitor lane link asked)
+unfolding line_words
+has_monitor lane link asked has =
+    record { word = has.word; words = has.words; are = has.are; plain = has.plain; each = has.each }
+
 plain_words : (line : Line) → IsLine line → HasPlainWords line
 unfolding IsLine line_words
 plain_words lines.Fence is = record { word = codes "fence"; words = []; are = refl; plain = (refl, refl, refl, refl); each = tt }
@@ -153,6 +217,8 @@ plain_words (lines.Message lane octets) is = record {
   plain = (refl, refl, refl, refl);
   each = (lane_plain lane is.0, ((refl, refl, refl, refl), (octets_plain octets, tt)));
 }
+plain_words (lines.Monitor lane link asked) is =
+    has_monitor lane link asked (monitor_if ((lane == 0) && (link == 0)) lane link asked is.0 is.1 (plain_asked asked is.2))
 
 -- the words of a line are read again
 pub line_read : (line : Line) → IsLine line → line_said (joined (line_words line)) ≡ line_words line
@@ -168,3 +234,47 @@ pub one_line : (line : Line) → IsLine line → (rest : List ℕ) → lines_of 
 one_line line is rest =
     let has = plain_words line is in
     rw has.are (joined_line has.word has.words rest has.plain has.each)
+
+-- ---- where a Monitor record stands is in front of its message, for `put_monitor`
+
+record Begins (words : List (List ℕ)) : Type 0 where
+  word : List ℕ
+  rest : List (List ℕ)
+  are : words ≡ word ∷ rest
+
+begins : (asked : Asked) → Begins (asked_words asked)
+unfolding asked_words
+begins (asks.Message messages.Ping) = record { word = codes "ping"; rest = []; are = refl }
+begins (asks.Message messages.LogStatus) = record { word = codes "log-status"; rest = []; are = refl }
+begins (asks.Message messages.DumpLog) = record { word = codes "dump-log"; rest = []; are = refl }
+begins (asks.Message messages.EraseLog) = record { word = codes "erase-log"; rest = []; are = refl }
+begins (asks.Message (messages.SelfTest block)) =
+    record { word = codes "self-test"; rest = encode_lower block ∷ []; are = refl }
+begins (asks.Message messages.AlarmReset) = record { word = codes "alarm-reset"; rest = []; are = refl }
+begins (asks.Octets octets) = record { word = codes "monitor"; rest = encode_lower octets ∷ []; are = refl }
+
+two_spaced : (lane link behind : List ℕ)
+    → ((lane ++ 32 ∷ (link ++ [])) ++ codes " ") ++ behind ≡ lane ++ 32 ∷ (link ++ 32 ∷ behind)
+two_spaced lane link behind =
+    append_assoc (lane ++ 32 ∷ (link ++ [])) (codes " ") behind ∙ append_assoc lane (32 ∷ (link ++ [])) (32 ∷ behind)
+    ∙ ap (λ text. lane ++ 32 ∷ (text ++ 32 ∷ behind)) (append-nil link)
+
+text_if : (here : Bool) (lane link : ℕ) (words : List (List ℕ)) → Begins words
+    → joined ((if here then [] else codes "at" ∷ decimal lane ∷ decimal link ∷ []) ++ words)
+    ≡ (if here then [] else codes "at" ++ (spaced (decimal lane ∷ decimal link ∷ []) ++ codes " ")) ++ joined words
+text_if true lane link words has = refl
+text_if false lane link words has =
+    rw has.are (ap (λ text. 97 ∷ 116 ∷ 32 ∷ text) (sym (two_spaced (decimal lane) (decimal link) (joined (has.word ∷ has.rest)))))
+
+pub monitor_text : (lane link : ℕ) (asked : Asked)
+    → joined (line_words (lines.Monitor lane link asked)) ≡ at_text lane link ++ joined (asked_words asked)
+unfolding line_words
+monitor_text lane link asked = text_if ((lane == 0) && (link == 0)) lane link (asked_words asked) (begins asked)
+
+-- what was put, one behind the other
+pub monitor_put : (lane link : ℕ) (asked : Asked) (old middle new : List ℕ) → middle ≡ old ++ at_text lane link
+    → new ≡ middle ++ joined (asked_words asked) → new ≡ old ++ joined (line_words (lines.Monitor lane link asked))
+monitor_put lane link asked old middle new first second =
+    second ∙ ap (λ text. text ++ joined (asked_words asked)) first
+    ∙ append_assoc old (at_text lane link) (joined (asked_words asked))
+    ∙ ap (λ text. old ++ text) (sym (monitor_text lane link asked))

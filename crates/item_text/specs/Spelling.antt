@@ -1,5 +1,5 @@
 -- Items of the recorded input as lines (profile).
-use Rattle.std.specs.Prelude.{◌≡◌, ⊤, ℕ, ◌⊎◌, IsTrue, codes, List, [], ◌∷◌, ◌++◌}
+use Rattle.std.specs.Prelude.{◌≡◌, ⊤, ℕ, ◌⊎◌, ◌==◌, ◌&&◌, if◌then◌else◌, IsTrue, codes, decimal, List, [], ◌∷◌, ◌++◌}
 use Rattle.std.specs.List.{flat_map, join_by}
 use Rattle.unit_plan.specs.Lines.{lines_of}
 use Rattle.record_io.specs.declared.kinds.ItemKind.{ItemKind}
@@ -8,6 +8,10 @@ use Rattle.record_io.specs.declared.kinds.RecordKind.TheVariants as records
 use Rattle.record_io.specs.Input.{Item}
 use Rattle.ep_codec.specs.declared.command.Command.{Command}
 use Rattle.ep_codec.specs.Command.{IsCommandPdu}
+use Rattle.fsr_log.specs.declared.messages.Monitoring.{Monitoring}
+use Rattle.fsr_log.specs.Message.{IsMonitoring}
+use Rattle.input_text.specs.declared.asked.Asked.{Asked}
+use Rattle.input_text.specs.declared.asked.Asked.TheVariants as asks
 use Rattle.input_text.specs.declared.line.Line.{Line}
 use Rattle.input_text.specs.declared.line.Line.TheVariants as lines
 use Rattle.input_text.specs.Plain.{is_skipped}
@@ -20,6 +24,11 @@ spaced words = flat_map (λ word. 32 ∷ word) words
 -- words, a space between two of them
 abbrev pub joined : List (List ℕ) → List ℕ
 joined words = join_by (λ word. word) (codes " ") words
+
+-- where a Monitor record stands, in front of its message
+abbrev pub at_text : ℕ → ℕ → List ℕ
+at_text lane link = if (lane == 0) && (link == 0) then []
+    else codes "at" ++ (spaced (decimal lane ∷ decimal link ∷ []) ++ codes " ")
 
 -- a line with the line feed at its end
 abbrev pub line_text : Line → List ℕ
@@ -36,6 +45,7 @@ seen_link Fence link = 0
 seen_link (Recorded records.Protect) link = link
 seen_link (Recorded records.Open) link = link
 seen_link (Recorded records.Command) link = 0
+seen_link (Recorded records.Monitor) link = link
 
 -- the item, where what is not looked at is 0
 abbrev pub seen_item : Item → Item
@@ -46,13 +56,19 @@ seen_item item = record {
   octets = item.octets;
 }
 
--- a message of a command is told by its name and values, and not by its octets
+-- a monitoring message is told by its name, and not by its octets
+abbrev pub IsNamedAsked : Asked → Type 0
+IsNamedAsked (asks.Message message) = ⊤
+IsNamedAsked (asks.Octets octets) = (message : Monitoring) → IsMonitoring message octets → ⊥
+
+-- a message of a command is told by its name and values, and not by its octets; a monitoring message by its name
 abbrev pub IsNamed : Line → Type 0
 IsNamed lines.Fence = ⊤
 IsNamed (lines.Protect lane link octets) = ⊤
 IsNamed (lines.Open lane link octets) = ⊤
 IsNamed (lines.Command lane command) = ⊤
 IsNamed (lines.Message lane octets) = (command : Command) → IsCommandPdu command octets → ⊥
+IsNamed (lines.Monitor lane link asked) = IsNamedAsked asked
 
 -- the text is one line, with its line feed, whatever stands behind it; and the line says this item
 pub record Spells (item : Item) (text : List ℕ) : Type 0 where

@@ -8,11 +8,13 @@ ghost use Rattle.input_text.specs.Line.{IsLine, line_item};
 ghost use Rattle.record_io.specs.declared.kinds.ItemKind.TheVariants.{Fence};
 ghost use Rattle.record_io.specs.Input.{IsItem};
 ghost use Rattle.record_io.specs.Steps.{item_of};
-ghost use Rattle.item_text.specs.Spelling.{AddsLine, IsNamed, seen_item};
+ghost use Rattle.input_text.specs.Monitor.{AreAsked, IsAsked, asked_octets};
+ghost use Rattle.item_text.specs.Spelling.{AddsLine, IsNamed, IsNamedAsked, seen_item};
 
 use crate::line::put_line;
 use ep_codec::{PduError, read_pdu};
-use input_text::Line;
+use fsr_log::read_monitoring;
+use input_text::{Asked, Line};
 use record_io::{Record, RecordKind};
 use sdls_base::{NoMemory, Octets};
 use std::alloc::Global;
@@ -27,6 +29,19 @@ fn command_line(alloc: Global, lane: u8, octets: Octets) -> Result<Line, NoMemor
         Ok(command) => Ok(Line::Command { lane, command }),
         Err(PduError::Fault(_)) => Ok(Line::Message { lane, octets }),
         Err(PduError::NoMemory) => Err(NoMemory),
+    }
+}
+
+/// What a Monitor record asks: by the name of its message where the octets are one, and else by its octets.
+#[tactic(auto, unfolding(input_text::specs::Monitor::asked_octets, input_text::specs::Monitor::IsAsked))]
+fn asked_of(octets: Octets) -> Asked
+    ensures octets { asked_octets result ≡ octets }
+    ensures bounds { AreAsked octets → IsAsked result }
+    ensures named { IsNamedAsked result }
+{
+    match read_monitoring(octets.as_slice()) {
+        Ok(message) => Asked::Message(message),
+        Err(_) => Asked::Octets(octets),
     }
 }
 
@@ -56,12 +71,18 @@ fn line_of(alloc: Global, recorded: Record) -> Result<Line, NoMemory>
         RecordKind::Protect => Ok(Line::Protect { lane, link, octets }),
         RecordKind::Open => Ok(Line::Open { lane, link, octets }),
         RecordKind::Command => command_line(alloc, lane, octets),
+        RecordKind::Monitor => Ok(Line::Monitor {
+            lane,
+            link,
+            asked: asked_of(octets),
+        }),
     }
 }
 
 /// Puts the line of a record, with a line feed at its end. After an error a front of it may have been put.
 ///
-/// A command is told by its name and values where its octets are a message, and else by its octets.
+/// A command is told by its name and values where its octets are a message, and else by its octets; a monitoring
+/// message likewise.
 pub fn put_record(alloc: Global, text: &mut Vec<u8>, recorded: Record) -> Result<(), NoMemory>
     ensures { IsItem (item_of recorded) → OnOk result
         (AddsLine (seen_item (item_of recorded)) text.old.items text.new.items) }

@@ -11,7 +11,7 @@ use Rattle.record_io.specs.declared.code.TheConstants.{END}
 use Rattle.record_io.specs.Answers.{IsAnswer, answer_octets, answers_octets}
 use Rattle.record_io.specs.Places.{records_of}
 use Rattle.record_io.specs.declared.kinds.RecordKind.{RecordKind}
-use Rattle.record_io.specs.declared.kinds.RecordKind.TheVariants.{Protect, Open, Command}
+use Rattle.record_io.specs.declared.kinds.RecordKind.TheVariants.{Protect, Open, Command, Monitor}
 use Rattle.run_promise.specs.Answers.{Uses, Accepts, any_codes, codes_of}
 use Rattle.run_promise.specs.Run.{NearWord}
 use Rattle.law_history.proofs.Codes.{fits_code}
@@ -321,6 +321,7 @@ codes_are : (kind : RecordKind) → AreAnswerCodes (codes_of kind)
 codes_are Protect = (refl, (refl, (refl, (refl, (refl, (refl, any_codes_are))))))
 codes_are Open = (refl, (refl, (refl, (refl, (refl, (refl, (refl, (refl, (refl, (refl, any_codes_are))))))))))
 codes_are Command = (refl, (refl, any_codes_are))
+codes_are Monitor = (refl, (refl, (refl, tt)))
 
 abbrev HasCode : Answer → Type 0
 HasCode answer = IsAnswerCode answer.code

@@ -15,7 +15,7 @@ use Rattle.ep_core.specs.Seen.{MeetsNeed}
 use Rattle.key_book.specs.declared.key_row.KeyRow.{KeyRow}
 use Rattle.key_book.specs.KeyBook.{place_of}
 use Rattle.record_io.specs.declared.kinds.RecordKind.{RecordKind}
-use Rattle.record_io.specs.declared.kinds.RecordKind.TheVariants.{Protect, Command}
+use Rattle.record_io.specs.declared.kinds.RecordKind.TheVariants.{Protect, Command, Monitor}
 use Rattle.record_io.specs.declared.records.Record.{Record}
 use Rattle.record_io.specs.declared.code.TheConstants.{SITE_FAULT, JOURNAL_FULL}
 use Rattle.unit_state.specs.declared.state.State.{State}
@@ -60,6 +60,9 @@ use Rattle.law_calls.proofs.Reserves.{reserved, refused}
 
 not_protect : (kind : RecordKind) → kind ≡ Command → kind ≢ Protect
 not_protect kind is other = let both : Command ≡ Protect = sym is ∙ other in cc
+
+not_monitor : (kind : RecordKind) → kind ≡ Command → kind ≢ Monitor
+not_monitor kind is other = let both : Command ≡ Monitor = sym is ∙ other in cc
 
 pub one_drawer : (task : Record) → task.kind ≡ Command → drawers (task ∷ []) ≡ 1
 one_drawer task is = ap (λ (k : RecordKind). drawers (record task { kind = k } ∷ [])) is
@@ -269,7 +272,7 @@ module _ (told : Bool) (c : Call told) (commands : c.task.kind ≡ Command) wher
         let below = low reply in
         answered_so c.begin c.layout c.segment c.old_view c.new_view c.task (answer_of (replied_told reply) position) (λ code. absurd (omega arith))
         (made told c middle s.es s.stage (record_entry c.task.index seen h.change) s.numbers h.made.0
-        (legal h.made.0 h.change reply h.step) (λ index. omega arith) own_few (replied_told reply) position h.made.1 (not_protect c.task.kind commands)
+        (legal h.made.0 h.change reply h.step) (λ index. omega arith) own_few (replied_told reply) position h.made.1 (not_protect c.task.kind commands) (not_monitor c.task.kind commands)
         (λ known at. commanded_fits (IsBetween c.begin c.old_view c.new_view) (course_in c.begin c.new_view) c.task (entries_of middle.log) middle.state
         (record_entry c.task.index seen h.change) position known (s.stage.state h.made.0.0) at commands seen h.change reply h.step refl)
         (λ key number uses. used_here h.change reply position h.step key number uses) (plain reply)
@@ -279,13 +282,13 @@ module _ (told : Bool) (c : Call told) (commands : c.task.kind ≡ Command) wher
         → RefusesMessage c.task.index c.task.octets seen middle c.given fault
         → Answered c.layout c.begin c.segment c.old_view c.new_view c.task (fault_answer fault position)
     refuses fault position at (inl (is_barred, same)) =
-        barred told c middle s.es s.stage s.numbers same fault position at is_barred (inl (not_protect c.task.kind commands))
+        barred told c middle s.es s.stage s.numbers same (not_monitor c.task.kind commands) fault position at is_barred (inl (not_protect c.task.kind commands))
     refuses fault position at (inr (inl (none, same))) =
         subst (λ (f : BookFault). Answered c.layout c.begin c.segment c.old_view c.new_view c.task (fault_answer f position)) (sym none)
         (wanting told c middle s.es s.stage s.numbers same commands)
     refuses fault position at (inr (inr (can, ((change, reply), step, fails)))) =
         unstored told c middle s.es s.stage (record_entry c.task.index seen change) s.numbers can
-        (legal can change reply step) (λ index. omega arith) own_few fault position at fails
+        (legal can change reply step) (λ index. omega arith) own_few (not_monitor c.task.kind commands) fault position at fails
         (λ same stored. may_change change reply step (length (entries_of middle.log)) same stored)
 
   -- the reserve of a number that the message needs was refused
@@ -295,7 +298,7 @@ module _ (told : Bool) (c : Call told) (commands : c.task.kind ≡ Command) wher
   fails need fault position at needed f =
       let shows = draws_shows c.begin c.task c.old_view c.new_view may_draw f.row (end_of f.key) f.n f.draws in
       let is_near = between f.key f.n f.row ((f.row, f.n) ∷ []) [] [] ((f.row, 1) ∷ []) f.place shows in
-      refused told c may_draw f.key f.n f.row f.place f.below is_near
+      refused told c may_draw f.key f.n f.row f.place f.below is_near (not_monitor c.task.kind commands)
       (added_by f.row f.n ((f.row, f.n) ∷ []) [] [] ((f.row, 1) ∷ []) shows) fault position at f.reserved
       (λ p low same unmarked.
       let can_draw : CanDraw (IsBetween c.begin c.old_view c.new_view) (course_in c.begin c.new_view) p c.task = record {

@@ -1,5 +1,5 @@
 -- A message moves the word that it needs, and its answer tells how.
-use Rattle.std.proofs.Common.{◌≡◌, ◌⊎◌, ℕ, ◌+◌, ◌-◌, ◌<◌, ◌≤◌, Bool, false, List, [], ◌∷◌, ◌++◌, length, Some, Result, Ok, Err, refl, sym, ◌∙◌, ap, subst, arith, inl, inr, append-nil, length-append}
+use Rattle.std.proofs.Common.{◌≡◌, ◌⊎◌, ℕ, ◌+◌, ◌-◌, ◌<◌, ◌≤◌, Bool, false, List, [], ◌∷◌, ◌++◌, length, Some, Result, Ok, Err, refl, sym, ◌∙◌, ap, subst, arith, inl, inr, append-nil, length-append, true}
 use Rattle.std.specs.Bool.{⊤}
 use Rattle.std.proofs.lemmas.List.{append_cancel_left, take_all}
 use Rattle.sdls_base.specs.KeyId.{end_of}
@@ -18,7 +18,7 @@ use Rattle.ep_core.specs.declared.reply.Reply.TheVariants as replies
 use Rattle.record_io.specs.declared.answers.Answer.{Answer}
 use Rattle.record_io.specs.declared.code.TheConstants.{JOURNAL_FULL}
 use Rattle.record_io.specs.declared.kinds.RecordKind.{RecordKind}
-use Rattle.record_io.specs.declared.kinds.RecordKind.TheVariants.{Open, Command}
+use Rattle.record_io.specs.declared.kinds.RecordKind.TheVariants.{Command}
 use Rattle.record_io.specs.declared.records.Record.{Record}
 use Rattle.unit_plan.specs.PlanLines.{PlanLines}
 use Rattle.unit_state.specs.declared.state.State.{State}
@@ -29,6 +29,7 @@ use Rattle.counter_table.specs.Known.{Earlier}
 use Rattle.counter_table.specs.declared.view.Numbers.{Numbers}
 use Rattle.counter_table.specs.Numbers.{top, arming}
 use Rattle.counter_table.specs.Turn.{places}
+use Rattle.run_promise.specs.Counts.{draws}
 use Rattle.run_promise.specs.Answers.{counting, replied_told}
 use Rattle.run_promise.specs.Entries.{record_entry, IsNeedOf, IsStepOf}
 use Rattle.run_promise.specs.Legal.{KeyOf}
@@ -230,8 +231,8 @@ module _ (told : Bool) (c : Call told) (commands : c.task.kind ≡ Command)
     }
   saw need seen middle needed s = absurd s
 
-  not_open : (move : Move) → c.task.kind ≡ Open → move ≡ Kept
-  not_open move is = absurd (let both : Command ≡ Open = sym commands ∙ is in let b = both in cc)
+  not_kept : (move : Move) → draws c.task.kind ≡ false → move ≡ Kept
+  not_kept move is = absurd (let both : true ≡ false = ap draws (sym commands) ∙ is in let b = both in cc)
 
   by_lines : (es : List Entry) → c.given.log ≡ c.found.log ++ lines_of es → Turned c.found.log es c.old_view.turn c.new_view.turn
   by_lines es is = c.pass c.found.log es (turned told c.begin c.found c.given c.taken c.new_view.turn c.began c.free c.visits es is)
@@ -405,7 +406,7 @@ module _ (told : Bool) (c : Call told) (commands : c.task.kind ≡ Command)
         → AnsweredExactly c.begin c.segment c.old_view c.new_view c.task (fault_answer fault position)
     refused es is are fault position few full =
         refused_exactly c.begin c.segment c.task c.old_view c.new_view m.move m.moves c.found.log es (by_lines es is) are
-        s.numbers.spent (passes es is s.numbers.spent s.numbers.counted.spent_is) (not_open m.move) fault position few
+        s.numbers.spent (passes es is s.numbers.spent s.numbers.counted.spent_is) (not_kept m.move) fault position few
         (λ slots same. (
           (full slots same).0,
           λ here level backed.
@@ -485,7 +486,7 @@ module _ (told : Bool) (c : Call told) (commands : c.task.kind ≡ Command)
         → AnsweredExactly c.begin c.segment c.old_view c.new_view c.task (fault_answer other position)
     ends es is are other few full =
         refused_exactly c.begin c.segment c.task c.old_view c.new_view (Drew f.row f.n) moves c.found.log es (by_lines es is) are
-        [] (passes es is [] shows.counted.spent_is) (not_open (Drew f.row f.n)) other position few
+        [] (passes es is [] shows.counted.spent_is) (not_kept (Drew f.row f.n)) other position few
         (λ slots same. (
           (full slots same).0,
           λ here level backed.

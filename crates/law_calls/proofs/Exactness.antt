@@ -11,10 +11,11 @@ use Rattle.sdls_base.specs.declared.entry.Logged.TheVariants as lines
 use Rattle.record_io.specs.declared.answers.Answer.{Answer}
 use Rattle.record_io.specs.declared.code.TheConstants.{JOURNAL_FULL, SITE_FAULT, STOPPED, NO_MEMORY, CLEAR, DONE, REFUSED, LAYOUT, STATE}
 use Rattle.record_io.specs.declared.kinds.RecordKind.{RecordKind}
-use Rattle.record_io.specs.declared.kinds.RecordKind.TheVariants.{Protect, Open, Command}
+use Rattle.record_io.specs.declared.kinds.RecordKind.TheVariants.{Protect, Open, Command, Monitor}
 use Rattle.record_io.specs.declared.records.Record.{Record}
 use Rattle.counter_table.specs.declared.view.View.{View}
 use Rattle.counter_table.specs.Turn.{places, stands}
+use Rattle.run_promise.specs.Counts.{draws}
 use Rattle.run_promise.specs.Answers.{counting}
 use Rattle.unit_book.specs.declared.fault.BookFault.{BookFault}
 use Rattle.unit_book.specs.declared.fault.BookFault.TheVariants as refusals
@@ -113,7 +114,7 @@ module _ (begin : Begin) (segment : ℕ) (task : Record) (v w : View) (move : Mo
   }
 
   -- codes behind JOURNAL_FULL tell nothing of the move, but that a frame that is opened makes none
-  late_tells : (kind : RecordKind) → (kind ≡ Open → move ≡ Kept) → (code n position : ℕ) → JOURNAL_FULL < code
+  late_tells : (kind : RecordKind) → (draws kind ≡ false → move ≡ Kept) → (code n position : ℕ) → JOURNAL_FULL < code
       → TellsKind begin.start (entries_in w) kind (deed_of segment task (answer_of (counting code 0 n) position)) move
   late_tells Protect kept code n position late = record {
     protected = λ is. absurd (omega arith);
@@ -129,15 +130,16 @@ module _ (begin : Begin) (segment : ℕ) (task : Record) (v w : View) (move : Mo
     by_code : (code ≡ DONE) ⊎ (code ≡ REFUSED) → ⊥
     by_code (inl is) = omega arith
     by_code (inr is) = omega arith
+  late_tells Monitor kept code n position late = kept refl
 
   late : (code n position : ℕ) → JOURNAL_FULL < code → IsServed (answer_of (counting code 0 n) position)
   late code n position low same level backed =
       served_late begin v w log es turned segment task move spent passes (answer_of (counting code 0 n) position) same low
 
-  pub wanting_exactly : (task.kind ≡ Open → move ≡ Kept) → AnsweredExactly begin segment v w task (Some unserved_answer)
+  pub wanting_exactly : (draws task.kind ≡ false → move ≡ Kept) → AnsweredExactly begin segment v w task (Some unserved_answer)
   wanting_exactly kept = told_exactly unserved_answer (late_tells task.kind kept NO_MEMORY 0 0 (omega arith)) (late NO_MEMORY 0 0 (omega arith))
 
-  pub refused_exactly : (task.kind ≡ Open → move ≡ Kept) → (fault : BookFault) (position : ℕ)
+  pub refused_exactly : (draws task.kind ≡ false → move ≡ Kept) → (fault : BookFault) (position : ℕ)
       → (fault ≡ refusals.SessionFull → (length es ≤ 1) × IsClean v × AllStand w)
       → ((slots : ℕ) → fault ≡ refusals.JournalFull slots
       → Tells begin.start (entries_in w) (deed_of segment task (answer_of (counting JOURNAL_FULL 0 slots) position)) move

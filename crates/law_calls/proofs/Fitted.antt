@@ -14,12 +14,12 @@ use Rattle.ep_core.specs.declared.reply.Reply.{Reply}
 use Rattle.record_io.specs.declared.records.Record.{Record}
 use Rattle.record_io.specs.declared.answers.Answer.{Answer}
 use Rattle.record_io.specs.declared.kinds.RecordKind.{RecordKind}
-use Rattle.record_io.specs.declared.kinds.RecordKind.TheVariants.{Protect, Open, Command}
+use Rattle.record_io.specs.declared.kinds.RecordKind.TheVariants.{Protect, Open, Command, Monitor}
 use Rattle.record_io.specs.declared.code.TheConstants.{JOURNAL_FULL, SITE_FAULT, STOPPED}
 use Rattle.run_promise.specs.Answers.{counting, opened_told, replied_told}
 use Rattle.run_promise.specs.Entries.{frame_entry, record_entry, IsStepOf}
 use Rattle.run_promise.specs.Stored.{stored_count}
-use Rattle.run_promise.specs.Fits.{Course, Fits, FitsAny, FitsKind, MayAppend, MayAppendOnce, TellsRisenCount, state_after}
+use Rattle.run_promise.specs.Fits.{Course, Fits, FitsAny, FitsKind, MayAppend, MayAppendOnce, TellsRisenCount, IsWanting, state_after}
 use Rattle.law_calls.specs.Answering.{answer_of, unserved_answer}
 
 pub after_front : (start : State) (es rest : List Entry) → after_first start (es ++ rest) (length es) ≡ after start es
@@ -31,13 +31,21 @@ behind [] e = refl
 behind (x ∷ es) e = behind es e
 
 module _ (near : ℕ → ℕ → Type 0) (course : Course) (task : Record) where
-  by_any : (kind : RecordKind) (answer : Answer) → FitsAny near course task answer → FitsKind near course task answer kind
-  by_any Protect answer any = inr (inr (inr any))
-  by_any Open answer any = inr any
-  by_any Command answer any = inr any
+  by_any : (kind : RecordKind) (answer : Answer) → kind ≢ Monitor → FitsAny near course task answer → FitsKind near course task answer kind
+  by_any Protect answer plain any = inr (inr (inr any))
+  by_any Open answer plain any = inr any
+  by_any Command answer plain any = inr any
+  by_any Monitor answer plain any = absurd (plain refl)
 
-  pub fits_any : (answer : Answer) → FitsAny near course task answer → Fits near course task answer
-  fits_any answer any = by_any task.kind answer any
+  pub fits_any : (answer : Answer) → task.kind ≢ Monitor → FitsAny near course task answer → Fits near course task answer
+  fits_any answer plain any = by_any task.kind answer plain any
+
+  -- memory may be wanting for a record of any kind
+  by_wanting : (kind : RecordKind) (answer : Answer) → IsWanting answer → FitsKind near course task answer kind
+  by_wanting Protect answer wants = inr (inr (inr (inr (inr (inr wants)))))
+  by_wanting Open answer wants = inr (inr (inr (inr wants)))
+  by_wanting Command answer wants = inr (inr (inr (inr wants)))
+  by_wanting Monitor answer wants = inr wants
 
   -- the entry that the answer tells is the last
   module _ (front : List Entry) (state : State) (entry : Entry) (position : ℕ) (entries : course.entries ≡ front ++ entry ∷ [])
@@ -81,12 +89,12 @@ module _ (near : ℕ → ℕ → Type 0) (course : Course) (task : Record) where
         }))
 
   pub wanting_fits : Fits near course task unserved_answer
-  wanting_fits = fits_any unserved_answer (inr (inr (inr (record { told = refl; position_is = refl }))))
+  wanting_fits = by_wanting task.kind unserved_answer (record { told = refl; position_is = refl })
 
-  pub full_fits : (slots position : ℕ) → position ≡ length course.entries → (IsTrue course.begin.told → slots ≡ course.begin.slots)
+  pub full_fits : task.kind ≢ Monitor → (slots position : ℕ) → position ≡ length course.entries → (IsTrue course.begin.told → slots ≡ course.begin.slots)
       → (IsTrue course.begin.told → course.begin.used + stored_count course.begin.start course.entries ≡ course.begin.slots)
       → MayAppend near course (length course.entries) task → Fits near course task (answer_of (counting JOURNAL_FULL 0 slots) position)
-  full_fits slots position is slots_are full may = fits_any (answer_of (counting JOURNAL_FULL 0 slots) position) (inl (record {
+  full_fits plain slots position is slots_are full may = fits_any (answer_of (counting JOURNAL_FULL 0 slots) position) plain (inl (record {
     told = refl;
     within = omega arith;
     slots_are = slots_are;
@@ -98,13 +106,13 @@ module _ (near : ℕ → ℕ → Type 0) (course : Course) (task : Record) where
       → TellsRisenCount course code (answer_of (counting code 0 count) position)
   tells code count position is rose low = record { told = refl; rose = rose; counted = low; position_is = is }
 
-  pub faulted_fits : (count position : ℕ) → position ≡ length course.entries → Rose course.faults_before count → count ≤ course.faults
+  pub faulted_fits : task.kind ≢ Monitor → (count position : ℕ) → position ≡ length course.entries → Rose course.faults_before count → count ≤ course.faults
       → MayAppendOnce near course task → (front : List Entry) (entry : Entry) → course.entries ≡ front ++ entry ∷ []
       → (entry.index ≡ None) ⊎ (entry.index ≡ Some task.index) → Fits near course task (answer_of (counting SITE_FAULT 0 count) position)
-  faulted_fits count position is rose low may front entry entries own =
+  faulted_fits plain count position is rose low may front entry entries own =
       let size : length course.entries ≡ length front + 1 = ap length entries ∙ length-append front (entry ∷ []) in
       let before : position - 1 ≡ length front = omega arith in
-      fits_any (answer_of (counting SITE_FAULT 0 count) position) (inr (inl (record {
+      fits_any (answer_of (counting SITE_FAULT 0 count) position) plain (inr (inl (record {
         tells = tells SITE_FAULT count position is rose low;
         may = may;
         entry = entry;
@@ -115,7 +123,7 @@ module _ (near : ℕ → ℕ → Type 0) (course : Course) (task : Record) where
         own = own;
       })))
 
-  pub stopped_fits : (count position : ℕ) → position ≡ length course.entries → Rose course.faults_before count → count ≤ course.faults
+  pub stopped_fits : task.kind ≢ Monitor → (count position : ℕ) → position ≡ length course.entries → Rose course.faults_before count → count ≤ course.faults
       → (task.kind ≢ Protect) ⊎ MayAppendOnce near course task → Fits near course task (answer_of (counting STOPPED 0 count) position)
-  stopped_fits count position is rose low may = fits_any (answer_of (counting STOPPED 0 count) position)
+  stopped_fits plain count position is rose low may = fits_any (answer_of (counting STOPPED 0 count) position) plain
       (inr (inr (inl (record { tells = tells STOPPED count position is rose low; may = may }))))

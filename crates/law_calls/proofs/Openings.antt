@@ -6,7 +6,7 @@ use Rattle.frame_checks.specs.declared.open_reply.OpenReply.TheVariants as opens
 use Rattle.frame_checks.specs.Accepting.{field_in, LeavesOctets}
 use Rattle.frame_checks.specs.OpeningFrames.{IsOpenReply}
 use Rattle.record_io.specs.declared.kinds.RecordKind.{RecordKind}
-use Rattle.record_io.specs.declared.kinds.RecordKind.TheVariants.{Protect, Open}
+use Rattle.record_io.specs.declared.kinds.RecordKind.TheVariants.{Protect, Open, Monitor}
 use Rattle.record_io.specs.declared.records.Record.{Record}
 use Rattle.record_io.specs.declared.code.TheConstants.{PROTECTED, DONE, SITE_FAULT, JOURNAL_FULL}
 use Rattle.unit_plan.specs.PlanLines.{PlanLines}
@@ -70,6 +70,9 @@ opened_low (opens.Number key number high width) field = omega arith
 unused : (reply : OpenReply) (field : List ℕ) (position key number : ℕ) → Uses (answer_of (opened_told reply field) position) key number → ⊥
 unused reply field position key number (inl is, of_key, of_number) = (opened_plain reply field).0 is
 unused reply field position key number (inr (is, some), of_key, of_number) = (opened_plain reply field).1 is
+
+not_monitor : (kind : RecordKind) → kind ≡ Open → kind ≢ Monitor
+not_monitor kind is other = let both : Open ≡ Monitor = sym is ∙ other in cc
 
 not_protect : (kind : RecordKind) → kind ≡ Open → kind ≢ Protect
 not_protect kind is other = let both : Open ≡ Protect = sym is ∙ other in cc
@@ -168,7 +171,7 @@ module _ (told : Bool) (begin : Begin) (layout : Layout) (segment : ℕ) (task :
       found [] (stage_found told call)
       (frame_entry found.plan found.state task.index reply) none_added can
       (legal reply field opened.reply_is can) (one reply field opened.reply_is can) (omega arith)
-      (opened_told reply field) position opened.made.1 (not_protect task.kind opens_it)
+      (opened_told reply field) position opened.made.1 (not_protect task.kind opens_it) (not_monitor task.kind opens_it)
       (λ known at. opened_fits (IsBetween begin v w) (course_in begin w) task front (after begin.start front)
       (frame_entry found.plan found.state task.index reply) position known refl at opens_it reply field
       (replies_then reply field opened.reply_is can) (entry_then reply field opened.reply_is can))
@@ -177,9 +180,9 @@ module _ (told : Bool) (begin : Begin) (layout : Layout) (segment : ℕ) (task :
   opening_answers left (Err (fault, position)) (inl (is_barred, same), at) =
       barred told call
       found [] (stage_found told call)
-      none_added same fault position at is_barred (inl (not_protect task.kind opens_it))
+      none_added same (not_monitor task.kind opens_it) fault position at is_barred (inl (not_protect task.kind opens_it))
   opening_answers left (Err (fault, position)) (inr (can, (reply, field, replies, refused)), at) =
       unstored told call
       found [] (stage_found told call)
       (frame_entry found.plan found.state task.index reply) none_added can
-      (legal reply field replies can) (one reply field replies can) (omega arith) fault position at refused (may reply field replies can)
+      (legal reply field replies can) (one reply field replies can) (omega arith) (not_monitor task.kind opens_it) fault position at refused (may reply field replies can)

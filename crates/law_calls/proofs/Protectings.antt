@@ -1,12 +1,12 @@
 -- The answer to a frame that was protected, or refused.
-use Rattle.std.proofs.Common.{◌≡◌, ◌≢◌, ◌⊎◌, ℕ, ◌<◌, ◌≤◌, Bool, IsTrue, true, false, not, ◌&&◌, ◌||◌, nat_le, List, [], ◌∷◌, take, Option, Some, None, Ok, Err, refl, sym, ◌∙◌, ap, subst, arith, inl, inr, append-nil, if◌then◌else◌, eqb, eq-eqb}
+use Rattle.std.proofs.Common.{◌≡◌, ◌≢◌, ◌⊎◌, ℕ, ◌<◌, ◌≤◌, Bool, IsTrue, true, false, ◌&&◌, ◌||◌, nat_le, List, [], ◌∷◌, take, Option, Some, None, Ok, Err, refl, sym, ◌∙◌, ap, subst, arith, inl, inr, append-nil, if◌then◌else◌, eqb, eq-eqb}
 use Rattle.sdls_base.specs.KeyId.{end_of}
 use Rattle.sdls_base.specs.Numbers.{times}
 use Rattle.sdls_base.specs.declared.entry.Entry.{Entry}
 use Rattle.key_book.specs.KeyBook.{place_of}
 use Rattle.record_io.specs.declared.answers.Answer.{Answer}
 use Rattle.record_io.specs.declared.kinds.RecordKind.{RecordKind}
-use Rattle.record_io.specs.declared.kinds.RecordKind.TheVariants.{Protect, Open, Command}
+use Rattle.record_io.specs.declared.kinds.RecordKind.TheVariants.{Protect, Open, Command, Monitor}
 use Rattle.record_io.specs.declared.records.Record.{Record}
 use Rattle.record_io.specs.declared.code.TheConstants.{PROTECTED, CLEAR, EXHAUSTED, ACCEPTED, DONE, NUMBER, SITE_FAULT, NO_MEMORY}
 use Rattle.unit_plan.specs.PlanLines.{PlanLines, link_of}
@@ -41,7 +41,7 @@ use Rattle.shared_unit.proofs.Checks.{bound_check}
 use Rattle.shared_unit.proofs.Passing.{reserves_changes}
 use Rattle.run_promise.specs.Begin.{Begin}
 use Rattle.law_workers.specs.Views.{IsBetween, IsRow, entries_in}
-use Rattle.run_promise.specs.Deed.{deed_of, is_protected, epoch_told}
+use Rattle.run_promise.specs.Deed.{deed_of, is_entered, is_protected, epoch_told}
 use Rattle.law_workers.specs.Deeds.{course_in, StandsWithin}
 use Rattle.law_workers.specs.Order.{Layout, Handled}
 use Rattle.law_workers.specs.Began.{BeganWith}
@@ -51,24 +51,26 @@ use Rattle.law_calls.proofs.OneRecord.{Turned, Counted, handled_answered, answer
 use Rattle.law_calls.proofs.Counting.{Shows, counted_none, draws_shows, back_shows, uses_shows, out_shows}
 use Rattle.law_calls.proofs.Permitted.{bound_reply, planned_reply, clear_reply, channel_passed, began_before, row_before, row_last}
 use Rattle.law_calls.proofs.Visit.{changes_are, standing_found, led_known}
-use Rattle.law_calls.proofs.Stages.{Call, Stage, stage_found, answered}
+use Rattle.law_calls.proofs.Stages.{Call, Stage, stage_found, answered, uncounted}
 use Rattle.law_calls.proofs.Reserves.{reserved, refused}
 
 pub one_drawer : (task : Record) → task.kind ≡ Protect → drawers (task ∷ []) ≡ 1
 one_drawer task is = ap (λ (k : RecordKind). drawers (record task { kind = k } ∷ [])) is
 
 -- an answer of a frame tells an epoch, where the frame has a channel
-protected_only : (kind : RecordKind) (some below : Bool) → kind ≡ Protect → IsTrue (not (is_protected kind) && (some && below)) → ⊥
+protected_only : (kind : RecordKind) (some below : Bool) → kind ≡ Protect → IsTrue (is_entered kind && (some && below)) → ⊥
 protected_only Protect some below is told = let t : false ≡ true = told in cc
 protected_only Open some below is told = absurd (let no = is in cc)
 protected_only Command some below is told = absurd (let no = is in cc)
+protected_only Monitor some below is told = absurd (let no = is in cc)
 
 ordered_channel : (kind : RecordKind) (some below channel low : Bool) → kind ≡ Protect
-    → IsTrue ((not (is_protected kind) && (some && below)) || (is_protected kind && (channel && low))) → IsTrue channel
+    → IsTrue ((is_entered kind && (some && below)) || (is_protected kind && (channel && low))) → IsTrue channel
 ordered_channel Protect some below true low is told = refl
 ordered_channel Protect some below false low is told = let t : false ≡ true = told in absurd cc
 ordered_channel Open some below channel low is told = absurd (let no = is in cc)
 ordered_channel Command some below channel low is told = absurd (let no = is in cc)
+ordered_channel Monitor some below channel low is told = absurd (let no = is in cc)
 
 module _ (told : Bool) (begin : Begin) (layout : Layout) (segment : ℕ) (task : Record)
     (v w : View) (began : BeganWith told begin v.turn.known.opening) (free : v.turn.holds ≡ false) (protects : task.kind ≡ Protect) where
@@ -251,6 +253,9 @@ module _ (told : Bool) (begin : Begin) (layout : Layout) (segment : ℕ) (task :
 
   -- ---- where an answer stands
 
+  recorded : task.kind ≢ Monitor
+  recorded other = let both : Protect ≡ Monitor = sym protects ∙ other in cc
+
   kind_true : is_protected task.kind ≡ true
   kind_true = ap is_protected protects
 
@@ -263,6 +268,7 @@ module _ (told : Bool) (begin : Begin) (layout : Layout) (segment : ℕ) (task :
       record {
         entry = λ t. absurd (protected_only task.kind (nat_le ACCEPTED fields.code) (nat_le fields.code NUMBER) protects t);
         stored = λ t. absurd (protected_only task.kind (nat_le ACCEPTED fields.code) (nat_le fields.code NUMBER) protects t);
+        counted = λ t. absurd (uncounted task.kind fields.code recorded t);
         epoch = λ _. (omega arith, omega arith);
         number = λ is _. number is;
       }
@@ -273,6 +279,7 @@ module _ (told : Bool) (begin : Begin) (layout : Layout) (segment : ℕ) (task :
   plain_stands fields some none = record {
     entry = λ t. absurd (protected_only task.kind (nat_le ACCEPTED fields.code) (nat_le fields.code NUMBER) protects t);
     stored = λ t. absurd (protected_only task.kind (nat_le ACCEPTED fields.code) (nat_le fields.code NUMBER) protects t);
+    counted = λ t. absurd (uncounted task.kind fields.code recorded t);
     epoch = λ o.
         let there = channel_passed begin.plan task.link task.octets (ordered_channel task.kind (nat_le ACCEPTED fields.code) (nat_le fields.code NUMBER)
         (has_channel begin.plan task.link task.octets) (nat_le fields.code EXHAUSTED) protects o) in
@@ -405,7 +412,7 @@ module _ (told : Bool) (begin : Begin) (layout : Layout) (segment : ℕ) (task :
         let shows = drawn_shows drawn in
         refused told (call_of (Reserves p.binding.key n (Err fault)) t) may_draw p.binding.key n p.row
         (place_found p used opening (Reserves p.binding.key n (Err fault)) t same) below
-        (near_row p used opening n ((p.row, n) ∷ []) [] [] ((p.row, 1) ∷ []) shows)
+        (near_row p used opening n ((p.row, n) ∷ []) [] [] ((p.row, 1) ∷ []) shows) recorded
         (record { drawn = (p.row, n) ∷ []; spent = []; raised = []; added = (p.row, 1) ∷ []; counted = shows.counted })
         fault position (at ∙ ap (λ (k : Turn). entry_count k.known) t.visits.takes.turn) t.does
         (λ q low state unmarked. may_reserve p used opening (Reserves p.binding.key n (Err fault)) t same fits q n low unmarked) where

@@ -10,7 +10,7 @@ use Rattle.key_book.specs.KeyBook.{place_of}
 use Rattle.record_io.specs.declared.answers.Answer.{Answer}
 use Rattle.record_io.specs.declared.code.TheConstants.{PROTECTED, CLEAR, EXHAUSTED, LAYOUT, STATE, JOURNAL_FULL}
 use Rattle.record_io.specs.declared.kinds.RecordKind.{RecordKind}
-use Rattle.record_io.specs.declared.kinds.RecordKind.TheVariants.{Protect, Open}
+use Rattle.record_io.specs.declared.kinds.RecordKind.TheVariants.{Protect}
 use Rattle.record_io.specs.declared.records.Record.{Record}
 use Rattle.unit_plan.specs.PlanLines.{PlanLines}
 use Rattle.unit_state.specs.declared.state.State.{State}
@@ -27,6 +27,7 @@ use Rattle.counter_table.specs.Numbers.{top, arming}
 use Rattle.counter_table.specs.Turn.{epoch_seen, places, seeing}
 use Rattle.frame_shield.specs.Binding.{clear_fault}
 use Rattle.frame_checks.specs.ProtectingFrames.{channel_check}
+use Rattle.run_promise.specs.Counts.{draws}
 use Rattle.run_promise.specs.Answers.{Told, counting, plain, numbered, fault_told, unbound_told}
 use Rattle.run_promise.specs.Log.{entries_of}
 use Rattle.run_promise.specs.Numbers.{mark_of, reserve_of}
@@ -87,8 +88,8 @@ module _ (told : Bool) (begin : Begin) (layout : Layout) (segment : ℕ) (task :
       → Tells begin.start (entries_in w) (deed_of segment task answer) move
   by_protect answer move t = subst (λ (k : RecordKind). TellsKind begin.start (entries_in w) k (deed_of segment task answer) move) (sym protects) t
 
-  not_open : (move : Move) → task.kind ≡ Open → move ≡ Kept
-  not_open move is = absurd (let both : Protect ≡ Open = sym protects ∙ is in let b = both in cc)
+  not_kept : (move : Move) → draws task.kind ≡ false → move ≡ Kept
+  not_kept move is = absurd (let both : true ≡ false = ap draws (sym protects) ∙ is in let b = both in cc)
 
   -- where none was made, those stand that stood
   none_stand : (log : List Logged) → Turned log [] v.turn w.turn → log ≡ log_of v → Stand []
@@ -385,7 +386,7 @@ module _ (told : Bool) (begin : Begin) (layout : Layout) (segment : ℕ) (task :
           (moves_drew begin v w task p.row (row_below told begin layout segment task v w began free protects p used opening) n [] (shows n drawn))
           k.found.log es (by_lines (Reserves p.binding.key n (Err other)) k es is) are
           [] (passes (Reserves p.binding.key n (Err other)) k es is [] (shows n drawn).counted.spent_is)
-          (not_open (Drew p.row n)) other position few (λ slots here. (
+          (not_kept (Drew p.row n)) other position few (λ slots here. (
             (full slots here).0,
             λ same level backed.
                 let (tells, stand, serves) = full slots here in (es, stand same level, serves same level backed (stand same level)),

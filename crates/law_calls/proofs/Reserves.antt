@@ -1,5 +1,5 @@
 -- The reserve of a number that a call drew: a stage of the call where it was made, and an answer where it was refused.
-use Rattle.std.proofs.Common.{◌≡◌, ◌⊎◌, ℕ, ◌+◌, ◌<◌, ◌≤◌, Bool, List, [], ◌∷◌, ◌++◌, length, Some, Ok, Err, refl, sym, ◌∙◌, ap, subst, arith, inl, inr, length-append}
+use Rattle.std.proofs.Common.{◌≡◌, ◌⊎◌, ℕ, ◌+◌, ◌<◌, ◌≤◌, Bool, List, [], ◌∷◌, ◌++◌, length, Some, Ok, Err, refl, sym, ◌∙◌, ap, subst, arith, inl, inr, length-append, ◌≢◌}
 use Rattle.sdls_base.specs.KeyId.{end_of}
 use Rattle.sdls_base.specs.declared.entry.Entry.{Entry}
 use Rattle.key_book.specs.KeyBook.{place_of}
@@ -9,6 +9,7 @@ use Rattle.unit_state.specs.Applied.{applied}
 use Rattle.unit_state.specs.History.{after}
 use Rattle.unit_state.specs.Restart.{still}
 use Rattle.unit_state.proofs.StateLaws.{light_still}
+use Rattle.record_io.specs.declared.kinds.RecordKind.TheVariants.{Monitor}
 use Rattle.run_promise.specs.Counts.{drawers}
 use Rattle.run_promise.specs.Fits.{MayAppend, IsUnmarked, state_after}
 use Rattle.run_promise.specs.Legal.{IsLegal}
@@ -108,19 +109,19 @@ module _ (told : Bool) (c : Call told)
       (record { is_near = is_near; unmarked = unmarked; below = below })
 
   -- A reserve that was refused. The record may need it, by what else is known of it.
-  pub refused : (numbers : Added told c) (fault : BookFault) (position : ℕ)
+  pub refused : c.task.kind ≢ Monitor → (numbers : Added told c) (fault : BookFault) (position : ℕ)
       → position ≡ entry_count (known_of_book c.given) → Reserves key n (Err fault) c.found c.given
       → ((p : ℕ) → c.found.standing ≤ p → state_after (course_in c.begin c.new_view) p ≡ c.found.state
       → IsUnmarked (IsBetween c.begin c.old_view c.new_view) (state_after (course_in c.begin c.new_view) p) key n
       → MayAppend (IsBetween c.begin c.old_view c.new_view) (course_in c.begin c.new_view) p c.task)
       → Answered c.layout c.begin c.segment c.old_view c.new_view c.task (fault_answer fault position)
-  refused numbers fault position is (unmarked, inl (is_barred, same)) may =
+  refused plain numbers fault position is (unmarked, inl (is_barred, same)) may =
       let at : state_after (course_in c.begin c.new_view) c.found.standing ≡ c.found.state =
       sym (led_known told c.begin c.found c.given c.taken c.new_view.turn c.began c.free c.visits) in
-      barred told c c.found [] (stage_found told c) numbers same fault position is is_barred
+      barred told c c.found [] (stage_found told c) numbers same plain fault position is is_barred
       (inr (may c.found.standing (omega arith) at (unmarked_at c.found.standing at unmarked)))
-  refused numbers fault position is (unmarked, inr (can, fails)) may =
+  refused plain numbers fault position is (unmarked, inr (can, fails)) may =
       let low = c.visits.found_kept.stands in
       unstored told c c.found [] (stage_found told c) (reserve_of c.found.plan c.found.state key n) numbers can
-      (legal can unmarked) (λ index. omega arith) (omega arith) fault position is fails
+      (legal can unmarked) (λ index. omega arith) (omega arith) plain fault position is fails
       (λ same stored. may (length (entries_of c.found.log)) low same (unmarked_at (length (entries_of c.found.log)) same unmarked))

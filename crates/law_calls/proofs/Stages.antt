@@ -1,5 +1,6 @@
 -- The book at a stage of a call that handles a record, and the answer where the call is refused there.
 use Rattle.std.proofs.Common.{◌≡◌, ◌≢◌, ◌⊎◌, ℕ, ◌+◌, ◌-◌, ◌<◌, ◌≤◌, min, ◌&&◌, ◌||◌, not, Bool, IsTrue, true, false, List, [], ◌∷◌, ◌++◌, length, take, Some, None, Option, refl, sym, ◌∙◌, ap, subst, arith, inl, inr, ⊎_elim, nat_le, ◌^◌, append-nil, length-append, if◌then◌else◌, eqb, eq-eqb}
+use Rattle.std.proofs.lemmas.Bool.Decides.{nat_tests}
 use Rattle.std.proofs.lemmas.Bool.{cases_lt}
 use Rattle.std.proofs.lemmas.List.{take_all}
 use Rattle.sdls_base.specs.Numbers.{times}
@@ -9,9 +10,9 @@ use Rattle.sdls_base.specs.declared.entry.Logged.TheVariants as lines
 use Rattle.sdls_outside.specs.Faults.{Rose}
 use Rattle.unit_image.specs.Image.{slots_of, used_of}
 use Rattle.record_io.specs.declared.answers.Answer.{Answer}
-use Rattle.record_io.specs.declared.code.TheConstants.{JOURNAL_FULL, SITE_FAULT, STOPPED, NO_MEMORY, PROTECTED, ACCEPTED, DONE, NUMBER, EXHAUSTED}
+use Rattle.record_io.specs.declared.code.TheConstants.{MONITOR_FAULT, JOURNAL_FULL, SITE_FAULT, STOPPED, NO_MEMORY, PROTECTED, ACCEPTED, DONE, NUMBER, EXHAUSTED}
 use Rattle.record_io.specs.declared.kinds.RecordKind.{RecordKind}
-use Rattle.record_io.specs.declared.kinds.RecordKind.TheVariants.{Protect, Open, Command}
+use Rattle.record_io.specs.declared.kinds.RecordKind.TheVariants.{Protect, Open, Command, Monitor}
 use Rattle.record_io.specs.declared.records.Record.{Record}
 use Rattle.unit_state.specs.declared.state.State.{State}
 use Rattle.unit_state.specs.History.{after, after_first, epoch_after}
@@ -36,7 +37,7 @@ use Rattle.shared_unit.specs.Turn.{Visits}
 use Rattle.run_promise.specs.Begin.{Begin}
 use Rattle.law_workers.specs.Views.{Gains, IsBetween, IsRow, log_of, entries_in}
 use Rattle.law_workers.specs.Work.{indexed}
-use Rattle.run_promise.specs.Deed.{deed_of, is_protected, epoch_told}
+use Rattle.run_promise.specs.Deed.{deed_of, is_entered, is_monitored, is_protected, epoch_told}
 use Rattle.law_workers.specs.Deeds.{course_in, StandsWithin, IsLastAt, IsSpent, MadeLast}
 use Rattle.frame_checks.specs.ProtectingFrames.{has_channel}
 use Rattle.law_workers.specs.Order.{Layout, Handled}
@@ -49,20 +50,40 @@ use Rattle.law_calls.proofs.Visit.{entries_low, epoch_low, epoch_high, log_is, f
 
 -- what a code from 30 on tells is neither an entry nor an epoch
 late : (kind : RecordKind) (channel above : Bool)
-    → IsTrue ((not (is_protected kind) && (above && false)) || (is_protected kind && (channel && false))) → ⊥
+    → IsTrue ((is_entered kind && (above && false)) || (is_protected kind && (channel && false))) → ⊥
 late Protect true above told = let t : false ≡ true = told in cc
 late Protect false above told = let t : false ≡ true = told in cc
 late Open channel true told = let t : false ≡ true = told in cc
 late Open channel false told = let t : false ≡ true = told in cc
 late Command channel true told = let t : false ≡ true = told in cc
 late Command channel false told = let t : false ≡ true = told in cc
+late Monitor channel above told = let t : false ≡ true = told in cc
 
-late_entry : (kind : RecordKind) (above : Bool) → IsTrue (not (is_protected kind) && (above && false)) → ⊥
+late_entry : (kind : RecordKind) (above : Bool) → IsTrue (is_entered kind && (above && false)) → ⊥
 late_entry Protect above told = let t : false ≡ true = told in cc
 late_entry Open true told = let t : false ≡ true = told in cc
 late_entry Open false told = let t : false ≡ true = told in cc
 late_entry Command true told = let t : false ≡ true = told in cc
 late_entry Command false told = let t : false ≡ true = told in cc
+late_entry Monitor above told = let t : false ≡ true = told in cc
+
+-- nor a count of entries
+late_count : (kind : RecordKind) (code : ℕ) → nat_le code NUMBER ≡ false → IsTrue (is_monitored kind && nat_le code MONITOR_FAULT) → ⊥
+late_count Protect code high told = let t : false ≡ true = told in cc
+late_count Open code high told = let t : false ≡ true = told in cc
+late_count Command code high told = let t : false ≡ true = told in cc
+late_count Monitor code high told =
+    let low : nat_le code MONITOR_FAULT ≡ true = told in
+    let few : code ≤ MONITOR_FAULT = grind (arith, nat_tests) in
+    let many : NUMBER < code = grind (arith, nat_tests) in
+    omega arith
+
+-- only of a Monitor record does an answer tell one
+pub uncounted : (kind : RecordKind) (code : ℕ) → kind ≢ Monitor → IsTrue (is_monitored kind && nat_le code MONITOR_FAULT) → ⊥
+uncounted Protect code plain told = let t : false ≡ true = told in cc
+uncounted Open code plain told = let t : false ≡ true = told in cc
+uncounted Command code plain told = let t : false ≡ true = told in cc
+uncounted Monitor code plain told = plain refl
 
 pub late_stands : (begin : Begin) (segment : ℕ) (task : Record) (v w : View) (code n position : ℕ) → nat_le code NUMBER ≡ false → nat_le code EXHAUSTED ≡ false
     → code ≢ PROTECTED → StandsWithin begin v w (deed_of segment task (answer_of (counting code 0 n) position))
@@ -70,12 +91,13 @@ late_stands begin segment task v w code n position p q some =
     let channel : Bool = has_channel begin.plan task.link task.octets in
     record {
       entry = λ t. absurd (late_entry task.kind (nat_le ACCEPTED code)
-          (subst (λ (b : Bool). IsTrue (not (is_protected task.kind) && (nat_le ACCEPTED code && b))) p t));
+          (subst (λ (b : Bool). IsTrue (is_entered task.kind && (nat_le ACCEPTED code && b))) p t));
       stored = λ t. absurd (late_entry task.kind (nat_le ACCEPTED code)
-          (subst (λ (b : Bool). IsTrue (not (is_protected task.kind) && (nat_le ACCEPTED code && b))) p t));
+          (subst (λ (b : Bool). IsTrue (is_entered task.kind && (nat_le ACCEPTED code && b))) p t));
+      counted = λ t. absurd (late_count task.kind code p t);
       epoch = λ t. absurd (late task.kind channel (nat_le ACCEPTED code)
-          (subst (λ (b : Bool). IsTrue ((not (is_protected task.kind) && (nat_le ACCEPTED code && b)) || (is_protected task.kind && (channel && false)))) p
-          (subst (λ (b : Bool). IsTrue ((not (is_protected task.kind) && (nat_le ACCEPTED code && nat_le code NUMBER)) || (is_protected task.kind && (channel && b)))) q t)));
+          (subst (λ (b : Bool). IsTrue ((is_entered task.kind && (nat_le ACCEPTED code && b)) || (is_protected task.kind && (channel && false)))) p
+          (subst (λ (b : Bool). IsTrue ((is_entered task.kind && (nat_le ACCEPTED code && nat_le code NUMBER)) || (is_protected task.kind && (channel && b)))) q t)));
       number = λ is protected. absurd (some is);
     }
 
@@ -94,6 +116,7 @@ unprotected : (kind : RecordKind) → kind ≢ Protect → is_protected kind ≡
 unprotected Protect other = absurd (other refl)
 unprotected Open other = refl
 unprotected Command other = refl
+unprotected Monitor other = refl
 
 -- who answers that an entry could not be stored does not say that none was made
 not_unmade : IsUnmade SITE_FAULT → ⊥
@@ -294,20 +317,20 @@ module _ (told : Bool) (c : Call told) where
     before_old = began_faults told begin found given u w.turn c.began c.free c.visits ∙ ap (λ (s : SiteSeen). s.faults) (sym stage.opened)
 
     -- the site had failed, or the run has as many entries as it may
-    pub barred : (fault : BookFault) (position : ℕ) → position ≡ entry_count (known_of_book given) → IsBarred old fault
+    pub barred : task.kind ≢ Monitor → (fault : BookFault) (position : ℕ) → position ≡ entry_count (known_of_book given) → IsBarred old fault
         → (task.kind ≢ Protect) ⊎ MayAppend near course old.standing task → Answered layout begin segment v w task (fault_answer fault position)
-    barred (refusals.Stopped count) position is (rose, count_is) due =
+    barred plain (refusals.Stopped count) position is (rose, count_is) due =
         let at = position_known position is in
         let known_is : entries_in w ≡ entries_of old.log = ap entries_of known_of_old in
         let size : length (entries_in w) ≡ length (entries_of old.log) = ap length known_is in
         let low = stage.standing in
         answered_so begin layout segment v w task (answer_of (counting STOPPED 0 count) position) (λ is. absurd (omega arith)) (left_late STOPPED count position
-        (stopped_fits near course task count position at
+        (stopped_fits near course task plain count position at
         (subst (λ (n : ℕ). Rose n count) (sym before_old) (subst (λ (n : ℕ). Rose old.opened.faults n) (sym count_is) rose))
         (let f = faults_of_old in omega arith)
         (⊎_elim inl (λ may. inr (record { p = old.standing; within = omega arith; may = may })) due))
         refl refl (λ is. absurd (omega arith)) (λ is. absurd (omega arith)) (λ is. absurd (omega arith)))
-    barred refusals.SessionFull position is (not, full) due =
+    barred plain refusals.SessionFull position is (not, full) due =
         let size : length (entries_in w) ≡ length (entries_of old.log) = ap (λ (l : List Logged). length (entries_of l)) known_of_old in (
           left_unanswered,
           record {
@@ -324,22 +347,22 @@ module _ (told : Bool) (c : Call told) where
         ) where
           full_stand : ¬ Rose old.opened.faults old.site.faults → length (entries_of old.log) ≡ MOST_ENTRIES → old.standing ≡ MOST_ENTRIES
           full_stand not full = stage.all_stand not ∙ full
-    barred (refusals.SiteFault count) position is h due = absurd h
-    barred (refusals.JournalFull slots) position is h due = absurd h
-    barred refusals.NoMemory position is h due = absurd h
+    barred plain (refusals.SiteFault count) position is h due = absurd h
+    barred plain (refusals.JournalFull slots) position is h due = absurd h
+    barred plain refusals.NoMemory position is h due = absurd h
 
     -- all slots are used
-    pub journal_full : (slots position : ℕ) → position ≡ entry_count (known_of_book given) → ¬ Rose old.opened.faults old.site.faults
+    pub journal_full : task.kind ≢ Monitor → (slots position : ℕ) → position ≡ entry_count (known_of_book given) → ¬ Rose old.opened.faults old.site.faults
         → old.journal.used ≡ old.journal.slots → slots ≡ old.journal.slots → MayAppend near course (length (entries_of old.log)) task
         → Handled layout begin v w (task ∷ []) (deed_of segment task (answer_of (counting JOURNAL_FULL 0 slots) position) ∷ [])
-    journal_full slots position is not used slots_is may =
+    journal_full plain slots position is not used slots_is may =
         let known_is : entries_in w ≡ entries_of old.log = ap entries_of known_of_old in
         let kept : IsKept told old = subst (λ (b : BookView). IsKept told b) same c.visits.given_kept in
         let images : old.image ≡ u.known.opening.image = ap (λ (b : BookView). b.image) (sym same) ∙ ap (λ (o : Opening). o.image) opened_as in
         let starts : old.start ≡ begin.start = ap (λ (b : BookView). b.start) (sym same) ∙ ap (λ (o : Opening). o.start) opened_as ∙ c.began.start in
         let tells : IsTrue begin.told → IsTrue told = λ t. subst (λ (b : Bool). IsTrue b) c.began.tells t in
         left_late JOURNAL_FULL slots position
-        (full_fits near course task slots position (position_known position is)
+        (full_fits near course task plain slots position (position_known position is)
         (λ t. slots_is ∙ (kept.counted (tells t) not).slots ∙ ap slots_of images ∙ sym (c.began.slots (tells t)))
         (λ t.
         let counts = kept.counted (tells t) not in
@@ -374,11 +397,11 @@ module _ (told : Bool) (c : Call told) where
         ∙ after_front begin.start (entries_of old.log) rest ∙ sym (stage.state can.0)
 
     -- the site failed while it was stored: then the entry does not stand
-    faulted : (count position : ℕ) → position ≡ entry_count (known_of_book given) → given.log ≡ old.log ++ lines.Entry entry ∷ []
+    faulted : task.kind ≢ Monitor → (count position : ℕ) → position ≡ entry_count (known_of_book given) → given.log ≡ old.log ++ lines.Entry entry ∷ []
         → given.standing ≡ old.standing → count ≡ given.site.faults
         → (state_after course (length (entries_of old.log)) ≡ old.state → MayAppend near course (length (entries_of old.log)) task)
         → Handled layout begin v w (task ∷ []) (deed_of segment task (answer_of (counting SITE_FAULT 0 count) position) ∷ [])
-    faulted count position is added stand count_is may =
+    faulted plain count position is added stand count_is may =
         let log_known : w.turn.known.log ≡ old.log ++ lines.Entry entry ∷ [] = log_is told begin found given u w.turn c.began c.free c.visits ∙ added in
         let entries_known : entries_in w ≡ entries_of old.log ++ entry ∷ [] = ap entries_of log_known ∙ lines_entries old.log (entry ∷ []) in
         let given_is : entries_of given.log ≡ entries_of old.log ++ entry ∷ [] = ap entries_of added ∙ lines_entries old.log (entry ∷ []) in
@@ -393,7 +416,7 @@ module _ (told : Bool) (c : Call told) where
         let risen : Rose course.faults_before count =
         subst (λ (n : ℕ). Rose n count) (sym (before ∙ sym opened)) (subst (λ (n : ℕ). Rose given.opened.faults n) (sym count_is) rose) in
         answered_late old es stage (entry ∷ []) added numbers legal_more one reserves (omega arith) SITE_FAULT count position
-        (faulted_fits near course task count position (position_known position is) risen (omega arith)
+        (faulted_fits near course task plain count position (position_known position is) risen (omega arith)
         (record { p = length (entries_of old.log); within = omega arith; may = may (state_then (entry ∷ []) entries_known) })
         (entries_of old.log) entry entries_known (own_entry entry task one))
         refl refl (λ is. absurd (omega arith)) (λ is. absurd (omega arith)) (λ _. record {
@@ -407,31 +430,31 @@ module _ (told : Bool) (c : Call told) where
           risen = subst (λ (n : ℕ). Rose course.faults_before n) (count_is ∙ sym now) risen;
         }) (λ code. absurd (not_unmade code))
 
-    pub unstored : (fault : BookFault) (position : ℕ) → position ≡ entry_count (known_of_book given) → IsUnstored entry old given fault
+    pub unstored : task.kind ≢ Monitor → (fault : BookFault) (position : ℕ) → position ≡ entry_count (known_of_book given) → IsUnstored entry old given fault
         → (state_after course (length (entries_of old.log)) ≡ old.state → IsTrue (IsStored old.state entry)
         → MayAppend near course (length (entries_of old.log)) task)
         → Answered layout begin segment v w task (fault_answer fault position)
-    unstored (refusals.SiteFault count) position is h may =
+    unstored plain (refusals.SiteFault count) position is h may =
         answered_so begin layout segment v w task (answer_of (counting SITE_FAULT 0 count) position) (λ code. absurd (omega arith))
-        (faulted count position is (ap (λ (b : BookView). b.log) h.4) (ap (λ (b : BookView). b.standing) h.4) h.3 (λ same. may same h.0))
-    unstored (refusals.JournalFull slots) position is h may =
+        (faulted plain count position is (ap (λ (b : BookView). b.log) h.4) (ap (λ (b : BookView). b.standing) h.4) h.3 (λ same. may same h.0))
+    unstored plain (refusals.JournalFull slots) position is h may =
         let known_is : entries_in w ≡ entries_of old.log ++ [] =
         ap (λ (l : List Logged). entries_of l) (known_of_old old es stage numbers h.3) ∙ sym (append-nil (entries_of old.log)) in
         answered_so begin layout segment v w task (answer_of (counting JOURNAL_FULL 0 slots) position) (λ code. absurd (omega arith))
-        (journal_full old es stage numbers h.3 slots position is can.0 h.1 h.2 (may (state_then [] known_is) h.0))
-    unstored (refusals.Stopped count) position is h may = absurd h
-    unstored refusals.SessionFull position is h may = absurd h
-    unstored refusals.NoMemory position is h may = absurd h
+        (journal_full old es stage numbers h.3 plain slots position is can.0 h.1 h.2 (may (state_then [] known_is) h.0))
+    unstored plain (refusals.Stopped count) position is h may = absurd h
+    unstored plain refusals.SessionFull position is h may = absurd h
+    unstored plain refusals.NoMemory position is h may = absurd h
 
     -- it was made
-    pub made : (fields : Told) (position : ℕ) → Enters entry old given position → task.kind ≢ Protect
+    pub made : (fields : Told) (position : ℕ) → Enters entry old given position → task.kind ≢ Protect → task.kind ≢ Monitor
         → (entries_in w ≡ entries_of old.log ++ entry ∷ [] → position ≡ length (entries_of old.log) + 1
         → Fits near course task (answer_of fields position))
         → ((key number : ℕ) → Uses (answer_of fields position) key number
         → (row : ℕ) × (row < begin.rows) × IsRow begin w key row × (0 < times row number numbers.spent))
         → fields.code ≢ SITE_FAULT → (IsUnmade fields.code → ⊥)
         → Handled layout begin v w (task ∷ []) (deed_of segment task (answer_of fields position) ∷ [])
-    made fields position enters kind fits used plain makes =
+    made fields position enters kind recorded fits used plain makes =
         let added : given.log ≡ old.log ++ lines.Entry entry ∷ [] = ap (λ (b : BookView). b.log) enters.is in
         let log_known : w.turn.known.log ≡ old.log ++ lines.Entry entry ∷ [] = log_is told begin found given u w.turn c.began c.free c.visits ∙ added in
         let entries_known : entries_in w ≡ entries_of old.log ++ entry ∷ [] = ap entries_of log_known ∙ lines_entries old.log (entry ∷ []) in
@@ -454,6 +477,7 @@ module _ (told : Bool) (c : Call told) where
               let stand : given.standing ≡ old.standing + 1 = ap (λ (b : BookView). b.standing) enters.is in
               let known_standing : w.turn.known.standing ≡ given.standing = ap (λ (t : Turn). t.known.standing) c.visits.takes.turn in
               let all = stage.all_stand can.0 in omega arith;
+          counted = λ t. absurd (uncounted task.kind fields.code recorded t);
           epoch = λ _.
               let told_is : epoch_told (entries_in w) (deed_of segment task (answer_of fields position)) ≡ epoch_after (entries_in w) =
               ap (λ (b : Bool). if b then position else epoch_after (take position (entries_in w))) none

@@ -7,7 +7,7 @@ use Rattle.counter_table.specs.declared.view.View.{View}
 use Rattle.counter_table.specs.Known.{known_mark}
 use Rattle.counter_table.specs.Numbers as numbers
 use Rattle.counter_table.specs.Turn as turning
-use Rattle.counter_table.specs.Rule.{next_at, limit_at}
+use Rattle.counter_table.specs.Rule.{epoch_at, next_at, limit_at}
 use Rattle.sdls_base.specs.KeyId.{end_of}
 use Rattle.sdls_base.specs.Numbers.{one_if, total}
 use Rattle.sdls_world.specs.declared.key.Key.{Key}
@@ -115,8 +115,8 @@ module _ {B : Type 0} (told : B → Known) (count : ℕ) (s : Scene) (ruled : Is
         (get_or-set_other s.words (limit_at row) (next_at q) n 0 (λ e. omega arith))
         (get_or-set_other s.words (limit_at row) (limit_at q) n 0 (λ e. apart (omega arith))) refl)
 
-  epoch_else : (at n : ℕ) → at ≢ 1 → slice_index (set s.words at n) 1 ≡ epoch_of s
-  epoch_else at n apart = get_or-set_other s.words at 1 n 0 (λ e. apart (sym e))
+  epoch_else : (at n : ℕ) → at ≢ epoch_at → slice_index (set s.words at n) epoch_at ≡ epoch_of s
+  epoch_else at n apart = get_or-set_other s.words at epoch_at n 0 (λ e. apart (sym e))
 
   module _ (id : ℕ) (v : View) (at : slice_get s.views id ≡ Some v) where
     abbrev mine : Doer
@@ -291,10 +291,10 @@ module _ {B : Type 0} (told : B → Known) (count : ℕ) (s : Scene) (ruled : Is
     turn_ties ok =
         let n = epoch_of s in
         let w : View = record v { turn = turning.turning v.turn } in
-        let k = keys_apart 1 (n + 1) (omega arith) in
+        let k = keys_apart epoch_at (n + 1) (omega arith) in
         let a = actors_same w refl in
         let h = holder_stays w refl in
-        let p : slice_index (set s.words 1 (n + 1)) 1 ≡ n + 1 = get_or-set_same s.words 1 (n + 1) 0 (let size = ruled.rule.numbers.size in omega arith) in
+        let p : slice_index (set s.words epoch_at (n + 1)) epoch_at ≡ n + 1 = get_or-set_same s.words epoch_at (n + 1) 0 (let size = ruled.rule.numbers.size in omega arith) in
         (λ j. record { keys = k j; actors = a j; holder = h j; epoch = p j; used = s.used })
         ∙ sym (ap (λ (t : Bool). if t then record world { epoch = if nat_lt n 18446744073709551615 then n + 1 else n } else world) (may ok.0)
         ∙ ap (λ (t : Bool). record world { epoch = if t then n + 1 else n }) (lt_true n 18446744073709551615 (let low = ok.1 in omega arith)))

@@ -7,7 +7,7 @@ use Rattle.counter_table.specs.declared.view.View.{View}
 use Rattle.counter_table.specs.Known.{known_mark}
 use Rattle.counter_table.specs.Numbers.{arming, drawing, peeking, raising, lifting}
 use Rattle.counter_table.specs.Turn.{seeing, taking, giving, learning, turning}
-use Rattle.counter_table.specs.Rule.{next_at, limit_at}
+use Rattle.counter_table.specs.Rule.{epoch_at, next_at, limit_at}
 use Rattle.counter_table.specs.Play as plays
 use Rattle.sdls_base.specs.KeyId.{end_of}
 use Rattle.sdls_world.specs.declared.step.Step.{Step}
@@ -50,7 +50,7 @@ words_after takes s = slice_set s.words 0 2
 words_after gives s = slice_set s.words 0 0
 words_after (lifts row key) s = slice_set s.words (limit_at row) (max (limit_of s row) (known_mark s.book row))
 words_after (raises row key number) s = slice_set s.words (next_at row) (max (next_of s row) number)
-words_after turns s = slice_set s.words 1 (epoch_of s + 1)
+words_after turns s = slice_set s.words epoch_at (epoch_of s + 1)
 
 -- a number is spent by the look that finds the limit above it
 abbrev pub used_after : Move → Scene → List (ℕ × ℕ)

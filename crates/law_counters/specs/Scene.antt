@@ -6,7 +6,7 @@ use Rattle.counter_table.specs.declared.view.Known.{Known}
 use Rattle.counter_table.specs.declared.view.Numbers.{Numbers}
 use Rattle.counter_table.specs.declared.view.View.{View}
 use Rattle.counter_table.specs.Known.{known_mark, LowersNoMark}
-use Rattle.counter_table.specs.Rule.{next_at, limit_at}
+use Rattle.counter_table.specs.Rule.{epoch_at, next_at, limit_at}
 use Rattle.counter_table.specs.Rule as rules
 use Rattle.sdls_base.specs.Numbers.{times, total}
 use Rattle.sdls_world.specs.declared.key.Key.{Key}
@@ -31,7 +31,7 @@ abbrev pub turn_of : Scene → ℕ
 turn_of s = slice_index s.words 0
 
 abbrev pub epoch_of : Scene → ℕ
-epoch_of s = slice_index s.words 1
+epoch_of s = slice_index s.words epoch_at
 
 -- the worker at a place, as an actor. It funds and spends in one step, so what was funded is what was spent
 abbrev pub doer : ℕ → Numbers → Doer

@@ -1,11 +1,12 @@
 -- The lanes of a drill's records, and that their indexes ascend: for what a segment wants, and for the law on a whole drill.
-use Rattle.std.proofs.Common.{◌≡◌, ℕ, zero, suc, ◌+◌, ◌-◌, ◌%◌, ◌<◌, ◌≤◌, ◌==◌, Bool, true, false, cond, List, [], ◌∷◌, get_or, refl, sym, ap, arith}
+use Rattle.std.proofs.Common.{◌≡◌, ◌≢◌, ℕ, zero, suc, ◌+◌, ◌-◌, ◌%◌, ◌<◌, ◌≤◌, ◌==◌, Bool, true, false, cond, List, [], ◌∷◌, get_or, refl, sym, ap, arith}
 use Rattle.std.specs.List.{All, range_with_len}
 use Rattle.std.proofs.lemmas.List.Elements.{All-nil, All-cons, All-map, All-weaker, All-contains}
 use Rattle.std.proofs.lemmas.List.FromFn.{get_or-map-range_with_len, length-map-range_with_len}
 use Rattle.record_io.specs.declared.answers.Answer.{Answer}
 use Rattle.record_io.specs.declared.code.TheConstants.{PROTECTED}
 use Rattle.record_io.specs.declared.records.Record.{Record}
+use Rattle.record_io.specs.declared.kinds.RecordKind.TheVariants.{Monitor}
 use Rattle.record_io.specs.declared.kinds.TheConstants.{LANES}
 use Rattle.law_workers.specs.Deeds.{Ascend}
 use Rattle.law_workers.specs.Order.{Layout, LiesIn}
@@ -14,6 +15,9 @@ use Rattle.drill_frames.specs.Frames.{open_task, open_tasks, protect_task, prote
 
 abbrev pub OnLane : ℕ → Record → Type 0
 OnLane ahead task = task.lane ≡ (task.index - ahead) % 4
+
+abbrev pub IsPlain : Record → Type 0
+IsPlain task = task.kind ≢ Monitor
 
 pub below_sixteen : (ahead : ℕ) (tasks : List Record) → All (OnLane ahead) tasks → All (λ (task : Record). task.lane < LANES) tasks
 below_sixteen ahead tasks all = All-weaker (OnLane ahead) (λ (task : Record). task.lane < LANES) (λ task is. omega arith) tasks all
@@ -31,6 +35,9 @@ pub protect_lanes : (first count : ℕ) → All (OnLane 0) (protect_tasks first 
 protect_lanes first count =
     All-map (OnLane 0) protect_task (range_with_len first count)
     (λ k d low. ap (λ (n : ℕ). n % 4) (let e : get_or (range_with_len first count) k d ≡ get_or (range_with_len first count) k d - 0 = omega arith in e))
+
+pub protect_plain : (first count : ℕ) → All IsPlain (protect_tasks first count)
+protect_plain first count = All-map IsPlain protect_task (range_with_len first count) (λ k d low is. absurd (let i = is in cc))
 
 pub protect_ascends : (first count : ℕ) → Ascend (protect_tasks first count)
 protect_ascends first count i j d before low =
@@ -55,6 +62,12 @@ open_lanes ahead first [] = All-nil (OnLane ahead)
 open_lanes ahead first (answer ∷ answers) =
     all_cond (OnLane ahead) (answer.code == PROTECTED) (open_task (first + ahead) first answer.body) (open_tasks ahead (first + 1) answers)
     (lane_ahead first ahead) (open_lanes ahead (first + 1) answers)
+
+pub open_plain : (ahead first : ℕ) (answers : List Answer) → All IsPlain (open_tasks ahead first answers)
+open_plain ahead first [] = All-nil IsPlain
+open_plain ahead first (answer ∷ answers) =
+    all_cond IsPlain (answer.code == PROTECTED) (open_task (first + ahead) first answer.body) (open_tasks ahead (first + 1) answers)
+    (λ is. absurd (let i = is in cc)) (open_plain ahead (first + 1) answers)
 
 open_least : (least ahead first : ℕ) (answers : List Answer) → least ≤ first + ahead
     → All (λ (task : Record). least ≤ task.index) (open_tasks ahead first answers)
@@ -96,6 +109,11 @@ pub replay_lanes : (ahead first : ℕ) (answers : List Answer) → All (OnLane a
 replay_lanes ahead first [] = All-nil (OnLane ahead)
 replay_lanes ahead first (answer ∷ answers) =
     all_one (OnLane ahead) (answer.code == PROTECTED) (open_task (first + CHUNK + ahead) first answer.body) (chunk_later first ahead)
+
+pub replay_plain : (ahead first : ℕ) (answers : List Answer) → All IsPlain (replay_tasks ahead first answers)
+replay_plain ahead first [] = All-nil IsPlain
+replay_plain ahead first (answer ∷ answers) =
+    all_one IsPlain (answer.code == PROTECTED) (open_task (first + CHUNK + ahead) first answer.body) (λ is. absurd (let i = is in cc))
 
 one_ascends : (b : Bool) (task : Record) → Ascend (cond b (task ∷ []) [])
 one_ascends true task = ascend_cons task [] (All-nil (λ (other : Record). task.index < other.index)) none_ascends

@@ -1,6 +1,7 @@
 -- The codes of answers that fit, and what an acceptance says.
 use Rattle.std.proofs.Common.{◌≡◌, ◌≢◌, ◌⊎◌, ℕ, ◌-◌, ◌<◌, false, nat_eq, List, Some, None, Ok, Err, inl, inr, ⊎_elim, refl, sym, ap, ◌∙◌, subst, arith}
 use Rattle.std.specs.List.{slice_get}
+use Rattle.std.specs.Prelude.{Result}
 use Rattle.std.proofs.lemmas.Bool.{cases_eq, cases_lt, false≢true}
 use Rattle.std.proofs.lemmas.Option.{none-some, same_Some}
 use Rattle.sdls_base.specs.declared.entry.Entry.{Entry}
@@ -12,12 +13,12 @@ use Rattle.ep_core.specs.declared.reply.Reply.{Reply}
 use Rattle.ep_core.specs.declared.reply.Reply.TheVariants as replies
 use Rattle.record_io.specs.declared.answers.Answer.{Answer}
 use Rattle.record_io.specs.declared.kinds.RecordKind.{RecordKind}
-use Rattle.record_io.specs.declared.kinds.RecordKind.TheVariants.{Protect, Open, Command}
+use Rattle.record_io.specs.declared.kinds.RecordKind.TheVariants.{Protect, Open, Command, Monitor}
 use Rattle.record_io.specs.declared.records.Record.{Record}
 use Rattle.record_io.specs.Places.{Place, records_of}
 use Rattle.run_promise.specs.Entries.{frame_entry, raised_floor}
 use Rattle.run_promise.specs.ProtectingFrames.{protect_reply}
-use Rattle.run_promise.specs.Answers.{Told, told_by, opened_told, replied_told, unbound_told, IsCodeOf, Accepts}
+use Rattle.run_promise.specs.Answers.{Told, told_by, opened_told, replied_told, unbound_told, monitored_told, IsCodeOf, Accepts}
 use Rattle.run_promise.specs.Fits.{Course, state_in, state_before, IsOpenAnswer, FitsAny, FitsKind, Fits}
 use Rattle.run_promise.specs.Run.{TurnIn, IsLegalHistory}
 use Rattle.law_history.specs.Laws.{AcceptsAt}
@@ -29,20 +30,21 @@ use Rattle.law_history.proofs.Along.{of_places, accepted_twice}
 told_code : (kind : RecordKind) (answer : Answer) (told : Told) → told_by answer ≡ told → IsCodeOf kind told.code → IsCodeOf kind answer.code
 told_code kind answer told is of = subst (λ (t : Told). IsCodeOf kind t.code) (sym is) of
 
-any_code : (near : ℕ → ℕ → Type 0) (course : Course) (task : Record) (kind : RecordKind) (answer : Answer) → FitsAny near course task answer
+any_code : (near : ℕ → ℕ → Type 0) (course : Course) (task : Record) (kind : RecordKind) (answer : Answer) → kind ≢ Monitor → FitsAny near course task answer
     → IsCodeOf kind answer.code
-any_code near course task Protect answer (inl is) = told_code Protect answer _ is.told refl
-any_code near course task Protect answer (inr (inl is)) = told_code Protect answer _ is.tells.told refl
-any_code near course task Protect answer (inr (inr (inl is))) = told_code Protect answer _ is.tells.told refl
-any_code near course task Protect answer (inr (inr (inr is))) = told_code Protect answer _ is.told refl
-any_code near course task Open answer (inl is) = told_code Open answer _ is.told refl
-any_code near course task Open answer (inr (inl is)) = told_code Open answer _ is.tells.told refl
-any_code near course task Open answer (inr (inr (inl is))) = told_code Open answer _ is.tells.told refl
-any_code near course task Open answer (inr (inr (inr is))) = told_code Open answer _ is.told refl
-any_code near course task Command answer (inl is) = told_code Command answer _ is.told refl
-any_code near course task Command answer (inr (inl is)) = told_code Command answer _ is.tells.told refl
-any_code near course task Command answer (inr (inr (inl is))) = told_code Command answer _ is.tells.told refl
-any_code near course task Command answer (inr (inr (inr is))) = told_code Command answer _ is.told refl
+any_code near course task Protect answer other (inl is) = told_code Protect answer _ is.told refl
+any_code near course task Protect answer other (inr (inl is)) = told_code Protect answer _ is.tells.told refl
+any_code near course task Protect answer other (inr (inr (inl is))) = told_code Protect answer _ is.tells.told refl
+any_code near course task Protect answer other (inr (inr (inr is))) = told_code Protect answer _ is.told refl
+any_code near course task Open answer other (inl is) = told_code Open answer _ is.told refl
+any_code near course task Open answer other (inr (inl is)) = told_code Open answer _ is.tells.told refl
+any_code near course task Open answer other (inr (inr (inl is))) = told_code Open answer _ is.tells.told refl
+any_code near course task Open answer other (inr (inr (inr is))) = told_code Open answer _ is.told refl
+any_code near course task Command answer other (inl is) = told_code Command answer _ is.told refl
+any_code near course task Command answer other (inr (inl is)) = told_code Command answer _ is.tells.told refl
+any_code near course task Command answer other (inr (inr (inl is))) = told_code Command answer _ is.tells.told refl
+any_code near course task Command answer other (inr (inr (inr is))) = told_code Command answer _ is.told refl
+any_code near course task Monitor answer other any = absurd (other refl)
 
 unbound_code : (answer : Answer) (found : protecting.Answer) → unbound_told found ≡ Some (told_by answer) → IsCodeOf Protect answer.code
 unbound_code answer (Ok None) is = told_code Protect answer _ (sym (same_Some _ (told_by answer) is)) refl
@@ -67,17 +69,23 @@ command_code : (answer : Answer) (reply : Reply) → told_by answer ≡ replied_
 command_code answer (replies.Done key number pdu) is = told_code Command answer _ is refl
 command_code answer (replies.Refused code value) is = told_code Command answer _ is refl
 
+monitored_code : (answer : Answer) (said : Result (List ℕ) ℕ) → told_by answer ≡ monitored_told said → IsCodeOf Monitor answer.code
+monitored_code answer (Ok reply) is = told_code Monitor answer _ is refl
+monitored_code answer (Err offset) is = told_code Monitor answer _ is refl
+
 kind_code : (near : ℕ → ℕ → Type 0) (course : Course) (task : Record) (answer : Answer) (kind : RecordKind) → FitsKind near course task answer kind
     → IsCodeOf kind answer.code
 kind_code near course task answer Protect (inl is) = told_code Protect answer _ is.told refl
 kind_code near course task answer Protect (inr (inl is)) =
     unbound_code answer (protect_reply course.begin.plan (state_in course answer.position) task.link task.octets) is.told
 kind_code near course task answer Protect (inr (inr (inl is))) = told_code Protect answer _ is.told refl
-kind_code near course task answer Protect (inr (inr (inr any))) = any_code near course task Protect answer any
+kind_code near course task answer Protect (inr (inr (inr any))) = any_code near course task Protect answer (λ e. let k : Protect ≡ Monitor = e in cc) any
 kind_code near course task answer Open (inl is) = open_code answer is.reply is.field is.told
-kind_code near course task answer Open (inr any) = any_code near course task Open answer any
+kind_code near course task answer Open (inr any) = any_code near course task Open answer (λ e. let k : Open ≡ Monitor = e in cc) any
 kind_code near course task answer Command (inl is) = command_code answer is.reply is.told
-kind_code near course task answer Command (inr any) = any_code near course task Command answer any
+kind_code near course task answer Command (inr any) = any_code near course task Command answer (λ e. let k : Command ≡ Monitor = e in cc) any
+kind_code near course task answer Monitor (inl is) = monitored_code answer is.said is.told
+kind_code near course task answer Monitor (inr is) = told_code Monitor answer _ is.told refl
 
 pub fits_code : (near : ℕ → ℕ → Type 0) (course : Course) (task : Record) (answer : Answer) → Fits near course task answer
     → IsCodeOf task.kind answer.code
@@ -129,6 +137,8 @@ opening_by near course task answer Open key number (inr (inr (inr (inl is)))) ac
 opening_by near course task answer Open key number (inr (inr (inr (inr is)))) accepts = absurd (not_code answer _ key number is.told accepts refl)
 opening_by near course task answer Command key number fits accepts =
     absurd (false≢true (subst (IsCodeOf Command) accepts.0 (kind_code near course task answer Command fits)))
+opening_by near course task answer Monitor key number fits accepts =
+    absurd (false≢true (subst (IsCodeOf Monitor) accepts.0 (kind_code near course task answer Monitor fits)))
 
 pub accepting_opening : (near : ℕ → ℕ → Type 0) (course : Course) (task : Record) (answer : Answer) (key number : ℕ)
     → Fits near course task answer → Accepts answer key number → IsOpenAnswer course task answer

@@ -18,7 +18,7 @@ use Rattle.ep_core.specs.declared.need.Need.TheVariants.{Number}
 use Rattle.record_io.specs.declared.answers.Answer.{Answer}
 use Rattle.record_io.specs.declared.code.TheConstants.{SITE_FAULT, STOPPED}
 use Rattle.record_io.specs.declared.kinds.RecordKind.{RecordKind}
-use Rattle.record_io.specs.declared.kinds.RecordKind.TheVariants.{Protect, Open, Command}
+use Rattle.record_io.specs.declared.kinds.RecordKind.TheVariants.{Protect, Open, Command, Monitor}
 use Rattle.record_io.specs.declared.records.Record.{Record}
 use Rattle.run_promise.specs.Numbers.{floor_of}
 use Rattle.run_promise.specs.Entries.{IsNeedOf, IsStepOf, frame_entry, record_entry}
@@ -239,6 +239,7 @@ module _ (near wider : ℕ → ℕ → Type 0) (nearer : (key number : ℕ) → 
   append_more Open p task low can = raise_more p task low can
   append_more Command p task low (inl can) = inl (change_more p task low can)
   append_more Command p task low (inr can) = inr (draw_more p task low can)
+  append_more Monitor p task low can = absurd can
 
   once_more : (task : Record) → MayAppendOnce near course task → MayAppendOnce wider new task
   once_more task once = record {
@@ -341,6 +342,8 @@ module _ (near wider : ℕ → ℕ → Type 0) (nearer : (key number : ℕ) → 
         told = is.told;
       })
   kind_more Command task answer (inr any) = inr (any_more task answer any)
+  kind_more Monitor task answer (inl is) = inl (record { reached = within_more answer.position is.reached; said = is.said; told = is.told })
+  kind_more Monitor task answer (inr is) = inr is
 
   pub fits_more : (task : Record) (answer : Answer) → Fits near course task answer → Fits wider new task answer
   fits_more task answer fits = kind_more task.kind task answer fits

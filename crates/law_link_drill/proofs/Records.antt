@@ -13,7 +13,7 @@ use Rattle.law_workers.specs.Deeds.{Ascend}
 use Rattle.law_drill.proofs.Lists.{Below, From}
 use Rattle.law_drill.proofs.Receiving.{Handed}
 use Rattle.law_drill.proofs.SentChunks.{at, blank}
-use Rattle.law_drill.proofs.Tasks.{OnLane, ascend_cons}
+use Rattle.law_drill.proofs.Tasks.{IsPlain, OnLane, ascend_cons}
 
 pub many_tasks : (place first : ℕ) (sent : List Answer) (numbers : List ℕ) → length (arrived_tasks place first sent numbers) ≡ length numbers
 many_tasks place first sent [] = refl
@@ -24,6 +24,12 @@ arrived_lanes place first sent [] = All-nil (OnLane 0)
 arrived_lanes place first sent (number ∷ numbers) =
     All-cons (OnLane 0) (arrived_task place number (octets_in (slice_get sent (number - first)))) (arrived_tasks (place + 1) first sent numbers)
     (omega arith) (arrived_lanes (place + 1) first sent numbers)
+
+pub arrived_plain : (place first : ℕ) (sent : List Answer) (numbers : List ℕ) → All IsPlain (arrived_tasks place first sent numbers)
+arrived_plain place first sent [] = All-nil IsPlain
+arrived_plain place first sent (number ∷ numbers) =
+    All-cons IsPlain (arrived_task place number (octets_in (slice_get sent (number - first)))) (arrived_tasks (place + 1) first sent numbers)
+    (λ is. absurd (let i = is in cc)) (arrived_plain (place + 1) first sent numbers)
 
 pub arrived_from : (place first : ℕ) (sent : List Answer) (numbers : List ℕ) → All (From (4 * place)) (arrived_tasks place first sent numbers)
 arrived_from place first sent [] = All-nil (From (4 * place))

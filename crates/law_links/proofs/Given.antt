@@ -28,7 +28,7 @@ use Rattle.key_book.specs.declared.key_row.KeyRow.{KeyRow}
 use Rattle.sdls_base.specs.Bounds.{IsKeyLength}
 use Rattle.record_io.specs.declared.answers.Answer.{Answer}
 use Rattle.record_io.specs.declared.kinds.RecordKind.{RecordKind}
-use Rattle.record_io.specs.declared.kinds.RecordKind.TheVariants.{Protect, Open, Command}
+use Rattle.record_io.specs.declared.kinds.RecordKind.TheVariants.{Protect, Open, Command, Monitor}
 use Rattle.record_io.specs.declared.records.Record.{Record}
 use Rattle.unit_plan.specs.PlanLines.{PlanLines, link_of}
 use Rattle.unit_state.specs.declared.state.State.{State}
@@ -73,6 +73,7 @@ module _ (near : ℕ → ℕ → Type 0) (course : Course) (task : Record) (answ
   protected_by Protect (inr (inr (inr (inr (inr (inr h)))))) of = absurd (other_code _ h.told refl)
   protected_by Open h of = absurd (false≢true (subst (IsCodeOf Open) code of))
   protected_by Command h of = absurd (false≢true (subst (IsCodeOf Command) code of))
+  protected_by Monitor h of = absurd (false≢true (subst (IsCodeOf Monitor) code of))
 
 pub sent : (near : ℕ → ℕ → Type 0) (given : Given) → Fits near given.course given.deed.task given.deed.answer
     → given.deed.answer.code ≡ 0 → IsSent given

@@ -14,7 +14,7 @@ use Rattle.record_io.specs.declared.answers.Answer.{Answer}
 use Rattle.record_io.specs.declared.code.TheConstants.{NO_MEMORY, JOURNAL_FULL, SITE_FAULT, STOPPED}
 use Rattle.record_io.specs.declared.status.TheConstants as status
 use Rattle.record_io.specs.declared.kinds.RecordKind.{RecordKind}
-use Rattle.record_io.specs.declared.kinds.RecordKind.TheVariants.{Protect, Open, Command}
+use Rattle.record_io.specs.declared.kinds.RecordKind.TheVariants.{Protect, Open, Command, Monitor}
 use Rattle.record_io.specs.Answers.{answer_octets, answers_octets}
 use Rattle.record_io.specs.Places.{Place, records_of}
 use Rattle.unit_plan.specs.Plan.{plan_of}
@@ -33,6 +33,8 @@ use Rattle.run_promise.specs.declared.limits.TheConstants.{MOST_ENTRIES}
 use Rattle.run_promise.specs.Begin.{Begin}
 use Rattle.run_promise.specs.Deed.{Deed}
 use Rattle.run_promise.specs.Machine.{Move, Runs, adds_all}
+use Rattle.fsr_log.specs.Noted.{Noted}
+use Rattle.run_promise.specs.Reports.{AreReported}
 use Rattle.run_promise.specs.Serving.{AreServed, SameTasks, ServesAll}
 use Rattle.run_promise.specs.Alone.{OneLane, IsExact}
 use Rattle.run_promise.specs.declared.end.RunEnd.{RunEnd}
@@ -54,6 +56,7 @@ are_low : (kind : RecordKind) → AreLow (codes_of kind)
 are_low Protect = (omega arith, (omega arith, (omega arith, (omega arith, (omega arith, (omega arith, (omega arith, (omega arith, (omega arith, (omega arith, tt))))))))))
 are_low Open = (omega arith, (omega arith, (omega arith, (omega arith, (omega arith, (omega arith, (omega arith, (omega arith, (omega arith, (omega arith, (omega arith, (omega arith, (omega arith, (omega arith, tt))))))))))))))
 are_low Command = (omega arith, (omega arith, (omega arith, (omega arith, (omega arith, (omega arith, tt))))))
+are_low Monitor = (omega arith, (omega arith, (omega arith, tt)))
 
 low_code : (codes : List ℕ) (code : ℕ) → AreLow codes → IsTrue (list_any (λ own. own == code) codes) → code ≤ NO_MEMORY
 low_code [] code low h = absurd (let t : false ≡ true = h in cc)
@@ -221,8 +224,8 @@ module _ (call other : CallSeen) (run : RunEnds call) (again : RunEnds other) (p
     (image : image_at_entry other ≡ image_at_entry call) (shows : ShowsAtEntry call plan state)
     (handled : again.account.handled ≡ run.account.handled)
     (one : OneLane (records_of run.account.handled)) (fails : NoneFails run.account.answers) (refails : NoneFails again.account.answers)
-    (once : (begin : Begin) (rows : ℕ) (words : ℕ → ℕ) (history : List Entry) (deeds others : List Deed) (moves more : List Move)
-    (own entries : List Entry) → IsTrue begin.told
+    (once : (begin : Begin) (rows : ℕ) (words : ℕ → ℕ) (before : List Noted) (history : List Entry) (deeds others : List Deed) (moves more : List Move)
+    (own entries : List Entry) → IsTrue begin.told → AreReported before deeds → AreReported before others
     → ((front rest : List Entry) → own ≡ front ++ rest → KeepsRules (after begin.start (history ++ front)))
     → SameTasks deeds others → AreServed deeds → AreServed others
     → ServesAll begin history deeds moves own → ServesAll begin history others more entries
@@ -274,8 +277,8 @@ module _ (call other : CallSeen) (run : RunEnds call) (again : RunEnds other) (p
 
     all_same : (map (λ (deed : Deed). deed.answer) (deeds_in run.account) ≡ map (λ (deed : Deed). deed.answer) (deeds_in again.account))
         × (take s.run.history.run.ends call.entries ≡ take t.run.history.run.ends other.entries) × (e.moves ≡ f.moves)
-    all_same = once (begin_of call plan state) MOST_KEYS (mark_at state) [] (deeds_in run.account) (deeds_in again.account) e.moves f.moves
-        (take s.run.history.run.ends call.entries) (take t.run.history.run.ends other.entries) told
+    all_same = once (begin_of call plan state) MOST_KEYS (mark_at state) [] [] (deeds_in run.account) (deeds_in again.account) e.moves f.moves
+        (take s.run.history.run.ends call.entries) (take t.run.history.run.ends other.entries) told run.reports again.reports
         (rules_front state call.entries s.run.history.run.ends (along plan state run.account.handled call.entries s.run.history)) tasks
         (all_served (NearWord state call.entries (records_of run.account.handled)) (course_of call run.account plan state) run.account.handled run.account.answers s.run.answers fails)
         (all_served (NearWord state other.entries (records_of again.account.handled)) (course_of other again.account plan state) again.account.handled again.account.answers t.run.answers

@@ -4,7 +4,7 @@ use Rattle.sdls_base.specs.declared.entry.Entry.{Entry}
 use Rattle.sdls_base.specs.declared.entry.Seen.{Seen}
 use Rattle.sdls_base.specs.declared.entry.Seen.TheVariants as seens
 use Rattle.record_io.specs.declared.kinds.RecordKind.{RecordKind}
-use Rattle.record_io.specs.declared.kinds.RecordKind.TheVariants.{Protect, Open, Command}
+use Rattle.record_io.specs.declared.kinds.RecordKind.TheVariants.{Protect, Open, Command, Monitor}
 use Rattle.record_io.specs.declared.records.Record.{Record}
 use Rattle.unit_plan.specs.PlanLines.{PlanLines}
 use Rattle.unit_state.specs.declared.state.State.{State}
@@ -67,6 +67,7 @@ module _ (near far : ℕ → ℕ → Type 0) (more : (k n : ℕ) → near k n �
     changes = h.changes;
   })
   append Command p task (inr h) = inr (record { key = h.key; number = h.number; needs = h.needs; is = unmarked _ h.key h.number h.is })
+  append Monitor p task h = absurd h
 
   pub may_append : (p : ℕ) (task : Record) → MayAppend near old p task → MayAppend far new p task
   may_append p task h = append task.kind p task h

@@ -24,6 +24,7 @@ use Rattle.law_workers.specs.Order.{Lined}
 use Rattle.law_workers.proofs.Logs.{told_kept}
 use Rattle.law_workers.specs.Opened.{IsJustOpened}
 use Rattle.law_runs.specs.Release.{AreReleases}
+use Rattle.run_promise.specs.Reports.{AreReported}
 use Rattle.run_promise.specs.Sound.{IsSound}
 use Rattle.law_runs.specs.AtEnd.{StaysCovered}
 use Rattle.law_workers.proofs.WholeRun.{rules_at_end, pairs, pairs_above, one_fault, order, none_made, answers_fit}
@@ -35,6 +36,9 @@ behind_ended : (begin : Begin) (old new : View) (es rest : List Entry) (a b : De
     → StandsBehind begin es a b → StandsBehind begin (es ++ rest) a b
 behind_ended begin old new es rest a b is s t h = record {
   entries = h.entries;
+  counted = h.counted;
+  counted_before = h.counted_before;
+  counts = h.counts;
   epochs = λ x y.
       let k = h.epochs x y in
       let l = told_kept a.task.kind _ _ a.answer.position es rest (λ e. let w = (s.entry e).1 in let n : length (entries_in new) ≡ length es = ap length is in omega arith) x in
@@ -57,7 +61,7 @@ module _ (begin : Begin) (first now : View) (places : List Place) (deeds : List 
   abbrev kept : KeepsRules (after begin.start (entries_in now))
   kept = rules_at_end begin first now places deeds is_opened d whole plan_is started
 
-  abbrev history : IsLegalHistory begin.plan begin.start places (entries_in now ++ releases)
+  abbrev pub history : IsLegalHistory begin.plan begin.start places (entries_in now ++ releases)
   history = record {
     plan_is = plan_is;
     rules = started;
@@ -71,8 +75,8 @@ module _ (begin : Begin) (first now : View) (places : List Place) (deeds : List 
       (rules_at_end begin first now places deeds is_opened d whole plan_is started))
 
   -- the run is sound
-  pub sound_run : IsSound course places deeds
-  sound_run = record {
+  pub sound_run : AreReported [] deeds → IsSound course places deeds
+  sound_run reports = record {
     history = history;
     answers = fit;
     pairs = pairs begin first now (records_of places) deeds is_opened d whole rows started kept ascend;
@@ -85,6 +89,7 @@ module _ (begin : Begin) (first now : View) (places : List Place) (deeds : List 
         (order begin first now (records_of places) deeds is_opened d whole rows started kept ascend i j a lt low turn);
     none_made = λ k a low code. none_of_lanes begin first now (records_of places) deeds is_opened d whole rows started kept words stand releases are
         (slice_index_or deeds k a).task.index (none_made begin first now (records_of places) deeds is_opened d whole rows started kept once k a low code);
+    reports = reports;
   }
 
   -- and what covers an answer covers it to the end, over the releases

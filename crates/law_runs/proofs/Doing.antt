@@ -19,7 +19,7 @@ use Rattle.law_workers.specs.Deeds.{Does}
 use Rattle.law_workers.specs.Order.{Layout, TakeTurns, Lined}
 use Rattle.law_runs.specs.AtEnd.{EndsRun}
 use Rattle.law_runs.specs.Release.{AreReleases}
-use Rattle.law_runs.proofs.Assembled.{sound_run}
+use Rattle.law_runs.proofs.Assembled.{history}
 use Rattle.run_promise.specs.Account.{deeds_from}
 use Rattle.law_runs.specs.Doing.{HasDone, IsFounded}
 use Rattle.law_runs.proofs.Placed.{IsBefore, deeds_ascend, indexed_once, lane_at, lane_there, segment_at, segment_there}
@@ -104,5 +104,5 @@ legal_so_far begin first now places answers founded done whole up =
     let low = slice_get_within (entries_in now ++ []) p entry there in
     let size = ap length (append-nil (entries_in now)) in omega arith))
     now.turn.known.faults (omega arith) (λ rose. refl) in
-    (sound_run begin first now places (deeds_from places answers) e.opened e.does e.whole e.rows e.plan_is e.rules e.left words e.words_are [] e.releases_are
-    e.pieces e.lined e.once e.ascend now.turn.known.faults e.fewer e.stopped).history
+    history begin first now places (deeds_from places answers) e.opened e.does e.whole e.rows e.plan_is e.rules e.left words e.words_are [] e.releases_are
+    e.pieces e.lined e.once e.ascend now.turn.known.faults e.fewer e.stopped

@@ -57,7 +57,7 @@ use Rattle.unit_plan.specs.PlanLines.{PlanLines}
 use Rattle.unit_image.specs.Image.{slots_of, used_of}
 use Rattle.unit_image.proofs.Images.{records_of as image_records}
 use Rattle.run_promise.specs.Fits.{MayAppend, Course, Fits}
-use Rattle.record_io.specs.declared.kinds.RecordKind.TheVariants.{Protect}
+use Rattle.run_promise.specs.Deed.{is_entered}
 use Rattle.law_runs.proofs.Assembled.{sound_run, covered_run}
 use Rattle.law_runs.proofs.Released.{legal_run, used_below, word_near}
 use Rattle.unit_state.specs.declared.state.State.{State}
@@ -510,7 +510,7 @@ module _ (told : Bool) (site after : SiteSeen) (source source_after : SourceSeen
     sound_so = let e = known_end in
         sound_run (begin_by told site.trace.now.image book.plan book.start) first now (places_of ran.come.of) (deeds_from (places_of ran.come.of) ran.come.answers)
         e.opened e.does e.whole e.rows e.plan_is e.rules e.left (λ row. slice_index words row) e.words_are (take entries_added.count (releases book.state 0 words)) e.releases_are
-        e.pieces e.lined e.once e.ascend book.site.faults e.fewer e.stopped
+        e.pieces e.lined e.once e.ascend book.site.faults e.fewer e.stopped ran.come.reports
 
     covered_so : StaysCovered (course_of call account book.plan book.start)
         (deeds_from (places_of ran.come.of) ran.come.answers)
@@ -548,6 +548,7 @@ module _ (told : Bool) (site after : SiteSeen) (source source_after : SourceSeen
           (deeds_from (places_of ran.come.of) ran.come.answers)) course_is sound_so.order;
       none_made = subst (λ (c : Course). All (λ deed. IsUnmade deed.answer.code → HasNoEntry c.entries deed.task.index)
           (deeds_from (places_of ran.come.of) ran.come.answers)) course_is sound_so.none_made;
+      reports = ran.come.reports;
     }
 
     -- ---- its moments
@@ -803,8 +804,8 @@ module _ (told : Bool) (site after : SiteSeen) (source source_after : SourceSeen
       where
         due_at : (f : StopsAtFullHistory (begin_by told site.trace.now.image book.plan book.start) first now (places_of ran.come.of) ran.come.answers) → entries ≡ entries_in now
             → IsTrue told → (plan : PlanLines) (state : State) → ShowsAtEntry call plan state
-            → (f.place.task.kind ≢ Protect) ⊎ MayAppend (IsBetween (begin_by told site.trace.now.image book.plan book.start) first now) (course_in (begin_by told site.trace.now.image book.plan book.start) now) MOST_ENTRIES f.place.task
-            → (f.place.task.kind ≢ Protect) ⊎ MayAppend (NearWord state entries (records_of (places_of ran.come.of))) (course_of call account plan state) MOST_ENTRIES f.place.task
+            → IsTrue (is_entered f.place.task.kind) ⊎ MayAppend (IsBetween (begin_by told site.trace.now.image book.plan book.start) first now) (course_in (begin_by told site.trace.now.image book.plan book.start) now) MOST_ENTRIES f.place.task
+            → IsTrue (is_entered f.place.task.kind) ⊎ MayAppend (NearWord state entries (records_of (places_of ran.come.of))) (course_of call account plan state) MOST_ENTRIES f.place.task
         due_at f same is_told plan state shows (inl other) = inl other
         due_at f same is_told plan state shows (inr may) =
             let far : (k n : ℕ) → IsBetween (begin_by told site.trace.now.image book.plan book.start) first now k n → NearWord book.start (entries_in now) (records_of (places_of ran.come.of)) k n =
@@ -866,6 +867,7 @@ module _ (told : Bool) (site after : SiteSeen) (source source_after : SourceSeen
       after_later = let a = end.goes_on.later in let b = last_later in let c = after_faults in omega arith;
       quiet = quiet;
       bounded = entries_most;
+      reports = ran.come.reports;
       sound = λ is_told plan state shows.
           subst (λ (pl : PlanLines). ServesSoundly call account pl state) (sym (plan_same is_told plan state shows))
           (subst (λ (st : State). ServesSoundly call account book.plan st) (sym (state_same is_told plan state shows)) (sound_call is_told));

@@ -19,6 +19,8 @@ use Rattle.run_promise.specs.Numbers.{mark_of, mark_at}
 use Rattle.sdls_base.specs.Numbers.{times}
 use Rattle.counter_table.specs.Whole.{IsWhole, RowStands}
 use Rattle.record_io.specs.declared.answers.Answer.{Answer}
+use Rattle.std.proofs.Common.{◌≢◌}
+use Rattle.record_io.specs.declared.kinds.RecordKind.TheVariants.{Monitor}
 use Rattle.record_io.specs.declared.records.Record.{Record}
 use Rattle.record_io.specs.Places.{Place, records_of}
 use Rattle.run_promise.specs.Counts.{count_at, is_none_index, is_of_none}
@@ -48,15 +50,15 @@ use Rattle.law_runs.specs.Doing.{MovedAlone, PutsPieces, RunAlone}
 
 -- ---- records of one lane
 
-lane_first : (lane : ℕ) (places more : List Place) → All (λ (task : Record). task.lane ≡ lane) (records_of (places ++ more))
-    → All (λ (task : Record). task.lane ≡ lane) (records_of places)
-lane_first lane [] more all = All-nil (λ (task : Record). task.lane ≡ lane)
+lane_first : (lane : ℕ) (places more : List Place) → All (λ (task : Record). task.kind ≢ Monitor → task.lane ≡ lane) (records_of (places ++ more))
+    → All (λ (task : Record). task.kind ≢ Monitor → task.lane ≡ lane) (records_of places)
+lane_first lane [] more all = All-nil (λ (task : Record). task.kind ≢ Monitor → task.lane ≡ lane)
 lane_first lane (place ∷ places) more all =
-    All-cons (λ (task : Record). task.lane ≡ lane) place.task (records_of places) (all 0 place.task (omega arith))
+    All-cons (λ (task : Record). task.kind ≢ Monitor → task.lane ≡ lane) place.task (records_of places) (all 0 place.task (omega arith))
     (lane_first lane places more (λ k d low. all (suc k) d (omega arith)))
 
-lane_rest : (lane : ℕ) (places more : List Place) → All (λ (task : Record). task.lane ≡ lane) (records_of (places ++ more))
-    → All (λ (task : Record). task.lane ≡ lane) (records_of more)
+lane_rest : (lane : ℕ) (places more : List Place) → All (λ (task : Record). task.kind ≢ Monitor → task.lane ≡ lane) (records_of (places ++ more))
+    → All (λ (task : Record). task.kind ≢ Monitor → task.lane ≡ lane) (records_of more)
 lane_rest lane [] more all = all
 lane_rest lane (place ∷ places) more all = lane_rest lane places more (λ k d low. all (suc k) d (omega arith))
 

@@ -11,11 +11,12 @@ use Rattle.ep_core.specs.declared.reply.Reply.{Reply}
 use Rattle.ep_core.specs.declared.reply.Reply.TheVariants as replies
 use Rattle.record_io.specs.declared.answers.Answer.{Answer}
 use Rattle.record_io.specs.declared.kinds.RecordKind.{RecordKind}
-use Rattle.record_io.specs.declared.kinds.RecordKind.TheVariants.{Protect, Open, Command}
+use Rattle.record_io.specs.declared.kinds.RecordKind.TheVariants.{Protect, Open, Command, Monitor}
 use Rattle.record_io.specs.declared.records.Record.{Record}
 use Rattle.record_io.specs.Places.{Place}
 use Rattle.record_io.specs.declared.code.TheConstants.{SITE_FAULT, STOPPED}
-use Rattle.run_promise.specs.Answers.{Told, told_by, opened_told, replied_told, unbound_told}
+use Rattle.std.specs.Prelude.{Result}
+use Rattle.run_promise.specs.Answers.{Told, monitored_told, told_by, opened_told, replied_told, unbound_told}
 use Rattle.run_promise.specs.ProtectingFrames.{protect_reply}
 use Rattle.run_promise.specs.Fits.{Course, Fits, FitsAny, FitsKind, TellsRisenCount as TellsCount, state_in}
 use Rattle.run_promise.specs.Deed.{Deed}
@@ -55,6 +56,10 @@ command_not : (answer : Answer) (reply : Reply) → told_by answer ≡ replied_t
 command_not answer (replies.Done key number pdu) is = not_fault answer _ is refl
 command_not answer (replies.Refused code value) is = not_fault answer _ is refl
 
+monitored_not : (answer : Answer) (said : Result (List ℕ) ℕ) → told_by answer ≡ monitored_told said → SaysSiteFailed answer → ⊥
+monitored_not answer (Ok reply) is = not_fault answer _ is refl
+monitored_not answer (Err offset) is = not_fault answer _ is refl
+
 counted : (course : Course) (code : ℕ) (answer : Answer) → TellsCount course code answer → Rose course.faults_before course.faults
 counted course code answer h = let a = h.rose in let b = h.counted in omega arith
 
@@ -76,6 +81,8 @@ kind_rose near course task answer Open (inl is) fault = absurd (open_not answer 
 kind_rose near course task answer Open (inr any) fault = any_rose near course task answer any fault
 kind_rose near course task answer Command (inl is) fault = absurd (command_not answer is.reply is.told fault)
 kind_rose near course task answer Command (inr any) fault = any_rose near course task answer any fault
+kind_rose near course task answer Monitor (inl is) fault = absurd (monitored_not answer is.said is.told fault)
+kind_rose near course task answer Monitor (inr is) fault = absurd (not_fault answer _ is.told refl fault)
 
 -- of all answers, as far as they are of these places
 pub told_rose : (near : ℕ → ℕ → Type 0) (course : Course) (places : List Place) (answers : List Answer) → length answers ≤ length places

@@ -18,6 +18,8 @@ use Rattle.run_promise.specs.Run.{IsLegalHistory, NearWord}
 use Rattle.run_promise.specs.Begin.{Begin}
 use Rattle.run_promise.specs.Deed.{Deed}
 use Rattle.run_promise.specs.Machine.{Move, Runs, word_after}
+use Rattle.fsr_log.specs.Noted.{Noted}
+use Rattle.run_promise.specs.Reports.{AreReported, noted_of}
 use Rattle.run_promise.specs.Serving.{AreServed, SameTasks, ServesAll}
 use Rattle.run_promise.specs.Alone.{OneLane, IsExact}
 use Rattle.run_promise.specs.declared.end.RunEnd.{RunEnd}
@@ -76,6 +78,12 @@ few_answers account ends.PutFailed h = let e = h.1 in omega arith
 few_answers account (ends.SiteFault count) h = let e = ap length h.1 in omega arith
 few_answers account (ends.NoState offset) h = let e = ap length h.1 in omega arith
 
+-- the first answers are those of the log too
+front_reported : (n : ℕ) (before : List Noted) (deeds : List Deed) → AreReported before deeds → AreReported before (take n deeds)
+front_reported zero before deeds h = tt
+front_reported (suc n) before [] h = tt
+front_reported (suc n) before (deed ∷ deeds) h = (h.0, front_reported n (before ++ noted_of deed ∷ []) deeds h.1)
+
 -- ---- two calls
 
 module _ (call other : CallSeen) (run : RunEnds call) (again : RunEnds other) (plan : PlanLines) (state : State)
@@ -83,8 +91,8 @@ module _ (call other : CallSeen) (run : RunEnds call) (again : RunEnds other) (p
     (image : image_at_entry other ≡ image_at_entry call) (shows : ShowsAtEntry call plan state)
     (handled : again.account.handled ≡ run.account.handled)
     (one : OneLane (records_of run.account.handled))
-    (once : (begin : Begin) (rows : ℕ) (words : ℕ → ℕ) (history : List Entry) (deeds others : List Deed) (moves more : List Move)
-    (own entries : List Entry) → IsTrue begin.told
+    (once : (begin : Begin) (rows : ℕ) (words : ℕ → ℕ) (before : List Noted) (history : List Entry) (deeds others : List Deed) (moves more : List Move)
+    (own entries : List Entry) → IsTrue begin.told → AreReported before deeds → AreReported before others
     → ((front rest : List Entry) → own ≡ front ++ rest → KeepsRules (after begin.start (history ++ front)))
     → SameTasks deeds others → AreServed deeds → AreServed others
     → ServesAll begin history deeds moves own → ServesAll begin history others more entries
@@ -113,8 +121,9 @@ module _ (call other : CallSeen) (run : RunEnds call) (again : RunEnds other) (p
           let (front, more, split, served) = front_serves (begin_of call plan state) [] n (deeds_in run.account) e.moves own serves in
           let (back, most, cut, reserved) = front_serves (begin_of call plan state) [] n (deeds_in again.account) f.moves entries
           (subst (λ (b : Begin). ServesAll b [] (deeds_in again.account) f.moves entries) (began_alike call other plan state told tells image) reserves) in
-          let both = once (begin_of call plan state) MOST_KEYS (mark_at state) [] (take n (deeds_in run.account)) (take n (deeds_in again.account))
-          (take n e.moves) (take n f.moves) front back told
+          let both = once (begin_of call plan state) MOST_KEYS (mark_at state) [] [] (take n (deeds_in run.account)) (take n (deeds_in again.account))
+          (take n e.moves) (take n f.moves) front back told (front_reported n [] (deeds_in run.account) run.reports)
+          (front_reported n [] (deeds_in again.account) again.reports)
           (λ (some : List Entry) (behind : List Entry) there.
           rules_front state call.entries s.run.history.run.ends (along plan state run.account.handled call.entries s.run.history) some (behind ++ (more ++ rest))
           (is ∙ ap (λ (l : List Entry). l ++ rest) split ∙ append_assoc front more rest ∙ ap (λ (l : List Entry). l ++ (more ++ rest)) there

@@ -10,7 +10,7 @@ use Rattle.unit_image.specs.Image.{held, IsOpenedForm, Settles, StaysWithin}
 use Rattle.unit_image.proofs.Images.{stays_opened}
 use Rattle.key_book.specs.declared.key_row.KeyRow.{KeyRow}
 use Rattle.record_io.specs.declared.kinds.RecordKind.{RecordKind}
-use Rattle.record_io.specs.declared.kinds.RecordKind.TheVariants.{Protect, Open, Command}
+use Rattle.record_io.specs.declared.kinds.RecordKind.TheVariants.{Protect, Open, Command, Monitor}
 use Rattle.record_io.specs.declared.answers.Answer.{Answer}
 use Rattle.record_io.specs.Answers.{answer_octets}
 use Rattle.record_io.specs.Places.{records_of}
@@ -242,6 +242,7 @@ module _ (near : ℕ → ℕ → Type 0) (course : Course) where
   told_epoch deed Protect is p code (inr (inr (inr (inr (inr (inr h)))))) = let k = ap (λ (t : Told). t.code) h.told in absurd (omega arith)
   told_epoch deed Open is p code h = absurd (let k : Open ≡ Protect = p in cc)
   told_epoch deed Command is p code h = absurd (let k : Command ≡ Protect = p in cc)
+  told_epoch deed Monitor is p code h = absurd (let k : Monitor ≡ Protect = p in cc)
 
 -- an image shows at most one state
 abbrev pub ShowsOnce : Type 0
@@ -365,6 +366,11 @@ module _ (once : ShowsOnce) (run : LifeRun) (is_run : IsRun run) where
           only : (d.answer.code ≡ PROTECTED) ⊎ ((d.answer.code ≡ DONE) × (d.answer.key ≢ 0)) → IsCodeOf Command d.answer.code → d.answer.code ≡ DONE
           only (inl e) c = absurd (let z : false ≡ true = subst (IsCodeOf Command) e c in cc)
           only (inr e) c = e.0
+      by_kind Monitor is code_of = absurd (none uses_it.0 (subst (λ (z : RecordKind). IsCodeOf z d.answer.code) is code_of))
+        where
+          none : (d.answer.code ≡ PROTECTED) ⊎ ((d.answer.code ≡ DONE) × (d.answer.key ≢ 0)) → IsCodeOf Monitor d.answer.code → ⊥
+          none (inl e) c = let z : false ≡ true = subst (IsCodeOf Monitor) e c in cc
+          none (inr e) c = let z : false ≡ true = subst (IsCodeOf Monitor) e.0 c in cc
 
   -- an answer that accepts tells an entry
   tells : (d : Deed) → Fits (NearWord start entries (records_of run.places)) run.course d.task d.answer → d.answer.code ≡ 1 → tells_entry d ≡ true
@@ -374,6 +380,7 @@ module _ (once : ShowsOnce) (run : LifeRun) (is_run : IsRun run) where
       by_kind Protect is of = absurd (let z : false ≡ true = subst (IsCodeOf Protect) code (subst (λ (k : RecordKind). IsCodeOf k d.answer.code) is of) in cc)
       by_kind Open is of = rw is (rw code refl)
       by_kind Command is of = absurd (let z : false ≡ true = subst (IsCodeOf Command) code (subst (λ (k : RecordKind). IsCodeOf k d.answer.code) is of) in cc)
+      by_kind Monitor is of = absurd (let z : false ≡ true = subst (IsCodeOf Monitor) code (subst (λ (k : RecordKind). IsCodeOf k d.answer.code) is of) in cc)
 
   covered_known : (p : ℕ) → p ≤ length entries → (d : Deed) → Fits (NearWord start entries (records_of run.places)) run.course d.task d.answer
       → IsCoveredBy run.course p d → IsKnown (after_first start entries p) (record { course = run.course; deed = d })

@@ -404,6 +404,7 @@ module _ (told : Bool) (site back after : SiteSeen) (source : SourceSeen) (fault
       after_later = refused.put_cause.later;
       quiet = λ other. inl (quiet other);
       bounded = omega arith;
+      reports = tt;
       sound = λ is_told plan state shows.
           let is_plan = plans (held site.trace.now.image).plan plan shows.says in
           let keeps = rules site.trace.now.image state shows.shows in

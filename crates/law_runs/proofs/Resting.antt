@@ -43,6 +43,7 @@ none_sound course plan_is rules = record {
   one_fault = λ i j d less low. absurd (omega arith);
   order = λ i j d less low. absurd (omega arith);
   none_made = λ k d low. absurd (omega arith);
+  reports = tt;
 }
 
 -- a run without records and without entries is sound

@@ -1,5 +1,6 @@
 -- What the statuses of a run say, from how it ends: for the laws of `laws`.
 use Rattle.std.proofs.Common.{◌≡◌, ◌≢◌, ◌⊎◌, ℕ, suc, ◌+◌, ◌*◌, ◌<◌, ◌≤◌, List, [], ◌∷◌, ◌++◌, length, take, drop, Bool, true, false, IsTrue, refl, sym, ◌∙◌, ap, subst, inl, inr, arith, cond, Some, None, Option, nat_lt}
+use Rattle.std.proofs.Common.{length-append}
 use Rattle.std.specs.List.{slice_index_or}
 use Rattle.std.specs.Option.{option_map_or}
 use Rattle.std.proofs.lemmas.List.{length-take, length-drop}
@@ -21,7 +22,7 @@ use Rattle.run_promise.specs.declared.limits.TheConstants.{MOST_ENTRIES}
 use Rattle.run_promise.specs.declared.end.RunEnd.{RunEnd}
 use Rattle.run_promise.specs.declared.end.RunEnd.TheVariants.{Ended, Malformed, SourceFault, SiteFault, NoMemory, NoState, SessionFull, PutFailed}
 use Rattle.run_promise.specs.Call.{CallSeen, ShowsAtEntry, image_at_entry}
-use Rattle.run_promise.specs.Account.{Account, end_status, AreAnswered, SaysSiteFailed, due_octets, of_first}
+use Rattle.run_promise.specs.Account.{Account, end_status, AreAnswered, HandledRead, SaysSiteFailed, due_octets, of_first}
 use Rattle.run_promise.specs.Causes.{CameBy, TellsEnd}
 use Rattle.run_promise.specs.Ends.{RunEnds, IsRefused, due_releases}
 use Rattle.law_runs.specs.Says.{DidAll, GoesToItsEnd, EndsWithFullHistory, IsLeftRefused, IsUnhindered}
@@ -282,6 +283,12 @@ length_tasks [] = refl
 length_tasks (place ∷ places) = let h = length_tasks places in omega arith
 
 module _ (call : CallSeen) (run : RunEnds call) where
+  -- of the records that were read at most a Monitor record was not handled
+  read_few : HandledRead run.account → length run.account.handled ≤ length (places_of run.account.items)
+  read_few (inl all) = let e = ap length all in omega arith
+  read_few (inr (place, kind, is)) =
+      let e = ap length is in let f = length-append run.account.handled (place ∷ []) in omega arith
+
   handled_few : (came : RunEnd) → AreAnswered run.account came → length run.account.handled ≤ length (places_of run.account.items)
   handled_few Ended h = let e = ap length h.0 in omega arith
   handled_few (Malformed offset) h = let e = ap length h.0 in omega arith
@@ -289,8 +296,8 @@ module _ (call : CallSeen) (run : RunEnds call) where
   handled_few (SiteFault count) h = let e = ap length h.0 in omega arith
   handled_few (NoState offset) h = let e = ap length h.0 in omega arith
   handled_few NoMemory h = let e = ap length h.0.1 in let f = first_few h.0.0 (places_of run.account.items) in omega arith
-  handled_few SessionFull h = let e = ap length h.0 in omega arith
-  handled_few PutFailed h = let e = ap length h.0 in omega arith
+  handled_few SessionFull h = read_few h.0
+  handled_few PutFailed h = read_few h.0
 
   -- the entries are at most two a record, and one a key
   few_entries : IsTrue call.told → (plan : PlanLines) (state : State) → ShowsAtEntry call plan state

@@ -1,6 +1,6 @@
 -- One segment more of a run: its records were handled, and its answers put.
 use Rattle.std.proofs.Common.{◌≡◌, ◌⊎◌, ℕ, suc, zero, ◌+◌, ◌-◌, ◌<◌, ◌≤◌, eqb, eq-eqb, IsTrue, Bool, true, false, List, [], ◌∷◌, ◌++◌, length, Option, refl, sym, ◌∙◌, ap, subst, inl, inr, arith, cond, append-nil, length-append}
-use Rattle.std.specs.Prelude.{◌&&◌, not, nat_le, map}
+use Rattle.std.specs.Prelude.{◌&&◌, nat_le, map}
 use Rattle.std.specs.List.{All, AllPairs, Contains, slice_index_or, slice_get}
 use Rattle.std.proofs.lemmas.Bool.Decides.{nat_tests}
 use Rattle.std.proofs.lemmas.List.Elements.{Contains-append_left, Contains-append_right}
@@ -13,7 +13,7 @@ use Rattle.counter_table.specs.Turn.{stands}
 use Rattle.counter_table.specs.Whole.{IsWhole}
 use Rattle.record_io.specs.declared.answers.Answer.{Answer}
 use Rattle.record_io.specs.declared.kinds.RecordKind.{RecordKind}
-use Rattle.record_io.specs.declared.kinds.RecordKind.TheVariants.{Protect, Open, Command}
+use Rattle.record_io.specs.declared.kinds.RecordKind.TheVariants.{Protect, Open, Command, Monitor}
 use Rattle.record_io.specs.declared.records.Record.{Record}
 use Rattle.record_io.specs.Answers.{answers_octets}
 use Rattle.record_io.specs.Places.{Place, records_of}
@@ -31,7 +31,7 @@ use Rattle.law_history.proofs.Codes.{accepting_opening, accepts_at, fits_code}
 use Rattle.run_promise.specs.Begin.{Begin}
 use Rattle.law_workers.specs.Views.{log_of, entries_in, KnowsMore, IsBetween}
 use Rattle.law_workers.specs.Work.{indexed}
-use Rattle.run_promise.specs.Deed.{Deed, is_protected, tells_entry}
+use Rattle.run_promise.specs.Deed.{Deed, is_entered, tells_entry}
 use Rattle.law_workers.specs.Deeds.{Does, AllBoth, course_in, deeds_of}
 use Rattle.law_workers.specs.Order.{Layout, LiesIn, TakeTurns, Lined, Handled, ComeBefore, is_line, is_piece}
 use Rattle.law_workers.proofs.Histories.{entries_both, place_of_entry}
@@ -120,13 +120,14 @@ answers_of (place ∷ places) (answer ∷ answers) few = ap (λ (l : List Answer
 pub octets_of : (places : List Place) (answers : List Answer) → length answers ≤ length places → deeds_octets (deeds_from places answers) ≡ answers_octets answers
 octets_of places answers few = ap answers_octets (answers_of places answers few)
 
--- a frame that is protected is not answered as accepted
-not_protected : (kind : RecordKind) → IsCodeOf kind ACCEPTED → IsTrue (not (is_protected kind))
-not_protected Protect h = absurd (let t : false ≡ true = h in cc)
-not_protected Open h = refl
-not_protected Command h = refl
+-- an entry is made of each record that is answered as accepted
+entered_code : (kind : RecordKind) → IsCodeOf kind ACCEPTED → IsTrue (is_entered kind)
+entered_code Protect h = absurd (let t : false ≡ true = h in cc)
+entered_code Open h = refl
+entered_code Command h = refl
+entered_code Monitor h = absurd (let t : false ≡ true = h in cc)
 
-tells_accepted : (deed : Deed) → IsTrue (not (is_protected deed.task.kind)) → deed.answer.code ≡ ACCEPTED → IsTrue (tells_entry deed)
+tells_accepted : (deed : Deed) → IsTrue (is_entered deed.task.kind) → deed.answer.code ≡ ACCEPTED → IsTrue (tells_entry deed)
 tells_accepted deed opened accepted =
     ap (λ (b : Bool). b && (nat_le ACCEPTED deed.answer.code && nat_le deed.answer.code NUMBER)) opened
     ∙ ap (λ (c : ℕ). nat_le ACCEPTED c && nat_le c NUMBER) accepted
@@ -392,7 +393,7 @@ module _ (begin : Begin) (first v mid w : View) (places more : List Place) (answ
         subst (IsCodeOf (slice_index_or (deeds_from more next) k d).task.kind) accepts.0
         (fits_code (IsBetween begin v mid) (course_in begin mid) (slice_index_or (deeds_from more next) k d).task (slice_index_or (deeds_from more next) k d).answer fits) in
         let position = entered k d low (tells_accepted (slice_index_or (deeds_from more next) k d)
-        (not_protected (slice_index_or (deeds_from more next) k d).task.kind code) accepts.0) in
+        (entered_code (slice_index_or (deeds_from more next) k d).task.kind code) accepts.0) in
         let least = opening.stands.least in
         let same : entries_in w ++ [] ≡ entries_in mid = append-nil (entries_in w) ∙ puts.entries in
         let there : AcceptsAt (entries_in w ++ []) ((slice_index_or (deeds_from more next) k d).answer.position - 1) key number =

@@ -1,17 +1,19 @@
 -- How the reading and the serving of a run came to an end (profile).
-use Rattle.std.specs.Prelude.{◌≡◌, ◌≢◌, ◌⊎◌, ⊤, ℕ, ◌+◌, ◌≤◌, IsTrue, List, [], length, slice_get, Some}
+use Rattle.std.specs.Prelude.{◌≡◌, ◌⊎◌, ⊤, ℕ, ◌+◌, ◌≤◌, IsTrue, List, [], length, map, slice_get, Some}
 use Rattle.std.specs.Prelude.{Contains}
 use Rattle.sdls_outside.specs.Faults.{Rose}
 use Rattle.sdls_outside.specs.Moments.{Between}
 use Rattle.counter_table.specs.declared.view.View.{View}
 use Rattle.record_io.specs.declared.answers.Answer.{Answer}
-use Rattle.record_io.specs.declared.kinds.RecordKind.TheVariants.{Protect}
 use Rattle.record_io.specs.Answers.{answers_octets}
 use Rattle.record_io.specs.Input.{Item, IsInput, Whole, MalformedAt}
 use Rattle.record_io.specs.Places.{Place, places_of, records_of}
 use Rattle.record_io.specs.Reading.{SourceSeen, Standing, IsReading, HasTaken}
 use Rattle.run_promise.specs.declared.limits.TheConstants.{MOST_ENTRIES}
 use Rattle.run_promise.specs.Run.{HasNoEntry}
+use Rattle.fsr_log.specs.Noted.{Noted}
+use Rattle.run_promise.specs.Deed.{is_entered}
+use Rattle.run_promise.specs.Reports.{AreReported, noted_of}
 use Rattle.run_promise.specs.Fits.{MayAppend}
 use Rattle.run_promise.specs.Begin.{Begin}
 use Rattle.law_workers.specs.Views.{IsBetween, entries_in}
@@ -33,6 +35,21 @@ pub record HasBroken (begin : Begin) (now : View) (failed_before failed : ℕ) (
   pub one_failed : failed ≡ failed_before + 1
   pub rose : Rose now.turn.known.opening.faults now.turn.known.faults
 
+-- the answers to the records of these items, as the log takes them
+abbrev pub notes_in : List Item → List Answer → List Noted
+notes_in items answers = map noted_of (deeds_from (places_of items) answers)
+
+-- Each record of these items was answered, and the answers were put.
+pub record IsServed (begin : Begin) (first now : View) (failed_before failed stored : ℕ) (items : List Item)
+    (answers : List Answer) : Type 0 where
+  pub done : HasDone begin first now (places_of items) answers
+  pub each : length answers ≡ length (places_of items)
+  pub put : HasPut begin now failed_before failed answers
+  pub settled : IsTrue begin.told → IsFounded begin first → HasSettled begin now stored (places_of items) answers
+  pub exactly : MovedAlone begin first now (places_of items) answers
+  pub moved : MovesWords begin first now (records_of (places_of items)) (deeds_from (places_of items) answers)
+  pub reports : AreReported [] (deeds_from (places_of items) answers)
+
 -- Between two segments: the items so far end with a segment, the source did not fail, and each record of the items was
 -- answered.
 pub record IsUnderWay (start source : SourceSeen) (standing : Standing) (begin : Begin) (first now : View)
@@ -42,12 +59,7 @@ pub record IsUnderWay (start source : SourceSeen) (standing : Standing) (begin :
   pub answers : List Answer
   pub reading : IsReading start source standing items read
   pub stood : source.faults ≡ start.faults
-  pub done : HasDone begin first now (places_of items) answers
-  pub each : length answers ≡ length (places_of items)
-  pub put : HasPut begin now failed_before failed answers
-  pub settled : IsTrue begin.told → IsFounded begin first → HasSettled begin now stored (places_of items) answers
-  pub exactly : MovedAlone begin first now (places_of items) answers
-  pub moved : MovesWords begin first now (records_of (places_of items)) (deeds_from (places_of items) answers)
+  pub served : IsServed begin first now failed_before failed stored items answers
 
 -- why the reading ended
 abbrev pub EndsReading : SourceSeen → SourceSeen → List Item → List ℕ → List ℕ → RunEnd → Type 0
@@ -84,7 +96,7 @@ pub record StopsAtFullHistory (begin : Begin) (first now : View) (places : List 
   pub full : MOST_ENTRIES ≤ length (entries_in now)
   pub not_failed : length (entries_in now) ≤ MOST_ENTRIES
       → ¬ Rose now.turn.known.opening.faults now.turn.known.faults
-  pub due : (place.task.kind ≢ Protect) ⊎ MayAppend (IsBetween begin first now) (course_in begin now) MOST_ENTRIES
+  pub due : IsTrue (is_entered place.task.kind) ⊎ MayAppend (IsBetween begin first now) (course_in begin now) MOST_ENTRIES
       place.task
   pub unmade : HasNoEntry (entries_in now) place.task.index
 
@@ -114,6 +126,7 @@ pub record HasCome (start source : SourceSeen) (begin : Begin) (first now : View
   pub settled : IsTrue begin.told → IsFounded begin first → HasSettled begin now stored (places_of of) answers
   pub exactly : MovedAlone begin first now (places_of of) answers
   pub moved : MovesWords begin first now (records_of (places_of of)) (deeds_from (places_of of) answers)
+  pub reports : AreReported [] (deeds_from (places_of of) answers)
   pub full : came ≡ ends.SessionFull → StopsAtFullHistory begin first now (places_of of) answers
   -- all answers of the segments before that of a record that was handled were put
   pub earlier : IsTrue begin.told → (place : Place) → Contains (places_of of) place

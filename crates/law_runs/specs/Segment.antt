@@ -1,15 +1,15 @@
 -- One segment of a run, as its records were handled and its answers put (profile).
-use Rattle.std.specs.Prelude.{◌≡◌, ◌≢◌, ◌⊎◌, ℕ, ◌+◌, ◌≤◌, IsTrue, List, ◌++◌, length, slice_get, Some}
+use Rattle.std.specs.Prelude.{◌≡◌, ◌⊎◌, ℕ, ◌+◌, ◌≤◌, IsTrue, List, ◌++◌, length, slice_get, Some}
 use Rattle.sdls_outside.specs.Faults.{Rose}
 use Rattle.sdls_outside.specs.Moments.{Between}
 use Rattle.counter_table.specs.declared.view.View.{View}
 use Rattle.counter_table.specs.Whole.{IsWhole}
 use Rattle.record_io.specs.declared.answers.Answer.{Answer}
-use Rattle.record_io.specs.declared.kinds.RecordKind.TheVariants.{Protect}
 use Rattle.record_io.specs.declared.records.Record.{Record}
 use Rattle.record_io.specs.Answers.{answers_octets}
 use Rattle.run_promise.specs.declared.limits.TheConstants.{MOST_ENTRIES}
 use Rattle.run_promise.specs.Counts.{is_of_record, count_at}
+use Rattle.run_promise.specs.Deed.{is_entered}
 use Rattle.run_promise.specs.Fits.{MayAppend}
 use Rattle.run_promise.specs.Begin.{Begin}
 use Rattle.law_workers.specs.Views.{IsBetween, log_of, entries_in}
@@ -57,6 +57,6 @@ pub record IsFullSegment (begin : Begin) (v mid w : View) (records : List Record
   pub first_without : slice_get records (length answers) ≡ Some task
   pub full : MOST_ENTRIES ≤ length (entries_in mid)
   pub not_failed : length (entries_in mid) ≤ MOST_ENTRIES → ¬ Rose w.turn.known.opening.faults w.turn.known.faults
-  pub due : (task.kind ≢ Protect) ⊎ MayAppend (IsBetween begin v mid) (course_in begin mid) MOST_ENTRIES task
+  pub due : IsTrue (is_entered task.kind) ⊎ MayAppend (IsBetween begin v mid) (course_in begin mid) MOST_ENTRIES task
   pub unmade : (made : List ℕ) → mid.turn.made ≡ v.turn.made ++ made
       → count_at (is_of_record task.index) (log_of mid) made ≡ 0

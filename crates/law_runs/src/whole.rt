@@ -10,6 +10,7 @@ ghost use Rattle.run_promise.specs.Begin.{Begin};
 ghost use Rattle.law_workers.specs.Views.{entries_in};
 ghost use Rattle.run_promise.specs.Deed.{Deed};
 ghost use Rattle.law_runs.specs.AtEnd.{course_at_end, EndsRun, StaysCovered};
+ghost use Rattle.run_promise.specs.Reports.{AreReported};
 ghost use Rattle.run_promise.specs.Sound.{IsSound};
 ghost use Rattle.sdls_outside.specs.Faults.{Rose};
 ghost use Rattle.record_io.specs.declared.answers.Answer.{Answer};
@@ -33,12 +34,12 @@ use crate::life::{sound_call_keeps_lives, sound_reading_keeps_lives};
 use law_image::shown_keeps_rules;
 use unit_image::{opening_keeps_forms, refused_with_one, shows_one};
 
-/// Law: a run that one worker did is sound, with the releases behind it, and what covers an answer covers it to the
-/// end.
+/// Law: a run that one worker did is sound, with the releases behind it, if each monitoring message has the answer of
+/// the log; and what covers an answer covers it to the end.
 pub fn run_is_sound()
     ensures sound { (begin : Begin) (first now : View) (places : List Place) (deeds : List Deed) (words : ℕ → ℕ)
         (releases : List Entry) (faults : ℕ)
-        → EndsRun begin first now places deeds words releases faults
+        → EndsRun begin first now places deeds words releases faults → AreReported [] deeds
         → IsSound (course_at_end begin now releases faults) places deeds }
     ensures covered { (begin : Begin) (first now : View) (places : List Place) (deeds : List Deed) (words : ℕ → ℕ)
         (releases : List Entry) (faults : ℕ)

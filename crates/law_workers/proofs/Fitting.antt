@@ -9,7 +9,7 @@ use Rattle.sdls_outside.specs.Faults.{Rose}
 use Rattle.record_io.specs.declared.records.Record.{Record}
 use Rattle.record_io.specs.declared.answers.Answer.{Answer}
 use Rattle.record_io.specs.declared.kinds.RecordKind.{RecordKind}
-use Rattle.record_io.specs.declared.kinds.RecordKind.TheVariants.{Protect, Open, Command}
+use Rattle.record_io.specs.declared.kinds.RecordKind.TheVariants.{Protect, Open, Command, Monitor}
 use Rattle.unit_state.specs.declared.state.State.{State}
 use Rattle.unit_state.specs.History.{after, after_first, at_epoch, epoch_after}
 use Rattle.unit_state.proofs.Histories.{at_epoch_more, epochs_more}
@@ -97,6 +97,7 @@ module _ (near far : ℕ → ℕ → Type 0) (more : (k n : ℕ) → near k n �
   can_append Open p t low h = can_raise p t low h
   can_append Command p t low (inl h) = inl (can_change p t low h)
   can_append Command p t low (inr h) = inr (can_draw p t low h)
+  can_append Monitor p t low h = absurd h
 
   once_more : (t : Record) → MayAppendOnce near old t → MayAppendOnce far new t
   once_more t h = record {
@@ -191,6 +192,8 @@ module _ (near far : ℕ → ℕ → Type 0) (more : (k n : ℕ) → near k n �
         told = h.told;
       })
   fits_kind Command t x (inr h) = inr (fits_any t x h)
+  fits_kind Monitor t x (inl h) = inl (record { reached = let a = length-append es rest in let b = h.reached in omega arith; said = h.said; told = h.told })
+  fits_kind Monitor t x (inr h) = inr h
 
   pub fits_more : (t : Record) (x : Answer) → Fits near old t x → Fits far new t x
   fits_more t x h = fits_kind t.kind t x h

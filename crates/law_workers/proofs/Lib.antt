@@ -13,4 +13,6 @@ pub mod Machines
 pub mod Turns
 pub mod Alone
 pub mod Words
+pub mod Reported
 pub mod Once
+pub mod Looking

@@ -1,5 +1,5 @@
 -- What stays so of the lines of a log while it grows.
-use Rattle.std.proofs.Common.{◌≡◌, ℕ, zero, suc, ◌+◌, ◌<◌, ◌≤◌, List, [], ◌∷◌, ◌++◌, length, take, Option, Bool, IsTrue, true, false, refl, sym, ◌∙◌, ap, inl, inr, arith, eq-eqb, eqb, ◌≢◌, subst, if◌then◌else◌, not, ◌&&◌, ◌||◌}
+use Rattle.std.proofs.Common.{◌≡◌, ℕ, zero, suc, ◌+◌, ◌<◌, ◌≤◌, List, [], ◌∷◌, ◌++◌, length, take, Option, Bool, IsTrue, true, false, refl, sym, ◌∙◌, ap, inl, inr, arith, eq-eqb, eqb, ◌≢◌, subst, if◌then◌else◌, ◌&&◌, ◌||◌}
 use Rattle.std.specs.List.{slice_get, Contains}
 use Rattle.std.proofs.lemmas.List.{take-append-le}
 use Rattle.std.proofs.lemmas.Bool.{cases_lt, cases_eq}
@@ -13,7 +13,7 @@ use Rattle.counter_table.specs.Turn.{stands}
 use Rattle.counter_table.specs.Numbers.{count_of}
 use Rattle.record_io.specs.declared.records.Record.{Record}
 use Rattle.record_io.specs.declared.kinds.RecordKind.{RecordKind}
-use Rattle.record_io.specs.declared.kinds.RecordKind.TheVariants.{Protect, Open, Command}
+use Rattle.record_io.specs.declared.kinds.RecordKind.TheVariants.{Protect, Open, Command, Monitor}
 use Rattle.unit_plan.specs.PlanLines.{PlanLines}
 use Rattle.unit_state.specs.declared.state.State.{State}
 use Rattle.unit_state.specs.History.{after, epoch_after}
@@ -21,7 +21,7 @@ use Rattle.run_promise.specs.Log.{entries_of}
 use Rattle.run_promise.specs.Legal.{IsLegal, IsLegalAt}
 use Rattle.run_promise.specs.Counts.{count_at, drawers}
 use Rattle.law_workers.specs.Work.{indexed}
-use Rattle.run_promise.specs.Deed.{is_protected}
+use Rattle.run_promise.specs.Deed.{is_entered, is_protected}
 use Rattle.law_workers.specs.Deeds.{IsLastAt}
 use Rattle.law_workers.proofs.Histories.{get_front}
 use Rattle.law_workers.proofs.Fitting.{seen_nearer}
@@ -153,14 +153,15 @@ module _ (near far : ℕ → ℕ → Type 0) (more : (k n : ℕ) → near k n �
       (legal_wider (after start (entries_of (take place log))) e (h e (sym (get_front log rest place low) ∙ there)))
 
 -- the epoch that an ordered answer tells stays
-pub told_kept : (kind : RecordKind) (c h : Bool) (p : ℕ) (es rest : List Entry) → (IsTrue (not (is_protected kind) && c) → p ≤ length es)
-    → IsTrue ((not (is_protected kind) && c) || (is_protected kind && h))
+pub told_kept : (kind : RecordKind) (c h : Bool) (p : ℕ) (es rest : List Entry) → (IsTrue (is_entered kind && c) → p ≤ length es)
+    → IsTrue ((is_entered kind && c) || (is_protected kind && h))
     → (if is_protected kind then p else epoch_after (take p (es ++ rest))) ≡ (if is_protected kind then p else epoch_after (take p es))
 told_kept Protect c h p es rest low ordered = refl
 told_kept Open true h p es rest low ordered = ap epoch_after (take-append-le p es rest (low ordered))
 told_kept Open false h p es rest low ordered = (let o : false ≡ true = ordered in cc)
 told_kept Command true h p es rest low ordered = ap epoch_after (take-append-le p es rest (low ordered))
 told_kept Command false h p es rest low ordered = (let o : false ≡ true = ordered in cc)
+told_kept Monitor c h p es rest low ordered = (let o : false ≡ true = ordered in cc)
 
 -- the entries before a place
 pub entries_low : (log : List Logged) (p q : ℕ) → p ≤ q → length (entries_of (take p log)) ≤ length (entries_of (take q log))

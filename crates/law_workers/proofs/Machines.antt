@@ -10,7 +10,7 @@ use Rattle.sdls_base.specs.declared.entry.Seen.{Seen}
 use Rattle.sdls_base.specs.declared.entry.Seen.TheVariants as seens
 use Rattle.key_book.specs.KeyBook.{place_of}
 use Rattle.record_io.specs.declared.kinds.RecordKind.{RecordKind}
-use Rattle.record_io.specs.declared.kinds.RecordKind.TheVariants.{Protect, Open, Command}
+use Rattle.record_io.specs.declared.kinds.RecordKind.TheVariants.{Protect, Open, Command, Monitor}
 use Rattle.record_io.specs.declared.records.Record.{Record}
 use Rattle.unit_state.specs.declared.state.State.{State}
 use Rattle.unit_state.specs.Applied.{applied}
@@ -148,6 +148,7 @@ module _ (start : State) (es rest : List Entry) where
   kind_on Protect d m h = protect_on d m h
   kind_on Open d m h = h
   kind_on Command d m h = command_on d m h
+  kind_on Monitor d m h = h
 
   -- what answers tell of their moves stays so in a longer history
   pub tell_more : (ds : List Deed) (ms : List Move) → TellAll start es ds ms → TellAll start (es ++ rest) ds ms

@@ -18,7 +18,7 @@ use Rattle.ep_core.specs.declared.reply.Reply.{Reply}
 use Rattle.record_io.specs.declared.answers.Answer.{Answer}
 use Rattle.record_io.specs.declared.code.TheConstants.{PROTECTED, EXHAUSTED, JOURNAL_FULL}
 use Rattle.record_io.specs.declared.kinds.RecordKind.{RecordKind}
-use Rattle.record_io.specs.declared.kinds.RecordKind.TheVariants.{Protect, Open, Command}
+use Rattle.record_io.specs.declared.kinds.RecordKind.TheVariants.{Protect, Open, Command, Monitor}
 use Rattle.record_io.specs.declared.records.Record.{Record}
 use Rattle.unit_plan.specs.PlanLines.{PlanLines}
 use Rattle.unit_state.specs.declared.state.State.{State}
@@ -30,6 +30,11 @@ use Rattle.run_promise.specs.Stored.{IsStored}
 use Rattle.run_promise.specs.Begin.{Begin}
 use Rattle.run_promise.specs.Deed.{Deed}
 use Rattle.run_promise.specs.Machine.{Move, Found, Drew, Raised, Overdrew, IsAt, word_after, Runs}
+use Rattle.fsr_log.specs.declared.messages.Monitoring.{Monitoring}
+use Rattle.fsr_log.specs.Message.{IsMonitoring}
+use Rattle.fsr_log.specs.Noted.{Noted}
+use Rattle.run_promise.specs.Reports.{AreReported, noted_of}
+use Rattle.law_workers.proofs.Reported.{report_once, same_noted}
 use Rattle.run_promise.specs.Serving.{now, HasSlot, SaysFull, Funds, AloneUnbound, AloneBound, AloneProtected, AloneExhausted, AloneUnfunded, AloneOpened, AloneUnopened, AloneShows, AloneShown, AloneHandled, AloneUnhandled, AloneUnmet, ServesKind, AloneServes, ServesAll, SameTasks, AreServed}
 
 same_answer : (a b : Answer) → told_by a ≡ told_by b → a.position ≡ b.position → a ≡ b
@@ -71,6 +76,7 @@ module _ (begin : Begin) (tells : IsTrue begin.told)
     → IsOpenReply plan state link frame reply field → IsOpenReply plan state link frame other again
     → (opened_told reply field ≡ opened_told other again) × (frame_change plan state reply ≡ frame_change plan state other))
     (one_frame : (b : Binding) (n : ℕ) (clear out other : List ℕ) → Protects b n clear out → Protects b n clear other → out ≡ other)
+    (one_message : (one other : Monitoring) (octets : List ℕ) → IsMonitoring one octets → IsMonitoring other octets → one ≡ other)
     (rows : ℕ) where
   module _ (history : List Entry) where
     slot_or_full : (entry other : Entry) → entry ≡ other → HasSlot begin history entry → (answer : Answer) → SaysFull begin history other answer → ⊥
@@ -345,34 +351,34 @@ module _ (begin : Begin) (tells : IsTrue begin.told)
       flipped = flipped_unmet words task a b m n at at'
 
       -- a record of a kind: the states after the entries that it made keep the rules
-      kind_once : (kind : RecordKind) (own more : List Entry) → ((front rest : List Entry) → own ≡ front ++ rest → KeepsRules (now begin (history ++ front)))
+      kind_once : (kind : RecordKind) → (kind ≡ Monitor → told_by a ≡ told_by b) → (own more : List Entry) → ((front rest : List Entry) → own ≡ front ++ rest → KeepsRules (now begin (history ++ front)))
           → ServesKind begin history kind task a own m → ServesKind begin history kind task b more n → Same a b own more m n
-      kind_once Protect own more rules (inl x) (inl y) = unbound_both words task a b own more m n at at' x y
-      kind_once Protect own more rules (inl x) (inr (inl y)) = absurd (unbound_or_bound words task a b own more m n at at' x y.is)
-      kind_once Protect own more rules (inl x) (inr (inr (inl y))) = absurd (unbound_or_bound words task a b own more m n at at' x y.is)
-      kind_once Protect own more rules (inl x) (inr (inr (inr y))) = absurd (unbound_or_bound words task a b own more m n at at' x y.is)
-      kind_once Protect own more rules (inr (inl x)) (inl y) = absurd (unbound_or_bound words task b a more own n m at' at y x.is)
-      kind_once Protect own more rules (inr (inl x)) (inr (inl y)) = protected_both words task a b own more m n at at' x y
-      kind_once Protect own more rules (inr (inl x)) (inr (inr (inl y))) = absurd (protected_or_exhausted words task a b own more m n at at' x y)
-      kind_once Protect own more rules (inr (inl x)) (inr (inr (inr y))) = absurd (protected_or_unfunded words task a b own more m n at at' x y)
-      kind_once Protect own more rules (inr (inr (inl x))) (inl y) = absurd (unbound_or_bound words task b a more own n m at' at y x.is)
-      kind_once Protect own more rules (inr (inr (inl x))) (inr (inl y)) = absurd (protected_or_exhausted words task b a more own n m at' at y x)
-      kind_once Protect own more rules (inr (inr (inl x))) (inr (inr (inl y))) = exhausted_both words task a b own more m n at at' x y
-      kind_once Protect own more rules (inr (inr (inl x))) (inr (inr (inr y))) = absurd (exhausted_or_unfunded words task a b own more m n at at' x y)
-      kind_once Protect own more rules (inr (inr (inr x))) (inl y) = absurd (unbound_or_bound words task b a more own n m at' at y x.is)
-      kind_once Protect own more rules (inr (inr (inr x))) (inr (inl y)) = absurd (protected_or_unfunded words task b a more own n m at' at y x)
-      kind_once Protect own more rules (inr (inr (inr x))) (inr (inr (inl y))) = absurd (exhausted_or_unfunded words task b a more own n m at' at y x)
-      kind_once Protect own more rules (inr (inr (inr x))) (inr (inr (inr y))) = unfunded_both words task a b own more m n at at' x y
-      kind_once Open own more rules (inl x) (inl y) = opened_both words task a b own more m n at at' x y
-      kind_once Open own more rules (inl x) (inr y) = absurd (opened_or_unopened words task a b own more m n at at' x y)
-      kind_once Open own more rules (inr x) (inl y) = absurd (opened_or_unopened words task b a more own n m at' at y x)
-      kind_once Open own more rules (inr x) (inr y) = unopened_both words task a b own more m n at at' x y
-      kind_once Command own more rules (inl x) (inl y) =
+      kind_once Protect told own more rules (inl x) (inl y) = unbound_both words task a b own more m n at at' x y
+      kind_once Protect told own more rules (inl x) (inr (inl y)) = absurd (unbound_or_bound words task a b own more m n at at' x y.is)
+      kind_once Protect told own more rules (inl x) (inr (inr (inl y))) = absurd (unbound_or_bound words task a b own more m n at at' x y.is)
+      kind_once Protect told own more rules (inl x) (inr (inr (inr y))) = absurd (unbound_or_bound words task a b own more m n at at' x y.is)
+      kind_once Protect told own more rules (inr (inl x)) (inl y) = absurd (unbound_or_bound words task b a more own n m at' at y x.is)
+      kind_once Protect told own more rules (inr (inl x)) (inr (inl y)) = protected_both words task a b own more m n at at' x y
+      kind_once Protect told own more rules (inr (inl x)) (inr (inr (inl y))) = absurd (protected_or_exhausted words task a b own more m n at at' x y)
+      kind_once Protect told own more rules (inr (inl x)) (inr (inr (inr y))) = absurd (protected_or_unfunded words task a b own more m n at at' x y)
+      kind_once Protect told own more rules (inr (inr (inl x))) (inl y) = absurd (unbound_or_bound words task b a more own n m at' at y x.is)
+      kind_once Protect told own more rules (inr (inr (inl x))) (inr (inl y)) = absurd (protected_or_exhausted words task b a more own n m at' at y x)
+      kind_once Protect told own more rules (inr (inr (inl x))) (inr (inr (inl y))) = exhausted_both words task a b own more m n at at' x y
+      kind_once Protect told own more rules (inr (inr (inl x))) (inr (inr (inr y))) = absurd (exhausted_or_unfunded words task a b own more m n at at' x y)
+      kind_once Protect told own more rules (inr (inr (inr x))) (inl y) = absurd (unbound_or_bound words task b a more own n m at' at y x.is)
+      kind_once Protect told own more rules (inr (inr (inr x))) (inr (inl y)) = absurd (protected_or_unfunded words task b a more own n m at' at y x)
+      kind_once Protect told own more rules (inr (inr (inr x))) (inr (inr (inl y))) = absurd (exhausted_or_unfunded words task b a more own n m at' at y x)
+      kind_once Protect told own more rules (inr (inr (inr x))) (inr (inr (inr y))) = unfunded_both words task a b own more m n at at' x y
+      kind_once Open told own more rules (inl x) (inl y) = opened_both words task a b own more m n at at' x y
+      kind_once Open told own more rules (inl x) (inr y) = absurd (opened_or_unopened words task a b own more m n at at' x y)
+      kind_once Open told own more rules (inr x) (inl y) = absurd (opened_or_unopened words task b a more own n m at' at y x)
+      kind_once Open told own more rules (inr x) (inr y) = unopened_both words task a b own more m n at at' x y
+      kind_once Command told own more rules (inl x) (inl y) =
           handled_both words task a b m n at at' own more x y (rules x.reserve (record_entry task.index x.is.seen x.is.change ∷ []) x.own_is)
-      kind_once Command own more rules (inl x) (inr (inl y)) =
+      kind_once Command told own more rules (inl x) (inr (inl y)) =
           absurd (handled_or_unhandled words task a b m n at at' own more x y (rules x.reserve (record_entry task.index x.is.seen x.is.change ∷ []) x.own_is))
-      kind_once Command own more rules (inl x) (inr (inr y)) = absurd (shown_or_unmet words task a b m n at at' x.reserve more x.is y)
-      kind_once Command own more rules (inr (inl x)) (inl y) = absurd (unhandled_or_handled x y)
+      kind_once Command told own more rules (inl x) (inr (inr y)) = absurd (shown_or_unmet words task a b m n at at' x.reserve more x.is y)
+      kind_once Command told own more rules (inr (inl x)) (inl y) = absurd (unhandled_or_handled x y)
         where
           unhandled_or_handled : AloneUnhandled begin history task a own m → AloneHandled begin history task b more n → ⊥
           unhandled_or_handled x y =
@@ -386,37 +392,41 @@ module _ (begin : Begin) (tells : IsTrue begin.told)
               slot_or_full_here entry other same slot full =
                   let s = slot tells (subst (λ (e : Entry). IsTrue (IsStored (now begin (history ++ own)) e)) (sym same) full.stored) in
                   let u = full.none_left tells in omega arith
-      kind_once Command own more rules (inr (inl x)) (inr (inl y)) = unhandled_both words task a b m n at at' own more x y
-      kind_once Command own more rules (inr (inl x)) (inr (inr y)) = absurd (shown_or_unmet words task a b m n at at' own more x.is y)
-      kind_once Command own more rules (inr (inr x)) (inl y) = absurd (flipped y.reserve own y.is x)
-      kind_once Command own more rules (inr (inr x)) (inr (inl y)) = absurd (flipped more own y.is x)
-      kind_once Command own more rules (inr (inr x)) (inr (inr y)) = unmet_both words task a b m n at at' own more x y
+      kind_once Command told own more rules (inr (inl x)) (inr (inl y)) = unhandled_both words task a b m n at at' own more x y
+      kind_once Command told own more rules (inr (inl x)) (inr (inr y)) = absurd (shown_or_unmet words task a b m n at at' own more x.is y)
+      kind_once Command told own more rules (inr (inr x)) (inl y) = absurd (flipped y.reserve own y.is x)
+      kind_once Command told own more rules (inr (inr x)) (inr (inl y)) = absurd (flipped more own y.is x)
+      kind_once Command told own more rules (inr (inr x)) (inr (inr y)) = unmet_both words task a b m n at at' own more x y
+      kind_once Monitor told own more rules x y = (same_answer a b (told refl) (x.0 ∙ sym y.0), x.1 ∙ sym y.1, x.2 ∙ sym y.2)
 
     -- a record that the site and memory sufficed for
     serves_once : (words : ℕ → ℕ) (task : Record) (a b : Answer) (m n : Move) → IsAt rows words m → IsAt rows words n → (own more : List Entry)
+        → (task.kind ≡ Monitor → told_by a ≡ told_by b)
         → ((front rest : List Entry) → own ≡ front ++ rest → KeepsRules (now begin (history ++ front))) → a.code ≤ JOURNAL_FULL → b.code ≤ JOURNAL_FULL
         → AloneServes begin history task a own m → AloneServes begin history task b more n → Same a b own more m n
-    serves_once words task a b m n at at' own more rules low less (inl late) y = absurd (omega arith)
-    serves_once words task a b m n at at' own more rules low less (inr x) (inl late) = absurd (omega arith)
-    serves_once words task a b m n at at' own more rules low less (inr x) (inr y) = kind_once words task a b m n at at' task.kind own more rules x y
+    serves_once words task a b m n at at' own more told rules low less (inl late) y = absurd (omega arith)
+    serves_once words task a b m n at at' own more told rules low less (inr x) (inl late) = absurd (omega arith)
+    serves_once words task a b m n at at' own more told rules low less (inr x) (inr y) = kind_once words task a b m n at at' task.kind told own more rules x y
 
   -- records one after the other
-  pub all_once : (history : List Entry) (words : ℕ → ℕ) (ds es : List Deed) (a b : List Move) (own more : List Entry)
-      → ((front rest : List Entry) → own ≡ front ++ rest → KeepsRules (now begin (history ++ front))) → SameTasks ds es → AreServed ds → AreServed es
+  pub all_once : (before : List Noted) (history : List Entry) (words : ℕ → ℕ) (ds es : List Deed) (a b : List Move) (own more : List Entry)
+      → AreReported before ds → AreReported before es → ((front rest : List Entry) → own ≡ front ++ rest → KeepsRules (now begin (history ++ front))) → SameTasks ds es → AreServed ds → AreServed es
       → ServesAll begin history ds a own → ServesAll begin history es b more → Runs rows words a → Runs rows words b
       → (map (λ (d : Deed). d.answer) ds ≡ map (λ (d : Deed). d.answer) es) × (own ≡ more) × (a ≡ b)
-  all_once history words [] [] [] [] own more rules same low less x y r q = (refl, x ∙ sym y, refl)
-  all_once history words [] [] (m ∷ a) b own more rules same low less x y r q = absurd x
-  all_once history words [] [] [] (n ∷ b) own more rules same low less x y r q = absurd y
-  all_once history words [] (e ∷ es) a b own more rules same low less x y r q = absurd same
-  all_once history words (d ∷ ds) [] a b own more rules same low less x y r q = absurd same
-  all_once history words (d ∷ ds) (e ∷ es) [] b own more rules same low less x y r q = absurd x
-  all_once history words (d ∷ ds) (e ∷ es) (m ∷ a) [] own more rules same low less x y r q = absurd y
-  all_once history words (d ∷ ds) (e ∷ es) (m ∷ a) (n ∷ b) own more rules same low less (first, rest, is, x, xs) (start, others, are, y, ys) r q =
+  all_once before history words [] [] [] [] own more rep re rules same low less x y r q = (refl, x ∙ sym y, refl)
+  all_once before history words [] [] (m ∷ a) b own more rep re rules same low less x y r q = absurd x
+  all_once before history words [] [] [] (n ∷ b) own more rep re rules same low less x y r q = absurd y
+  all_once before history words [] (e ∷ es) a b own more rep re rules same low less x y r q = absurd same
+  all_once before history words (d ∷ ds) [] a b own more rep re rules same low less x y r q = absurd same
+  all_once before history words (d ∷ ds) (e ∷ es) [] b own more rep re rules same low less x y r q = absurd x
+  all_once before history words (d ∷ ds) (e ∷ es) (m ∷ a) [] own more rep re rules same low less x y r q = absurd y
+  all_once before history words (d ∷ ds) (e ∷ es) (m ∷ a) (n ∷ b) own more rep re rules same low less (first, rest, is, x, xs) (start, others, are, y, ys) r q =
       let (answer, own_is, move) = serves_once history words d.task d.answer e.answer m n r.0 q.0 first start
+      (λ is. report_once one_message before d e same.0 low.0 less.0 (rep.0 is) (re.0 (sym (ap (λ (t : Record). t.kind) same.0) ∙ is)))
       (λ front back split. rules front (back ++ rest) (is ∙ ap (λ (l : List Entry). l ++ rest) split ∙ append_assoc front back rest)) low.0 less.0 x
       (subst (λ (t : Record). AloneServes begin history t e.answer start n) (sym same.0) y) in
-      let (answers, owns, moves) = all_once (history ++ first) (word_after words m) ds es a b rest others
+      let (answers, owns, moves) = all_once (before ++ noted_of d ∷ []) (history ++ first) (word_after words m) ds es a b rest others rep.1
+      (subst (λ (x : Noted). AreReported (before ++ x ∷ []) es) (sym (same_noted d e same.0 answer)) re.1)
       (λ front back split. subst (λ (l : List Entry). KeepsRules (now begin l)) (sym (append_assoc history first front))
       (rules (first ++ front) back (is ∙ ap (λ (l : List Entry). first ++ l) split ∙ sym (append_assoc first front back))))
       same.1 low.1 less.1 xs (subst (λ (l : List Entry). ServesAll begin (history ++ l) es b others) (sym own_is) ys) r.1

@@ -103,6 +103,9 @@ module _ (begin : Begin) (u v w z : View) (low : KnowsMore u v) (high : KnowsMor
         let n : length (entries_in z) ≡ length (entries_in w) + length (grown_entries w z high).0 = ap length grown ∙ length-append (entries_in w) (grown_entries w z high).0 in
         (omega arith, omega arith);
     stored = λ e. let a = s.stored e in let h = high.earlier.standing in omega arith;
+    counted = λ e. let a = s.counted e in let l = low.earlier.standing in let h = high.earlier.standing in
+        let n : length (entries_in z) ≡ length (entries_in w) + length (grown_entries w z high).0 = ap length grown ∙ length-append (entries_in w) (grown_entries w z high).0 in
+        (omega arith, omega arith, omega arith);
     epoch = λ o. let a = s.epoch o in let same = told_later d s o in let l = low.epochs in let h = high.epochs in (omega arith, omega arith);
     number = λ c k. let a = s.number c k in (a.0, row_later d.answer.key a.0 a.1, le_trans (low.nexts a.0) a.2, let h = high.nexts a.0 in omega arith);
   }
@@ -110,6 +113,9 @@ module _ (begin : Begin) (u v w z : View) (low : KnowsMore u v) (high : KnowsMor
   behind_later : (d e : Deed) → StandsWithin begin v w d → StandsWithin begin v w e → StandsBehind begin (entries_in w) d e → StandsBehind begin (entries_in z) d e
   behind_later d e s t h = record {
     entries = h.entries;
+    counted = h.counted;
+    counted_before = h.counted_before;
+    counts = h.counts;
     epochs = λ a b. let k = h.epochs a b in let l = told_later d s a in let m = told_later e t b in omega arith;
     numbers = h.numbers;
   }

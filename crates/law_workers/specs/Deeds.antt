@@ -19,7 +19,7 @@ use Rattle.run_promise.specs.Fits.{Course, Fits}
 use Rattle.run_promise.specs.Begin.{Begin}
 use Rattle.law_workers.specs.Views.{Gains, Gained, KnowsMore, IsBetween, IsRow, log_of, entries_in}
 use Rattle.law_workers.specs.Work.{Works, indexed}
-use Rattle.run_promise.specs.Deed.{Deed, is_protected, tells_entry, epoch_told, is_ordered, StandsBehind, InTurn}
+use Rattle.run_promise.specs.Deed.{Deed, is_protected, tells_count, tells_entry, epoch_told, is_ordered, StandsBehind, InTurn}
 use Rattle.run_promise.specs.Deed.{deed_of}
 
 -- what the answers of a run speak of, as the view knows it
@@ -31,11 +31,14 @@ course_in begin view = record {
   entries = entries_in view;
 }
 
--- where the answer stands, between what was seen before and after; an entry that it tells stands in the book
+-- where the answer stands, between what was seen before and after; an entry that it tells stands in the book, and a
+-- count that it tells is one of entries that stand
 pub record StandsWithin (begin : Begin) (old new : View) (deed : Deed) : Type 0 where
   pub entry : IsTrue (tells_entry deed) → (length (entries_in old) < deed.answer.position)
       × (deed.answer.position ≤ length (entries_in new))
   pub stored : IsTrue (tells_entry deed) → deed.answer.position ≤ new.turn.known.standing
+  pub counted : IsTrue (tells_count deed) → (old.turn.known.standing ≤ deed.answer.position)
+      × (deed.answer.position ≤ new.turn.known.standing) × (deed.answer.position ≤ length (entries_in new))
   pub epoch : IsTrue (is_ordered begin deed) → (epoch_seen old.turn ≤ epoch_told (entries_in new) deed)
       × (epoch_told (entries_in new) deed ≤ epoch_seen new.turn)
   pub number : deed.answer.code ≡ PROTECTED → IsTrue (is_protected deed.task.kind)

@@ -11,3 +11,4 @@ pub mod InTurn
 pub mod Exact
 pub mod Alone
 pub mod Words
+pub mod Reporting

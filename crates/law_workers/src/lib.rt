@@ -12,9 +12,11 @@
 #![tactic(auto)]
 
 mod one_lane;
+mod reporting;
 mod segments;
 mod work;
 
 pub use one_lane::{alone_is_exact, exact_move, exact_nothing, exact_then, served_once};
+pub use reporting::looking_reports;
 pub use segments::{handled_beside, handled_nothing, handled_then, lanes_grow, lanes_handled};
 pub use work::{does_beside, does_nothing, does_then, does_unanswered};

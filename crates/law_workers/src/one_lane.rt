@@ -12,10 +12,13 @@ ghost use Rattle.unit_state.specs.State.{KeepsRules};
 ghost use Rattle.unit_state.specs.History.{after};
 ghost use Rattle.run_promise.specs.Machine.{adds, IsAt, LiesBetween, Move, Runs};
 ghost use Rattle.run_promise.specs.Serving.{AreServed, SameTasks, ServesAll};
+ghost use Rattle.run_promise.specs.Reports.{AreReported};
+ghost use Rattle.fsr_log.specs.Noted.{Noted};
 ghost use Rattle.law_workers.specs.Exact.{Exact, IsOfMoves, words_in};
 ghost use Rattle.run_promise.specs.Moves.{Tells};
 
 use frame_shield::protected_once;
+use fsr_log::one_message;
 use law_history::{messages_have_one_step, messages_need_one, openings_tell_one};
 
 /// Law: who did nothing did so exactly.
@@ -57,11 +60,12 @@ pub fn alone_is_exact()
 
 /// Law: one lane alone answers once. From one history and the same words the same records have the same answers, make
 /// the same entries and move the words alike, as far as the site tells what it holds, where for none of them the site
-/// failed or memory was wanting, and each state of the history keeps the rules.
+/// failed or memory was wanting, each state of the history keeps the rules, and each monitoring message has the answer of
+/// the log of the answers before it.
 pub fn served_once()
-    ensures { (begin : Begin) (rows : ℕ) (words : ℕ → ℕ) (history : List Entry) (deeds others : List Deed)
-        (moves more : List Move)
-        (own entries : List Entry) → IsTrue begin.told
+    ensures { (begin : Begin) (rows : ℕ) (words : ℕ → ℕ) (before : List Noted) (history : List Entry)
+        (deeds others : List Deed) (moves more : List Move) (own entries : List Entry) → IsTrue begin.told
+        → AreReported before deeds → AreReported before others
         → ((front rest : List Entry) → own ≡ front ++ rest → KeepsRules (after begin.start (history ++ front)))
         → SameTasks deeds others → AreServed deeds → AreServed others
         → ServesAll begin history deeds moves own → ServesAll begin history others more entries
@@ -73,4 +77,5 @@ pub fn served_once()
     messages_have_one_step();
     openings_tell_one();
     protected_once();
+    one_message();
 }

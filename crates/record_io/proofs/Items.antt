@@ -72,7 +72,11 @@ spelled_item header octets head found same =
 
 pub item_is : (header octets : List ℕ) (head : Head) → IsHead header head → length octets ≡ head.len
     → IsItem (record { kind = head.kind; lane = head.lane; link = head.link; octets = octets })
-item_is header octets head found same = record { lane = found.lane; short = omega (arith, found.short, same) }
+item_is header octets head found same = record {
+  lane = found.lane;
+  long = omega (arith, found.long, same);
+  short = omega (arith, found.short, same);
+}
 
 -- fewer octets than the beginning has
 pub lacks_short_beginning : (octets : List ℕ) → length octets < 8 → LacksBeginning octets

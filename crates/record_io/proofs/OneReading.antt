@@ -7,7 +7,7 @@ use Rattle.std.specs.Int.{w16, from_be_bytes}
 use Rattle.std.proofs.lemmas.List.{append_cancel_left}
 use Rattle.std.proofs.lemmas.Nat.{from_be_bytes-to_be_bytes_2}
 use Rattle.sdls_base.proofs.Endings.{take_front, drop_front}
-use Rattle.record_io.specs.declared.kinds.RecordKind.TheVariants.{Protect, Open, Command}
+use Rattle.record_io.specs.declared.kinds.RecordKind.TheVariants.{Protect, Open, Command, Monitor}
 use Rattle.record_io.specs.declared.kinds.ItemKind.{ItemKind}
 use Rattle.record_io.specs.declared.kinds.ItemKind.TheVariants.{Fence, Recorded}
 use Rattle.record_io.specs.Input.{Item, IsItem, kind_octet, item_header, item_octets, items_octets, beginning, AreRead, LacksItem, LacksBeginning, InputEnd, Whole, MalformedAt, EndsAs, IsInput}
@@ -15,7 +15,7 @@ use Rattle.record_io.proofs.Items.{length-header, most_small, lacks_short}
 
 -- the kind that an octet says
 kind_back : ℕ → ItemKind
-kind_back n = if n == 0 then Fence else (if n == 1 then Recorded Protect else (if n == 2 then Recorded Open else Recorded Command))
+kind_back n = if n == 0 then Fence else (if n == 1 then Recorded Protect else (if n == 2 then Recorded Open else (if n == 3 then Recorded Command else Recorded Monitor)))
 
 kind_again : (kind : ItemKind) → kind_back (kind_octet kind) ≡ kind
 unfolding kind_back
@@ -23,6 +23,7 @@ kind_again Fence = refl
 kind_again (Recorded Protect) = refl
 kind_again (Recorded Open) = refl
 kind_again (Recorded Command) = refl
+kind_again (Recorded Monitor) = refl
 
 one_kind : (k l : ItemKind) → kind_octet k ≡ kind_octet l → k ≡ l
 one_kind k l e = sym (kind_again k) ∙ ap kind_back e ∙ kind_again l

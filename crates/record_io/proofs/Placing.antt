@@ -1,9 +1,14 @@
 -- Numbers and segments of items one after the other, for `next_segment`.
-use Rattle.std.proofs.Common.{◌≡◌, ℕ, ◌+◌, ◌<◌, Bool, true, false, List, [], ◌∷◌, ◌++◌, length, refl, sym, ◌∙◌, ap, subst, inl, inr, arith, append_assoc}
+use Rattle.std.proofs.Common.{◌≡◌, ◌≢◌, ℕ, ◌+◌, ◌<◌, Bool, true, false, List, [], ◌∷◌, ◌++◌, length, refl, sym, ◌∙◌, ap, subst, inl, inr, arith, append_assoc}
 use Rattle.std.specs.Prelude.{◌==◌, if◌then◌else◌}
+use Rattle.std.specs.List.{All}
 use Rattle.std.proofs.lemmas.List.{append-nil}
+use Rattle.std.proofs.lemmas.List.Elements.{All-head, All-tail}
 use Rattle.std.proofs.lemmas.Bool.Decides.{nat_tests}
 use Rattle.record_io.specs.declared.kinds.ItemKind.{ItemKind}
+use Rattle.record_io.specs.declared.kinds.ItemKind.TheVariants.{Recorded}
+use Rattle.record_io.specs.declared.kinds.RecordKind.{RecordKind}
+use Rattle.record_io.specs.declared.kinds.RecordKind.TheVariants.{Protect, Open, Command, Monitor}
 use Rattle.record_io.specs.declared.records.Record.{Record}
 use Rattle.record_io.specs.Input.{Item}
 use Rattle.record_io.specs.Places.{Place, Count, behind, behind_record, counted, places_at, places_from, records_of}
@@ -37,9 +42,23 @@ either : (b : Bool) (c d : Count) (n : ℕ) → c.index ≡ n → d.index ≡ n 
 either true c d n e f = e
 either false c d n e f = f
 
-next_index : (c : Count) → (behind_record c).index ≡ c.index + 1
-next_index c = either (c.inside + 1 == SEGMENT_RECORDS) (record { index = c.index + 1; segment = c.segment + 1; inside = 0 })
+-- behind a record that is no Monitor record
+plain_behind : (c : Count) (kind : RecordKind) → kind ≢ Monitor → behind c (Recorded kind) ≡ behind_record c
+plain_behind c Protect plain = refl
+plain_behind c Open plain = refl
+plain_behind c Command plain = refl
+plain_behind c Monitor plain = absurd (plain refl)
+
+-- a record counts, of whatever kind
+record_index : (c : Count) → (behind_record c).index ≡ c.index + 1
+record_index c = either (c.inside + 1 == SEGMENT_RECORDS) (record { index = c.index + 1; segment = c.segment + 1; inside = 0 })
     (record { index = c.index + 1; segment = c.segment; inside = c.inside + 1 }) (c.index + 1) refl refl
+
+next_index : (c : Count) (kind : RecordKind) → (behind c (Recorded kind)).index ≡ c.index + 1
+next_index c Protect = record_index c
+next_index c Open = record_index c
+next_index c Command = record_index c
+next_index c Monitor = refl
 
 same_count : (c : Count) (i s n : ℕ) → c.index ≡ i → c.segment ≡ s → c.inside ≡ n → c ≡ record { index = i; segment = s; inside = n }
 same_count c i s n e f g =
@@ -48,27 +67,28 @@ same_count c i s n e f g =
     ∙ ap (λ (k : ℕ). record { index = i; segment = s; inside = k }) g
 
 -- records that do not fill a segment
-pub counted_some : (records : List Record) (c : Count) → c.inside + length records < SEGMENT_RECORDS
+pub counted_some : (records : List Record) (c : Count) → All (λ (r : Record). r.kind ≢ Monitor) records → c.inside + length records < SEGMENT_RECORDS
     → counted c (items_of records) ≡ record { index = c.index + length records; segment = c.segment; inside = c.inside + length records }
-counted_some [] c few = same_count c (c.index + 0) c.segment (c.inside + 0) (omega arith) refl (omega arith)
-counted_some (r ∷ records) c few =
+counted_some [] c plain few = same_count c (c.index + 0) c.segment (c.inside + 0) (omega arith) refl (omega arith)
+counted_some (r ∷ records) c plain few =
     let next : Count = record { index = c.index + 1; segment = c.segment; inside = c.inside + 1 } in
-    ap (λ (d : Count). counted d (items_of records)) (goes_on c (omega arith))
-    ∙ counted_some records next (omega arith)
+    ap (λ (d : Count). counted d (items_of records)) (plain_behind c r.kind (All-head (λ (r : Record). r.kind ≢ Monitor) r records plain) ∙ goes_on c (omega arith))
+    ∙ counted_some records next (All-tail (λ (r : Record). r.kind ≢ Monitor) r records plain) (omega arith)
     ∙ same_count (record { index = next.index + length records; segment = c.segment; inside = next.inside + length records })
     (c.index + length (r ∷ records)) c.segment (c.inside + length (r ∷ records)) (omega arith) refl (omega arith)
 
 -- records that fill a segment
-pub counted_full : (records : List Record) (c : Count) → c.inside + length records ≡ SEGMENT_RECORDS → 0 < length records
+pub counted_full : (records : List Record) (c : Count) → All (λ (r : Record). r.kind ≢ Monitor) records → c.inside + length records ≡ SEGMENT_RECORDS → 0 < length records
     → counted c (items_of records) ≡ record { index = c.index + length records; segment = c.segment + 1; inside = 0 }
-counted_full [] c full some = absurd (omega arith)
-counted_full (r ∷ []) c full some =
-    ends_at c (omega arith)
+counted_full [] c plain full some = absurd (omega arith)
+counted_full (r ∷ []) c plain full some =
+    plain_behind c r.kind (All-head (λ (r : Record). r.kind ≢ Monitor) r [] plain)
+    ∙ ends_at c (omega arith)
     ∙ same_count (record { index = c.index + 1; segment = c.segment + 1; inside = 0 }) (c.index + 1) (c.segment + 1) 0 refl refl refl
-counted_full (r ∷ (s ∷ records)) c full some =
+counted_full (r ∷ (s ∷ records)) c plain full some =
     let next : Count = record { index = c.index + 1; segment = c.segment; inside = c.inside + 1 } in
-    ap (λ (d : Count). counted d (items_of (s ∷ records))) (goes_on c (omega arith))
-    ∙ counted_full (s ∷ records) next (omega arith) (omega arith)
+    ap (λ (d : Count). counted d (items_of (s ∷ records))) (plain_behind c r.kind (All-head (λ (r : Record). r.kind ≢ Monitor) r (s ∷ records) plain) ∙ goes_on c (omega arith))
+    ∙ counted_full (s ∷ records) next (All-tail (λ (r : Record). r.kind ≢ Monitor) r (s ∷ records) plain) (omega arith) (omega arith)
     ∙ same_count (record { index = next.index + length (s ∷ records); segment = c.segment + 1; inside = 0 })
     (c.index + length (r ∷ (s ∷ records))) (c.segment + 1) 0 (omega arith) refl refl
 
@@ -76,24 +96,36 @@ counted_full (r ∷ (s ∷ records)) c full some =
 pub same_records : (records : List Record) (c : Count) → AreNumbered c.index records → records_of (places_from c (items_of records)) ≡ records
 same_records [] c numbered = refl
 same_records (r ∷ records) c (here, numbered) =
-    let number : AreNumbered (behind_record c).index records = subst (λ (n : ℕ). AreNumbered n records) (sym (next_index c)) numbered in
-    ap (λ (n : ℕ). record { index = n; kind = r.kind; lane = r.lane; link = r.link; octets = r.octets } ∷ records_of (places_from (behind_record c) (items_of records))) (sym here)
-    ∙ ap (λ (l : List Record). r ∷ l) (same_records records (behind_record c) number)
+    let d : Count = behind c (Recorded r.kind) in
+    let number : AreNumbered d.index records = subst (λ (n : ℕ). AreNumbered n records) (sym (next_index c r.kind)) numbered in
+    ap (λ (n : ℕ). record { index = n; kind = r.kind; lane = r.lane; link = r.link; octets = r.octets } ∷ records_of (places_from d (items_of records))) (sym here)
+    ∙ ap (λ (l : List Record). r ∷ l) (same_records records d number)
+
+-- records that are numbered on: a front of them, and those behind it
+pub numbered_front : (n : ℕ) (records more : List Record) → AreNumbered n (records ++ more) → AreNumbered n records
+numbered_front n [] more numbered = tt
+numbered_front n (r ∷ records) more (here, numbered) = (here, numbered_front (n + 1) records more numbered)
+
+pub numbered_behind : (n : ℕ) (records more : List Record) → AreNumbered n (records ++ more) → AreNumbered (n + length records) more
+numbered_behind n [] more numbered = subst (λ (k : ℕ). AreNumbered k more) (omega arith) numbered
+numbered_behind n (r ∷ records) more (here, numbered) =
+    subst (λ (k : ℕ). AreNumbered k more) (let e : n + 1 + length records ≡ n + length (r ∷ records) = omega arith in e)
+    (numbered_behind (n + 1) records more numbered)
 
 -- what closes a segment has no record
-pub closing : (records : List Record) (close : List Item) (c : Count) → c.inside ≡ 0 → ClosesSegment (length records) close
+pub closing : (records : List Record) (close : List Item) (c : Count) → All (λ (r : Record). r.kind ≢ Monitor) records → c.inside ≡ 0 → ClosesSegment (length records) close
     → counted c (items_of records ++ close) ≡ record { index = c.index + length records; segment = c.segment + 1; inside = 0 }
-closing records close c start (inl (few, item, fence, only)) =
+closing records close c plain start (inl (few, item, fence, only)) =
     let some : counted c (items_of records) ≡ record { index = c.index + length records; segment = c.segment; inside = c.inside + length records } =
-    counted_some records c (omega (arith, start)) in
+    counted_some records c plain (omega (arith, start)) in
     ap (λ (l : List Item). counted c (items_of records ++ l)) only
     ∙ counted-append c (items_of records) (item ∷ [])
     ∙ ap (λ (d : Count). behind d item.kind) some
     ∙ ap (λ (k : ItemKind). behind (record { index = c.index + length records; segment = c.segment; inside = c.inside + length records }) k) fence
-closing records close c start (inr (full, none)) =
+closing records close c plain start (inr (full, none)) =
     ap (λ (l : List Item). counted c (items_of records ++ l)) none
     ∙ ap (λ (l : List Item). counted c l) (append-nil (items_of records))
-    ∙ counted_full records c (omega (arith, start, full)) (omega (arith, full))
+    ∙ counted_full records c plain (omega (arith, start, full)) (omega (arith, full))
 
 pub no_more_records : (records : List Record) (close : List Item) (c : Count) → ClosesSegment (length records) close
     → AreNumbered c.index records → records_of (places_from c (items_of records ++ close)) ≡ records

@@ -7,14 +7,18 @@ use Rattle.std.proofs.lemmas.List.Elements.{All-nil, All-cons, All-append}
 use Rattle.record_io.specs.declared.kinds.ItemKind.{ItemKind}
 use Rattle.record_io.specs.declared.kinds.ItemKind.TheVariants.{Fence, Recorded}
 use Rattle.record_io.specs.declared.kinds.RecordKind.{RecordKind}
+use Rattle.record_io.specs.declared.kinds.RecordKind.TheVariants.{Monitor}
+use Rattle.std.specs.List.{All}
+use Rattle.record_io.specs.Reading.{Standing}
 use Rattle.record_io.specs.declared.records.Record.{Record}
 use Rattle.record_io.specs.declared.records.SegmentEnd.{SegmentEnd}
 use Rattle.record_io.specs.declared.records.SegmentEnd.TheVariants.{More, End, Malformed, SourceFault}
+use Rattle.record_io.specs.declared.records.SegmentEnd.TheVariants as ends_as
 use Rattle.record_io.specs.declared.heads.Head.{Head}
 use Rattle.record_io.specs.declared.reader.Read.{Read}
 use Rattle.record_io.specs.declared.reader.Read.TheVariants as reads
 use Rattle.record_io.specs.Input.{Item, IsItem, most_octets, item_octets, items_octets, LacksItem, MOST_OCTETS}
-use Rattle.record_io.specs.Steps.{IsHead, IsNoHead, still_counted, TakesTooFew, Took, item_of, items_of, AreNumbered, ReadsOn, Breaks, EndsBehind, ReadsItem, Wants}
+use Rattle.record_io.specs.Steps.{IsHead, IsNoHead, still_counted, TakesTooFew, Took, item_of, items_of, AreNumbered, ReadsOn, Segment, task_at, Breaks, EndsBehind, EndsNext, ReadsItem, Wants}
 use Rattle.record_io.proofs.Items.{items_octets-append, not_empty, lacks_short, lacks_head, lacks_octets, lacks_front, length-head, spelled_item, item_is}
 use Rattle.record_io.specs.declared.reader.TheConstants.{SEGMENT_RECORDS}
 
@@ -171,13 +175,14 @@ reads_record told old new header octets left_old left_new head kind found is sam
 
 ends_from : (told : Bool) (old before new : ℕ) (left_old front left_new : List ℕ) (end : SegmentEnd)
     → before ≡ old → (IsTrue told → left_old ≡ front)
-    → EndsBehind told 0 [] before new front left_new end → EndsBehind told 0 [] old new left_old left_new end
+    → EndsNext told before new front left_new end → EndsNext told old new left_old left_new end
 ends_from told old before new left_old front left_new More same e ends = record {
   close = ends.close;
   closes = ends.closes;
   took = took_from told ends.close [] old before left_old front left_new same e ends.took;
   counted = omega (arith, ends.counted, same);
 }
+ends_from told old before new left_old front left_new (ends_as.Monitor task) same e none = absurd none
 ends_from told old before new left_old front left_new End same e (few, took, ended) = (
   few,
   took_from told [] [] old before left_old front left_new same e took,
@@ -227,13 +232,14 @@ AreNumbered-push n (x ∷ records) r (here, numbered) index =
 -- what ends a segment, behind records that were read before
 pub ends_after : (told : Bool) (count : ℕ) (items : List Item) (old mid new : ℕ) (left_old left_mid left_new : List ℕ) (end : SegmentEnd)
     → Took told items [] old left_old left_mid → mid ≡ old + length (items_octets items) → count < SEGMENT_RECORDS
-    → EndsBehind told 0 [] mid new left_mid left_new end → EndsBehind told count items old new left_old left_new end
+    → EndsNext told mid new left_mid left_new end → EndsBehind told count items old new left_old left_new end
 ends_after told count items old mid new left_old left_mid left_new More first counted few ends = record {
   close = ends.close;
   closes = ⊎_elim (λ fence. inl (few, fence.1, fence.2, fence.3)) (λ full. absurd (omega (arith, full.0))) ends.closes;
   took = took_more told items ends.close [] old mid left_old left_mid left_new first counted ends.took;
   counted = omega (arith, ends.counted, counted, ap length (items_octets-append items ends.close), length-append (items_octets items) (items_octets ends.close));
 }
+ends_after told count items old mid new left_old left_mid left_new (ends_as.Monitor task) first counted few none = absurd none
 ends_after told count items old mid new left_old left_mid left_new End first counted few (_, took, ended) = (
   few,
   subst (λ (l : List Item). Took told l [] old left_old left_new) (append-nil items)
@@ -302,3 +308,51 @@ length-record records more r pushed =
     ap (λ (l : List Record). items_octets (items_of l)) pushed ∙ ap items_octets (items_of-push records r)
     ∙ items_octets-append (items_of records) (item_of r ∷ []) in
     omega (arith, ap length e, length-append (items_octets (items_of records)) (item_octets (item_of r) ++ []), ap length (append-nil (item_octets (item_of r))))
+
+-- no Monitor record is what stands next
+no_task : (told : Bool) (old new : ℕ) (left_old left_new : List ℕ) (end : SegmentEnd) → EndsNext told old new left_old left_new end → task_at end ≡ []
+no_task told old new left_old left_new More ends = refl
+no_task told old new left_old left_new (ends_as.Monitor task) ends = absurd ends
+no_task told old new left_old left_new End ends = refl
+no_task told old new left_old left_new (Malformed offset) ends = refl
+no_task told old new left_old left_new (SourceFault faults) ends = refl
+
+module _ (told : Bool) (old mid new : Standing) (left_old left_mid left_new : List ℕ) (records : List Record) where
+  -- what stands next ends the segment
+  pub ends_segment : (end : SegmentEnd) → All (λ (r : Record). r.kind ≢ Monitor) records → AreNumbered old.records records
+      → mid.records ≡ old.records + length records → Took told (items_of records) [] old.taken left_old left_mid
+      → mid.taken ≡ old.taken + length (items_octets (items_of records)) → length records < SEGMENT_RECORDS
+      → EndsNext told mid.taken new.taken left_mid left_new end → new.records ≡ mid.records → Segment told old new left_old left_new records end
+  ends_segment end plain numbered counted took taken few ends same =
+      let none : records ++ task_at end ≡ records = ap (λ (l : List Record). records ++ l) (no_task told mid.taken new.taken left_mid left_new end ends) ∙ append-nil records in
+      record {
+        plain = plain;
+        numbered = subst (AreNumbered old.records) (sym none) numbered;
+        counted = omega (arith, same, counted, ap length none);
+        ends = ends_after told (length records) (items_of records) old.taken mid.taken new.taken left_old left_mid left_new end took taken few ends;
+      }
+
+  -- a Monitor record was read, which ends it
+  pub task_segment : (task : Record) → All (λ (r : Record). r.kind ≢ Monitor) records → AreNumbered old.records records
+      → mid.records ≡ old.records + length records → Took told (items_of records) [] old.taken left_old left_mid
+      → mid.taken ≡ old.taken + length (items_octets (items_of records)) → length records < SEGMENT_RECORDS
+      → task.kind ≡ Monitor → task.index ≡ mid.records → new.records ≡ mid.records + 1
+      → Took told (item_of task ∷ []) [] mid.taken left_mid left_new → new.taken ≡ mid.taken + length (item_octets (item_of task))
+      → Segment told old new left_old left_new records (ends_as.Monitor task)
+  task_segment task plain numbered counted took taken few monitor index more one octets =
+      let whole : items_octets (item_of task ∷ []) ≡ item_octets (item_of task) = append-nil (item_octets (item_of task)) in
+      let both : items_octets (items_of records ++ item_of task ∷ []) ≡ items_octets (items_of records) ++ items_octets (item_of task ∷ []) =
+      items_octets-append (items_of records) (item_of task ∷ []) in
+      record {
+        plain = plain;
+        numbered = AreNumbered-push old.records records task numbered (omega (arith, index, counted));
+        counted = omega (arith, more, counted, length-append records (task ∷ []));
+        ends = (
+          few,
+          record {
+            is_monitor = monitor;
+            took = took_more told (items_of records) (item_of task ∷ []) [] old.taken mid.taken left_old left_mid left_new took taken one;
+            counted = omega (arith, octets, taken, ap length both, ap length whole, length-append (items_octets (items_of records)) (items_octets (item_of task ∷ [])));
+          },
+        );
+      }

@@ -1,5 +1,5 @@
 -- What a segment says of the whole input, for `next_segment`.
-use Rattle.std.proofs.Common.{◌≡◌, ℕ, ◌+◌, ◌-◌, ◌≤◌, ◌<◌, Bool, false, IsTrue, List, [], ◌∷◌, ◌++◌, length, take, refl, sym, ◌∙◌, ap, subst, inl, inr, ⊎_elim, arith, rules, tests, append_assoc, length-append}
+use Rattle.std.proofs.Common.{◌≡◌, ◌≢◌, ℕ, ◌+◌, ◌-◌, ◌≤◌, ◌<◌, Bool, false, IsTrue, List, [], ◌∷◌, ◌++◌, length, take, refl, sym, ◌∙◌, ap, subst, inl, inr, ⊎_elim, arith, rules, tests, append_assoc, length-append}
 use Rattle.std.specs.Prelude.{◌*◌, ◌==◌, if◌then◌else◌, Result, Ok, Err, IfOk}
 use Rattle.std.specs.List.{All}
 use Rattle.std.proofs.lemmas.List.{append-nil}
@@ -7,13 +7,17 @@ use Rattle.std.proofs.lemmas.List.Elements.{All-nil, All-append}
 use Rattle.record_io.specs.declared.records.Record.{Record}
 use Rattle.record_io.specs.declared.records.SegmentEnd.{SegmentEnd}
 use Rattle.record_io.specs.declared.records.SegmentEnd.TheVariants.{More, End, Malformed, SourceFault}
+use Rattle.record_io.specs.declared.records.SegmentEnd.TheVariants as ends_as
+use Rattle.record_io.specs.declared.kinds.ItemKind.TheVariants.{Recorded}
+use Rattle.record_io.specs.declared.kinds.RecordKind.{RecordKind}
+use Rattle.record_io.specs.declared.kinds.RecordKind.TheVariants.{Monitor}
 use Rattle.record_io.specs.Input.{Item, IsItem, item_octets, items_octets, beginning, AreRead, MOST_OCTETS}
-use Rattle.record_io.specs.Places.{Count, first_count, counted}
-use Rattle.record_io.specs.Reading.{SourceSeen, Standing, IsReading, HasTaken, ReadsLast, ReadsTo, Loses, HasFaultCause}
-use Rattle.record_io.specs.Steps.{still_counted, Moves, Took, items_of, AreNumbered, Segment, Wants, ClosesSegment, due_beginning, Misses, EndsBefore}
+use Rattle.record_io.specs.Places.{Count, behind, first_count, counted}
+use Rattle.record_io.specs.Reading.{SourceSeen, Standing, IsReading, HasTaken, ReadsLast, ReadsTo, Loses, HasFaultCause, GoesOn}
+use Rattle.record_io.specs.Steps.{still_counted, Moves, Took, item_of, items_of, AreNumbered, Segment, Wants, ClosesSegment, due_beginning, Misses, EndsBefore}
 use Rattle.record_io.proofs.Items.{items_octets-append, length-item, not_empty}
 use Rattle.record_io.proofs.Counting.{counts_more}
-use Rattle.record_io.proofs.Placing.{counted-append, counted_some, same_records, closing, no_more_records}
+use Rattle.record_io.proofs.Placing.{counted-append, counted_some, same_records, numbered_front, numbered_behind, closing, no_more_records}
 use Rattle.record_io.specs.declared.reader.TheConstants.{SEGMENT_RECORDS}
 
 abbrev read_of : List Item → List ℕ
@@ -93,9 +97,9 @@ module _ (start mid now : SourceSeen) (standing : Standing) (items : List Item) 
       ∙ ap (λ n. read ++ take (MOST_OCTETS - n) (part ++ now.left)) place
       ∙ ap (λ l. read ++ l) (counts_more MOST_OCTETS (standing.taken + length (items_octets more)) part now.left (omega (arith, took.within)))
 
-  pub last : (records : List Record) (part : List ℕ) → AreNumbered standing.records records → length records < SEGMENT_RECORDS
+  pub last : (records : List Record) (part : List ℕ) → All (λ (r : Record). r.kind ≢ Monitor) records → AreNumbered standing.records records → length records < SEGMENT_RECORDS
       → Took mid.told (items_of records) part standing.taken mid.left now.left → ReadsLast start now items records
-  last records part numbered few took =
+  last records part plain numbered few took =
       let c : Count = counted first_count items in
       record {
         more = items_of records;
@@ -103,7 +107,7 @@ module _ (start mid now : SourceSeen) (standing : Standing) (items : List Item) 
         part = part;
         takes = takes (items_of records) part took;
         records_are = sym (same_records records c (subst (λ (n : ℕ). AreNumbered n records) h.records_are numbered));
-        one_segment = ap (λ (d : Count). d.segment) (counted-append first_count items (items_of records) ∙ counted_some records c (omega (arith, h.closed)));
+        one_segment = ap (λ (d : Count). d.segment) (counted-append first_count items (items_of records) ∙ counted_some records c plain (omega (arith, h.closed)));
       }
 
   pub segment_reads : (new : Standing) (records : List Record) (end : SegmentEnd)
@@ -114,9 +118,9 @@ module _ (start mid now : SourceSeen) (standing : Standing) (items : List Item) 
       let c : Count = counted first_count items in
       let close : List Item = segment.ends.close in
       let more : List Item = items_of records ++ close in
-      let numbered : AreNumbered c.index records = subst (λ (n : ℕ). AreNumbered n records) h.records_are segment.numbered in
+      let numbered : AreNumbered c.index records = subst (λ (n : ℕ). AreNumbered n records) h.records_are (numbered_front standing.records records [] segment.numbered) in
       let counts : counted first_count (items ++ more) ≡ record { index = c.index + length records; segment = c.segment + 1; inside = 0 } =
-      counted-append first_count items more ∙ closing records close c h.closed segment.ends.closes in
+      counted-append first_count items more ∙ closing records close c segment.plain h.closed segment.ends.closes in
       let all : HasTaken start now (items ++ more) (read_of (items ++ more)) [] = takes more [] segment.ends.took in
       record {
         more = more;
@@ -128,15 +132,48 @@ module _ (start mid now : SourceSeen) (standing : Standing) (items : List Item) 
           taken = all.taken;
           few = omega (arith, all.few);
           taken_is = omega (arith, segment.ends.counted, size more);
-          records_are = omega (arith, segment.counted, h.records_are, ap (λ (d : Count). d.index) counts);
+          records_are = omega (arith, segment.counted, length-append records (let none : List Record = [] in none), h.records_are, ap (λ (d : Count). d.index) counts);
           closed = ap (λ (d : Count). d.inside) counts;
         };
         records_are = sym (no_more_records records close c segment.ends.closes numbered);
         one_segment = ap (λ (d : Count). d.segment) counts;
       }
+  segment_reads new records (ends_as.Monitor task) segment cause =
+      let c : Count = counted first_count items in
+      let more : List Item = items_of records in
+      let all_more : List Item = more ++ item_of task ∷ [] in
+      let ended = segment.ends.1 in
+      let both : (items ++ more) ++ item_of task ∷ [] ≡ items ++ all_more = append_assoc items more (item_of task ∷ []) in
+      let all : HasTaken start now (items ++ all_more) (read_of (items ++ all_more)) [] = takes all_more [] ended.took in
+      let numbered : AreNumbered c.index (records ++ task ∷ []) = subst (λ (n : ℕ). AreNumbered n (records ++ task ∷ [])) h.records_are segment.numbered in
+      let at : counted first_count (items ++ more) ≡ record { index = c.index + length records; segment = c.segment; inside = c.inside + length records } =
+      counted-append first_count items more ∙ counted_some records c segment.plain (omega (arith, h.closed, segment.ends.0)) in
+      let counts : counted first_count ((items ++ more) ++ item_of task ∷ []) ≡ record { index = c.index + length records + 1; segment = c.segment + 2; inside = 0 } =
+      counted-append first_count (items ++ more) (item_of task ∷ []) ∙ ap (λ (d : Count). behind d (Recorded task.kind)) at
+      ∙ ap (λ (k : RecordKind). behind (record { index = c.index + length records; segment = c.segment; inside = c.inside + length records }) (Recorded k)) ended.is_monitor in
+      record {
+        more = more;
+        monitor = item_of task;
+        read = read_of (items ++ all_more);
+        reading = record {
+          items_are = subst (All IsItem) (sym both) all.items_are;
+          read_are = inr (ap read_of (sym both));
+          told = same ∙ h.told;
+          taken = all.taken;
+          few = omega (arith, all.few);
+          taken_is = omega (arith, ended.counted, size all_more);
+          records_are = omega (arith, segment.counted, length-append records (task ∷ []), h.records_are, ap (λ (d : Count). d.index) counts);
+          closed = ap (λ (d : Count). d.inside) counts;
+        };
+        records_are = sym (same_records records c (numbered_front c.index records (task ∷ []) numbered));
+        one_segment = ap (λ (d : Count). d.segment) at;
+        is_monitor = ap Recorded ended.is_monitor;
+        task_is = sym (same_records (task ∷ []) (counted first_count (items ++ more))
+            ((numbered_behind c.index records (task ∷ []) numbered).0 ∙ ap (λ (d : Count). d.index) (sym at), tt));
+      }
   segment_reads new records End segment cause =
       let took = segment.ends.1 in
-      let all : ReadsLast start now items records = last records [] segment.numbered segment.ends.0 took in (
+      let all : ReadsLast start now items records = last records [] segment.plain (numbered_front standing.records records [] segment.numbered) segment.ends.0 took in (
         all,
         refl,
         λ t. record {
@@ -153,7 +190,7 @@ module _ (start mid now : SourceSeen) (standing : Standing) (items : List Item) 
       )
   segment_reads new records (Malformed offset) segment cause =
       let breaks = segment.ends.1 in
-      let all : ReadsLast start now items records = last records breaks.part segment.numbered segment.ends.0 breaks.took in
+      let all : ReadsLast start now items records = last records breaks.part segment.plain (numbered_front standing.records records [] segment.numbered) segment.ends.0 breaks.took in
       let place : offset ≡ length (read_of (items ++ items_of records)) = omega (arith, breaks.offset_is, size (items_of records)) in (
         all,
         place,
@@ -171,7 +208,7 @@ module _ (start mid now : SourceSeen) (standing : Standing) (items : List Item) 
       )
   segment_reads new records (SourceFault faults) segment cause =
       let stopped = segment.ends.1 in
-      (last records stopped.0 segment.numbered segment.ends.0 stopped.1, cause faults refl)
+      (last records stopped.0 segment.plain (numbered_front standing.records records [] segment.numbered) segment.ends.0 stopped.1, cause faults refl)
 
   pub wants_reads : Wants mid.told standing.taken mid.left now.left → Loses start now items
   wants_reads (more, part, took) = record {
@@ -210,6 +247,7 @@ module _ (start old now : SourceSeen) (new : Standing) (taken : ℕ) (all : IsTr
       → ReadsTo start now new [] [] end
   unfolding missed_last
   missed More ends cause = absurd ends
+  missed (ends_as.Monitor task) ends cause = absurd ends
   missed End ends cause = absurd ends
   missed (Malformed offset) ends cause =
       let part : List ℕ = ends.1.0 in
@@ -240,12 +278,14 @@ misses_reads start old now before new items read reading end ends cause zero =
 -- a beginning that was not read was due
 pub due_at_start : (told : Bool) (taken : ℕ) (left_old left_new : List ℕ) (end : SegmentEnd) → EndsBefore told taken left_old left_new end → taken ≡ 0
 due_at_start told taken left_old left_new More ends = absurd ends
+due_at_start told taken left_old left_new (ends_as.Monitor task) ends = absurd ends
 due_at_start told taken left_old left_new End ends = absurd ends
 due_at_start told taken left_old left_new (Malformed offset) ends = ends.1.1.at_start
 due_at_start told taken left_old left_new (SourceFault faults) ends = ends.1.at_start
 
 pub cause_is : (before now : ℕ) (end : SegmentEnd) → HasFaultCause before now end → (faults : ℕ) → end ≡ SourceFault faults → faults ≡ now
 cause_is before now More cause faults e = cc
+cause_is before now (ends_as.Monitor task) cause faults e = cc
 cause_is before now End cause faults e = cc
 cause_is before now (Malformed offset) cause faults e = cc
 cause_is before now (SourceFault count) cause faults e = let f = cause.0 in cc
@@ -266,10 +306,13 @@ closed_by_some (r ∷ records) close (inr (full, none)) = omega (arith, length-a
 
 -- a segment that is ended took octets
 pub goes_forth : (told : Bool) (old new : Standing) (left_old left_new : List ℕ) (records : List Record) (end : SegmentEnd)
-    → Segment told old new left_old left_new records end → end ≡ More → old.taken < new.taken
+    → Segment told old new left_old left_new records end → GoesOn end → old.taken < new.taken
 goes_forth told old new left_old left_new records More segment e =
     let items : List Item = items_of records ++ segment.ends.close in
     omega (arith, segment.ends.counted, six_each items, closed_by_some records segment.ends.close segment.ends.closes)
-goes_forth told old new left_old left_new records End segment e = cc
-goes_forth told old new left_old left_new records (Malformed offset) segment e = cc
-goes_forth told old new left_old left_new records (SourceFault faults) segment e = cc
+goes_forth told old new left_old left_new records (ends_as.Monitor task) segment e =
+    let items : List Item = items_of records ++ item_of task ∷ [] in
+    omega (arith, segment.ends.1.counted, six_each items, length-append (items_of records) (item_of task ∷ []))
+goes_forth told old new left_old left_new records End segment e = absurd e
+goes_forth told old new left_old left_new records (Malformed offset) segment e = absurd e
+goes_forth told old new left_old left_new records (SourceFault faults) segment e = absurd e

@@ -2,10 +2,10 @@
 use Rattle.std.specs.Prelude.{◌≡◌, ◌≢◌, ℕ, ◌-◌, ◌^◌, ◌<◌, ◌≤◌, ◌⊎◌, List, [], ◌∷◌, ◌++◌, length, take, codes}
 use Rattle.std.specs.List.{All}
 use Rattle.std.specs.Int.{w16, to_be_bytes}
-use Rattle.record_io.specs.declared.kinds.RecordKind.TheVariants.{Protect, Open, Command}
+use Rattle.record_io.specs.declared.kinds.RecordKind.TheVariants.{Protect, Open, Command, Monitor}
 use Rattle.record_io.specs.declared.kinds.ItemKind.{ItemKind}
 use Rattle.record_io.specs.declared.kinds.ItemKind.TheVariants.{Fence, Recorded}
-use Rattle.record_io.specs.declared.kinds.TheConstants.{LANES, MOST_RECORD_OCTETS}
+use Rattle.record_io.specs.declared.kinds.TheConstants.{LANES, LEAST_MONITOR_OCTETS, MOST_RECORD_OCTETS}
 
 pub record Item : Type 0 where
   pub kind : ItemKind
@@ -19,6 +19,7 @@ kind_octet Fence = 0
 kind_octet (Recorded Protect) = 1
 kind_octet (Recorded Open) = 2
 kind_octet (Recorded Command) = 3
+kind_octet (Recorded Monitor) = 4
 
 -- kind, lane, link and zero, an octet each, and the length of the octets in 2 octets
 abbrev pub item_header : Item → List ℕ
@@ -32,8 +33,25 @@ abbrev pub most_octets : ItemKind → ℕ
 most_octets Fence = 0
 most_octets (Recorded kind) = MOST_RECORD_OCTETS
 
+-- a Monitor record has a few at least
+abbrev pub least_octets : ItemKind → ℕ
+least_octets Fence = 0
+least_octets (Recorded Protect) = 0
+least_octets (Recorded Open) = 0
+least_octets (Recorded Command) = 0
+least_octets (Recorded Monitor) = LEAST_MONITOR_OCTETS
+
+-- the lane is one of so many; of a Monitor record it is any octet
+abbrev pub lanes_of : ItemKind → ℕ
+lanes_of Fence = LANES
+lanes_of (Recorded Protect) = LANES
+lanes_of (Recorded Open) = LANES
+lanes_of (Recorded Command) = LANES
+lanes_of (Recorded Monitor) = 2 ^ 8
+
 pub record IsItem (item : Item) : Type 0 where
-  pub lane : item.lane < LANES
+  pub lane : item.lane < lanes_of item.kind
+  pub long : least_octets item.kind ≤ length item.octets
   pub short : length item.octets ≤ most_octets item.kind
 
 -- the octets of items, one after the other

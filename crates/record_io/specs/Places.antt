@@ -1,6 +1,8 @@
 -- Numbers and segments of the records of an input (profile).
 use Rattle.std.specs.Prelude.{ℕ, ◌+◌, ◌==◌, if◌then◌else◌, List, [], ◌∷◌, ◌++◌, map}
 use Rattle.record_io.specs.declared.kinds.ItemKind.{ItemKind}
+use Rattle.record_io.specs.declared.kinds.RecordKind.{RecordKind}
+use Rattle.record_io.specs.declared.kinds.RecordKind.TheVariants.{Protect, Open, Command, Monitor}
 use Rattle.record_io.specs.declared.kinds.ItemKind.TheVariants.{Fence, Recorded}
 use Rattle.record_io.specs.declared.records.Record.{Record}
 use Rattle.record_io.specs.declared.reader.TheConstants.{SEGMENT_RECORDS}
@@ -26,21 +28,31 @@ behind_record c = if c.inside + 1 == SEGMENT_RECORDS then
     record { index = c.index + 1; segment = c.segment + 1; inside = 0 }
     else record { index = c.index + 1; segment = c.segment; inside = c.inside + 1 }
 
--- behind an item: a fence ends a segment
+-- Behind an item: a fence ends a segment. A Monitor record ends the one that is on, and then the one of its own.
 abbrev pub behind : Count → ItemKind → Count
 behind c Fence = record { index = c.index; segment = c.segment + 1; inside = 0 }
-behind c (Recorded kind) = behind_record c
+behind c (Recorded Protect) = behind_record c
+behind c (Recorded Open) = behind_record c
+behind c (Recorded Command) = behind_record c
+behind c (Recorded Monitor) = record { index = c.index + 1; segment = c.segment + 2; inside = 0 }
 
 abbrev pub counted : Count → List Item → Count
 counted c [] = c
 counted c (item ∷ items) = counted (behind c item.kind) items
+
+-- the segment of a record: the one that is on; of a Monitor record the next, where it is alone
+abbrev pub segment_of : Count → RecordKind → ℕ
+segment_of c Protect = c.segment
+segment_of c Open = c.segment
+segment_of c Command = c.segment
+segment_of c Monitor = c.segment + 1
 
 -- the record of an item of this kind; a fence is none
 abbrev pub places_at : Count → Item → ItemKind → List Place
 places_at c item Fence = []
 places_at c item (Recorded kind) = record {
   task = record { index = c.index; kind = kind; lane = item.lane; link = item.link; octets = item.octets };
-  segment = c.segment;
+  segment = segment_of c kind;
 } ∷ []
 
 -- the records of items, with their numbers and segments

@@ -1,10 +1,13 @@
 -- What a segment says of the whole input (profile).
-use Rattle.std.specs.Prelude.{◌≡◌, ℕ, ◌+◌, ◌≤◌, Bool, IsTrue, List, [], ◌++◌, length}
+use Rattle.std.specs.Prelude.{◌≡◌, ⊤, ℕ, ◌+◌, ◌≤◌, Bool, IsTrue, List, [], ◌∷◌, ◌++◌, length}
 use Rattle.std.specs.List.{All}
 use Rattle.sdls_outside.specs.Faults.{Rose}
 use Rattle.record_io.specs.declared.records.Record.{Record}
 use Rattle.record_io.specs.declared.records.SegmentEnd.{SegmentEnd}
 use Rattle.record_io.specs.declared.records.SegmentEnd.TheVariants.{More, End, Malformed, SourceFault}
+use Rattle.record_io.specs.declared.records.SegmentEnd.TheVariants as ends
+use Rattle.record_io.specs.declared.kinds.ItemKind.TheVariants.{Recorded}
+use Rattle.record_io.specs.declared.kinds.RecordKind.TheVariants.{Monitor}
 use Rattle.record_io.specs.Input.{Item, IsItem, AreRead, LacksNext, MOST_OCTETS, IsInput, Whole, MalformedAt}
 use Rattle.record_io.specs.Places.{first_count, counted, places_from, records_of}
 
@@ -51,6 +54,18 @@ pub record ReadsMore (start now : SourceSeen) (standing : Standing) (items : Lis
   pub records_are : records ≡ records_of (places_from (counted first_count items) more)
   pub one_segment : (counted first_count (items ++ more)).segment ≡ (counted first_count items).segment + 1
 
+-- One more segment was read to its end, behind these items, and the Monitor record that ended it.
+pub record ReadsMonitor (start now : SourceSeen) (standing : Standing) (items : List Item) (records : List Record)
+    (task : Record) : Type 0 where
+  pub more : List Item
+  pub monitor : Item
+  pub read : List ℕ
+  pub reading : IsReading start now standing ((items ++ more) ++ monitor ∷ []) read
+  pub records_are : records ≡ records_of (places_from (counted first_count items) more)
+  pub one_segment : (counted first_count (items ++ more)).segment ≡ (counted first_count items).segment
+  pub is_monitor : monitor.kind ≡ Recorded Monitor
+  pub task_is : task ∷ [] ≡ records_of (places_from (counted first_count (items ++ more)) (monitor ∷ []))
+
 -- the last records were read behind these items, all of one segment, which was not ended
 pub record ReadsLast (start now : SourceSeen) (items : List Item) (records : List Record) : Type 0 where
   pub more : List Item
@@ -63,6 +78,7 @@ pub record ReadsLast (start now : SourceSeen) (items : List Item) (records : Lis
 -- what one more segment says, by its end
 abbrev pub ReadsTo : SourceSeen → SourceSeen → Standing → List Item → List Record → SegmentEnd → Type 0
 ReadsTo start now standing items records More = ReadsMore start now standing items records
+ReadsTo start now standing items records (ends.Monitor task) = ReadsMonitor start now standing items records task
 ReadsTo start now standing items records End = (last : ReadsLast start now items records)
     × (last.part ≡ []) × (IsTrue start.told → IsInput start.left (items ++ last.more) Whole)
 ReadsTo start now standing items records (Malformed offset) = (last : ReadsLast start now items records)
@@ -80,6 +96,15 @@ pub record Loses (start now : SourceSeen) (items : List Item) : Type 0 where
 -- source that failed is not asked again.
 abbrev pub HasFaultCause : ℕ → ℕ → SegmentEnd → Type 0
 HasFaultCause before now More = now ≡ before
+HasFaultCause before now (ends.Monitor task) = now ≡ before
 HasFaultCause before now End = now ≡ before
 HasFaultCause before now (Malformed offset) = now ≡ before
 HasFaultCause before now (SourceFault count) = (count ≡ now) × Rose before now
+
+-- behind this end the input may go on
+abbrev pub GoesOn : SegmentEnd → Type 0
+GoesOn More = ⊤
+GoesOn (ends.Monitor task) = ⊤
+GoesOn End = ⊥
+GoesOn (Malformed offset) = ⊥
+GoesOn (SourceFault count) = ⊥

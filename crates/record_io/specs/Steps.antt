@@ -4,21 +4,24 @@ use Rattle.std.specs.Prelude.{◌∷◌, ◌++◌, length, take, map}
 use Rattle.std.specs.List.{All}
 use Rattle.std.specs.Int.{w16, to_be_bytes}
 use Rattle.record_io.specs.declared.kinds.ItemKind.TheVariants.{Fence, Recorded}
-use Rattle.record_io.specs.declared.kinds.TheConstants.{LANES}
+use Rattle.record_io.specs.declared.kinds.RecordKind.TheVariants.{Monitor}
 use Rattle.record_io.specs.declared.records.Record.{Record}
 use Rattle.record_io.specs.declared.records.SegmentEnd.{SegmentEnd}
 use Rattle.record_io.specs.declared.records.SegmentEnd.TheVariants.{More, End, Malformed, SourceFault}
+use Rattle.record_io.specs.declared.records.SegmentEnd.TheVariants as ends
 use Rattle.record_io.specs.declared.heads.Head.{Head}
 use Rattle.record_io.specs.declared.reader.Read.{Read}
 use Rattle.record_io.specs.declared.reader.Read.TheVariants as reads
 use Rattle.record_io.specs.declared.reader.TheConstants.{SEGMENT_RECORDS}
-use Rattle.record_io.specs.Input.{Item, IsItem, kind_octet, most_octets, item_header, item_octets, items_octets}
+use Rattle.record_io.specs.Input.{Item, IsItem, kind_octet, lanes_of, least_octets, most_octets, item_header, item_octets}
+use Rattle.record_io.specs.Input.{items_octets}
 use Rattle.record_io.specs.Input.{beginning, LacksItem, LacksBeginning, MOST_OCTETS}
 use Rattle.record_io.specs.Reading.{Standing, HasFaultCause}
 
 -- the six octets head an item of this kind
 pub record IsHead (header : List ℕ) (head : Head) : Type 0 where
-  pub lane : head.lane < LANES
+  pub lane : head.lane < lanes_of head.kind
+  pub long : least_octets head.kind ≤ head.len
   pub short : head.len ≤ most_octets head.kind
   pub spelled : header ≡ kind_octet head.kind ∷ head.lane ∷ head.link ∷ 0 ∷ to_be_bytes w16 head.len
 
@@ -76,6 +79,13 @@ pub record ReadsOn (told : Bool) (count : ℕ) (items : List Item) (taken taken_
   pub took : Took told (items ++ close) [] taken left_old left_new
   pub counted : taken_new ≡ taken + length (items_octets (items ++ close))
 
+-- the items were read, and the Monitor record that closes the segment
+pub record ReadsTask (told : Bool) (items : List Item) (taken taken_new : ℕ) (left_old left_new : List ℕ)
+    (task : Record) : Type 0 where
+  pub is_monitor : task.kind ≡ Monitor
+  pub took : Took told (items ++ item_of task ∷ []) [] taken left_old left_new
+  pub counted : taken_new ≡ taken + length (items_octets (items ++ item_of task ∷ []))
+
 -- the items were read, and what is behind them is no item
 pub record Breaks (told : Bool) (items : List Item) (taken : ℕ) (left_old left_new : List ℕ) (offset : ℕ) : Type 0 where
   pub part : List ℕ
@@ -88,6 +98,8 @@ pub record Breaks (told : Bool) (items : List Item) (taken : ℕ) (left_old left
 abbrev pub EndsBehind : Bool → ℕ → List Item → ℕ → ℕ → List ℕ → List ℕ → SegmentEnd → Type 0
 EndsBehind told count items taken taken_new left_old left_new More = ReadsOn told count items taken taken_new left_old
     left_new
+EndsBehind told count items taken taken_new left_old left_new (ends.Monitor task) = (count < SEGMENT_RECORDS)
+    × ReadsTask told items taken taken_new left_old left_new task
 EndsBehind told count items taken taken_new left_old left_new End = (count < SEGMENT_RECORDS)
     × Took told items [] taken left_old left_new
     × (IsTrue told → still_counted (taken + length (items_octets items)) left_new ≡ [])
@@ -96,13 +108,22 @@ EndsBehind told count items taken taken_new left_old left_new (Malformed offset)
 EndsBehind told count items taken taken_new left_old left_new (SourceFault faults) =
     (count < SEGMENT_RECORDS) × ((part : List ℕ) × Took told items part taken left_old left_new)
 
+-- what stands next ends the segment; it is no Monitor record, which is read as a record
+abbrev pub EndsNext : Bool → ℕ → ℕ → List ℕ → List ℕ → SegmentEnd → Type 0
+EndsNext told taken taken_new left_old left_new More = EndsBehind told 0 [] taken taken_new left_old left_new More
+EndsNext told taken taken_new left_old left_new (ends.Monitor task) = ⊥
+EndsNext told taken taken_new left_old left_new End = EndsBehind told 0 [] taken taken_new left_old left_new End
+EndsNext told taken taken_new left_old left_new (Malformed offset) =
+    EndsBehind told 0 [] taken taken_new left_old left_new (Malformed offset)
+EndsNext told taken taken_new left_old left_new (SourceFault faults) =
+    EndsBehind told 0 [] taken taken_new left_old left_new (SourceFault faults)
+
 -- a record was read with its octets, or what stands next ends the segment
 abbrev pub ReadsItem : Bool → ℕ → ℕ → List ℕ → List ℕ → Read → Type 0
 ReadsItem told taken taken_new left_old left_new (reads.Next kind lane link octets) =
     let item : Item = record { kind = Recorded kind; lane = lane; link = link; octets = octets } in
     Took told (item ∷ []) [] taken left_old left_new × (taken_new ≡ taken + length (item_octets item))
-ReadsItem told taken taken_new left_old left_new (reads.Ends end) = EndsBehind told 0 [] taken taken_new left_old
-    left_new end
+ReadsItem told taken taken_new left_old left_new (reads.Ends end) = EndsNext told taken taken_new left_old left_new end
 
 -- where memory was wanting: some items were read, and a part of another was taken
 abbrev pub Wants : Bool → ℕ → List ℕ → List ℕ → Type 0
@@ -120,11 +141,20 @@ CountsRecords old new (reads.Next kind lane link octets) = (new.records ≡ old.
     × (6 * (new.records + 1) ≤ new.taken)
 CountsRecords old new (reads.Ends end) = new.records ≡ old.records
 
--- The records of a segment, numbered on, and what ends it.
+-- the Monitor record that ends a segment, if one does
+abbrev pub task_at : SegmentEnd → List Record
+task_at More = []
+task_at (ends.Monitor task) = task ∷ []
+task_at End = []
+task_at (Malformed offset) = []
+task_at (SourceFault count) = []
+
+-- The records of a segment, none of them a Monitor record, and what ends it, numbered on.
 pub record Segment (told : Bool) (old new : Standing) (left_old left_new : List ℕ) (records : List Record)
     (end : SegmentEnd) : Type 0 where
-  pub numbered : AreNumbered old.records records
-  pub counted : new.records ≡ old.records + length records
+  pub plain : All (λ (r : Record). r.kind ≢ Monitor) records
+  pub numbered : AreNumbered old.records (records ++ task_at end)
+  pub counted : new.records ≡ old.records + length (records ++ task_at end)
   pub ends : EndsBehind told (length records) (items_of records) old.taken new.taken left_old left_new end
 
 -- what is due before the next item: the beginning, where nothing was taken
@@ -141,6 +171,7 @@ pub record Misses (told : Bool) (part : List ℕ) (taken : ℕ) (left_old left_n
 -- what is so where the beginning was not read, by the end that is answered
 abbrev pub EndsBefore : Bool → ℕ → List ℕ → List ℕ → SegmentEnd → Type 0
 EndsBefore told taken left_old left_new More = ⊥
+EndsBefore told taken left_old left_new (ends.Monitor task) = ⊥
 EndsBefore told taken left_old left_new End = ⊥
 EndsBefore told taken left_old left_new (Malformed offset) = (offset ≡ 0)
     × ((part : List ℕ) × Misses told part taken left_old left_new

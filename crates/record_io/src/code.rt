@@ -15,10 +15,10 @@ pub const DONE: u8 = 0x03;
 /// The command is refused: the detail says why.
 pub const REFUSED: u8 = 0x04;
 
-/// A monitoring message is answered: the body is the reply. Units that keep a log write it.
+/// A monitoring message is answered: the body is the reply.
 pub const MONITORED: u8 = 0x05;
 
-/// A monitoring message is malformed. Units that keep a log write it.
+/// A monitoring message is malformed: the number is the offset of its first fault.
 pub const MONITOR_FAULT: u8 = 0x06;
 
 /// The frame breaks its layout: the detail is the fault, or 0 where there is no such link.

@@ -2,7 +2,7 @@
 ghost use Rattle.std.specs.Prelude.{MatchOption};
 ghost use Rattle.record_io.specs.Steps.{IsHead, IsNoHead};
 
-use crate::kinds::{ItemKind, LANES, kind_of, most_octets_of};
+use crate::kinds::{ItemKind, kind_of, lanes_of, least_octets_of, most_octets_of};
 
 // What they say.
 #[derive(Drop)]
@@ -20,7 +20,9 @@ pub(crate) fn head_of(header: [u8; 6]) -> Option<Head>
     let [kind, lane, link, zero, high, low] = header;
     let len = u16::from_be_bytes([high, low]);
     let kind = kind_of(kind)?;
-    if zero == 0 && lane < LANES && len <= most_octets_of(kind) {
+    let laned = u16::from(lane) < lanes_of(kind);
+    let long = least_octets_of(kind) <= len && len <= most_octets_of(kind);
+    if zero == 0 && laned && long {
         Some(Head {
             kind,
             lane,

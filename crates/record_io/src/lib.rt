@@ -18,7 +18,7 @@ pub mod status;
 
 pub use answer_reading::{AnswerError, AnswerHead, known_head, read_answer};
 pub use answers::{ANSWER_HEADER, Answer, answer_header};
-pub use kinds::{ItemKind, LANES, MOST_RECORD_OCTETS, RecordKind};
+pub use kinds::{ItemKind, LANES, LEAST_MONITOR_OCTETS, MOST_RECORD_OCTETS, RecordKind};
 pub use laws::{answers_are_shown, answers_shown_once, begins_reading, input_reads_once};
 pub use outcome::Outcome;
 pub use reader::{Reader, SEGMENT_RECORDS};

@@ -1,15 +1,17 @@
 // The recorded input, read in segments.
-ghost use Rattle.std.specs.Prelude.{ℕ, List, ◌≡◌, ◌+◌, ◌-◌, ◌*◌, ◌≤◌, ◌<◌, ◌++◌, [], length, take, IsTrue, IfOk, OnErr};
+ghost use Rattle.std.specs.Prelude.{ℕ, List, ◌≡◌, ◌≢◌, ◌+◌, ◌-◌, ◌*◌, ◌≤◌, ◌<◌, ◌++◌, [], length, take, IsTrue, IfOk, OnErr};
+ghost use Rattle.std.specs.List.{All};
 ghost use Rattle.std.specs.Prelude.{IfErr, IfNone, IfSome, MatchResult, vec_len};
 ghost use Rattle.sdls_outside.specs.Faults.{HasCause};
+ghost use Rattle.record_io.specs.declared.kinds.RecordKind.TheVariants.{Monitor};
 ghost use Rattle.record_io.specs.Input.{Item, MOST_OCTETS};
 ghost use Rattle.record_io.specs.Reading.{SourceSeen, Standing, first_standing, IsReading, ReadsTo, Loses};
-ghost use Rattle.record_io.specs.Reading.{HasFaultCause};
+ghost use Rattle.record_io.specs.Reading.{GoesOn, HasFaultCause};
 ghost use Rattle.record_io.specs.Steps.{still_counted, TakesTooFew, Moves, ReadsItem, Wants, IsFaultRead};
 ghost use Rattle.record_io.specs.Steps.{CountsRecords, Segment, due_beginning, EndsBefore};
 
 use crate::heads::{Head, head_of};
-use crate::kinds::{ItemKind, RecordKind};
+use crate::kinds::{ItemKind, RecordKind, is_monitor};
 use crate::records::{Record, SegmentEnd};
 use sdls_base::{NoMemory, Octets};
 use sdls_outside::{Failed, Source, collect};
@@ -205,7 +207,7 @@ impl Reader {
         number
     }
 
-    /// Reads items up to the end of a segment.
+    /// Reads items up to the end of a segment, and a Monitor record that ends it.
     fn read_items<S: Source>(
         &mut self,
         alloc: Global,
@@ -227,14 +229,17 @@ impl Reader {
                     link,
                     octets,
                 } => {
-                    let index = self.number();
-                    records.push(Record {
-                        index,
+                    let record = Record {
+                        index: self.number(),
                         kind,
                         lane,
                         link,
                         octets,
-                    })?;
+                    };
+                    if is_monitor(kind) {
+                        return Ok((records, SegmentEnd::Monitor(record)));
+                    }
+                    records.push(record)?;
                 }
                 Read::Ends(end) => return Ok((records, end)),
             }
@@ -257,18 +262,23 @@ impl Reader {
             return None;
         }
         let mut octets = [0; 8];
-        match self.take(source, &mut octets) {
-            Err(Failed) => Some(SegmentEnd::SourceFault(source.faults())),
-            Ok(8) if octets == BEGINNING => None,
-            Ok(_) => Some(SegmentEnd::Malformed(0)),
+        let Ok(count) = self.take(source, &mut octets) else {
+            return Some(SegmentEnd::SourceFault(source.faults()));
+        };
+        if count < octets.len() {
+            return Some(SegmentEnd::Malformed(0));
         }
+        if octets != BEGINNING {
+            return Some(SegmentEnd::Malformed(0));
+        }
+        None
     }
 
     /// Reads the next segment: its records in their order, numbered on, and how it ends. Octets behind it are not
     /// taken.
     ///
-    /// The first segment stands behind the beginning. Each earlier call on this reader is to have answered `More`: then
-    /// the clauses `reads` and `loses` speak of the whole input, from where the reader began.
+    /// The first segment stands behind the beginning. Each earlier call on this reader is to have answered `More` or
+    /// `Monitor`: then the clauses `reads` and `loses` speak of the whole input, from where the reader began.
     pub fn next_segment<S: Source>(
         &mut self,
         alloc: Global,
@@ -294,7 +304,8 @@ impl Reader {
             OnErr result ((start : SourceSeen) (items : List Item) (read : List ℕ)
             → IsReading start before self.old items read
             → Loses start now items) }
-        ensures forth { IfOk result (λ segment. segment.1 ≡ SegmentEnd.More → self.old.taken < self.new.taken) }
+        ensures plain { IfOk result (λ segment. All (λ (task : Record). task.kind ≢ Monitor) segment.0.items) }
+        ensures forth { IfOk result (λ segment. GoesOn segment.1 → self.old.taken < self.new.taken) }
         ensures later { S.faults source.old ≤ S.faults source.new }
         ensures cause { IfOk result (λ segment. HasFaultCause (S.faults source.old) (S.faults source.new) segment.1) }
     {

@@ -7,19 +7,21 @@ pub struct Record {
     /// Its number among the records of the input, from 0; fences are not counted.
     pub index: u64,
     pub kind: RecordKind,
-    /// The lane that handles it, below [`crate::LANES`].
+    /// The lane that handles it, below [`crate::LANES`]; of a Monitor record it is not looked at.
     pub lane: u8,
-    /// The link that the frame belongs to; of a command it is not looked at.
+    /// The link that the frame belongs to; of a command and of a Monitor record it is not looked at.
     pub link: u8,
     /// At most [`crate::MOST_RECORD_OCTETS`].
     pub octets: Octets,
 }
 
 /// How a segment ends.
-#[derive(Clone, Copy, Debug, PartialEq, Eq)]
+#[derive(Debug, PartialEq, Eq, Drop)]
 pub enum SegmentEnd {
     /// After a fence, or after 1,024 records.
     More,
+    /// After a Monitor record, which is this one; it is none of the segment's records.
+    Monitor(Record),
     /// At the end of the input.
     End,
     /// Before an item that is malformed: the offset of its first octet, or 0 for another beginning.

@@ -5,6 +5,7 @@ use Rattle.sdls_base.specs.declared.TheConstants.{MOST_KEYS}
 use Rattle.unit_image.specs.Image.{slots_of, used_of}
 use Rattle.record_io.specs.declared.answers.Answer.{Answer}
 use Rattle.record_io.specs.declared.code.TheConstants.{END, SITE_FAULT, STOPPED}
+use Rattle.record_io.specs.declared.kinds.RecordKind.TheVariants.{Monitor}
 use Rattle.record_io.specs.declared.status.TheConstants as status
 use Rattle.record_io.specs.Answers.{answer_octets, answers_octets}
 use Rattle.record_io.specs.Input.{Item}
@@ -95,6 +96,14 @@ answers_of_first segments places answers = take (length (of_first segments place
 abbrev pub HandledAll : Account → Type 0
 HandledAll account = account.handled ≡ places_of account.items
 
+-- all but a Monitor record that ended the last segment, and was not handled
+abbrev pub HandledButMonitor : Account → Type 0
+HandledButMonitor account = (place : Place) × (place.task.kind ≡ Monitor)
+    × (places_of account.items ≡ account.handled ++ place ∷ [])
+
+abbrev pub HandledRead : Account → Type 0
+HandledRead account = HandledAll account ⊎ HandledButMonitor account
+
 -- those of the first segments were
 abbrev pub HandledFirst : Account → Type 0
 HandledFirst account = (segments : ℕ) × (account.handled ≡ of_first segments (places_of account.items))
@@ -104,14 +113,14 @@ AnsweredEach account = length account.answers ≡ length account.handled
 
 -- Which records were handled, and which have answers, by what came: all records of the items; those of the first
 -- segments, where memory was wanting; none where the book was not opened. Where the history is full, or a put failed,
--- all that were read were handled, and some may lack an answer.
+-- all that were read were handled, but for a Monitor record that ended their segment, and some may lack an answer.
 abbrev pub AreAnswered : Account → RunEnd → Type 0
 AreAnswered account Ended = HandledAll account × AnsweredEach account
 AreAnswered account (Malformed offset) = HandledAll account × AnsweredEach account
 AreAnswered account (SourceFault count) = HandledAll account × AnsweredEach account
 AreAnswered account NoMemory = HandledFirst account × AnsweredEach account
-AreAnswered account SessionFull = HandledAll account × (length account.answers < length account.handled)
-AreAnswered account PutFailed = HandledAll account × (length account.answers ≤ length account.handled)
+AreAnswered account SessionFull = HandledRead account × (length account.answers < length account.handled)
+AreAnswered account PutFailed = HandledRead account × (length account.answers ≤ length account.handled)
 AreAnswered account (SiteFault count) = (account.handled ≡ []) × (account.answers ≡ [])
 AreAnswered account (NoState offset) = (account.handled ≡ []) × (account.answers ≡ [])
 

@@ -1,5 +1,5 @@
 -- A run whose records are of one lane: its words and numbers are those of the machine (profile).
-use Rattle.std.specs.Prelude.{◌≡◌, ℕ, ◌+◌, ◌<◌, ◌≤◌, List, [], ◌++◌, length, take, slice_get, slice_index, Some}
+use Rattle.std.specs.Prelude.{◌≡◌, ◌≢◌, ℕ, ◌+◌, ◌<◌, ◌≤◌, List, [], ◌++◌, length, take, slice_get, slice_index, Some}
 use Rattle.std.specs.Prelude.{None, Contains}
 use Rattle.std.specs.List.{All}
 use Rattle.sdls_base.specs.declared.TheConstants.{MOST_KEYS}
@@ -14,11 +14,12 @@ use Rattle.run_promise.specs.Serving.{ServesAll}
 use Rattle.run_promise.specs.Moves.{TellAll}
 use Rattle.run_promise.specs.Call.{CallSeen}
 use Rattle.run_promise.specs.Account.{Account, AnsweredEach, begin_of, deeds_in}
+use Rattle.record_io.specs.declared.kinds.RecordKind.TheVariants.{Monitor}
 use Rattle.record_io.specs.declared.records.Record.{Record}
 
--- all records are of one lane
+-- all records are of one lane; of Monitor records it is not looked at
 abbrev pub OneLane : List Record → Type 0
-OneLane tasks = (lane : ℕ) × All (λ (task : Record). task.lane ≡ lane) tasks
+OneLane tasks = (lane : ℕ) × All (λ (task : Record). task.kind ≢ Monitor → task.lane ≡ lane) tasks
 
 -- The moves that the answers tell, and one more at most where a record has no answer, are those of the machine whose
 -- words begin at the marks of the image. Each reserve is of a number that was drawn so, and the words by which the keys

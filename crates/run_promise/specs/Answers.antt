@@ -1,6 +1,6 @@
 -- What answers tell, but for their positions (profile).
 use Rattle.std.specs.Prelude.{◌≡◌, ◌≢◌, ℕ, ◌⊎◌, ◌==◌, IsTrue, List, [], ◌∷◌, ◌++◌, Option, Some, None, Ok, Err}
-use Rattle.std.specs.Prelude.{unwrap_or}
+use Rattle.std.specs.Prelude.{unwrap_or, Result}
 use Rattle.std.specs.List.{list_any}
 use Rattle.std.specs.Int.{w64, to_be_bytes}
 use Rattle.frame_shield.specs.declared.protecting_frames.ShieldFault.{ShieldFault}
@@ -14,9 +14,9 @@ use Rattle.ep_core.specs.declared.reply.Reply.TheVariants as replies
 use Rattle.record_io.specs.declared.answers.Answer.{Answer}
 use Rattle.record_io.specs.declared.code.TheConstants.{PROTECTED, ACCEPTED, CLEAR, DONE, REFUSED, LAYOUT, CHANNEL, SPI}
 use Rattle.record_io.specs.declared.code.TheConstants.{DIRECTION, STATE, COVERAGE, MAC, NUMBER, EXHAUSTED, JOURNAL_FULL}
-use Rattle.record_io.specs.declared.code.TheConstants.{SITE_FAULT, STOPPED, NO_MEMORY}
+use Rattle.record_io.specs.declared.code.TheConstants.{SITE_FAULT, STOPPED, NO_MEMORY, MONITORED, MONITOR_FAULT}
 use Rattle.record_io.specs.declared.kinds.RecordKind.{RecordKind}
-use Rattle.record_io.specs.declared.kinds.RecordKind.TheVariants.{Protect, Open, Command}
+use Rattle.record_io.specs.declared.kinds.RecordKind.TheVariants.{Protect, Open, Command, Monitor}
 
 -- all fields of an answer but its position
 pub record Told : Type 0 where
@@ -76,7 +76,12 @@ unbound_told (Ok None) = Some (plain CLEAR 0)
 unbound_told (Ok (Some binding)) = None
 unbound_told (Err fault) = Some (fault_told fault)
 
--- the codes of the answers that a record of any kind may have, and of those of each kind
+-- of a monitoring message, by the reply or by the offset of its first fault
+abbrev pub monitored_told : Result (List ℕ) ℕ → Told
+monitored_told (Ok reply) = numbered MONITORED 0 0 reply
+monitored_told (Err offset) = counting MONITOR_FAULT 0 offset
+
+-- the codes of the answers that a record of any kind but Monitor may have, and of those of each kind
 abbrev pub any_codes : List ℕ
 any_codes = JOURNAL_FULL ∷ SITE_FAULT ∷ STOPPED ∷ NO_MEMORY ∷ []
 
@@ -84,6 +89,7 @@ abbrev pub codes_of : RecordKind → List ℕ
 codes_of Protect = PROTECTED ∷ CLEAR ∷ LAYOUT ∷ CHANNEL ∷ STATE ∷ EXHAUSTED ∷ any_codes
 codes_of Open = ACCEPTED ∷ CLEAR ∷ LAYOUT ∷ CHANNEL ∷ SPI ∷ DIRECTION ∷ STATE ∷ COVERAGE ∷ MAC ∷ NUMBER ∷ any_codes
 codes_of Command = DONE ∷ REFUSED ∷ any_codes
+codes_of Monitor = MONITORED ∷ MONITOR_FAULT ∷ NO_MEMORY ∷ []
 
 abbrev pub IsCodeOf : RecordKind → ℕ → Type 0
 IsCodeOf kind code = IsTrue (list_any (λ own. own == code) (codes_of kind))

@@ -1,9 +1,8 @@
 -- Why a run ends, and the end that it tells (profile).
-use Rattle.std.specs.Prelude.{◌≡◌, ◌≢◌, ◌⊎◌, ⊤, ℕ, ◌<◌, ◌≤◌, IsTrue, [], ◌++◌, length, slice_get, Some}
+use Rattle.std.specs.Prelude.{◌≡◌, ◌⊎◌, ⊤, ℕ, ◌<◌, ◌≤◌, IsTrue, [], ◌++◌, length, slice_get, Some}
 use Rattle.std.specs.Prelude.{Contains}
 use Rattle.sdls_outside.specs.Faults.{Rose}
 use Rattle.sdls_outside.specs.Moments.{Between}
-use Rattle.record_io.specs.declared.kinds.RecordKind.TheVariants.{Protect}
 use Rattle.record_io.specs.declared.status.TheConstants as status
 use Rattle.record_io.specs.Answers.{answers_octets}
 use Rattle.record_io.specs.Input.{IsInput, Whole, MalformedAt}
@@ -12,6 +11,7 @@ use Rattle.unit_plan.specs.PlanLines.{PlanLines}
 use Rattle.unit_state.specs.declared.state.State.{State}
 use Rattle.unit_image.specs.Shows.{ShowsNone}
 use Rattle.run_promise.specs.Run.{NearWord, HasNoEntry}
+use Rattle.run_promise.specs.Deed.{is_entered}
 use Rattle.run_promise.specs.Fits.{MayAppend}
 use Rattle.run_promise.specs.declared.limits.TheConstants.{MOST_ENTRIES}
 use Rattle.run_promise.specs.declared.end.RunEnd.{RunEnd}
@@ -28,7 +28,7 @@ pub record IsFullAt (call : CallSeen) (account : Account) : Type 0 where
   pub place : Place
   pub first : slice_get account.handled (length account.answers) ≡ Some place
   pub due : IsTrue call.told → (plan : PlanLines) (state : State) → ShowsAtEntry call plan state
-      → (place.task.kind ≢ Protect)
+      → IsTrue (is_entered place.task.kind)
       ⊎ MayAppend (NearWord state call.entries (records_of account.handled)) (course_of call account plan state)
       MOST_ENTRIES place.task
   pub unmade : HasNoEntry call.entries place.task.index

@@ -5,7 +5,7 @@ use Rattle.sdls_base.specs.declared.entry.Entry.{Entry}
 use Rattle.sdls_base.specs.declared.entry.Logged.{Logged}
 use Rattle.sdls_base.specs.declared.entry.Logged.TheVariants as logged
 use Rattle.record_io.specs.declared.kinds.RecordKind.{RecordKind}
-use Rattle.record_io.specs.declared.kinds.RecordKind.TheVariants.{Protect, Open, Command}
+use Rattle.record_io.specs.declared.kinds.RecordKind.TheVariants.{Protect, Open, Command, Monitor}
 use Rattle.record_io.specs.declared.records.Record.{Record}
 
 -- ---- lines
@@ -47,6 +47,7 @@ abbrev pub draws : RecordKind → Bool
 draws Protect = true
 draws Open = false
 draws Command = true
+draws Monitor = false
 
 -- how many of the records can
 abbrev pub drawers : List Record → ℕ

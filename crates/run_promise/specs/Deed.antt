@@ -1,12 +1,12 @@
 -- A record with its answer, and the order in which the answers of a run stand (profile).
-use Rattle.std.specs.Prelude.{◌≡◌, ◌≢◌, ◌⊎◌, ℕ, ◌<◌, ◌≤◌, ◌&&◌, ◌||◌, not, nat_le, Bool, IsTrue, true, false}
+use Rattle.std.specs.Prelude.{◌≡◌, ◌≢◌, ◌⊎◌, ℕ, ◌<◌, ◌≤◌, ◌&&◌, ◌||◌, nat_le, Bool, IsTrue, true, false}
 use Rattle.std.specs.Prelude.{if◌then◌else◌, List, take}
 use Rattle.sdls_base.specs.declared.entry.Entry.{Entry}
 use Rattle.record_io.specs.declared.records.Record.{Record}
 use Rattle.record_io.specs.declared.answers.Answer.{Answer}
 use Rattle.record_io.specs.declared.kinds.RecordKind.{RecordKind}
-use Rattle.record_io.specs.declared.kinds.RecordKind.TheVariants.{Protect, Open, Command}
-use Rattle.record_io.specs.declared.code.TheConstants.{PROTECTED, ACCEPTED, NUMBER, EXHAUSTED}
+use Rattle.record_io.specs.declared.kinds.RecordKind.TheVariants.{Protect, Open, Command, Monitor}
+use Rattle.record_io.specs.declared.code.TheConstants.{PROTECTED, ACCEPTED, MONITOR_FAULT, NUMBER, EXHAUSTED}
 use Rattle.unit_state.specs.History.{epoch_after}
 use Rattle.frame_checks.specs.ProtectingFrames.{has_channel}
 use Rattle.run_promise.specs.Begin.{Begin}
@@ -24,11 +24,29 @@ abbrev pub is_protected : RecordKind → Bool
 is_protected Protect = true
 is_protected Open = false
 is_protected Command = false
+is_protected Monitor = false
+
+-- an entry is made of a record of this kind
+abbrev pub is_entered : RecordKind → Bool
+is_entered Protect = false
+is_entered Open = true
+is_entered Command = true
+is_entered Monitor = false
+
+abbrev pub is_monitored : RecordKind → Bool
+is_monitored Protect = false
+is_monitored Open = false
+is_monitored Command = false
+is_monitored Monitor = true
 
 -- the position is that of an entry: the answer is of an Open or a Command, with a code from ACCEPTED to NUMBER
 abbrev pub tells_entry : Deed → Bool
-tells_entry deed = not (is_protected deed.task.kind) &&
+tells_entry deed = is_entered deed.task.kind &&
     (nat_le ACCEPTED deed.answer.code && nat_le deed.answer.code NUMBER)
+
+-- the position is a count of entries: the answer is of a Monitor that was not out of memory
+abbrev pub tells_count : Deed → Bool
+tells_count deed = is_monitored deed.task.kind && nat_le deed.answer.code MONITOR_FAULT
 
 -- the position is an epoch: the answer is of a Protect, comes from its checks behind the channel, and has a code up to
 -- EXHAUSTED
@@ -45,9 +63,13 @@ epoch_told history deed = if is_protected deed.task.kind then deed.answer.positi
 abbrev pub is_ordered : Begin → Deed → Bool
 is_ordered begin deed = tells_entry deed || tells_epoch begin deed
 
--- the later answer stands behind the earlier one
+-- The later answer stands behind the earlier one: its entry, or the entries that it counts, its epoch, its number.
 pub record StandsBehind (begin : Begin) (history : List Entry) (one other : Deed) : Type 0 where
   pub entries : IsTrue (tells_entry one) → IsTrue (tells_entry other) → one.answer.position < other.answer.position
+  pub counted : IsTrue (tells_entry one) → IsTrue (tells_count other) → one.answer.position ≤ other.answer.position
+  pub counted_before : IsTrue (tells_count one) → IsTrue (tells_entry other)
+      → one.answer.position < other.answer.position
+  pub counts : IsTrue (tells_count one) → IsTrue (tells_count other) → one.answer.position ≤ other.answer.position
   pub epochs : IsTrue (is_ordered begin one) → IsTrue (is_ordered begin other)
       → epoch_told history one ≤ epoch_told history other
   pub numbers : (one.task.lane ≡ other.task.lane) → one.answer.code ≡ PROTECTED → other.answer.code ≡ PROTECTED

@@ -21,6 +21,7 @@ use Rattle.run_promise.specs.Stored.{stored_count}
 use Rattle.run_promise.specs.Answers.{Uses}
 use Rattle.run_promise.specs.Run.{NearWord}
 use Rattle.run_promise.specs.declared.limits.TheConstants.{MOST_ENTRIES}
+use Rattle.run_promise.specs.Reports.{AreReported}
 use Rattle.run_promise.specs.Sound.{IsSound, SoundMoment}
 use Rattle.run_promise.specs.Alone.{OneLane, IsExact}
 use Rattle.run_promise.specs.declared.end.RunEnd.{RunEnd}
@@ -128,6 +129,8 @@ pub record RunEnds (call : CallSeen) : Type 0 where
   pub quiet : call.status ≢ status.SITE_FAULT
       → (call.site_after.faults ≡ call.site.faults) ⊎ (account.came ≢ Ended)
   pub bounded : length call.entries ≤ MOST_ENTRIES
+  -- each monitoring message has the answer of the log of the answers before it, whatever the site tells
+  pub reports : AreReported [] (deeds_in account)
   pub sound : IsTrue call.told → (plan : PlanLines) (state : State) → ShowsAtEntry call plan state
       → ServesSoundly call account plan state
   pub refused : IsTrue call.told → (offset : ℕ) → ShowsNone (image_at_entry call) offset

@@ -1,6 +1,6 @@
 -- When an answer fits the record that it answers (profile).
 use Rattle.std.specs.Prelude.{◌≡◌, ◌≢◌, ℕ, ◌+◌, ◌-◌, ◌<◌, ◌≤◌, ◌⊎◌, IsTrue, List, [], ◌++◌, length, take}
-use Rattle.std.specs.Prelude.{slice_get, Some, None, Ok}
+use Rattle.std.specs.Prelude.{slice_get, Some, None, Result, Ok}
 use Rattle.sdls_base.specs.KeyId.{end_of}
 use Rattle.sdls_base.specs.declared.change.Change.{Change}
 use Rattle.sdls_base.specs.declared.change.Change.TheVariants as changes
@@ -21,7 +21,7 @@ use Rattle.record_io.specs.declared.answers.Answer.{Answer}
 use Rattle.record_io.specs.declared.code.TheConstants.{PROTECTED, EXHAUSTED, JOURNAL_FULL, SITE_FAULT, STOPPED}
 use Rattle.record_io.specs.declared.code.TheConstants.{NO_MEMORY}
 use Rattle.record_io.specs.declared.kinds.RecordKind.{RecordKind}
-use Rattle.record_io.specs.declared.kinds.RecordKind.TheVariants.{Protect, Open, Command}
+use Rattle.record_io.specs.declared.kinds.RecordKind.TheVariants.{Protect, Open, Command, Monitor}
 use Rattle.record_io.specs.declared.records.Record.{Record}
 use Rattle.run_promise.specs.Begin.{Begin}
 use Rattle.run_promise.specs.Numbers.{mark_of, floor_of}
@@ -30,6 +30,7 @@ use Rattle.run_promise.specs.Stored.{stored_count}
 use Rattle.run_promise.specs.Legal.{KeyOf, SeesFor, SeenNear}
 use Rattle.run_promise.specs.ProtectingFrames.{protect_reply}
 use Rattle.run_promise.specs.Answers.{told_by, plain, counting, numbered, opened_told, replied_told, unbound_told}
+use Rattle.run_promise.specs.Answers.{monitored_told}
 
 -- What the answers of a run speak of: what it began with, the site's count of faults when the book was opened and as it
 -- is known now, and the entries known now.
@@ -100,6 +101,7 @@ abbrev pub CanAppend : (ℕ → ℕ → Type 0) → Course → ℕ → Record �
 CanAppend near course p task Protect = CanReserve near course p task
 CanAppend near course p task Open = CanRaiseFloor course p task
 CanAppend near course p task Command = CanChange near course p task ⊎ CanDraw near course p task
+CanAppend near course p task Monitor = ⊥
 
 -- the record can need an append in the state after the first p entries
 abbrev pub MayAppend : (ℕ → ℕ → Type 0) → Course → ℕ → Record → Type 0
@@ -172,7 +174,7 @@ pub record IsCommandAnswer (course : Course) (task : Record) (answer : Answer) :
   pub stands : StandsAt course answer (record_entry task.index seen change)
   pub told : told_by answer ≡ replied_told reply
 
--- ---- what a record of any kind may be answered
+-- ---- what a record of any kind but Monitor may be answered
 
 -- The answer tells the number of slots. They are those of the image, and all are used, as far as the site tells what it
 -- holds; and the record can need one.
@@ -210,6 +212,12 @@ pub record IsWanting (answer : Answer) : Type 0 where
   pub told : told_by answer ≡ plain NO_MEMORY 0
   pub position_is : answer.position ≡ 0
 
+-- A monitoring message has a reply or a fault (`Reports` says which). The answer counts entries, all or a front of them.
+pub record IsReport (course : Course) (answer : Answer) : Type 0 where
+  pub reached : answer.position ≤ length course.entries
+  pub said : Result (List ℕ) ℕ
+  pub told : told_by answer ≡ monitored_told said
+
 abbrev pub FitsAny : (ℕ → ℕ → Type 0) → Course → Record → Answer → Type 0
 FitsAny near course task answer =
     IsFull near course task answer ⊎ (IsFaulted near course task answer
@@ -220,6 +228,7 @@ FitsKind near course task answer Protect = IsProtected near course task answer
     ⊎ (IsUnbound course task answer ⊎ (IsExhausted near course task answer ⊎ FitsAny near course task answer))
 FitsKind near course task answer Open = IsOpenAnswer course task answer ⊎ FitsAny near course task answer
 FitsKind near course task answer Command = IsCommandAnswer course task answer ⊎ FitsAny near course task answer
+FitsKind near course task answer Monitor = IsReport course answer ⊎ IsWanting answer
 
 -- The answer fits its record. Near says which numbers may have been seen of a key.
 abbrev pub Fits : (ℕ → ℕ → Type 0) → Course → Record → Answer → Type 0

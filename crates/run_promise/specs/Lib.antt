@@ -12,6 +12,7 @@ pub mod Fits
 pub mod Begin
 pub mod Site
 pub mod Deed
+pub mod Reports
 pub mod Machine
 pub mod Serving
 pub mod Moves

@@ -4,7 +4,7 @@ use Rattle.std.specs.Prelude.{IsSomeAnd, Ok}
 use Rattle.std.specs.List.{AllPairs}
 use Rattle.unit_image.specs.Image.{held, initial_image}
 use Rattle.record_io.specs.declared.kinds.RecordKind.{RecordKind}
-use Rattle.record_io.specs.declared.kinds.RecordKind.TheVariants.{Protect, Open, Command}
+use Rattle.record_io.specs.declared.kinds.RecordKind.TheVariants.{Protect, Open, Command, Monitor}
 use Rattle.record_io.specs.declared.answers.Answer.{Answer}
 use Rattle.record_io.specs.declared.code.TheConstants.{END}
 use Rattle.record_io.specs.Answers.{answer_octets}
@@ -83,11 +83,13 @@ abbrev pub given_in : List LifeRun → List Given
 given_in [] = []
 given_in (run ∷ runs) = given_of run.course (answers_begun (length run.sunk) run.deeds) ++ given_in runs
 
--- the state in which an answer that uses a number found its key: that of its epoch, or the one before its own entry
+-- the state in which an answer that uses a number found its key: that of its epoch, or the one before its own entry; no
+-- answer to a Monitor record uses one
 abbrev pub state_told : RecordKind → Course → Answer → State
 state_told Protect course answer = state_in course answer.position
 state_told Open course answer = state_before course answer
 state_told Command course answer = state_before course answer
+state_told Monitor course answer = course.begin.start
 
 -- the answer uses the number under a key that had these octets
 pub record UsesOctets (given : Given) (key : ℕ) (octets : List ℕ) (number : ℕ) : Type 0 where

@@ -11,7 +11,7 @@ use Rattle.ep_core.specs.declared.reply.Reply.{Reply}
 use Rattle.record_io.specs.declared.code.TheConstants.{PROTECTED, CLEAR, DONE, REFUSED, LAYOUT, STATE, EXHAUSTED}
 use Rattle.record_io.specs.declared.code.TheConstants.{JOURNAL_FULL}
 use Rattle.record_io.specs.declared.kinds.RecordKind.{RecordKind}
-use Rattle.record_io.specs.declared.kinds.RecordKind.TheVariants.{Protect, Open, Command}
+use Rattle.record_io.specs.declared.kinds.RecordKind.TheVariants.{Protect, Open, Command, Monitor}
 use Rattle.record_io.specs.declared.records.Record.{Record}
 use Rattle.unit_state.specs.declared.state.State.{State}
 use Rattle.unit_state.specs.History.{after, after_first}
@@ -81,6 +81,7 @@ module _ (start : State) (entries : List Entry) where
   TellsKind Protect deed move = TellsProtect deed move
   TellsKind Open deed move = move ≡ Kept
   TellsKind Command deed move = TellsCommand deed move
+  TellsKind Monitor deed move = move ≡ Kept
 
   abbrev pub Tells : Deed → Move → Type 0
   Tells deed move = TellsKind deed.task.kind deed move

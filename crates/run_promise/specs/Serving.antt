@@ -20,7 +20,7 @@ use Rattle.ep_core.specs.declared.reply.Reply.{Reply}
 use Rattle.record_io.specs.declared.answers.Answer.{Answer}
 use Rattle.record_io.specs.declared.code.TheConstants.{PROTECTED, EXHAUSTED, JOURNAL_FULL}
 use Rattle.record_io.specs.declared.kinds.RecordKind.{RecordKind}
-use Rattle.record_io.specs.declared.kinds.RecordKind.TheVariants.{Protect, Open, Command}
+use Rattle.record_io.specs.declared.kinds.RecordKind.TheVariants.{Protect, Open, Command, Monitor}
 use Rattle.record_io.specs.declared.records.Record.{Record}
 use Rattle.unit_state.specs.declared.state.State.{State}
 use Rattle.unit_state.specs.History.{after, at_epoch, epoch_after}
@@ -202,6 +202,7 @@ module _ (begin : Begin) (history : List Entry) where
       ⊎ AloneUnopened begin history task answer own move
   ServesKind Command task answer own move = AloneHandled task answer own move
       ⊎ (AloneUnhandled task answer own move ⊎ AloneUnmet task answer own move)
+  ServesKind Monitor task answer own move = (answer.position ≡ length history) × (own ≡ []) × (move ≡ Kept)
 
   -- The record has this answer, made these entries and moved a word so. Nothing is said of one for which the site
   -- failed or memory was wanting: codes from 31 on.

@@ -12,6 +12,7 @@ use Rattle.run_promise.specs.Answers.{Uses, Accepts, IsUnmade}
 use Rattle.run_promise.specs.Fits.{Course, Fits}
 use Rattle.run_promise.specs.Taken.{kept_floor}
 use Rattle.run_promise.specs.ShowsAfter.{ShowsAfter}
+use Rattle.run_promise.specs.Reports.{AreReported}
 use Rattle.run_promise.specs.Deed.{Deed, Differ, InTurn, StandsBehind, tells_entry, is_ordered, epoch_told}
 
 -- the octets of the answers
@@ -19,8 +20,8 @@ abbrev pub deeds_octets : List Deed → List ℕ
 deeds_octets deeds = answers_octets (map (λ deed. deed.answer) deeds)
 
 -- The run is sound: its history is legal, each answer fits its record, no number is used or accepted twice under a key,
--- at most one answer says that the site failed while an entry was stored, the answers stand in order, and no entry is
--- of a record whose answer says that it made none.
+-- at most one answer says that the site failed while an entry was stored, the answers stand in order, no entry is of a
+-- record whose answer says that it made none, and each monitoring message has the answer of the log.
 pub record IsSound (course : Course) (places : List Place) (deeds : List Deed) : Type 0 where
   pub history : IsLegalHistory course.begin.plan course.begin.start places course.entries
   pub answers : All (λ deed. Fits (NearWord course.begin.start course.entries (records_of places)) course deed.task
@@ -34,6 +35,7 @@ pub record IsSound (course : Course) (places : List Place) (deeds : List Deed) :
   pub one_fault : AllPairs (λ one other. one.answer.code ≡ SITE_FAULT → other.answer.code ≢ SITE_FAULT) deeds
   pub order : AllPairs (λ one other. InTurn one other → StandsBehind course.begin course.entries one other) deeds
   pub none_made : All (λ deed. IsUnmade deed.answer.code → HasNoEntry course.entries deed.task.index) deeds
+  pub reports : AreReported [] deeds
 
 -- The answer is covered by the state after the first p entries: its own entry, its epoch, its number and what it
 -- accepted are among what that state knows.

@@ -36,6 +36,8 @@ Recorded input and answers of `sdls run`, as text.
 Lines of text: fence; protect LANE LINK OCTETS; open LANE LINK OCTETS; command LANE octets OCTETS;
 command LANE PROCEDURE VALUE.. The procedures are rekeying, activate, deactivate, verify, destroy, inventory, compose,
 read-number, create, delete, set-window, rekey, expire, set-number, start, stop and status; FORMATS.md has their values.
+Monitoring messages: ping; log-status; dump-log; erase-log; alarm-reset; self-test BLOCK; monitor OCTETS; before each
+of them perhaps at LANE LINK.
 Spaces or commas part words, letters count in either case, and a word that begins with # begins a comment.
 
 Status: 0 done; 1 a line, an item or an answer is at fault; 2 other words; 3 standard input is no plan;

@@ -15,3 +15,4 @@ pub mod Commands
 pub mod Beginning
 pub mod Fresh
 pub mod Shares
+pub mod Opening

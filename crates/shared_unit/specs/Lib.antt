@@ -3,6 +3,7 @@ pub mod Turn
 pub mod Going
 pub mod Numbers
 pub mod Permit
+pub mod Opening
 pub mod Funding
 pub mod Calls
 pub mod UnderTurn

@@ -1,6 +1,6 @@
 -- Permits: what a worker may protect frames under, and what it does with one (CCSDS 355.0-B-2, ApplySecurity; permits
 -- profile).
-use Rattle.std.specs.Prelude.{◌≡◌, ◌≢◌, ℕ, ◌<◌, ◌≤◌, List, take, Some, None, Ok, Err, ⊤}
+use Rattle.std.specs.Prelude.{◌≡◌, ◌≢◌, ℕ, ◌+◌, ◌<◌, ◌≤◌, List, length, take, Some, None, Ok, Err, ⊤}
 use Rattle.sdls_base.specs.KeyId.{end_of}
 use Rattle.sdls_base.specs.declared.layout.FrameFault.{FrameFault}
 use Rattle.sdls_base.specs.declared.TheConstants.{MOST_KEYS}
@@ -10,7 +10,7 @@ use Rattle.unit_state.specs.History.{epoch_after}
 use Rattle.frame_shield.specs.declared.binding.Binding.{Binding}
 use Rattle.frame_shield.specs.declared.protecting_frames.ShieldFault.{ShieldFault}
 use Rattle.frame_shield.specs.declared.protecting_frames.ShieldFault.TheVariants.{Layout}
-use Rattle.frame_shield.specs.Binding.{IsBinding, clear_fault}
+use Rattle.frame_shield.specs.Binding.{IsBinding, clear_fault, gain_of}
 use Rattle.frame_shield.specs.Protects.{Protects}
 use Rattle.frame_shield.specs.ShieldFault.{fault_number}
 use Rattle.frame_checks.specs.ProtectingFrames.{channel_check, protect_check}
@@ -75,6 +75,8 @@ pub record IsProtectedUnder (permit : Permit) (clear out : List ℕ) (done : Don
   pub key : done.key ≡ permit.binding.key
   pub epoch : done.epoch ≡ permit.epoch
   pub below : done.number < end_of permit.binding.key
+  -- so many octets as the clear frame has, and those that it gains
+  pub count : done.length ≡ length clear + gain_of permit.binding.suite permit.binding.link.layout
   pub frame : Protects permit.binding done.number clear (take done.length out)
 
 -- unless a frame was protected, the caller's room is as it was

@@ -4,9 +4,10 @@
 //! [`Unit::open`] opens the image of a site, and [`Unit::split`] gives a worker to each lane. A worker that has a
 //! [`Permit`] protects frames by steps on words alone ([`Unit::protect_ready`]). What changes the image is done under
 //! one turn: [`Unit::protect`] takes it where a permit is wanted or a block of numbers is to be reserved,
-//! [`Unit::open_frame`], [`Unit::command`], [`Unit::permit`], [`Unit::put`] and [`Unit::count`] take it once.
+//! [`Unit::open_frame`], [`Unit::command`], [`Unit::permit`], [`Unit::put`] and [`Unit::count`] take it once. With an
+//! [`OpenPermit`] a frame's MAC is compared, and the frame deciphered, before the turn is taken.
 //!
-//! Read `specs/Permit.antt` first: when a permit is true, and what is done with one. What is known of the book is what
+//! Read `specs/Permit.antt` and `specs/Opening.antt` first: when a permit is true, and what is done with one. What is known of the book is what
 //! the counters tell (crate `counter_table`), and what a call does under the turn is what the book says (crate
 //! `unit_book`).
 #![tactic(auto)]
@@ -14,6 +15,7 @@
 mod calls;
 mod commanding;
 mod funding;
+mod opening_frames;
 mod opening_image;
 mod permit;
 mod permitting;
@@ -24,7 +26,8 @@ mod shelf;
 mod under_turn;
 mod unit;
 
-pub use permit::{Done, Permit, PermitReply, Protected, Ready};
+pub use opening_frames::open_permits_stay;
+pub use permit::{Done, OpenPermit, Permit, PermitReply, Protected, Ready};
 pub use permitting::permits_stay;
 pub use shelf::Shelf;
 pub use unit::{Unit, Worker};

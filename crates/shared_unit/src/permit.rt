@@ -1,4 +1,5 @@
 use counter_table::Ticket;
+use frame_checks::Opener;
 use frame_shield::{Binding, ShieldFault};
 use sdls_base::{ChannelId, KeyId};
 use unit_book::BookFault;
@@ -13,6 +14,13 @@ pub struct Permit {
     pub channel: ChannelId,
     /// The link of the channel.
     pub link: u8,
+}
+
+/// What frames of a channel that name an association are opened under, since an epoch.
+#[derive(Drop)]
+pub struct OpenPermit {
+    pub opener: Opener,
+    pub epoch: u64,
 }
 
 /// The answer of `permit`.

@@ -1,11 +1,12 @@
 //! The book in its place between the words.
-ghost use Rattle.std.specs.Prelude.{◌≡◌, ◌<◌, ◌↔◌, Ok, None, IsSome, IfOk, IfSome, MatchResult, length};
+ghost use Rattle.std.specs.Prelude.{◌≡◌, ◌<◌, ◌↔◌, Ok, None, IsSome, IsNone, IfOk, IfSome, MatchResult, length};
 ghost use Rattle.sdls_base.specs.KeyId.{end_of};
 ghost use Rattle.key_book.specs.KeyBook.{place_of};
 ghost use Rattle.unit_state.specs.State.{key_row};
 ghost use Rattle.frame_shield.specs.Binding.{IsBinding};
 ghost use Rattle.frame_checks.specs.Accepting.{LeavesOctets, field_in};
 ghost use Rattle.frame_checks.specs.ProtectingFrames.{IsSentClear, protect_check};
+ghost use Rattle.frame_checks.specs.Trying.{IsOpener, IsTried};
 ghost use Rattle.ep_core.specs.declared.need.Need.{Need};
 ghost use Rattle.ep_core.specs.Seen.{MeetsNeed};
 ghost use Rattle.run_promise.specs.Log.{entries_of};
@@ -19,8 +20,8 @@ ghost use Rattle.shared_unit.specs.Told.{known_of_book};
 
 use counter_table::Counted;
 use ep_core::{Need, Reply};
-use frame_checks::OpenReply;
-use frame_shield::{Binding, ShieldFault};
+use frame_checks::{OpenReply, Opener};
+use frame_shield::{Binding, Opened, ShieldFault};
 use sdls_base::{KeyId, NoMemory, Seen};
 use sdls_outside::Site;
 use std::marker::Model;
@@ -95,6 +96,14 @@ impl<O: Site> Shelf<O> {
         self.book.count()
     }
 
+    // How many of them stand.
+    pub(crate) fn standing(&self) -> u64
+        ensures standing { result ≡ self.now.standing }
+        ensures kept { IsKept O.told self.now }
+    {
+        self.book.standing()
+    }
+
     pub(crate) fn row_of(&self, key: KeyId) -> Option<usize>
         ensures { result ≡ place_of self.now.state.keys key }
     {
@@ -138,6 +147,46 @@ impl<O: Site> Shelf<O> {
         ensures changes { self.new.changes ≡ self.old.changes }
     {
         self.book.accept(index, link, frame)
+    }
+
+    pub(crate) fn opener(&self, link: u8, frame: &[u8]) -> Option<Opener>
+        ensures opener { IfSome result (IsOpener self.now.plan self.now.state) }
+        ensures kept { IsKept O.told self.now }
+    {
+        frame_checks::opener_of(self.book.plan(), self.book.state(), link, frame)
+    }
+
+    pub(crate) fn try_frame(&self, opener: &Opener, link: u8, frame: &mut [u8]) -> Option<Opened>
+        requires opener { IsOpener self.now.plan self.now.state opener.now }
+        ensures tried { IfSome result (IsTried self.now.plan opener.now link frame.old frame.new) }
+        ensures unchanged { IsNone result → frame.new ≡ frame.old }
+    {
+        frame_checks::try_frame(self.book.plan(), opener, link, frame)
+    }
+
+    pub(crate) fn accept_tried(
+        &mut self,
+        index: u64,
+        opener: &Opener,
+        link: u8,
+        octets: &[u8],
+        frame: &[u8],
+        opened: Opened,
+    ) -> Result<(OpenReply, u64), BookFault>
+        requires opener { IsOpener self.old.plan self.old.state opener.now }
+        requires tried { IsTried self.old.plan opener.now link octets.now frame.now opened }
+        ensures was_kept { IsKept O.told self.old }
+        ensures kept { IsKept O.told self.new }
+        ensures made { MatchResult result
+            (λ answer. OpensWithEntry index link octets.now (field_in answer.0 frame.now) self.old self.new
+            answer.0 answer.1
+            × LeavesOctets answer.0 octets.now frame.now)
+            (RefusesFrame index link octets.now self.old self.new) }
+        ensures goes_on { GoesUp self.old self.new }
+        ensures changes { self.new.changes ≡ self.old.changes }
+    {
+        self.book
+            .accept_tried(index, opener, link, octets, frame, opened)
     }
 
     pub(crate) fn need(&self, pdu: &[u8]) -> Result<Need, NoMemory>

@@ -25,8 +25,8 @@ pub found_item : (header octets old new : List ℕ) (head : ItemHead) → IsItem
     → old ≡ octets ++ new → (header ++ old ≡ item_octets (item_at head octets) ++ new) × IsItem (item_at head octets)
 found_item header octets old new head found same left = (
   ap (λ xs. header ++ xs) left ∙ sym (append_assoc header octets new)
-      ∙ ap (λ xs. xs ++ new) (spelled_item header octets (record { kind = head.kind; lane = head.lane; link = head.link; len = head.len }) (record { lane = found.lane; short = found.short; spelled = found.spelled }) same),
-  item_is header octets (record { kind = head.kind; lane = head.lane; link = head.link; len = head.len }) (record { lane = found.lane; short = found.short; spelled = found.spelled }) same,
+      ∙ ap (λ xs. xs ++ new) (spelled_item header octets (record { kind = head.kind; lane = head.lane; link = head.link; len = head.len }) (record { lane = found.lane; long = found.long; short = found.short; spelled = found.spelled }) same),
+  item_is header octets (record { kind = head.kind; lane = head.lane; link = head.link; len = head.len }) (record { lane = found.lane; long = found.long; short = found.short; spelled = found.spelled }) same,
 )
 
 not_empty : (header behind : List ℕ) → 0 < length header → (header ++ behind) ≢ []
@@ -37,7 +37,7 @@ pub no_item : (header old : List ℕ) (head : ItemHead) → IsItemHead header he
     → ((header ++ old) ≢ []) × LacksItem (header ++ old)
 no_item header old head found few = (
   not_empty header old (let some = ap length found.spelled in omega (arith, some)),
-  lacks_octets header old (record { kind = head.kind; lane = head.lane; link = head.link; len = head.len }) (record { lane = found.lane; short = found.short; spelled = found.spelled }) few,
+  lacks_octets header old (record { kind = head.kind; lane = head.lane; link = head.link; len = head.len }) (record { lane = found.lane; long = found.long; short = found.short; spelled = found.spelled }) few,
 )
 
 pub no_head : (old header behind : List ℕ) → old ≡ header ++ behind → length header ≡ 6 → IsNoHead header → (old ≢ []) × LacksItem old

@@ -1,8 +1,8 @@
 -- What stands next in recorded input (profile).
 use Rattle.std.specs.Prelude.{◌≡◌, ◌≢◌, ⊤, ℕ, ◌<◌, ◌≤◌, ◌++◌, [], ◌∷◌, List}
 use Rattle.std.specs.Int.{w16, to_be_bytes}
-use Rattle.record_io.specs.declared.kinds.TheConstants.{LANES}
-use Rattle.record_io.specs.Input.{IsItem, Item, LacksItem, item_octets, kind_octet, most_octets}
+use Rattle.record_io.specs.Input.{IsItem, Item, LacksItem, item_octets, kind_octet, lanes_of, least_octets}
+use Rattle.record_io.specs.Input.{most_octets}
 use Rattle.text_streams.specs.declared.reading.Found.{Found}
 use Rattle.text_streams.specs.declared.reading.ItemHead.{ItemHead}
 use Rattle.text_streams.specs.declared.reading.NextItem.{NextItem}
@@ -10,7 +10,8 @@ use Rattle.text_streams.specs.declared.reading.NextItem.TheVariants as nexts
 
 -- the six octets head an item of this kind
 pub record IsItemHead (header : List ℕ) (head : ItemHead) : Type 0 where
-  pub lane : head.lane < LANES
+  pub lane : head.lane < lanes_of head.kind
+  pub long : least_octets head.kind ≤ head.len
   pub short : head.len ≤ most_octets head.kind
   pub spelled : header ≡ kind_octet head.kind ∷ head.lane ∷ head.link ∷ 0 ∷ to_be_bytes w16 head.len
 

@@ -2,11 +2,11 @@
 ghost use Rattle.std.specs.Prelude.{◌≡◌, ◌≢◌, ◌≤◌, ◌++◌, IsTrue, IfOk, MatchOption};
 ghost use Rattle.sdls_outside.specs.Faults.{Rose};
 ghost use Rattle.record_io.specs.declared.kinds.ItemKind.{ItemKind};
-ghost use Rattle.record_io.specs.Input.{kind_octet, most_octets};
+ghost use Rattle.record_io.specs.Input.{kind_octet, lanes_of, least_octets, most_octets};
 ghost use Rattle.record_io.specs.Steps.{IsNoHead};
 ghost use Rattle.text_streams.specs.NextItem.{IfItemFault, IsItemHead, StandsItem};
 
-use record_io::{ItemKind, LANES, MOST_RECORD_OCTETS, RecordKind};
+use record_io::{ItemKind, LANES, LEAST_MONITOR_OCTETS, MOST_RECORD_OCTETS, RecordKind};
 use sdls_base::{NoMemory, Octets};
 use sdls_outside::{Failed, Source, collect};
 use std::alloc::Global;
@@ -49,6 +49,7 @@ fn kind_of(octet: u8) -> Option<ItemKind>
         1 => Some(ItemKind::Recorded(RecordKind::Protect)),
         2 => Some(ItemKind::Recorded(RecordKind::Open)),
         3 => Some(ItemKind::Recorded(RecordKind::Command)),
+        4 => Some(ItemKind::Recorded(RecordKind::Monitor)),
         _ => None,
     }
 }
@@ -63,6 +64,26 @@ fn most_octets_of(kind: ItemKind) -> u16
     }
 }
 
+/// The fewest octets of an item of this kind.
+fn least_octets_of(kind: ItemKind) -> u16
+    ensures { result ≡ least_octets kind }
+{
+    match kind {
+        ItemKind::Recorded(RecordKind::Monitor) => LEAST_MONITOR_OCTETS,
+        _ => 0,
+    }
+}
+
+/// How many lanes an item of this kind may name; of a Monitor record the lane is not looked at.
+fn lanes_of(kind: ItemKind) -> u16
+    ensures { result ≡ lanes_of kind }
+{
+    match kind {
+        ItemKind::Recorded(RecordKind::Monitor) => 256,
+        _ => u16::from(LANES),
+    }
+}
+
 /// What the first six octets of an item say, or `None` if they are no item's.
 fn head_of(header: [u8; 6]) -> Option<ItemHead>
     ensures { MatchOption result (IsNoHead header) (IsItemHead header) }
@@ -70,7 +91,9 @@ fn head_of(header: [u8; 6]) -> Option<ItemHead>
     let [kind, lane, link, zero, high, low] = header;
     let len = u16::from_be_bytes([high, low]);
     let kind = kind_of(kind)?;
-    if zero == 0 && lane < LANES && len <= most_octets_of(kind) {
+    let laned = u16::from(lane) < lanes_of(kind);
+    let long = least_octets_of(kind) <= len && len <= most_octets_of(kind);
+    if zero == 0 && laned && long {
         Some(ItemHead {
             kind,
             lane,

@@ -1,5 +1,5 @@
 //! A unit in memory, with the one worker that serves its segments.
-ghost use Rattle.std.specs.Prelude.{◌≡◌, ◌-◌, ◌%◌, ◌≤◌, ℕ, true, IfOk, length, vec_len};
+ghost use Rattle.std.specs.Prelude.{◌≡◌, ◌≢◌, ◌-◌, ◌%◌, ◌≤◌, ℕ, true, IfOk, length, vec_len};
 ghost use Rattle.std.specs.List.{All, list_any};
 ghost use Rattle.counter_table.specs.Worker.{view};
 ghost use Rattle.record_io.specs.declared.records.Record.{Record};
@@ -13,7 +13,7 @@ use crate::image::site_of;
 use disk_journal::PLAN_ROOM;
 use frame_workers::{Gate, run_segment};
 use record_io::code::{SITE_FAULT, STOPPED};
-use record_io::{Answer, Record};
+use record_io::{Answer, Record, RecordKind};
 use sdls_base::NoMemory;
 use sdls_outside::MemSite;
 use shared_unit::{Unit, Worker};
@@ -69,6 +69,7 @@ impl DrillUnit {
     ) -> Result<Vec<Answer>, NoMemory>
         requires may { MayServe self.old.unit.counters self.old.unit.plan self.old.worker }
         requires lanes { (ahead : ℕ) × All (λ (task : Record). task.lane ≡ (task.index - ahead) % 4) records.now }
+        requires plain { All (λ (task : Record). task.kind ≢ RecordKind.Monitor) records.now }
         requires ascend { Ascend records.now }
         ensures may { MayServe self.new.unit.counters self.new.unit.plan self.new.worker }
         ensures serves { IfOk result (λ answers. (begin : Begin)

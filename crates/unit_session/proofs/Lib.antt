@@ -3,5 +3,8 @@ pub mod Puts
 pub mod Alone
 pub mod Leading
 pub mod Lying
+pub mod Standing
+pub mod Noting
+pub mod Messages
 pub mod Served
 pub mod Closed

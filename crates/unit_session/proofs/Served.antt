@@ -1,6 +1,10 @@
 -- A segment that was handled, and whose answers were put: for the clauses of `serve`.
-use Rattle.std.proofs.Common.{◌≡◌, ℕ, ◌+◌, ◌≤◌, Bool, true, false, IsTrue, List, length, Result, Ok, Err, refl, sym, ◌∙◌, ap, subst, arith}
+use Rattle.std.proofs.Common.{◌≡◌, ◌≢◌, ◌⊎◌, inl, inr, Some, ℕ, ◌+◌, ◌≤◌, Bool, true, false, IsTrue, List, length, Result, Ok, Err, refl, sym, ◌∙◌, ap, subst, arith}
+use Rattle.std.specs.List.{slice_get}
 use Rattle.std.proofs.lemmas.Option.{slice_get_within}
+use Rattle.fsr_log.specs.Report.{Report}
+use Rattle.record_io.specs.declared.kinds.RecordKind.{RecordKind}
+use Rattle.record_io.specs.declared.kinds.RecordKind.TheVariants.{Protect, Open, Command, Monitor}
 use Rattle.sdls_base.specs.declared.TheConstants.{MOST_KEYS}
 use Rattle.counter_table.specs.declared.view.Opening.{Opening}
 use Rattle.counter_table.specs.declared.view.View.{View}
@@ -16,7 +20,7 @@ use Rattle.run_promise.specs.declared.limits.TheConstants.{MOST_ENTRIES}
 use Rattle.law_workers.specs.Views.{entries_in, log_of}
 use Rattle.law_workers.proofs.Histories.{entries_counted}
 use Rattle.law_workers.specs.Deeds.{Ascend, deeds_of}
-use Rattle.run_promise.specs.Deed.{Deed}
+use Rattle.run_promise.specs.Deed.{Deed, is_entered}
 use Rattle.law_workers.specs.Order.{Handled, Layout, LiesIn}
 use Rattle.law_workers.proofs.Counting.{none_failed}
 use Rattle.run_promise.specs.Alone.{OneLane}
@@ -26,6 +30,7 @@ use Rattle.law_workers.specs.Began.{BeganWith}
 use Rattle.law_runs.specs.Segment.{HandlesAndPuts, PutsWell}
 use Rattle.law_workers.specs.Ends.{EndsSegment}
 use Rattle.unit_session.specs.Putting.{PutsOctets}
+use Rattle.unit_session.specs.Reporting.{NotesAll, ReportsAll}
 use Rattle.unit_session.specs.Serving.{ServesSegment, served_as}
 use Rattle.unit_session.proofs.Lying.{own_layout, own_lies}
 
@@ -50,6 +55,22 @@ began_with told opening = record {
   used = λ is_told. refl;
 }
 
+-- an entry is made of a record that is neither a Protect record nor a Monitor record
+entered : (kind : RecordKind) → kind ≢ Protect → kind ≢ Monitor → IsTrue (is_entered kind)
+entered Protect other plain = absurd (other refl)
+entered Open other plain = refl
+entered Command other plain = refl
+entered Monitor other plain = absurd (plain refl)
+
+entered_due : {P : Type 0} (kind : RecordKind) → kind ≢ Monitor → (kind ≢ Protect) ⊎ P → IsTrue (is_entered kind) ⊎ P
+entered_due kind plain (inl other) = inl (entered kind other plain)
+entered_due kind plain (inr may) = inr may
+
+pub few_answers : (begin : Begin) (v mid : View) (tasks : List Record) (answers : List Answer) (full : Bool) → EndsSegment begin v mid tasks answers full
+    → length answers ≤ length tasks
+few_answers begin v mid tasks answers false same = omega arith
+few_answers begin v mid tasks answers true (task, there, is) = let low = slice_get_within tasks (length answers) task there in omega arith
+
 -- while records are handled no put fails
 pub no_put_failed : (layout : Layout) (begin : Begin) (v mid : View) (tasks : List Record) (deeds : List Deed) → Handled layout begin v mid tasks deeds
     → IsWhole begin.rows v → IsWhole begin.rows mid → mid.turn.known.put_faults ≡ v.turn.known.put_faults
@@ -62,7 +83,8 @@ module _ (told : Bool) (v mid w : View) (tasks : List Record) (up : Ascend tasks
     (exactly : OneLane tasks → (begin : Begin) (number : ℕ) → BeganWith told begin v.turn.known.opening
     → ServedAlone begin v mid (length tasks) (deeds_of number tasks answers))
     (moved : (begin : Begin) (number : ℕ) → BeganWith told begin v.turn.known.opening → MovesWords begin v mid tasks (deeds_of number tasks answers))
-    (put : PutsOctets told (answers_octets answers) result mid w) where
+    (put : PutsOctets told (answers_octets answers) result mid w) (old new : Report) (noted : NotesAll tasks answers old new) (reported : ReportsAll tasks answers old)
+    (plain : (task : Record) → slice_get tasks (length answers) ≡ Some task → task.kind ≢ Monitor) where
   own : (begin : Begin) (number : ℕ) → BeganWith told begin v.turn.known.opening
       → Handled (own_layout number tasks) begin v mid tasks (deeds_of number tasks answers)
   own begin number began = handled begin (own_layout number tasks) number began (own_lies number tasks up)
@@ -80,14 +102,10 @@ module _ (told : Bool) (v mid w : View) (tasks : List Record) (up : Ascend tasks
     whole_at : (u : View) → IsWhole MOST_KEYS u → IsWhole begin.rows u
     whole_at u h = subst (λ (rows : ℕ). IsWhole rows u) (sym began.rows) h
 
-    few_answers : (full : Bool) → EndsSegment begin v mid tasks answers full → length answers ≤ length tasks
-    few_answers false same = omega arith
-    few_answers true (task, there, is) = let low = slice_get_within tasks (length answers) task there in omega arith
-
     handles : (full : Bool) → EndsSegment begin v mid tasks answers full → HandlesAndPuts begin v mid w tasks answers w.turn.known.standing
     handles full ends = record {
       handled = λ layout number lies. handled begin layout number began lies;
-      few = few_answers full ends;
+      few = few_answers begin v mid tasks answers full ends;
       whole_mid = whole_at mid whole_mid;
       whole = whole_at w whole_w;
       puts = put.leaves.puts begin began_mid;
@@ -127,7 +145,7 @@ module _ (told : Bool) (v mid w : View) (tasks : List Record) (up : Ascend tasks
     tells : IsTrue begin.told → IsTrue told
     tells is_told = subst IsTrue began.tells is_told
 
-    pub serves : (full : Bool) → EndsSegment begin v mid tasks answers full → ServesSegment begin tasks (served_as result full) v w
+    pub serves : (full : Bool) → EndsSegment begin v mid tasks answers full → ServesSegment begin tasks (served_as result full) v w old new
     serves full ends = go result full ends put
       where
         well : (done : Unit {0}) → PutsOctets {T = Unit {0}} {E = BookFault} told (answers_octets answers) (Ok done) mid w
@@ -135,12 +153,14 @@ module _ (told : Bool) (v mid w : View) (tasks : List Record) (up : Ascend tasks
         well done p = record { octets = λ is_told. p.adds (tells is_told); none_failed = p.leaves.counted ∙ none }
 
         go : (r : Result (Unit {0}) BookFault) (f : Bool) → EndsSegment begin v mid tasks answers f → PutsOctets told (answers_octets answers) r mid w
-            → ServesSegment begin tasks (served_as r f) v w
+            → ServesSegment begin tasks (served_as r f) v w old new
         go (Ok done) false same p = record {
           mid = mid;
           answers = answers;
           handles = handles false same;
           stands = stands;
+          noted = noted;
+          reported = reported;
           so = (well done p, same);
         }
         go (Ok done) true (task, there, is) p = record {
@@ -148,9 +168,11 @@ module _ (told : Bool) (v mid w : View) (tasks : List Record) (up : Ascend tasks
           answers = answers;
           handles = handles true (task, there, is);
           stands = stands;
+          noted = noted;
+          reported = reported;
           so = (
             well done p,
-            record { task = task; first_without = there; full = is.full; not_failed = still p.leaves.counted is.stood is.not_failed; due = is.due; unmade = is.unmade },
+            record { task = task; first_without = there; full = is.full; not_failed = still p.leaves.counted is.stood is.not_failed; due = entered_due task.kind (plain task there) is.due; unmade = is.unmade },
           );
         }
         go (Err fault) f ends p = record {
@@ -158,6 +180,8 @@ module _ (told : Bool) (v mid w : View) (tasks : List Record) (up : Ascend tasks
           answers = answers;
           handles = handles f ends;
           stands = stands;
+          noted = noted;
+          reported = reported;
           so = record {
             octets = λ is_told. p.adds (tells is_told);
             one_failed = p.leaves.counted ∙ ap (λ (n : ℕ). n + 1) none;

@@ -1,3 +1,4 @@
 pub mod Putting
+pub mod Reporting
 pub mod Serving
 pub mod Running

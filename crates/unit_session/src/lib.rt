@@ -4,6 +4,7 @@
 
 mod ending;
 mod putting;
+mod reporting;
 mod running;
 mod serving;
 mod session;

@@ -7,12 +7,14 @@ ghost use Rattle.run_promise.specs.Lives.{EndsAndLives};
 ghost use Rattle.run_promise.specs.Account.{end_status};
 ghost use Rattle.run_promise.specs.Site.{site_seen};
 ghost use Rattle.law_runs.specs.Refused.{refused_end};
-ghost use Rattle.unit_session.specs.Putting.{IsAlone};
+ghost use Rattle.unit_session.specs.Putting.{IsAlone, OfRun};
 ghost use Rattle.unit_session.specs.Running.{PutsRefusal, RunsUnit};
+ghost use Rattle.unit_session.specs.Serving.{Comes};
 
 use crate::ending::{answer_of, finish, told_end};
 use crate::session::Session;
 use frame_workers::Gate;
+use fsr_log::Log;
 use law_image::shown_keeps_rules;
 use law_runs::{refused_run_ends, run_ends_well};
 use record_io::status::SITE_FAULT;
@@ -71,6 +73,40 @@ fn image_stays<O: Site>()
     ensures { (site : O) → IsTrue O.told → Leaves (O.trace site).now (O.trace site).now.image }
 {}
 
+/// Serves the input of a source with a unit that was opened, and hands the unit back with what came. Where memory is
+/// wanting for the log, nothing is read.
+fn serve_with_log<R: Threads + Wait + Sync, S: Source, O: Site + Send, G: Gate + Sync>(
+    rt: &R,
+    alloc: Global,
+    source: &mut S,
+    gate: &G,
+    unit: Unit<O>,
+    worker: Worker<O>,
+) -> (Unit<O>, Worker<O>, RunEnd)
+    requires alone { IsAlone unit.counters unit.plan worker }
+    requires no_log { (view worker).turn.known.log ≡ [] }
+    requires none_made { (view worker).turn.made ≡ [] }
+    ensures alone { IsAlone result.0.counters result.0.plan result.1 }
+    ensures opening { (view result.1).turn.known.opening ≡ (view worker).turn.known.opening }
+    ensures comes { let seen : SourceSeen = record { told = S.told; left = S.left source.old; faults = S.faults source.old }
+        in
+        let after : SourceSeen = record { told = S.told; left = S.left source.new; faults = S.faults source.new } in
+        OfRun O.told (view worker) (λ begin. Comes seen after begin (view worker) (view result.1) result.2) }
+{
+    let Ok(log) = Log::new(alloc) else {
+        return (unit, worker, RunEnd::NoMemory);
+    };
+    let mut session = Session::new(alloc, unit, worker, log);
+    let came = session.serve_input(rt, alloc, source, gate);
+    let Session {
+        unit,
+        worker,
+        log: _,
+        piece: _,
+    } = session;
+    (unit, worker, came)
+}
+
 /// Serves the input of a source with a unit that was opened, closes the unit, and ends the run. `before` is the site's
 /// count of faults before the run.
 fn serve_unit<R: Threads + Wait + Sync, S: Source, O: Site + Send, G: Gate + Sync>(
@@ -92,13 +128,7 @@ fn serve_unit<R: Threads + Wait + Sync, S: Source, O: Site + Send, G: Gate + Syn
         RunsUnit O.told before seen after (view worker) (site_seen O.trace O.faults O.put_faults result.site)
         result.entries.items result.status }
 {
-    let mut session = Session::new(alloc, unit, worker);
-    let came = session.serve_input(rt, alloc, source, gate);
-    let Session {
-        unit,
-        worker,
-        piece: _,
-    } = session;
+    let (unit, worker, came) = serve_with_log(rt, alloc, source, gate, unit, worker);
     let (book, words) = unit.close(worker);
     states_have_bounds();
     finish(alloc, book, &words, before, came)

@@ -1,5 +1,5 @@
 // Segments that are served, one after the other, to the end of the input.
-ghost use Rattle.std.specs.Prelude.{◌≡◌, ◌<◌, ℕ, List, [], IfNone};
+ghost use Rattle.std.specs.Prelude.{◌≡◌, ◌≢◌, ◌<◌, ℕ, List, [], ◌∷◌, IfNone};
 ghost use Rattle.std.specs.List.{All};
 ghost use Rattle.record_io.specs.declared.kinds.TheConstants.{LANES};
 ghost use Rattle.record_io.specs.declared.records.Record.{Record};
@@ -11,11 +11,16 @@ ghost use Rattle.run_promise.specs.Begin.{Begin};
 ghost use Rattle.law_workers.specs.Deeds.{Ascend};
 ghost use Rattle.law_workers.specs.Began.{BeganWith};
 ghost use Rattle.unit_session.specs.Putting.{IsAlone, OfRun};
-ghost use Rattle.unit_session.specs.Serving.{Comes, end_after, end_of_stop, Goes, Leads, served_as, ServesSegment};
+ghost use Rattle.fsr_log.specs.Report.{report_of};
+ghost use Rattle.unit_session.specs.Serving.{came_after, Comes, end_of_stop, EndsAs, Goes, Leads, served_as};
+ghost use Rattle.unit_session.specs.Serving.{ServesSegment};
 
+use crate::putting::standing_alone;
+use crate::reporting::{log_answer, note_all};
 use crate::session::Session;
 use frame_workers::{Gate, run_segment};
-use record_io::{Reader, Record, SegmentEnd};
+use law_workers::looking_reports;
+use record_io::{Reader, Record, RecordKind, SegmentEnd};
 use run_promise::RunEnd;
 use sdls_base::NoMemory;
 use sdls_outside::{Site, Source};
@@ -33,18 +38,6 @@ pub enum Stop {
     Full,
     /// A put failed.
     PutFailed,
-}
-
-/// What a segment's end says of the run: nothing, where the input may go on.
-fn end_after(end: SegmentEnd) -> Option<RunEnd>
-    ensures { result ≡ end_after end }
-{
-    match end {
-        SegmentEnd::More => None,
-        SegmentEnd::End => Some(RunEnd::Ended),
-        SegmentEnd::Malformed(offset) => Some(RunEnd::Malformed(offset)),
-        SegmentEnd::SourceFault(count) => Some(RunEnd::SourceFault(count)),
-    }
 }
 
 fn end_of(stop: Stop) -> RunEnd
@@ -68,8 +61,53 @@ fn stop_after(put: Result<(), BookFault>, full: bool) -> Result<(), Stop>
     }
 }
 
+/// What served records say of the run: nothing, where the input may go on.
+fn came_after(served: Result<(), Stop>) -> Option<RunEnd>
+    ensures { result ≡ came_after served }
+{
+    match served {
+        Err(stop) => Some(end_of(stop)),
+        Ok(()) => None,
+    }
+}
+
 impl<O: Site + Send> Session<O> {
-    /// Handles the records of a segment, and puts their answers in input order.
+    /// Answers a monitoring message by the log, notes the answer and puts it.
+    fn report<R: Wait>(&mut self, rt: &R, alloc: Global, task: &Record) -> Result<(), Stop>
+        requires alone { IsAlone self.old.unit.counters self.old.unit.plan self.old.worker }
+        requires kind { task.now.kind ≡ RecordKind.Monitor }
+        ensures alone { IsAlone self.new.unit.counters self.new.unit.plan self.new.worker }
+        ensures opening { (view self.new.worker).turn.known.opening ≡ (view self.old.worker).turn.known.opening }
+        ensures serves { OfRun O.told (view self.old.worker) (λ begin. ServesSegment begin (task.now ∷ []) result
+            (view self.old.worker) (view self.new.worker) self.old.log self.new.log) }
+    {
+        let standing = standing_alone(rt, &self.unit, &mut self.worker);
+        let answer = log_answer(alloc, &self.log, task.octets.as_slice(), standing);
+        self.log.note(task.index, task.kind, &answer);
+        let put = self.put_answers(rt, &[answer]);
+        looking_reports();
+        stop_after(put, false)
+    }
+
+    /// What the end of a segment that was served says of the run. A Monitor record that ended it is answered.
+    fn end_segment<R: Wait>(&mut self, rt: &R, alloc: Global, end: SegmentEnd) -> Option<RunEnd>
+        requires alone { IsAlone self.old.unit.counters self.old.unit.plan self.old.worker }
+        requires kind { (task : Record) → end ≡ SegmentEnd.Monitor task → task.kind ≡ RecordKind.Monitor }
+        ensures alone { IsAlone self.new.unit.counters self.new.unit.plan self.new.worker }
+        ensures opening { (view self.new.worker).turn.known.opening ≡ (view self.old.worker).turn.known.opening }
+        ensures ends { OfRun O.told (view self.old.worker) (λ begin. EndsAs begin end result (view self.old.worker)
+            (view self.new.worker) self.old.log self.new.log) }
+    {
+        match end {
+            SegmentEnd::More => None,
+            SegmentEnd::Monitor(task) => came_after(self.report(rt, alloc, &task)),
+            SegmentEnd::End => Some(RunEnd::Ended),
+            SegmentEnd::Malformed(offset) => Some(RunEnd::Malformed(offset)),
+            SegmentEnd::SourceFault(count) => Some(RunEnd::SourceFault(count)),
+        }
+    }
+
+    /// Handles the records of a segment, and notes and puts their answers in input order.
     fn serve<R: Threads + Wait + Sync, G: Gate + Sync>(
         &mut self,
         rt: &R,
@@ -79,16 +117,19 @@ impl<O: Site + Send> Session<O> {
     ) -> Result<(), Stop>
         requires alone { IsAlone self.old.unit.counters self.old.unit.plan self.old.worker }
         requires lanes { All (λ (task : Record). task.lane < LANES) records.now }
+        requires plain { All (λ (task : Record). task.kind ≢ RecordKind.Monitor) records.now }
         requires ascend { Ascend records.now }
         ensures alone { IsAlone self.new.unit.counters self.new.unit.plan self.new.worker }
         ensures opening { (view self.new.worker).turn.known.opening ≡ (view self.old.worker).turn.known.opening }
         ensures serves { OfRun O.told (view self.old.worker)
-            (λ begin. ServesSegment begin records.now result (view self.old.worker) (view self.new.worker)) }
+            (λ begin. ServesSegment begin records.now result (view self.old.worker) (view self.new.worker)
+            self.old.log self.new.log) }
     {
         let segment = match run_segment(rt, alloc, &self.unit, &mut self.worker, records, gate) {
             Ok(segment) => segment,
             Err(NoMemory) => return Err(Stop::NoMemory),
         };
+        note_all(&mut self.log, records, &segment.answers);
         let put = self.put_answers(rt, &segment.answers);
         stop_after(put, segment.full)
     }
@@ -118,8 +159,8 @@ impl<O: Site + Send> Session<O> {
             let after : SourceSeen = record { told = S.told; left = S.left source.new; faults = S.faults source.new } in
             (start : SourceSeen) (begin : Begin) (first : View)
             → BeganWith O.told begin (view self.old.worker).turn.known.opening
-            → Goes start before reader.old begin first (view self.old.worker)
-            → Leads start after reader.new begin first (view self.new.worker) result }
+            → Goes start before reader.old begin first (view self.old.worker) self.old.log
+            → Leads start after reader.new begin first (view self.new.worker) self.new.log result }
         ensures forth { IfNone result (reader.old.taken < reader.new.taken) }
     {
         let (records, end) = match reader.next_segment(alloc, source) {
@@ -127,7 +168,7 @@ impl<O: Site + Send> Session<O> {
             Err(NoMemory) => return Some(RunEnd::NoMemory),
         };
         match self.serve(rt, alloc, &records, gate) {
-            Ok(()) => end_after(end),
+            Ok(()) => self.end_segment(rt, alloc, end),
             Err(stop) => Some(end_of(stop)),
         }
     }
@@ -143,6 +184,7 @@ impl<O: Site + Send> Session<O> {
         requires alone { IsAlone self.old.unit.counters self.old.unit.plan self.old.worker }
         requires no_log { (view self.old.worker).turn.known.log ≡ [] }
         requires none_made { (view self.old.worker).turn.made ≡ [] }
+        requires none_noted { self.old.log ≡ report_of [] }
         ensures alone { IsAlone self.new.unit.counters self.new.unit.plan self.new.worker }
         ensures opening { (view self.new.worker).turn.known.opening ≡ (view self.old.worker).turn.known.opening }
         ensures comes { let before : SourceSeen = record {

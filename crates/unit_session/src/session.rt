@@ -5,6 +5,7 @@ ghost use Rattle.counter_table.specs.Worker.{view};
 ghost use Rattle.unit_session.specs.Putting.{IsAlone, PutsOctets, TakesOctets};
 
 use crate::putting::put_alone;
+use fsr_log::Log;
 use record_io::{ANSWER_HEADER, Answer, answer_header};
 use sdls_outside::Site;
 use shared_unit::{Unit, Worker};
@@ -15,10 +16,12 @@ use unit_book::BookFault;
 /// The octets of answers that are put at once, at most.
 const PIECE: usize = 65536;
 
-/// A unit with the one worker that serves a run, and the octets of answers that are to be put in one piece.
+/// A unit with the one worker that serves a run, the log of the answers so far, and the octets of answers that are to be
+/// put in one piece.
 pub struct Session<O: Site> {
     pub(crate) unit: Unit<O>,
     pub(crate) worker: Worker<O>,
+    pub(crate) log: Log,
     pub(crate) piece: Vec<u8>,
 }
 
@@ -45,15 +48,17 @@ fn extend_within(items: &mut Vec<u8>, octets: &[u8])
 }
 
 impl<O: Site> Session<O> {
-    /// The session of a unit with its one worker. Nothing was put yet.
-    pub fn new(alloc: Global, unit: Unit<O>, worker: Worker<O>) -> Session<O>
+    /// The session of a unit with its one worker and the log of a run. Nothing was put yet.
+    pub fn new(alloc: Global, unit: Unit<O>, worker: Worker<O>, log: Log) -> Session<O>
         ensures unit { result.unit ≡ unit }
         ensures worker { result.worker ≡ worker }
+        ensures log { result.log ≡ log }
         ensures begun { result.piece.items ≡ [] }
     {
         Session {
             unit,
             worker,
+            log,
             piece: room_for_answers(alloc),
         }
     }
@@ -63,6 +68,7 @@ impl<O: Site> Session<O> {
         requires alone { IsAlone self.old.unit.counters self.old.unit.plan self.old.worker }
         ensures alone { IsAlone self.new.unit.counters self.new.unit.plan self.new.worker }
         ensures same { self.new.unit ≡ self.old.unit }
+        ensures logged { self.new.log ≡ self.old.log }
         ensures begun { self.new.piece.items ≡ [] }
         ensures puts { PutsOctets O.told self.old.piece.items result (view self.old.worker) (view self.new.worker) }
     {
@@ -76,6 +82,7 @@ impl<O: Site> Session<O> {
         requires alone { IsAlone self.old.unit.counters self.old.unit.plan self.old.worker }
         ensures alone { IsAlone self.new.unit.counters self.new.unit.plan self.new.worker }
         ensures same { self.new.unit ≡ self.old.unit }
+        ensures logged { self.new.log ≡ self.old.log }
         ensures piece { self.new.piece ≡ self.old.piece }
         ensures puts { PutsOctets O.told (answer_octets answer.now) result (view self.old.worker)
             (view self.new.worker) }
@@ -101,6 +108,7 @@ impl<O: Site> Session<O> {
             ≤ vec_capacity self.old.piece }
         ensures piece { self.new.piece.items ≡ self.old.piece.items ++ answer_octets answer.now }
         ensures others { (self.new.unit ≡ self.old.unit) × (self.new.worker ≡ self.old.worker) }
+        ensures logged { self.new.log ≡ self.old.log }
     {
         extend_within(&mut self.piece, &answer_header(answer));
         extend_within(&mut self.piece, answer.body.as_slice());
@@ -112,6 +120,7 @@ impl<O: Site> Session<O> {
         requires empty { self.old.piece.items ≡ [] }
         ensures alone { IsAlone self.new.unit.counters self.new.unit.plan self.new.worker }
         ensures same { self.new.unit ≡ self.old.unit }
+        ensures logged { self.new.log ≡ self.old.log }
         ensures takes { TakesOctets O.told (answer_octets answer.now) result [] self.new.piece.items
             (view self.old.worker) (view self.new.worker) }
     {
@@ -127,6 +136,7 @@ impl<O: Site> Session<O> {
         requires alone { IsAlone self.old.unit.counters self.old.unit.plan self.old.worker }
         ensures alone { IsAlone self.new.unit.counters self.new.unit.plan self.new.worker }
         ensures same { self.new.unit ≡ self.old.unit }
+        ensures logged { self.new.log ≡ self.old.log }
         ensures takes { TakesOctets O.told (answer_octets answer.now) result self.old.piece.items self.new.piece.items
             (view self.old.worker) (view self.new.worker) }
     {
@@ -145,6 +155,7 @@ impl<O: Site> Session<O> {
         requires alone { IsAlone self.old.unit.counters self.old.unit.plan self.old.worker }
         ensures alone { IsAlone self.new.unit.counters self.new.unit.plan self.new.worker }
         ensures same { self.new.unit ≡ self.old.unit }
+        ensures logged { self.new.log ≡ self.old.log }
         ensures puts { PutsOctets O.told (answers_octets answers.now) result (view self.old.worker)
             (view self.new.worker) }
     {

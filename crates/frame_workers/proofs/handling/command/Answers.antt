@@ -10,7 +10,6 @@ use Rattle.law_workers.specs.Order.{Layout}
 use Rattle.law_calls.proofs.Commandings.{commanding_answers}
 use Rattle.law_calls.proofs.CommandsExactly.{commanding_exactly}
 use Rattle.shared_unit.proofs.Steps.{takes_grows}
-use Rattle.shared_unit.proofs.Trust.{permit_stays}
 use Rattle.frame_workers.proofs.handling.command.Goals as goal
 
 pub returns-clause-answered : goal.returns-clause-answered
@@ -34,7 +33,7 @@ returns-clause-exactly g c begin segment b =
     (commanding_exactly g.O.Site.told begin apart segment task v w found given b c.requires.ready.free c.requires.kind
     visits c.command-commanded.ensures.covered c.command-commanded.result handled)
 
-pub returns-clause-keeps : goal.returns-clause-keeps
-returns-clause-keeps g c permit h =
+pub returns-clause-grows : goal.returns-clause-grows
+returns-clause-grows g c =
     let (found, given, visits, told) = c.command-commanded.ensures.commanded in
-    permit_stays permit (view c.args.worker.now).turn (view c.command-commanded.new.worker).turn (takes_grows _ _ _ _ visits.takes) h
+    takes_grows _ _ _ _ visits.takes

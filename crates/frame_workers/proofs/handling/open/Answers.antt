@@ -1,4 +1,4 @@
-use Rattle.std.proofs.Common.{◌≡◌, ℕ, ◌++◌, List, length, take, drop, Some, sym, subst, ap, ◌∙◌}
+use Rattle.std.proofs.Common.{◌≡◌, ℕ, ◌++◌, List, length, take, drop, Some, refl, sym, subst, ap, ◌∙◌}
 use Rattle.std.specs.Prelude.{MatchResult}
 use Rattle.counter_table.specs.declared.view.View.{View}
 use Rattle.counter_table.specs.Worker.{view}
@@ -13,8 +13,8 @@ use Rattle.law_calls.specs.Answering.{opened_answer}
 use Rattle.law_calls.proofs.Openings.{opening_answers}
 use Rattle.law_calls.proofs.OpensExactly.{opens_exactly}
 use Rattle.law_calls.proofs.Unserved.{unserved, unserved_exactly}
+use Rattle.shared_unit.proofs.Passing.{passes_grows, passes_none}
 use Rattle.shared_unit.proofs.Steps.{takes_grows}
-use Rattle.shared_unit.proofs.Trust.{permit_stays}
 use Rattle.frame_workers.proofs.Segments.{slice_whole}
 use Rattle.frame_workers.proofs.handling.open.Goals as goal
 
@@ -27,7 +27,7 @@ returns-clause-answered g c layout begin segment b =
     let v : View = view c.args.worker.now in let w : View = view c.open_frame-opened.new.worker in let task : Record = c.args.task.now in
     let left : List ℕ = c.open_frame-opened.new.frame in
     let (found, given, visits, told) = c.open_frame-opened.ensures.opened in
-    let same : c.as_mut_slice.result.now ≡ task.octets = c.as_mut_slice.ensures.value ∙ (c.in-Ok.ensures.items ∙ c.as_slice.ensures) in
+    let same : c.as_mut_slice.result.now ≡ task.octets = c.as_mut_slice.ensures.value ∙ (c.in-Ok.ensures.items ∙ c.as_slice-octets.ensures) in
     let opened = subst (λ (l : List ℕ). WithPosition c.open_frame-opened.result (known_of_book given)
     (λ answer. MatchResult answer
     (λ told. OpensWithEntry task.index task.link l (field_in told.0 left) found given told.0 told.1 × LeavesOctets told.0 l left)
@@ -48,7 +48,7 @@ returns-clause-exactly g c begin segment b =
     let v : View = view c.args.worker.now in let w : View = view c.open_frame-opened.new.worker in let task : Record = c.args.task.now in
     let left : List ℕ = c.open_frame-opened.new.frame in
     let (found, given, visits, told) = c.open_frame-opened.ensures.opened in
-    let same : c.as_mut_slice.result.now ≡ task.octets = c.as_mut_slice.ensures.value ∙ (c.in-Ok.ensures.items ∙ c.as_slice.ensures) in
+    let same : c.as_mut_slice.result.now ≡ task.octets = c.as_mut_slice.ensures.value ∙ (c.in-Ok.ensures.items ∙ c.as_slice-octets.ensures) in
     let opened = subst (λ (l : List ℕ). WithPosition c.open_frame-opened.result (known_of_book given)
     (λ answer. MatchResult answer
     (λ told. OpensWithEntry task.index task.link l (field_in told.0 left) found given told.0 told.1 × LeavesOctets told.0 l left)
@@ -60,7 +60,10 @@ returns-clause-exactly g c begin segment b =
     (opens_exactly g.O.Site.told begin segment task v w found given b c.requires.ready.free c.requires.kind
     c.open_frame-opened.ensures.numbers.1 visits c.open_frame-opened.ensures.covered left c.open_frame-opened.result opened)
 
-pub returns-clause-keeps : goal.returns-clause-keeps
-returns-clause-keeps g c permit h =
+pub returns-clause-grows : goal.returns-clause-grows
+returns-clause-grows g c =
     let (found, given, visits, told) = c.open_frame-opened.ensures.opened in
-    permit_stays permit (view c.args.worker.now).turn (view c.open_frame-opened.new.worker).turn (takes_grows _ _ _ _ visits.takes) h
+    takes_grows _ _ _ _ visits.takes
+
+pub returns-in_default-clause-grows : goal.returns-in_default-clause-grows
+returns-in_default-clause-grows g c = passes_grows g.O.Site.told _ _ (passes_none g.O.Site.told _ _ refl)

@@ -1,4 +1,4 @@
-use Rattle.std.proofs.Common.{◌≡◌, ℕ, ◌++◌, List, length, take, drop, Some, sym, subst, ap, ◌∙◌}
+use Rattle.std.proofs.Common.{◌≡◌, ℕ, ◌++◌, List, length, take, drop, Some, refl, sym, subst, ap, ◌∙◌}
 use Rattle.counter_table.specs.declared.view.View.{View}
 use Rattle.counter_table.specs.Worker.{view}
 use Rattle.record_io.specs.declared.answers.Answer.{Answer}
@@ -10,12 +10,20 @@ use Rattle.law_calls.specs.Answering.{protected_answer}
 use Rattle.law_calls.proofs.Protectings.{protecting_answers}
 use Rattle.law_calls.proofs.ProtectsExactly.{covers_taken, protects_exactly}
 use Rattle.law_calls.proofs.Unserved.{unserved, unserved_exactly}
-use Rattle.frame_workers.proofs.Segments.{slice_whole}
+use Rattle.shared_unit.proofs.Passing.{passes_grows, passes_none}
+use Rattle.frame_workers.proofs.Bodies.{fits}
 use Rattle.frame_workers.proofs.handling.protect.Goals as goal
 
 pub returns-in_default-clause-answered : goal.returns-in_default-clause-answered
 returns-in_default-clause-answered g c layout begin segment b = subst (λ (a : Answer). Answered layout begin segment (view c.args.worker.now) (view c.args.worker.now) c.args.task.now (Some a))
     (sym c.answer_no_memory.ensures) (unserved begin layout segment (view c.args.worker.now) c.args.task.now)
+
+pub protected_answer-requires-clause-fits : goal.protected_answer-requires-clause-fits
+protected_answer-requires-clause-fits g c =
+    let e = c.protect-protected.ensures.step in
+    fits g.O.Site.told c.args.unit.now.plan c.args.task.now.link c.as_slice-clear.result.now c.protect-protected.new.out c.protect-protected.new.kept
+    c.protect-protected.result (view c.args.worker.now) (view c.protect-protected.new.worker) _ _ e (c.protect-protected.auto.out ∙ c.requires.room)
+    c.in-Ok.ensures.room
 
 pub returns-clause-answered : goal.returns-clause-answered
 returns-clause-answered g c layout begin segment b =
@@ -23,10 +31,7 @@ returns-clause-answered g c layout begin segment b =
     let out : List ℕ = c.protect-protected.new.out in
     let step = subst (λ (l : List ℕ). IsProtectStep g.O.Site.told c.args.unit.now.plan task.link l out
     c.protect-protected.new.kept c.protect-protected.result v w) c.as_slice-clear.ensures c.protect-protected.ensures.step in
-    let long : length out ≡ length c.as_mut_slice.result.now = c.protect-protected.auto.out in
-    let size : length out ≡ length c.in-Ok.out.items = long ∙ ap length c.as_mut_slice.ensures.value in
-    let all : take c.in-Ok.out.len (out ++ drop (length out) c.in-Ok.out.items) ≡ out = slice_whole c.in-Ok.out.len out c.in-Ok.out.items size c.in-Ok.out.ok.0 in
-    subst (Answered layout begin segment v w task) (sym (c.protected_answer.ensures ∙ ap (protected_answer c.protect-protected.result) all))
+    subst (Answered layout begin segment v w task) (sym c.protected_answer.ensures)
     (protecting_answers g.O.Site.told begin layout segment task v w b c.requires.ready.free c.requires.kind
     c.args.unit.now.plan c.protect-protected.new.kept out c.protect-protected.result c.requires.ready.planned step)
 
@@ -41,10 +46,13 @@ returns-clause-exactly g c begin segment b =
     let out : List ℕ = c.protect-protected.new.out in
     let step = subst (λ (l : List ℕ). IsProtectStep g.O.Site.told c.args.unit.now.plan task.link l out
     c.protect-protected.new.kept c.protect-protected.result v w) c.as_slice-clear.ensures c.protect-protected.ensures.step in
-    let long : length out ≡ length c.as_mut_slice.result.now = c.protect-protected.auto.out in
-    let size : length out ≡ length c.in-Ok.out.items = long ∙ ap length c.as_mut_slice.ensures.value in
-    let all : take c.in-Ok.out.len (out ++ drop (length out) c.in-Ok.out.items) ≡ out = slice_whole c.in-Ok.out.len out c.in-Ok.out.items size c.in-Ok.out.ok.0 in
-    subst (AnsweredExactly begin segment v w task) (sym (c.protected_answer.ensures ∙ ap (protected_answer c.protect-protected.result) all))
+    subst (AnsweredExactly begin segment v w task) (sym c.protected_answer.ensures)
     (protects_exactly g.O.Site.told begin apart segment task v w b c.requires.ready.free c.requires.kind
     (covers_taken g.O.Site.told begin v w b c.requires.ready.free c.protect-protected.ensures.covered)
     c.args.unit.now.plan c.protect-protected.new.kept out c.protect-protected.result c.requires.ready.planned step)
+
+pub returns-clause-grows : goal.returns-clause-grows
+returns-clause-grows g c = passes_grows g.O.Site.told _ _ c.protect-protected.ensures.turn
+
+pub returns-in_default-clause-grows : goal.returns-in_default-clause-grows
+returns-in_default-clause-grows g c = passes_grows g.O.Site.told _ _ (passes_none g.O.Site.told _ _ refl)

@@ -1,14 +1,16 @@
-use Rattle.std.proofs.Common.{rules, ◌≡◌, ℕ, ◌≤◌, ◌+◌, length, [], ◌∷◌, true, false, refl, sym, ap, subst, ◌∙◌, arith, length-append, inl, inr}
+use Rattle.std.proofs.Common.{rules, ◌≡◌, ℕ, ◌≤◌, ◌<◌, ◌+◌, length, [], ◌∷◌, true, false, refl, sym, ap, subst, ◌∙◌, arith, length-append, inl, inr}
 use Rattle.std.specs.List.{All, AllPairs, list_any}
 use Rattle.std.proofs.lemmas.Bool.{cases_eq}
 use Rattle.std.proofs.lemmas.List.Elements.{All-push}
 use Rattle.std.proofs.lemmas.List.Quantifiers.{all_pairs_push}
 use Rattle.counter_table.specs.declared.view.View.{View}
+use Rattle.record_io.specs.declared.kinds.TheConstants.{LANES}
 use Rattle.counter_table.specs.Worker.{view}
 use Rattle.shared_unit.specs.Turn.{IsReady}
 use Rattle.law_workers.specs.Lanes.{giving_shares, is_of_lane}
 use Rattle.frame_workers.specs.Lanes.{HaveOwnNumbers, IsRoom, IsSplit, IsThere}
 use Rattle.frame_workers.proofs.Splits.{gives_more, starts_so, there_push, there_last, room_last, rooms_left}
+use Rattle.frame_workers.proofs.Used.{used_at}
 use Rattle.frame_workers.proofs.joining.split_lanes.Goals as goal
 
 pub rooms-preserved : goal.rooms-preserved
@@ -25,7 +27,8 @@ rooms-preserved g c =
     let many = inv.many in
     let room : IsRoom c.args.records.now c.len-number.result c.in-Some.answers =
     subst (λ (n : ℕ). IsRoom c.args.records.now n c.in-Some.answers) (sym number) (room_last c.args.records.now c.rooms.rooms.items left c.in-Some.answers items inv.rooms) in
-    let used : list_any (is_of_lane c.len-number.result) c.args.records.now ≡ true = sym c.is_used.ensures ∙ c.if-not-is_used.false in
+    let used : list_any (is_of_lane c.len-number.result) c.args.records.now ≡ true =
+    used_at c.args.records.now c.args.used.now.lanes c.len-number.result c.from.result true c.requires.used (omega arith) c.from.ensures c.if-not-used-from.false in
     record {
       is_ready = c.split-split.ensures.ready;
       given = subst (λ (n : ℕ). view c.split-split.new.worker ≡ giving_shares n base) (sym more)
@@ -38,7 +41,7 @@ rooms-preserved g c =
           (All-push (IsSplit (IsReady c.args.unit.now.counters c.args.unit.now.plan) c.args.records.now base) c.rooms.lanes.items _ inv.split (record {
             below = omega arith;
             used = used;
-            can = record { is_ready = c.split-split.ensures.new; kept = tt; empty = room.empty; room = room.roomy used; going = refl };
+            can = record { is_ready = c.split-split.ensures.new; kept = c.no_permits.ensures (view c.split-split.result).turn; empty = room.empty; room = room.roomy used; going = refl };
             from = starts_so base (view c.rooms.worker) (view c.split-split.result) (length c.rooms.lanes.items) inv.given c.split-split.ensures.newcomer;
           }));
       above = subst (λ l. All (λ lane. length left ≤ lane.number) l) (sym pushed.items)
@@ -52,15 +55,17 @@ rooms-preserved g c =
     }
 
 -- a lane without records
-pub rooms-preserved-then-not-is_used : goal.rooms-preserved-then-not-is_used
-rooms-preserved-then-not-is_used g c =
+pub rooms-preserved-then-not-used-from : goal.rooms-preserved-then-not-used-from
+rooms-preserved-then-not-used-from g c =
     let inv = c.rooms.invariant in
     let items = c.in-Some.ensures.items in
     let left = c.pop.new.self.items in
     let ok = c.pop.new.self.ok in let len = c.len-number.ensures in
     let number : c.len-number.result ≡ length left = omega arith in
     let less : length c.rooms.rooms.items ≡ length left + 1 = ap length items ∙ length-append left (c.in-Some.answers ∷ []) in
-    let unused : list_any (is_of_lane c.len-number.result) c.args.records.now ≡ false = sym c.is_used.ensures ∙ c.if-not-is_used.true in
+    let below : c.len-number.result < LANES = (let m = inv.many in omega arith) in
+    let unused : list_any (is_of_lane c.len-number.result) c.args.records.now ≡ false =
+    used_at c.args.records.now c.args.used.now.lanes c.len-number.result c.from.result false c.requires.used below c.from.ensures c.if-not-used-from.true in
     let many = inv.many in
     record {
       is_ready = inv.is_ready;

@@ -133,7 +133,8 @@ returns-clause-full g c begin b =
     (c.place_answers-full.ensures.stops full))))
 
 pub returns-clause-alone : goal.returns-clause-alone
-returns-clause-alone g c (lane, one) begin number b =
+returns-clause-alone g c (lane, of) begin number b =
+    let one : All (λ (task : Record). task.lane ≡ lane) c.args.records.now = λ k d low. of k d low (c.requires.plain k d low) in
     let rs : List Record = c.args.records.now in let base : View = view c.args.worker.now in
     let old = c.split_lanes.new.lanes.items in let new = c.run_lanes.new.lanes in
     let many : length new ≡ length old = c.run_lanes.ensures.many ∙ ap length c.as_mut_slice.ensures.value in

@@ -1,5 +1,6 @@
 use Rattle.std.proofs.Common.{rules, ◌≡◌, ℕ, ◌∙◌, sym, subst}
 use Rattle.atomic_table.specs.Table.{Allows}
+use Rattle.counter_table.specs.declared.turns.TheConstants.{EPOCH}
 use Rattle.counter_table.specs.Rule.{IsKept}
 use Rattle.counter_table.specs.Play.{looks}
 use Rattle.counter_table.proofs.Holding.{look_allows}
@@ -13,6 +14,6 @@ load-requires g c =
     let seat = c.args.worker.now.seat in (
       search rules,
       search rules,
-      subst (λ (k : ℕ). Allows (IsKept g.B.Counted.told table.key) table.table_id.slots seat.id seat.me 1 (λ n. n) (looks k seat.me)) same
+      subst (λ (k : ℕ). Allows (IsKept g.B.Counted.told table.key) table.table_id.slots seat.id seat.me EPOCH (λ n. n) (looks k seat.me)) same
           (look_allows _ _ _ _ seat.me c.args.worker.now.alive),
     )

@@ -4,14 +4,14 @@ use Rattle.record_io.specs.Steps.{still_counted}
 use Rattle.record_io.proofs.Beginnings.{misses_cut}
 use Rattle.record_io.proofs.reader.Reader.begin.Goals as goal
 
-pub returns-in-Ok-2-clause-refused : goal.returns-in-Ok-2-clause-refused
-returns-in-Ok-2-clause-refused g c =
-    let within : c.in-Ok.field-0 ≤ length c.take.new.room = search rules in
-    let short : c.in-Ok.field-0 < 8 = omega (arith, c.in-Ok.field-0-test.1, c.in-Ok.ensures.within) in
+pub returns-then-count-lt8-clause-refused : goal.returns-then-count-lt8-clause-refused
+returns-then-count-lt8-clause-refused g c =
+    let within : c.in-Ok.count ≤ length c.take.new.room = search rules in
+    let short : c.in-Ok.count < 8 = omega (arith, c.if-count-lt8.true) in
     let start : c.args.self.now.taken ≡ 0 = omega (arith, c.if-self-gt0.false, ap (λ p. p.taken) c.self.view_is) in
-    let place : c.take.new.self.taken ≡ c.in-Ok.field-0 = omega (arith, start, ap (λ p. p.taken) c.in-Ok.ensures.counted) in (
+    let place : c.take.new.self.taken ≡ c.in-Ok.count = omega (arith, start, ap (λ p. p.taken) c.in-Ok.ensures.counted) in (
       refl,
-      misses_cut g.S.Source.told (take c.in-Ok.field-0 c.take.new.room) _ _ _ c.in-Ok.field-0 start
-          (length-take-le c.in-Ok.field-0 c.take.new.room within) short c.in-Ok.ensures.moved
+      misses_cut g.S.Source.told (take c.in-Ok.count c.take.new.room) _ _ _ c.in-Ok.count start
+          (length-take-le c.in-Ok.count c.take.new.room within) short c.in-Ok.ensures.moved
           (λ t. ap (λ n. still_counted n (g.S.Source.left c.take.new.source)) (sym place) ∙ c.in-Ok.ensures.ended t short),
     )

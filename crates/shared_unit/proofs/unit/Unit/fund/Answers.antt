@@ -69,7 +69,7 @@ returns-clause-step g c =
     let same : c.number-number.result ≡ c.args.ticket.1 = c.number-number.ensures ∙ ap (λ (p : ℕ × ℕ). p.1) f.0 in
     let row = c.args.permit.now.row in (
       same,
-      record { key = refl; epoch = refl; below = (let b = c.requires.ticket.1 in omega arith); frame = c.shield-length.ensures.protected },
+      record { key = refl; epoch = refl; below = (let b = c.requires.ticket.1 in omega arith); count = c.shield-length.ensures.count; frame = c.shield-length.ensures.protected },
       subst (λ (k : Numbers). Lifts row c.args.ticket.1 k (view c.give-2.new.worker).numbers) c.take-held.ensures.same.1
           (subst (λ (k : Numbers). Lifts row c.args.ticket.1 (view c.take-held.new.worker).numbers k) (sym c.give-2.ensures.same.1) f.2),
       (

@@ -7,12 +7,15 @@ use Rattle.law_workers.specs.Deeds.{Ascend}
 use Rattle.drill_frames.specs.Counting.{count_accepted, count_code, count_fields}
 use Rattle.drill_frames.specs.Frames.{open_tasks, replay_tasks}
 use Rattle.law_drill.specs.Drilled.{HandlesSegment}
-use Rattle.law_drill.proofs.Tasks.{OnLane, open_ascends, open_lanes, protect_ascends, protect_lanes, replay_lanes}
+use Rattle.law_drill.proofs.Tasks.{IsPlain, OnLane, open_ascends, open_lanes, open_plain, protect_ascends, protect_lanes, protect_plain, replay_lanes, replay_plain}
 use Rattle.unit_drill.proofs.chunk.Pair.serve_chunk.Goals as goal
 
 pub serve-requires-clause-lanes : goal.serve-requires-clause-lanes
 serve-requires-clause-lanes g c κs within =
     (0, subst (λ (l : List Record). All (OnLane 0) l) (sym (c.deref.ensures.value ∙ c.in_ok-tasks.ensures.items)) (protect_lanes _ _))
+
+pub serve-requires-clause-plain : goal.serve-requires-clause-plain
+serve-requires-clause-plain g c κs within = subst (All IsPlain) (sym (c.deref.ensures.value ∙ c.in_ok-tasks.ensures.items)) (protect_plain _ _)
 
 pub serve-requires-clause-ascend : goal.serve-requires-clause-ascend
 serve-requires-clause-ascend g c κs within = subst Ascend (sym (c.deref.ensures.value ∙ c.in_ok-tasks.ensures.items)) (protect_ascends _ _)
@@ -24,6 +27,9 @@ serve-requires-2-clause-lanes g c κs within = (
       (sym (c.deref-3.ensures.value ∙ c.in_ok-received.ensures.items)) (open_lanes c.args.chunk (256 * c.args.chunk) c.deref-2.result.now),
 )
 
+pub serve-requires-2-clause-plain : goal.serve-requires-2-clause-plain
+serve-requires-2-clause-plain g c κs within = subst (All IsPlain) (sym (c.deref-3.ensures.value ∙ c.in_ok-received.ensures.items)) (open_plain c.args.chunk (256 * c.args.chunk) c.deref-2.result.now)
+
 pub serve-requires-2-clause-ascend : goal.serve-requires-2-clause-ascend
 serve-requires-2-clause-ascend g c κs within =
     subst Ascend (sym (c.deref-3.ensures.value ∙ c.in_ok-received.ensures.items)) (open_ascends c.args.chunk (256 * c.args.chunk) c.deref-2.result.now)
@@ -34,6 +40,9 @@ serve-requires-3-clause-lanes g c κs within = (
   subst (λ (l : List Record). All (OnLane c.args.chunk) l)
       (sym (c.deref-5.ensures.value ∙ c.in_ok-again.ensures.items)) (replay_lanes c.args.chunk (256 * c.args.chunk) c.deref-4.result.now),
 )
+
+pub serve-requires-3-clause-plain : goal.serve-requires-3-clause-plain
+serve-requires-3-clause-plain g c κs within = subst (All IsPlain) (sym (c.deref-5.ensures.value ∙ c.in_ok-again.ensures.items)) (replay_plain c.args.chunk (256 * c.args.chunk) c.deref-4.result.now)
 
 pub returns-clause-chunk : goal.returns-clause-chunk
 returns-clause-chunk g c = λ one other began_one began_other.

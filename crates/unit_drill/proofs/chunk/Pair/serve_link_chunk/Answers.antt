@@ -7,13 +7,16 @@ use Rattle.law_workers.specs.Deeds.{Ascend}
 use Rattle.drill_frames.specs.Arriving.{arrived_frames, arrived_tasks, count_given, count_lost}
 use Rattle.drill_frames.specs.Counting.{count_code}
 use Rattle.law_drill.specs.Drilled.{HandlesSegment}
-use Rattle.law_drill.proofs.Tasks.{OnLane, protect_ascends, protect_lanes}
-use Rattle.law_link_drill.proofs.Records.{arrived_ascends, arrived_lanes}
+use Rattle.law_drill.proofs.Tasks.{IsPlain, OnLane, protect_ascends, protect_lanes, protect_plain}
+use Rattle.law_link_drill.proofs.Records.{arrived_ascends, arrived_lanes, arrived_plain}
 use Rattle.unit_drill.proofs.chunk.Pair.serve_link_chunk.Goals as goal
 
 pub serve-requires-clause-lanes : goal.serve-requires-clause-lanes
 serve-requires-clause-lanes g c κs within =
     (0, subst (λ (l : List Record). All (OnLane 0) l) (sym (c.deref.ensures.value ∙ c.in_ok-tasks.ensures.items)) (protect_lanes _ _))
+
+pub serve-requires-clause-plain : goal.serve-requires-clause-plain
+serve-requires-clause-plain g c κs within = subst (All IsPlain) (sym (c.deref.ensures.value ∙ c.in_ok-tasks.ensures.items)) (protect_plain _ _)
 
 pub serve-requires-clause-ascend : goal.serve-requires-clause-ascend
 serve-requires-clause-ascend g c κs within = subst Ascend (sym (c.deref.ensures.value ∙ c.in_ok-tasks.ensures.items)) (protect_ascends _ _)
@@ -21,6 +24,9 @@ serve-requires-clause-ascend g c κs within = subst Ascend (sym (c.deref.ensures
 pub serve-requires-2-clause-lanes : goal.serve-requires-2-clause-lanes
 serve-requires-2-clause-lanes g c κs within =
     (0, subst (λ (l : List Record). All (OnLane 0) l) (sym (c.deref-5.ensures.value ∙ c.in_ok-received.ensures.items)) (arrived_lanes _ _ _ _))
+
+pub serve-requires-2-clause-plain : goal.serve-requires-2-clause-plain
+serve-requires-2-clause-plain g c κs within = subst (All IsPlain) (sym (c.deref-5.ensures.value ∙ c.in_ok-received.ensures.items)) (arrived_plain _ _ _ _)
 
 pub serve-requires-2-clause-ascend : goal.serve-requires-2-clause-ascend
 serve-requires-2-clause-ascend g c κs within =

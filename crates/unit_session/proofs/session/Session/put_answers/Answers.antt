@@ -11,6 +11,7 @@ pub loop-answer-init : goal.loop-answer-init
 loop-answer-init g c = record {
   alone = c.requires.alone;
   same = refl;
+  logged = refl;
   so_far = so_far_none g.O.Site.told c.clear.new.self.items (view c.args.self.now.worker) c.clear.ensures.items;
 }
 
@@ -24,6 +25,7 @@ pub loop-answer-preserved : goal.loop-answer-preserved
 loop-answer-preserved g c = record {
   alone = c.in-Ok.ensures.alone;
   same = c.in-Ok.ensures.same ∙ c.loop-answer.invariant.same;
+  logged = c.in-Ok.ensures.logged ∙ c.loop-answer.invariant.logged;
   so_far = so_far_next g.O.Site.told c.args.answers.now c.loop-answer.answer-index c.answer-item.result c.loop-answer.self.piece.items c.take_answer.new.self.piece.items c.in-Ok.field-0
       (view c.args.self.now.worker) (view c.loop-answer.self.worker) (view c.take_answer.new.self.worker)
       (let low : c.loop-answer.answer-index < length c.args.answers.now = omega arith in low) c.answer-item.is c.loop-answer.invariant.so_far c.in-Ok.ensures.takes;

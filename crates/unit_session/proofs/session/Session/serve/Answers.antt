@@ -1,14 +1,25 @@
-use Rattle.std.proofs.Common.{List, sym, ◌∙◌, subst, Result}
+use Rattle.std.proofs.Common.{◌≤◌, List, length, sym, ◌∙◌, subst, Result}
+use Rattle.fsr_log.specs.Report.{Report}
 use Rattle.record_io.specs.declared.answers.Answer.{Answer}
 use Rattle.record_io.specs.Answers.{answers_octets}
 use Rattle.counter_table.specs.declared.view.View.{View}
 use Rattle.counter_table.specs.Worker.{view}
 use Rattle.unit_book.specs.declared.fault.BookFault.{BookFault}
 use Rattle.unit_session.specs.Putting.{PutsOctets}
+use Rattle.unit_session.specs.Reporting.{NotesAll}
 use Rattle.unit_session.specs.Serving.{ServesSegment}
 use Rattle.unit_session.specs.declared.serving.Stop.{Stop}
-use Rattle.unit_session.proofs.Served.{same_opening, serves}
+use Rattle.unit_session.proofs.Noting.{plain_at, plain_reported}
+use Rattle.unit_session.proofs.Served.{began_with, begin_with, few_answers, same_opening, serves}
 use Rattle.unit_session.proofs.session.Session.serve.Goals as goal
+
+pub note_all-requires : goal.note_all-requires
+note_all-requires g c =
+    let told = g.O.Site.told in
+    let v : View = view c.args.self.now.worker in
+    let few = few_answers (begin_with told v.turn.known.opening) v (view c.run_segment.new.worker) c.args.records.now c.in-Ok.segment.answers.items c.in-Ok.segment.full
+    (c.in-Ok.ensures.full (begin_with told v.turn.known.opening) (began_with told v.turn.known.opening)) in
+    record { few = subst (λ (l : List Answer). length l ≤ length c.args.records.now) (sym c.deref.ensures.value) few }
 
 pub put_answers-put-requires : goal.put_answers-put-requires
 put_answers-put-requires g c = record {
@@ -27,8 +38,15 @@ returns-clause-opening g c =
     let w : View = view c.put_answers-put.new.self.worker in
     let answers : List Answer = c.in-Ok.segment.answers.items in
     let result : Result (Unit {0}) BookFault = c.put_answers-put.result in
+    let old : Report = c.args.self.now.log in
+    let new : Report = c.put_answers-put.new.self.log in
     same_opening told v mid w c.args.records.now c.requires.ascend answers result c.in-Ok.ensures.handled c.in-Ok.ensures.alone c.in-Ok.ensures.moved
-    (subst (λ (l : List Answer). PutsOctets told (answers_octets l) result mid w) c.deref.ensures.value c.put_answers-put.ensures.puts)
+    (subst (λ (l : List Answer). PutsOctets told (answers_octets l) result mid w) c.deref-2.ensures.value c.put_answers-put.ensures.puts)
+    old new
+    (subst (NotesAll c.args.records.now answers old) (sym c.put_answers-put.ensures.logged)
+    (subst (λ (l : List Answer). NotesAll c.args.records.now l old c.note_all.new.log) c.deref.ensures.value c.note_all.ensures))
+    (λ notes number is. plain_reported notes number c.args.records.now answers c.requires.plain)
+    (plain_at c.args.records.now c.requires.plain (length answers))
 
 pub returns-clause-serves : goal.returns-clause-serves
 returns-clause-serves g c = λ begin began.
@@ -38,8 +56,15 @@ returns-clause-serves g c = λ begin began.
     let w : View = view c.put_answers-put.new.self.worker in
     let answers : List Answer = c.in-Ok.segment.answers.items in
     let result : Result (Unit {0}) BookFault = c.put_answers-put.result in
-    subst (λ (r : Result (Unit {0}) Stop). ServesSegment begin c.args.records.now r v w) (sym c.stop_after.ensures)
+    let old : Report = c.args.self.now.log in
+    let new : Report = c.put_answers-put.new.self.log in
+    subst (λ (r : Result (Unit {0}) Stop). ServesSegment begin c.args.records.now r v w old new) (sym c.stop_after.ensures)
     (serves told v mid w c.args.records.now c.requires.ascend answers result c.in-Ok.ensures.handled c.in-Ok.ensures.alone c.in-Ok.ensures.moved
-    (subst (λ (l : List Answer). PutsOctets told (answers_octets l) result mid w) c.deref.ensures.value c.put_answers-put.ensures.puts)
+    (subst (λ (l : List Answer). PutsOctets told (answers_octets l) result mid w) c.deref-2.ensures.value c.put_answers-put.ensures.puts)
+    old new
+    (subst (NotesAll c.args.records.now answers old) (sym c.put_answers-put.ensures.logged)
+    (subst (λ (l : List Answer). NotesAll c.args.records.now l old c.note_all.new.log) c.deref.ensures.value c.note_all.ensures))
+    (λ notes number is. plain_reported notes number c.args.records.now answers c.requires.plain)
+    (plain_at c.args.records.now c.requires.plain (length answers))
     begin began c.requires.alone.whole (c.in-Ok.ensures.whole c.requires.alone.shares) c.put_answers-put.ensures.alone.whole
     c.in-Ok.segment.full (c.in-Ok.ensures.full begin began))

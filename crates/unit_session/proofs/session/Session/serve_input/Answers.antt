@@ -14,8 +14,10 @@ segments-init g c =
     record {
       alone = c.requires.alone;
       opening = refl;
-      way = λ begin began. subst (λ (standing : Standing). Goes start start standing begin first first) (sym c.new-reader.ensures)
-          (begins_way start begin first first.turn.known.put_faults first.turn.known.standing c.requires.no_log c.requires.none_made);
+      way = λ begin began. subst (λ (standing : Standing). Goes start start standing begin first first c.args.self.now.log) (sym c.new-reader.ensures) (record {
+        way = begins_way start begin first first.turn.known.put_faults first.turn.known.standing c.requires.no_log c.requires.none_made;
+        reports = c.requires.none_noted;
+      });
     }
 
 pub serve_next-requires-clause-reading : goal.serve_next-requires-clause-reading
@@ -23,9 +25,9 @@ serve_next-requires-clause-reading g c = λ lifetimes bounds.
     let opening = (view c.args.self.now.worker).turn.known.opening in
     let way = c.segments.invariant.way (begin_with g.O.Site.told opening) (began_with g.O.Site.told opening) in (
       record { told = g.S.Source.told; left = g.S.Source.left c.args.source.now; faults = g.S.Source.faults c.args.source.now },
-      way.items,
-      way.read,
-      way.reading,
+      way.way.items,
+      way.way.read,
+      way.way.reading,
     )
 
 pub segments-preserved : goal.segments-preserved
@@ -43,8 +45,8 @@ pub segments-smaller : goal.segments-smaller
 segments-smaller g c =
     let opening = (view c.args.self.now.worker).turn.known.opening in
     let way = c.segments.invariant.way (begin_with g.O.Site.told opening) (began_with g.O.Site.told opening) in
-    let few = way.reading.few in
-    let taken = way.reading.taken_is in
+    let few = way.way.reading.few in
+    let taken = way.way.reading.taken_is in
     let forth = c.in-None.ensures.forth in
     omega arith
 

@@ -13,7 +13,7 @@ invariant-segments g l = record {
   way : (begin : Begin) → BeganWith g.O.Site.told begin (view l.fn.self.worker).turn.known.opening
       → Goes (record { told = g.S.Source.told; left = g.S.Source.left l.fn.source; faults = g.S.Source.faults l.fn.source })
       (record { told = g.S.Source.told; left = g.S.Source.left l.source; faults = g.S.Source.faults l.source })
-      l.reader begin (view l.fn.self.worker) (view l.self.worker);
+      l.reader begin (view l.fn.self.worker) (view l.self.worker) l.self.log;
 }
 
 abbrev pub decreases-segments : goal.decreases-segments

@@ -1,0 +1,10 @@
+use Rattle.std.proofs.Common.{◌≡◌, ◌-◌, ◌*◌, ◌++◌, length}
+use Rattle.answer_text.specs.declared.monitor.TheConstants.{EVENT}
+use Rattle.answer_text.specs.Part.{events_words}
+use Rattle.answer_text.proofs.monitor.put_events.Given as goal
+
+-- the events put, and those that are left, are all events
+abbrev pub invariant-loop : goal.invariant-loop
+invariant-loop l =
+    (l.text.items ++ events_words (l.count - l.counter) l.rest ≡ l.initial.text.items ++ events_words l.count l.carried)
+    × (length l.rest ≡ EVENT * (l.count - l.counter))
