@@ -1,3 +1,6 @@
 pub mod Leading
 pub mod Shown
 pub mod Turned
+pub mod Restarted
+pub mod ContentAfter
+pub mod Stored

@@ -1,8 +1,7 @@
 -- An image shows one state, or is refused with one offset: for `shows_one` and `refused_with_one`.
-use Rattle.std.proofs.Common.{◌≡◌, ℕ, List, Option, Some, None, Result, Ok, Err, sym, ◌∙◌, ap, subst, inl, inr}
+use Rattle.std.proofs.Common.{◌≡◌, ℕ, List, Result, Ok, Err, sym, ◌∙◌, ap, subst, inl, inr}
 use Rattle.std.proofs.lemmas.Option.{none-some, same_Some}
 use Rattle.unit_plan.specs.PlanLines.{PlanLines}
-use Rattle.unit_plan.specs.Plan.{plan_of}
 use Rattle.unit_plan.specs.declared.plan_error.PlanFault.{PlanFault}
 use Rattle.unit_state.specs.declared.state.State.{State}
 use Rattle.unit_state.specs.Restart.{restarted}

@@ -1,5 +1,5 @@
 -- A record more, or a turn: for `says_grown` and `says_turned`.
-use Rattle.std.proofs.Common.{◌≡◌, ℕ, List, [], ◌∷◌, refl, sym, ◌∙◌, ap, subst}
+use Rattle.std.proofs.Common.{◌≡◌, ℕ, List, [], ◌∷◌, refl, sym, ◌∙◌, ap}
 use Rattle.sdls_base.specs.declared.change.Change.{Change}
 use Rattle.book_record.specs.Record.{IsRecord}
 use Rattle.unit_state.specs.declared.state.State.{State}

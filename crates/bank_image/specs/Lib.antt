@@ -1,2 +1,3 @@
 pub mod Shows
 pub mod OpeningImage
+pub mod Storing

@@ -1,0 +1,104 @@
+-- What the store of a change does to the image: for `store_storable`, `store_change` and `store`.
+use Rattle.std.proofs.Common.{◌≡◌, ℕ, List, None, Some, refl, sym, subst, inl, Result, Ok, Err, OnOk}
+use Rattle.sdls_base.specs.declared.change.Change.{Change}
+use Rattle.sdls_outside.specs.Disk.{Leaves}
+use Rattle.sdls_outside.specs.Moments.{Trace}
+use Rattle.sdls_outside.proofs.Moments.{each_same, synced_leaves}
+use Rattle.disk_journal.specs.Changes.{EachImage}
+use Rattle.book_record.specs.Record.{IsRecord}
+use Rattle.unit_state.specs.declared.state.State.{State}
+use Rattle.unit_state.specs.Applied.{applied}
+use Rattle.unit_state.specs.Allows.{Allows}
+use Rattle.unit_state.specs.Restart.{IsStorable, restarted, stored_as}
+use Rattle.unit_state.specs.State.{KeepsRules}
+use Rattle.unit_state.proofs.Alike.{stores_well, unstored_alike}
+use Rattle.unit_state.proofs.StateLaws.{restarted_twice}
+use Rattle.image_content.specs.Content.{content_of}
+use Rattle.image_content.specs.Reading.{IsContent}
+use Rattle.bank_journal.specs.Image.{held, grown, turned}
+use Rattle.bank_journal.specs.Forms.{Becomes}
+use Rattle.bank_journal.specs.Journal.{IsSettled, JournalView}
+use Rattle.bank_journal.specs.Rest.{IsRest}
+use Rattle.bank_journal.proofs.Turns.{rest_becomes}
+use Rattle.bank_image.specs.Shows.{Says}
+use Rattle.bank_image.specs.Storing.{Stores, LeavesRest}
+use Rattle.bank_image.proofs.Turned.{says_grown, says_turned}
+
+-- nothing was written: an image at rest stays so
+resting : (now : Trace) (journal : JournalView) → IsSettled now journal
+    → EachImage now now (Becomes (held now.now.image) (held now.now.image))
+resting now journal settled = record {
+  moments = each_same now (λ image sunk. Becomes (held now.now.image) (held now.now.image) image × (sunk ≡ now.now.sunk))
+      (λ image leaves.
+      (subst (Becomes (held now.now.image) (held now.now.image)) (sym (synced_leaves now.now image settled.synced leaves)) here, refl));
+  sunk = refl;
+}
+  where
+    here : Becomes (held now.now.image) (held now.now.image) now.now.image
+    here = rest_becomes (held now.now.image) (held now.now.image) now.now.image
+        (inl (record { opens = settled.of_image.of_image.opens; is = refl })) settled.of_image.rests
+
+on_ok : {T E P : Type 0} (result : Result T E) → P → OnOk result P
+on_ok (Ok value) p = p
+on_ok (Err error) p = tt
+
+-- nothing is stored for the change
+pub stores_none : {T E : Type 0} (state : State) (change : Change) (result : Result T E) (journal : JournalView) (now : Trace)
+    → KeepsRules state → Allows state change → stored_as state change ≡ None → IsSettled now journal
+    → Stores state change result journal now now
+stores_none state change result journal now rules allowed none settled = record {
+  next = held now.now.image;
+  says = λ says. subst (Says (held now.now.image)) (sym (unstored_alike state change rules allowed none)) says;
+  moments = resting now journal settled;
+  done = on_ok result (settled, refl);
+}
+
+-- another change was stored for it
+pub stores_as : {T E : Type 0} (state : State) (change stored : Change) (result : Result T E) (journal : JournalView) (old new : Trace)
+    → KeepsRules state → Allows state change → stored_as state change ≡ Some stored → Stores state stored result journal old new
+    → Stores state change result journal old new
+stores_as state change stored result journal old new rules allowed is stores = record {
+  next = stores.next;
+  says = λ says. subst (Says stores.next) (sym (stores_well state change stored rules allowed is).alike) (stores.says says);
+  moments = stores.moments;
+  done = stores.done;
+}
+
+-- a record was appended, or its append failed
+pub stores_record : {T E : Type 0} (state : State) (change : Change) (body : List ℕ) (result : Result T E) (journal : JournalView) (old new : Trace)
+    → IsStorable change → Allows state change → IsRecord change body
+    → EachImage old new (Becomes (held old.now.image) (grown body (held old.now.image)))
+    → OnOk result (IsSettled new journal × (held new.now.image ≡ grown body (held old.now.image)))
+    → Stores state change result journal old new
+stores_record state change body result journal old new storable allowed is_record becomes done = record {
+  next = grown body (held old.now.image);
+  says = λ says. says_grown (held old.now.image) state change change body says
+      (record { storable = storable; allowed = allowed; alike = refl }) is_record;
+  moments = becomes;
+  done = done;
+}
+
+-- the content of the state after the change was written by a turn, or the turn failed
+pub stores_turn : {T E : Type 0} (state : State) (change : Change) (content : List ℕ) (result : Result T E) (journal : JournalView) (old new : Trace)
+    → IsContent (restarted (applied state change)) content
+    → EachImage old new (Becomes (held old.now.image) (turned content (held old.now.image)))
+    → OnOk result (IsSettled new journal × (held new.now.image ≡ turned content (held old.now.image)))
+    → Stores state change result journal old new
+stores_turn state change content result journal old new is becomes done = record {
+  next = turned content (held old.now.image);
+  says = λ says. says_turned restarted_twice (held old.now.image) state change content says is;
+  moments = becomes;
+  done = done;
+}
+
+pub both : {T E : Type 0} (P Q : Type 0) (result : Result T E) → OnOk result P → OnOk result Q → OnOk result (P × Q)
+both P Q (Ok value) p q = (p, q)
+both P Q (Err error) p q = tt
+
+-- each image that a crash leaves has the content that was turned in
+pub turned_rest : {T E : Type 0} (Destroyed : Type 0) (state : State) (content : List ℕ) (result : Result T E) (journal : JournalView) (new : Trace)
+    → content ≡ content_of state
+    → OnOk result ((image : List ℕ) → Leaves new.now image → IsRest image journal.bank journal.generation content)
+    → OnOk result (Destroyed → LeavesRest new journal state)
+turned_rest Destroyed state content (Ok value) journal new is rest = λ _ image leaves. subst (IsRest image journal.bank journal.generation) is (rest image leaves)
+turned_rest Destroyed state content (Err error) journal new is rest = tt

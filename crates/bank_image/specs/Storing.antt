@@ -1,0 +1,50 @@
+-- How a change of the state is stored in an image of two banks (profile).
+use Rattle.std.specs.Prelude.{◌≡◌, ℕ, List, Result, OnOk}
+use Rattle.sdls_base.specs.declared.change.Change.{Change}
+use Rattle.sdls_base.specs.declared.change.Change.TheVariants.{Marks, Load, KeyStates, Create, Rekey, SaTo, SetNumber}
+use Rattle.sdls_base.specs.declared.change.Change.TheVariants.{SetWindow, Accepted, Nothing}
+use Rattle.sdls_base.specs.declared.states.KeyState.TheVariants.{Destroyed}
+use Rattle.sdls_outside.specs.Disk.{Leaves}
+use Rattle.sdls_outside.specs.Moments.{Trace}
+use Rattle.disk_journal.specs.Changes.{EachImage}
+use Rattle.unit_state.specs.declared.state.State.{State}
+use Rattle.unit_state.specs.Applied.{applied}
+use Rattle.unit_state.specs.Restart.{restarted}
+use Rattle.image_content.specs.Content.{content_of}
+use Rattle.bank_journal.specs.Image.{Held, held}
+use Rattle.bank_journal.specs.Forms.{Becomes}
+use Rattle.bank_journal.specs.Journal.{IsSettled, JournalView}
+use Rattle.bank_journal.specs.Rest.{IsRest}
+use Rattle.bank_image.specs.Shows.{Says}
+
+-- the change takes away the octets of keys
+abbrev pub Destroys : Change → Type 0
+Destroys (Marks key mark floor) = ⊥
+Destroys (Load items) = ⊥
+Destroys (KeyStates ids to) = to ≡ Destroyed
+Destroys (Create new) = ⊥
+Destroys (Rekey spi key number) = ⊥
+Destroys (SaTo spi to) = ⊥
+Destroys (SetNumber spi number) = ⊥
+Destroys (SetWindow spi window) = ⊥
+Destroys (Accepted spi key number floor) = ⊥
+Destroys Nothing = ⊥
+
+-- What was held said the state; what is held next says it after the change. Each moment is on the way from the one to
+-- the other, and after Ok the next is held, at rest.
+pub record Stores {T E : Type 0} (state : State) (change : Change) (result : Result T E) (journal : JournalView)
+    (old new : Trace) : Type 0 where
+  pub next : Held
+  pub says : Says (held old.now.image) (restarted state) → Says next (restarted (applied state change))
+  pub moments : EachImage old new (Becomes (held old.now.image) next)
+  pub done : OnOk result (IsSettled new journal × (held new.now.image ≡ next))
+
+-- In whatever a crash leaves, each octet of both banks is stated: they hold this state, with no records.
+abbrev pub LeavesRest : Trace → JournalView → State → Type 0
+LeavesRest new journal state =
+    (image : List ℕ) → Leaves new.now image → IsRest image journal.bank journal.generation (content_of state)
+
+-- the journal has its places in the image: as many octets of a plan, and the banks where they were
+pub record KeepsPlaces (old new : JournalView) : Type 0 where
+  pub plan_length : new.plan_length ≡ old.plan_length
+  pub layout : new.layout ≡ old.layout
