@@ -48,6 +48,8 @@ pub stores_none : {T E : Type 0} (state : State) (change : Change) (result : Res
     → Stores state change result journal now now
 stores_none state change result journal now rules allowed none settled = record {
   next = held now.now.image;
+  same_plan = refl;
+  same_slots = refl;
   says = λ says. subst (Says (held now.now.image)) (sym (unstored_alike state change rules allowed none)) says;
   moments = resting now journal settled;
   done = on_ok result (settled, refl);
@@ -59,6 +61,8 @@ pub stores_as : {T E : Type 0} (state : State) (change stored : Change) (result 
     → Stores state change result journal old new
 stores_as state change stored result journal old new rules allowed is stores = record {
   next = stores.next;
+  same_plan = stores.same_plan;
+  same_slots = stores.same_slots;
   says = λ says. subst (Says stores.next) (sym (stores_well state change stored rules allowed is).alike) (stores.says says);
   moments = stores.moments;
   done = stores.done;
@@ -72,6 +76,8 @@ pub stores_record : {T E : Type 0} (state : State) (change : Change) (body : Lis
     → Stores state change result journal old new
 stores_record state change body result journal old new storable allowed is_record becomes done = record {
   next = grown body (held old.now.image);
+  same_plan = refl;
+  same_slots = refl;
   says = λ says. says_grown (held old.now.image) state change change body says
       (record { storable = storable; allowed = allowed; alike = refl }) is_record;
   moments = becomes;
@@ -86,6 +92,8 @@ pub stores_turn : {T E : Type 0} (state : State) (change : Change) (content : Li
     → Stores state change result journal old new
 stores_turn state change content result journal old new is becomes done = record {
   next = turned content (held old.now.image);
+  same_plan = refl;
+  same_slots = refl;
   says = λ says. says_turned restarted_twice (held old.now.image) state change content says is;
   moments = becomes;
   done = done;

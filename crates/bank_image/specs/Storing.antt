@@ -30,11 +30,13 @@ Destroys (SetWindow spi window) = ⊥
 Destroys (Accepted spi key number floor) = ⊥
 Destroys Nothing = ⊥
 
--- What was held said the state; what is held next says it after the change. Each moment is on the way from the one to
--- the other, and after Ok the next is held, at rest.
+-- What was held said the state; what is held next says it after the change, under the same plan. Each moment is on the
+-- way from the one to the other, and after Ok the next is held, at rest.
 pub record Stores {T E : Type 0} (state : State) (change : Change) (result : Result T E) (journal : JournalView)
     (old new : Trace) : Type 0 where
   pub next : Held
+  pub same_plan : next.plan ≡ (held old.now.image).plan
+  pub same_slots : next.slots ≡ (held old.now.image).slots
   pub says : Says (held old.now.image) (restarted state) → Says next (restarted (applied state change))
   pub moments : EachImage old new (Becomes (held old.now.image) next)
   pub done : OnOk result (IsSettled new journal × (held new.now.image ≡ next))

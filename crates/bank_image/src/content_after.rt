@@ -56,6 +56,16 @@ fn write_marks(state: &State, key: KeyId, mark: u64, floor: u64, content: &mut [
     );
 }
 
+/// Writes the content of a state.
+fn write_whole(state: &State, content: &mut [u8])
+    requires { length content.old ≡ CONTENT_LENGTH }
+    ensures written { content.new ≡ content_of state.now }
+    ensures rows { HasRows state.now }
+{
+    see_rows(state);
+    write_content(state, content);
+}
+
 /// Writes the content of the state after a change of marks.
 fn write_marked(state: &State, change: &Change, content: &mut [u8])
     requires sized { length content.old ≡ CONTENT_LENGTH }
@@ -69,23 +79,12 @@ fn write_marked(state: &State, change: &Change, content: &mut [u8])
     let Change::Marks { key, mark, floor } = change else {
         unreachable!()
     };
-    see_rows(state);
-    write_content(state, content);
+    write_whole(state, content);
     write_marks(state, *key, *mark, *floor, content);
 }
 
-/// Writes the content of a state.
-fn write_whole(state: &State, content: &mut [u8])
-    requires { length content.old ≡ CONTENT_LENGTH }
-    ensures written { content.new ≡ content_of state.now }
-    ensures rows { HasRows state.now }
-{
-    see_rows(state);
-    write_content(state, content);
-}
-
 /// Writes the content of the state after a change of which there are records. `next` is that state; for a change of
-/// marks it may be wanting. Takes no memory.
+/// marks it may be `None`. Takes no memory.
 pub(crate) fn write_after(state: &State, change: &Change, next: Option<&State>, content: &mut [u8])
     requires sized { length content.old ≡ CONTENT_LENGTH }
     requires rules { KeepsRules state.now }

@@ -1,5 +1,5 @@
 // The store of a change.
-ghost use Rattle.std.specs.Prelude.{◌≡◌, ◌↔◌, ◌≤◌, IsTrue, is_some, length, IfErr, OnErr, OnOk, MatchOption};
+ghost use Rattle.std.specs.Prelude.{◌≡◌, ◌↔◌, ◌≤◌, IsTrue, is_some, length, IfErr, OnErr, OnOk, MatchOption, None};
 ghost use Rattle.std.specs.Option.{option_and_then};
 ghost use Rattle.sdls_outside.specs.Faults.{Rose};
 ghost use Rattle.unit_state.specs.State.{KeepsRules, key_row};
@@ -107,6 +107,7 @@ fn store_change<O: Site>(
         (KeepsBeside journal.old.layout (O.trace site.old).now.image (O.trace site.new).now.image) }
     ensures places { KeepsPlaces journal.old journal.new }
     ensures not_counted { OnErr result (journal.new ≡ journal.old) }
+    ensures idle { stored_as state.now change.now ≡ None → (site.new ≡ site.old) × (journal.new ≡ journal.old) }
     ensures needed { OnErr result (IsTrue (is_some (stored_as state.now change.now))) }
     ensures fault { HasSiteFault (O.faults site.old) (O.faults site.new) result }
     ensures puts { O.put_faults site.new ≡ O.put_faults site.old }
@@ -127,7 +128,7 @@ fn store_change<O: Site>(
 }
 
 /// Stores a change that the state allows, if anything is stored for it. `next` is the state after the change; for a
-/// change that moves numbers alone it may be wanting. After `Ok` each crash leaves an image that shows what a restart
+/// change that moves numbers alone it may be `None`. After `Ok` each crash leaves an image that shows what a restart
 /// leaves of the state after the change. After a fault the image may hold the change or not, and has to be opened
 /// again. Takes no memory; `room` holds any octets afterwards.
 pub fn store<O: Site>(
@@ -157,7 +158,10 @@ pub fn store<O: Site>(
     ensures places { KeepsPlaces journal.old journal.new }
     ensures not_counted { OnErr result (journal.new ≡ journal.old) }
 
-    // Only a fault of the site is answered, and only where something is stored.
+    // If nothing is stored for the change, nothing is done.
+    ensures idle { stored_as state.now change.now ≡ None → (site.new ≡ site.old) × (journal.new ≡ journal.old) }
+
+    // Only a fault of the site is answered, and only if something is stored.
     ensures needed { OnErr result (IsTrue (is_some (stored_as state.now change.now))) }
     ensures cause { IfErr result (λ fault. Rose (O.faults site.old) (O.faults site.new)
         × (fault.0 ≡ O.faults site.new)) }
