@@ -1,4 +1,4 @@
--- The content of the state after a change: for `write_marks` and `write_after`.
+-- The content of the state after a change: for `write_marks` and `write_after`. Rows of keys: for `see_keys`.
 use Rattle.std.proofs.Common.{◌≡◌, ℕ, suc, ◌+◌, ◌*◌, ◌^◌, ◌<◌, ◌≤◌, Bool, true, false, cond, min, nat_eq, List, [], ◌∷◌, ◌++◌, length, get_or, take, drop, Some, refl, sym, ◌∙◌, ap, subst, inl, inr, arith, length-take-le}
 use Rattle.std.proofs.lemmas.List.{length-map, set_split, take-append-drop}
 use Rattle.std.proofs.lemmas.List.Quantifiers.{position-Some}

@@ -38,8 +38,8 @@ pub fn says_grown()
         → Says (grown body what) (restarted (applied state change)) }
 {}
 
-/// Law: what is held says a state; with the content of the state after a change in place of content and records, it says
-/// that state.
+/// Law: what is held says a state; with the content of the state after a change in place of content and records, it
+/// says that state.
 pub fn says_turned()
     ensures { (what : Held) (state : State) (change : Change) (content : List ℕ) → Says what (restarted state)
         → IsContent (restarted (applied state change)) content

@@ -35,7 +35,7 @@ fn destroys(change: &Change) -> bool
     }
 }
 
-/// The change that is stored for an acceptance, where it raises the floor of the key.
+/// The change that is stored for an acceptance, if it raises the floor of the key.
 fn acceptance(state: &State, key: KeyId, floor: u64) -> Option<Change>
     ensures { result ≡ option_and_then (acceptance_stored key floor) (key_row state.now key) }
 {
@@ -50,8 +50,8 @@ fn acceptance(state: &State, key: KeyId, floor: u64) -> Option<Change>
     })
 }
 
-/// Stores a change of which there are records: by a turn where the octets of keys have to be gone, or where no slot is
-/// free, and else by a record.
+/// Stores a change of which there are records: by a turn if the octets of keys have to be gone or no slot is free, and
+/// else by a record.
 fn store_storable<O: Site>(
     journal: &mut Journal,
     site: &mut O,

@@ -1,5 +1,5 @@
-// That the rows of a state are values of their types, which the content of a state has to say of each. What is read here
-// is read for the proof alone: nothing is done with it.
+// That the rows of a state are values of their types, which a content has to say of each. What is read here is read for
+// the proof alone: nothing is done with it.
 ghost use Rattle.std.specs.Prelude.{◌≡◌, ◌<◌, ◌^◌, length, All, IfSome};
 ghost use Rattle.key_book.specs.KeyRow as key_rows;
 ghost use Rattle.sa_book.specs.SaRow as association_rows;
