@@ -1,0 +1,52 @@
+-- What an opening that is cut off leaves: for `opening_keeps_forms`. Lemmas on what images hold, passed on for what lies
+-- above.
+use Rattle.std.proofs.Common.{◌≡◌, ℕ, List, None, refl, sym, subst, inl, inr}
+use Rattle.disk_journal.proofs.Gating.{AreRecords, records_are}
+use Rattle.bank_journal.specs.Banks.{gate_at, body_at}
+use Rattle.bank_journal.specs.Image.{held, records, image_layout, current_at, slot_count}
+use Rattle.bank_journal.specs.Fault.{image_fault}
+use Rattle.bank_journal.specs.Forms.{Holds, HasOneClosed, Becomes, Settles, StaysWithin}
+use Rattle.bank_journal.proofs.Again.{stays_within}
+use Rattle.law_bank_image.specs.Keeping.{HoldsSame, KeepsForms}
+pub use Rattle.disk_journal.proofs.Moments.{only_syncs_moments}
+pub use Rattle.bank_journal.specs.Initial.{BeginsAtRest as Begins}
+pub use Rattle.bank_journal.proofs.InitialImage.{begins}
+
+-- the records by place
+pub records_of : (image : List ℕ)
+    → AreRecords (gate_at (image_layout image) image (current_at image)) (body_at (image_layout image) image (current_at image))
+    (slot_count image) (records image)
+unfolding records
+records_of image =
+    records_are (gate_at (image_layout image) image (current_at image)) (body_at (image_layout image) image (current_at image))
+    (slot_count image)
+
+-- what holds the old or the new holds it, if both are one
+pub holds_same : (image left : List ℕ) → Becomes (held image) (held image) left → HoldsSame image left
+holds_same image left becomes = record {
+  holds = elim becomes.holds [ inl old ↦ old | inr new ↦ new ];
+  forms = becomes.forms;
+  settled = becomes.settled;
+}
+
+regated_keeps : (image left : List ℕ) → image_fault image ≡ None → StaysWithin image left → KeepsForms image left
+regated_keeps image left opens stays = record {
+  holds = stays.holds;
+  forms = λ form opened. elim (stays.forms form opened) [
+    | inl is ↦ inl (subst (λ (i : List ℕ). Holds i (held image)) (sym is) (record { opens = opens; is = refl }))
+    | inr of_image ↦ inr of_image
+  ];
+  settled = stays.settled;
+}
+
+same_keeps : (image left : List ℕ) → HoldsSame image left → KeepsForms image left
+same_keeps image left same = record {
+  holds = inl same.holds;
+  forms = λ form opened. inl (same.forms form opened);
+  settled = same.settled;
+}
+
+-- an opening that is cut off
+pub stays_opened : (image left : List ℕ) → image_fault image ≡ None → HasOneClosed image → Settles image left → KeepsForms image left
+stays_opened image left opens one (inl regates) = regated_keeps image left opens (stays_within image left opens one regates)
+stays_opened image left opens one (inr becomes) = same_keeps image left (holds_same image left becomes)

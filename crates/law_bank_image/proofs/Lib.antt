@@ -1,0 +1,7 @@
+pub mod Images
+mod SaidIds
+mod PlanIds
+pub mod StateIds
+pub mod Contents
+pub mod Beginning
+pub mod Ruled

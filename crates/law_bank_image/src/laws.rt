@@ -1,0 +1,59 @@
+//! The laws.
+ghost use Rattle.std.specs.Prelude.{◌≡◌, ℕ, List, [], Ok, None};
+ghost use Rattle.unit_plan.specs.Plan.{plan_of};
+ghost use Rattle.unit_plan.specs.PlanLines.{PlanLines};
+ghost use Rattle.unit_plan.specs.PlanRules.{IsPlan};
+ghost use Rattle.unit_state.specs.declared.state.State.{State};
+ghost use Rattle.unit_state.specs.Restart.{restarted};
+ghost use Rattle.unit_state.specs.State.{KeepsRules};
+ghost use Rattle.unit_image.specs.Shows.{SaysPlan};
+ghost use Rattle.image_content.specs.Content.{content_of};
+ghost use Rattle.image_content.specs.Reading.{IsContent};
+ghost use Rattle.bank_journal.specs.Image.{IsAtRest, held, records};
+ghost use Rattle.bank_journal.specs.Fault.{image_fault};
+ghost use Rattle.bank_journal.specs.Forms.{HasOneClosed, Becomes, Regates, Settles, StaysWithin};
+ghost use Rattle.bank_image.specs.Shows.{Shows};
+ghost use Rattle.image_beginning.specs.Beginning.{beginning_image};
+ghost use Rattle.law_bank_image.specs.Keeping.{HoldsSame, KeepsForms};
+
+use bank_journal::opening_stays;
+use image_content::restart_leaves_content;
+use plan_bare::{bare_plan_is_short, bare_plan_reads};
+
+/// Law: the image that a plan begins with shows what a restart leaves of the state that its lines make, with no records;
+/// no closed gate of it is other than 0.
+pub fn beginning_shows()
+    ensures shows { (text : List ℕ) (plan : PlanLines) (first : State) → SaysPlan text plan first
+        → Shows (beginning_image text plan first) (restarted first) }
+    ensures content { (text : List ℕ) (plan : PlanLines) (first : State) → SaysPlan text plan first
+        → IsContent (restarted first) (content_of first) }
+    ensures rests { (text : List ℕ) (plan : PlanLines) (first : State) → SaysPlan text plan first
+        → IsAtRest (beginning_image text plan first) }
+    ensures none { (text : List ℕ) (plan : PlanLines) (first : State) → SaysPlan text plan first
+        → records (beginning_image text plan first) ≡ [] }
+{
+    bare_plan_is_short();
+    bare_plan_reads();
+    restart_leaves_content();
+}
+
+/// Law: what an opening that a crash cuts off leaves of an image that opens, with at most one closed gate that is not 0.
+/// With other octets in its closed gates it stays within the image; rewritten it holds the same, as its opened forms do;
+/// so whichever it is, it keeps the forms of the image.
+pub fn opening_keeps_forms()
+    ensures regated { (image left : List ℕ) → image_fault image ≡ None → HasOneClosed image → Regates image left
+        → StaysWithin image left }
+    ensures rewritten { (image left : List ℕ) → Becomes (held image) (held image) left → HoldsSame image left }
+    ensures keeps { (image left : List ℕ) → image_fault image ≡ None → HasOneClosed image → Settles image left
+        → KeepsForms image left }
+{
+    opening_stays();
+}
+
+/// Law: the plan that a text says keeps the rules of plans, and the state that an image shows those of states; a restart
+/// leaves that state.
+pub fn shown_keeps_rules()
+    ensures plan { (text : List ℕ) (plan : PlanLines) → plan_of text ≡ Ok plan → IsPlan plan }
+    ensures state { (image : List ℕ) (state : State) → Shows image state → KeepsRules state }
+    ensures left { (image : List ℕ) (state : State) → Shows image state → restarted state ≡ state }
+{}
