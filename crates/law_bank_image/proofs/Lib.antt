@@ -5,3 +5,8 @@ pub mod StateIds
 pub mod Contents
 pub mod Beginning
 pub mod Ruled
+mod DecidingLists
+mod DecidingRules
+mod ContentRead
+mod DecidingContent
+mod Showing

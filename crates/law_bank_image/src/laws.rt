@@ -1,5 +1,5 @@
 //! The laws.
-ghost use Rattle.std.specs.Prelude.{◌≡◌, ℕ, List, [], Ok, None};
+ghost use Rattle.std.specs.Prelude.{◌≡◌, ◌↔◌, ◌⊎◌, ℕ, List, [], Ok, None};
 ghost use Rattle.unit_plan.specs.Plan.{plan_of};
 ghost use Rattle.unit_plan.specs.PlanLines.{PlanLines};
 ghost use Rattle.unit_plan.specs.PlanRules.{IsPlan};
@@ -12,11 +12,13 @@ ghost use Rattle.image_content.specs.Reading.{IsContent};
 ghost use Rattle.bank_journal.specs.Image.{IsAtRest, held, records};
 ghost use Rattle.bank_journal.specs.Fault.{image_fault};
 ghost use Rattle.bank_journal.specs.Forms.{HasOneClosed, Becomes, Regates, Settles, StaysWithin};
-ghost use Rattle.bank_image.specs.Shows.{Shows};
+ghost use Rattle.bank_image.specs.Shows.{Shows, ShowsNone};
 ghost use Rattle.image_beginning.specs.Beginning.{beginning_image};
 ghost use Rattle.law_bank_image.specs.Keeping.{HoldsSame, KeepsForms};
 
+use bank_image::refused_with_one;
 use bank_journal::opening_stays;
+use book_record::change_of_its_kind;
 use image_content::restart_leaves_content;
 use plan_bare::{bare_plan_is_short, bare_plan_reads};
 
@@ -48,6 +50,18 @@ pub fn opening_keeps_forms()
         → KeepsForms image left }
 {
     opening_stays();
+}
+
+/// Law: each image shows a state, or there is an offset that it is refused with; so it shows none exactly where there is
+/// one.
+pub fn refused_exactly()
+    ensures either { (image : List ℕ) → ((state : State) × Shows image state)
+        ⊎ ((offset : ℕ) × ShowsNone image offset) }
+    ensures exactly { (image : List ℕ) → ((state : State) → ¬ Shows image state)
+        ↔ ((offset : ℕ) × ShowsNone image offset) }
+{
+    change_of_its_kind();
+    refused_with_one();
 }
 
 /// Law: the plan that a text says keeps the rules of plans, and the state that an image shows those of states; a restart

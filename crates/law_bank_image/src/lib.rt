@@ -6,4 +6,4 @@
 
 mod laws;
 
-pub use laws::{beginning_shows, opening_keeps_forms, shown_keeps_rules};
+pub use laws::{beginning_shows, opening_keeps_forms, refused_exactly, shown_keeps_rules};
