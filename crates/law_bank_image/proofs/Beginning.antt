@@ -1,5 +1,5 @@
 -- The image that a plan begins with shows its state, at rest and with no records: for `beginning_shows`.
-use Rattle.std.proofs.Common.{◌≡◌, ℕ, ◌≤◌, List, [], length, Ok, refl, sym, ap}
+use Rattle.std.proofs.Common.{◌≡◌, ℕ, ◌≤◌, List, length, Ok, refl, sym}
 use Rattle.unit_plan.specs.Plan.{plan_of}
 use Rattle.unit_plan.specs.PlanLines.{PlanLines}
 use Rattle.unit_state.specs.declared.state.State.{State}
@@ -11,11 +11,12 @@ use Rattle.unit_image.specs.Shows.{SaysPlan}
 use Rattle.plan_bare.specs.Bare.{bare_of, without_rows}
 use Rattle.image_content.specs.Content.{content_of}
 use Rattle.image_content.specs.Reading.{HasRows, IsContent}
-use Rattle.bank_journal.specs.Image.{Held, IsAtRest, records}
+use Rattle.bank_journal.specs.Image.{IsAtRest}
+use Rattle.bank_journal.specs.Forms.{Holds}
 use Rattle.bank_journal.specs.Initial.{BeginsAtRest}
 use Rattle.bank_journal.proofs.InitialImage.{begins}
 use Rattle.bank_image.specs.Shows.{Shows}
-use Rattle.image_beginning.specs.Beginning.{beginning_image}
+use Rattle.image_beginning.specs.Beginning.{beginning_held, beginning_image}
 use Rattle.law_image.proofs.Planned.{plan_rules}
 use Rattle.law_bank_image.proofs.Contents.{LeavesContent, content_sized, has_rows, is_content}
 use Rattle.law_bank_image.proofs.PlanIds.{plan_ids}
@@ -51,7 +52,7 @@ module _ (short : IsShort) (bare : ReadsBare) (leaves : LeavesContent) (text : L
 
   pub beginning_shows : Shows (beginning_image text plan first) (restarted first)
   beginning_shows = record {
-    what = record { plan = bare_of text; slots = plan.slots; content = content_of first; records = [] };
+    what = beginning_held text plan first;
     holds = begins_at_rest.holds;
     says = record {
       first = restarted first;
@@ -70,5 +71,5 @@ module _ (short : IsShort) (bare : ReadsBare) (leaves : LeavesContent) (text : L
   pub beginning_rests : IsAtRest (beginning_image text plan first)
   beginning_rests = begins_at_rest.settled.rests
 
-  pub beginning_records : records (beginning_image text plan first) ≡ []
-  beginning_records = ap (λ (what : Held). what.records) begins_at_rest.holds.is
+  pub beginning_holds : Holds (beginning_image text plan first) (beginning_held text plan first)
+  beginning_holds = begins_at_rest.holds

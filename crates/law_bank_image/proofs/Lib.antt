@@ -10,3 +10,4 @@ mod DecidingRules
 mod ContentRead
 mod DecidingContent
 mod Showing
+mod Cut

@@ -1,5 +1,5 @@
 //! The laws.
-ghost use Rattle.std.specs.Prelude.{◌≡◌, ◌↔◌, ◌⊎◌, ℕ, List, [], Ok, None};
+ghost use Rattle.std.specs.Prelude.{◌≡◌, ◌↔◌, ◌⊎◌, ℕ, List, Ok, Some, None};
 ghost use Rattle.unit_plan.specs.Plan.{plan_of};
 ghost use Rattle.unit_plan.specs.PlanLines.{PlanLines};
 ghost use Rattle.unit_plan.specs.PlanRules.{IsPlan};
@@ -9,12 +9,14 @@ ghost use Rattle.unit_state.specs.State.{KeepsRules};
 ghost use Rattle.unit_image.specs.Shows.{SaysPlan};
 ghost use Rattle.image_content.specs.Content.{content_of};
 ghost use Rattle.image_content.specs.Reading.{IsContent};
-ghost use Rattle.bank_journal.specs.Image.{IsAtRest, held, records};
+ghost use Rattle.disk_journal.specs.Changes.{AllBut};
+ghost use Rattle.bank_journal.specs.Initial.{initial_image};
+ghost use Rattle.bank_journal.specs.Image.{IsAtRest, held};
 ghost use Rattle.bank_journal.specs.Fault.{image_fault};
-ghost use Rattle.bank_journal.specs.Forms.{HasOneClosed, Becomes, Regates, Settles, StaysWithin};
+ghost use Rattle.bank_journal.specs.Forms.{HasOneClosed, Holds, Becomes, Regates, Settles, StaysWithin};
 ghost use Rattle.bank_image.specs.Shows.{Shows, ShowsNone};
-ghost use Rattle.image_beginning.specs.Beginning.{beginning_image};
-ghost use Rattle.law_bank_image.specs.Keeping.{HoldsSame, KeepsForms};
+ghost use Rattle.image_beginning.specs.Beginning.{beginning_held, beginning_image};
+ghost use Rattle.law_bank_image.specs.Keeping.{HoldsSame, IsShown, KeepsForms};
 
 use bank_image::refused_with_one;
 use bank_journal::opening_stays;
@@ -31,23 +33,32 @@ pub fn beginning_shows()
         → IsContent (restarted first) (content_of first) }
     ensures rests { (text : List ℕ) (plan : PlanLines) (first : State) → SaysPlan text plan first
         → IsAtRest (beginning_image text plan first) }
-    ensures none { (text : List ℕ) (plan : PlanLines) (first : State) → SaysPlan text plan first
-        → records (beginning_image text plan first) ≡ [] }
+    ensures holds { (text : List ℕ) (plan : PlanLines) (first : State) → SaysPlan text plan first
+        → Holds (beginning_image text plan first) (beginning_held text plan first) }
 {
     bare_plan_is_short();
     bare_plan_reads();
     restart_leaves_content();
 }
 
+/// Law: an initial image, but for the gate of its header, is refused at its first octet, or it is that initial image. So
+/// what a crash leaves while one is written never opens as another.
+pub fn cut_beginning()
+    ensures { (plan : List ℕ) (slots : ℕ) (content image : List ℕ) → AllBut 0 1 (initial_image plan slots content) image
+        → (image_fault image ≡ Some 0) ⊎ (image ≡ initial_image plan slots content) }
+{}
+
 /// Law: what an opening that a crash cuts off leaves of an image that opens, with at most one closed gate that is not 0.
 /// With other octets in its closed gates it stays within the image; rewritten it holds the same, as its opened forms do;
-/// so whichever it is, it keeps the forms of the image.
+/// so whichever it is, it keeps the forms of the image, and shows nothing that the image and its forms do not show.
 pub fn opening_keeps_forms()
     ensures regated { (image left : List ℕ) → image_fault image ≡ None → HasOneClosed image → Regates image left
         → StaysWithin image left }
     ensures rewritten { (image left : List ℕ) → Becomes (held image) (held image) left → HoldsSame image left }
     ensures keeps { (image left : List ℕ) → image_fault image ≡ None → HasOneClosed image → Settles image left
         → KeepsForms image left }
+    ensures shown { (image left : List ℕ) (state : State) → image_fault image ≡ None → HasOneClosed image
+        → Settles image left → IsShown left state → IsShown image state }
 {
     opening_stays();
 }

@@ -6,4 +6,6 @@
 
 mod laws;
 
-pub use laws::{beginning_shows, opening_keeps_forms, refused_exactly, shown_keeps_rules};
+pub use laws::{
+    beginning_shows, cut_beginning, opening_keeps_forms, refused_exactly, shown_keeps_rules,
+};

@@ -1,4 +1,4 @@
-use Rattle.law_bank_image.proofs.Beginning.{beginning_records, beginning_rests, beginning_shows, first_content}
+use Rattle.law_bank_image.proofs.Beginning.{beginning_holds, beginning_rests, beginning_shows, first_content}
 use Rattle.law_bank_image.proofs.laws.beginning_shows.Goals as goal
 
 pub returns : goal.returns
@@ -10,5 +10,5 @@ returns c =
       shows = beginning_shows short bare leaves;
       content = first_content short bare leaves;
       rests = beginning_rests short bare leaves;
-      none = beginning_records short bare leaves;
+      holds = beginning_holds short bare leaves;
     }
