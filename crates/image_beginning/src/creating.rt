@@ -16,10 +16,9 @@ use unit_plan::Plan;
 use unit_state::State;
 
 /// Writes the image that the plan of a text begins with, in this state, if there is no image. The bare plan and the
-/// content are written into `bare` and `content` first, which hold any octets before.
+/// content are written into `bare` and `content` first, whatever these hold. Takes no memory.
 ///
-/// After `Ok` the image is on the disk. A count that is answered is that of the site's faults; some of the image may stand
-/// then. Takes no memory.
+/// After `Ok` the image is on the disk. An error is the site's count of faults, and some of the image may stand then.
 pub fn create_image<O: Site>(
     site: &mut O,
     text: &[u8],

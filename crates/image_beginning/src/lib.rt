@@ -1,5 +1,5 @@
-//! The image that a unit of two banks begins with: the plan's text without its keys and associations, and the content of
-//! the state that the plan's lines make (profile). No unit has such an image yet.
+//! The image of two banks that a unit begins with (profile): the plan's text without its keys and associations, and the
+//! content of the state that the plan's lines make. No unit has such an image yet.
 //!
 //! [`create_image`] writes it, if there is none, without taking memory. Read `specs/Beginning.antt` first.
 #![tactic(auto)]

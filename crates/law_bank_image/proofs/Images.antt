@@ -1,5 +1,5 @@
--- What an opening that is cut off leaves: for `opening_keeps_forms`. Lemmas on what images hold, passed on for what lies
--- above.
+-- What an opening that is cut off leaves: for `opening_keeps_forms`. With it, lemmas on what images hold, passed on for
+-- what lies above.
 use Rattle.std.proofs.Common.{◌≡◌, ◌⊎◌, ℕ, List, None, refl, sym, ◌∙◌, subst, inl, inr}
 use Rattle.disk_journal.proofs.Gating.{AreRecords, records_are}
 use Rattle.bank_journal.specs.Banks.{gate_at, body_at}

@@ -24,8 +24,8 @@ use book_record::change_of_its_kind;
 use image_content::restart_leaves_content;
 use plan_bare::{bare_plan_is_short, bare_plan_reads};
 
-/// Law: the image that a plan begins with shows what a restart leaves of the state that its lines make, with no records;
-/// no closed gate of it is other than 0.
+/// Law: the image that a plan begins with shows what a restart leaves of the state that the plan's lines make. It has no
+/// records, and no closed gate of it is other than 0.
 pub fn beginning_shows()
     ensures shows { (text : List ℕ) (plan : PlanLines) (first : State) → SaysPlan text plan first
         → Shows (beginning_image text plan first) (restarted first) }
@@ -41,16 +41,17 @@ pub fn beginning_shows()
     restart_leaves_content();
 }
 
-/// Law: an initial image, but for the gate of its header, is refused at its first octet, or it is that initial image. So
-/// what a crash leaves while one is written never opens as another.
+/// Law: an initial image, but for the gate of its header, is refused at its first octet, or it is that image. So what a
+/// crash leaves while one is written never opens as another.
 pub fn cut_beginning()
-    ensures { (plan : List ℕ) (slots : ℕ) (content image : List ℕ) → AllBut 0 1 (initial_image plan slots content) image
+    ensures { (plan : List ℕ) (slots : ℕ) (content image : List ℕ)
+        → AllBut 0 1 (initial_image plan slots content) image
         → (image_fault image ≡ Some 0) ⊎ (image ≡ initial_image plan slots content) }
 {}
 
 /// Law: what an opening that a crash cuts off leaves of an image that opens, with at most one closed gate that is not 0.
-/// With other octets in its closed gates it stays within the image; rewritten it holds the same, as its opened forms do;
-/// so whichever it is, it keeps the forms of the image, and shows nothing that the image and its forms do not show.
+/// With other octets in its closed gates it stays within the image. Rewritten, it holds the same, as its opened forms do.
+/// Whichever it is, it keeps the forms of the image, and shows nothing that the image and its forms do not show.
 pub fn opening_keeps_forms()
     ensures regated { (image left : List ℕ) → image_fault image ≡ None → HasOneClosed image → Regates image left
         → StaysWithin image left }
@@ -63,8 +64,7 @@ pub fn opening_keeps_forms()
     opening_stays();
 }
 
-/// Law: each image shows a state, or there is an offset that it is refused with; so it shows none exactly where there is
-/// one.
+/// Law: each image shows a state, or is refused with an offset. So it shows none exactly if it is refused.
 pub fn refused_exactly()
     ensures either { (image : List ℕ) → ((state : State) × Shows image state)
         ⊎ ((offset : ℕ) × ShowsNone image offset) }
@@ -75,7 +75,7 @@ pub fn refused_exactly()
     refused_with_one();
 }
 
-/// Law: the plan that a text says keeps the rules of plans, and the state that an image shows those of states; a restart
+/// Law: the plan that a text says keeps the rules of plans, and the state that an image shows those of states. A restart
 /// leaves that state.
 pub fn shown_keeps_rules()
     ensures plan { (text : List ℕ) (plan : PlanLines) → plan_of text ≡ Ok plan → IsPlan plan }

@@ -1,5 +1,5 @@
-//! Laws of images of two banks (profile): what the image that a plan begins with shows, what an opening that a crash cuts
-//! off leaves, and that what an image shows keeps its rules. No unit has such an image yet.
+//! Laws of images of two banks (profile): each shows a state or is refused; what the image that a plan begins with shows;
+//! what an opening that a crash cuts off leaves. No unit has such an image yet.
 //!
 //! There is no code to run here: the functions are laws over definitions, with an empty body.
 #![tactic(auto)]
