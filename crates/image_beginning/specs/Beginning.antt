@@ -8,12 +8,12 @@ use Rattle.bank_journal.specs.Image.{Held}
 use Rattle.bank_journal.specs.Initial.{initial_image}
 
 -- the image of a plan's text and of a state: the bare plan, and the content of the state with no records
-abbrev pub beginning_image : List ℕ → PlanLines → State → List ℕ
-beginning_image text plan first = initial_image (bare_of text) plan.slots (content_of first)
+abbrev pub image_of_plan : List ℕ → PlanLines → State → List ℕ
+image_of_plan text plan first = initial_image (bare_of text) plan.slots (content_of first)
 
 -- what this image holds: the bare plan, the slots of the plan, the content, and no records
-abbrev pub beginning_held : List ℕ → PlanLines → State → Held
-beginning_held text plan first = record {
+abbrev pub held_of_plan : List ℕ → PlanLines → State → Held
+held_of_plan text plan first = record {
   plan = bare_of text;
   slots = plan.slots;
   content = content_of first;

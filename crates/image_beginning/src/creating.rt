@@ -6,7 +6,7 @@ ghost use Rattle.unit_plan.specs.Plan.{plan_of};
 ghost use Rattle.plan_bare.specs.Bare.{bare_of};
 ghost use Rattle.image_content.specs.Content.{content_of};
 ghost use Rattle.bank_journal.specs.Initial.{IsLaid};
-ghost use Rattle.image_beginning.specs.Beginning.{beginning_image};
+ghost use Rattle.image_beginning.specs.Beginning.{image_of_plan};
 
 use bank_journal::{CONTENT_LENGTH, JournalFault, create};
 use image_content::write_content;
@@ -32,7 +32,7 @@ pub fn create_image<O: Site>(
     requires room { length text.now + 1 ≤ length bare.old }
     requires sized { length content.old ≡ CONTENT_LENGTH }
     ensures created { IsTrue O.told → OnOk result (IsSynced (O.trace site.new).now
-        × ((O.trace site.new).now.image ≡ beginning_image text.now plan.now state.now)) }
+        × ((O.trace site.new).now.image ≡ image_of_plan text.now plan.now state.now)) }
 
     // A crash at any moment leaves an image that is refused at its first octet, or this one but for its gate.
     ensures any_moment { IsTrue O.told → ((mid : Trace) × IsLaid (bare_of text.now) plan.now.slots

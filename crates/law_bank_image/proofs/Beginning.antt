@@ -16,7 +16,7 @@ use Rattle.bank_journal.specs.Forms.{Holds}
 use Rattle.bank_journal.specs.Initial.{BeginsAtRest}
 use Rattle.bank_journal.proofs.InitialImage.{begins}
 use Rattle.bank_image.specs.Shows.{Shows}
-use Rattle.image_beginning.specs.Beginning.{beginning_held, beginning_image}
+use Rattle.image_beginning.specs.Beginning.{held_of_plan, image_of_plan}
 use Rattle.law_image.proofs.Planned.{plan_rules}
 use Rattle.law_bank_image.proofs.Contents.{LeavesContent, content_sized, has_rows, is_content}
 use Rattle.law_bank_image.proofs.PlanIds.{plan_ids}
@@ -50,9 +50,9 @@ module _ (short : IsShort) (bare : ReadsBare) (leaves : LeavesContent) (text : L
       begins (bare_of text) (content_of first) plan.slots (short text plan said.read) slots.0 slots.1
       (content_sized first first_rows)
 
-  pub beginning_shows : Shows (beginning_image text plan first) (restarted first)
+  pub beginning_shows : Shows (image_of_plan text plan first) (restarted first)
   beginning_shows = record {
-    what = beginning_held text plan first;
+    what = held_of_plan text plan first;
     holds = begins_at_rest.holds;
     says = record {
       first = restarted first;
@@ -68,8 +68,8 @@ module _ (short : IsShort) (bare : ReadsBare) (leaves : LeavesContent) (text : L
     };
   }
 
-  pub beginning_rests : IsAtRest (beginning_image text plan first)
+  pub beginning_rests : IsAtRest (image_of_plan text plan first)
   beginning_rests = begins_at_rest.settled.rests
 
-  pub beginning_holds : Holds (beginning_image text plan first) (beginning_held text plan first)
+  pub beginning_holds : Holds (image_of_plan text plan first) (held_of_plan text plan first)
   beginning_holds = begins_at_rest.holds

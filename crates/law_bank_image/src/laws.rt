@@ -15,7 +15,7 @@ ghost use Rattle.bank_journal.specs.Image.{IsAtRest, held};
 ghost use Rattle.bank_journal.specs.Fault.{image_fault};
 ghost use Rattle.bank_journal.specs.Forms.{HasOneClosed, Holds, Becomes, Regates, Settles, StaysWithin};
 ghost use Rattle.bank_image.specs.Shows.{Shows, ShowsNone};
-ghost use Rattle.image_beginning.specs.Beginning.{beginning_held, beginning_image};
+ghost use Rattle.image_beginning.specs.Beginning.{held_of_plan, image_of_plan};
 ghost use Rattle.law_bank_image.specs.Keeping.{HoldsSame, IsShown, KeepsForms};
 
 use bank_image::refused_with_one;
@@ -28,13 +28,13 @@ use plan_bare::{bare_plan_is_short, bare_plan_reads};
 /// records, and no closed gate of it is other than 0.
 pub fn beginning_shows()
     ensures shows { (text : List ℕ) (plan : PlanLines) (first : State) → SaysPlan text plan first
-        → Shows (beginning_image text plan first) (restarted first) }
+        → Shows (image_of_plan text plan first) (restarted first) }
     ensures content { (text : List ℕ) (plan : PlanLines) (first : State) → SaysPlan text plan first
         → IsContent (restarted first) (content_of first) }
     ensures rests { (text : List ℕ) (plan : PlanLines) (first : State) → SaysPlan text plan first
-        → IsAtRest (beginning_image text plan first) }
+        → IsAtRest (image_of_plan text plan first) }
     ensures holds { (text : List ℕ) (plan : PlanLines) (first : State) → SaysPlan text plan first
-        → Holds (beginning_image text plan first) (beginning_held text plan first) }
+        → Holds (image_of_plan text plan first) (held_of_plan text plan first) }
 {
     bare_plan_is_short();
     bare_plan_reads();
