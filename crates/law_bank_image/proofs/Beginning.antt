@@ -1,6 +1,5 @@
 -- The image that a plan begins with shows its state, at rest and with no records: for `beginning_shows`.
-use Rattle.std.proofs.Common.{◌≡◌, ℕ, ◌≤◌, List, length, Ok, refl, sym}
-use Rattle.unit_plan.specs.Plan.{plan_of}
+use Rattle.std.proofs.Common.{ℕ, List, refl, sym}
 use Rattle.unit_plan.specs.PlanLines.{PlanLines}
 use Rattle.unit_state.specs.declared.state.State.{State}
 use Rattle.unit_state.specs.Restart.{restarted}
@@ -8,6 +7,7 @@ use Rattle.unit_state.specs.State.{KeepsRules}
 use Rattle.unit_state.proofs.Starts.{initial_rules}
 use Rattle.unit_state.proofs.StateLaws.{restarted_twice}
 use Rattle.unit_image.specs.Shows.{SaysPlan}
+use Rattle.plan_bare.proofs.BareRoom.{bare_plan_is_short, bare_plan_reads}
 use Rattle.plan_bare.specs.Bare.{bare_of, without_rows}
 use Rattle.image_content.specs.Content.{content_of}
 use Rattle.image_content.specs.Reading.{HasRows, IsContent}
@@ -18,18 +18,11 @@ use Rattle.bank_journal.proofs.InitialImage.{begins}
 use Rattle.bank_image.specs.Shows.{Shows}
 use Rattle.image_beginning.specs.Beginning.{held_of_plan, image_of_plan}
 use Rattle.law_image.proofs.Planned.{plan_rules}
-use Rattle.law_bank_image.proofs.Contents.{LeavesContent, content_sized, has_rows, is_content}
+use Rattle.law_bank_image.proofs.Contents.{content_sized, has_rows, is_content}
 use Rattle.law_bank_image.proofs.PlanIds.{plan_ids}
 use Rattle.law_bank_image.proofs.StateIds.{IsOfPlan, first_of_plan}
 
--- the bare plan of a plan is short, and reads as the plan without rows, as two laws say
-abbrev pub IsShort : Type 0
-IsShort = (text : List ℕ) (plan : PlanLines) → plan_of text ≡ Ok plan → length (bare_of text) ≤ 65536
-
-abbrev pub ReadsBare : Type 0
-ReadsBare = (text : List ℕ) (plan : PlanLines) → plan_of text ≡ Ok plan → plan_of (bare_of text) ≡ Ok (without_rows plan)
-
-module _ (short : IsShort) (bare : ReadsBare) (leaves : LeavesContent) (text : List ℕ) (plan : PlanLines) (first : State) (said : SaysPlan text plan first) where
+module _ (text : List ℕ) (plan : PlanLines) (first : State) (said : SaysPlan text plan first) where
   rules : KeepsRules first
   rules =
       let lines = plan_rules text plan said.read in
@@ -42,12 +35,12 @@ module _ (short : IsShort) (bare : ReadsBare) (leaves : LeavesContent) (text : L
   first_rows = has_rows first rules of_plan.named
 
   pub first_content : IsContent (restarted first) (content_of first)
-  first_content = is_content leaves first rules first_rows
+  first_content = is_content first rules first_rows
 
   pub begins_at_rest : BeginsAtRest (bare_of text) plan.slots (content_of first)
   begins_at_rest =
       let slots = (plan_rules text plan said.read).slots in
-      begins (bare_of text) (content_of first) plan.slots (short text plan said.read) slots.0 slots.1
+      begins (bare_of text) (content_of first) plan.slots (bare_plan_is_short text plan said.read) slots.0 slots.1
       (content_sized first first_rows)
 
   pub beginning_shows : Shows (image_of_plan text plan first) (restarted first)
@@ -58,7 +51,7 @@ module _ (short : IsShort) (bare : ReadsBare) (leaves : LeavesContent) (text : L
       first = restarted first;
       begins = record {
         plan = without_rows plan;
-        said = record { read = bare text plan said.read; no_keys = refl; no_associations = refl };
+        said = record { read = bare_plan_reads text plan said.read; no_keys = refl; no_associations = refl };
         same_slots = refl;
         content = record { channels = of_plan.channels; device = of_plan.device; spelled = first_content };
       };

@@ -1,7 +1,8 @@
 -- The content of a state whose rows are of their types: for `beginning_shows`.
-use Rattle.std.proofs.Common.{◌≡◌, ℕ, ◌*◌, ◌<◌, ◌≤◌, ◌^◌, List, [], ◌∷◌, ◌++◌, length, get_or, replicate, refl, sym, ap, inl, inr, arith, length-append}
+use Rattle.std.proofs.Common.{map, ◌≡◌, ℕ, ◌*◌, ◌<◌, ◌≤◌, ◌^◌, List, [], ◌∷◌, ◌++◌, length, get_or, replicate, refl, sym, ap, inl, inr, arith, length-append}
 use Rattle.std.specs.List.{AllByRecursion}
-use Rattle.std.proofs.lemmas.List.{length-replicate}
+use Rattle.std.specs.Int.{w16, to_be_bytes}
+use Rattle.std.proofs.lemmas.List.{length-map, length-replicate}
 use Rattle.std.proofs.lemmas.List.Elements.{All-map, recursion_from_All}
 use Rattle.sdls_base.specs.KeyId.{class_of, end_of, end_of_class}
 use Rattle.sdls_base.specs.declared.key_id.KeyClass.{KeyClass}
@@ -68,19 +69,28 @@ has_rows state rules named = record {
   most_associations = rules.associations.most;
 }
 
--- a restart leaves the content, as a law says
-abbrev pub LeavesContent : Type 0
-LeavesContent = (state : State) → content_of (restarted state) ≡ content_of state
+-- the highest numbers are in no row, so that a restart leaves the content
+highs_apart : (keys : List KeyRow) (rows : List SaRow) → sa_rows (map (restarted_row keys) rows) ≡ sa_rows rows
+highs_apart keys [] = refl
+highs_apart keys (row ∷ rows) = ap (λ (octets : List ℕ). sa_row_octets (sa_parts row) ++ octets) (highs_apart keys rows)
+
+restart_leaves : (state : State) → content_of (restarted state) ≡ content_of state
+unfolding content_of
+restart_leaves state =
+    let count : length (map (restarted_row state.keys) state.associations) ≡ length state.associations =
+    length-map state.associations (restarted_row state.keys) in
+    let rows = highs_apart state.keys state.associations in
+    λ i. to_be_bytes w16 (length state.keys) ++ count i ∷ (replicate 500 0 ++ padded 49152 (key_rows state.keys) ++ padded 2048 (rows i))
 
 -- its content is that of the state that a restart leaves
-pub is_content : LeavesContent → (state : State) → KeepsRules state → HasRows state → IsContent (restarted state) (content_of state)
-is_content leaves state rules rows = record {
+pub is_content : (state : State) → KeepsRules state → HasRows state → IsContent (restarted state) (content_of state)
+is_content state rules rows = record {
   rules = restarted_rules state rules;
   keys = rows.keys;
   associations = All-map (λ (row : SaRow). IsSaRow (sa_parts row) (sa_row_octets (sa_parts row))) (restarted_row state.keys) state.associations
       (λ k d low. rows.associations k d low);
   left = restarted_twice state;
-  spelled = sym (leaves state);
+  spelled = sym (restart_leaves state);
 }
 
 -- ---- its length

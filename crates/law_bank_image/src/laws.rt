@@ -21,8 +21,6 @@ ghost use Rattle.law_bank_image.specs.Keeping.{HoldsSame, IsShown, KeepsForms};
 use bank_image::refused_with_one;
 use bank_journal::opening_stays;
 use book_record::change_of_its_kind;
-use image_content::restart_leaves_content;
-use plan_bare::{bare_plan_is_short, bare_plan_reads};
 
 /// Law: the image that a plan begins with shows what a restart leaves of the state that the plan's lines make. It has no
 /// records, and no closed gate of it is other than 0.
@@ -35,11 +33,7 @@ pub fn beginning_shows()
         → IsAtRest (image_of_plan text plan first) }
     ensures holds { (text : List ℕ) (plan : PlanLines) (first : State) → SaysPlan text plan first
         → Holds (image_of_plan text plan first) (held_of_plan text plan first) }
-{
-    bare_plan_is_short();
-    bare_plan_reads();
-    restart_leaves_content();
-}
+{}
 
 /// Law: an initial image, but for the gate of its header, is refused at its first octet, or it is that image. So what a
 /// crash leaves while one is written never opens as another.

@@ -1,3 +1,3 @@
 mod BareReading
 mod WordCosts
-mod BareRoom
+pub mod BareRoom
