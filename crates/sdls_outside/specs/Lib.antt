@@ -8,6 +8,7 @@ pub mod Source
 pub mod Calls
 pub mod SureSource
 pub mod MemSource
+pub mod Undo
 pub mod Held
 pub mod History
 pub mod Crash

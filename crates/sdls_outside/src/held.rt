@@ -1,26 +1,24 @@
 // What a site in memory holds.
-ghost use Rattle.std.specs.Prelude.{◌≡◌, ℕ, ◌<◌, ◌≤◌, List, [], ◌∷◌, None, IfOk, OnOk, OnErr, length, slice_index};
+ghost use Rattle.std.specs.Prelude.{◌≡◌, ℕ, ◌<◌, ◌≤◌, [], ◌∷◌, OnOk, OnErr, length, map, slice_index};
 ghost use Rattle.std.specs.List.{list_any};
-ghost use Rattle.std.specs.Option.{option_map_or};
 ghost use Rattle.sdls_outside.specs.Disk.{Leaves, Outside};
 ghost use Rattle.sdls_outside.specs.Site.{overwritten};
 ghost use Rattle.sdls_outside.specs.Crash.{Inside, LeftBy, covers};
 ghost use Rattle.sdls_outside.specs.Held.{disk_from};
+ghost use Rattle.sdls_outside.specs.Undo.{CanPlayBack, CanPlayBack-prop, range_of};
 
 use crate::Crash;
+use crate::undo::{Undo, play_back};
 use std::alloc::{AllocError, Global};
-use std::mem;
 
-// The image and the sink. `kept` is the image as the last sync left it, where it is not the image
-// as it reads; `ranges` are those that were written since, the newest first.
+// The image and the sink. `undos` are what undoes the writes since the last sync, the newest first.
 #[derive(Drop)]
 pub struct Held {
     pub image: Vec<u8>,
-    pub kept: Option<Vec<u8>>,
-    pub ranges: Vec<(u64, u64)>,
+    pub undos: Vec<Undo>,
     pub sunk: Vec<u8>,
-    ghost stays: { Leaves (disk_from image.items (option_map_or (λ kept. kept.items) kept image.items)
-        ranges.items sunk.items) image.items },
+    ghost stays: { Leaves (disk_from image.items undos.items sunk.items) image.items },
+    ghost can_lose: { CanPlayBack undos.items image.items } by { CanPlayBack-prop undos.items image.items },
 }
 
 impl Held {
@@ -32,8 +30,7 @@ impl Held {
     {
         Held {
             image,
-            kept: None,
-            ranges: Vec::new(alloc),
+            undos: Vec::new(alloc),
             sunk: Vec::new(alloc),
         }
     }
@@ -47,10 +44,10 @@ impl Held {
         }) }
         ensures err { OnErr result (disk_of self.new ≡ disk_of self.old) }
     {
-        keep(alloc, &mut self.kept, &self.image)?;
-        self.ranges.insert(0, (at, octets.len() as u64))?;
+        let undo = Undo::of(alloc, &self.image, at, octets)?;
+        self.undos.insert(0, undo)?;
         if let Err(no_memory) = overwrite(&mut self.image, at as usize, octets) {
-            self.ranges.remove(0);
+            self.undos.remove(0);
             return Err(no_memory);
         }
         Ok(())
@@ -63,8 +60,7 @@ impl Held {
           ranges = [];
         } }
     {
-        self.kept = None;
-        self.ranges.clear();
+        self.undos.clear();
     }
 
     // The image that a crash of this kind leaves.
@@ -74,18 +70,15 @@ impl Held {
     {
         let Held {
             mut image,
-            kept,
-            ranges,
+            undos,
             sunk: _,
         } = self;
         match how {
-            Crash::Kept => image,
-            Crash::Lost => kept.unwrap_or(image),
-            Crash::Filled(octet) => {
-                fill(&mut image, &ranges, octet);
-                image
-            }
+            Crash::Kept => {}
+            Crash::Lost => play_back(&mut image, &undos),
+            Crash::Filled(octet) => fill(&mut image, &undos, octet),
         }
+        image
     }
 }
 
@@ -102,35 +95,25 @@ fn overwrite(image: &mut Vec<u8>, at: usize, octets: &[u8]) -> Result<(), AllocE
     Ok(())
 }
 
-// Keeps a copy of the image as what was synced, unless one is kept already.
-fn keep(alloc: Global, kept: &mut Option<Vec<u8>>, image: &[u8]) -> Result<(), AllocError>
-    ensures ok { OnOk result ((other : List ℕ) → option_map_or (λ kept. kept.items) kept.new other
-        ≡ option_map_or (λ kept. kept.items) kept.old image.now) }
-    ensures err { OnErr result (kept.new ≡ kept.old) }
-{
-    if kept.is_none() {
-        *kept = Some(Vec::from_slice(alloc, image)?);
-    }
-    Ok(())
-}
-
-// Puts the octet everywhere in the ranges.
-fn fill(image: &mut [u8], ranges: &[(u64, u64)], octet: u8)
-    ensures inside { (i : ℕ) → i < length image.old → Inside ranges.now i → slice_index image.new i ≡ octet }
-    ensures outside { (i : ℕ) → Outside ranges.now i → slice_index image.new i ≡ slice_index image.old i }
+// Puts the octet everywhere in the ranges that were written.
+fn fill(image: &mut [u8], undos: &[Undo], octet: u8)
+    ensures inside { (i : ℕ) → i < length image.old → Inside (map range_of undos.now) i
+        → slice_index image.new i ≡ octet }
+    ensures outside { (i : ℕ) → Outside (map range_of undos.now) i → slice_index image.new i ≡ slice_index image.old i }
 {
     for (i, here) in image.iter_mut().enumerate() {
-        if is_inside(ranges, i as u64) {
+        if is_inside(undos, i as u64) {
             *here = octet;
         }
     }
 }
 
-// Whether an octet lies in one of the ranges.
-fn is_inside(ranges: &[(u64, u64)], i: u64) -> bool
-    ensures { result ≡ list_any (covers i) ranges.now }
+// Whether an octet lies in one of the ranges that were written.
+fn is_inside(undos: &[Undo], i: u64) -> bool
+    ensures { result ≡ list_any (covers i) (map range_of undos.now) }
 {
-    ranges
+    undos
         .iter()
+        .map(Undo::range)
         .any(|range| range.0 <= i && i - range.0 < range.1)
 }

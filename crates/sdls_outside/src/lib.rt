@@ -22,6 +22,7 @@ mod site;
 mod source;
 mod std_source;
 mod sure_source;
+mod undo;
 
 pub use crash::Crash;
 pub use file_site::FileSite;

@@ -1,10 +1,11 @@
 -- Each octet is filled where it lies in a range.
-use Rattle.std.proofs.Common.{◌≡◌, ℕ, ◌+◌, ◌<◌, List, length, true, false, sym, ◌∙◌, subst, arith, Bool}
+use Rattle.std.proofs.Common.{◌≡◌, ℕ, ◌+◌, ◌<◌, List, length, map, true, false, sym, ◌∙◌, subst, arith, Bool}
 use Rattle.std.proofs.lemmas.List.{set-get_or}
 use Rattle.std.specs.Bool.{MatchBool}
 use Rattle.std.specs.List.{list_any}
 use Rattle.sdls_outside.specs.Disk.{Outside}
 use Rattle.sdls_outside.specs.Crash.{Inside, covers}
+use Rattle.sdls_outside.specs.Undo.{range_of}
 use Rattle.sdls_outside.proofs.Ranges.{IsFilledBelow, sides, fills, leaves}
 use Rattle.sdls_outside.proofs.held.fill.Goals as goal
 use Rattle.sdls_outside.proofs.held.fill.Goals.{then-is_inside, else-is_inside}
@@ -17,7 +18,7 @@ at ranges i answer same = subst (λ (b : Bool). MatchBool b (Inside ranges i) (O
 pub loop-i-preserved : goal.loop-i-preserved
 loop-i-preserved c =
     let i = c.loop-i.i in
-    let ranges = c.args.ranges.now in
+    let ranges = map range_of c.args.undos.now in
     let kept = c.loop-i.invariant in
     let within : i < length c.loop-i.image = omega arith in
     let P : List ℕ → Type 0 = λ image. IsFilledBelow (i + 1) c.args.octet ranges c.args.image.now image in
