@@ -2,6 +2,7 @@ pub mod Pending
 pub mod Zeros
 pub mod Chosen
 pub mod GateChecks
+pub mod GateRuns
 pub mod Stands
 pub mod Keeping
 pub mod Turns

@@ -1,5 +1,5 @@
 -- Zeros that are written over a range.
-use Rattle.std.proofs.Common.{◌≡◌, ℕ, zero, suc, ◌+◌, ◌-◌, ◌<◌, ◌≤◌, ◌==◌, ◌∷◌, ◌∙◌, not, false, List, [], length, get_or, take, drop, replicate, refl, sym, ap, subst, inl, inr, arith, Result, Ok, Err}
+use Rattle.std.proofs.Common.{◌≡◌, ℕ, zero, suc, ◌+◌, ◌-◌, ◌<◌, ◌≤◌, ◌==◌, ◌∷◌, ◌∙◌, not, Bool, IsTrue, true, false, List, [], length, get_or, take, drop, replicate, refl, sym, ap, subst, inl, inr, arith, Result, Ok, Err}
 use Rattle.bank_journal.specs.Changes.{IsCleared, IsZero, Row}
 use Rattle.disk_journal.proofs.Ranges.{overwritten_but, overwritten_stretch}
 use Rattle.disk_journal.specs.Changes.{AllBut}
@@ -79,14 +79,12 @@ none_other (zero ∷ octets) none zero = refl
 none_other (zero ∷ octets) none (suc i) = none_other octets none i
 none_other (suc octet ∷ octets) none i = absurd (let test : (suc octet == 0) ≡ false = grind (arith, nat_tests) in cc)
 
--- a block that was read
-pub zero_read : (from to n end : ℕ) (octets image : List ℕ) → IsZero from to image → octets ≡ take n (drop to image) → to + n ≡ end
-    → list_any (λ octet. not (octet == 0)) octets ≡ false → IsZero from end image
-zero_read from to n end octets image empty read ends none i low high = elim (cases_lt i to) [
-  | inl before ↦ empty i low before
-  | inr after ↦
-      let same : to + (i - to) ≡ i = omega arith in
-      let below : i - to < n = omega arith in
-      ap (λ (k : ℕ). get_or image k 0) (sym same) ∙ sym (get_or-drop to image (i - to) 0) ∙ sym (get_or-take n (drop to image) (i - to) 0 below)
-      ∙ ap (λ (some : List ℕ). get_or some (i - to) 0) (sym read) ∙ none_other octets none (i - to)
-]
+-- octets that were read
+pub zero_read : (at n : ℕ) (octets image : List ℕ) (other : Bool) → octets ≡ take n (drop at image)
+    → other ≡ list_any (λ octet. not (octet == 0)) octets → IsTrue (not other) → IsZero at (at + n) image
+zero_read at n octets image true read same none i low high = absurd (cc)
+zero_read at n octets image false read same none i low high =
+    let here : at + (i - at) ≡ i = omega arith in
+    let below : i - at < n = omega arith in
+    ap (λ (k : ℕ). get_or image k 0) (sym here) ∙ sym (get_or-drop at image (i - at) 0) ∙ sym (get_or-take n (drop at image) (i - at) 0 below)
+    ∙ ap (λ (some : List ℕ). get_or some (i - at) 0) (sym read) ∙ none_other octets (sym same) (i - at)

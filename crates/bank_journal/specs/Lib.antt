@@ -1,3 +1,4 @@
+pub mod Gates
 pub mod Banks
 pub mod Image
 pub mod Fault

@@ -1,32 +1,86 @@
-// The gates of the slots of a bank.
-ghost use Rattle.std.specs.Prelude.{◌≡◌, ◌+◌, ◌-◌, ◌^◌, ◌<◌, ◌≤◌, IsTrue, IfOk, length};
+// The gates of the slots of a bank. They are read with their slots, a run of these in a call.
+ghost use Rattle.std.specs.Prelude.{◌≡◌, ◌+◌, ◌-◌, ◌*◌, ◌^◌, ◌<◌, ◌≤◌, IsTrue, IfOk, length, slice_index};
 ghost use Rattle.sdls_outside.specs.Faults.{HasCause};
 ghost use Rattle.sdls_base.specs.FirstFailing.{first_failing};
 ghost use Rattle.disk_journal.specs.Gates.{IsFirstClosed};
-ghost use Rattle.bank_journal.specs.Banks.{bank_length, slot_at, gate_at};
+ghost use Rattle.bank_journal.specs.Banks.{bank_length, gate_at};
 ghost use Rattle.bank_journal.specs.Fault.{gate_checks};
+ghost use Rattle.bank_journal.specs.Gates.{IsFirstOther};
 
-use crate::layout::Layout;
-use disk_journal::{CLOSED, OPEN};
+use crate::layout::{Layout, RUN, RUN_LENGTH};
+use disk_journal::{CLOSED, OPEN, SLOT_LENGTH};
 use sdls_outside::{Failed, Site};
 
-/// The gate of a slot, of the bank that begins at `bank`.
-pub(crate) fn gate<O: Site>(
+/// The first of so many slots whose gate is not this octet, or their number if all have it.
+fn first_other_of(slots: &[u8], count: u32, gate: u8) -> u32
+    requires { length slots.now ≡ SLOT_LENGTH * count }
+    ensures { IsFirstOther (λ i. slice_index slots.now (SLOT_LENGTH * i)) gate 0 count result }
+{
+    for index in 0..count {
+        if slots[SLOT_LENGTH as usize * index as usize] != gate {
+            return index;
+        }
+    }
+    count
+}
+
+/// The first slot from `first` on, and before `end`, whose gate is not this octet, or `end` if all have it. The slots
+/// are read into `slots`.
+fn first_other_in_run<O: Site>(
     site: &mut O,
     layout: Layout,
     bank: u64,
-    index: u32,
-) -> Result<u8, Failed>
-    requires place { slot_at layout bank index < 2 ^ 64 }
-    requires within { IsTrue O.told → slot_at layout bank index < length (O.trace site.old).now.image }
-    ensures gate { IsTrue O.told → IfOk result (λ gate. gate ≡ gate_at layout (O.trace site.old).now.image bank index) }
+    first: u32,
+    end: u32,
+    gate: u8,
+    slots: &mut [u8],
+) -> Result<u32, Failed>
+    requires ordered { first ≤ end }
+    requires slots { end ≤ layout.slots }
+    requires room { length slots.old ≡ SLOT_LENGTH * (end - first) }
+    requires place { bank + bank_length layout < 2 ^ 64 }
+    requires within { IsTrue O.told → bank + bank_length layout ≤ length (O.trace site.old).now.image }
+    ensures within { IfOk result (λ index. index ≤ end) }
+    ensures found { IsTrue O.told → IfOk result
+        (IsFirstOther (gate_at layout (O.trace site.old).now.image bank) gate first end) }
     ensures same { IsTrue O.told → O.trace site.new ≡ O.trace site.old }
     ensures cause { HasCause (O.faults site.old) (O.faults site.new) result }
     ensures puts { O.put_faults site.new ≡ O.put_faults site.old }
 {
-    let mut octets = [0];
-    site.read_at(layout.slot_offset(bank, index), &mut octets)?;
-    Ok(octets[0])
+    site.read_at(layout.slot_offset(bank, first), slots)?;
+    Ok(first + first_other_of(slots, end - first, gate))
+}
+
+/// The first slot from `from` on whose gate is not this octet, or the number of slots if all have it.
+fn first_other<O: Site>(
+    site: &mut O,
+    layout: Layout,
+    bank: u64,
+    from: u32,
+    gate: u8,
+) -> Result<u32, Failed>
+    requires place { bank + bank_length layout < 2 ^ 64 }
+    requires within { IsTrue O.told → bank + bank_length layout ≤ length (O.trace site.old).now.image }
+    ensures within { IfOk result (λ index. index ≤ layout.slots) }
+    ensures found { IsTrue O.told → IfOk result
+        (IsFirstOther (gate_at layout (O.trace site.old).now.image bank) gate from layout.slots) }
+    ensures same { IsTrue O.told → O.trace site.new ≡ O.trace site.old }
+    ensures cause { HasCause (O.faults site.old) (O.faults site.new) result }
+    ensures puts { O.put_faults site.new ≡ O.put_faults site.old }
+{
+    let mut room = [0; RUN_LENGTH];
+    let mut first = from;
+    while first < layout.slots {
+        let count = RUN.min(layout.slots - first);
+        let end = first + count;
+        let slots = &mut room[..SLOT_LENGTH as usize * count as usize];
+        let index = first_other_in_run(site, layout, bank, first, end, gate, slots)?;
+        if index < end {
+            return Ok(index);
+        }
+        first = end;
+    }
+    Ok(layout.slots)
 }
 
 /// The first closed one of the slots, or their number if none is closed.
@@ -40,12 +94,7 @@ pub(crate) fn first_closed<O: Site>(site: &mut O, layout: Layout, bank: u64) -> 
     ensures cause { HasCause (O.faults site.old) (O.faults site.new) result }
     ensures puts { O.put_faults site.new ≡ O.put_faults site.old }
 {
-    for index in 0..layout.slots {
-        if gate(site, layout, bank, index)? != OPEN {
-            return Ok(index);
-        }
-    }
-    Ok(layout.slots)
+    first_other(site, layout, bank, 0, OPEN)
 }
 
 /// Where the first slot from `from` on begins whose gate is not 0.
@@ -63,10 +112,9 @@ pub(crate) fn stray_gate<O: Site>(
     ensures cause { HasCause (O.faults site.old) (O.faults site.new) result }
     ensures puts { O.put_faults site.new ≡ O.put_faults site.old }
 {
-    for index in from..layout.slots {
-        if gate(site, layout, bank, index)? != CLOSED {
-            return Ok(Some(layout.slot_offset(bank, index)));
-        }
+    let index = first_other(site, layout, bank, from, CLOSED)?;
+    if index < layout.slots {
+        return Ok(Some(layout.slot_offset(bank, index)));
     }
     Ok(None)
 }

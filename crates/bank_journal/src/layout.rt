@@ -25,6 +25,12 @@ pub const CONTENT_LENGTH: usize = 51_703;
 /// The generation of the bank that an image begins with.
 pub const FIRST_GENERATION: u64 = 1;
 
+/// The most slots, or blocks of their length, that are read in a call.
+pub(crate) const RUN: u32 = 64;
+
+/// The octets of so many.
+pub(crate) const RUN_LENGTH: usize = RUN as usize * SLOT_LENGTH as usize;
+
 /// One of the two banks of an image.
 #[derive(Clone, Copy, Debug, PartialEq, Eq)]
 pub enum Bank {

@@ -7,6 +7,7 @@ ghost use Rattle.bank_journal.specs.Changes.{IsZero, IsCleared};
 ghost use Rattle.bank_journal.specs.Changes.{Gated, GatedSlot};
 
 use crate::header::has_other;
+use crate::layout::{RUN, RUN_LENGTH};
 use crate::storing::{clear_bank, store};
 use disk_journal::{CLOSED, SLOT_LENGTH};
 use sdls_outside::{Failed, Site};
@@ -55,6 +56,19 @@ pub(crate) fn close_slot<O: Site>(
     close_gate(site, at)
 }
 
+/// Whether the octets from `at` on are 0, as many as `octets` has, into which they are read.
+fn reads_zeros<O: Site>(site: &mut O, at: u64, octets: &mut [u8]) -> Result<bool, Failed>
+    requires { IsTrue O.told → at + length octets.old ≤ length (O.trace site.old).now.image }
+    ensures zero { IsTrue O.told → IfOk result (λ found. IsTrue found
+        → IsZero at (at + length octets.old) (O.trace site.old).now.image) }
+    ensures same { IsTrue O.told → O.trace site.new ≡ O.trace site.old }
+    ensures cause { HasCause (O.faults site.old) (O.faults site.new) result }
+    ensures puts { O.put_faults site.new ≡ O.put_faults site.old }
+{
+    site.read_at(at, octets)?;
+    Ok(!has_other(octets))
+}
+
 /// Whether so many blocks of a slot's length are 0, from `bank` on.
 fn is_zero<O: Site>(site: &mut O, bank: u64, blocks: u32) -> Result<bool, Failed>
     requires place { bank + SLOT_LENGTH * blocks < 2 ^ 64 }
@@ -65,12 +79,15 @@ fn is_zero<O: Site>(site: &mut O, bank: u64, blocks: u32) -> Result<bool, Failed
     ensures cause { HasCause (O.faults site.old) (O.faults site.new) result }
     ensures puts { O.put_faults site.new ≡ O.put_faults site.old }
 {
-    let mut octets = [0; SLOT_LENGTH as usize];
-    for block in 0..blocks {
-        site.read_at(bank + SLOT_LENGTH * block as u64, &mut octets)?;
-        if has_other(&octets) {
+    let mut room = [0; RUN_LENGTH];
+    let mut block = 0;
+    while block < blocks {
+        let count = RUN.min(blocks - block);
+        let octets = &mut room[..SLOT_LENGTH as usize * count as usize];
+        if !reads_zeros(site, bank + SLOT_LENGTH * block as u64, octets)? {
             return Ok(false);
         }
+        block += count;
     }
     Ok(true)
 }
