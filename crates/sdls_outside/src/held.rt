@@ -10,12 +10,13 @@ ghost use Rattle.sdls_outside.specs.Undo.{CanPlayBack, CanPlayBack-prop, range_o
 use crate::Crash;
 use crate::undo::{Undo, play_back};
 use std::alloc::{AllocError, Global};
+use std::collections::VecDeque;
 
 // The image and the sink. `undos` are what undoes the writes since the last sync, the newest first.
 #[derive(Drop)]
 pub struct Held {
     pub image: Vec<u8>,
-    pub undos: Vec<Undo>,
+    pub undos: VecDeque<Undo>,
     pub sunk: Vec<u8>,
     ghost stays: { Leaves (disk_from image.items undos.items sunk.items) image.items },
     ghost can_lose: { CanPlayBack undos.items image.items } by { CanPlayBack-prop undos.items image.items },
@@ -30,7 +31,7 @@ impl Held {
     {
         Held {
             image,
-            undos: Vec::new(alloc),
+            undos: VecDeque::new(alloc),
             sunk: Vec::new(alloc),
         }
     }
@@ -45,9 +46,9 @@ impl Held {
         ensures err { OnErr result (disk_of self.new ≡ disk_of self.old) }
     {
         let undo = Undo::of(alloc, &self.image, at, octets)?;
-        self.undos.insert(0, undo)?;
+        self.undos.push_front(undo)?;
         if let Err(no_memory) = overwrite(&mut self.image, at as usize, octets) {
-            self.undos.remove(0);
+            self.undos.pop_front();
             return Err(no_memory);
         }
         Ok(())
@@ -75,7 +76,7 @@ impl Held {
         } = self;
         match how {
             Crash::Kept => {}
-            Crash::Lost => play_back(&mut image, &undos),
+            Crash::Lost => play_back(&mut image, undos),
             Crash::Filled(octet) => fill(&mut image, &undos, octet),
         }
         image
@@ -96,10 +97,11 @@ fn overwrite(image: &mut Vec<u8>, at: usize, octets: &[u8]) -> Result<(), AllocE
 }
 
 // Puts the octet everywhere in the ranges that were written.
-fn fill(image: &mut [u8], undos: &[Undo], octet: u8)
-    ensures inside { (i : ℕ) → i < length image.old → Inside (map range_of undos.now) i
+fn fill(image: &mut [u8], undos: &VecDeque<Undo>, octet: u8)
+    ensures inside { (i : ℕ) → i < length image.old → Inside (map range_of undos.now.items) i
         → slice_index image.new i ≡ octet }
-    ensures outside { (i : ℕ) → Outside (map range_of undos.now) i → slice_index image.new i ≡ slice_index image.old i }
+    ensures outside { (i : ℕ) → Outside (map range_of undos.now.items) i
+        → slice_index image.new i ≡ slice_index image.old i }
 {
     for (i, here) in image.iter_mut().enumerate() {
         if is_inside(undos, i as u64) {
@@ -109,8 +111,8 @@ fn fill(image: &mut [u8], undos: &[Undo], octet: u8)
 }
 
 // Whether an octet lies in one of the ranges that were written.
-fn is_inside(undos: &[Undo], i: u64) -> bool
-    ensures { result ≡ list_any (covers i) (map range_of undos.now) }
+fn is_inside(undos: &VecDeque<Undo>, i: u64) -> bool
+    ensures { result ≡ list_any (covers i) (map range_of undos.now.items) }
 {
     undos
         .iter()

@@ -4,6 +4,7 @@ ghost use Rattle.sdls_outside.specs.Site.{overwritten};
 ghost use Rattle.sdls_outside.specs.Undo.{CanPlayBack, CanUndo, played_back, range_of, undone};
 
 use std::alloc::{AllocError, Global};
+use std::collections::VecDeque;
 
 // Where a write began, how many octets it has, and what it wrote over: fewer octets where it went past the image's end.
 #[derive(Drop)]
@@ -52,11 +53,11 @@ impl Undo {
 }
 
 // Makes the image what it was before all these writes, the newest first.
-pub fn play_back(image: &mut Vec<u8>, undos: &[Undo])
-    requires { CanPlayBack undos.now image.old.items }
-    ensures { image.new.items ≡ played_back undos.now image.old.items }
+pub fn play_back(image: &mut Vec<u8>, mut undos: VecDeque<Undo>)
+    requires { CanPlayBack undos.items image.old.items }
+    ensures { image.new.items ≡ played_back undos.items image.old.items }
 {
-    for undo in undos {
+    while let Some(undo) = undos.pop_front() {
         undo.restore(image);
     }
 }

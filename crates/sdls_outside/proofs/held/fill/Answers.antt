@@ -18,7 +18,7 @@ at ranges i answer same = subst (λ (b : Bool). MatchBool b (Inside ranges i) (O
 pub loop-i-preserved : goal.loop-i-preserved
 loop-i-preserved c =
     let i = c.loop-i.i in
-    let ranges = map range_of c.args.undos.now in
+    let ranges = map range_of c.args.undos.now.items in
     let kept = c.loop-i.invariant in
     let within : i < length c.loop-i.image = omega arith in
     let P : List ℕ → Type 0 = λ image. IsFilledBelow (i + 1) c.args.octet ranges c.args.image.now image in
