@@ -14,6 +14,7 @@ mod laws;
 mod outcome;
 mod reader;
 mod records;
+mod spare;
 pub mod status;
 
 pub use answer_reading::{AnswerError, AnswerHead, known_head, read_answer};
@@ -23,3 +24,4 @@ pub use laws::{answers_are_shown, answers_shown_once, begins_reading, input_read
 pub use outcome::Outcome;
 pub use reader::{Reader, SEGMENT_RECORDS};
 pub use records::{Record, SegmentEnd};
+pub use spare::Spare;

@@ -13,6 +13,7 @@ ghost use Rattle.record_io.specs.Steps.{CountsRecords, Segment, due_beginning, E
 use crate::heads::{Head, head_of};
 use crate::kinds::{ItemKind, RecordKind, is_monitor};
 use crate::records::{Record, SegmentEnd};
+use crate::spare::Spare;
 use sdls_base::{NoMemory, Octets};
 use sdls_outside::{Failed, Source, collect};
 use std::alloc::Global;
@@ -42,6 +43,7 @@ pub(crate) enum Read {
 pub struct Reader {
     taken: u64,
     records: u64,
+    spare: Spare,
 }
 
 impl Model for Reader {
@@ -58,12 +60,13 @@ impl Model for Reader {
 
 impl Reader {
     /// A reader before the first octet.
-    pub fn new() -> Reader
+    pub fn new(alloc: Global) -> Reader
         ensures { result ≡ first_standing }
     {
         Reader {
             taken: 0,
             records: 0,
+            spare: Spare::new(alloc),
         }
     }
 
@@ -72,6 +75,13 @@ impl Reader {
         ensures { result ≡ self.now.taken }
     {
         self.taken
+    }
+
+    /// Takes back records that are done with: their lists are filled again.
+    pub fn take_back(&mut self, records: Vec<Record>)
+        ensures { self.new ≡ self.old }
+    {
+        self.spare.keep_records(records);
     }
 
     /// Takes octets until the room is full or the input ends, and answers how many.
@@ -119,7 +129,7 @@ impl Reader {
         ensures later { S.faults source.old ≤ S.faults source.new }
         ensures cause { IfOk result (HasCause (S.faults source.old) (S.faults source.new)) }
     {
-        let mut octets = vec![in alloc; 0; usize::from(len)]?;
+        let mut octets = self.spare.take_long(alloc, usize::from(len))?;
         match self.take(source, octets.as_mut_slice()) {
             Ok(count) => {
                 octets.truncate(count);
