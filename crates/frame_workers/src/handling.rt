@@ -16,7 +16,7 @@ use crate::answering::{
     WINDOW_OCTETS, answer_no_memory, commanded_answer, opened_answer, protected_answer,
 };
 use crate::permits::{PLACES, Permits, place_for};
-use record_io::{Answer, Record, RecordKind};
+use record_io::{Answer, Record, RecordKind, Spare};
 use sdls_outside::Site;
 use shared_unit::{OpenPermit, Permit, Unit, Worker};
 use std::alloc::{AllocError, Global};
@@ -26,11 +26,11 @@ use std::sync::Wait;
 const MOST_GAIN: usize = 32;
 
 /// An empty body, with room for a frame of so many octets once it is protected.
-fn body_for(alloc: Global, clear: &[u8]) -> Result<Vec<u8>, AllocError>
+fn body_for(alloc: Global, spare: &mut Spare, clear: &[u8]) -> Result<Vec<u8>, AllocError>
     ensures empty { IfOk result (λ body. body.items ≡ []) }
     ensures room { IfOk result (λ body. length clear.now + MOST_GAIN ≤ vec_capacity body) }
 {
-    Vec::with_capacity(alloc, clear.len() + MOST_GAIN)
+    spare.take_empty(alloc, clear.len() + MOST_GAIN)
 }
 
 /// Protects the record's frame in the room, which is of the lane. The answer's body is taken first, so that no number
@@ -42,6 +42,7 @@ fn protect<R: Wait, O: Site>(
     worker: &mut Worker<O>,
     kept: &mut Option<Permit>,
     room: &mut [u8],
+    spare: &mut Spare,
     task: &Record,
 ) -> Option<Answer>
     requires kind { task.now.kind ≡ kinds.Protect }
@@ -59,7 +60,7 @@ fn protect<R: Wait, O: Site>(
         → AnsweredExactly begin segment (view worker.old) (view worker.new) task.now result }
 {
     let clear = task.octets.as_slice();
-    let Ok(body) = body_for(alloc, clear) else {
+    let Ok(body) = body_for(alloc, spare, clear) else {
         return Some(answer_no_memory(alloc));
     };
     let protected = unit.protect(rt, worker, kept, task.link, clear, room);
@@ -67,11 +68,11 @@ fn protect<R: Wait, O: Site>(
 }
 
 /// A copy of the octets, with room for the answer that tells a window.
-fn copy_octets(alloc: Global, octets: &[u8]) -> Result<Vec<u8>, AllocError>
+fn copy_octets(alloc: Global, spare: &mut Spare, octets: &[u8]) -> Result<Vec<u8>, AllocError>
     ensures items { IfOk result (λ copy. copy.items ≡ octets.now) }
     ensures room { IfOk result (λ copy. WINDOW_OCTETS ≤ vec_capacity copy) }
 {
-    let mut copy = Vec::with_capacity(alloc, octets.len().max(WINDOW_OCTETS))?;
+    let mut copy = spare.take_empty(alloc, octets.len().max(WINDOW_OCTETS))?;
     copy.extend_from_slice(octets)?;
     Ok(copy)
 }
@@ -83,6 +84,7 @@ fn open<R: Wait, O: Site>(
     unit: &Unit<O>,
     worker: &mut Worker<O>,
     kept: &mut Option<OpenPermit>,
+    spare: &mut Spare,
     task: &Record,
 ) -> Option<Answer>
     requires kind { task.now.kind ≡ kinds.Open }
@@ -99,7 +101,7 @@ fn open<R: Wait, O: Site>(
         → AnsweredExactly begin segment (view worker.old) (view worker.new) task.now result }
 {
     let octets = task.octets.as_slice();
-    let Ok(mut frame) = copy_octets(alloc, octets) else {
+    let Ok(mut frame) = copy_octets(alloc, spare, octets) else {
         return Some(answer_no_memory(alloc));
     };
     let opened = unit.open_frame(
@@ -145,6 +147,7 @@ fn handle_under<R: Wait, O: Site>(
     worker: &mut Worker<O>,
     kept: &mut Permits,
     room: &mut [u8],
+    spare: &mut Spare,
     task: &Record,
 ) -> Option<Answer>
     requires plain { task.now.kind ≢ kinds.Monitor }
@@ -162,8 +165,17 @@ fn handle_under<R: Wait, O: Site>(
         → AnsweredExactly begin segment (view worker.old) (view worker.new) task.now result }
 {
     match task.kind {
-        RecordKind::Protect => protect(rt, alloc, unit, worker, &mut kept.to_protect, room, task),
-        RecordKind::Open => open(rt, alloc, unit, worker, &mut kept.to_open, task),
+        RecordKind::Protect => protect(
+            rt,
+            alloc,
+            unit,
+            worker,
+            &mut kept.to_protect,
+            room,
+            spare,
+            task,
+        ),
+        RecordKind::Open => open(rt, alloc, unit, worker, &mut kept.to_open, spare, task),
         RecordKind::Command => command(rt, alloc, unit, worker, task),
         RecordKind::Monitor => unreachable!(),
     }
@@ -178,6 +190,7 @@ pub(crate) fn handle<R: Wait, O: Site>(
     worker: &mut Worker<O>,
     kept: &mut [Permits; PLACES],
     room: &mut [u8],
+    spare: &mut Spare,
     task: &Record,
 ) -> Option<Answer>
     requires plain { task.now.kind ≢ kinds.Monitor }
@@ -195,5 +208,5 @@ pub(crate) fn handle<R: Wait, O: Site>(
         → AnsweredExactly begin segment (view worker.old) (view worker.new) task.now result }
 {
     let place = place_for(task);
-    handle_under(rt, alloc, unit, worker, &mut kept[place], room, task)
+    handle_under(rt, alloc, unit, worker, &mut kept[place], room, spare, task)
 }

@@ -1,5 +1,5 @@
 // The workers of lanes, split from one and joined to it again.
-ghost use Rattle.std.specs.Prelude.{◌≡◌, ◌≢◌, ◌<◌, ◌≤◌, ℕ, All, true, [], IfOk, length, slice_index_or, vec_capacity};
+ghost use Rattle.std.specs.Prelude.{◌≡◌, ◌≢◌, ◌<◌, ◌≤◌, ◌+◌, ℕ, All, true, [], IfOk, length, slice_index_or, vec_capacity};
 ghost use Rattle.std.specs.List.{AllPairs, list_any};
 ghost use Rattle.sdls_base.specs.declared.TheConstants.{MOST_KEYS};
 ghost use Rattle.counter_table.specs.Worker.{view};
@@ -11,11 +11,12 @@ ghost use Rattle.frame_workers.specs.Lanes.{answers_of, HaveOwnNumbers, IsRoom, 
 use crate::lane::Lane;
 use crate::permits::no_permits;
 use frame_shield::FRAME_ROOM;
-use record_io::{Answer, LANES, Record};
+use record_io::{Answer, LANES, Record, SEGMENT_RECORDS, Spare};
 use sdls_base::NoMemory;
 use sdls_outside::Site;
 use shared_unit::{Shelf, Unit, Worker};
 use std::alloc::Global;
+use std::mem;
 
 /// The lanes that there may be.
 const MOST_LANES: usize = LANES as usize;
@@ -24,6 +25,25 @@ const MOST_LANES: usize = LANES as usize;
 #[derive(Drop)]
 pub(crate) struct Used {
     pub(crate) lanes: [bool; MOST_LANES],
+}
+
+impl Used {
+    /// How many lanes have records.
+    fn count(&self) -> usize
+        ensures { result ≤ LANES }
+    {
+        self.lanes.iter().filter(|used| **used).count()
+    }
+}
+
+/// The spare lists of one of so many lanes: each is given as many, and one lane alone all.
+fn share_for(alloc: Global, spare: &mut Spare, lanes: usize) -> Spare
+    ensures { result + spare.new ≡ spare.old }
+{
+    if lanes <= 1 {
+        return mem::replace(spare, Spare::new(alloc));
+    }
+    spare.share(alloc, SEGMENT_RECORDS / lanes)
 }
 
 /// Which lanes the records are of.
@@ -75,13 +95,15 @@ pub(crate) fn rooms_for(
     Ok(rooms)
 }
 
-/// Splits a worker off for each lane that has records.
+/// Splits a worker off for each lane that has records, and gives it a share of the spare lists.
 pub(crate) fn split_lanes<O: Site>(
+    alloc: Global,
     unit: &Unit<O>,
     worker: &mut Worker<O>,
     records: &[Record],
     used: &Used,
     mut rooms: Vec<Vec<Answer>>,
+    spare: &mut Spare,
     lanes: &mut Vec<Lane<Shelf<O>>>,
 )
     requires ready { IsReady unit.now.counters unit.now.plan worker.old }
@@ -99,6 +121,7 @@ pub(crate) fn split_lanes<O: Site>(
     ensures each { (number : ℕ) → number < LANES → list_any (is_of_lane number) records.now ≡ true
         → IsThere number lanes.new.items }
 {
+    let count = used.count();
     'rooms: while let Some(answers) = rooms.pop() {
         let number = rooms.len() as u8;
         if !used.lanes[usize::from(number)] {
@@ -111,17 +134,20 @@ pub(crate) fn split_lanes<O: Site>(
             kept: no_permits(),
             answers,
             full: false,
+            spare: share_for(alloc, spare, count),
             room: [0; FRAME_ROOM],
         });
     }
 }
 
 /// Joins the lanes' workers, the last lane first, and keeps the answers of each under its number, the last one first.
+/// Spare lists that a lane did not fill come back.
 pub(crate) fn join_lanes<O: Site>(
     unit: &Unit<O>,
     worker: &mut Worker<O>,
     mut lanes: Vec<Lane<Shelf<O>>>,
     parts: &mut [Vec<Answer>],
+    spare: &mut Spare,
 )
     requires ready { IsReady unit.now.counters unit.now.plan worker.old }
     requires lanes { All (λ lane. IsReady unit.now.counters unit.now.plan lane.worker × (lane.number < LANES))
@@ -137,8 +163,9 @@ pub(crate) fn join_lanes<O: Site>(
 {
     'lanes: while let Some(lane) = lanes.pop() {
         let number = usize::from(lane.number);
-        let (other, mut answers) = lane.into_parts();
+        let (other, mut answers, left) = lane.into_parts();
         unit.join(worker, other);
+        spare.rejoin(left);
         answers.reverse();
         parts[number] = answers;
     }

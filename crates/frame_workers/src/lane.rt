@@ -10,7 +10,7 @@ use crate::gate::Gate;
 use crate::handling::handle;
 use crate::permits::{PLACES, Permits};
 use frame_shield::FRAME_ROOM;
-use record_io::{Answer, Record};
+use record_io::{Answer, Record, Spare};
 use sdls_outside::Site;
 use shared_unit::{Shelf, Unit};
 use std::alloc::Global;
@@ -26,6 +26,8 @@ pub(crate) struct Lane<B> {
     pub(crate) kept: [Permits; PLACES],
     pub(crate) answers: Vec<Answer>,
     pub(crate) full: bool,
+    /// Lists for the bodies of answers.
+    pub(crate) spare: Spare,
     /// Where the lane's frames are protected.
     pub(crate) room: [u8; FRAME_ROOM],
 }
@@ -38,13 +40,14 @@ impl<B> Drop for Lane<B> {
             kept: _,
             answers: _,
             full: _,
+            spare: _,
             room: _,
         } = self;
     }
 }
 
 impl<B> Lane<B> {
-    pub(crate) fn into_parts(self) -> (counter_table::Worker<B>, Vec<Answer>)
+    pub(crate) fn into_parts(self) -> (counter_table::Worker<B>, Vec<Answer>, Spare)
         ensures worker { result.0 ≡ self.worker }
         ensures answers { result.1 ≡ self.answers }
     {
@@ -54,9 +57,10 @@ impl<B> Lane<B> {
             kept: _,
             answers,
             full: _,
+            spare,
             room: _,
         } = self;
-        (worker, answers)
+        (worker, answers, spare)
     }
 }
 
@@ -86,6 +90,7 @@ fn run_lane<R: Wait, O: Site, G: Gate>(
             &mut lane.worker,
             &mut lane.kept,
             &mut lane.room,
+            &mut lane.spare,
             task,
         );
         gate.done(task.lane, task.index);

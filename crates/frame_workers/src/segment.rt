@@ -22,7 +22,7 @@ use crate::gate::Gate;
 use crate::joining::{join_lanes, rooms_for, split_lanes, used_lanes};
 use crate::lane::run_lanes;
 use crate::placing::place_answers;
-use record_io::{Answer, LANES, Record};
+use record_io::{Answer, LANES, Record, Spare};
 use sdls_base::NoMemory;
 use sdls_outside::Site;
 use shared_unit::{Unit, Worker};
@@ -66,13 +66,14 @@ fn look_back<O: Site>(unit: &Unit<O>, worker: &mut Worker<O>)
 
 /// Handles the records of a segment, the lanes at the same time, each by a worker of its own, and the records of a lane
 /// one after the other. The answers stand in the order of the records. Where memory is wanting, no record was handled.
-/// None of them is a Monitor record, which no worker handles.
+/// None of them is a Monitor record, which no worker handles. The bodies of answers are spare lists, if there are any.
 pub fn run_segment<R: Threads + Wait + Sync, O: Site + Send, G: Gate + Sync>(
     rt: &R,
     alloc: Global,
     unit: &Unit<O>,
     worker: &mut Worker<O>,
     records: &[Record],
+    spare: &mut Spare,
     gate: &G,
 ) -> Result<Segment, NoMemory>
     requires ready { IsReady unit.now.counters unit.now.plan worker.old }
@@ -116,9 +117,11 @@ pub fn run_segment<R: Threads + Wait + Sync, O: Site + Send, G: Gate + Sync>(
     let mut lanes = Vec::with_capacity(alloc, usize::from(LANES))?;
     let mut parts = empty_rooms(alloc)?;
     let mut answers = Vec::with_capacity(alloc, records.len())?;
-    split_lanes(unit, worker, records, &used, rooms, &mut lanes);
+    split_lanes(
+        alloc, unit, worker, records, &used, rooms, spare, &mut lanes,
+    );
     run_lanes(rt, alloc, unit, records, gate, lanes.as_mut_slice());
-    join_lanes(unit, worker, lanes, parts.as_mut_slice());
+    join_lanes(unit, worker, lanes, parts.as_mut_slice(), spare);
     look_back(unit, worker);
     let full = place_answers(records, parts.as_mut_slice(), &mut answers);
     Ok(Segment { answers, full })
