@@ -103,6 +103,7 @@ fn serve_with_log<R: Threads + Wait + Sync, S: Source, O: Site + Send, G: Gate +
         worker,
         log: _,
         piece: _,
+        spare: _,
     } = session;
     (unit, worker, came)
 }

@@ -125,12 +125,21 @@ impl<O: Site + Send> Session<O> {
             (λ begin. ServesSegment begin records.now result (view self.old.worker) (view self.new.worker)
             self.old.log self.new.log) }
     {
-        let segment = match run_segment(rt, alloc, &self.unit, &mut self.worker, records, gate) {
+        let segment = match run_segment(
+            rt,
+            alloc,
+            &self.unit,
+            &mut self.worker,
+            records,
+            &mut self.spare,
+            gate,
+        ) {
             Ok(segment) => segment,
             Err(NoMemory) => return Err(Stop::NoMemory),
         };
         note_all(&mut self.log, records, &segment.answers);
         let put = self.put_answers(rt, &segment.answers);
+        self.spare.keep_answers(segment.answers);
         stop_after(put, segment.full)
     }
 
@@ -168,7 +177,10 @@ impl<O: Site + Send> Session<O> {
             Err(NoMemory) => return Some(RunEnd::NoMemory),
         };
         match self.serve(rt, alloc, &records, gate) {
-            Ok(()) => self.end_segment(rt, alloc, end),
+            Ok(()) => {
+                reader.take_back(records);
+                self.end_segment(rt, alloc, end)
+            }
             Err(stop) => Some(end_of(stop)),
         }
     }
@@ -197,7 +209,7 @@ impl<O: Site + Send> Session<O> {
             (begin : Begin) → BeganWith O.told begin (view self.old.worker).turn.known.opening
             → Comes before after begin (view self.old.worker) (view self.new.worker) result }
     {
-        let mut reader = Reader::new();
+        let mut reader = Reader::new(alloc);
         'segments: loop {
             match self.serve_next(rt, alloc, source, &mut reader, gate) {
                 None => {}

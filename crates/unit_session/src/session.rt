@@ -6,7 +6,7 @@ ghost use Rattle.unit_session.specs.Putting.{IsAlone, PutsOctets, TakesOctets};
 
 use crate::putting::put_alone;
 use fsr_log::Log;
-use record_io::{ANSWER_HEADER, Answer, answer_header};
+use record_io::{ANSWER_HEADER, Answer, Spare, answer_header};
 use sdls_outside::Site;
 use shared_unit::{Unit, Worker};
 use std::alloc::{AllocError, Global};
@@ -23,6 +23,7 @@ pub struct Session<O: Site> {
     pub(crate) worker: Worker<O>,
     pub(crate) log: Log,
     pub(crate) piece: Vec<u8>,
+    pub(crate) spare: Spare,
 }
 
 /// Room for a piece of answers. Where memory is wanting for it there is none, and answers are put alone.
@@ -60,6 +61,7 @@ impl<O: Site> Session<O> {
             worker,
             log,
             piece: room_for_answers(alloc),
+            spare: Spare::new(alloc),
         }
     }
 
