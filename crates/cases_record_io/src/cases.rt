@@ -101,11 +101,12 @@ fn push_segment(
 /// What the reader answers to the first octets of a case, segment by segment.
 pub fn answer(alloc: Global, case: &Case, len: usize) -> anyhow::Result<String> {
     let mut source = case.source(alloc, len)?;
-    let mut reader = Reader::new();
+    let mut reader = Reader::new(alloc);
     let mut text = String::new(alloc);
     for _ in 0..MOST_SEGMENTS {
         let (records, end) = reader.next_segment(alloc, &mut source)?;
         push_segment(alloc, &mut text, &records, &end)?;
+        reader.take_back(records);
         if !matches!(end, SegmentEnd::More | SegmentEnd::Monitor(_)) {
             break;
         }

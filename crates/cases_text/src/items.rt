@@ -46,7 +46,7 @@ fn put_segment(
 /// in the input.
 pub fn answer(alloc: Global, case: &str) -> anyhow::Result<Option<String>> {
     let mut input = input_of(alloc, case)?;
-    let mut reader = Reader::new();
+    let mut reader = Reader::new(alloc);
     let mut text = Vec::new(alloc);
     let mut end = SegmentEnd::More;
     for _ in 0..MOST_SEGMENTS {
