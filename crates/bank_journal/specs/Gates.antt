@@ -1,7 +1,7 @@
 -- The first slot of a row whose gate is another octet (profile).
 use Rattle.std.specs.Prelude.{◌≡◌, ◌≢◌, ℕ, ◌<◌, ◌≤◌}
 
--- The slots from the first on have this gate up to the index, and the slot of the index has not, if it is before the end.
+-- The slots from the first on have this gate up to the index. The slot of the index, if it is before the end, has not.
 pub record IsFirstOther (gate : ℕ → ℕ) (octet first end index : ℕ) : Type 0 where
   pub within : index ≤ end
   pub reached : index < end → first ≤ index

@@ -38,4 +38,5 @@ CanUndo-prop undo image one other = λ i. record {
 
 pub CanPlayBack-prop : (undos : List Undo) (image : List ℕ) → IsProp (CanPlayBack undos image)
 CanPlayBack-prop [] image = Unit-prop
-CanPlayBack-prop (undo ∷ earlier) image = ×_prop (CanUndo-prop undo image) (CanPlayBack-prop earlier (undone undo image))
+CanPlayBack-prop (undo ∷ earlier) image =
+    ×_prop (CanUndo-prop undo image) (CanPlayBack-prop earlier (undone undo image))
