@@ -13,7 +13,7 @@ use crate::image::site_of;
 use disk_journal::PLAN_ROOM;
 use frame_workers::{Gate, run_segment};
 use record_io::code::{SITE_FAULT, STOPPED};
-use record_io::{Answer, Record, RecordKind};
+use record_io::{Answer, Record, RecordKind, Spare};
 use sdls_base::NoMemory;
 use sdls_outside::MemSite;
 use shared_unit::{Unit, Worker};
@@ -78,7 +78,16 @@ impl DrillUnit {
             × BeganWith true begin (view self.new.worker).turn.known.opening) }
         ensures few { IfOk result (λ answers. vec_len answers ≤ length records.now) }
     {
-        let segment = run_segment(rt, alloc, &self.unit, &mut self.worker, records, gate)?;
+        let mut spare = Spare::new(alloc);
+        let segment = run_segment(
+            rt,
+            alloc,
+            &self.unit,
+            &mut self.worker,
+            records,
+            &mut spare,
+            gate,
+        )?;
         if has_fault(&segment.answers) {
             return Err(NoMemory);
         }
