@@ -17,7 +17,7 @@ use Rattle.ep_codec.specs.declared.reply_pdu.ReplyPdu.{ReplyPdu}
 use Rattle.ep_codec.specs.declared.reply_pdu.ReplyPdu.TheVariants as replies
 use Rattle.record_io.specs.declared.answers.Answer.{Answer}
 use Rattle.answer_text.specs.declared.codes.Code.{Code}
-use Rattle.answer_text.specs.declared.codes.Code.TheVariants.{Protected, Accepted, Clear, Done, Refused, Monitored, MonitorFault, Layout, Channel, Spi, Direction, State, Coverage, Mac, Number, Exhausted, JournalFull, SiteFault, Stopped, NoMemory, End}
+use Rattle.answer_text.specs.declared.codes.Code.TheVariants.{Protected, Accepted, Clear, Done, Refused, Monitored, MonitorFault, Layout, Channel, Spi, Direction, State, Coverage, Mac, Number, Exhausted, SiteFault, Stopped, NoMemory, End}
 use Rattle.answer_text.specs.Code.{code_at, code_word, word_of, layout_details, state_details, refusal_details, end_numbers}
 use Rattle.answer_text.specs.Part.{Part, word_of_code}
 use Rattle.answer_text.specs.Part.Part.{named, number, word}
@@ -51,7 +51,6 @@ plain_code Coverage = refl
 plain_code Mac = refl
 plain_code Number = refl
 plain_code Exhausted = refl
-plain_code JournalFull = refl
 plain_code SiteFault = refl
 plain_code Stopped = refl
 plain_code NoMemory = refl
@@ -250,7 +249,6 @@ with_plain Coverage answer P has = (has.0, (has.1, refl))
 with_plain Mac answer P has = (has.0, (has.1, refl))
 with_plain Number answer P has = (has.0, has.1, (has.2, plain_append (numbered answer (codes "entry")) (window_parts answer.body) refl (plain_window answer.body)))
 with_plain Exhausted answer P has = (has.0, has.1, (has.2, refl))
-with_plain JournalFull answer P has = (has.0, (has.1, refl))
 with_plain SiteFault answer P has = (has.0, (has.1, refl))
 with_plain Stopped answer P has = (has.0, (has.1, refl))
 with_plain NoMemory answer P has = (has.0, has.1, (has.2, refl))
@@ -292,7 +290,6 @@ fact_of Coverage answer C has = has.1
 fact_of Mac answer C has = has.1
 fact_of Number answer C has = has.2
 fact_of Exhausted answer C has = has.2
-fact_of JournalFull answer C has = has.1
 fact_of SiteFault answer C has = has.1
 fact_of Stopped answer C has = has.1
 fact_of NoMemory answer C has = has.2

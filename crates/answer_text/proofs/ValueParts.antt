@@ -3,7 +3,7 @@ use Rattle.std.proofs.Common.{◌≡◌, ◌∷◌, [], ◌++◌, ℕ, List, Opt
 use Rattle.std.specs.Prelude.{IsSomeAnd, MatchOption, codes}
 use Rattle.record_io.specs.declared.answers.Answer.{Answer}
 use Rattle.answer_text.specs.declared.codes.Code.{Code}
-use Rattle.answer_text.specs.declared.codes.Code.TheVariants.{Protected, Accepted, Clear, Done, Refused, Monitored, MonitorFault, Layout, Channel, Spi, Direction, State, Coverage, Mac, Number, Exhausted, JournalFull, SiteFault, Stopped, NoMemory, End}
+use Rattle.answer_text.specs.declared.codes.Code.TheVariants.{Protected, Accepted, Clear, Done, Refused, Monitored, MonitorFault, Layout, Channel, Spi, Direction, State, Coverage, Mac, Number, Exhausted, SiteFault, Stopped, NoMemory, End}
 use Rattle.answer_text.specs.declared.error.TextError.{TextError}
 use Rattle.answer_text.specs.declared.error.TextError.TheVariants as errors
 use Rattle.answer_text.specs.declared.form.Form.{Form}
@@ -63,7 +63,6 @@ values_more Coverage answer P Q more has = (has.0, more _ has.1)
 values_more Mac answer P Q more has = (has.0, more _ has.1)
 values_more Number answer P Q more has = (has.0, has.1, more _ has.2)
 values_more Exhausted answer P Q more has = (has.0, has.1, more _ has.2)
-values_more JournalFull answer P Q more has = (has.0, more _ has.1)
 values_more SiteFault answer P Q more has = (has.0, more _ has.1)
 values_more Stopped answer P Q more has = (has.0, more _ has.1)
 values_more NoMemory answer P Q more has = (has.0, has.1, more _ has.2)

@@ -1,7 +1,7 @@
 -- The codes of answers, and what their details name (profile).
 use Rattle.std.specs.Prelude.{ℕ, ◌==◌, if◌then◌else◌, codes, List, [], ◌∷◌, Option, Some, None, find}
 use Rattle.record_io.specs.declared.code.TheConstants.{ACCEPTED, CHANNEL, CLEAR, COVERAGE, DIRECTION, DONE, END}
-use Rattle.record_io.specs.declared.code.TheConstants.{EXHAUSTED, JOURNAL_FULL, LAYOUT, MAC, NO_MEMORY, NUMBER}
+use Rattle.record_io.specs.declared.code.TheConstants.{EXHAUSTED, LAYOUT, MAC, NO_MEMORY, NUMBER}
 use Rattle.record_io.specs.declared.code.TheConstants.{MONITORED, MONITOR_FAULT}
 use Rattle.record_io.specs.declared.code.TheConstants.{PROTECTED, REFUSED, SITE_FAULT, SPI, STATE, STOPPED}
 use Rattle.record_io.specs.declared.status.TheConstants.{MALFORMED, NO_STATE, SOURCE_FAULT}
@@ -10,7 +10,7 @@ use Rattle.answer_text.specs.declared.codes.Code.{Code}
 use Rattle.answer_text.specs.declared.codes.Code.TheVariants.{Protected, Accepted, Clear, Done, Refused, Layout}
 use Rattle.answer_text.specs.declared.codes.Code.TheVariants.{Monitored, MonitorFault}
 use Rattle.answer_text.specs.declared.codes.Code.TheVariants.{Channel, Spi, Direction, State, Coverage, Mac, Number}
-use Rattle.answer_text.specs.declared.codes.Code.TheVariants.{Exhausted, JournalFull, SiteFault, Stopped, NoMemory, End}
+use Rattle.answer_text.specs.declared.codes.Code.TheVariants.{Exhausted, SiteFault, Stopped, NoMemory, End}
 
 abbrev pub code_octet : Code → ℕ
 code_octet Protected = PROTECTED
@@ -29,7 +29,6 @@ code_octet Coverage = COVERAGE
 code_octet Mac = MAC
 code_octet Number = NUMBER
 code_octet Exhausted = EXHAUSTED
-code_octet JournalFull = JOURNAL_FULL
 code_octet SiteFault = SITE_FAULT
 code_octet Stopped = STOPPED
 code_octet NoMemory = NO_MEMORY
@@ -52,7 +51,6 @@ code_word Coverage = codes "coverage"
 code_word Mac = codes "mac"
 code_word Number = codes "number"
 code_word Exhausted = codes "exhausted"
-code_word JournalFull = codes "journal-full"
 code_word SiteFault = codes "site-fault"
 code_word Stopped = codes "stopped"
 code_word NoMemory = codes "no-memory"
@@ -60,7 +58,7 @@ code_word End = codes "end"
 
 abbrev pub all_codes : List Code
 all_codes = Protected ∷ Accepted ∷ Clear ∷ Done ∷ Refused ∷ Monitored ∷ MonitorFault ∷ Layout ∷ Channel ∷ Spi
-    ∷ Direction ∷ State ∷ Coverage ∷ Mac ∷ Number ∷ Exhausted ∷ JournalFull ∷ SiteFault ∷ Stopped ∷ NoMemory ∷ End ∷ []
+    ∷ Direction ∷ State ∷ Coverage ∷ Mac ∷ Number ∷ Exhausted ∷ SiteFault ∷ Stopped ∷ NoMemory ∷ End ∷ []
 
 -- the code with this octet
 unfoldable pub code_at : ℕ → Option Code

@@ -10,7 +10,7 @@ use Rattle.answer_text.specs.declared.codes.Code.{Code}
 use Rattle.answer_text.specs.declared.codes.Code.TheVariants.{Protected, Accepted, Clear, Done, Refused, Layout}
 use Rattle.answer_text.specs.declared.codes.Code.TheVariants.{Monitored, MonitorFault}
 use Rattle.answer_text.specs.declared.codes.Code.TheVariants.{Channel, Spi, Direction, State, Coverage, Mac, Number}
-use Rattle.answer_text.specs.declared.codes.Code.TheVariants.{Exhausted, JournalFull, SiteFault, Stopped, NoMemory, End}
+use Rattle.answer_text.specs.declared.codes.Code.TheVariants.{Exhausted, SiteFault, Stopped, NoMemory, End}
 use Rattle.answer_text.specs.declared.error.TextError.{TextError}
 use Rattle.answer_text.specs.declared.error.TextError.TheVariants as errors
 use Rattle.answer_text.specs.declared.form.Form.{Form}
@@ -100,7 +100,6 @@ HasValues Mac answer P = IsPlain answer × P (named (codes "entry") answer.posit
 HasValues Number answer P = (answer.detail ≡ 0) × (length answer.body ≡ 16)
     × P (numbered answer (codes "entry") ++ window_parts answer.body)
 HasValues Exhausted answer P = (answer.detail ≡ 0) × (answer.body ≡ []) × P (numbered answer (codes "epoch"))
-HasValues JournalFull answer P = IsCounting answer × P (counting_parts answer (codes "slots"))
 HasValues SiteFault answer P = IsCounting answer × P (counting_parts answer (codes "faults"))
 HasValues Stopped answer P = IsCounting answer × P (counting_parts answer (codes "faults"))
 HasValues NoMemory answer P = IsPlain answer × (answer.position ≡ 0) × P []

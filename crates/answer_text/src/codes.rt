@@ -3,7 +3,7 @@ ghost use Rattle.std.specs.Prelude.{◌≡◌};
 ghost use Rattle.answer_text.specs.Code.{code_at, code_word};
 
 use record_io::code::{
-    ACCEPTED, CHANNEL, CLEAR, COVERAGE, DIRECTION, DONE, END, EXHAUSTED, JOURNAL_FULL, LAYOUT, MAC,
+    ACCEPTED, CHANNEL, CLEAR, COVERAGE, DIRECTION, DONE, END, EXHAUSTED, LAYOUT, MAC,
     MONITOR_FAULT, MONITORED, NO_MEMORY, NUMBER, PROTECTED, REFUSED, SITE_FAULT, SPI, STATE,
     STOPPED,
 };
@@ -27,7 +27,6 @@ pub(crate) enum Code {
     Mac,
     Number,
     Exhausted,
-    JournalFull,
     SiteFault,
     Stopped,
     NoMemory,
@@ -57,7 +56,6 @@ impl Code {
             MAC => Some(Code::Mac),
             NUMBER => Some(Code::Number),
             EXHAUSTED => Some(Code::Exhausted),
-            JOURNAL_FULL => Some(Code::JournalFull),
             SITE_FAULT => Some(Code::SiteFault),
             STOPPED => Some(Code::Stopped),
             NO_MEMORY => Some(Code::NoMemory),
@@ -86,7 +84,6 @@ impl Code {
             Code::Mac => b"mac",
             Code::Number => b"number",
             Code::Exhausted => b"exhausted",
-            Code::JournalFull => b"journal-full",
             Code::SiteFault => b"site-fault",
             Code::Stopped => b"stopped",
             Code::NoMemory => b"no-memory",

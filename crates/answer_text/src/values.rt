@@ -335,7 +335,6 @@ pub(crate) fn put_values(
         Code::Spi | Code::Direction | Code::Coverage | Code::Mac => plain(
             text, form, answer, b"entry",
         ),
-        Code::JournalFull => counting(text, form, answer, b"slots"),
         Code::SiteFault | Code::Stopped => counting(text, form, answer, b"faults"),
         Code::NoMemory => no_memory(answer),
         Code::End => end(text, form, answer),

@@ -2,6 +2,7 @@
 -- A book's log is an enum over snapshots of itself. Of a snapshot nothing is asked, so each row is put together from those of its fields.
 use mir.Syntax.{Sym}
 use denote.RattleType.{RattleType}
+use denote.Builtin.{u8}
 use denote.Struct.Field.{row_field, u64-field}
 use denote.Struct.Tuple.{TupleAt, type_at}
 use denote.Param.Send.{IsSend, IsSync, view_send, sendable}
@@ -42,6 +43,9 @@ snapshot_send T = search crosses
 number_send : IsSend (as_row u64-field)
 number_send = search sendable
 
+octet_send : IsSend u8
+octet_send = search sendable
+
 put_faults_send : IsSend PutFaults.the_row
 put_faults_send = let before = snapshot_send PutFaults.the_hole in variants_send PutFaults.enum (tt, ((before, tt), ((before, tt), tt)))
 
@@ -75,7 +79,7 @@ book_send = view_send _ _ _ _ _ (declared_send (BookFields.the_type MemSite.the_
                 as_row_send (row_field Journal.the_row) journal.the_send,
                 (
                   Vec-send Entry.the_row entry.the_send,
-                  (number_send, (number_send, (log_send, tt))),
+                  (number_send, (number_send, (log_send, (Vec-send u8 octet_send, tt)))),
                 ),
               ),
             ),

@@ -5,7 +5,8 @@ ghost use Rattle.counter_table.specs.Worker.{view};
 ghost use Rattle.shared_unit.specs.Turn.{IsReady};
 
 use crate::rate::nanos_since;
-use disk_journal::create;
+use disk_journal::CONTENT_LENGTH;
+use image_beginning::create_image;
 use sdls_outside::MemSite;
 use shared_unit::{PermitReply, Protected, Ready, Unit, Worker};
 use std::alloc::Global;
@@ -14,6 +15,8 @@ use std::rt::Clock;
 use std::sync::Wait;
 use std::thread::{Threads, join};
 use std::time::Instant;
+use unit_plan::Plan;
+use unit_state::State;
 
 /// How many frames each thread protects: five times as many are fewer than the numbers of a block.
 const FRAMES: u64 = 12_000;
@@ -35,13 +38,29 @@ sa 7 send cmac 32769 1 1 0
 /// A frame of it in clear.
 const CLEAR: [u8; 32] = *b"\x00\x2a\x14\x1f\x09\xc3abcdefghijklmnopqrstuvwxyz";
 
+/// A site in memory that has the image of the plan.
+fn site_of_plan(alloc: Global) -> Option<MemSite> {
+    let Ok(plan) = Plan::read(alloc, PLAN) else {
+        return None;
+    };
+    let Ok(state) = State::initial(alloc, &plan) else {
+        return None;
+    };
+    let Ok(mut content) = vec![in alloc; 0; CONTENT_LENGTH] else {
+        return None;
+    };
+    let mut bare = [0; 256];
+    let mut site = MemSite::new(alloc, Vec::new(alloc), Vec::new(alloc), None);
+    create_image(&mut site, PLAN, &plan, &state, &mut bare, &mut content).ok()?;
+    Some(site)
+}
+
 /// A unit over a site in memory, and its first worker.
 fn opened<R: Wait>(rt: &R, alloc: Global) -> Option<(Unit<MemSite>, Worker<MemSite>)>
     ensures ready { IfSome result (λ made. IsReady made.0.counters made.0.plan made.1) }
     ensures shares { IfSome result (λ made. (view made.1).numbers.shares ≡ 1024) }
 {
-    let mut site = MemSite::new(alloc, Vec::new(alloc), Vec::new(alloc), None);
-    create(&mut site, PLAN, 16).ok()?;
+    let site = site_of_plan(alloc)?;
     Unit::open(rt, alloc, site).ok()
 }
 

@@ -1,10 +1,15 @@
 //! Plans, images that no unit has open, and crashes.
-ghost use Rattle.std.specs.Prelude.{◌≡◌, IfSome};
-ghost use Rattle.disk_journal.specs.Initial.{initial_image};
+ghost use Rattle.std.specs.Prelude.{◌≡◌, IfSome, vec_len};
+ghost use Rattle.unit_plan.specs.PlanLines.{PlanLines};
+ghost use Rattle.unit_state.specs.declared.state.State.{State};
+ghost use Rattle.image_beginning.specs.Beginning.{SaysPlan, image_of_plan};
 
-use disk_journal::{LEAST_SLOTS, MOST_SLOTS, PLAN_ROOM, create};
+use image_beginning::create_image;
+use image_content::CONTENT_LENGTH;
 use sdls_outside::{Crash, MemSite};
 use std::alloc::{AllocError, Global};
+use unit_plan::{MOST_OCTETS, Plan};
+use unit_state::State;
 
 /// The lines of a plan behind the first five: a telecommand channel that one association protects, under a CMAC key.
 pub const TELECOMMAND_SENDER: &str = "link 0 tc seg nofecf -
@@ -34,23 +39,51 @@ pub fn plan_of_sender(
     format!(in alloc; "sdls 1\ndevice d0000001\nslots {slots}\nblock {block}\naccept 1\n{lines}")
 }
 
-/// The image of a plan's text, with this many slots and no records. None where the text or the slots are out of bounds,
-/// and where memory is out.
-pub fn image_of(alloc: Global, plan: &[u8], slots: u32) -> Option<Vec<u8>>
-    ensures { IfSome result (λ image. image.items ≡ initial_image plan.now slots) }
+/// So many zeros.
+fn zeros(alloc: Global, count: usize) -> Option<Vec<u8>>
+    ensures { IfSome result (λ zeros. vec_len zeros ≡ count) }
 {
-    if slots < LEAST_SLOTS || slots > MOST_SLOTS || plan.len() as u64 > PLAN_ROOM {
+    vec![in alloc; 0; count].ok()
+}
+
+/// The plan that a text is, and the state that its lines make.
+fn plan_of(alloc: Global, text: &[u8]) -> Option<(Plan, State)>
+    ensures { IfSome result (λ made. SaysPlan text.now made.0 made.1) }
+{
+    let Ok(plan) = Plan::read(alloc, text) else {
+        return None;
+    };
+    let Ok(state) = State::initial(alloc, &plan) else {
+        return None;
+    };
+    Some((plan, state))
+}
+
+/// The image that the plan of a text begins with. `None` if the text is no plan, or memory ran out.
+pub fn image_of(alloc: Global, text: &[u8]) -> Option<Vec<u8>>
+    ensures { IfSome result (λ image. (plan : PlanLines) × (first : State)
+        × SaysPlan text.now plan first × (image.items ≡ image_of_plan text.now plan first)) }
+{
+    if text.len() > MOST_OCTETS {
         return None;
     }
+    let (plan, state) = plan_of(alloc, text)?;
+    let mut bare = zeros(alloc, text.len() + 1)?;
+    let mut content = zeros(alloc, CONTENT_LENGTH)?;
     let mut site = MemSite::new(alloc, Vec::new(alloc), Vec::new(alloc), None);
-    create(&mut site, plan, slots).ok()?;
-    Vec::from_slice(alloc, site.image()).ok()
+    let Ok(()) = create_image(&mut site, text, &plan, &state, &mut bare, &mut content) else {
+        return None;
+    };
+    match Vec::from_slice(alloc, site.image()) {
+        Ok(image) => Some(image),
+        Err(_) => None,
+    }
 }
 
 /// The image of the plan that `plan_of_sender` writes.
 pub fn image_of_sender(alloc: Global, slots: u32, block: u64, lines: &str) -> Option<Vec<u8>> {
     let plan = plan_of_sender(alloc, slots, block, lines).ok()?;
-    image_of(alloc, plan.as_str().as_bytes(), slots)
+    image_of(alloc, plan.as_str().as_bytes())
 }
 
 /// What the word says that a crash leaves: what was written, what was synced, or an octet for each that was torn.

@@ -8,9 +8,6 @@ use std::alloc::{AllocError, Global};
 use std::sync::Wait;
 use std::thread::Threads;
 
-/// The slots of each unit.
-const SLOTS: u32 = 16;
-
 /// The most records that a run gets.
 const MOST: usize = 32;
 
@@ -38,7 +35,7 @@ impl Table {
 
     /// Makes the unit of the plan.
     fn make(&mut self, alloc: Global) -> anyhow::Result<String> {
-        let image = image_of(alloc, self.plan.as_str().as_bytes(), SLOTS);
+        let image = image_of(alloc, self.plan.as_str().as_bytes());
         self.plan.clear();
         match image {
             Some(image) => {

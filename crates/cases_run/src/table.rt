@@ -53,6 +53,19 @@ fn told_of(
     Ok(format!(in alloc; "status {status} entries {count}{text}")?)
 }
 
+/// Where these octets stand first.
+fn found(alloc: Global, octets: &[u8], digits: &str) -> anyhow::Result<String> {
+    let wanted = hex::decode(alloc, digits)?;
+    let length = wanted.len().max(1);
+    match octets
+        .windows(length)
+        .position(|part| part == wanted.as_slice())
+    {
+        Some(place) => Ok(format!(in alloc; "found at {place}")?),
+        None => said(alloc, "nowhere"),
+    }
+}
+
 /// What was gathered: a plan and an input, the calls that are to fail and the pieces of the source; the image as it
 /// lies, the one that was kept, and the last site.
 #[derive(Drop)]
@@ -207,6 +220,10 @@ impl Table {
             "keep" => self.kept = Vec::from_slice(alloc, self.image.as_slice())?,
             "back" => self.image = Vec::from_slice(alloc, self.kept.as_slice())?,
             "lose" => self.image.clear(),
+            "cut" => {
+                let length = usize::try_from(number_at(rest, 0)).unwrap_or(0);
+                self.image.truncate(length)
+            }
             "set" => set_part_of(alloc, self.image.as_mut_slice(), rest)?,
             _ => return Ok(false),
         }
@@ -227,6 +244,7 @@ impl Table {
             "init" => self.init(rt, alloc),
             "crash" => self.crash(alloc, rest),
             "show" => part_of(alloc, self.image.as_slice(), rest),
+            "find" => found(alloc, self.image.as_slice(), rest),
             "image" | "same" | "sunk" => self.told(alloc, word),
             _ => self.other(rt, alloc, line),
         }

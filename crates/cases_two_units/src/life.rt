@@ -1,7 +1,7 @@
 //! A life of both units.
 use crate::chance::Chance;
 use crate::ground::Ground;
-use crate::plans::{SLOTS, ground, spacecraft};
+use crate::plans::{ground, spacecraft};
 use crate::spacecraft::Spacecraft;
 use crate::station::Way;
 use case_units::image_of;
@@ -74,8 +74,8 @@ pub fn live<R: Threads + Wait + Sync>(
     let ground_plan = ground(alloc, seed)?;
     let spacecraft_plan = spacecraft(alloc, seed)?;
     let (Some(ground_image), Some(spacecraft_image)) = (
-        image_of(alloc, ground_plan.as_str().as_bytes(), SLOTS),
-        image_of(alloc, spacecraft_plan.as_str().as_bytes(), SLOTS),
+        image_of(alloc, ground_plan.as_str().as_bytes()),
+        image_of(alloc, spacecraft_plan.as_str().as_bytes()),
     ) else {
         return Ok("no images");
     };

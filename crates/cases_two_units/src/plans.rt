@@ -1,8 +1,8 @@
 //! The plans of both units.
 use std::alloc::{AllocError, Global};
 
-/// The slots of both images.
-pub const SLOTS: u32 = 768;
+/// The slots of a bank of both images, so few that the banks turn in each life.
+const SLOTS: u32 = 16;
 
 /// The keys of each suite that a ground station has in store.
 pub const STORED: u64 = 8;

@@ -2,7 +2,7 @@
 //! input is a step, and what it answers is printed; `plan` and `life` alone answer nothing, and `#` and a title is
 //! printed as it is.
 //!
-//! `plan LINE` gathers, and `create SLOTS` makes the image of the lines that were gathered. `set OFFSET OCTETS` and
+//! `plan LINE` gathers, and `create` makes the image of the lines that were gathered. `set OFFSET OCTETS` and
 //! `cut LENGTH` change the image, `octets OFFSET LENGTH` shows some of it, `keep` keeps it, and `back` takes the kept
 //! one. `failing CALL..` lists the calls on the site that are to fail, counted from the opening, and `open` opens the
 //! image.

@@ -50,9 +50,8 @@ impl Table {
         }
     }
 
-    fn create(&mut self, alloc: Global, rest: &str) -> anyhow::Result<String> {
-        let slots = u32::try_from(number_at(rest, 0)).unwrap_or(0);
-        self.image = match image_of(alloc, self.plan.as_str().as_bytes(), slots) {
+    fn create(&mut self, alloc: Global) -> anyhow::Result<String> {
+        self.image = match image_of(alloc, self.plan.as_str().as_bytes()) {
             Some(image) => image,
             None => Vec::new(alloc),
         };
@@ -159,7 +158,7 @@ impl Table {
         rest: &str,
     ) -> Option<anyhow::Result<String>> {
         match word {
-            "create" => Some(self.create(alloc, rest)),
+            "create" => Some(self.create(alloc)),
             "set" => Some(self.set(alloc, rest)),
             "cut" => Some(self.cut(alloc, rest)),
             "keep" => Some(self.keep(alloc)),

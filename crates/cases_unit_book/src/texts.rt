@@ -36,7 +36,6 @@ pub fn book_fault(alloc: Global, fault: &BookFault) -> Result<String, AllocError
     match fault {
         BookFault::SiteFault(count) => format!(in alloc; "site fault {count}"),
         BookFault::Stopped(count) => format!(in alloc; "stopped {count}"),
-        BookFault::JournalFull(slots) => format!(in alloc; "journal full {slots}"),
         BookFault::SessionFull => String::from_str(alloc, "session full"),
         BookFault::NoMemory => String::from_str(alloc, "no memory"),
     }

@@ -1,166 +1,346 @@
--- The initial image opens.
-use Rattle.std.proofs.Common.{◌≡◌, ℕ, zero, suc, ◌+◌, ◌-◌, ◌^◌, ◌<◌, ◌≤◌, ◌==◌, ◌||◌, not, nat_lt, Bool, false, List, [], ◌∷◌, ◌++◌, append_assoc, length, get_or, take, drop, replicate, None, refl, sym, ◌∙◌, ap, subst, inl, inr, arith, length-append}
-use Rattle.std.specs.List.{list_any, slice_range}
-use Rattle.std.specs.Str.{bytes_eq}
-use Rattle.std.proofs.lemmas.Bool.{cases_lt}
-use Rattle.std.proofs.lemmas.Bool.Decides.{nat_tests}
-use Rattle.std.proofs.lemmas.List.{get_or-append_right, length-replicate}
-use Rattle.std.proofs.Math.ListN.{get_or-replicate, get_or-eq_default}
-use Rattle.std.proofs.Math.Seq.{take-append_seam, drop-append_seam}
+-- The writes of the image that a journal begins with.
+use Rattle.std.proofs.Common.{◌≡◌, ℕ, zero, suc, ◌+◌, ◌-◌, ◌*◌, ◌<◌, ◌≤◌, ◌==◌, ◌++◌, ◌∷◌, ◌∙◌, not, true, List, [], length, get_or, take, drop, replicate, Some, refl, sym, ap, subst, inl, inr, arith, append-nil, append_assoc, length-append, Result, Ok, Err}
+use Rattle.disk_journal.proofs.Stands.{behind}
+use Rattle.disk_journal.proofs.Turns.{after, before}
+use Rattle.disk_journal.proofs.Verdicts.{header_verdict, short_verdict}
+use Rattle.disk_journal.specs.Banks.{bank_length, image_end, layout_of, next}
+use Rattle.disk_journal.specs.Changes.{with_front, with_gate}
+use Rattle.disk_journal.specs.Fault.{header_checks, image_fault}
+use Rattle.disk_journal.specs.Initial.{IsLaid, IsShut, banks_at_rest, fields_of, initial_image, laid_image, rest_image}
+use Rattle.disk_journal.specs.declared.layout.Bank.TheVariants.{First}
+use Rattle.disk_journal.specs.declared.layout.Layout.{Layout}
+use Rattle.disk_journal.specs.declared.layout.TheConstants.{BANKS_AT, CONTENT_AT, CONTENT_LENGTH, FIRST_GENERATION, GENERATION_AT, GENERATION_LENGTH}
 use Rattle.byteorder.specs.Endian.{big_bytes}
-use Rattle.byteorder.specs.Numbers.{big_number-reads_back}
-use Rattle.disk_journal.specs.declared.layout.TheConstants.{HEADER_LENGTH, PLAN_ROOM, LEAST_SLOTS, MOST_SLOTS, MAGIC, MAGIC_AT, PLAN_LENGTH_AT, SLOT_COUNT_AT, ZEROS_AT, FIELD_LENGTH, OPEN, CLOSED}
-use Rattle.disk_journal.specs.Slots.{slot_at, gate_at}
-use Rattle.disk_journal.specs.Image.{header_of, plan_length_in, slot_count_in, slot_count, plan_of, records, first_closed, IsAtRest}
+use Rattle.image_parts.proofs.Zeros.{length_zeros, more_zeros, synced_ok, zeros_end}
+use Rattle.image_parts.proofs.Moments.{image_same, image_then, image_weaker, sync_moments}
+use Rattle.image_parts.proofs.Ranges.{overwritten_length}
+use Rattle.image_parts.specs.Changes.{AllBut, EachImage}
+use Rattle.image_parts.specs.Header.{header_of}
+use Rattle.image_parts.specs.Zeros.{zeros}
+use Rattle.image_parts.specs.declared.layout.TheConstants.{CLOSED, HEADER_LENGTH, MAGIC_AT, OPEN, PLAN_ROOM, SLOT_LENGTH}
 use Rattle.sdls_base.specs.FirstFailing.{first_failing}
-use Rattle.disk_journal.specs.Fault.{header_checks}
-use Rattle.disk_journal.specs.Initial.{zeros, empty_image, initial_image}
-use Rattle.disk_journal.specs.Journal.{IsJournalOf}
-use Rattle.disk_journal.proofs.Images.{of_passes, is_records}
-use Rattle.disk_journal.proofs.ClosedGates.{rests_by}
-use Rattle.disk_journal.proofs.Laying.{length_zeros}
+use Rattle.sdls_outside.proofs.Moments.{each_writes}
+use Rattle.sdls_outside.specs.Disk.{Disk, IsSynced, Leaves, Outside}
+use Rattle.sdls_outside.specs.Moments.{Trace}
+use Rattle.sdls_outside.specs.Site.{Syncs, Writes, Wrote, overwritten}
+use Rattle.std.proofs.Math.ListN.{replicate-append-replicate}
+use Rattle.std.proofs.Math.Seq.{drop-append-add, take-append-add}
+use Rattle.std.proofs.lemmas.Bool.{cases_lt}
+use Rattle.std.proofs.lemmas.List.{drop-replicate, get_or-take, take-replicate}
+use Rattle.std.specs.Result.{OnOk}
 
--- the header
-abbrev header : ℕ → ℕ → List ℕ
-header plan_length slots = (OPEN ∷ MAGIC) ++ big_bytes FIELD_LENGTH plan_length ++ big_bytes FIELD_LENGTH slots ++ zeros 495
+-- an image whose first octet is 0
+abbrev pub ShutImage : List ℕ → Type 0
+ShutImage image = get_or image 0 0 ≡ CLOSED
 
-header_length : (plan_length slots : ℕ) → length (header plan_length slots) ≡ HEADER_LENGTH
-header_length plan_length slots =
-    length-append ((OPEN ∷ MAGIC) ++ big_bytes FIELD_LENGTH plan_length ++ big_bytes FIELD_LENGTH slots) (zeros 495)
-    ∙ ap (λ (n : ℕ). 17 + n) (length_zeros 495)
+pub shut_leaves : (disk : Disk) → IsShut disk → (image : List ℕ) → Leaves disk image → ShutImage image
+shut_leaves disk shut image leaves = let some : 1 ≤ length disk.synced = shut.some in leaves.outside 0 (omega arith) shut.away ∙ shut.synced
 
-plan_length_read : (plan_length slots : ℕ) → plan_length ≤ PLAN_ROOM → plan_length_in (header plan_length slots) ≡ plan_length
-plan_length_read plan_length slots room =
-    big_number-reads_back 4 plan_length (big_bytes FIELD_LENGTH slots ++ zeros 495) (let fits : plan_length < 256 ^ 4 = omega arith in fits)
+pub shut_wrote : (at count : ℕ) (old new : Trace) → 1 ≤ at → IsShut old.now → Wrote at count old new → IsShut new.now
+shut_wrote at count old new behind shut wrote =
+    let low : 0 < at = omega arith in
+    record {
+      some = subst (λ (octets : List ℕ). 1 ≤ length octets) (sym wrote.synced) shut.some;
+      synced = ap (λ (octets : List ℕ). get_or octets 0 0) wrote.synced ∙ shut.synced;
+      away = subst (λ (ranges : List (ℕ × ℕ)). Outside ranges 0) (sym wrote.ranges) (inl low, shut.away);
+      reads = sym (get_or-take at new.now.image 0 0 low) ∙ ap (λ (front : List ℕ). get_or front 0 0) wrote.torn.before
+          ∙ get_or-take at old.now.image 0 0 low ∙ shut.reads;
+    }
 
-slots_read : (plan_length slots : ℕ) → slots ≤ MOST_SLOTS → slot_count_in (header plan_length slots) ≡ slots
-slots_read plan_length slots most = big_number-reads_back 4 slots (zeros 495) (let fits : slots < 256 ^ 4 = omega arith in fits)
+-- one write behind the first octet
+pub write_shut : {T E : Type 0} → (at : ℕ) (octets : List ℕ) (result : Result T E) (old new : Trace) → 1 ≤ at → IsShut old.now
+    → Writes at octets result old new → EachImage old new ShutImage
+write_shut {E = E} at octets (Ok value) old new behind shut writes = record {
+  moments = each_writes {E = E} at octets (Ok value) old new (λ image sunk. ShutImage image × (sunk ≡ old.now.sunk)) writes
+      (λ image leaves. (shut_leaves old.now shut image leaves, refl))
+      (λ wrote image leaves. (shut_leaves new.now (shut_wrote at (length octets) old new behind shut wrote) image leaves, refl));
+  sunk = writes.0.sunk;
+}
+write_shut at octets (Err error) old new behind shut (inl same) = image_same old new ShutImage same (shut_leaves old.now shut)
+write_shut {T = T} at octets (Err error) old new behind shut (inr wrote) = record {
+  moments = each_writes {T = T} at octets (Err error) old new (λ image sunk. ShutImage image × (sunk ≡ old.now.sunk)) (inr wrote)
+      (λ image leaves. (shut_leaves old.now shut image leaves, refl))
+      (λ wrote image leaves. (shut_leaves new.now (shut_wrote at (length octets) old new behind shut wrote) image leaves, refl));
+  sunk = wrote.sunk;
+}
 
-none_other : (n : ℕ) → list_any (λ octet. not (octet == 0)) (replicate n 0) ≡ false
-none_other zero = refl
-none_other (suc n) = none_other n
+pub none_shut : (old : Trace) → IsShut old.now → EachImage old old ShutImage
+none_shut old shut = image_same old old ShutImage refl (shut_leaves old.now shut)
 
-zeros_pass : (n : ℕ) → list_any (λ octet. not (octet == 0)) (zeros n) ≡ false
+pub sync_shut : {T E : Type 0} → (result : Result T E) (old new : Trace) → IsShut old.now → Syncs result old new → EachImage old new ShutImage
+sync_shut result old new shut syncs = sync_moments result old new ShutImage syncs (shut_leaves old.now shut) shut.reads
+
+pub first_zero : zeros 1 ≡ CLOSED ∷ []
 unfolding zeros
-zeros_pass n = none_other n
+first_zero = refl
 
-plan_test : (n plan_length : ℕ) → n ≡ plan_length → plan_length ≤ PLAN_ROOM → nat_lt PLAN_ROOM n ≡ false
-plan_test n plan_length is room = let low : n ≤ PLAN_ROOM = omega arith in grind (arith, nat_tests)
+pub begun_shut : (new : Trace) → IsSynced new.now → new.now.image ≡ zeros 1 → IsShut new.now
+begun_shut new synced begun =
+    let is : new.now.synced ≡ CLOSED ∷ [] = synced.1 ∙ begun ∙ first_zero in
+    record {
+      some = subst (λ (octets : List ℕ). 1 ≤ length octets) (sym is) (omega arith);
+      synced = ap (λ (octets : List ℕ). get_or octets 0 0) is;
+      away = subst (λ (ranges : List (ℕ × ℕ)). Outside ranges 0) (sym synced.0) tt;
+      reads = ap (λ (octets : List ℕ). get_or octets 0 0) (begun ∙ first_zero);
+    }
 
-slots_test : (n slots : ℕ) → n ≡ slots → LEAST_SLOTS ≤ slots → slots ≤ MOST_SLOTS → (nat_lt n LEAST_SLOTS || nat_lt MOST_SLOTS n) ≡ false
-slots_test n slots is least most =
-    let low : nat_lt n LEAST_SLOTS ≡ false = let above : LEAST_SLOTS ≤ n = omega arith in grind (arith, nat_tests) in
-    let high : nat_lt MOST_SLOTS n ≡ false = let below : n ≤ MOST_SLOTS = omega arith in grind (arith, nat_tests) in
-    rw (low, high) refl
+pub first_written : (old mid : List ℕ) → old ≡ [] → mid ≡ overwritten old 0 (CLOSED ∷ []) → mid ≡ zeros 1
+first_written old mid empty written = written ∙ ap (λ (image : List ℕ). overwritten image 0 (CLOSED ∷ [])) empty ∙ sym first_zero
 
-length_test : (size n slots : ℕ) → n ≡ slots → size ≡ slot_at slots → nat_lt size (slot_at n) ≡ false
-length_test size n slots is sized = let enough : slot_at n ≤ size = omega arith in grind (arith, nat_tests)
+-- what such an image is refused with
+shut_test : (first : ℕ) → first ≡ CLOSED → not (first == OPEN) ≡ true
+shut_test first shut = rw shut refl
 
-six_pass : (a b c d e f : Bool) (h i j k l m : ℕ) → a ≡ false → b ≡ false → c ≡ false → d ≡ false → e ≡ false → f ≡ false
-    → first_failing ((a, h) ∷ (b, i) ∷ (c, j) ∷ (d, k) ∷ (e, l) ∷ (f, m) ∷ []) ≡ None
-six_pass a b c d e f h i j k l m p q r s t u = rw (p, q, r, s, t, u) refl
+gate_first : (header : List ℕ) (size : ℕ) → get_or header 0 0 ≡ CLOSED → first_failing (header_checks header size) ≡ Some 0
+gate_first header size shut = rw shut refl
 
-header_passes : (plan_length slots size : ℕ) → plan_length ≤ PLAN_ROOM → LEAST_SLOTS ≤ slots → slots ≤ MOST_SLOTS → size ≡ slot_at slots
-    → first_failing (header_checks (header plan_length slots) size) ≡ None
-header_passes plan_length slots size room least most sized =
-    let head = header plan_length slots in
-    let plan_is = plan_length_read plan_length slots room in
-    let slots_is = slots_read plan_length slots most in
-    six_pass (not (get_or head 0 0 == OPEN)) (not (bytes_eq (slice_range head MAGIC_AT PLAN_LENGTH_AT) MAGIC))
-    (nat_lt PLAN_ROOM (plan_length_in head)) (nat_lt (slot_count_in head) LEAST_SLOTS || nat_lt MOST_SLOTS (slot_count_in head))
-    (nat_lt size (slot_at (slot_count_in head))) (list_any (λ octet. not (octet == 0)) (drop ZEROS_AT head))
-    0 MAGIC_AT PLAN_LENGTH_AT SLOT_COUNT_AT size ZEROS_AT refl refl (plan_test (plan_length_in head) plan_length plan_is room)
-    (slots_test (slot_count_in head) slots slots_is least most) (length_test size (slot_count_in head) slots slots_is sized) (zeros_pass 495)
-
--- the parts of the image
-abbrev back : List ℕ → ℕ → ℕ
-back plan slots = slot_at slots - (HEADER_LENGTH + length plan)
-
-in_parts : (plan : List ℕ) (slots : ℕ) → initial_image plan slots ≡ header (length plan) slots ++ (plan ++ zeros (back plan slots))
-unfolding empty_image
-in_parts plan slots = append_assoc (header (length plan) slots) plan (zeros (back plan slots))
-
-header_is : (plan : List ℕ) (slots : ℕ) → header_of (initial_image plan slots) ≡ header (length plan) slots
-header_is plan slots =
-    ap (take HEADER_LENGTH) (in_parts plan slots)
-    ∙ subst (λ (n : ℕ). take n (header (length plan) slots ++ (plan ++ zeros (back plan slots))) ≡ header (length plan) slots)
-    (header_length (length plan) slots) (take-append_seam (header (length plan) slots) (plan ++ zeros (back plan slots)))
-
-behind_header : (plan : List ℕ) (slots : ℕ) → drop HEADER_LENGTH (initial_image plan slots) ≡ plan ++ zeros (back plan slots)
-behind_header plan slots =
-    ap (drop HEADER_LENGTH) (in_parts plan slots)
-    ∙ subst (λ (n : ℕ). drop n (header (length plan) slots ++ (plan ++ zeros (back plan slots))) ≡ plan ++ zeros (back plan slots))
-    (header_length (length plan) slots) (drop-append_seam (header (length plan) slots) (plan ++ zeros (back plan slots)))
-
-image_length : (plan : List ℕ) (slots : ℕ) → length plan ≤ PLAN_ROOM → length (initial_image plan slots) ≡ slot_at slots
-image_length plan slots room =
-    let front : length (header (length plan) slots) ≡ HEADER_LENGTH = header_length (length plan) slots in
-    let end : length (zeros (back plan slots)) ≡ slot_at slots - (HEADER_LENGTH + length plan) = length_zeros (back plan slots) in
-    let rest : length (plan ++ zeros (back plan slots)) ≡ length plan + length (zeros (back plan slots)) = length-append plan (zeros (back plan slots)) in
-    let whole : length (initial_image plan slots) ≡ length (header (length plan) slots) + length (plan ++ zeros (back plan slots))
-    = ap (λ (image : List ℕ). length image) (in_parts plan slots) ∙ length-append (header (length plan) slots) (plan ++ zeros (back plan slots)) in
-    omega arith
-
-zero_at : (n i : ℕ) → get_or (zeros n) i 0 ≡ 0
-unfolding zeros
-zero_at n i = elim (cases_lt i n) [
-  | inl below ↦ get_or-replicate n i 0 0 below
-  | inr above ↦ get_or-eq_default (replicate n 0) 0 (subst (λ (k : ℕ). k ≤ i) (sym (length-replicate n 0)) above)
+pub shut_fails : (image : List ℕ) → ShutImage image → image_fault image ≡ Some 0
+shut_fails image shut = elim (cases_lt (length image) HEADER_LENGTH) [
+  | inl short ↦ short_verdict image short
+  | inr whole ↦
+      header_verdict image (header_of image) (length image) 0 refl whole refl
+      (gate_first (header_of image) (length image) (get_or-take HEADER_LENGTH image 0 0 (omega arith) ∙ shut))
 ]
 
--- every octet behind the plan's room is 0
-far_zero : (plan : List ℕ) (slots at : ℕ) → length plan ≤ PLAN_ROOM → slot_at 0 ≤ at → get_or (initial_image plan slots) at 0 ≡ 0
-far_zero plan slots at room far =
-    let front : length (header (length plan) slots) ≡ HEADER_LENGTH = header_length (length plan) slots in
-    ap (λ (image : List ℕ). get_or image at 0) (in_parts plan slots)
-    ∙ get_or-append_right (header (length plan) slots) (plan ++ zeros (back plan slots)) HEADER_LENGTH at 0 front (omega arith)
-    ∙ get_or-append_right plan (zeros (back plan slots)) (length plan) (at - HEADER_LENGTH) 0 refl (omega arith)
-    ∙ zero_at (back plan slots) (at - HEADER_LENGTH - length plan)
+pub short_fails : (image : List ℕ) → length image ≤ 1 → image_fault image ≡ Some 0
+short_fails image short = short_verdict image (omega arith)
 
-slots_are : (plan : List ℕ) (slots : ℕ) → slots ≤ MOST_SLOTS → slot_count (initial_image plan slots) ≡ slots
-unfolding slot_count
-slots_are plan slots most = ap slot_count_in (header_is plan slots) ∙ slots_read (length plan) slots most
+-- octets written into zeros behind others
+over_zeros : (n k : ℕ) (front octets : List ℕ) → k + length octets ≤ n
+    → overwritten (front ++ zeros n) (length front + k) octets ≡ (front ++ zeros k ++ octets) ++ zeros (n - (k + length octets))
+unfolding zeros
+over_zeros n k front octets within =
+    let first : take (length front + k) (front ++ replicate n 0) ≡ front ++ replicate k 0 =
+    take-append-add front (replicate n 0) k ∙ ap (λ (some : List ℕ). front ++ some) (take-replicate k n 0 (omega arith)) in
+    let place : length front + k + length octets ≡ length front + (k + length octets) = omega arith in
+    let last : drop (length front + k + length octets) (front ++ replicate n 0) ≡ replicate (n - (k + length octets)) 0 =
+    ap (λ (at : ℕ). drop at (front ++ replicate n 0)) place ∙ drop-append-add front (replicate n 0) (k + length octets)
+    ∙ drop-replicate (k + length octets) n 0 in
+    ap (λ (some : List ℕ). some ++ octets ++ drop (length front + k + length octets) (front ++ replicate n 0)) first
+    ∙ ap (λ (some : List ℕ). front ++ replicate k 0 ++ octets ++ some) last
 
-plan_is : (plan : List ℕ) (slots : ℕ) → length plan ≤ PLAN_ROOM → plan_of (initial_image plan slots) ≡ plan
-unfolding plan_of
-plan_is plan slots room =
-    ap (λ (n : ℕ). take n (drop HEADER_LENGTH (initial_image plan slots)))
-    (ap plan_length_in (header_is plan slots) ∙ plan_length_read (length plan) slots room)
-    ∙ ap (take (length plan)) (behind_header plan slots) ∙ take-append_seam plan (zeros (back plan slots))
+written_zeros : (n k m at : ℕ) (front octets image : List ℕ) → image ≡ front ++ zeros n → at ≡ length front + k → k + length octets ≤ n
+    → m ≡ n - (k + length octets) → overwritten image at octets ≡ (front ++ zeros k ++ octets) ++ zeros m
+written_zeros n k m at front octets image is place within left =
+    ap (λ (some : List ℕ). overwritten some at octets) is ∙ ap (λ (from : ℕ). overwritten (front ++ zeros n) from octets) place
+    ∙ over_zeros n k front octets within ∙ ap (λ (rest : ℕ). (front ++ zeros k ++ octets) ++ zeros rest) (sym left)
 
-none_open : (plan : List ℕ) (slots k : ℕ) → length plan ≤ PLAN_ROOM → gate_at (initial_image plan slots) k ≡ CLOSED
-none_open plan slots k room = far_zero plan slots (slot_at k) room (omega arith)
+longer : (front octets : List ℕ) (k : ℕ) → length (front ++ zeros k ++ octets) ≡ length front + k + length octets
+longer front octets k =
+    length-append (front ++ zeros k) octets ∙ ap (λ (n : ℕ). n + length octets) (length-append front (zeros k)
+    ∙ ap (λ (n : ℕ). length front + n) (length_zeros k))
 
-no_records : (plan : List ℕ) (slots : ℕ) → length plan ≤ PLAN_ROOM → records (initial_image plan slots) ≡ []
-no_records plan slots room = is_records (initial_image plan slots) [] (record {
-  within = omega arith;
-  opened = λ k below. absurd (omega arith);
-  are = λ k below. absurd (omega arith);
-  closed = λ below is_open. let shut = none_open plan slots 0 room in absurd (omega (arith, shut, is_open));
-})
+fields_size : (plan_length slots : ℕ) → length (fields_of plan_length slots) ≡ 16
+fields_size plan_length slots = refl
 
--- the journal of the initial image
-pub record Begins (plan : List ℕ) (slots : ℕ) : Type 0 where
-  pub of_image : IsJournalOf (initial_image plan slots) (record { plan_length = length plan; slots = slots; used = 0 })
-  pub plan_text : plan_of (initial_image plan slots) ≡ plan
-  pub rests : IsAtRest (initial_image plan slots)
+no_zeros : zeros 0 ≡ []
+unfolding zeros
+no_zeros = refl
 
-pub begins : (plan : List ℕ) (slots : ℕ) → length plan ≤ PLAN_ROOM → LEAST_SLOTS ≤ slots → slots ≤ MOST_SLOTS → Begins plan slots
-begins plan slots room least most =
-    let sized : length (initial_image plan slots) ≡ slot_at slots = image_length plan slots room in
-    let none : records (initial_image plan slots) ≡ [] = no_records plan slots room in
-    record {
-      of_image = record {
-        opens = of_passes (initial_image plan slots) (record {
-          whole = omega arith;
-          header = subst (λ (head : List ℕ). first_failing (header_checks head (length (initial_image plan slots))) ≡ None)
-              (sym (header_is plan slots)) (header_passes (length plan) slots (length (initial_image plan slots)) room least most sized);
-          quiet = λ k above below. none_open plan slots k room;
-        });
-        plan = ap (λ (text : List ℕ). length text) (sym (plan_is plan slots room));
-        slots = sym (slots_are plan slots most);
-        used = ap (λ (bodies : List (List ℕ)). length bodies) (sym none);
-      };
-      plan_text = plan_is plan slots room;
-      rests = rests_by (initial_image plan slots) (λ there. none_open plan slots (first_closed (initial_image plan slots)) room);
-    }
+pub zeros_joined : (m n : ℕ) → zeros m ++ zeros n ≡ zeros (m + n)
+unfolding zeros
+zeros_joined m n = replicate-append-replicate m n 0
+
+-- the parts of the banks, one after the other
+parts_join : (front number text slots spare : List ℕ)
+    → (((front ++ OPEN ∷ []) ++ number) ++ text) ++ (slots ++ spare) ≡ front ++ ((OPEN ∷ number) ++ text ++ slots ++ spare)
+parts_join front number text slots spare =
+    ap (λ (some : List ℕ). (some ++ text) ++ (slots ++ spare)) (append_assoc front (OPEN ∷ []) number)
+    ∙ ap (λ (some : List ℕ). some ++ (slots ++ spare)) (append_assoc front (OPEN ∷ number) text)
+    ∙ append_assoc front ((OPEN ∷ number) ++ text) (slots ++ spare)
+    ∙ ap (λ (some : List ℕ). front ++ some) (sym (append_assoc ((OPEN ∷ number) ++ text) slots spare))
+
+-- all that stands before the banks
+abbrev before_banks : List ℕ → ℕ → List ℕ
+before_banks plan slots = (((0 ∷ []) ++ fields_of (length plan) slots) ++ zeros 495 ++ plan) ++ zeros (PLAN_ROOM - length plan)
+
+parts_of : (plan : List ℕ) (slots generation : ℕ) (text : List ℕ)
+    → before_banks plan slots ++ banks_at_rest (layout_of slots) generation text First ≡ rest_image CLOSED plan slots text generation First
+unfolding rest_image
+parts_of plan slots generation text = refl
+
+bank_join : (plan : List ℕ) (slots generation left : ℕ) (text : List ℕ) → left ≡ SLOT_LENGTH * slots + bank_length (layout_of slots)
+    → (((before_banks plan slots ++ OPEN ∷ []) ++ zeros 0 ++ big_bytes GENERATION_LENGTH generation) ++ zeros 0 ++ text) ++ zeros left
+    ≡ rest_image CLOSED plan slots text generation First
+bank_join plan slots generation left text sized =
+    let front = before_banks plan slots in
+    let number = big_bytes GENERATION_LENGTH generation in
+    let one : (front ++ OPEN ∷ []) ++ zeros 0 ≡ front ++ OPEN ∷ [] =
+    ap (λ (some : List ℕ). (front ++ OPEN ∷ []) ++ some) no_zeros ∙ append-nil (front ++ OPEN ∷ []) in
+    let two : ((front ++ OPEN ∷ []) ++ number) ++ zeros 0 ≡ (front ++ OPEN ∷ []) ++ number =
+    ap (λ (some : List ℕ). ((front ++ OPEN ∷ []) ++ number) ++ some) no_zeros ∙ append-nil ((front ++ OPEN ∷ []) ++ number) in
+    ap (λ (some : List ℕ). ((some ++ number) ++ zeros 0 ++ text) ++ zeros left) one
+    ∙ ap (λ (some : List ℕ). (some ++ text) ++ zeros left) two
+    ∙ ap (λ (n : ℕ). (((front ++ OPEN ∷ []) ++ number) ++ text) ++ zeros n) sized
+    ∙ ap (λ (some : List ℕ). (((front ++ OPEN ∷ []) ++ number) ++ text) ++ some) (sym (zeros_joined (SLOT_LENGTH * slots) (bank_length (layout_of slots))))
+    ∙ parts_join front number text (zeros (SLOT_LENGTH * slots)) (zeros (bank_length (layout_of slots)))
+    ∙ parts_of plan slots generation text
+
+-- all of the writes
+pub laid_is : (plan : List ℕ) (slots generation size : ℕ) (text : List ℕ) → size ≡ image_end (layout_of slots) → length plan ≤ PLAN_ROOM
+    → length text ≡ CONTENT_LENGTH
+    → overwritten (with_front BANKS_AT generation
+    (overwritten (overwritten (zeros size) MAGIC_AT (fields_of (length plan) slots)) HEADER_LENGTH plan)) (BANKS_AT + CONTENT_AT) text
+    ≡ rest_image CLOSED plan slots text generation First
+unfolding with_front
+laid_is plan slots generation size text sized room long =
+    let fields = fields_of (length plan) slots in
+    let number = big_bytes GENERATION_LENGTH generation in
+    let k = PLAN_ROOM - length plan in
+    let f1 : List ℕ = (0 ∷ []) ++ fields in
+    let f2 : List ℕ = f1 ++ zeros 495 ++ plan in
+    let f3 : List ℕ = f2 ++ zeros k ++ OPEN ∷ [] in
+    let f4 : List ℕ = f3 ++ zeros 0 ++ number in
+    let s1 : length f1 ≡ 17 = refl in
+    let s2 : length f2 ≡ length f1 + 495 + length plan = longer f1 plan 495 in
+    let s3 : length f3 ≡ length f2 + k + 1 = longer f2 (OPEN ∷ []) k in
+    let s4 : length f4 ≡ length f3 + 0 + length number = longer f3 number 0 in
+    let s5 : length number ≡ 8 = refl in
+    let e0 : overwritten (zeros size) MAGIC_AT fields ≡ f1 ++ zeros (size - 17) =
+    written_zeros size 1 (size - 17) MAGIC_AT [] fields (zeros size) refl refl (let n : length fields ≡ 16 = refl in omega arith)
+    (let n : length fields ≡ 16 = refl in omega arith)
+    ∙ ap (λ (some : List ℕ). (some ++ fields) ++ zeros (size - 17)) first_zero in
+    let e1 : overwritten (overwritten (zeros size) MAGIC_AT fields) HEADER_LENGTH plan ≡ f2 ++ zeros (size - (512 + length plan)) =
+    written_zeros (size - 17) 495 (size - (512 + length plan)) HEADER_LENGTH f1 plan (overwritten (zeros size) MAGIC_AT fields) e0
+    (omega arith) (omega arith) (omega arith) in
+    let headed = overwritten (overwritten (zeros size) MAGIC_AT fields) HEADER_LENGTH plan in
+    let e2 : with_gate OPEN BANKS_AT headed ≡ f3 ++ zeros (size - 66049) =
+    written_zeros (size - (512 + length plan)) k (size - 66049) BANKS_AT f2 (OPEN ∷ []) headed e1 (omega arith) (omega arith) (omega arith) in
+    let gated = with_gate OPEN BANKS_AT headed in
+    let e3 : overwritten gated (BANKS_AT + GENERATION_AT) number ≡ f4 ++ zeros (size - 66057) =
+    written_zeros (size - 66049) 0 (size - 66057) (BANKS_AT + GENERATION_AT) f3 number gated e2 (omega arith) (omega arith) (omega arith) in
+    let numbered = overwritten gated (BANKS_AT + GENERATION_AT) number in
+    let e4 : overwritten numbered (BANKS_AT + CONTENT_AT) text ≡ (f4 ++ zeros 0 ++ text) ++ zeros (size - 117760) =
+    written_zeros (size - 66057) 0 (size - 117760) (BANKS_AT + CONTENT_AT) f4 text numbered e3 (omega arith) (omega arith) (omega arith) in
+    e4 ∙ bank_join plan slots generation (size - 117760) text (omega arith)
+
+-- the calls, one after the other
+pub two_written : {T E : Type 0} → (result : Result T E) (old mid new : List ℕ) (at next : ℕ) (first named second : List ℕ)
+    → mid ≡ overwritten old at first → first ≡ named → OnOk result (new ≡ overwritten mid next second)
+    → OnOk result (new ≡ overwritten (overwritten old at named) next second)
+two_written (Ok value) old mid new at next first named second one name two =
+    two ∙ ap (λ (image : List ℕ). overwritten image next second) (one ∙ ap (λ (octets : List ℕ). overwritten old at octets) name)
+two_written (Err error) old mid new at next first named second one name two = tt
+
+pub front_written : {T E : Type 0} → (result : Result T E) (old mid new : List ℕ) (bank generation : ℕ) (number : List ℕ)
+    → mid ≡ overwritten old bank (OPEN ∷ []) → number ≡ big_bytes GENERATION_LENGTH generation
+    → OnOk result (new ≡ overwritten mid (bank + GENERATION_AT) number) → OnOk result (new ≡ with_front bank generation old)
+unfolding with_front
+front_written (Ok value) old mid new bank generation number one is two =
+    two ∙ ap (λ (image : List ℕ). overwritten image (bank + GENERATION_AT) number) one
+    ∙ ap (λ (octets : List ℕ). overwritten (with_gate OPEN bank old) (bank + GENERATION_AT) octets) is
+front_written (Err error) old mid new bank generation number one is two = tt
+
+pub bank_written : {T E : Type 0} → (result : Result T E) (old mid new : List ℕ) (at : ℕ) (text : List ℕ) → mid ≡ old
+    → OnOk result (new ≡ overwritten mid at text) → OnOk result (new ≡ overwritten old at text)
+bank_written (Ok value) old mid new at text one two = two ∙ ap (λ (image : List ℕ). overwritten image at text) one
+bank_written (Err error) old mid new at text one two = tt
+
+pub wrote_size : (old new octets : List ℕ) (at : ℕ) → new ≡ overwritten old at octets → at + length octets ≤ length old
+    → length new ≡ length old
+wrote_size old new octets at written within = ap (λ (image : List ℕ). length image) written ∙ overwritten_length old at octets within
+
+pub laid_ok : {T E : Type 0} → (result : Result T E) (old new : Trace) (plan : List ℕ) (slots size : ℕ) (text zeroed headed : List ℕ)
+    → size ≡ image_end (layout_of slots) → length plan ≤ PLAN_ROOM → length text ≡ CONTENT_LENGTH → zeroed ≡ zeros size
+    → headed ≡ overwritten (overwritten zeroed MAGIC_AT (fields_of (length plan) slots)) HEADER_LENGTH plan
+    → old.now.image ≡ overwritten (with_front BANKS_AT FIRST_GENERATION headed) (BANKS_AT + CONTENT_AT) text
+    → Syncs result old new → OnOk result (IsSynced new.now × (new.now.image ≡ laid_image plan slots text))
+laid_ok result old new plan slots size text zeroed headed sized room long empty head bank syncs =
+    synced_ok result old new (laid_image plan slots text) syncs
+    (bank ∙ ap (λ (image : List ℕ). overwritten (with_front BANKS_AT FIRST_GENERATION image) (BANKS_AT + CONTENT_AT) text)
+    (head ∙ ap (λ (image : List ℕ). overwritten (overwritten image MAGIC_AT (fields_of (length plan) slots)) HEADER_LENGTH plan) empty)
+    ∙ laid_is plan slots FIRST_GENERATION size text sized room long)
+
+-- the gate
+pub opened_is : (plan : List ℕ) (slots : ℕ) (text : List ℕ) → overwritten (laid_image plan slots text) 0 (OPEN ∷ []) ≡ initial_image plan slots text
+unfolding rest_image
+opened_is plan slots text = refl
+
+pub laid_length : (plan : List ℕ) (slots : ℕ) (text : List ℕ) → 1 ≤ length (laid_image plan slots text)
+unfolding rest_image
+laid_length plan slots text = omega arith
+
+beyond : (gate octet : ℕ) (rest : List ℕ) (i : ℕ) → 0 + 1 ≤ i → get_or (gate ∷ rest) i 0 ≡ get_or (octet ∷ rest) i 0
+beyond gate octet rest zero above = absurd (omega arith)
+beyond gate octet rest (suc i) above = refl
+
+gate_apart : (gate octet : ℕ) (rest image : List ℕ) → AllBut 0 1 (gate ∷ rest) image → AllBut 0 1 (octet ∷ rest) image
+gate_apart gate octet rest image change = record {
+  same_length = change.same_length;
+  outside = λ i away. elim away [
+    | inl before ↦ absurd (omega arith)
+    | inr after ↦ change.outside i (inr after) ∙ beyond gate octet rest i after
+  ];
+}
+
+but_for_gate : (plan : List ℕ) (slots : ℕ) (text image : List ℕ) → AllBut 0 1 (laid_image plan slots text) image
+    → AllBut 0 1 (initial_image plan slots text) image
+unfolding rest_image
+but_for_gate plan slots text image change = gate_apart CLOSED OPEN _ image change
+
+abbrev RefusedFirst : List ℕ → Type 0
+RefusedFirst image = image_fault image ≡ Some 0
+
+pub first_refused : (old mid : Trace) → EachImage old mid (λ image. length image ≤ 1) → EachImage old mid RefusedFirst
+first_refused old mid each = image_weaker old mid (λ image. length image ≤ 1) RefusedFirst short_fails each
+
+pub then_refused : (old mid new : Trace) → EachImage old mid (λ image. length image ≤ 1) → EachImage mid new ShutImage
+    → EachImage old new RefusedFirst
+then_refused old mid new first second =
+    image_then old mid new RefusedFirst (first_refused old mid first) (image_weaker mid new ShutImage RefusedFirst shut_fails second)
+
+pub laid_late : (plan : List ℕ) (slots : ℕ) (text : List ℕ) (old mid new : Trace) → EachImage old mid RefusedFirst → IsSynced mid.now
+    → mid.now.image ≡ laid_image plan slots text → EachImage mid new (AllBut 0 1 mid.now.image) → IsLaid plan slots text old mid new
+laid_late plan slots text old mid new early synced laid late = record {
+  early = early;
+  late = inr (
+    synced,
+    laid,
+    image_weaker mid new (AllBut 0 1 mid.now.image) (AllBut 0 1 (initial_image plan slots text))
+        (λ image change. but_for_gate plan slots text image (subst (λ (octets : List ℕ). AllBut 0 1 octets image) laid change)) late,
+  );
+}
+
+pub initial_ok : {T E : Type 0} → (result : Result T E) (plan : List ℕ) (slots : ℕ) (text : List ℕ) (mid new : Trace)
+    → mid.now.image ≡ laid_image plan slots text
+    → OnOk result (IsSynced new.now × (new.now.image ≡ overwritten mid.now.image 0 (OPEN ∷ [])))
+    → OnOk result (IsSynced new.now × (new.now.image ≡ initial_image plan slots text))
+initial_ok (Ok value) plan slots text mid new laid stored =
+    (stored.0, stored.1 ∙ ap (λ (image : List ℕ). overwritten image 0 (OPEN ∷ [])) laid ∙ opened_is plan slots text)
+initial_ok (Err error) plan slots text mid new laid stored = tt
+
+pub gate_within : (plan : List ℕ) (slots : ℕ) (text image : List ℕ) → image ≡ laid_image plan slots text → 0 + 1 ≤ length image
+gate_within plan slots text image laid = subst (λ (octets : List ℕ). 1 ≤ length octets) (sym laid) (laid_length plan slots text)
+
+rest_block : zeros 511 ≡ replicate 511 0
+unfolding zeros
+rest_block = refl
+
+pub first_block : (old mid : List ℕ) → old ≡ zeros 1 → mid ≡ overwritten old 1 (replicate 511 0) → mid ≡ zeros SLOT_LENGTH
+first_block old mid begun written =
+    written ∙ ap (λ (image : List ℕ). overwritten image 1 (replicate 511 0)) begun
+    ∙ ap (λ (octets : List ℕ). overwritten (zeros 1) 1 octets) (sym rest_block) ∙ more_zeros 1 511
+
+pub headed_size : (zeroed headed plan : List ℕ) (slots size : ℕ) → zeroed ≡ zeros size → BANKS_AT ≤ size → length plan ≤ PLAN_ROOM
+    → headed ≡ overwritten (overwritten zeroed MAGIC_AT (fields_of (length plan) slots)) HEADER_LENGTH plan → length headed ≡ size
+headed_size zeroed headed plan slots size empty far room written =
+    let fields = fields_of (length plan) slots in
+    let sixteen : length fields ≡ 16 = fields_size (length plan) slots in
+    let long : length zeroed ≡ size = zeros_end zeroed size empty in
+    let first : length (overwritten zeroed MAGIC_AT fields) ≡ length zeroed = overwritten_length zeroed MAGIC_AT fields (omega arith) in
+    wrote_size (overwritten zeroed MAGIC_AT fields) headed plan HEADER_LENGTH written (omega arith) ∙ first ∙ long
+
+pub blocks_size : (slots blocks : ℕ) (layout : Layout) → SLOT_LENGTH * blocks ≡ bank_length layout → layout ≡ layout_of slots
+    → SLOT_LENGTH * (129 + 2 * blocks) ≡ image_end (layout_of slots)
+blocks_size slots blocks layout sized is =
+    let same : bank_length layout ≡ bank_length (layout_of slots) = ap (λ (one : Layout). bank_length one) is in omega arith
+
+pub front_size : (old new : List ℕ) (bank generation : ℕ) → new ≡ with_front bank generation old → bank + CONTENT_AT ≤ length old
+    → length new ≡ length old
+unfolding with_front
+front_size old new bank generation written within =
+    let gated = with_gate OPEN bank old in
+    let first : length gated ≡ length old = overwritten_length old bank (OPEN ∷ []) (omega arith) in
+    let number = big_bytes GENERATION_LENGTH generation in
+    let eight : length number ≡ 8 = refl in
+    wrote_size gated new number (bank + GENERATION_AT) written (omega arith) ∙ first

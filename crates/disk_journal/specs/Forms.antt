@@ -1,7 +1,7 @@
 -- What an image holds, and what its opened forms hold (profile).
 use Rattle.std.specs.Prelude.{◌≡◌, ◌⊎◌, ℕ, List, length, None, slice_index}
-use Rattle.disk_journal.specs.declared.layout.TheConstants.{OPEN}
-use Rattle.disk_journal.specs.Image.{Held, held, IsClosedGate, IsOpenedForm, IsAtRest}
+use Rattle.image_parts.specs.declared.layout.TheConstants.{OPEN}
+use Rattle.disk_journal.specs.Image.{Held, held, IsClosedGate, IsOpenedForm}
 use Rattle.disk_journal.specs.Fault.{image_fault}
 
 -- the image opens, and holds this
@@ -20,18 +20,15 @@ pub record Becomes (old new : Held) (image : List ℕ) : Type 0 where
   pub forms : (form : List ℕ) → IsOpenedForm image form → Holds form new
   pub settled : HasOneClosed image
 
--- where the image holds this, no closed gate is other than 0
-abbrev pub RestsHolding : Held → List ℕ → Type 0
-RestsHolding what image = Holds image what → IsAtRest image
-
 -- new is old, but for what stands at the closed gates of old that are not 0
 pub record Regates (old new : List ℕ) : Type 0 where
   pub same_length : length new ≡ length old
   pub others : (i : ℕ) → (IsClosedGate old i → ⊥) → slice_index new i ≡ slice_index old i
 
--- while an image is brought to rest: the old one but for its closed gates
+-- While an image is brought to rest: it is the old one but for its closed gates, or it holds what the old one holds, as
+-- its opened forms do.
 abbrev pub Settles : List ℕ → List ℕ → Type 0
-Settles old new = Regates old new
+Settles old new = Regates old new ⊎ Becomes (held old) (held old) new
 
 -- Left holds what the image holds, or is one of its opened forms; an opened form of left is the image, or one of its
 -- opened forms.

@@ -1,42 +1,90 @@
--- What an image says (profile): the fields of its header, its plan and its records.
-use Rattle.std.specs.Prelude.{◌≡◌, ◌≢◌, ℕ, ◌<◌, List, [], ◌∷◌, ◌++◌, length, take, drop, slice_index, slice_set}
-use Rattle.byteorder.specs.Endian.{big_number}
-use Rattle.disk_journal.specs.declared.layout.TheConstants.{HEADER_LENGTH, PLAN_LENGTH_AT, SLOT_COUNT_AT, FIELD_LENGTH}
-use Rattle.disk_journal.specs.declared.layout.TheConstants.{OPEN, CLOSED}
-use Rattle.disk_journal.specs.Slots.{slot_at, gate_at, body_at, gated}
+-- What an image of two banks says (profile): the fields of its header, its plan, its content and its records.
+use Rattle.std.specs.Prelude.{◌≡◌, ◌≢◌, ℕ, ◌<◌, ◌==◌, ◌⊎◌, Bool, List, [], ◌∷◌, ◌++◌, length, take, drop, slice_index}
+use Rattle.std.specs.Prelude.{slice_set}
+use Rattle.image_parts.specs.declared.layout.TheConstants.{HEADER_LENGTH, OPEN, CLOSED}
+use Rattle.image_parts.specs.Slots.{gated}
+use Rattle.image_parts.specs.Header.{header_of, plan_length_in, slot_count_in}
+use Rattle.disk_journal.specs.declared.layout.Bank.{Bank}
+use Rattle.disk_journal.specs.declared.layout.Bank.TheVariants.{First, Second}
+use Rattle.disk_journal.specs.declared.layout.Layout.{Layout}
+use Rattle.disk_journal.specs.Banks.{layout_of, bank_at, other, slot_at, gate_at, body_at, generation_at, content_at}
+use Rattle.disk_journal.specs.Banks.{next, chosen}
 
-abbrev pub header_of : List ℕ → List ℕ
-header_of image = take HEADER_LENGTH image
+-- where the banks stand
+unfoldable pub image_layout : List ℕ → Layout
+image_layout image = layout_of (slot_count_in (header_of image))
 
-abbrev pub plan_length_in : List ℕ → ℕ
-plan_length_in header = big_number FIELD_LENGTH (drop PLAN_LENGTH_AT header)
-
-abbrev pub slot_count_in : List ℕ → ℕ
-slot_count_in header = big_number FIELD_LENGTH (drop SLOT_COUNT_AT header)
-
-unfoldable pub slot_count : List ℕ → ℕ
-slot_count image = slot_count_in (header_of image)
+-- the slots of a bank
+abbrev pub slot_count : List ℕ → ℕ
+slot_count image = (image_layout image).slots
 
 -- the text of the plan
 unfoldable pub plan_of : List ℕ → List ℕ
 plan_of image = take (plan_length_in (header_of image)) (drop HEADER_LENGTH image)
 
--- the records of the journal: the bodies of the slots before the first closed one
-unfoldable pub records : List ℕ → List (List ℕ)
-records image = gated (gate_at image) (body_at image) (slot_count image) 0
+-- whether a bank is open
+abbrev pub is_open : List ℕ → Bank → Bool
+is_open image bank = slice_index image (bank_at (image_layout image) bank) == OPEN
 
--- the first closed slot; where none is closed, the number of slots
+abbrev pub generation_of : List ℕ → Bank → ℕ
+generation_of image bank = generation_at image (bank_at (image_layout image) bank)
+
+-- the open bank, or of two open ones the one of the later generation
+unfoldable pub current : List ℕ → Bank
+current image = chosen (is_open image First) (is_open image Second)
+    (generation_of image Second == next (generation_of image First))
+
+-- where the current bank begins, and where the other one does
+abbrev pub current_at : List ℕ → ℕ
+current_at image = bank_at (image_layout image) (current image)
+
+abbrev pub other_at : List ℕ → ℕ
+other_at image = bank_at (image_layout image) (other (current image))
+
+-- the content of the current bank
+abbrev pub content : List ℕ → List ℕ
+content image = content_at (image_layout image) image (current_at image)
+
+-- the records of the journal: the bodies of the current bank's slots before the first closed one
+unfoldable pub records : List ℕ → List (List ℕ)
+records image = gated (gate_at (image_layout image) image (current_at image))
+    (body_at (image_layout image) image (current_at image)) (slot_count image) 0
+
+-- the first closed slot; if none is closed, the number of slots
 abbrev pub first_closed : List ℕ → ℕ
 first_closed image = length (records image)
 
 -- where the record with this index stands
 abbrev pub record_at : List ℕ → ℕ → ℕ
-record_at image index = slot_at index
+record_at image index = slot_at (image_layout image) (current_at image) index
 
--- A closed gate that is not 0 stands here: that of the first closed slot, where a slot is closed.
+-- What stands in an image: the text of the plan, the number of slots, the content and the records.
+pub record Held : Type 0 where
+  pub plan : List ℕ
+  pub slots : ℕ
+  pub content : List ℕ
+  pub records : List (List ℕ)
+
+abbrev pub held : List ℕ → Held
+held image = record {
+  plan = plan_of image;
+  slots = slot_count image;
+  content = content image;
+  records = records image;
+}
+
+-- the old with one record more
+abbrev pub grown : List ℕ → Held → Held
+grown body old = record old { records = old.records ++ body ∷ [] }
+
+-- the old with another content and no records
+abbrev pub turned : List ℕ → Held → Held
+turned content old = record old { content = content; records = [] }
+
+-- A closed gate that is not 0 stands here: that of the current bank's first closed slot, or that of the other bank.
 abbrev pub IsClosedGate : List ℕ → ℕ → Type 0
-IsClosedGate image at = (slice_index image at ≢ CLOSED) × (first_closed image < slot_count image)
-    × (at ≡ slot_at (first_closed image))
+IsClosedGate image at = (slice_index image at ≢ CLOSED)
+    × (((first_closed image < slot_count image) × (at ≡ record_at image (first_closed image))) ⊎ (at ≡ other_at image))
 
 -- the image with one closed gate opened
 abbrev pub IsOpenedForm : List ℕ → List ℕ → Type 0
@@ -46,16 +94,3 @@ IsOpenedForm image form = (at : ℕ) × IsClosedGate image at × (slice_index im
 -- no closed gate is other than 0
 abbrev pub IsAtRest : List ℕ → Type 0
 IsAtRest image = (at : ℕ) → IsClosedGate image at → ⊥
-
--- What stands in an image: the text of the plan, the number of slots, and the records.
-pub record Held : Type 0 where
-  pub plan : List ℕ
-  pub slots : ℕ
-  pub records : List (List ℕ)
-
-abbrev pub held : List ℕ → Held
-held image = record { plan = plan_of image; slots = slot_count image; records = records image }
-
--- the old with one record more
-abbrev pub grown : List ℕ → Held → Held
-grown body old = record old { records = old.records ++ body ∷ [] }

@@ -1,34 +1,82 @@
--- The image without records (profile), from its first octet to its last.
-use Rattle.std.specs.Prelude.{◌≡◌, ℕ, ◌+◌, ◌-◌, ◌≤◌, ◌⊎◌, List, ◌∷◌, ◌++◌, length, replicate}
-use Rattle.sdls_outside.specs.Disk.{IsSynced}
-use Rattle.sdls_outside.specs.Moments.{Trace}
+-- The image that a journal begins with, and how it is written (profile).
+use Rattle.std.specs.Prelude.{◌≡◌, ℕ, ◌-◌, ◌*◌, ◌≤◌, ◌⊎◌, List, [], ◌∷◌, ◌++◌, length, slice_index, Some}
 use Rattle.byteorder.specs.Endian.{big_bytes}
-use Rattle.disk_journal.specs.declared.layout.TheConstants.{HEADER_LENGTH, MAGIC, FIELD_LENGTH, ZEROS_AT, OPEN, CLOSED}
-use Rattle.disk_journal.specs.Slots.{slot_at}
-use Rattle.disk_journal.specs.Changes.{AllBut, EachImage}
+use Rattle.sdls_outside.specs.Disk.{Disk, Outside, IsSynced}
+use Rattle.sdls_outside.specs.Moments.{Trace}
+use Rattle.image_parts.specs.declared.layout.TheConstants.{HEADER_LENGTH, PLAN_ROOM, SLOT_LENGTH, FIELD_LENGTH}
+use Rattle.image_parts.specs.declared.layout.TheConstants.{ZEROS_AT, OPEN, CLOSED}
+use Rattle.image_parts.specs.Changes.{AllBut, EachImage}
+use Rattle.image_parts.specs.Zeros.{zeros}
+use Rattle.disk_journal.specs.declared.layout.Bank.{Bank}
+use Rattle.disk_journal.specs.declared.layout.Bank.TheVariants.{First, Second}
+use Rattle.disk_journal.specs.declared.layout.Layout.{Layout}
+use Rattle.disk_journal.specs.declared.layout.TheConstants.{MAGIC, GENERATION_LENGTH, FIRST_GENERATION}
+use Rattle.disk_journal.specs.Banks.{layout_of, bank_length}
+use Rattle.disk_journal.specs.Fault.{image_fault}
+use Rattle.disk_journal.specs.Forms.{Holds}
+use Rattle.disk_journal.specs.Journal.{IsSettledImage}
 
-unfoldable pub zeros : ℕ → List ℕ
-zeros n = replicate n 0
+-- the gate of an open bank, its generation and its content, and zeros for its slots
+abbrev pub bank_at_rest : Layout → ℕ → List ℕ → List ℕ
+bank_at_rest layout generation text =
+    (OPEN ∷ big_bytes GENERATION_LENGTH generation) ++ text ++ zeros (SLOT_LENGTH * layout.slots)
 
--- the gate, the magic, the length of the plan, the slots, and zeros to the header's end; the plan; zeros to the image's
--- end
-unfoldable pub empty_image : ℕ → List ℕ → ℕ → List ℕ
-empty_image gate plan slots =
+-- the two banks, of which this one is open and the other is zero
+abbrev pub banks_at_rest : Layout → ℕ → List ℕ → Bank → List ℕ
+banks_at_rest layout generation text First = bank_at_rest layout generation text ++ zeros (bank_length layout)
+banks_at_rest layout generation text Second = zeros (bank_length layout) ++ bank_at_rest layout generation text
+
+-- what stands before the banks: the gate, the magic, the length of the plan, the slots, and zeros to the header's end;
+-- the plan, and zeros to the banks
+abbrev pub front_image : ℕ → List ℕ → ℕ → List ℕ
+front_image gate plan slots =
     ((gate ∷ MAGIC) ++ big_bytes FIELD_LENGTH (length plan) ++ big_bytes FIELD_LENGTH slots
     ++ zeros (HEADER_LENGTH - ZEROS_AT))
-    ++ plan ++ zeros (slot_at slots - (HEADER_LENGTH + length plan))
+    ++ plan ++ zeros (PLAN_ROOM - length plan)
+
+-- the image of a plan whose banks are at rest, of which this one is open
+unfoldable pub rest_image : ℕ → List ℕ → ℕ → List ℕ → ℕ → Bank → List ℕ
+rest_image gate plan slots text generation bank =
+    front_image gate plan slots ++ banks_at_rest (layout_of slots) generation text bank
 
 -- the image that a journal begins with
-abbrev pub initial_image : List ℕ → ℕ → List ℕ
-initial_image plan slots = empty_image OPEN plan slots
+abbrev pub initial_image : List ℕ → ℕ → List ℕ → List ℕ
+initial_image plan slots text = rest_image OPEN plan slots text FIRST_GENERATION First
 
 -- the same before its gate is written
-abbrev pub laid_image : List ℕ → ℕ → List ℕ
-laid_image plan slots = empty_image CLOSED plan slots
+abbrev pub laid_image : List ℕ → ℕ → List ℕ → List ℕ
+laid_image plan slots text = rest_image CLOSED plan slots text FIRST_GENERATION First
 
--- A crash early in the call leaves at most the initial image's length, of any octets. From then on the image without
--- its gate is on the disk, and a crash leaves the initial image but for the gate.
-pub record IsLaid (plan : List ℕ) (slots : ℕ) (old mid new : Trace) : Type 0 where
-  pub early : EachImage old mid (λ image. length image ≤ slot_at slots)
-  pub late : (new ≡ mid) ⊎ (IsSynced mid.now × (mid.now.image ≡ laid_image plan slots)
-      × EachImage mid new (AllBut 0 1 (initial_image plan slots)))
+-- The image that a journal begins with opens, holds these with no records, and can take a record or turn.
+pub record BeginsAtRest (plan : List ℕ) (slots : ℕ) (text : List ℕ) : Type 0 where
+  pub holds : Holds (initial_image plan slots text) (record {
+    plan = plan;
+    slots = slots;
+    content = text;
+    records = [];
+  })
+  pub settled : IsSettledImage (initial_image plan slots text) (record {
+    plan_length = length plan;
+    layout = layout_of slots;
+    bank = First;
+    generation = FIRST_GENERATION;
+    used = 0;
+  })
+
+-- what the header has from its magic to its last number
+abbrev pub fields_of : ℕ → ℕ → List ℕ
+fields_of plan_length slots = MAGIC ++ big_bytes FIELD_LENGTH plan_length ++ big_bytes FIELD_LENGTH slots
+
+-- Whatever a crash leaves, its first octet is 0: it is 0 on the disk, and nothing that is pending touches it.
+pub record IsShut (disk : Disk) : Type 0 where
+  pub some : 1 ≤ length disk.synced
+  pub synced : slice_index disk.synced 0 ≡ CLOSED
+  pub away : Outside disk.ranges 0
+  pub reads : slice_index disk.image 0 ≡ CLOSED
+
+-- A crash early in the call leaves an image that is refused at its first octet. From then on the image without its gate
+-- is on the disk, and a crash leaves the initial image but for the gate.
+pub record IsLaid (plan : List ℕ) (slots : ℕ) (text : List ℕ) (old mid new : Trace) : Type 0 where
+  pub early : EachImage old mid (λ image. image_fault image ≡ Some 0)
+  pub late : (new ≡ mid) ⊎ (IsSynced mid.now × (mid.now.image ≡ laid_image plan slots text)
+      × EachImage mid new (AllBut 0 1 (initial_image plan slots text)))

@@ -1,8 +1,10 @@
-pub mod Slots
 pub mod Gates
+pub mod Banks
 pub mod Image
 pub mod Fault
 pub mod Forms
-pub mod Journal
 pub mod Changes
+pub mod Journal
+pub mod Rest
 pub mod Initial
+pub mod Verdict

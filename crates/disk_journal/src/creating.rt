@@ -1,46 +1,98 @@
-// The image without records.
-ghost use Rattle.std.specs.Prelude.{◌≡◌, ◌-◌, ◌*◌, ◌≤◌, IsTrue, OnOk, length, [], ◌++◌};
+// The image that a journal begins with.
+ghost use Rattle.std.specs.Prelude.{◌≡◌, ◌+◌, ◌-◌, ◌*◌, ◌≤◌, IsTrue, OnOk, length, slice_index, []};
 ghost use Rattle.sdls_outside.specs.Disk.{IsSynced};
 ghost use Rattle.sdls_outside.specs.Faults.{HasCause};
 ghost use Rattle.sdls_outside.specs.Moments.{Trace};
-ghost use Rattle.sdls_outside.specs.Site.{Writes};
-ghost use Rattle.byteorder.specs.Endian.{big_bytes};
-ghost use Rattle.disk_journal.specs.Slots.{slot_at};
-ghost use Rattle.disk_journal.specs.Changes.{EachImage};
-ghost use Rattle.disk_journal.specs.Initial.{zeros, laid_image, initial_image, IsLaid};
+ghost use Rattle.sdls_outside.specs.Site.{overwritten};
+ghost use Rattle.image_parts.specs.Changes.{EachImage};
+ghost use Rattle.image_parts.specs.Zeros.{zeros};
+ghost use Rattle.disk_journal.specs.Changes.{with_front};
+ghost use Rattle.disk_journal.specs.Initial.{laid_image, initial_image, fields_of, IsShut, IsLaid};
 ghost use Rattle.disk_journal.specs.Journal.{HasSiteFault};
 
 use crate::fault::JournalFault;
 use crate::layout::{
-    FIELD_LENGTH, HEADER_LENGTH, LEAST_SLOTS, MAGIC, MAGIC_AT, MOST_SLOTS, OPEN, PLAN_LENGTH_AT,
-    PLAN_ROOM, SLOT_COUNT_AT, SLOT_LENGTH, SLOTS_AT, ZEROS_AT,
+    BANKS_AT, CONTENT_AT, CONTENT_LENGTH, FIRST_GENERATION, GENERATION_AT, GENERATION_LENGTH,
+    Layout, MAGIC,
 };
 use crate::storing::store;
 use byteorder::{BigEndian, ByteOrder};
+use image_parts::{
+    CLOSED, HEADER_LENGTH, LEAST_SLOTS, MAGIC_AT, MOST_SLOTS, OPEN, PLAN_LENGTH_AT, PLAN_ROOM,
+    SLOT_COUNT_AT, SLOT_LENGTH, ZEROS_AT,
+};
 use sdls_outside::{Failed, Site};
 
-/// What stands before the slots, in blocks of a slot's length.
-const BLOCKS_BEFORE: u32 = (SLOTS_AT / SLOT_LENGTH) as u32;
+/// What stands before the banks, in blocks of a slot's length.
+const BLOCKS_BEFORE: u32 = (BANKS_AT / SLOT_LENGTH) as u32;
 
-/// Writes zeros over so many blocks of a slot's length, from the image's first octet on.
-fn write_zeros<O: Site>(site: &mut O, blocks: u32) -> Result<(), Failed>
+/// Writes octet 0 as 0, if there is no image, and brings it to the disk.
+fn shut<O: Site>(site: &mut O) -> Result<(), Failed>
     requires { IsTrue O.told → (O.trace site.old).now.image ≡ [] }
-    ensures written { IsTrue O.told → OnOk result ((O.trace site.new).now.image ≡ zeros (SLOT_LENGTH * blocks)) }
-    ensures any_moment { IsTrue O.told → EachImage (O.trace site.old) (O.trace site.new)
-        (λ image. length image ≤ SLOT_LENGTH * blocks) }
+    ensures shut { IsTrue O.told → OnOk result (IsSynced (O.trace site.new).now
+        × ((O.trace site.new).now.image ≡ zeros 1)) }
+    ensures any_moment { IsTrue O.told → EachImage (O.trace site.old) (O.trace site.new) (λ image. length image ≤ 1) }
     ensures cause { HasCause (O.faults site.old) (O.faults site.new) result }
     ensures puts { O.put_faults site.new ≡ O.put_faults site.old }
 {
-    for block in 0..blocks {
-        site.write_at(SLOT_LENGTH * block as u64, &[0; SLOT_LENGTH as usize])?;
+    site.write_at(0, &[CLOSED])?;
+    site.sync()
+}
+
+/// Writes octets behind octet 0, which is 0 on the disk.
+fn write_behind<O: Site>(site: &mut O, at: u64, octets: &[u8]) -> Result<(), Failed>
+    requires behind { 1 ≤ at }
+    requires within { IsTrue O.told → at ≤ length (O.trace site.old).now.image }
+    requires shut { IsTrue O.told → IsShut (O.trace site.old).now }
+    ensures written { IsTrue O.told → OnOk result ((O.trace site.new).now.image
+        ≡ overwritten (O.trace site.old).now.image at octets.now) }
+    ensures shut { IsTrue O.told → OnOk result (IsShut (O.trace site.new).now) }
+    ensures any_moment { IsTrue O.told → EachImage (O.trace site.old) (O.trace site.new)
+        (λ image. slice_index image 0 ≡ CLOSED) }
+    ensures cause { HasCause (O.faults site.old) (O.faults site.new) result }
+    ensures puts { O.put_faults site.new ≡ O.put_faults site.old }
+{
+    site.write_at(at, octets)
+}
+
+/// Writes zeros over the blocks of a slot's length after the first, of which there are so many.
+fn write_blocks<O: Site>(site: &mut O, blocks: u32) -> Result<(), Failed>
+    requires some { 1 ≤ blocks }
+    requires begun { IsTrue O.told → (O.trace site.old).now.image ≡ zeros SLOT_LENGTH }
+    requires shut { IsTrue O.told → IsShut (O.trace site.old).now }
+    ensures written { IsTrue O.told → OnOk result ((O.trace site.new).now.image ≡ zeros (SLOT_LENGTH * blocks)) }
+    ensures shut { IsTrue O.told → OnOk result (IsShut (O.trace site.new).now) }
+    ensures any_moment { IsTrue O.told → EachImage (O.trace site.old) (O.trace site.new)
+        (λ image. slice_index image 0 ≡ CLOSED) }
+    ensures cause { HasCause (O.faults site.old) (O.faults site.new) result }
+    ensures puts { O.put_faults site.new ≡ O.put_faults site.old }
+{
+    for block in 1..blocks {
+        write_behind(site, SLOT_LENGTH * block as u64, &[0; SLOT_LENGTH as usize])?;
     }
     Ok(())
+}
+
+/// Writes zeros over so many blocks of a slot's length, from octet 1 on.
+fn write_zeros<O: Site>(site: &mut O, blocks: u32) -> Result<(), Failed>
+    requires some { 1 ≤ blocks }
+    requires begun { IsTrue O.told → (O.trace site.old).now.image ≡ zeros 1 }
+    requires shut { IsTrue O.told → IsShut (O.trace site.old).now }
+    ensures written { IsTrue O.told → OnOk result ((O.trace site.new).now.image ≡ zeros (SLOT_LENGTH * blocks)) }
+    ensures shut { IsTrue O.told → OnOk result (IsShut (O.trace site.new).now) }
+    ensures any_moment { IsTrue O.told → EachImage (O.trace site.old) (O.trace site.new)
+        (λ image. slice_index image 0 ≡ CLOSED) }
+    ensures cause { HasCause (O.faults site.old) (O.faults site.new) result }
+    ensures puts { O.put_faults site.new ≡ O.put_faults site.old }
+{
+    write_behind(site, 1, &[0; (SLOT_LENGTH - 1) as usize])?;
+    write_blocks(site, blocks)
 }
 
 /// The header from its magic to its last number.
 fn fill_fields(fields: &mut [u8], plan_length: u32, slots: u32)
     requires { length fields.old ≡ ZEROS_AT - MAGIC_AT }
-    ensures { fields.new ≡ MAGIC ++ big_bytes FIELD_LENGTH plan_length ++ big_bytes FIELD_LENGTH slots }
+    ensures { fields.new ≡ fields_of plan_length slots }
 {
     fields[..8].copy_from_slice(&MAGIC);
     BigEndian::write_u32(
@@ -50,71 +102,121 @@ fn fill_fields(fields: &mut [u8], plan_length: u32, slots: u32)
     BigEndian::write_u32(&mut fields[(SLOT_COUNT_AT - MAGIC_AT) as usize..], slots);
 }
 
-/// Writes the header from its magic to its last number.
-fn write_fields<O: Site>(site: &mut O, plan_length: u32, slots: u32) -> Result<(), Failed>
-    requires { IsTrue O.told → MAGIC_AT ≤ length (O.trace site.old).now.image }
-    ensures written { IsTrue O.told → Writes MAGIC_AT
-        (MAGIC ++ big_bytes FIELD_LENGTH plan_length ++ big_bytes FIELD_LENGTH slots)
-        result (O.trace site.old) (O.trace site.new) }
+/// Writes the header but for its gate, and the plan.
+fn write_header<O: Site>(site: &mut O, plan: &[u8], slots: u32) -> Result<(), Failed>
+    requires room { length plan.now ≤ PLAN_ROOM }
+    requires long { IsTrue O.told → BANKS_AT ≤ length (O.trace site.old).now.image }
+    requires shut { IsTrue O.told → IsShut (O.trace site.old).now }
+    ensures written { IsTrue O.told → OnOk result ((O.trace site.new).now.image ≡ overwritten
+        (overwritten (O.trace site.old).now.image MAGIC_AT (fields_of (length plan.now) slots))
+        HEADER_LENGTH plan.now) }
+    ensures shut { IsTrue O.told → OnOk result (IsShut (O.trace site.new).now) }
+    ensures any_moment { IsTrue O.told → EachImage (O.trace site.old) (O.trace site.new)
+        (λ image. slice_index image 0 ≡ CLOSED) }
     ensures cause { HasCause (O.faults site.old) (O.faults site.new) result }
     ensures puts { O.put_faults site.new ≡ O.put_faults site.old }
 {
     let mut fields = [0; (ZEROS_AT - MAGIC_AT) as usize];
-    fill_fields(&mut fields, plan_length, slots);
-    site.write_at(MAGIC_AT, &fields)
+    fill_fields(&mut fields, plan.len() as u32, slots);
+    write_behind(site, MAGIC_AT, &fields)?;
+    write_behind(site, HEADER_LENGTH, plan)
 }
 
-/// Writes all of the image but the header's gate, which is 0, and brings it to the disk.
-fn lay<O: Site>(site: &mut O, plan: &[u8], slots: u32) -> Result<(), Failed>
-    requires empty { IsTrue O.told → (O.trace site.old).now.image ≡ [] }
-    requires room { length plan.now ≤ PLAN_ROOM }
-    requires most { slots ≤ MOST_SLOTS }
-    ensures laid { IsTrue O.told → OnOk result (IsSynced (O.trace site.new).now
-        × ((O.trace site.new).now.image ≡ laid_image plan.now slots)) }
+/// Writes the front of the first bank: its gate, which is open, and its generation.
+fn write_front<O: Site>(site: &mut O, generation: u64) -> Result<(), Failed>
+    requires long { IsTrue O.told → BANKS_AT + CONTENT_AT ≤ length (O.trace site.old).now.image }
+    requires shut { IsTrue O.told → IsShut (O.trace site.old).now }
+    ensures written { IsTrue O.told → OnOk result ((O.trace site.new).now.image
+        ≡ with_front BANKS_AT generation (O.trace site.old).now.image) }
+    ensures shut { IsTrue O.told → OnOk result (IsShut (O.trace site.new).now) }
     ensures any_moment { IsTrue O.told → EachImage (O.trace site.old) (O.trace site.new)
-        (λ image. length image ≤ slot_at slots) }
+        (λ image. slice_index image 0 ≡ CLOSED) }
     ensures cause { HasCause (O.faults site.old) (O.faults site.new) result }
     ensures puts { O.put_faults site.new ≡ O.put_faults site.old }
 {
-    write_zeros(site, BLOCKS_BEFORE + slots)?;
-    site.write_at(HEADER_LENGTH, plan)?;
-    write_fields(site, plan.len() as u32, slots)?;
+    let mut number = [0; GENERATION_LENGTH];
+    BigEndian::write_u64(&mut number, generation);
+    write_behind(site, BANKS_AT, &[OPEN])?;
+    write_behind(site, BANKS_AT + GENERATION_AT, &number)
+}
+
+/// Writes the first bank but for its slots: its front and its content.
+fn write_bank<O: Site>(site: &mut O, generation: u64, content: &[u8]) -> Result<(), Failed>
+    requires long { IsTrue O.told → BANKS_AT + CONTENT_AT ≤ length (O.trace site.old).now.image }
+    requires shut { IsTrue O.told → IsShut (O.trace site.old).now }
+    ensures written { IsTrue O.told → OnOk result ((O.trace site.new).now.image ≡ overwritten
+        (with_front BANKS_AT generation (O.trace site.old).now.image) (BANKS_AT + CONTENT_AT) content.now) }
+    ensures shut { IsTrue O.told → OnOk result (IsShut (O.trace site.new).now) }
+    ensures any_moment { IsTrue O.told → EachImage (O.trace site.old) (O.trace site.new)
+        (λ image. slice_index image 0 ≡ CLOSED) }
+    ensures cause { HasCause (O.faults site.old) (O.faults site.new) result }
+    ensures puts { O.put_faults site.new ≡ O.put_faults site.old }
+{
+    write_front(site, generation)?;
+    write_behind(site, BANKS_AT + CONTENT_AT, content)
+}
+
+/// Writes all of the image but the header's gate, which is 0 on the disk, and brings it to the disk.
+fn lay<O: Site>(site: &mut O, plan: &[u8], slots: u32, content: &[u8]) -> Result<(), Failed>
+    requires begun { IsTrue O.told → (O.trace site.old).now.image ≡ zeros 1 }
+    requires shut { IsTrue O.told → IsShut (O.trace site.old).now }
+    requires room { length plan.now ≤ PLAN_ROOM }
+    requires most { slots ≤ MOST_SLOTS }
+    requires sized { length content.now ≡ CONTENT_LENGTH }
+    ensures laid { IsTrue O.told → OnOk result (IsSynced (O.trace site.new).now
+        × ((O.trace site.new).now.image ≡ laid_image plan.now slots content.now)) }
+    ensures any_moment { IsTrue O.told → EachImage (O.trace site.old) (O.trace site.new)
+        (λ image. slice_index image 0 ≡ CLOSED) }
+    ensures cause { HasCause (O.faults site.old) (O.faults site.new) result }
+    ensures puts { O.put_faults site.new ≡ O.put_faults site.old }
+{
+    write_zeros(site, BLOCKS_BEFORE + 2 * Layout::of_slots(slots).blocks())?;
+    write_header(site, plan, slots)?;
+    write_bank(site, FIRST_GENERATION, content)?;
     site.sync()
 }
 
-/// Writes the image, and last of all the header's gate.
-fn write_image<O: Site>(site: &mut O, plan: &[u8], slots: u32) -> Result<(), Failed>
+/// Writes the image, first of all its first octet as 0, and last of all the header's gate.
+fn write_image<O: Site>(site: &mut O, plan: &[u8], slots: u32, content: &[u8]) -> Result<(), Failed>
     requires empty { IsTrue O.told → (O.trace site.old).now.image ≡ [] }
     requires room { length plan.now ≤ PLAN_ROOM }
     requires most { slots ≤ MOST_SLOTS }
+    requires sized { length content.now ≡ CONTENT_LENGTH }
     ensures created { IsTrue O.told → OnOk result (IsSynced (O.trace site.new).now
-        × ((O.trace site.new).now.image ≡ initial_image plan.now slots)) }
+        × ((O.trace site.new).now.image ≡ initial_image plan.now slots content.now)) }
     ensures any_moment { IsTrue O.told → ((mid : Trace)
-        × IsLaid plan.now slots (O.trace site.old) mid (O.trace site.new)) }
+        × IsLaid plan.now slots content.now (O.trace site.old) mid (O.trace site.new)) }
     ensures cause { HasCause (O.faults site.old) (O.faults site.new) result }
     ensures puts { O.put_faults site.new ≡ O.put_faults site.old }
 {
-    lay(site, plan, slots)?;
+    shut(site)?;
+    lay(site, plan, slots, content)?;
     store(site, 0, &[OPEN])
 }
 
-/// Writes the image of this plan, with this many slots and no records, where there is no image. After
-/// `Ok` it is on the disk. After a fault some of it may stand.
-pub fn create<O: Site>(site: &mut O, plan: &[u8], slots: u32) -> Result<(), JournalFault>
+/// Writes the image of this plan, with this many slots a bank, this content and no records, if there
+/// is no image. After `Ok` it is on the disk. After a fault some of it may stand.
+pub fn create<O: Site>(
+    site: &mut O,
+    plan: &[u8],
+    slots: u32,
+    content: &[u8],
+) -> Result<(), JournalFault>
     requires empty { IsTrue O.told → (O.trace site.old).now.image ≡ [] }
     requires room { length plan.now ≤ PLAN_ROOM }
     requires least { LEAST_SLOTS ≤ slots }
     requires most { slots ≤ MOST_SLOTS }
+    requires sized { length content.now ≡ CONTENT_LENGTH }
     ensures created { IsTrue O.told → OnOk result (IsSynced (O.trace site.new).now
-        × ((O.trace site.new).now.image ≡ initial_image plan.now slots)) }
+        × ((O.trace site.new).now.image ≡ initial_image plan.now slots content.now)) }
 
-    // The gate of the header is written once all else is on the disk.
+    // No octet is opened as an image before all else is on the disk.
     ensures any_moment { IsTrue O.told → ((mid : Trace)
-        × IsLaid plan.now slots (O.trace site.old) mid (O.trace site.new)) }
+        × IsLaid plan.now slots content.now (O.trace site.old) mid (O.trace site.new)) }
     ensures fault { HasSiteFault (O.faults site.old) (O.faults site.new) result }
     ensures puts { O.put_faults site.new ≡ O.put_faults site.old }
 {
-    match write_image(site, plan, slots) {
+    match write_image(site, plan, slots, content) {
         Ok(()) => Ok(()),
         Err(Failed) => Err(JournalFault::SiteFault(site.faults())),
     }

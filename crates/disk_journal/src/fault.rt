@@ -6,9 +6,6 @@ pub enum JournalFault {
     /// The site failed; the count of its faults, which rose in the call.
     #[error("site failed, fault {0}")]
     SiteFault(u64),
-    /// All slots are used; their number. From `append` alone.
-    #[error("all {0} slots are used")]
-    Full(u32),
     /// The image does not open; the offset of the first check that fails. From `open` alone.
     #[error("image does not open, fault at offset {0}")]
     Image(u64),

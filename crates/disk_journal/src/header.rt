@@ -2,21 +2,23 @@
 ghost use Rattle.std.specs.Prelude.{◌≡◌, ◌+◌, ◌≤◌, ◌==◌, not, length, drop, MatchResult};
 ghost use Rattle.std.specs.List.{list_any};
 ghost use Rattle.byteorder.specs.Endian.{big_number};
-ghost use Rattle.disk_journal.specs.Image.{plan_length_in, slot_count_in};
+ghost use Rattle.image_parts.specs.Header.{plan_length_in, slot_count_in};
 ghost use Rattle.sdls_base.specs.FirstFailing.{first_failing};
+ghost use Rattle.disk_journal.specs.Banks.{layout_of, IsLayout};
 ghost use Rattle.disk_journal.specs.Fault.{header_checks};
 
-use crate::layout::{
-    FIELD_LENGTH, HEADER_LENGTH, LEAST_SLOTS, MAGIC, MAGIC_AT, MOST_SLOTS, OPEN, PLAN_LENGTH_AT,
-    PLAN_ROOM, SLOT_COUNT_AT, ZEROS_AT, slot_offset,
-};
+use crate::layout::{Layout, MAGIC};
 use byteorder::{BigEndian, ByteOrder};
+use image_parts::{
+    FIELD_LENGTH, HEADER_LENGTH, LEAST_SLOTS, MAGIC_AT, MOST_SLOTS, OPEN, PLAN_LENGTH_AT,
+    PLAN_ROOM, SLOT_COUNT_AT, ZEROS_AT,
+};
 
-/// The numbers in a header that passes its checks.
+/// What a header that passes its checks says.
 #[derive(Clone, Copy, Debug)]
 pub(crate) struct Header {
     pub(crate) plan_length: u32,
-    pub(crate) slots: u32,
+    pub(crate) layout: Layout,
 }
 
 /// The number that stands at `at`.
@@ -28,7 +30,7 @@ fn number_at(header: &[u8], at: u64) -> u32
 }
 
 /// Whether an octet is not 0.
-fn has_other(octets: &[u8]) -> bool
+pub(crate) fn has_other(octets: &[u8]) -> bool
     ensures { result ≡ list_any (λ octet. not (octet == 0)) octets.now }
 {
     octets.iter().any(|octet| *octet != 0)
@@ -52,7 +54,7 @@ fn header_fault(header: &[u8], image_length: u64) -> Option<u64>
     if slots < LEAST_SLOTS || slots > MOST_SLOTS {
         return Some(SLOT_COUNT_AT);
     }
-    if image_length < slot_offset(slots) {
+    if image_length < Layout::of_slots(slots).end() {
         return Some(image_length);
     }
     if has_other(&header[ZEROS_AT as usize..]) {
@@ -67,14 +69,15 @@ pub(crate) fn read_header(header: &[u8], image_length: u64) -> Result<Header, u6
     ensures checked { MatchResult result (λ _. first_failing (header_checks header.now image_length) ≡ None)
         (λ offset. first_failing (header_checks header.now image_length) ≡ Some offset) }
     ensures found { MatchResult result (λ found. (found.plan_length ≡ plan_length_in header.now)
-        × (found.slots ≡ slot_count_in header.now) × (found.plan_length ≤ PLAN_ROOM) × (found.slots ≤ MOST_SLOTS))
+        × (found.layout ≡ layout_of (slot_count_in header.now)) × (found.plan_length ≤ PLAN_ROOM)
+        × IsLayout found.layout)
         (λ _. Unit {0}) }
 {
     match header_fault(header, image_length) {
         Some(offset) => Err(offset),
         None => Ok(Header {
             plan_length: number_at(header, PLAN_LENGTH_AT),
-            slots: number_at(header, SLOT_COUNT_AT),
+            layout: Layout::of_slots(number_at(header, SLOT_COUNT_AT)),
         }),
     }
 }

@@ -1,17 +1,24 @@
 // The journal.
-ghost use Rattle.std.specs.Prelude.{◌≡◌, ℕ, ◌+◌, ◌<◌, ◌≤◌, ◌↔◌, IsTrue, IfOk, OnOk, OnErr, slice_get, List, length};
-ghost use Rattle.std.specs.Prelude.{take, [], ◌∷◌, ◌++◌};
+ghost use Rattle.std.specs.Prelude.{◌≡◌, ℕ, ◌+◌, ◌^◌, ◌<◌, ◌≤◌, IsTrue, IfOk, OnOk, OnErr, slice_get, List, length};
+ghost use Rattle.std.specs.Prelude.{take};
 ghost use Rattle.sdls_outside.specs.Disk.{Leaves};
-ghost use Rattle.disk_journal.specs.Image.{records, plan_of, record_at, held, grown};
+ghost use Rattle.sdls_outside.specs.Faults.{HasCause};
+ghost use Rattle.image_parts.specs.Changes.{EachImage, OnlySyncs};
+ghost use Rattle.disk_journal.specs.Banks.{bank_at, slot_at, other, next};
+ghost use Rattle.disk_journal.specs.Image.{records, plan_of, content, current_at, record_at, held, grown, turned};
+ghost use Rattle.disk_journal.specs.Changes.{KeepsBeside};
 ghost use Rattle.disk_journal.specs.Fault.{image_fault};
+ghost use Rattle.disk_journal.specs.Forms.{Becomes, Settles};
 ghost use Rattle.disk_journal.specs.Journal.{JournalView, IsJournalOf, IsOpen, IsSettled, HasFault, HasSiteFault};
-ghost use Rattle.disk_journal.specs.Changes.{EachImage, OnlySyncs};
-ghost use Rattle.disk_journal.specs.Forms.{Becomes, RestsHolding, Settles};
+ghost use Rattle.disk_journal.specs.Rest.{IsRest};
 
 use crate::fault::JournalFault;
-use crate::layout::{HEADER_LENGTH, MOST_SLOTS, PLAN_ROOM, slot_offset};
-use crate::opening_image::inspect_synced;
-use crate::storing::{close_gate, store_record};
+use crate::layout::{Bank, CONTENT_AT, CONTENT_LENGTH, Layout, next_generation};
+use crate::opening_image::{Verdict, inspect_synced};
+use crate::settling::{clear_spare, close_gate, close_slot};
+use crate::storing::store_record;
+use crate::turning::turn_banks;
+use image_parts::{HEADER_LENGTH, MOST_SLOTS, PLAN_ROOM};
 use sdls_base::BODY_LENGTH;
 use sdls_outside::{Failed, Site};
 use std::marker::Model;
@@ -21,38 +28,43 @@ use std::marker::Model;
 #[derive(Drop)]
 pub struct Journal {
     pub(crate) plan_length: u32,
-    pub(crate) slots: u32,
+    pub(crate) layout: Layout,
+    pub(crate) bank: Bank,
+    pub(crate) generation: u64,
     pub(crate) used: u32,
 }
 
 impl Model for Journal {
-    ghost use Rattle.std.specs.Prelude.{◌≤◌};
+    ghost use Rattle.std.specs.Prelude.{◌≡◌, ◌≤◌};
+    ghost use Rattle.disk_journal.specs.Banks.{IsLayout};
     ghost use Rattle.disk_journal.specs.Journal.{JournalView};
-    ghost use Rattle.disk_journal.specs.declared.layout.TheConstants.{PLAN_ROOM, MOST_SLOTS};
+    ghost use Rattle.disk_journal.specs.declared.layout.TheConstants.{CONTENT_LENGTH};
+    ghost use Rattle.image_parts.specs.declared.layout.TheConstants.{PLAN_ROOM};
 
     ghost Value = { JournalView };
 
     ghost view = { λ journal. record {
       plan_length = journal.plan_length;
-      slots = journal.slots;
-      used =
-          journal.used;
+      layout = journal.layout;
+      bank = journal.bank;
+      generation = journal.generation;
+      used = journal.used;
     } };
 
-    ghost invariant = { λ journal. (journal.plan_length ≤ PLAN_ROOM) × (journal.used ≤ journal.slots)
-        × (journal.slots ≤ MOST_SLOTS) };
+    ghost invariant = { λ journal. (journal.plan_length ≤ PLAN_ROOM) × (journal.used ≤ journal.layout.slots)
+        × IsLayout journal.layout × (journal.layout.content_length ≡ CONTENT_LENGTH) };
 }
 
 impl Journal {
     /// Opens the image of a site that has run until now, or has crashed: starts a run on the site,
     /// syncs, and makes the checks. Answers `Image` with the offset of the first check that fails.
-    /// Writes nothing: call `settle` before the first `append`.
+    /// Writes nothing: call `settle` before the first `append` or `turn`.
     pub fn open<O: Site>(site: &mut O) -> Result<Self, JournalFault>
         ensures opened { IsTrue O.told → IfOk result (IsOpen (O.trace site.new)) }
 
-        // It is refused exactly where a check fails, with the first one's offset.
+        // It is refused exactly if a check fails, with the first one's offset.
         ensures accepted { IsTrue O.told → OnOk result (image_fault (O.trace site.old).now.image ≡ None) }
-        ensures fault { HasFault (O.faults site.old) (O.faults site.new) (λ slots. ⊥)
+        ensures fault { HasFault (O.faults site.old) (O.faults site.new)
             (λ offset. IsTrue O.told → image_fault (O.trace site.old).now.image ≡ Some offset) result }
 
         // Whatever the answer, nothing is written and nothing is sunk.
@@ -62,32 +74,55 @@ impl Journal {
         ensures puts { O.put_faults site.new ≡ O.put_faults site.old }
     {
         match inspect_synced(site) {
-            Ok(Ok(journal)) => Ok(journal),
-            Ok(Err(offset)) => Err(JournalFault::Image(offset)),
+            Ok(Verdict::Opens(journal)) => Ok(journal),
+            Ok(Verdict::Fails(offset)) => Err(JournalFault::Image(offset)),
             Err(Failed) => Err(JournalFault::SiteFault(site.faults())),
         }
     }
 
-    /// Brings an opened image to rest: where the gate of its first closed slot is not 0, which a crash
-    /// in an `append` leaves, writes 0 there and syncs. After a fault, open the image again.
+    /// Brings an opened image to rest: writes 0 as the gate of the first closed slot and as that of
+    /// the other bank, if they are not 0, and zeros over the rest of the other bank, if it has
+    /// other octets. Syncs after each. After a fault, open the image again.
     pub fn settle<O: Site>(&self, site: &mut O) -> Result<(), JournalFault>
         requires { IsTrue O.told → IsOpen (O.trace site.old) self.now }
         ensures settled { IsTrue O.told → OnOk result (IsSettled (O.trace site.new) self.now) }
         ensures holds { IsTrue O.told → OnOk result (held (O.trace site.new).now.image
             ≡ held (O.trace site.old).now.image) }
-        ensures records { IsTrue O.told → OnOk result
-            (records (O.trace site.new).now.image ≡ records (O.trace site.old).now.image) }
 
-        // A crash at any moment leaves the image but for its closed gate, if that is not 0.
+        // What stands before the banks and past them is as it was.
+        ensures beside { IsTrue O.told → OnOk result
+            (KeepsBeside self.now.layout (O.trace site.old).now.image (O.trace site.new).now.image) }
+
+        // A crash at any moment leaves the image but for its closed gates, or one that holds the same.
         ensures any_moment { IsTrue O.told → EachImage (O.trace site.old) (O.trace site.new)
             (Settles (O.trace site.old).now.image) }
         ensures fault { HasSiteFault (O.faults site.old) (O.faults site.new) result }
         ensures puts { O.put_faults site.new ≡ O.put_faults site.old }
     {
-        match close_gate(site, self.used, self.slots) {
+        match self.bring_to_rest(site) {
             Ok(()) => Ok(()),
             Err(Failed) => Err(JournalFault::SiteFault(site.faults())),
         }
+    }
+
+    /// The same, with the site's own answer.
+    fn bring_to_rest<O: Site>(&self, site: &mut O) -> Result<(), Failed>
+        requires { IsTrue O.told → IsOpen (O.trace site.old) self.now }
+        ensures settled { IsTrue O.told → OnOk result (IsSettled (O.trace site.new) self.now
+            × (held (O.trace site.new).now.image ≡ held (O.trace site.old).now.image)) }
+        ensures beside { IsTrue O.told → OnOk result
+            (KeepsBeside self.now.layout (O.trace site.old).now.image (O.trace site.new).now.image) }
+        ensures any_moment { IsTrue O.told → EachImage (O.trace site.old) (O.trace site.new)
+            (Settles (O.trace site.old).now.image) }
+        ensures cause { HasCause (O.faults site.old) (O.faults site.new) result }
+        ensures puts { O.put_faults site.new ≡ O.put_faults site.old }
+    {
+        let at = self.layout.bank_offset(self.bank);
+        let spare = self.layout.bank_offset(self.bank.other());
+        let slot = self.layout.slot_offset(at, self.used);
+        close_slot(site, slot, self.used, self.layout.slots)?;
+        close_gate(site, spare)?;
+        clear_spare(site, spare, self.layout.blocks())
     }
 
     /// Reads the text of the plan into the front of `out`, and answers how many octets it has. After a
@@ -109,6 +144,29 @@ impl Journal {
         }
     }
 
+    /// Reads the content. After a fault `out` may hold any octets.
+    pub fn content<O: Site>(&self, site: &mut O, out: &mut [u8]) -> Result<(), JournalFault>
+        requires room { length out.old ≡ CONTENT_LENGTH }
+        requires opened { IsTrue O.told → IsOpen (O.trace site.old) self.now }
+        ensures content { IsTrue O.told → OnOk result (out.new ≡ content (O.trace site.old).now.image) }
+        ensures same { IsTrue O.told → O.trace site.new ≡ O.trace site.old }
+        ensures fault { HasSiteFault (O.faults site.old) (O.faults site.new) result }
+        ensures puts { O.put_faults site.new ≡ O.put_faults site.old }
+    {
+        match site.read_at(self.content_at(), out) {
+            Ok(()) => Ok(()),
+            Err(Failed) => Err(JournalFault::SiteFault(site.faults())),
+        }
+    }
+
+    /// Where the content begins in the image.
+    pub fn content_at(&self) -> u64
+        ensures is { result ≡ bank_at self.now.layout self.now.bank + CONTENT_AT }
+        ensures place { (image : List ℕ) → IsJournalOf image self.now → result ≡ current_at image + CONTENT_AT }
+    {
+        self.layout.bank_offset(self.bank) + CONTENT_AT
+    }
+
     /// Reads the body of a record; the first one's index is 0.
     pub fn body<O: Site>(&self, site: &mut O, index: u32) -> Result<[u8; BODY_LENGTH], JournalFault>
         requires below { index < self.now.used }
@@ -120,46 +178,53 @@ impl Journal {
         ensures puts { O.put_faults site.new ≡ O.put_faults site.old }
     {
         let mut body = [0; BODY_LENGTH];
-        match site.read_at(slot_offset(index) + 1, &mut body) {
+        match site.read_at(self.record_offset(index) + 1, &mut body) {
             Ok(()) => Ok(body),
             Err(Failed) => Err(JournalFault::SiteFault(site.faults())),
         }
     }
 
-    /// Adds a record. After `Ok` every crash leaves an image that has it. After `SiteFault` the image may
-    /// have it or not: no `append` may follow, and the image has to be opened again. `Full` changes nothing.
+    /// Where the record with this index begins.
+    pub fn record_offset(&self, index: u32) -> u64
+        ensures is { result ≡ slot_at self.now.layout (bank_at self.now.layout self.now.bank) index }
+        ensures place { (image : List ℕ) → IsJournalOf image self.now → result ≡ record_at image index }
+        ensures short { result < 2 ^ 63 }
+    {
+        let bank = self.layout.bank_offset(self.bank);
+        self.layout.slot_offset(bank, index)
+    }
+
+    /// Adds a record. After `Ok` every crash leaves an image that has it. After a fault the image may
+    /// have it or not: no `append` or `turn` may follow, and the image has to be opened again.
     pub fn append<O: Site>(
         &mut self,
         site: &mut O,
         body: &[u8; BODY_LENGTH],
     ) -> Result<(), JournalFault>
-        // `settle` was Ok, and no `append` since then has failed.
-        requires { IsTrue O.told → IsSettled (O.trace site.old) self.old }
+        requires free { self.old.used < self.old.layout.slots }
+
+        // `settle` was Ok, and no `append` or `turn` since then has failed.
+        requires settled { IsTrue O.told → IsSettled (O.trace site.old) self.old }
 
         ensures stored { IsTrue O.told → OnOk result (IsSettled (O.trace site.new) self.new) }
         ensures holds { IsTrue O.told → OnOk result
             (held (O.trace site.new).now.image ≡ grown body.now (held (O.trace site.old).now.image)) }
 
-        // A crash at any moment leaves what was held, or that with the new record; half open, that with the new record.
+        // A crash at any moment leaves an image that holds the old or the new; an opened form of it holds the new.
         ensures becomes { IsTrue O.told → EachImage (O.trace site.old) (O.trace site.new)
             (Becomes (held (O.trace site.old).now.image) (grown body.now (held (O.trace site.old).now.image))) }
-        ensures rests { IsTrue O.told → EachImage (O.trace site.old) (O.trace site.new)
-            (RestsHolding (grown body.now (held (O.trace site.old).now.image))) }
+
+        // What stands before the banks and past them is as it was.
+        ensures beside { IsTrue O.told → OnOk result
+            (KeepsBeside self.old.layout (O.trace site.old).now.image (O.trace site.new).now.image) }
 
         // After `Ok` one slot more is used, and else none.
         ensures counted { OnOk result (self.new ≡ record self.old { used = self.old.used + 1 }) }
         ensures not_counted { OnErr result (self.new ≡ self.old) }
-
-        ensures full { (result ≡ Err (JournalFault.Full self.old.slots)) ↔ (self.old.used ≡ self.old.slots) }
-        ensures unchanged { self.old.used ≡ self.old.slots → (self.new ≡ self.old) × (site.new ≡ site.old) }
-        ensures fault { HasFault (O.faults site.old) (O.faults site.new)
-            (λ slots. (slots ≡ self.old.slots) × (self.old.used ≡ self.old.slots)) (λ offset. ⊥) result }
+        ensures fault { HasSiteFault (O.faults site.old) (O.faults site.new) result }
         ensures puts { O.put_faults site.new ≡ O.put_faults site.old }
     {
-        if self.used == self.slots {
-            return Err(JournalFault::Full(self.slots));
-        }
-        match store_record(site, slot_offset(self.used), body) {
+        match store_record(site, self.record_offset(self.used), body) {
             Ok(()) => {
                 self.used += 1;
                 Ok(())
@@ -168,26 +233,69 @@ impl Journal {
         }
     }
 
-    /// Where the record with this index begins.
-    pub fn record_offset(&self, index: u32) -> u64
-        ensures { (image : List ℕ) → IsJournalOf image self.now → result ≡ record_at image index }
+    /// Writes this content in place of the content and the records. After `Ok` every crash leaves an
+    /// image that has it, and no octet of the old bank. After a fault the image may have it or not: no
+    /// `append` or `turn` may follow, and the image has to be opened again.
+    pub fn turn<O: Site>(&mut self, site: &mut O, content: &[u8]) -> Result<(), JournalFault>
+        requires sized { length content.now ≡ CONTENT_LENGTH }
+
+        // `settle` was Ok, and no `append` or `turn` since then has failed.
+        requires settled { IsTrue O.told → IsSettled (O.trace site.old) self.old }
+
+        ensures stored { IsTrue O.told → OnOk result (IsSettled (O.trace site.new) self.new) }
+        ensures holds { IsTrue O.told → OnOk result
+            (held (O.trace site.new).now.image ≡ turned content.now (held (O.trace site.old).now.image)) }
+
+        // A crash at any moment leaves an image that holds the old or the new; an opened form of it holds the new.
+        ensures becomes { IsTrue O.told → EachImage (O.trace site.old) (O.trace site.new)
+            (Becomes (held (O.trace site.old).now.image) (turned content.now (held (O.trace site.old).now.image))) }
+
+        // The old octets are gone: each octet of both banks is stated, in each image that a crash may leave.
+        ensures rest { IsTrue O.told → OnOk result ((image : List ℕ) → Leaves (O.trace site.new).now image
+            → IsRest image self.new.bank self.new.generation content.now) }
+
+        // What stands before the banks and past them is as it was.
+        ensures beside { IsTrue O.told → OnOk result
+            (KeepsBeside self.old.layout (O.trace site.old).now.image (O.trace site.new).now.image) }
+
+        // After `Ok` the other bank is the current one, with the next generation and no slot used.
+        ensures counted { OnOk result (self.new ≡ record self.old {
+          used = 0;
+          bank = other self.old.bank;
+          generation = next self.old.generation;
+        }) }
+        ensures not_counted { OnErr result (self.new ≡ self.old) }
+        ensures fault { HasSiteFault (O.faults site.old) (O.faults site.new) result }
+        ensures puts { O.put_faults site.new ≡ O.put_faults site.old }
     {
-        slot_offset(index)
+        let from = self.layout.bank_offset(self.bank);
+        let bank = self.bank.other();
+        let to = self.layout.bank_offset(bank);
+        let generation = next_generation(self.generation);
+        match turn_banks(site, self.layout, from, to, generation, content) {
+            Ok(()) => {
+                self.used = 0;
+                self.bank = bank;
+                self.generation = generation;
+                Ok(())
+            }
+            Err(Failed) => Err(JournalFault::SiteFault(site.faults())),
+        }
     }
 
     /// How many slots hold records.
     pub fn used(&self) -> u32
         ensures used { result ≡ self.now.used }
-        ensures within { result ≤ self.now.slots }
+        ensures within { result ≤ self.now.layout.slots }
     {
         self.used
     }
 
-    /// How many slots there are.
+    /// How many slots a bank has.
     pub fn slots(&self) -> u32
-        ensures slots { result ≡ self.now.slots }
+        ensures slots { result ≡ self.now.layout.slots }
         ensures most { result ≤ MOST_SLOTS }
     {
-        self.slots
+        self.layout.slots
     }
 }

@@ -1,12 +1,33 @@
 // Laws of images: each function is a statement about the definitions, and does nothing.
-ghost use Rattle.std.specs.Prelude.{◌≡◌, ℕ, List, None};
+ghost use Rattle.std.specs.Prelude.{◌≡◌, ◌≤◌, ℕ, List, length, take, None};
+ghost use Rattle.image_parts.specs.declared.layout.TheConstants.{PLAN_ROOM, LEAST_SLOTS, MOST_SLOTS, OPEN};
+ghost use Rattle.disk_journal.specs.declared.layout.TheConstants.{BANKS_AT, CONTENT_LENGTH};
+ghost use Rattle.disk_journal.specs.declared.layout.Bank.{Bank};
+ghost use Rattle.disk_journal.specs.Banks.{layout_of, image_end};
+ghost use Rattle.disk_journal.specs.Image.{image_layout};
+ghost use Rattle.disk_journal.specs.Rest.{IsRest};
+ghost use Rattle.disk_journal.specs.Initial.{front_image, rest_image, BeginsAtRest};
 ghost use Rattle.disk_journal.specs.Fault.{image_fault};
 ghost use Rattle.disk_journal.specs.Forms.{HasOneClosed, Regates, StaysWithin};
 
-/// Law: an image that opens has at most one closed gate that is not 0, and its opened form none, or one
-/// that is 1. An opening that is cut off while that gate is closed leaves an image that holds what the
-/// image held, or its opened form; and no opened form but the image and its own.
+/// Law: an opening that is cut off while gates are closed leaves an image that holds what the image
+/// held, or one of its opened forms; and no opened form but the image and its opened forms.
 pub fn opening_stays()
-    ensures one { (image : List ℕ) → image_fault image ≡ None → HasOneClosed image }
-    ensures stays { (image left : List ℕ) → image_fault image ≡ None → Regates image left → StaysWithin image left }
+    ensures { (image left : List ℕ) → image_fault image ≡ None → HasOneClosed image → Regates image left
+        → StaysWithin image left }
+{}
+
+/// Law: the image that `create` writes opens, at rest and with a zero other bank, and holds the plan, the
+/// slots, the content and no records.
+pub fn initial_image_opens()
+    ensures { (plan text : List ℕ) (slots : ℕ) → length plan ≤ PLAN_ROOM → LEAST_SLOTS ≤ slots → slots ≤ MOST_SLOTS
+        → length text ≡ CONTENT_LENGTH → BeginsAtRest plan slots text }
+{}
+
+/// Law: if each octet of both banks is stated, as after a turn, and what stands before them is the front
+/// of a plan, the image is the plan with one bank at rest, from its first octet to its last.
+pub fn rest_is_whole()
+    ensures { (image plan text : List ℕ) (slots generation : ℕ) (bank : Bank) → image_layout image ≡ layout_of slots
+        → length image ≡ image_end (layout_of slots) → take BANKS_AT image ≡ front_image OPEN plan slots
+        → IsRest image bank generation text → image ≡ rest_image OPEN plan slots text generation bank }
 {}

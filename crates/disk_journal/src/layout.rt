@@ -1,55 +1,120 @@
-// Where what stands in the image. All numbers in it are big-endian.
-ghost use Rattle.std.specs.Prelude.{◌≡◌};
-ghost use Rattle.disk_journal.specs.Slots.{slot_at};
+// Where what stands in an image of two banks. All numbers in it are big-endian.
+ghost use Rattle.std.specs.Prelude.{◌≡◌, ◌+◌, ◌*◌, ◌^◌, ◌<◌, ◌≤◌};
+ghost use Rattle.disk_journal.specs.Banks.{layout_of, IsLayout, bank_length, bank_at, image_end, slot_at, other, next};
 
-/// The octets of the header, with which the image begins.
-pub const HEADER_LENGTH: u64 = 512;
-
-/// Where the plan stands.
-pub const PLAN_AT: u64 = HEADER_LENGTH;
-
-/// The octets after the header that the plan may fill.
-pub const PLAN_ROOM: u64 = 65_536;
-
-/// Where the slots begin.
-pub const SLOTS_AT: u64 = HEADER_LENGTH + PLAN_ROOM;
-
-/// The octets of a slot: its gate, then a record's body.
-pub const SLOT_LENGTH: u64 = 512;
-
-/// The fewest slots of an image.
-pub const LEAST_SLOTS: u32 = 16;
-
-/// The most slots of an image.
-pub const MOST_SLOTS: u32 = 65_536;
+use image_parts::{HEADER_LENGTH, MOST_SLOTS, PLAN_ROOM, SLOT_LENGTH};
 
 /// What the header has after its gate.
-pub const MAGIC: [u8; 8] = *b"SDLSIMG1";
+pub const MAGIC: [u8; 8] = *b"SDLSBNK1";
 
-/// Where the magic stands in the header.
-pub const MAGIC_AT: u64 = 1;
+/// Where the banks begin, behind the header and the plan.
+pub const BANKS_AT: u64 = HEADER_LENGTH + PLAN_ROOM;
 
-/// Where the length of the plan stands in the header.
-pub const PLAN_LENGTH_AT: u64 = 9;
+/// Where the generation stands in a bank, behind its gate.
+pub const GENERATION_AT: u64 = 1;
 
-/// Where the number of slots stands in the header.
-pub const SLOT_COUNT_AT: u64 = 13;
+/// The octets of a generation.
+pub const GENERATION_LENGTH: usize = 8;
 
-/// The octets of a number in the header.
-pub const FIELD_LENGTH: usize = 4;
+/// Where the content stands in a bank.
+pub const CONTENT_AT: u64 = 9;
 
-/// Where the zeros begin that fill the header.
-pub const ZEROS_AT: u64 = 17;
+/// The octets of a content.
+pub const CONTENT_LENGTH: usize = 51_703;
 
-/// The gate of a header that is written whole, and of a slot that holds a record.
-pub const OPEN: u8 = 1;
+/// The generation of the bank that an image begins with.
+pub const FIRST_GENERATION: u64 = 1;
 
-/// The gate of a slot that is free.
-pub const CLOSED: u8 = 0;
+/// The most slots, or blocks of their length, that are read in a call.
+pub(crate) const RUN: u32 = 64;
 
-/// Where slot `index` begins.
-pub(crate) fn slot_offset(index: u32) -> u64
-    ensures { result ≡ slot_at index }
+/// The octets of so many.
+pub(crate) const RUN_LENGTH: usize = RUN as usize * SLOT_LENGTH as usize;
+
+/// One of the two banks of an image.
+#[derive(Clone, Copy, Debug, PartialEq, Eq)]
+pub enum Bank {
+    First,
+    Second,
+}
+
+impl Bank {
+    /// The other one.
+    pub fn other(self) -> Bank
+        ensures { result ≡ other self }
+    {
+        match self {
+            Bank::First => Bank::Second,
+            Bank::Second => Bank::First,
+        }
+    }
+}
+
+/// The generation after this one.
+pub(crate) fn next_generation(generation: u64) -> u64
+    ensures { result ≡ next generation }
 {
-    SLOTS_AT + SLOT_LENGTH * index as u64
+    generation.wrapping_add(1)
+}
+
+/// Where the banks of an image begin, and how long they are. Each offset in a bank is a function of it.
+#[derive(Clone, Copy, Debug)]
+pub struct Layout {
+    /// Where the first bank begins.
+    pub banks: u64,
+    /// The octets of a content.
+    pub content_length: u64,
+    /// The slots of a bank.
+    pub slots: u32,
+}
+
+impl Layout {
+    /// The layout of an image whose banks have so many slots.
+    pub fn of_slots(slots: u32) -> Layout
+        requires { slots ≤ MOST_SLOTS }
+        ensures is { result ≡ layout_of slots }
+        ensures layout { IsLayout result }
+    {
+        Layout {
+            banks: BANKS_AT,
+            content_length: CONTENT_LENGTH as u64,
+            slots,
+        }
+    }
+
+    /// The octets of a bank, in blocks of a slot's length.
+    pub(crate) fn blocks(self) -> u32
+        requires { IsLayout self }
+        ensures { SLOT_LENGTH * result ≡ bank_length self }
+    {
+        ((CONTENT_AT + self.content_length) / SLOT_LENGTH) as u32 + self.slots
+    }
+
+    /// Where a bank begins.
+    pub(crate) fn bank_offset(self, bank: Bank) -> u64
+        requires { image_end self < 2 ^ 64 }
+        ensures { result ≡ bank_at self bank }
+    {
+        match bank {
+            Bank::First => self.banks,
+            Bank::Second => self.banks
+                + (CONTENT_AT + self.content_length + SLOT_LENGTH * self.slots as u64),
+        }
+    }
+
+    /// Where the last bank ends.
+    pub(crate) fn end(self) -> u64
+        requires { image_end self < 2 ^ 64 }
+        ensures { result ≡ image_end self }
+    {
+        self.banks + 2 * (CONTENT_AT + self.content_length + SLOT_LENGTH * self.slots as u64)
+    }
+
+    /// Where slot `index` begins, of the bank that begins at `bank`.
+    pub(crate) fn slot_offset(self, bank: u64, index: u32) -> u64
+        requires { slot_at self bank index < 2 ^ 64 }
+        ensures { result ≡ slot_at self bank index }
+    {
+        bank + CONTENT_AT + self.content_length + SLOT_LENGTH * index as u64
+    }
 }

@@ -1,12 +1,15 @@
-//! The journal of records in an image file, which a crash at any moment leaves with the records from
-//! before the call, or with those and the new one (profile).
+//! The journal of records over two banks in an image file, which a crash at any moment leaves with what it held before
+//! the call, or with what the call makes of it (profile).
 //!
-//! An image has a header, a plan's text and slots. A slot is a gate octet and a body; the records are
-//! the bodies of the slots before the first closed one. [`create`] writes an image without records,
-//! [`Journal::open`] checks one and writes nothing, [`Journal::settle`] makes it ready to grow, and
-//! [`Journal::append`] adds a record. No call takes memory.
+//! An image has a header, a plan's text and two banks. A bank is a gate, a generation, a content and slots; a slot is a
+//! gate octet and a body. The open bank is the current one, or of two open ones the one of the later generation; the
+//! records are the bodies of its slots before the first closed one. [`create`] writes an image without records,
+//! [`Journal::open`] checks one and writes nothing, and [`Journal::settle`] brings it to rest. [`Journal::append`] adds
+//! a record, and [`Journal::turn`] writes another content into the other bank, in place of the content and the records.
+//! No call takes memory.
 #![tactic(auto)]
 
+mod choosing;
 mod creating;
 mod fault;
 mod gates;
@@ -15,14 +18,20 @@ mod journal;
 mod laws;
 mod layout;
 mod opening_image;
+mod settling;
 mod storing;
+mod turning;
 
 pub use creating::create;
 pub use fault::JournalFault;
+pub use image_parts::{
+    CLOSED, FIELD_LENGTH, HEADER_LENGTH, LEAST_SLOTS, MAGIC_AT, MOST_SLOTS, OPEN, PLAN_AT,
+    PLAN_LENGTH_AT, PLAN_ROOM, SLOT_COUNT_AT, SLOT_LENGTH, ZEROS_AT,
+};
 pub use journal::Journal;
-pub use laws::opening_stays;
+pub use laws::{initial_image_opens, opening_stays, rest_is_whole};
 pub use layout::{
-    CLOSED, FIELD_LENGTH, HEADER_LENGTH, LEAST_SLOTS, MAGIC, MAGIC_AT, MOST_SLOTS, OPEN, PLAN_AT,
-    PLAN_LENGTH_AT, PLAN_ROOM, SLOT_COUNT_AT, SLOT_LENGTH, SLOTS_AT, ZEROS_AT,
+    BANKS_AT, Bank, CONTENT_AT, CONTENT_LENGTH, FIRST_GENERATION, GENERATION_AT, GENERATION_LENGTH,
+    Layout, MAGIC,
 };
 pub use sdls_base::BODY_LENGTH;

@@ -2,40 +2,88 @@
 ghost use Rattle.std.specs.Prelude.{◌≡◌, ◌≤◌, IsTrue, IfOk, OnOk, length};
 ghost use Rattle.sdls_outside.specs.Faults.{HasCause};
 ghost use Rattle.sdls_outside.specs.Site.{Synced};
-ghost use Rattle.disk_journal.specs.Changes.{OnlySyncs};
-ghost use Rattle.disk_journal.specs.Journal.{IsHeaderOf, IsVerdict};
+ghost use Rattle.image_parts.specs.Changes.{OnlySyncs};
+ghost use Rattle.disk_journal.specs.Banks.{IsLayout, image_end, bank_at};
+ghost use Rattle.disk_journal.specs.Journal.{IsHeaderOf, IsCurrent};
+ghost use Rattle.disk_journal.specs.Verdict.{IsVerdict};
+ghost use Rattle.disk_journal.specs.declared.layout.TheConstants.{CONTENT_LENGTH};
 
+use crate::choosing::{choose, read_front};
 use crate::gates::{first_closed, stray_gate};
 use crate::header::{Header, read_header};
 use crate::journal::Journal;
-use crate::layout::{HEADER_LENGTH, MOST_SLOTS, PLAN_ROOM};
+use crate::layout::{Bank, Layout};
+use image_parts::{HEADER_LENGTH, PLAN_ROOM};
 use sdls_outside::{Failed, Site};
 
-/// Makes the checks of the gates, behind a header that passes its own. Answers the journal, or the
-/// offset of the first check that fails.
-fn inspect_gates<O: Site>(site: &mut O, header: Header) -> Result<Result<Journal, u64>, Failed>
+/// What the checks of an image come to.
+#[derive(Drop)]
+pub(crate) enum Verdict {
+    /// The image opens, and this is its journal.
+    Opens(Journal),
+    /// The offset of the first check that fails.
+    Fails(u64),
+}
+
+/// Makes the checks of the gates of the current bank, behind banks that pass their own.
+fn inspect_slots<O: Site>(
+    site: &mut O,
+    header: Header,
+    bank: Bank,
+    generation: u64,
+) -> Result<Verdict, Failed>
     requires room { header.plan_length ≤ PLAN_ROOM }
-    requires most { header.slots ≤ MOST_SLOTS }
-    requires passed { IsTrue O.told → IsHeaderOf (O.trace site.old).now.image header.plan_length header.slots }
+    requires layout { IsLayout header.layout }
+    requires content { header.layout.content_length ≡ CONTENT_LENGTH }
+    requires passed { IsTrue O.told → IsHeaderOf (O.trace site.old).now.image header.plan_length header.layout }
+    requires newest { IsTrue O.told → IsCurrent (O.trace site.old).now.image bank generation }
     ensures found { IsTrue O.told → IfOk result (IsVerdict (O.trace site.old).now.image) }
     ensures same { IsTrue O.told → O.trace site.new ≡ O.trace site.old }
     ensures cause { HasCause (O.faults site.old) (O.faults site.new) result }
     ensures puts { O.put_faults site.new ≡ O.put_faults site.old }
 {
-    let Header { plan_length, slots } = header;
-    let used = first_closed(site, slots)?;
-    match stray_gate(site, used + 1, slots)? {
-        Some(offset) => Ok(Err(offset)),
-        None => Ok(Ok(Journal {
+    let Header {
+        plan_length,
+        layout,
+    } = header;
+    let at = layout.bank_offset(bank);
+    let used = first_closed(site, layout, at)?;
+    match stray_gate(site, layout, at, used + 1)? {
+        Some(offset) => Ok(Verdict::Fails(offset)),
+        None => Ok(Verdict::Opens(Journal {
             plan_length,
-            slots,
+            layout,
+            bank,
+            generation,
             used,
         })),
     }
 }
 
-/// Makes the checks of an image of this length. Answers as `inspect_gates`.
-fn inspect<O: Site>(site: &mut O, image_length: u64) -> Result<Result<Journal, u64>, Failed>
+/// Makes the checks of the banks and of the gates, behind a header that passes its own.
+fn inspect_banks<O: Site>(site: &mut O, header: Header) -> Result<Verdict, Failed>
+    requires room { header.plan_length ≤ PLAN_ROOM }
+    requires layout { IsLayout header.layout }
+    requires content { header.layout.content_length ≡ CONTENT_LENGTH }
+    requires passed { IsTrue O.told → IsHeaderOf (O.trace site.old).now.image header.plan_length header.layout }
+    ensures found { IsTrue O.told → IfOk result (IsVerdict (O.trace site.old).now.image) }
+    ensures same { IsTrue O.told → O.trace site.new ≡ O.trace site.old }
+    ensures cause { HasCause (O.faults site.old) (O.faults site.new) result }
+    ensures puts { O.put_faults site.new ≡ O.put_faults site.old }
+{
+    let first_at = header.layout.bank_offset(Bank::First);
+    let second_at = header.layout.bank_offset(Bank::Second);
+    let first = read_front(site, first_at)?;
+    let second = read_front(site, second_at)?;
+    match choose(first, second, first_at, second_at) {
+        Ok(Bank::First) => inspect_slots(site, header, Bank::First, first.generation),
+        Ok(Bank::Second) => inspect_slots(site, header, Bank::Second, second.generation),
+        Err(offset) => Ok(Verdict::Fails(offset)),
+    }
+}
+
+/// Makes the checks of an image of this length.
+fn inspect<O: Site>(site: &mut O, image_length: u64) -> Result<Verdict, Failed>
     requires { IsTrue O.told → image_length ≡ length (O.trace site.old).now.image }
     ensures found { IsTrue O.told → IfOk result (IsVerdict (O.trace site.old).now.image) }
     ensures same { IsTrue O.told → O.trace site.new ≡ O.trace site.old }
@@ -43,18 +91,18 @@ fn inspect<O: Site>(site: &mut O, image_length: u64) -> Result<Result<Journal, u
     ensures puts { O.put_faults site.new ≡ O.put_faults site.old }
 {
     if image_length < HEADER_LENGTH {
-        return Ok(Err(0));
+        return Ok(Verdict::Fails(0));
     }
     let mut octets = [0; HEADER_LENGTH as usize];
     site.read_at(0, &mut octets)?;
     match read_header(&octets, image_length) {
-        Ok(header) => inspect_gates(site, header),
-        Err(offset) => Ok(Err(offset)),
+        Ok(header) => inspect_banks(site, header),
+        Err(offset) => Ok(Verdict::Fails(offset)),
     }
 }
 
-/// Starts a run on the site, syncs, and makes the checks. Answers as `inspect_gates`.
-pub(crate) fn inspect_synced<O: Site>(site: &mut O) -> Result<Result<Journal, u64>, Failed>
+/// Starts a run on the site, syncs, and makes the checks.
+pub(crate) fn inspect_synced<O: Site>(site: &mut O) -> Result<Verdict, Failed>
     ensures found { IsTrue O.told → IfOk result (IsVerdict (O.trace site.old).now.image) }
     ensures synced { IsTrue O.told → OnOk result (Synced (O.trace site.old) (O.trace site.new)) }
     ensures unchanged { IsTrue O.told → OnlySyncs (O.trace site.old) (O.trace site.new) }

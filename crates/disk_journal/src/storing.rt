@@ -1,13 +1,14 @@
 // Writes that are brought to the disk.
-ghost use Rattle.std.specs.Prelude.{◌≡◌, ◌+◌, ◌≤◌, ◌<◌, ◌⊎◌, ◌^◌, IsTrue, OnOk, length, [], ◌∷◌};
+ghost use Rattle.std.specs.Prelude.{◌≡◌, ◌+◌, ◌-◌, ◌*◌, ◌^◌, ◌≤◌, ◌<◌, ◌⊎◌, IsTrue, OnOk, length, [], ◌∷◌};
 ghost use Rattle.sdls_outside.specs.Disk.{IsSynced};
 ghost use Rattle.sdls_outside.specs.Faults.{HasCause};
 ghost use Rattle.sdls_outside.specs.Site.{overwritten};
-ghost use Rattle.disk_journal.specs.Slots.{slot_at, gate_at};
-ghost use Rattle.disk_journal.specs.Changes.{AllBut, ClosesGate, EachImage};
+ghost use Rattle.image_parts.specs.Changes.{AllBut, EachImage};
+ghost use Rattle.disk_journal.specs.Changes.{filled, IsZero, IsCleared, Row};
 
-use crate::gates::gate;
-use crate::layout::{CLOSED, OPEN, SLOT_LENGTH, slot_offset};
+use crate::layout::{CONTENT_AT, GENERATION_AT, GENERATION_LENGTH};
+use byteorder::{BigEndian, ByteOrder};
+use image_parts::{OPEN, SLOT_LENGTH};
 use sdls_base::BODY_LENGTH;
 use sdls_outside::{Failed, Site};
 
@@ -50,25 +51,70 @@ pub(crate) fn store_record<O: Site>(
     store(site, at, &[OPEN])
 }
 
-/// Writes 0 as the gate of the slot `index` of `slots`, where the slot is there and its gate is not 0.
-pub(crate) fn close_gate<O: Site>(site: &mut O, index: u32, slots: u32) -> Result<(), Failed>
+/// Writes a generation and a content into the bank that begins at `bank`, and brings them to the disk.
+pub(crate) fn fill_bank<O: Site>(
+    site: &mut O,
+    bank: u64,
+    generation: u64,
+    content: &[u8],
+) -> Result<(), Failed>
+    requires place { bank + CONTENT_AT + length content.now < 2 ^ 64 }
     requires synced { IsTrue O.told → IsSynced (O.trace site.old).now }
-    requires within { IsTrue O.told → slot_at slots ≤ length (O.trace site.old).now.image }
-    requires slot { index ≤ slots }
-    ensures closed { IsTrue O.told → OnOk result (IsSynced (O.trace site.new).now
-        × (index < slots → gate_at (O.trace site.new).now.image index ≡ CLOSED)) }
+    requires within { IsTrue O.told → bank + CONTENT_AT + length content.now ≤ length (O.trace site.old).now.image }
+    ensures stored { IsTrue O.told → OnOk result (IsSynced (O.trace site.new).now
+        × ((O.trace site.new).now.image ≡ filled bank generation content.now (O.trace site.old).now.image)) }
     ensures any_moment { IsTrue O.told → EachImage (O.trace site.old) (O.trace site.new)
-        (ClosesGate (O.trace site.old).now.image index slots) }
-    ensures ends { IsTrue O.told → OnOk result (ClosesGate (O.trace site.old).now.image index slots
-        (O.trace site.new).now.image) }
+        (AllBut (bank + 1) (CONTENT_AT + length content.now - 1) (O.trace site.old).now.image) }
     ensures cause { HasCause (O.faults site.old) (O.faults site.new) result }
     ensures puts { O.put_faults site.new ≡ O.put_faults site.old }
 {
-    if index == slots {
-        return Ok(());
+    let mut number = [0; GENERATION_LENGTH];
+    BigEndian::write_u64(&mut number, generation);
+    site.write_at(bank + GENERATION_AT, &number)?;
+    site.write_at(bank + CONTENT_AT, content)?;
+    site.sync()
+}
+
+/// Writes zeros over the blocks of a slot's length after the first, of the bank that begins at `bank`
+/// and has so many. They are not brought to the disk.
+fn zero_blocks<O: Site>(site: &mut O, bank: u64, blocks: u32) -> Result<(), Failed>
+    requires some { 1 ≤ blocks }
+    requires place { bank + SLOT_LENGTH * blocks < 2 ^ 64 }
+    requires synced { IsTrue O.told → IsSynced (O.trace site.old).now }
+    requires within { IsTrue O.told → bank + SLOT_LENGTH * blocks ≤ length (O.trace site.old).now.image }
+    ensures zeroed { IsTrue O.told → OnOk result
+        (IsZero (bank + SLOT_LENGTH) (bank + SLOT_LENGTH * blocks) (O.trace site.new).now.image) }
+    ensures row { IsTrue O.told → OnOk result (Row (bank + 1) (SLOT_LENGTH * blocks - 1) (O.trace site.old).now.image
+        (O.trace site.old) (O.trace site.new)) }
+    ensures any_moment { IsTrue O.told → EachImage (O.trace site.old) (O.trace site.new)
+        (AllBut (bank + 1) (SLOT_LENGTH * blocks - 1) (O.trace site.old).now.image) }
+    ensures cause { HasCause (O.faults site.old) (O.faults site.new) result }
+    ensures puts { O.put_faults site.new ≡ O.put_faults site.old }
+{
+    for block in 1..blocks {
+        site.write_at(
+            bank + SLOT_LENGTH * block as u64,
+            &[0; SLOT_LENGTH as usize],
+        )?;
     }
-    if gate(site, index)? == CLOSED {
-        return Ok(());
-    }
-    store(site, slot_offset(index), &[CLOSED])
+    Ok(())
+}
+
+/// Writes zeros over the rest of the bank that begins at `bank` and has so many blocks of a slot's
+/// length, past its gate, and brings them to the disk.
+pub(crate) fn clear_bank<O: Site>(site: &mut O, bank: u64, blocks: u32) -> Result<(), Failed>
+    requires some { 1 ≤ blocks }
+    requires place { bank + SLOT_LENGTH * blocks < 2 ^ 64 }
+    requires synced { IsTrue O.told → IsSynced (O.trace site.old).now }
+    requires within { IsTrue O.told → bank + SLOT_LENGTH * blocks ≤ length (O.trace site.old).now.image }
+    ensures cleared { IsTrue O.told → OnOk result (IsSynced (O.trace site.new).now
+        × IsCleared bank (SLOT_LENGTH * blocks) (O.trace site.old).now.image (O.trace site.new).now.image) }
+    ensures any_moment { IsTrue O.told → EachImage (O.trace site.old) (O.trace site.new)
+        (AllBut (bank + 1) (SLOT_LENGTH * blocks - 1) (O.trace site.old).now.image) }
+    ensures cause { HasCause (O.faults site.old) (O.faults site.new) result }
+    ensures puts { O.put_faults site.new ≡ O.put_faults site.old }
+{
+    zero_blocks(site, bank, blocks)?;
+    site.write_at(bank + 1, &[0; (SLOT_LENGTH - 1) as usize])?;
+    site.sync()
 }

@@ -182,7 +182,7 @@ fn accepts_once<R: Threads + Wait + Sync + Abort>(
 #[test]
 fn no_number_is_accepted_twice_after_any_fault(rt: HostRuntime) -> Result<(), Fail> {
     let alloc = rt.alloc();
-    let image = image_of(alloc, RECEIVER, 16).ok_or("no image")?;
+    let image = image_of(alloc, RECEIVER).ok_or("no image")?;
     let wanted = [3_913_121_297];
     judge_whole(&rt, alloc, &image, CALLS_OF_RECEIVER, 1, &FRAMES, &wanted)?;
     for call in 0..CALL_AFTER_OPENING {

@@ -2,6 +2,7 @@
 -- A book's log is an enum over snapshots of itself. Of a snapshot nothing is asked, so each row is put together from those of its fields.
 use mir.Syntax.{Sym}
 use denote.RattleType.{RattleType}
+use denote.Builtin.{u8}
 use denote.Struct.Field.{row_field, u64-field}
 use denote.Struct.Tuple.{TupleAt, type_at}
 use denote.Param.Send.{IsSend, IsSync, view_send, sendable}
@@ -34,6 +35,9 @@ snapshot_send T = search crosses
 number_send : IsSend (as_row u64-field)
 number_send = search sendable
 
+octet_send : IsSend u8
+octet_send = search sendable
+
 log_send : (O : RattleType) → IsSend (Log.the_row O)
 log_send O =
     let before = snapshot_send (Log.the_hole O) in let site = snapshot_send O in
@@ -59,7 +63,7 @@ module _ (O : RattleType) (g : Site.Ghosts O.Denot) (s : IsSend O) where
                   as_row_send (row_field Journal.the_row) journal.the_send,
                   (
                     Vec-send Entry.the_row entry.the_send,
-                    (number_send, (number_send, (log_send O, tt))),
+                    (number_send, (number_send, (log_send O, (Vec-send u8 octet_send, tt)))),
                   ),
                 ),
               ),

@@ -3,7 +3,6 @@ use Rattle.std.proofs.Common.{ℕ, Bool, List, set, get_or, Option, Some, None, 
 use Rattle.std.specs.List.{All}
 use Rattle.std.proofs.lemmas.List.Elements.{All-set}
 use Rattle.sdls_base.specs.declared.TheConstants.{MOST_KEYS}
-use Rattle.unit_image.specs.Image.{slots_of, used_of}
 use Rattle.counter_table.specs.declared.view.Opening.{Opening}
 use Rattle.counter_table.specs.declared.view.Turn.{Turn}
 use Rattle.shared_unit.specs.declared.permit.OpenPermit.{OpenPermit}
@@ -20,11 +19,11 @@ use Rattle.law_workers.specs.Began.{BeganWith}
 
 -- a run that began with the opening
 pub begun_at : Bool → Opening → Begin
-begun_at told opening = record { rows = MOST_KEYS; told = told; plan = opening.plan; start = opening.start; slots = slots_of opening.image; used = used_of opening.image }
+begun_at told opening = record { rows = MOST_KEYS; told = told; plan = opening.plan; start = opening.start }
 
 pub began_at : (told : Bool) (opening : Opening) → BeganWith told (begun_at told opening) opening
 unfolding begun_at
-began_at told opening = record { rows = refl; tells = refl; plan = refl; start = refl; slots = λ t. refl; used = λ t. refl }
+began_at told opening = record { rows = refl; tells = refl; plan = refl; start = refl }
 
 -- permits stay true where what is known grows
 pub protect_stays : (kept : Option Permit) (v w : Turn) → KnowsMoreOfBook v w → IsTrueIfKept kept v → IsTrueIfKept kept w

@@ -31,14 +31,14 @@ fn answer_with(alloc: Global, code: u8, detail: u8, number: u64, position: u64) 
     }
 }
 
-/// Memory was wanting.
+/// Memory ran out.
 pub(crate) fn answer_no_memory(alloc: Global) -> Answer
     ensures { result ≡ answering.unserved_answer }
 {
     answer_with(alloc, code::NO_MEMORY, 0, 0, 0)
 }
 
-/// An entry was refused; none where the run has as many as it may.
+/// An entry was refused; none if the run has as many as it may.
 fn answer_fault(alloc: Global, fault: BookFault, position: u64) -> Option<Answer>
     ensures { result ≡ answering.fault_answer fault position }
 {
@@ -51,13 +51,6 @@ fn answer_fault(alloc: Global, fault: BookFault, position: u64) -> Option<Answer
             position,
         )),
         BookFault::Stopped(count) => Some(answer_with(alloc, code::STOPPED, 0, count, position)),
-        BookFault::JournalFull(slots) => Some(answer_with(
-            alloc,
-            code::JOURNAL_FULL,
-            0,
-            slots as u64,
-            position,
-        )),
         BookFault::SessionFull => None,
         BookFault::NoMemory => Some(answer_no_memory(alloc)),
     }

@@ -1,11 +1,18 @@
 -- The image that a unit begins with (profile).
-use Rattle.std.specs.Prelude.{List, [], ℕ}
+use Rattle.std.specs.Prelude.{◌≡◌, ℕ, List, [], Ok}
 use Rattle.unit_plan.specs.PlanLines.{PlanLines}
+use Rattle.unit_plan.specs.Plan.{plan_of}
 use Rattle.plan_bare.specs.Bare.{bare_of}
 use Rattle.unit_state.specs.declared.state.State.{State}
+use Rattle.unit_state.specs.Initial.{initial}
 use Rattle.image_content.specs.Content.{content_of}
-use Rattle.bank_journal.specs.Image.{Held}
-use Rattle.bank_journal.specs.Initial.{initial_image}
+use Rattle.disk_journal.specs.Image.{Held}
+use Rattle.disk_journal.specs.Initial.{initial_image}
+
+-- the text says this plan, and the plan's lines make this state
+pub record SaysPlan (text : List ℕ) (plan : PlanLines) (first : State) : Type 0 where
+  pub read : plan_of text ≡ Ok plan
+  pub made : initial plan ≡ Ok first
 
 -- the image of a plan's text and of a state: the bare plan, and the content of the state with no records
 abbrev pub image_of_plan : List ℕ → PlanLines → State → List ℕ

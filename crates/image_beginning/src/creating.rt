@@ -5,10 +5,10 @@ ghost use Rattle.sdls_outside.specs.Moments.{Trace};
 ghost use Rattle.unit_plan.specs.Plan.{plan_of};
 ghost use Rattle.plan_bare.specs.Bare.{bare_of};
 ghost use Rattle.image_content.specs.Content.{content_of};
-ghost use Rattle.bank_journal.specs.Initial.{IsLaid};
+ghost use Rattle.disk_journal.specs.Initial.{IsLaid};
 ghost use Rattle.image_beginning.specs.Beginning.{image_of_plan};
 
-use bank_journal::{CONTENT_LENGTH, JournalFault, create};
+use disk_journal::{CONTENT_LENGTH, JournalFault, create};
 use image_content::write_content;
 use plan_bare::{bare_plan_is_short, write_bare_plan};
 use sdls_outside::Site;

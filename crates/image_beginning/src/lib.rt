@@ -1,5 +1,5 @@
 //! The image of two banks that a unit begins with (profile): the plan's text without its keys and associations, and the
-//! content of the state that the plan's lines make. No unit has such an image yet.
+//! content of the state that the plan's lines make.
 //!
 //! [`create_image`] writes it, if there is none, without taking memory. Read `specs/Beginning.antt` first.
 #![tactic(auto)]

@@ -13,7 +13,7 @@ abbrev pub IsFault : LineError → Type 0
 IsFault NoMemory = ⊥
 IsFault (Fault fault) = ⊤
 
--- this is answered, or memory was wanting
+-- this is answered, or memory ran out
 abbrev pub AnswersField : {X : Type 0} → Result X LineError → X → Type 0
 AnswersField (Ok x) value = x ≡ value
 AnswersField (Err error) value = IsNoMemory error

@@ -14,7 +14,7 @@ use Rattle.key_book.specs.declared.key_refusal.KeyRefusal.TheVariants.{AlreadyLo
 use Rattle.key_book.specs.KeyRow.{new_row}
 use Rattle.key_book.specs.KeyBook.{row_of}
 
--- a refusal is want of memory, or the first that applies
+-- a refusal is that memory ran out, or the first that applies
 abbrev pub IsKeyRefusal : KeyRefusal → Option KeyRefusal → Type 0
 IsKeyRefusal refusal first = (refusal ≡ NoMemory) ⊎ (first ≡ Some refusal)
 

@@ -54,7 +54,7 @@ impl KeyBook {
         requires { All (λ item. IsKeyLength (length item.bytes)) items.now }
         ensures loaded { OnOk result (self.new ≡ self.old ++ map new_row items.now) }
 
-        // The first refusal that applies, or want of memory; after Ok none applies.
+        // The first refusal that applies, or that memory ran out; after Ok none applies.
         ensures accepted { OnOk result (load_refusal self.old items.now ≡ None) }
         ensures refused { IfErr result (λ refusal. IsKeyRefusal refusal (load_refusal self.old items.now)) }
         ensures kept { OnErr result (self.new ≡ self.old) }

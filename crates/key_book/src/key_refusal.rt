@@ -23,7 +23,7 @@ pub enum KeyRefusal {
     /// No key has this identifier.
     #[error("key {} is unknown", .0.get())]
     UnknownKey(KeyId),
-    /// Memory was wanting.
+    /// Memory ran out.
     #[error("no memory")]
     NoMemory,
 }

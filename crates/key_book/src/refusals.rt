@@ -19,7 +19,7 @@ use crate::places::{place, place_with};
 use sdls_base::{KeyId, KeyItem, KeyList, KeyState, MOST_KEYS, Spi};
 
 impl KeyBook {
-    /// What `load` would refuse, but for want of memory.
+    /// What `load` would refuse, if memory suffices.
     pub fn load_refusal(&self, items: &[KeyItem]) -> Option<KeyRefusal>
         ensures { result ≡ load_refusal self.now items.now }
     {

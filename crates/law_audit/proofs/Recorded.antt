@@ -315,7 +315,7 @@ code_among (x ∷ xs) code all is = go (x == code) refl is (code_among xs code a
     go false e is later = later is
 
 any_codes_are : AreAnswerCodes any_codes
-any_codes_are = (refl, (refl, (refl, (refl, tt))))
+any_codes_are = (refl, (refl, (refl, tt)))
 
 codes_are : (kind : RecordKind) → AreAnswerCodes (codes_of kind)
 codes_are Protect = (refl, (refl, (refl, (refl, (refl, (refl, any_codes_are))))))

@@ -17,7 +17,7 @@ use Rattle.key_book.specs.KeyBook.{place_of}
 use Rattle.record_io.specs.declared.kinds.RecordKind.{RecordKind}
 use Rattle.record_io.specs.declared.kinds.RecordKind.TheVariants.{Protect, Command, Monitor}
 use Rattle.record_io.specs.declared.records.Record.{Record}
-use Rattle.record_io.specs.declared.code.TheConstants.{SITE_FAULT, JOURNAL_FULL}
+use Rattle.record_io.specs.declared.code.TheConstants.{SITE_FAULT}
 use Rattle.unit_state.specs.declared.state.State.{State}
 use Rattle.unit_state.specs.State.{key_row}
 use Rattle.unit_state.specs.History.{after}
@@ -259,7 +259,7 @@ module _ (told : Bool) (c : Call told) (commands : c.task.kind ≡ Command) wher
     plain (replies.Done key n pdu) is = absurd (omega arith)
     plain (replies.Refused code value) is = absurd (omega arith)
 
-    low : (reply : Reply) → (replied_told reply).code < JOURNAL_FULL
+    low : (reply : Reply) → (replied_told reply).code < SITE_FAULT
     low (replies.Done key n pdu) = omega arith
     low (replies.Refused code value) = omega arith
 

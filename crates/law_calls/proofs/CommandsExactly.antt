@@ -1,7 +1,7 @@
 -- A message moves the word that it needs, and its answer tells how.
 use Rattle.std.proofs.Common.{◌≡◌, ◌⊎◌, ℕ, ◌+◌, ◌-◌, ◌<◌, ◌≤◌, Bool, false, List, [], ◌∷◌, ◌++◌, length, Some, Result, Ok, Err, refl, sym, ◌∙◌, ap, subst, arith, inl, inr, append-nil, length-append, true}
 use Rattle.std.specs.Bool.{⊤}
-use Rattle.std.proofs.lemmas.List.{append_cancel_left, take_all}
+use Rattle.std.proofs.lemmas.List.{append_cancel_left}
 use Rattle.sdls_base.specs.KeyId.{end_of}
 use Rattle.sdls_base.specs.declared.change.Change.{Change}
 use Rattle.sdls_base.specs.declared.entry.Entry.{Entry}
@@ -14,9 +14,7 @@ use Rattle.key_book.specs.KeyBook.{place_of}
 use Rattle.ep_core.specs.declared.need.Need.{Need}
 use Rattle.ep_core.specs.declared.need.Need.TheVariants as needs
 use Rattle.ep_core.specs.declared.reply.Reply.{Reply}
-use Rattle.ep_core.specs.declared.reply.Reply.TheVariants as replies
 use Rattle.record_io.specs.declared.answers.Answer.{Answer}
-use Rattle.record_io.specs.declared.code.TheConstants.{JOURNAL_FULL}
 use Rattle.record_io.specs.declared.kinds.RecordKind.{RecordKind}
 use Rattle.record_io.specs.declared.kinds.RecordKind.TheVariants.{Command}
 use Rattle.record_io.specs.declared.records.Record.{Record}
@@ -30,21 +28,20 @@ use Rattle.counter_table.specs.declared.view.Numbers.{Numbers}
 use Rattle.counter_table.specs.Numbers.{top, arming}
 use Rattle.counter_table.specs.Turn.{places}
 use Rattle.run_promise.specs.Counts.{draws}
-use Rattle.run_promise.specs.Answers.{counting, replied_told}
+use Rattle.run_promise.specs.Answers.{replied_told}
 use Rattle.run_promise.specs.Entries.{record_entry, IsNeedOf, IsStepOf}
-use Rattle.run_promise.specs.Legal.{KeyOf}
 use Rattle.run_promise.specs.Log.{entries_of}
 use Rattle.run_promise.specs.Numbers.{mark_of, reserve_of}
 use Rattle.unit_book.specs.declared.fault.BookFault.{BookFault}
 use Rattle.unit_book.specs.declared.fault.BookFault.TheVariants as refusals
-use Rattle.unit_book.specs.Book.{BookView, CanEnter, IsBarred, IsUnstored}
+use Rattle.unit_book.specs.Book.{BookView, IsBarred, IsUnstored}
 use Rattle.unit_book.specs.Records.{Handles, RefusesMessage}
 use Rattle.unit_book.proofs.EpochStates.{alike_served}
 use Rattle.shared_unit.specs.Calls.{WithPosition}
 use Rattle.shared_unit.specs.Commanding.{FailsFor, Satisfies, IsCommanded}
 use Rattle.shared_unit.specs.Funding.{Reserves}
 use Rattle.shared_unit.specs.Numbers.{Draws}
-use Rattle.shared_unit.specs.Told.{known_of_book, entry_count}
+use Rattle.shared_unit.specs.Told.{known_of_book}
 use Rattle.shared_unit.specs.Turn.{FindsCovered, Visits}
 use Rattle.shared_unit.proofs.Steps.{earlier_again}
 use Rattle.run_promise.specs.Begin.{Begin}
@@ -65,8 +62,8 @@ use Rattle.law_calls.proofs.Exactness.{AreDrawn, of_record, refused_exactly, tol
 use Rattle.law_calls.proofs.Fitted.{before_is, there}
 use Rattle.law_calls.proofs.Moving.{Moves, moves_none, moves_found, moves_drew, moves_over, moves_raised}
 use Rattle.law_calls.proofs.OneRecord.{Turned}
-use Rattle.law_calls.proofs.InTurn.{CoversSpent, Passes, Stands, clean_found, covers, given_as, given_entered, served_clean, slot_free, slot_full, stands_entered, stands_found, takes_pass}
-use Rattle.law_calls.proofs.Visit.{log_is, plan_is, row_below, row_known, turned, whole}
+use Rattle.law_calls.proofs.InTurn.{CoversSpent, Passes, Stands, clean_found, covers, given_as, given_entered, served_clean, stands_entered, stands_found, takes_pass}
+use Rattle.law_calls.proofs.Visit.{log_is, plan_is, row_below, row_known, turned}
 use Rattle.law_calls.proofs.Stages.{Call}
 use Rattle.law_calls.proofs.Commandings.{call_of, one_drawer, Satisfied, satisfied}
 
@@ -128,21 +125,21 @@ module _ (told : Bool) (c : Call told) (commands : c.task.kind ≡ Command)
   -- in the state after the history that was found
   place_now : (key row : ℕ) → place_of c.found.state.keys key ≡ Some row → FoundClean
       → place_of (machine.now c.begin (entries_of c.found.log)).keys key ≡ Some row
-  place_now key row place clean = ap (λ (s : State). place_of s.keys key) (sym (stands_first clean).state) ∙ place
+  place_now key row place clean = ap (λ (s : State). place_of s.keys key) (sym (stands_first clean)) ∙ place
 
   need_now : (need : Need) → IsNeedOf c.found.state c.task.octets need → FoundClean
       → IsNeedOf (machine.now c.begin (entries_of c.found.log)) c.task.octets need
-  need_now need needed clean = subst (λ (s : State). IsNeedOf s c.task.octets need) (stands_first clean).state needed
+  need_now need needed clean = subst (λ (s : State). IsNeedOf s c.task.octets need) (stands_first clean) needed
 
   mark_now : (key : ℕ) → FoundClean → mark_of c.found.state key ≡ mark_of (machine.now c.begin (entries_of c.found.log)) key
-  mark_now key clean = ap (λ (s : State). mark_of s key) (stands_first clean).state
+  mark_now key clean = ap (λ (s : State). mark_of s key) (stands_first clean)
 
   reserve_now : (key n : ℕ) → FoundClean
       → reserve_of c.found.plan c.found.state key n ≡ reserve_of c.begin.plan (machine.now c.begin (entries_of c.found.log)) key n
   reserve_now key n clean =
       ap (λ (p : PlanLines). reserve_of p c.found.state key n)
       (plan_is told c.begin c.found c.given c.taken c.new_view.turn c.began c.free c.visits)
-      ∙ ap (λ (s : State). reserve_of c.begin.plan s key n) (stands_first clean).state
+      ∙ ap (λ (s : State). reserve_of c.begin.plan s key n) (stands_first clean)
 
   -- the number that was drawn is below its mark, or was reserved
   funds_now : (key n mark : ℕ) (middle : BookView) → Reserves key n (Ok mark) c.found middle → FoundClean → (es : List Entry)
@@ -156,7 +153,6 @@ module _ (told : Bool) (c : Call told) (commands : c.task.kind ≡ Command)
       inr (
         one_line es entry lines_are ∙ ap (λ (e : Entry). e ∷ []) (reserve_now key n clean),
         (let m = mark_now key clean in omega arith),
-        subst (machine.HasSlot c.begin (entries_of c.found.log)) (reserve_now key n clean) (slot_free c.begin c.found (stands_first clean) middle entry position made.1),
       )
 
   stands_reserved : (key n mark : ℕ) (middle : BookView) → Reserves key n (Ok mark) c.found middle → FoundClean → Stands c.begin middle
@@ -243,44 +239,14 @@ module _ (told : Bool) (c : Call told) (commands : c.task.kind ≡ Command)
       spent spent_is (covers_spent (places (length c.found.log) (length es)) (by_lines es is).made)
 
   by_kind : (answer : Answer) (es : List Entry) (move : Move)
-      → (machine.AloneHandled c.begin (entries_of c.found.log) c.task answer es move ⊎ (machine.AloneUnhandled c.begin (entries_of c.found.log) c.task answer es move
-      ⊎ machine.AloneUnmet c.begin (entries_of c.found.log) c.task answer es move))
+      → machine.AloneHandled c.begin (entries_of c.found.log) c.task answer es move
       → machine.AloneServes c.begin (entries_of c.found.log) c.task answer es move
   by_kind answer es move h =
       inr (subst (λ (k : RecordKind). machine.ServesKind c.begin (entries_of c.found.log) k c.task answer es move) (sym commands) h)
 
-  known_length : (position : ℕ) → position ≡ entry_count (known_of_book c.given) → position ≡ length (entries_in c.new_view)
-  known_length position is =
-      is ∙ sym (ap (λ (l : List Logged). length (entries_of l)) (log_is told c.begin c.found c.given c.taken c.new_view.turn c.began c.free c.visits))
-
   by_command : (deed_told : Answer) (move : Move) → TellsCommand c.begin.start (entries_in c.new_view) (deed_of c.segment c.task deed_told) move
       → Tells c.begin.start (entries_in c.new_view) (deed_of c.segment c.task deed_told) move
   by_command deed_told move t = subst (λ (k : RecordKind). TellsKind c.begin.start (entries_in c.new_view) k (deed_of c.segment c.task deed_told) move) (sym commands) t
-
-  -- the journal was full: by the step in the state then, or by a number that is not funded
-  full_tells : (slots position : ℕ) (move : Move) → position ≤ length (entries_in c.new_view)
-      → (((seen : Seen) × (change : Change) × (reply : Reply) × IsStepOf (after_first c.begin.start (entries_in c.new_view) position) c.task.octets seen (change, reply)
-      × TellsSeen c.begin.start (entries_in c.new_view) (after_first c.begin.start (entries_in c.new_view) position) c.task seen move)
-      ⊎ ((key : ℕ) × (row : ℕ) × (number : ℕ) × KeyOf (after_first c.begin.start (entries_in c.new_view) position) c.task.octets key
-      × (place_of (after c.begin.start (entries_in c.new_view)).keys key ≡ Some row)
-      × (mark_of (after_first c.begin.start (entries_in c.new_view) position) key ≤ number) × (move ≡ Drew row number)))
-      → Tells c.begin.start (entries_in c.new_view) (deed_of c.segment c.task (answer_of (counting JOURNAL_FULL 0 slots) position)) move
-  full_tells slots position move low which = by_command (answer_of (counting JOURNAL_FULL 0 slots) position) move (record {
-    entry = λ is. absurd (by_code is);
-    full = λ _. (low, which);
-  }) where
-    by_code : (JOURNAL_FULL ≡ 3) ⊎ (JOURNAL_FULL ≡ 4) → ⊥
-    by_code (inl is) = omega arith
-    by_code (inr is) = omega arith
-
-  -- the state after all entries that are known, where the call made none behind a book whose entries all stand
-  state_at_end : (old : BookView) → c.given ≡ old → old.state ≡ after c.begin.start (entries_of old.log) → (position : ℕ)
-      → position ≡ length (entries_in c.new_view) → after_first c.begin.start (entries_in c.new_view) position ≡ old.state
-  state_at_end old same state position is =
-      ap (λ (l : List Entry). after c.begin.start l) (take_all position (entries_in c.new_view) (omega arith))
-      ∙ ap (λ (l : List Logged). after c.begin.start (entries_of l))
-      (log_is told c.begin c.found c.given c.taken c.new_view.turn c.began c.free c.visits ∙ ap (λ (b : BookView). b.log) same)
-      ∙ sym state
 
   module _ (need : Need) (seen : Seen) (middle : BookView) (needed : IsNeedOf c.found.state c.task.octets need)
       (shows : Satisfies need seen c.found middle c.old_view.numbers c.new_view.numbers) where
@@ -323,7 +289,7 @@ module _ (told : Bool) (c : Call told) (commands : c.task.kind ≡ Command)
       shows = m.shown clean s.es s.stage.log;
       change = change;
       reply = reply;
-      step = subst (λ (st : State). IsStepOf st c.task.octets seen (change, reply)) ((m.stands clean).state ∙ ap (after c.begin.start) entries_middle) step;
+      step = subst (λ (st : State). IsStepOf st c.task.octets seen (change, reply)) (m.stands clean ∙ ap (after c.begin.start) entries_middle) step;
     }
 
     own : Change → Entry
@@ -360,7 +326,6 @@ module _ (told : Bool) (c : Call told) (commands : c.task.kind ≡ Command)
             tells_at (position - 1) (before_is (near_any) (course_in c.begin c.new_view) c.task (entries_of middle.log) middle.state
                 (record_entry c.task.index seen h.change) position known state at),
           );
-          full = λ is. absurd (not_full reply is);
         }))
         (λ here level backed.
         let clean : FoundClean = s.stage.clean h.made.0.0 in
@@ -370,23 +335,17 @@ module _ (told : Bool) (c : Call told) (commands : c.task.kind ≡ Command)
         (answer_of (replied_told reply) position) here (level.all (was_clean clean))
         (given_entered told c.begin c.found c.given c.taken c.old_view c.new_view c.began c.free c.visits middle
         (record_entry c.task.index seen h.change) position h.made.1 (s.stage.all_stand h.made.0.0))
-        (by_kind (answer_of (replied_told reply) position) (s.es ++ record_entry c.task.index seen h.change ∷ []) m.move (inl (record {
+        (by_kind (answer_of (replied_told reply) position) (s.es ++ record_entry c.task.index seen h.change ∷ []) m.move (record {
           reserve = s.es;
           is = is_shown clean h.change reply h.step;
           told = refl;
           position_is =
               let size = ap length entries_middle ∙ length-append (entries_of c.found.log) s.es in
               let more = length-append s.es (record_entry c.task.index seen h.change ∷ []) in omega arith;
-          slot = subst (λ (l : List Entry). machine.HasSlot c.begin l (record_entry c.task.index seen h.change)) entries_middle
-              (slot_free c.begin middle (m.stands clean) _ (record_entry c.task.index seen h.change) _ h.made.1);
           own_is = refl;
-        })))) where
+        }))) where
           near_any : ℕ → ℕ → Type 0
           near_any key n = ⊤
-
-          not_full : (reply : Reply) → (replied_told reply).code ≡ JOURNAL_FULL → ⊥
-          not_full (replies.Done key n pdu) is = omega arith
-          not_full (replies.Refused code value) is = omega arith
 
     left : c.given ≡ middle → c.given.log ≡ c.found.log ++ lines_of s.es
     left same = ap (λ (b : BookView). b.log) same ∙ s.stage.log
@@ -399,78 +358,35 @@ module _ (told : Bool) (c : Call told) (commands : c.task.kind ≡ Command)
 
     refused : (es : List Entry) → c.given.log ≡ c.found.log ++ lines_of es → AreDrawn (m.move ∷ []) es → (fault : BookFault) (position : ℕ)
         → (fault ≡ refusals.SessionFull → (length es ≤ 1) × IsClean c.old_view × AllStand c.new_view)
-        → ((slots : ℕ) → fault ≡ refusals.JournalFull slots
-        → Tells c.begin.start (entries_in c.new_view) (deed_of c.segment c.task (answer_of (counting JOURNAL_FULL 0 slots) position)) m.move
-        × FoundClean × AllStand c.new_view
-        × machine.AloneServes c.begin (entries_of c.found.log) c.task (answer_of (counting JOURNAL_FULL 0 slots) position) es m.move)
         → AnsweredExactly c.begin c.segment c.old_view c.new_view c.task (fault_answer fault position)
-    refused es is are fault position few full =
+    refused es is are fault position few =
         refused_exactly c.begin c.segment c.task c.old_view c.new_view m.move m.moves c.found.log es (by_lines es is) are
         s.numbers.spent (passes es is s.numbers.spent s.numbers.counted.spent_is) (not_kept m.move) fault position few
-        (λ slots same. (
-          (full slots same).0,
-          λ here level backed.
-              let (tells, clean, now, serves) = full slots same in
-              served_clean c.begin c.old_view c.new_view c.found.log es (by_lines es is) c.segment c.task m.move
-              s.numbers.spent (passes es is s.numbers.spent s.numbers.counted.spent_is) (answer_of (counting JOURNAL_FULL 0 slots) position) here
-              (level.all (was_clean clean)) now serves,
-        ))
 
-    same_slots : (one other : ℕ) → refusals.JournalFull one ≡ refusals.JournalFull other → other ≡ one
-    same_slots one other is = cc
-
-    unstored : (change : Change) (reply : Reply) → IsStepOf middle.state c.task.octets seen (change, reply) → CanEnter middle
-        → (fault : BookFault) (position : ℕ) → position ≡ entry_count (known_of_book c.given)
-        → IsUnstored (record_entry c.task.index seen change) middle c.given fault
+    unstored : (change : Change) (fault : BookFault) (position : ℕ) → IsUnstored (record_entry c.task.index seen change) middle c.given fault
         → AnsweredExactly c.begin c.segment c.old_view c.new_view c.task (fault_answer fault position)
-    unfolding is_shown
-    unstored change reply step can (refusals.SiteFault count) position at h =
-        refused (s.es ++ record_entry c.task.index seen change ∷ []) (with_own change (ap (λ (b : BookView). b.log) h.4)) (own_drawn change)
-        (refusals.SiteFault count) position (λ full. absurd (let no = full in cc)) (λ slots same. absurd (let no = same in cc))
-    unstored change reply step can (refusals.JournalFull slots) position at h =
-        let here = known_length position at in
-        let state = state_at_end middle h.3 (s.stage.state can.0) position here in
-        let clean : FoundClean = s.stage.clean can.0 in
-        refused s.es (left h.3) drawn (refusals.JournalFull slots) position (λ full. absurd (let no = full in cc))
-        (λ others same. (
-          full_tells others position m.move (omega arith) (inl (
-            seen,
-            change,
-            reply,
-            subst (λ (st : State). IsStepOf st c.task.octets seen (change, reply)) (sym state) step,
-            tells_at position state,
-          )),
-          clean,
-          all_given middle h.3 (s.stage.all_stand can.0),
-          by_kind (answer_of (counting JOURNAL_FULL 0 others) position) s.es m.move (inr (inl (record {
-            is = is_shown clean change reply step;
-            full = subst (λ (l : List Entry). machine.SaysFull c.begin l (record_entry c.task.index seen change) (answer_of (counting JOURNAL_FULL 0 others) position))
-                entries_middle (slot_full c.begin middle (m.stands clean) (record_entry c.task.index seen change) others position h.0 h.1
-                (same_slots slots others same ∙ h.2) (at ∙ ap (λ (b : BookView). length (entries_of b.log)) h.3));
-          }))),
-        ))
-    unstored change reply step can (refusals.Stopped count) position at h = absurd h
-    unstored change reply step can refusals.SessionFull position at h = absurd h
-    unstored change reply step can refusals.NoMemory position at h = absurd h
+    unstored change (refusals.SiteFault count) position h =
+        refused (s.es ++ record_entry c.task.index seen change ∷ []) (with_own change (ap (λ (b : BookView). b.log) h.3)) (own_drawn change)
+        (refusals.SiteFault count) position (λ full. absurd (let no = full in cc))
+    unstored change (refusals.Stopped count) position h = absurd h
+    unstored change refusals.SessionFull position h = absurd h
+    unstored change refusals.NoMemory position h = absurd h
 
-    refuses : (fault : BookFault) (position : ℕ) → position ≡ entry_count (known_of_book c.given)
-        → RefusesMessage c.task.index c.task.octets seen middle c.given fault
+    refuses : (fault : BookFault) (position : ℕ) → RefusesMessage c.task.index c.task.octets seen middle c.given fault
         → AnsweredExactly c.begin c.segment c.old_view c.new_view c.task (fault_answer fault position)
-    refuses fault position at (inl (is_barred, same)) =
+    refuses fault position (inl (is_barred, same)) =
         refused s.es (left same) drawn fault position
         (λ is.
         let full = subst (IsBarred middle) is is_barred in
         (few_es, was_clean (s.stage.clean full.0), all_given middle same (s.stage.all_stand full.0)))
-        (λ slots is. absurd (subst (IsBarred middle) is is_barred))
-    refuses fault position at (inr (inl (none, same))) =
-        refused s.es (left same) drawn fault position (λ full. absurd (let no = sym none ∙ full in cc)) (λ slots is. absurd (let no = sym none ∙ is in cc))
-    refuses fault position at (inr (inr (can, ((change, reply), step, fails)))) = unstored change reply step can fault position at fails
+    refuses fault position (inr (inl (none, same))) =
+        refused s.es (left same) drawn fault position (λ full. absurd (let no = sym none ∙ full in cc))
+    refuses fault position (inr (inr (can, ((change, reply), step, fails)))) = unstored change fault position fails
 
   -- the reserve was refused
-  fails : (need : Need) (fault : BookFault) (position : ℕ) → position ≡ entry_count (known_of_book c.given)
-      → IsNeedOf c.found.state c.task.octets need → FailsFor need fault c.found c.given c.old_view.numbers c.new_view.numbers
+  fails : (need : Need) (fault : BookFault) (position : ℕ) → FailsFor need fault c.found c.given c.old_view.numbers c.new_view.numbers
       → AnsweredExactly c.begin c.segment c.old_view c.new_view c.task (fault_answer fault position)
-  fails need fault position at needed f = by_refusal fault f.reserved where
+  fails need fault position f = by_refusal fault f.reserved where
     shows : Shows c.begin c.task c.old_view c.new_view f.row f.n ((f.row, f.n) ∷ []) [] [] ((f.row, 1) ∷ [])
     shows = draws_shows c.begin c.task c.old_view c.new_view (one_drawer c.task commands) f.row (end_of f.key) f.n f.draws
 
@@ -479,25 +395,10 @@ module _ (told : Bool) (c : Call told) (commands : c.task.kind ≡ Command)
 
     ends : (es : List Entry) → c.given.log ≡ c.found.log ++ lines_of es → AreDrawn (Drew f.row f.n ∷ []) es → (other : BookFault)
         → (other ≡ refusals.SessionFull → (length es ≤ 1) × IsClean c.old_view × AllStand c.new_view)
-        → ((slots : ℕ) → other ≡ refusals.JournalFull slots
-        → Tells c.begin.start (entries_in c.new_view) (deed_of c.segment c.task (answer_of (counting JOURNAL_FULL 0 slots) position)) (Drew f.row f.n)
-        × FoundClean × AllStand c.new_view
-        × machine.AloneServes c.begin (entries_of c.found.log) c.task (answer_of (counting JOURNAL_FULL 0 slots) position) es (Drew f.row f.n))
         → AnsweredExactly c.begin c.segment c.old_view c.new_view c.task (fault_answer other position)
-    ends es is are other few full =
+    ends es is are other few =
         refused_exactly c.begin c.segment c.task c.old_view c.new_view (Drew f.row f.n) moves c.found.log es (by_lines es is) are
         [] (passes es is [] shows.counted.spent_is) (not_kept (Drew f.row f.n)) other position few
-        (λ slots same. (
-          (full slots same).0,
-          λ here level backed.
-              let (tells, clean, now, serves) = full slots same in
-              served_clean c.begin c.old_view c.new_view c.found.log es (by_lines es is) c.segment c.task (Drew f.row f.n)
-              [] (passes es is [] shows.counted.spent_is) (answer_of (counting JOURNAL_FULL 0 slots) position) here
-              (level.all (was_clean clean)) now serves,
-        ))
-
-    same_slots : (one other : ℕ) → refusals.JournalFull one ≡ refusals.JournalFull other → other ≡ one
-    same_slots one other is = cc
 
     none_left : c.given ≡ c.found → c.given.log ≡ c.found.log ++ lines_of []
     none_left same = ap (λ (b : BookView). b.log) same ∙ sym (append-nil c.found.log)
@@ -509,44 +410,9 @@ module _ (told : Bool) (c : Call told) (commands : c.task.kind ≡ Command)
         (λ is.
         let full = subst (IsBarred c.found) is is_barred in
         (omega arith, was_clean full.0, all_given c.found same (c.visits.found_kept.whole full.0)))
-        (λ slots is. absurd (subst (IsBarred c.found) is is_barred))
     by_refusal (refusals.SiteFault count) (unmarked, inr (can, h)) =
-        ends (reserve_of c.found.plan c.found.state f.key f.n ∷ []) (ap (λ (b : BookView). b.log) h.4)
+        ends (reserve_of c.found.plan c.found.state f.key f.n ∷ []) (ap (λ (b : BookView). b.log) h.3)
         (reserve_drawn f.row f.n (reserve_of c.found.plan c.found.state f.key f.n) refl, tt) (refusals.SiteFault count) (λ same. absurd (let no = same in cc))
-        (λ slots same. absurd (let no = same in cc))
-    by_refusal (refusals.JournalFull slots) (unmarked, inr (can, h)) =
-        let here = known_length position at in
-        let state = state_at_end c.found h.3 ((whole told c.begin c.found c.given c.taken c.new_view.turn c.began c.free c.visits can.0).0) position here in
-        let clean : FoundClean = can.0 in
-        ends [] (none_left h.3) tt (refusals.JournalFull slots) (λ same. absurd (let no = same in cc))
-        (λ others same. (
-          full_tells others position (Drew f.row f.n) (omega arith) (inr (
-            f.key,
-            f.row,
-            f.n,
-            subst (λ (st : State). KeyOf st c.task.octets f.key) (sym state)
-                (needs.Number f.key, subst (λ (n : Need). IsNeedOf c.found.state c.task.octets n) f.is needed, refl),
-            has_row f.key f.row f.place,
-            subst (λ (st : State). mark_of st f.key ≤ f.n) (sym state) unmarked,
-            refl,
-          )),
-          clean,
-          all_given c.found h.3 (c.visits.found_kept.whole can.0),
-          by_kind (answer_of (counting JOURNAL_FULL 0 others) position) [] (Drew f.row f.n) (inr (inr (record {
-            key = f.key;
-            needed = need_now (needs.Number f.key) (subst (λ (n : Need). IsNeedOf c.found.state c.task.octets n) f.is needed) clean;
-            row = f.row;
-            row_is = place_now f.key f.row f.place clean;
-            number = f.n;
-            below = f.below;
-            unmarked = (let k = mark_now f.key clean in omega arith);
-            full = subst (λ (e : Entry). machine.SaysFull c.begin (entries_of c.found.log) e (answer_of (counting JOURNAL_FULL 0 others) position))
-                (reserve_now f.key f.n clean) (slot_full c.begin c.found (stands_first clean) (reserve_of c.found.plan c.found.state f.key f.n) others position
-                h.0 h.1 (same_slots slots others same ∙ h.2) (at ∙ ap (λ (b : BookView). length (entries_of b.log)) h.3));
-            own_is = refl;
-            move_is = refl;
-          }))),
-        ))
     by_refusal (refusals.Stopped count) (unmarked, inr (can, h)) = absurd h
     by_refusal refusals.SessionFull (unmarked, inr (can, h)) = absurd h
     by_refusal refusals.NoMemory (unmarked, inr (can, h)) = absurd h
@@ -560,9 +426,8 @@ module _ (told : Bool) (c : Call told) (commands : c.task.kind ≡ Command)
       (by_lines [] (ap (λ (b : BookView). b.log) same ∙ sym (append-nil c.found.log))) tt []
       (passes [] (ap (λ (b : BookView). b.log) same ∙ sym (append-nil c.found.log)) []
       (ap (λ (k : Numbers). k.spent) numbers ∙ sym (append-nil c.old_view.numbers.spent))) (λ _. refl) fault position (λ full. absurd (let no = sym none ∙ full in cc))
-      (λ slots is. absurd (let no = sym none ∙ is in cc))
-  commands_exactly (Err (fault, position)) (inr (need, needed, inl f), at) = fails need fault position at needed f
-  commands_exactly (Err (fault, position)) (inr (need, needed, inr (seen, middle, shows, r)), at) = refuses need seen middle needed shows fault position at r
+  commands_exactly (Err (fault, position)) (inr (need, needed, inl f), at) = fails need fault position f
+  commands_exactly (Err (fault, position)) (inr (need, needed, inr (seen, middle, shows, r)), at) = refuses need seen middle needed shows fault position r
 
 pub commanding_exactly : (told : Bool) (begin : Begin) (layout : Layout) (segment : ℕ)
     (task : Record) (v w : View) (found given : BookView) → BeganWith told begin v.turn.known.opening → v.turn.holds ≡ false

@@ -9,7 +9,7 @@ use Rattle.sdls_base.specs.declared.entry.Entry.{Entry}
 use Rattle.sdls_base.specs.declared.entry.Logged.{Logged}
 use Rattle.sdls_base.specs.declared.entry.Logged.TheVariants as lines
 use Rattle.record_io.specs.declared.answers.Answer.{Answer}
-use Rattle.record_io.specs.declared.code.TheConstants.{JOURNAL_FULL, SITE_FAULT, STOPPED, NO_MEMORY, CLEAR, DONE, REFUSED, LAYOUT, STATE}
+use Rattle.record_io.specs.declared.code.TheConstants.{SITE_FAULT, STOPPED, NO_MEMORY, CLEAR, DONE, REFUSED, LAYOUT, STATE}
 use Rattle.record_io.specs.declared.kinds.RecordKind.{RecordKind}
 use Rattle.record_io.specs.declared.kinds.RecordKind.TheVariants.{Protect, Open, Command, Monitor}
 use Rattle.record_io.specs.declared.records.Record.{Record}
@@ -113,26 +113,25 @@ module _ (begin : Begin) (segment : ℕ) (task : Record) (v w : View) (move : Mo
     in_turn = unserved_turn begin v w log es turned segment task move spent passes few clean now;
   }
 
-  -- codes behind JOURNAL_FULL tell nothing of the move, but that a frame that is opened makes none
-  late_tells : (kind : RecordKind) → (draws kind ≡ false → move ≡ Kept) → (code n position : ℕ) → JOURNAL_FULL < code
+  -- codes from 31 on tell nothing of the move, but that a frame that is opened makes none
+  late_tells : (kind : RecordKind) → (draws kind ≡ false → move ≡ Kept) → (code n position : ℕ) → SITE_FAULT ≤ code
       → TellsKind begin.start (entries_in w) kind (deed_of segment task (answer_of (counting code 0 n) position)) move
   late_tells Protect kept code n position late = record {
     protected = λ is. absurd (omega arith);
     exhausted = λ is. absurd (omega arith);
     unbound = λ is. absurd (by_code is);
-    full = λ is. absurd (omega arith);
   } where
     by_code : (code ≡ CLEAR) ⊎ ((LAYOUT ≤ code) × (code ≤ STATE)) → ⊥
     by_code (inl is) = omega arith
     by_code (inr is) = omega arith
   late_tells Open kept code n position late = kept refl
-  late_tells Command kept code n position late = record { entry = λ is. absurd (by_code is); full = λ is. absurd (omega arith) } where
+  late_tells Command kept code n position late = record { entry = λ is. absurd (by_code is) } where
     by_code : (code ≡ DONE) ⊎ (code ≡ REFUSED) → ⊥
     by_code (inl is) = omega arith
     by_code (inr is) = omega arith
   late_tells Monitor kept code n position late = kept refl
 
-  late : (code n position : ℕ) → JOURNAL_FULL < code → IsServed (answer_of (counting code 0 n) position)
+  late : (code n position : ℕ) → SITE_FAULT ≤ code → IsServed (answer_of (counting code 0 n) position)
   late code n position low same level backed =
       served_late begin v w log es turned segment task move spent passes (answer_of (counting code 0 n) position) same low
 
@@ -141,17 +140,12 @@ module _ (begin : Begin) (segment : ℕ) (task : Record) (v w : View) (move : Mo
 
   pub refused_exactly : (draws task.kind ≡ false → move ≡ Kept) → (fault : BookFault) (position : ℕ)
       → (fault ≡ refusals.SessionFull → (length es ≤ 1) × IsClean v × AllStand w)
-      → ((slots : ℕ) → fault ≡ refusals.JournalFull slots
-      → Tells begin.start (entries_in w) (deed_of segment task (answer_of (counting JOURNAL_FULL 0 slots) position)) move
-      × IsServed (answer_of (counting JOURNAL_FULL 0 slots) position))
       → AnsweredExactly begin segment v w task (fault_answer fault position)
-  refused_exactly kept (refusals.SiteFault count) position few full =
+  refused_exactly kept (refusals.SiteFault count) position few =
       told_exactly (answer_of (counting SITE_FAULT 0 count) position) (late_tells task.kind kept SITE_FAULT count position (omega arith))
       (late SITE_FAULT count position (omega arith))
-  refused_exactly kept (refusals.Stopped count) position few full =
+  refused_exactly kept (refusals.Stopped count) position few =
       told_exactly (answer_of (counting STOPPED 0 count) position) (late_tells task.kind kept STOPPED count position (omega arith))
       (late STOPPED count position (omega arith))
-  refused_exactly kept (refusals.JournalFull slots) position few full =
-      told_exactly (answer_of (counting JOURNAL_FULL 0 slots) position) (full slots refl).0 (full slots refl).1
-  refused_exactly kept refusals.SessionFull position few full = untold_exactly (few refl).0 (few refl).1 (few refl).2
-  refused_exactly kept refusals.NoMemory position few full = wanting_exactly kept
+  refused_exactly kept refusals.SessionFull position few = untold_exactly (few refl).0 (few refl).1 (few refl).2
+  refused_exactly kept refusals.NoMemory position few = wanting_exactly kept

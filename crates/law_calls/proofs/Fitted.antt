@@ -1,5 +1,5 @@
 -- When an answer of a call fits its record, by what the run's history was then.
-use Rattle.std.proofs.Common.{◌≡◌, ◌≢◌, ◌⊎◌, ℕ, ◌+◌, ◌-◌, ◌≤◌, IsTrue, List, [], ◌∷◌, ◌++◌, length, Some, None, length-append, refl, sym, ◌∙◌, ap, subst, arith, inl, inr}
+use Rattle.std.proofs.Common.{◌≡◌, ◌≢◌, ◌⊎◌, ℕ, ◌+◌, ◌-◌, ◌≤◌, List, [], ◌∷◌, ◌++◌, length, Some, None, length-append, refl, sym, ◌∙◌, ap, subst, arith, inl, inr}
 use Rattle.std.specs.List.{slice_get}
 use Rattle.std.proofs.lemmas.List.{take-append-le, take_all}
 use Rattle.sdls_base.specs.declared.change.Change.{Change}
@@ -15,11 +15,10 @@ use Rattle.record_io.specs.declared.records.Record.{Record}
 use Rattle.record_io.specs.declared.answers.Answer.{Answer}
 use Rattle.record_io.specs.declared.kinds.RecordKind.{RecordKind}
 use Rattle.record_io.specs.declared.kinds.RecordKind.TheVariants.{Protect, Open, Command, Monitor}
-use Rattle.record_io.specs.declared.code.TheConstants.{JOURNAL_FULL, SITE_FAULT, STOPPED}
+use Rattle.record_io.specs.declared.code.TheConstants.{SITE_FAULT, STOPPED}
 use Rattle.run_promise.specs.Answers.{counting, opened_told, replied_told}
 use Rattle.run_promise.specs.Entries.{frame_entry, record_entry, IsStepOf}
-use Rattle.run_promise.specs.Stored.{stored_count}
-use Rattle.run_promise.specs.Fits.{Course, Fits, FitsAny, FitsKind, MayAppend, MayAppendOnce, TellsRisenCount, IsWanting, state_after}
+use Rattle.run_promise.specs.Fits.{Course, Fits, FitsAny, FitsKind, MayAppendOnce, TellsRisenCount, IsWanting, state_after}
 use Rattle.law_calls.specs.Answering.{answer_of, unserved_answer}
 
 pub after_front : (start : State) (es rest : List Entry) → after_first start (es ++ rest) (length es) ≡ after start es
@@ -40,11 +39,11 @@ module _ (near : ℕ → ℕ → Type 0) (course : Course) (task : Record) where
   pub fits_any : (answer : Answer) → task.kind ≢ Monitor → FitsAny near course task answer → Fits near course task answer
   fits_any answer plain any = by_any task.kind answer plain any
 
-  -- memory may be wanting for a record of any kind
+  -- memory may run out for a record of any kind
   by_wanting : (kind : RecordKind) (answer : Answer) → IsWanting answer → FitsKind near course task answer kind
-  by_wanting Protect answer wants = inr (inr (inr (inr (inr (inr wants)))))
-  by_wanting Open answer wants = inr (inr (inr (inr wants)))
-  by_wanting Command answer wants = inr (inr (inr (inr wants)))
+  by_wanting Protect answer wants = inr (inr (inr (inr (inr wants))))
+  by_wanting Open answer wants = inr (inr (inr wants))
+  by_wanting Command answer wants = inr (inr (inr wants))
   by_wanting Monitor answer wants = inr wants
 
   -- the entry that the answer tells is the last
@@ -91,17 +90,6 @@ module _ (near : ℕ → ℕ → Type 0) (course : Course) (task : Record) where
   pub wanting_fits : Fits near course task unserved_answer
   wanting_fits = by_wanting task.kind unserved_answer (record { told = refl; position_is = refl })
 
-  pub full_fits : task.kind ≢ Monitor → (slots position : ℕ) → position ≡ length course.entries → (IsTrue course.begin.told → slots ≡ course.begin.slots)
-      → (IsTrue course.begin.told → course.begin.used + stored_count course.begin.start course.entries ≡ course.begin.slots)
-      → MayAppend near course (length course.entries) task → Fits near course task (answer_of (counting JOURNAL_FULL 0 slots) position)
-  full_fits plain slots position is slots_are full may = fits_any (answer_of (counting JOURNAL_FULL 0 slots) position) plain (inl (record {
-    told = refl;
-    within = omega arith;
-    slots_are = slots_are;
-    full = λ told. ap (λ (es : List Entry). course.begin.used + stored_count course.begin.start es) (take_all position course.entries (omega arith)) ∙ full told;
-    may = subst (λ (p : ℕ). MayAppend near course p task) (sym is) may;
-  }))
-
   tells : (code count position : ℕ) → position ≡ length course.entries → Rose course.faults_before count → count ≤ course.faults
       → TellsRisenCount course code (answer_of (counting code 0 count) position)
   tells code count position is rose low = record { told = refl; rose = rose; counted = low; position_is = is }
@@ -112,7 +100,7 @@ module _ (near : ℕ → ℕ → Type 0) (course : Course) (task : Record) where
   faulted_fits plain count position is rose low may front entry entries own =
       let size : length course.entries ≡ length front + 1 = ap length entries ∙ length-append front (entry ∷ []) in
       let before : position - 1 ≡ length front = omega arith in
-      fits_any (answer_of (counting SITE_FAULT 0 count) position) plain (inr (inl (record {
+      fits_any (answer_of (counting SITE_FAULT 0 count) position) plain (inl (record {
         tells = tells SITE_FAULT count position is rose low;
         may = may;
         entry = entry;
@@ -121,9 +109,9 @@ module _ (near : ℕ → ℕ → Type 0) (course : Course) (task : Record) where
           there = ap (slice_get course.entries) before ∙ ap (λ (es : List Entry). slice_get es (length front)) entries ∙ behind front entry;
         };
         own = own;
-      })))
+      }))
 
   pub stopped_fits : task.kind ≢ Monitor → (count position : ℕ) → position ≡ length course.entries → Rose course.faults_before count → count ≤ course.faults
       → (task.kind ≢ Protect) ⊎ MayAppendOnce near course task → Fits near course task (answer_of (counting STOPPED 0 count) position)
   stopped_fits plain count position is rose low may = fits_any (answer_of (counting STOPPED 0 count) position) plain
-      (inr (inr (inl (record { tells = tells STOPPED count position is rose low; may = may }))))
+      (inr (inl (record { tells = tells STOPPED count position is rose low; may = may })))

@@ -1,15 +1,13 @@
 -- What a call that handles a record is in turn: what was known before it, where no other worker made a line meanwhile.
-use Rattle.std.proofs.Common.{◌≡◌, ℕ, zero, suc, ◌+◌, ◌-◌, ◌<◌, ◌≤◌, Bool, false, List, [], ◌∷◌, ◌++◌, length, take, drop, Some, IsTrue, refl, sym, ◌∙◌, ap, subst, inl, inr, arith, append-nil, length-append, if◌then◌else◌}
+use Rattle.std.proofs.Common.{◌≡◌, ℕ, zero, suc, ◌+◌, ◌-◌, ◌<◌, ◌≤◌, Bool, false, List, [], ◌∷◌, ◌++◌, length, take, drop, Some, refl, sym, ◌∙◌, ap, subst, inl, inr, arith, append-nil, length-append}
 use Rattle.std.proofs.lemmas.List.{append_cancel_left, take-append-le, take_all, take-append-drop}
-use Rattle.sdls_base.specs.Numbers.{one_if}
 use Rattle.sdls_base.specs.declared.entry.Entry.{Entry}
 use Rattle.sdls_base.specs.declared.entry.Logged.{Logged}
 use Rattle.sdls_base.specs.declared.TheConstants.{MOST_KEYS}
 use Rattle.sdls_outside.specs.Faults.{Rose}
-use Rattle.unit_image.specs.Image.{slots_of, used_of}
 use Rattle.key_book.specs.KeyBook.{place_of}
 use Rattle.record_io.specs.declared.answers.Answer.{Answer}
-use Rattle.record_io.specs.declared.code.TheConstants.{JOURNAL_FULL}
+use Rattle.record_io.specs.declared.code.TheConstants.{SITE_FAULT}
 use Rattle.record_io.specs.declared.records.Record.{Record}
 use Rattle.unit_state.specs.declared.state.State.{State}
 use Rattle.unit_state.specs.Applied.{applied}
@@ -22,11 +20,9 @@ use Rattle.counter_table.specs.declared.view.View.{View}
 use Rattle.counter_table.specs.Known.{Earlier}
 use Rattle.counter_table.specs.Play.{IsCovered}
 use Rattle.counter_table.specs.Turn.{epoch_seen, places, stands}
-use Rattle.run_promise.specs.Answers.{counting}
 use Rattle.run_promise.specs.Log.{entries_of}
 use Rattle.run_promise.specs.Numbers.{mark_of, mark_at}
-use Rattle.run_promise.specs.Stored.{IsStored, stored_count}
-use Rattle.unit_book.specs.Book.{BookView, CountsUsedSlots, Enters}
+use Rattle.unit_book.specs.Book.{BookView, Enters}
 use Rattle.shared_unit.specs.Told.{known_of_book}
 use Rattle.shared_unit.specs.Turn.{FindsCovered, taking_once, Visits}
 use Rattle.run_promise.specs.Begin.{Begin}
@@ -34,14 +30,13 @@ use Rattle.law_workers.specs.Views.{log_of, entries_in}
 use Rattle.run_promise.specs.Deed.{deed_of}
 use Rattle.law_workers.proofs.Rows.{mark_known}
 use Rattle.run_promise.specs.Machine.{Move}
-use Rattle.run_promise.specs.Serving.{HasSlot, SaysFull, AloneServes}
+use Rattle.run_promise.specs.Serving.{AloneServes}
 use Rattle.law_workers.specs.InTurn.{MadeAllLines, IsClean, IsLevel, AllStand, stood_in, AreOf, IsBacked, ServedInTurn}
 use Rattle.law_workers.proofs.Turns.{all_stood, level_on, backed_on, stood_is, stood_more, stood_on}
-use Rattle.law_calls.specs.Answering.{answer_of}
 use Rattle.law_workers.specs.Began.{BeganWith}
 use Rattle.law_calls.proofs.Behind.{after_both, lines_of, lines_entries, places_within}
 use Rattle.law_calls.proofs.OneRecord.{Turned}
-use Rattle.law_calls.proofs.Visit.{below_mark, began_faults, changes_are, epoch_low, faults_are, led, log_is, log_low, risen_found, start_is, whole}
+use Rattle.law_calls.proofs.Visit.{below_mark, began_faults, changes_are, epoch_low, faults_are, led, log_is, log_low, risen_found, whole}
 
 -- fronts of one length are one
 front_one : (a b c d : List Logged) → a ++ c ≡ b ++ d → length a ≡ length b → a ≡ b
@@ -127,7 +122,7 @@ module _ (begin : Begin) (v w : View) (log : List Logged) (es : List Entry) (tur
     )
 
     -- with an answer that says nothing of its entries
-    pub served_late : (answer : Answer) → log ≡ log_of v → JOURNAL_FULL < answer.code → ServesSo answer
+    pub served_late : (answer : Answer) → log ≡ log_of v → SITE_FAULT ≤ answer.code → ServesSo answer
     served_late answer same low =
         let (own, is) = stood_more v w turned.earlier.standing es (entries_are ∙ ap (λ (l : List Logged). entries_of l ++ es) same) in (own, is, inl low)
 
@@ -229,14 +224,6 @@ module _ (told : Bool) (begin : Begin) (found given : BookView) (u : Turn) (v w 
   clean_found known not rose = not (risen_found told begin found given u w.turn began free visits
       (subst (λ (k : Known). Rose k.opening.faults k.faults) (sym known) rose))
 
-  -- the image, and the count of its slots
-  pub image_found : found.image ≡ u.known.opening.image
-  image_found = ap (λ (o : Opening). o.image) visits.takes.follows.opening
-
-  pub found_counts : ¬ Rose found.opened.faults found.site.faults → IsTrue begin.told
-      → CountsUsedSlots found.image found.start found.journal (entries_of found.log)
-  found_counts not tells = visits.found_kept.counted (subst (λ (b : Bool). IsTrue b) began.tells tells) not
-
   -- where no line was made since a view, the entries that stand in the book that was found are those that stood in it
   pub stood_found : u.known ≡ v.turn.known → found.log ≡ log_of v → IsLevel v → take found.standing (entries_of found.log) ≡ stood_in v
   stood_found known same level =
@@ -309,93 +296,26 @@ covers told begin v x w began free known later same numbers earlier h made made_
     taken_backed told begin h.found h.given x.turn v w began_x free h.visits
     (subst (λ (k : Numbers). IsCovered MOST_KEYS k (known_of_book h.found)) numbers h.covered) known later log level
 
--- What is known of a book at a stage of a call, where the site had not failed: its state is that after its entries, and its slots are
--- those of the image that the run began with.
-pub record Stands (begin : Begin) (book : BookView) : Type 0 where
-  pub state : book.state ≡ after begin.start (entries_of book.log)
-  pub start : book.start ≡ begin.start
-  pub slots : IsTrue begin.told → begin.slots ≡ slots_of book.image
-  pub used : IsTrue begin.told → begin.used ≡ used_of book.image
-  pub counts : IsTrue begin.told → CountsUsedSlots book.image book.start book.journal (entries_of book.log)
-
-stored_one : (start : State) (es : List Entry) (e : Entry)
-    → stored_count start (es ++ e ∷ []) ≡ stored_count start es + (if IsStored (after start es) e then 1 else 0)
-stored_one start [] e = omega arith
-stored_one start (x ∷ es) e = let h = stored_one (applied start x.change) es e in omega arith
+-- The state of a book is that after its entries: so it is at a stage of a call, if the site had not failed.
+abbrev pub Stands : Begin → BookView → Type 0
+Stands begin book = book.state ≡ after begin.start (entries_of book.log)
 
 after_one : (start : State) (es : List Entry) (e : Entry) → after start (es ++ e ∷ []) ≡ applied (after start es) e.change
 after_one start [] e = refl
 after_one start (x ∷ es) e = after_one (applied start x.change) es e
 
-module _ (begin : Begin) (old : BookView) (stands : Stands begin old) where
-  -- behind an entry that was made
-  pub stands_entered : (new : BookView) (entry : Entry) (position : ℕ) → Enters entry old new position → Stands begin new
-  stands_entered new entry position enters =
-      let log : entries_of new.log ≡ entries_of old.log ++ entry ∷ [] =
-      ap (λ (b : BookView). entries_of b.log) enters.is ∙ lines_entries old.log (entry ∷ []) in
-      let state : new.state ≡ applied old.state entry.change = ap (λ (b : BookView). b.state) enters.is in
-      let image : old.image ≡ new.image = sym (ap (λ (b : BookView). b.image) enters.is) in
-      record {
-        state = state ∙ ap (λ (s : State). applied s entry.change) stands.state ∙ sym (after_one begin.start (entries_of old.log) entry)
-            ∙ ap (after begin.start) (sym log);
-        start = ap (λ (b : BookView). b.start) enters.is ∙ stands.start;
-        slots = λ tells. stands.slots tells ∙ ap slots_of image;
-        used = λ tells. stands.used tells ∙ ap used_of image;
-        counts = λ tells. enters.counted (stands.counts tells);
-      }
-
-  -- the slots used now
-  used_now : IsTrue begin.told → begin.used + stored_count begin.start (entries_of old.log) ≡ old.journal.used
-  used_now tells =
-      let counts = stands.counts tells in
-      let stored : stored_count begin.start (entries_of old.log) ≡ stored_count old.start (entries_of old.log) =
-      ap (λ (s : State). stored_count s (entries_of old.log)) (sym stands.start) in
-      let u = stands.used tells in let c = counts.used in omega arith
-
-  slots_now : IsTrue begin.told → begin.slots ≡ old.journal.slots
-  slots_now tells = stands.slots tells ∙ sym (stands.counts tells).slots
-
-  -- there was a slot for an entry that was made, and none for one that could not be
-  pub slot_free : (new : BookView) (entry : Entry) (position : ℕ) → Enters entry old new position → HasSlot begin (entries_of old.log) entry
-  slot_free new entry position enters tells stored =
-      let more : entries_of new.log ≡ entries_of old.log ++ entry ∷ [] =
-      ap (λ (b : BookView). entries_of b.log) enters.is ∙ lines_entries old.log (entry ∷ []) in
-      let counts = enters.counted (stands.counts tells) in
-      let low : new.journal.used ≤ new.journal.slots = counts.within in
-      let used = counts.used in
-      let slots = counts.slots in
-      let image : new.image ≡ old.image = ap (λ (b : BookView). b.image) enters.is in
-      let start : new.start ≡ begin.start = ap (λ (b : BookView). b.start) enters.is ∙ stands.start in
-      let all : stored_count new.start (entries_of new.log) ≡ stored_count begin.start (entries_of old.log ++ entry ∷ []) =
-      ap (λ (s : State). stored_count s (entries_of new.log)) start ∙ ap (stored_count begin.start) more in
-      let one : stored_count begin.start (entries_of old.log ++ entry ∷ [])
-      ≡ stored_count begin.start (entries_of old.log) + (if IsStored (after begin.start (entries_of old.log)) entry then 1 else 0) =
-      stored_one begin.start (entries_of old.log) entry in
-      let taken : one_if (IsStored (after begin.start (entries_of old.log)) entry) ≡ 1 = ap one_if stored in
-      let u : begin.used ≡ used_of new.image = stands.used tells ∙ ap used_of (sym image) in
-      let n : begin.slots ≡ slots_of new.image = stands.slots tells ∙ ap slots_of (sym image) in
-      omega arith
-
-  pub slot_full : (entry : Entry) (slots position : ℕ) → IsTrue (IsStored old.state entry) → old.journal.used ≡ old.journal.slots → slots ≡ old.journal.slots
-      → position ≡ length (entries_of old.log) → SaysFull begin (entries_of old.log) entry (answer_of (counting JOURNAL_FULL 0 slots) position)
-  slot_full entry slots position stored full is at = record {
-    told = refl;
-    position_is = at;
-    slots_are = λ tells. is ∙ sym (slots_now tells);
-    stored = subst (λ (s : State). IsTrue (IsStored s entry)) stands.state stored;
-    none_left = λ tells. let s = slots_now tells in let u = used_now tells in omega arith;
-  }
+-- behind an entry that was made
+pub stands_entered : (begin : Begin) (old : BookView) → Stands begin old → (new : BookView) (entry : Entry) (position : ℕ)
+    → Enters entry old new position → Stands begin new
+stands_entered begin old stands new entry position enters =
+    let log : entries_of new.log ≡ entries_of old.log ++ entry ∷ [] =
+    ap (λ (b : BookView). entries_of b.log) enters.is ∙ lines_entries old.log (entry ∷ []) in
+    let state : new.state ≡ applied old.state entry.change = ap (λ (b : BookView). b.state) enters.is in
+    state ∙ ap (λ (s : State). applied s entry.change) stands ∙ sym (after_one begin.start (entries_of old.log) entry)
+    ∙ ap (after begin.start) (sym log)
 
 -- the book that was found
 pub stands_found : (told : Bool) (begin : Begin) (found given : BookView) (u : Turn) (v w : View)
     → BeganWith told begin u.known.opening → u.holds ≡ false → Visits told found given u w.turn
     → ¬ Rose found.opened.faults found.site.faults → Stands begin found
-stands_found told begin found given u v w began free visits not =
-    let image : u.known.opening.image ≡ found.image = sym (image_found told begin found given u v w began free visits) in
-    record {
-      state = (whole told begin found given u w.turn began free visits not).0;
-      start = start_is told begin found given u w.turn began free visits;
-      slots = λ tells. began.slots (subst (λ (b : Bool). IsTrue b) began.tells tells) ∙ ap slots_of image;
-      used = λ tells. began.used (subst (λ (b : Bool). IsTrue b) began.tells tells) ∙ ap used_of image;
-      counts = λ tells. found_counts told begin found given u v w began free visits not tells;
-    }
+stands_found told begin found given u v w began free visits not = (whole told begin found given u w.turn began free visits not).0

@@ -8,7 +8,7 @@ use Rattle.frame_checks.specs.OpeningFrames.{IsOpenReply}
 use Rattle.record_io.specs.declared.kinds.RecordKind.{RecordKind}
 use Rattle.record_io.specs.declared.kinds.RecordKind.TheVariants.{Protect, Open, Monitor}
 use Rattle.record_io.specs.declared.records.Record.{Record}
-use Rattle.record_io.specs.declared.code.TheConstants.{PROTECTED, DONE, SITE_FAULT, JOURNAL_FULL}
+use Rattle.record_io.specs.declared.code.TheConstants.{PROTECTED, DONE, SITE_FAULT}
 use Rattle.unit_plan.specs.PlanLines.{PlanLines}
 use Rattle.unit_state.specs.declared.state.State.{State}
 use Rattle.unit_state.specs.History.{after}
@@ -55,7 +55,7 @@ opened_plain opens.Coverage field = (λ is. absurd (omega arith), λ is. absurd 
 opened_plain opens.Mac field = (λ is. absurd (omega arith), λ is. absurd (omega arith), λ is. absurd (omega arith))
 opened_plain (opens.Number key number high width) field = (λ is. absurd (omega arith), λ is. absurd (omega arith), λ is. absurd (omega arith))
 
-opened_low : (reply : OpenReply) (field : List ℕ) → (opened_told reply field).code < JOURNAL_FULL
+opened_low : (reply : OpenReply) (field : List ℕ) → (opened_told reply field).code < SITE_FAULT
 opened_low (opens.Accepted spi key number from to) field = omega arith
 opened_low opens.Clear field = omega arith
 opened_low (opens.Layout number) field = omega arith

@@ -1,5 +1,5 @@
 -- A frame that is opened moves no word.
-use Rattle.std.proofs.Common.{◌≡◌, ◌⊎◌, ℕ, ◌≤◌, Bool, false, List, [], ◌∷◌, ◌++◌, length, length-append, refl, sym, ◌∙◌, ap, subst, inl, inr, arith, append-nil, Result, Ok, Err, MatchResult}
+use Rattle.std.proofs.Common.{◌≡◌, ℕ, ◌≤◌, Bool, false, List, [], ◌∷◌, ◌++◌, length, length-append, refl, sym, ◌∙◌, ap, subst, inl, inr, arith, append-nil, Result, Ok, Err, MatchResult}
 use Rattle.sdls_base.specs.declared.entry.Entry.{Entry}
 use Rattle.sdls_outside.specs.Faults.{Rose}
 use Rattle.frame_checks.specs.declared.open_reply.OpenReply.{OpenReply}
@@ -14,8 +14,7 @@ use Rattle.record_io.specs.declared.records.Record.{Record}
 use Rattle.counter_table.specs.declared.view.Numbers.{Numbers}
 use Rattle.counter_table.specs.declared.view.View.{View}
 use Rattle.counter_table.specs.Turn.{places}
-use Rattle.record_io.specs.declared.code.TheConstants.{JOURNAL_FULL}
-use Rattle.run_promise.specs.Answers.{counting, opened_told}
+use Rattle.run_promise.specs.Answers.{opened_told}
 use Rattle.run_promise.specs.Entries.{frame_entry}
 use Rattle.run_promise.specs.Log.{entries_of}
 use Rattle.unit_book.specs.declared.fault.BookFault.{BookFault}
@@ -23,13 +22,13 @@ use Rattle.unit_book.specs.declared.fault.BookFault.TheVariants as refusals
 use Rattle.unit_book.specs.Book.{BookView, IsBarred, IsUnstored}
 use Rattle.unit_book.specs.Records.{OpensWithEntry, RefusesFrame}
 use Rattle.shared_unit.specs.Calls.{WithPosition}
-use Rattle.shared_unit.specs.Told.{known_of_book, entry_count}
+use Rattle.shared_unit.specs.Told.{known_of_book}
 use Rattle.shared_unit.specs.Turn.{FindsCovered, Visits}
 use Rattle.run_promise.specs.Begin.{Begin}
 use Rattle.law_workers.specs.Views.{entries_in}
 use Rattle.run_promise.specs.Deed.{deed_of}
 use Rattle.run_promise.specs.Machine.{Kept}
-use Rattle.run_promise.specs.Serving.{now, HasSlot, SaysFull, AloneOpened, AloneUnopened, ServesKind, AloneServes}
+use Rattle.run_promise.specs.Serving.{now, AloneOpened, ServesKind, AloneServes}
 use Rattle.law_workers.specs.InTurn.{IsClean, AllStand}
 use Rattle.run_promise.specs.Moves.{Tells, TellsKind}
 use Rattle.law_workers.specs.Began.{BeganWith}
@@ -38,7 +37,7 @@ use Rattle.law_calls.proofs.Behind.{lines_of, lines_entries}
 use Rattle.law_calls.proofs.OneRecord.{Turned}
 use Rattle.law_calls.proofs.Moving.{moves_none}
 use Rattle.law_calls.proofs.Exactness.{AreDrawn, of_record, refused_exactly, told_exactly}
-use Rattle.law_calls.proofs.InTurn.{Passes, Stands, clean_found, covers, given_as, given_entered, served_clean, slot_free, slot_full, stands_found, takes_pass}
+use Rattle.law_calls.proofs.InTurn.{Passes, Stands, clean_found, covers, given_as, given_entered, served_clean, stands_found, takes_pass}
 use Rattle.law_calls.proofs.Visit.{plan_is, turned}
 
 module _ (told : Bool) (begin : Begin) (segment : ℕ) (task : Record)
@@ -84,63 +83,32 @@ module _ (told : Bool) (begin : Begin) (segment : ℕ) (task : Record)
   entry_is : (reply : OpenReply) → FoundClean
       → frame_entry found.plan found.state task.index reply ≡ frame_entry begin.plan (now begin (entries_of found.log)) task.index reply
   entry_is reply clean = ap (λ (p : PlanLines). frame_entry p found.state task.index reply) plan
-      ∙ ap (λ (s : State). frame_entry begin.plan s task.index reply) (stands clean).state
+      ∙ ap (λ (s : State). frame_entry begin.plan s task.index reply) (stands clean)
 
   replies_there : (reply : OpenReply) (field : List ℕ) → FoundClean → IsOpenReply found.plan found.state task.link task.octets reply field
       → IsOpenReply begin.plan (now begin (entries_of found.log)) task.link task.octets reply field
   replies_there reply field clean h =
-      subst (λ (s : State). IsOpenReply begin.plan s task.link task.octets reply field) (stands clean).state
+      subst (λ (s : State). IsOpenReply begin.plan s task.link task.octets reply field) (stands clean)
       (subst (λ (p : PlanLines). IsOpenReply p found.state task.link task.octets reply field) plan h)
 
   by_kind : (answer : Answer) (es : List Entry)
-      → (AloneOpened begin (entries_of found.log) task answer es Kept ⊎ AloneUnopened begin (entries_of found.log) task answer es Kept)
-      → AloneServes begin (entries_of found.log) task answer es Kept
+      → AloneOpened begin (entries_of found.log) task answer es Kept → AloneServes begin (entries_of found.log) task answer es Kept
   by_kind answer es h = inr (subst (λ (k : RecordKind). ServesKind begin (entries_of found.log) k task answer es Kept) (sym opens_it) h)
 
   refused : (es : List Entry) → given.log ≡ found.log ++ lines_of es → AreDrawn (Kept ∷ []) es → (fault : BookFault) (position : ℕ)
       → (fault ≡ refusals.SessionFull → (length es ≤ 1) × IsClean v × AllStand w)
-      → ((slots : ℕ) → fault ≡ refusals.JournalFull slots
-      → FoundClean × AllStand w × AloneServes begin (entries_of found.log) task (answer_of (counting JOURNAL_FULL 0 slots) position) es Kept)
       → AnsweredExactly begin segment v w task (fault_answer fault position)
-  refused es is drawn fault position few full =
+  refused es is drawn fault position few =
       refused_exactly begin segment task v w Kept (moves_none begin v w numbers) found.log es (by_lines es is) drawn [] (passes es is) (λ _. refl) fault position few
-      (λ slots same. (
-        tells (answer_of (counting JOURNAL_FULL 0 slots) position),
-        λ here level backed.
-            let (clean, now, serves) = full slots same in
-            served_clean begin v w found.log es (by_lines es is) segment task Kept [] (passes es is) (answer_of (counting JOURNAL_FULL 0 slots) position) here
-            (level.all (was_clean clean)) now serves,
-      ))
 
-  unstored : (reply : OpenReply) (field : List ℕ) → IsOpenReply found.plan found.state task.link task.octets reply field → FoundClean
-      → (fault : BookFault) (position : ℕ) → position ≡ entry_count (known_of_book given)
-      → IsUnstored (frame_entry found.plan found.state task.index reply) found given fault
+  unstored : (reply : OpenReply) (fault : BookFault) (position : ℕ) → IsUnstored (frame_entry found.plan found.state task.index reply) found given fault
       → AnsweredExactly begin segment v w task (fault_answer fault position)
-  unstored reply field replies clean (refusals.SiteFault count) position at h =
-      refused (frame_entry found.plan found.state task.index reply ∷ []) (ap (λ (b : BookView). b.log) h.4) (of_frame reply) (refusals.SiteFault count) position
-      (λ same. absurd (let no = same in cc)) (λ slots same. absurd (let no = same in cc))
-  unstored reply field replies clean (refusals.JournalFull slots) position at h = refused [] (none_left h.3) tt (refusals.JournalFull slots) position
+  unstored reply (refusals.SiteFault count) position h =
+      refused (frame_entry found.plan found.state task.index reply ∷ []) (ap (λ (b : BookView). b.log) h.3) (of_frame reply) (refusals.SiteFault count) position
       (λ same. absurd (let no = same in cc))
-      (λ others same. (
-        clean,
-        all_given clean h.3,
-        by_kind (answer_of (counting JOURNAL_FULL 0 others) position) [] (inr (record {
-          reply = reply;
-          field = field;
-          replies = replies_there reply field clean replies;
-          full = subst (λ (e : Entry). SaysFull begin (entries_of found.log) e (answer_of (counting JOURNAL_FULL 0 others) position)) (entry_is reply clean)
-              (slot_full begin found (stands clean) (frame_entry found.plan found.state task.index reply) others position h.0 h.1 (same_slots slots others same ∙ h.2)
-              (at ∙ ap (λ (b : BookView). length (entries_of b.log)) h.3));
-          own_is = refl;
-          move_is = refl;
-        })),
-      ))
-    where
-      same_slots : (one other : ℕ) → refusals.JournalFull one ≡ refusals.JournalFull other → other ≡ one
-      same_slots one other is = cc
-  unstored reply field replies clean (refusals.Stopped count) position at h = absurd h
-  unstored reply field replies clean refusals.SessionFull position at h = absurd h
-  unstored reply field replies clean refusals.NoMemory position at h = absurd h
+  unstored reply (refusals.Stopped count) position h = absurd h
+  unstored reply refusals.SessionFull position h = absurd h
+  unstored reply refusals.NoMemory position h = absurd h
 
   pub opens_exactly : (left : List ℕ) (result : Result (OpenReply × ℕ) (BookFault × ℕ))
       → WithPosition result (known_of_book given) (λ answer. MatchResult answer
@@ -162,7 +130,7 @@ module _ (told : Bool) (begin : Begin) (segment : ℕ) (task : Record)
       (level.all (was_clean clean))
       (given_entered told begin found given v.turn v w began free visits found (frame_entry found.plan found.state task.index reply) position
       opened.made.1 (visits.found_kept.whole clean))
-      (by_kind (answer_of (opened_told reply (field_in reply left)) position) (frame_entry found.plan found.state task.index reply ∷ []) (inl (record {
+      (by_kind (answer_of (opened_told reply (field_in reply left)) position) (frame_entry found.plan found.state task.index reply ∷ []) (record {
         reply = reply;
         field = field_in reply left;
         replies = replies_there reply (field_in reply left) clean opened.reply_is;
@@ -170,12 +138,9 @@ module _ (told : Bool) (begin : Begin) (segment : ℕ) (task : Record)
         position_is =
             let log : entries_of given.log ≡ entries_of found.log ++ entry ∷ [] = ap entries_of added ∙ lines_entries found.log (entry ∷ []) in
             opened.made.1.position_is ∙ ap length log ∙ length-append (entries_of found.log) (entry ∷ []);
-        slot = subst (HasSlot begin (entries_of found.log)) (entry_is reply clean)
-            (slot_free begin found (stands clean) _ (frame_entry found.plan found.state task.index reply) _ opened.made.1);
         own_is = ap (λ (e : Entry). e ∷ []) (entry_is reply clean);
         move_is = refl;
-      }))))
+      })))
   opens_exactly left (Err (fault, position)) (inl (is_barred, same), at) = refused [] (none_left same) tt fault position
       (λ is. let full = subst (IsBarred found) is is_barred in (omega arith, was_clean full.0, all_given full.0 same))
-      (λ slots is. absurd (subst (IsBarred found) is is_barred))
-  opens_exactly left (Err (fault, position)) (inr (can, (reply, field, replies, fails)), at) = unstored reply field replies can.0 fault position at fails
+  opens_exactly left (Err (fault, position)) (inr (can, (reply, field, replies, fails)), at) = unstored reply fault position fails

@@ -1,6 +1,6 @@
 -- A frame that is protected draws the number that its answer tells.
-use Rattle.std.proofs.Common.{◌≡◌, ◌⊎◌, ℕ, ◌<◌, ◌≤◌, Bool, false, List, [], ◌∷◌, ◌++◌, take, drop, append_assoc, Option, Some, Err, refl, sym, ◌∙◌, ap, subst, arith, inl, inr, append-nil, length, Ok, Result, IsTrue, true, eqb, eq-eqb, ◌+◌, None}
-use Rattle.std.proofs.lemmas.List.{take_all, take-append-drop}
+use Rattle.std.proofs.Common.{◌≡◌, ◌⊎◌, ℕ, ◌<◌, ◌≤◌, Bool, false, List, [], ◌∷◌, ◌++◌, take, drop, append_assoc, Option, Some, Err, refl, sym, ◌∙◌, ap, subst, arith, inl, inr, append-nil, length, Ok, Result, true, eqb, eq-eqb, ◌+◌, None}
+use Rattle.std.proofs.lemmas.List.{take-append-drop}
 use Rattle.sdls_base.specs.Numbers.{times}
 use Rattle.sdls_base.specs.KeyId.{end_of}
 use Rattle.sdls_base.specs.declared.entry.Entry.{Entry}
@@ -8,13 +8,13 @@ use Rattle.sdls_base.specs.declared.entry.Logged.{Logged}
 use Rattle.sdls_outside.specs.Faults.{Rose}
 use Rattle.key_book.specs.KeyBook.{place_of}
 use Rattle.record_io.specs.declared.answers.Answer.{Answer}
-use Rattle.record_io.specs.declared.code.TheConstants.{PROTECTED, CLEAR, EXHAUSTED, LAYOUT, STATE, JOURNAL_FULL}
+use Rattle.record_io.specs.declared.code.TheConstants.{PROTECTED, CLEAR, EXHAUSTED, LAYOUT, STATE}
 use Rattle.record_io.specs.declared.kinds.RecordKind.{RecordKind}
 use Rattle.record_io.specs.declared.kinds.RecordKind.TheVariants.{Protect}
 use Rattle.record_io.specs.declared.records.Record.{Record}
 use Rattle.unit_plan.specs.PlanLines.{PlanLines}
 use Rattle.unit_state.specs.declared.state.State.{State}
-use Rattle.unit_state.specs.History.{after, after_first, at_epoch, epoch_after}
+use Rattle.unit_state.specs.History.{after, at_epoch, epoch_after}
 use Rattle.unit_state.proofs.Histories.{at_epoch_more, epochs_more}
 use Rattle.frame_shield.specs.declared.protecting_frames.ShieldFault.{ShieldFault}
 use Rattle.frame_shield.specs.declared.protecting_frames.ShieldFault.TheVariants as shield_faults
@@ -28,11 +28,10 @@ use Rattle.counter_table.specs.Turn.{epoch_seen, places, seeing}
 use Rattle.frame_shield.specs.Binding.{clear_fault}
 use Rattle.frame_checks.specs.ProtectingFrames.{channel_check}
 use Rattle.run_promise.specs.Counts.{draws}
-use Rattle.run_promise.specs.Answers.{Told, counting, plain, numbered, fault_told, unbound_told}
+use Rattle.run_promise.specs.Answers.{Told, plain, numbered, fault_told, unbound_told}
 use Rattle.run_promise.specs.Log.{entries_of}
 use Rattle.run_promise.specs.Numbers.{mark_of, reserve_of}
 use Rattle.run_promise.specs.ProtectingFrames.{protect_reply}
-use Rattle.run_promise.specs.Stored.{IsStored}
 use Rattle.unit_book.specs.declared.fault.BookFault.{BookFault}
 use Rattle.unit_book.specs.declared.fault.BookFault.TheVariants as refusals
 use Rattle.unit_book.specs.Book.{BookView, IsBarred, IsUnstored, Made}
@@ -43,7 +42,7 @@ use Rattle.shared_unit.specs.declared.permit.Protected.TheVariants as protecteds
 use Rattle.shared_unit.specs.Funding.{Reserves}
 use Rattle.shared_unit.specs.Numbers.{Draws, ComesBack}
 use Rattle.shared_unit.specs.Protecting.{CoversIfTaken, Funds, IsDrawnAndProtected, IsProtectStep, IsRefusedAt, IsUsed, Looks, MayTakeTurn, Rests, RunsOutUnder, TakesTurn}
-use Rattle.shared_unit.specs.Told.{entry_count, known_of_book}
+use Rattle.shared_unit.specs.Told.{known_of_book}
 use Rattle.shared_unit.proofs.Steps.{earlier_again}
 use Rattle.run_promise.specs.Begin.{Begin}
 use Rattle.law_workers.specs.Views.{entries_in, log_of}
@@ -59,11 +58,11 @@ use Rattle.law_calls.specs.Answering.{answer_of, fault_answer, protected_answer,
 use Rattle.law_calls.proofs.Behind.{lines_of}
 use Rattle.law_calls.proofs.Counting.{Shows, found_shows, draws_shows, back_shows, uses_shows}
 use Rattle.law_calls.proofs.Exactness.{AreDrawn, refused_exactly, told_exactly}
-use Rattle.law_calls.proofs.InTurn.{CoversSpent, Passes, Stands, clean_found, covers, entries_are, given_as, given_entered, looks_pass, slot_free, slot_full, stands_found, stood_clean, takes_pass}
+use Rattle.law_calls.proofs.InTurn.{CoversSpent, Passes, Stands, clean_found, covers, entries_are, given_as, given_entered, looks_pass, stands_found, stood_clean, takes_pass}
 use Rattle.law_calls.proofs.Moving.{Moves, moves_none, moves_found, moves_drew, moves_over}
 use Rattle.law_calls.proofs.OneRecord.{Turned}
 use Rattle.law_calls.proofs.Permitted.{clear_reply, planned_reply, row_last}
-use Rattle.law_calls.proofs.Visit.{log_is, plan_is, turned, whole}
+use Rattle.law_calls.proofs.Visit.{plan_is, turned}
 use Rattle.law_calls.proofs.CommandsExactly.{reserve_drawn}
 use Rattle.law_calls.proofs.Protectings.{one_drawer, bound, call_of, looked, opening_same, opening_taken, place_then, row_is, row_below}
 
@@ -150,7 +149,7 @@ module _ (told : Bool) (begin : Begin) (layout : Layout) (segment : ℕ) (task :
 
   by_kind : (answer : Answer) (es : List Entry) (move : Move)
       → (machine.AloneUnbound begin (stood_in v) task answer es move ⊎ (machine.AloneProtected begin (stood_in v) task answer es move
-      ⊎ (machine.AloneExhausted begin (stood_in v) task answer es move ⊎ machine.AloneUnfunded begin (stood_in v) task answer es move)))
+      ⊎ machine.AloneExhausted begin (stood_in v) task answer es move))
       → machine.AloneServes begin (stood_in v) task answer es move
   by_kind answer es move h = inr (subst (λ (k : RecordKind). machine.ServesKind begin (stood_in v) k task answer es move) (sym protects) h)
 
@@ -161,7 +160,6 @@ module _ (told : Bool) (begin : Begin) (layout : Layout) (segment : ℕ) (task :
     protected = λ is. absurd (apart which PROTECTED is (inl refl));
     exhausted = λ is. absurd (apart which EXHAUSTED is (inr (omega arith)));
     unbound = λ _. refl;
-    full = λ is. absurd (apart which JOURNAL_FULL is (inr (omega arith)));
   }) where
     apart : (fields.code ≡ CLEAR) ⊎ ((LAYOUT ≤ fields.code) × (fields.code ≤ STATE)) → (code : ℕ) → fields.code ≡ code → (code ≡ 0) ⊎ (EXHAUSTED ≤ code) → ⊥
     apart (inl a) code is (inl z) = omega arith
@@ -214,7 +212,7 @@ module _ (told : Bool) (begin : Begin) (layout : Layout) (segment : ℕ) (task :
     -- the state that was found, and the reserve in it, where the log that was found is the one that was known
     state_here : (done : BookView → BookView → Type 0) (t : TakesTurn told done v.turn w.turn) → FoundClean done t → t.found.log ≡ log_of v
         → IsLevel v → t.found.state ≡ machine.now begin (stood_in v)
-    state_here done t clean same level = (stands done t clean).state ∙ ap (after begin.start) (stood_v done t clean same level)
+    state_here done t clean same level = stands done t clean ∙ ap (after begin.start) (stood_v done t clean same level)
 
     reserve_here : (done : BookView → BookView → Type 0) (t : TakesTurn told done v.turn w.turn) (n : ℕ) → FoundClean done t
         → t.found.log ≡ log_of v → IsLevel v
@@ -236,7 +234,6 @@ module _ (told : Bool) (begin : Begin) (layout : Layout) (segment : ℕ) (task :
           );
           exhausted = λ code. absurd (omega arith);
           unbound = λ code. absurd (not_kept code);
-          full = λ code. absurd (omega arith);
         })) where
           not_kept : (PROTECTED ≡ CLEAR) ⊎ ((LAYOUT ≤ PROTECTED) × (PROTECTED ≤ STATE)) → ⊥
           not_kept (inl a) = omega arith
@@ -306,11 +303,6 @@ module _ (told : Bool) (begin : Begin) (layout : Layout) (segment : ℕ) (task :
                 (λ here. by_funds (reserve_of t.found.plan t.found.state p.binding.key d.number ∷ []) refl opening (λ level backed all. inr (
                   ap (λ (e : Entry). e ∷ []) (reserve_here (Funds p.binding.key d.number) t d.number made.1.1.0.0 here level),
                   subst (λ (st : State). mark_of st p.binding.key ≤ d.number) (state_here (Funds p.binding.key d.number) t made.1.1.0.0 here level) made.0,
-                  subst (λ (l : List Entry). machine.HasSlot begin l (reserve_of begin.plan (machine.now begin (stood_in v)) p.binding.key d.number))
-                      (stood_v (Funds p.binding.key d.number) t made.1.1.0.0 here level)
-                      (subst (machine.HasSlot begin (entries_of t.found.log)) (reserve_here (Funds p.binding.key d.number) t d.number made.1.1.0.0 here level)
-                      (slot_free begin t.found (stands (Funds p.binding.key d.number) t made.1.1.0.0) _
-                      (reserve_of t.found.plan t.found.state p.binding.key d.number) _ made.1.1.1)),
                 )))
 
     exhausted : (key n epoch : ℕ) → RunsOutUnder p task.octets key n epoch v w → MayTakeTurn told Rests v.turn w.turn
@@ -332,7 +324,6 @@ module _ (told : Bool) (begin : Begin) (layout : Layout) (segment : ℕ) (task :
         protected = λ code. absurd (omega arith);
         exhausted = λ _. (p.row, has_row, which);
         unbound = λ code. absurd (not_kept code);
-        full = λ code. absurd (omega arith);
       }) where
         not_kept : (EXHAUSTED ≡ CLEAR) ⊎ ((LAYOUT ≤ EXHAUSTED) × (EXHAUSTED ≤ STATE)) → ⊥
         not_kept (inl a) = omega arith
@@ -342,14 +333,14 @@ module _ (told : Bool) (begin : Begin) (layout : Layout) (segment : ℕ) (task :
           → IsServedHere (answer_of (numbered EXHAUSTED key n []) epoch) [] [] move
       serves move which level backed all =
           let low : epoch_seen v.turn ≤ p.epoch = omega (arith, later, epoch_is) in
-          by_kind (answer_of (numbered EXHAUSTED key n []) epoch) [] move (inr (inr (inl (record {
+          by_kind (answer_of (numbered EXHAUSTED key n []) epoch) [] move (inr (inr (record {
             is = bound_now opening [] refl level backed.epoch low all fits;
             told = ap (λ (k : ℕ). numbered EXHAUSTED k n []) key_is;
             position_is = epoch_is ∙ epoch_now opening [] refl level backed.epoch low all;
             at_end = subst (λ (k : ℕ). end_of k ≤ n) key_is out.0;
             own_is = refl;
             move_is = which;
-          }))))
+          })))
 
       by_end : ((top p.row v.numbers.nexts ≤ n) × (w.numbers ≡ arming p.row (end_of key) n v.numbers)) ⊎ Draws p.row (end_of key) n v.numbers w.numbers
           → AnsweredExactly begin segment v w task (Some (answer_of (numbered EXHAUSTED key n []) epoch))
@@ -368,8 +359,7 @@ module _ (told : Bool) (begin : Begin) (layout : Layout) (segment : ℕ) (task :
     shows n (inl d) = draws_shows begin task v w (one_drawer task protects) p.row (end_of p.binding.key) n d
     shows n (inr b) = back_shows begin task v w (one_drawer task protects) p.row (end_of p.binding.key) n b
 
-    module _ (fits : clear_fault p.binding task.octets ≡ None) (later : epoch_seen v.turn ≤ p.epoch) (position n : ℕ) (below : n < end_of p.binding.key)
-        (at : position ≡ entry_count w.turn.known)
+    module _ (position n : ℕ)
         (drawn : Draws p.row (end_of p.binding.key) n v.numbers w.numbers ⊎ ComesBack p.row (end_of p.binding.key) n v.numbers w.numbers)
         (other : BookFault) (k : TakesTurn told (Reserves p.binding.key n (Err other)) v.turn w.turn) where
       opening : w.turn.known.opening ≡ v.turn.known.opening
@@ -377,74 +367,12 @@ module _ (told : Bool) (begin : Begin) (layout : Layout) (segment : ℕ) (task :
 
       ends : (es : List Entry) → k.given.log ≡ k.found.log ++ lines_of es → AreDrawn (Drew p.row n ∷ []) es
           → (other ≡ refusals.SessionFull → (length es ≤ 1) × IsClean v × AllStand w)
-          → ((slots : ℕ) → other ≡ refusals.JournalFull slots
-          → Tells begin.start (entries_in w) (deed_of segment task (answer_of (counting JOURNAL_FULL 0 slots) position)) (Drew p.row n)
-          × (k.found.log ≡ log_of v → Stand es)
-          × (k.found.log ≡ log_of v → IsServedHere (answer_of (counting JOURNAL_FULL 0 slots) position) es [] (Drew p.row n)))
           → AnsweredExactly begin segment v w task (fault_answer other position)
-      ends es is are few full = refused_exactly begin segment task v w (Drew p.row n)
+      ends es is are few = refused_exactly begin segment task v w (Drew p.row n)
           (moves_drew begin v w task p.row (row_below told begin layout segment task v w began free protects p used opening) n [] (shows n drawn))
           k.found.log es (by_lines (Reserves p.binding.key n (Err other)) k es is) are
           [] (passes (Reserves p.binding.key n (Err other)) k es is [] (shows n drawn).counted.spent_is)
-          (not_kept (Drew p.row n)) other position few (λ slots here. (
-            (full slots here).0,
-            λ same level backed.
-                let (tells, stand, serves) = full slots here in (es, stand same level, serves same level backed (stand same level)),
-          ))
-
-      full_serves : (slots others : ℕ) → others ≡ slots → k.given ≡ k.found → FoundClean (Reserves p.binding.key n (Err other)) k
-          → mark_of k.found.state p.binding.key ≤ n
-          → IsTrue (IsStored k.found.state (reserve_of k.found.plan k.found.state p.binding.key n)) → k.found.journal.used ≡ k.found.journal.slots
-          → slots ≡ k.found.journal.slots → k.found.log ≡ log_of v
-          → IsServedHere (answer_of (counting JOURNAL_FULL 0 others) position) [] [] (Drew p.row n)
-      full_serves slots others same_slots same clean unmarked stored full is here level backed all =
-          let entry_here = reserve_here (Reserves p.binding.key n (Err other)) k n clean here level in
-          let log : w.turn.known.log ≡ k.found.log =
-          log_is told begin k.found k.given (seeing k.epoch v.turn) w.turn began free k.visits ∙ ap (λ (b : BookView). b.log) same in
-          by_kind (answer_of (counting JOURNAL_FULL 0 others) position) [] (Drew p.row n) (inr (inr (inr (record {
-            is = bound_now opening [] refl level backed.epoch later all fits;
-            number = n;
-            below = below;
-            unmarked = subst (λ (st : State). mark_of st p.binding.key ≤ n) (state_here (Reserves p.binding.key n (Err other)) k clean here level) unmarked;
-            full = subst (λ (l : List Entry). machine.SaysFull begin l (reserve_of begin.plan (machine.now begin (stood_in v)) p.binding.key n)
-                (answer_of (counting JOURNAL_FULL 0 others) position)) (stood_v (Reserves p.binding.key n (Err other)) k clean here level)
-                (subst (λ (e : Entry). machine.SaysFull begin (entries_of k.found.log) e (answer_of (counting JOURNAL_FULL 0 others) position)) entry_here
-                (slot_full begin k.found (stands (Reserves p.binding.key n (Err other)) k clean) (reserve_of k.found.plan k.found.state p.binding.key n) others position
-                stored full (same_slots ∙ is) (at ∙ ap (λ (l : List Logged). length (entries_of l)) log)));
-            own_is = refl;
-            move_is = refl;
-          }))))
-
-      full_tells : (slots : ℕ) → k.given ≡ k.found → ¬ Rose k.found.opened.faults k.found.site.faults → mark_of k.found.state p.binding.key ≤ n
-          → Tells begin.start (entries_in w) (deed_of segment task (answer_of (counting JOURNAL_FULL 0 slots) position)) (Drew p.row n)
-      full_tells slots same not unmarked =
-          let log : w.turn.known.log ≡ k.found.log =
-          log_is told begin k.found k.given (seeing k.epoch v.turn) w.turn began free k.visits ∙ ap (λ (b : BookView). b.log) same in
-          let state : after_first begin.start (entries_in w) position ≡ k.found.state =
-          ap (after begin.start) (take_all position (entries_in w) (omega arith)) ∙ ap (λ (l : List Logged). after begin.start (entries_of l)) log
-          ∙ sym (whole told begin k.found k.given (seeing k.epoch v.turn) w.turn began free k.visits not).0 in
-          by_protect (answer_of (counting JOURNAL_FULL 0 slots) position) (Drew p.row n) (record {
-            protected = λ code. absurd (omega arith);
-            exhausted = λ code. absurd (omega arith);
-            unbound = λ code. absurd (not_kept code);
-            full = λ _. (
-              omega arith,
-              (
-                p.binding.key,
-                p.row,
-                n,
-                row_is told begin layout segment task v w began free protects p used opening,
-                subst (λ (st : State). mark_of st p.binding.key ≤ n) (sym state) unmarked,
-                refl,
-              ),
-            );
-          }) where
-            not_kept : (JOURNAL_FULL ≡ CLEAR) ⊎ ((LAYOUT ≤ JOURNAL_FULL) × (JOURNAL_FULL ≤ STATE)) → ⊥
-            not_kept (inl a) = omega arith
-            not_kept (inr a) = omega arith
-
-      same_count : (one another : ℕ) → refusals.JournalFull one ≡ refusals.JournalFull another → another ≡ one
-      same_count one another is = cc
+          (not_kept (Drew p.row n)) other position few
 
       by_case : Reserves p.binding.key n (Err other) k.found k.given → AnsweredExactly begin segment v w task (fault_answer other position)
       by_case (unmarked, inl (is_barred, same)) =
@@ -455,30 +383,21 @@ module _ (told : Bool) (begin : Begin) (layout : Layout) (segment : ℕ) (task :
             was_clean (Reserves p.binding.key n (Err other)) k full.0,
             given_as told begin k.found k.given (seeing k.epoch v.turn) v w began free k.visits k.found same (k.visits.found_kept.whole full.0),
           ))
-          (λ slots is. absurd (subst (IsBarred k.found) is is_barred))
       by_case (unmarked, inr (can, h)) = by_fault other refl h where
         by_fault : (f : BookFault) → other ≡ f → IsUnstored (reserve_of k.found.plan k.found.state p.binding.key n) k.found k.given f
             → AnsweredExactly begin segment v w task (fault_answer other position)
         by_fault (refusals.SiteFault count) is u =
-            ends (reserve_of k.found.plan k.found.state p.binding.key n ∷ []) (ap (λ (b : BookView). b.log) u.4)
+            ends (reserve_of k.found.plan k.found.state p.binding.key n ∷ []) (ap (λ (b : BookView). b.log) u.3)
             (reserve_drawn p.row n (reserve_of k.found.plan k.found.state p.binding.key n) refl, tt) (λ same. absurd (let no = sym is ∙ same in cc))
-            (λ slots same. absurd (let no = sym is ∙ same in cc))
-        by_fault (refusals.JournalFull slots) is u = ends [] (none_left k.found k.given u.3) tt (λ same. absurd (let no = sym is ∙ same in cc))
-            (λ others same. (
-              full_tells others u.3 can.0 unmarked,
-              none_stand k.found.log (by_lines (Reserves p.binding.key n (Err other)) k [] (none_left k.found k.given u.3)),
-              full_serves slots others (same_count slots others (sym is ∙ same)) u.3 can.0 unmarked u.0 u.1 u.2,
-            ))
         by_fault (refusals.Stopped count) is u = absurd u
         by_fault refusals.SessionFull is u = absurd u
         by_fault refusals.NoMemory is u = absurd u
 
-    failed : (fault : BookFault) (position n : ℕ) → clear_fault p.binding task.octets ≡ None → epoch_seen v.turn ≤ p.epoch → n < end_of p.binding.key
-        → position ≡ entry_count w.turn.known
+    failed : (fault : BookFault) (position n : ℕ)
         → (Draws p.row (end_of p.binding.key) n v.numbers w.numbers ⊎ ComesBack p.row (end_of p.binding.key) n v.numbers w.numbers)
         → TakesTurn told (Reserves p.binding.key n (Err fault)) v.turn w.turn
         → AnsweredExactly begin segment v w task (fault_answer fault position)
-    failed fault position n fits later below at drawn t = by_case fits later position n below at drawn fault t t.does
+    failed fault position n drawn t = by_case position n drawn fault t t.does
 
   no_spent : w.numbers ≡ v.numbers → w.numbers.spent ≡ v.numbers.spent ++ []
   no_spent numbers = ap (λ (k : Numbers). k.spent) numbers ∙ sym (append-nil v.numbers.spent)
@@ -548,7 +467,7 @@ module _ (told : Bool) (begin : Begin) (layout : Layout) (segment : ℕ) (task :
   protects_exactly plan kept out (protecteds.Exhausted key n epoch) planned_is (p, used, (is, turn)) =
       exhausted p (subst (λ (q : PlanLines). IsUsed q task.link task.octets p w.turn) (sym planned_is) used) key n epoch is turn
   protects_exactly plan kept out (protecteds.Fault fault position) planned_is (p, used, (fits, later, at, (n, below, drawn, t))) =
-      failed p (subst (λ (q : PlanLines). IsUsed q task.link task.octets p w.turn) (sym planned_is) used) fault position n fits later below at drawn t
+      failed p (subst (λ (q : PlanLines). IsUsed q task.link task.octets p w.turn) (sym planned_is) used) fault position n drawn t
 
 -- what the call tells of numbers that were spent before, where it took the turn
 pub covers_taken : (told : Bool) (begin : Begin) (v w : View)

@@ -8,9 +8,8 @@ use Rattle.sdls_base.specs.declared.entry.Entry.{Entry}
 use Rattle.sdls_base.specs.declared.entry.Logged.{Logged}
 use Rattle.sdls_base.specs.declared.entry.Logged.TheVariants as lines
 use Rattle.sdls_outside.specs.Faults.{Rose}
-use Rattle.unit_image.specs.Image.{slots_of, used_of}
 use Rattle.record_io.specs.declared.answers.Answer.{Answer}
-use Rattle.record_io.specs.declared.code.TheConstants.{MONITOR_FAULT, JOURNAL_FULL, SITE_FAULT, STOPPED, NO_MEMORY, PROTECTED, ACCEPTED, DONE, NUMBER, EXHAUSTED}
+use Rattle.record_io.specs.declared.code.TheConstants.{MONITOR_FAULT, SITE_FAULT, STOPPED, NO_MEMORY, PROTECTED, ACCEPTED, DONE, NUMBER, EXHAUSTED}
 use Rattle.record_io.specs.declared.kinds.RecordKind.{RecordKind}
 use Rattle.record_io.specs.declared.kinds.RecordKind.TheVariants.{Protect, Open, Command, Monitor}
 use Rattle.record_io.specs.declared.records.Record.{Record}
@@ -27,11 +26,11 @@ use Rattle.run_promise.specs.Counts.{is_index, is_of_record, is_of_none, count_a
 use Rattle.run_promise.specs.Fits.{Course, Fits, MayAppend, state_after}
 use Rattle.run_promise.specs.Legal.{IsLegal}
 use Rattle.run_promise.specs.Log.{entries_of}
-use Rattle.run_promise.specs.Stored.{IsStored, stored_count}
+use Rattle.run_promise.specs.Stored.{IsStored}
 use Rattle.unit_book.specs.declared.fault.BookFault.{BookFault}
 use Rattle.unit_book.specs.declared.fault.BookFault.TheVariants as refusals
 use Rattle.run_promise.specs.declared.limits.TheConstants.{MOST_ENTRIES}
-use Rattle.unit_book.specs.Book.{BookView, CanEnter, Enters, IsBarred, IsUnstored, IsKept}
+use Rattle.unit_book.specs.Book.{BookView, CanEnter, Enters, IsBarred, IsUnstored}
 use Rattle.shared_unit.specs.Told.{known_of_book, entry_count}
 use Rattle.shared_unit.specs.Turn.{Visits}
 use Rattle.run_promise.specs.Begin.{Begin}
@@ -45,10 +44,10 @@ use Rattle.law_workers.specs.Began.{BeganWith}
 use Rattle.law_calls.specs.Answering.{answer_of, unserved_answer, fault_answer, Answered}
 use Rattle.law_calls.proofs.Behind.{lines_of, tested, lines_length, lines_entries, lines_more, tested_more, tested_few, LegalInTurn, legal_then, after_both, places_stand, last_behind}
 use Rattle.law_calls.proofs.OneRecord.{Turned, Counted, own_index, answered_so, none_made, handled_answered, handled_unanswered}
-use Rattle.law_calls.proofs.Fitted.{after_front, wanting_fits, full_fits, faulted_fits, stopped_fits}
+use Rattle.law_calls.proofs.Fitted.{after_front, wanting_fits, faulted_fits, stopped_fits}
 use Rattle.law_calls.proofs.Visit.{entries_low, epoch_low, epoch_high, log_is, faults_are, began_faults, risen_found, known_entries, turned, whole}
 
--- what a code from 30 on tells is neither an entry nor an epoch
+-- what a code from 31 on tells is neither an entry nor an epoch
 late : (kind : RecordKind) (channel above : Bool)
     → IsTrue ((is_entered kind && (above && false)) || (is_protected kind && (channel && false))) → ⊥
 late Protect true above told = let t : false ≡ true = told in cc
@@ -121,14 +120,12 @@ unprotected Monitor other = refl
 -- who answers that an entry could not be stored does not say that none was made
 not_unmade : IsUnmade SITE_FAULT → ⊥
 not_unmade (inl is) = omega arith
-not_unmade (inr (inl is)) = omega arith
-not_unmade (inr (inr is)) = omega arith
+not_unmade (inr is) = omega arith
 
 -- nor does a code below those that say so
-pub low_made : (code : ℕ) → code < JOURNAL_FULL → IsUnmade code → ⊥
+pub low_made : (code : ℕ) → code < SITE_FAULT → IsUnmade code → ⊥
 low_made code low (inl is) = omega arith
-low_made code low (inr (inl is)) = omega arith
-low_made code low (inr (inr is)) = omega arith
+low_made code low (inr is) = omega arith
 
 -- an entry that no other record has is the record's, or of none
 pub own_entry : (entry : Entry) (task : Record) → ((index : ℕ) → tested (is_of_record index) (entry ∷ []) ≤ indexed index (task ∷ []))
@@ -272,7 +269,7 @@ module _ (told : Bool) (c : Call told) where
         passed numbers.counted legal one_among reserve_among few_among answer fits within used failed
         (λ code. none_own (unmade code))
 
-    -- a code from JOURNAL_FULL on, but for that of a failed entry
+    -- a code from 31 on
     pub answered_late : (code n position : ℕ) → Fits near course task (answer_of (counting code 0 n) position) → nat_le code NUMBER ≡ false
         → nat_le code EXHAUSTED ≡ false → code ≢ PROTECTED → code ≢ DONE → (code ≡ SITE_FAULT → MadeLast w gains_are)
         → (IsUnmade code → own ≡ []) → Handled layout begin v w (task ∷ []) (deed_of segment task (answer_of (counting code 0 n) position) ∷ [])
@@ -348,33 +345,7 @@ module _ (told : Bool) (c : Call told) where
           full_stand : ¬ Rose old.opened.faults old.site.faults → length (entries_of old.log) ≡ MOST_ENTRIES → old.standing ≡ MOST_ENTRIES
           full_stand not full = stage.all_stand not ∙ full
     barred plain (refusals.SiteFault count) position is h due = absurd h
-    barred plain (refusals.JournalFull slots) position is h due = absurd h
     barred plain refusals.NoMemory position is h due = absurd h
-
-    -- all slots are used
-    pub journal_full : task.kind ≢ Monitor → (slots position : ℕ) → position ≡ entry_count (known_of_book given) → ¬ Rose old.opened.faults old.site.faults
-        → old.journal.used ≡ old.journal.slots → slots ≡ old.journal.slots → MayAppend near course (length (entries_of old.log)) task
-        → Handled layout begin v w (task ∷ []) (deed_of segment task (answer_of (counting JOURNAL_FULL 0 slots) position) ∷ [])
-    journal_full plain slots position is not used slots_is may =
-        let known_is : entries_in w ≡ entries_of old.log = ap entries_of known_of_old in
-        let kept : IsKept told old = subst (λ (b : BookView). IsKept told b) same c.visits.given_kept in
-        let images : old.image ≡ u.known.opening.image = ap (λ (b : BookView). b.image) (sym same) ∙ ap (λ (o : Opening). o.image) opened_as in
-        let starts : old.start ≡ begin.start = ap (λ (b : BookView). b.start) (sym same) ∙ ap (λ (o : Opening). o.start) opened_as ∙ c.began.start in
-        let tells : IsTrue begin.told → IsTrue told = λ t. subst (λ (b : Bool). IsTrue b) c.began.tells t in
-        left_late JOURNAL_FULL slots position
-        (full_fits near course task plain slots position (position_known position is)
-        (λ t. slots_is ∙ (kept.counted (tells t) not).slots ∙ ap slots_of images ∙ sym (c.began.slots (tells t)))
-        (λ t.
-        let counts = kept.counted (tells t) not in
-        let used_is : begin.used ≡ used_of old.image = c.began.used (tells t) ∙ ap (λ (i : List ℕ). used_of i) (sym images) in
-        let stored : stored_count begin.start (entries_in w) ≡ stored_count old.start (entries_of old.log) =
-        ap (stored_count begin.start) known_is ∙ ap (λ (s : State). stored_count s (entries_of old.log)) (sym starts) in
-        let slots_are : begin.slots ≡ old.journal.slots = c.began.slots (tells t) ∙ ap slots_of (sym images) ∙ sym counts.slots in
-        let all = counts.used in omega arith)
-        (subst (λ (n : ℕ). MayAppend near course n task) (sym (ap length known_is)) may))
-        refl refl (λ is. absurd (omega arith)) (λ is. absurd (omega arith)) (λ is. absurd (omega arith)) where
-          opened_as : (known_of_book given).opening ≡ u.known.opening
-          opened_as = c.visits.takes.opening ∙ c.visits.takes.follows.opening
 
   -- an entry more was refused
   module _ (old : BookView) (es : List Entry) (stage : Stage old es) (entry : Entry) (numbers : Added) (can : CanEnter old)
@@ -436,12 +407,7 @@ module _ (told : Bool) (c : Call told) where
         → Answered layout begin segment v w task (fault_answer fault position)
     unstored plain (refusals.SiteFault count) position is h may =
         answered_so begin layout segment v w task (answer_of (counting SITE_FAULT 0 count) position) (λ code. absurd (omega arith))
-        (faulted plain count position is (ap (λ (b : BookView). b.log) h.4) (ap (λ (b : BookView). b.standing) h.4) h.3 (λ same. may same h.0))
-    unstored plain (refusals.JournalFull slots) position is h may =
-        let known_is : entries_in w ≡ entries_of old.log ++ [] =
-        ap (λ (l : List Logged). entries_of l) (known_of_old old es stage numbers h.3) ∙ sym (append-nil (entries_of old.log)) in
-        answered_so begin layout segment v w task (answer_of (counting JOURNAL_FULL 0 slots) position) (λ code. absurd (omega arith))
-        (journal_full old es stage numbers h.3 plain slots position is can.0 h.1 h.2 (may (state_then [] known_is) h.0))
+        (faulted plain count position is (ap (λ (b : BookView). b.log) h.3) (ap (λ (b : BookView). b.standing) h.3) h.2 (λ same. may same h.0))
     unstored plain (refusals.Stopped count) position is h may = absurd h
     unstored plain refusals.SessionFull position is h may = absurd h
     unstored plain refusals.NoMemory position is h may = absurd h

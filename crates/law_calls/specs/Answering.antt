@@ -4,8 +4,7 @@ use Rattle.frame_checks.specs.declared.open_reply.OpenReply.{OpenReply}
 use Rattle.frame_checks.specs.Accepting.{LeavesOctets, field_in}
 use Rattle.ep_core.specs.declared.reply.Reply.{Reply}
 use Rattle.record_io.specs.declared.answers.Answer.{Answer}
-use Rattle.record_io.specs.declared.code.TheConstants.{PROTECTED, CLEAR, EXHAUSTED, JOURNAL_FULL, SITE_FAULT, STOPPED}
-use Rattle.record_io.specs.declared.code.TheConstants.{NO_MEMORY}
+use Rattle.record_io.specs.declared.code.TheConstants.{PROTECTED, CLEAR, EXHAUSTED, SITE_FAULT, STOPPED, NO_MEMORY}
 use Rattle.record_io.specs.declared.kinds.RecordKind.TheVariants.{Command}
 use Rattle.record_io.specs.declared.records.Record.{Record}
 use Rattle.counter_table.specs.declared.view.View.{View}
@@ -38,15 +37,14 @@ answer_of told position = record {
   body = told.body;
 }
 
--- memory was wanting, in the call or for the answer
+-- memory ran out, in the call or for the answer
 abbrev pub unserved_answer : Answer
 unserved_answer = answer_of (plain NO_MEMORY 0) 0
 
--- where an entry was refused, by the fault and the count of entries beside it; none where the run has as many as it may
+-- if an entry was refused, by the fault and the count of entries beside it; none if the run has as many as it may
 abbrev pub fault_answer : BookFault → ℕ → Option Answer
 fault_answer (faults.SiteFault count) position = Some (answer_of (counting SITE_FAULT 0 count) position)
 fault_answer (faults.Stopped count) position = Some (answer_of (counting STOPPED 0 count) position)
-fault_answer (faults.JournalFull slots) position = Some (answer_of (counting JOURNAL_FULL 0 slots) position)
 fault_answer faults.SessionFull position = None
 fault_answer faults.NoMemory position = Some unserved_answer
 
@@ -70,7 +68,7 @@ protected_answer (protecteds.Fault fault position) out = fault_answer fault posi
 
 -- ---- what became of a record
 
--- where memory ran out for a frame, no line was made for it; for a command there may be the reserve that it needed
+-- if memory ran out for a frame, no line was made for it; for a command there may be the reserve that it needed
 abbrev pub LeavesLog : View → View → Record → Answer → Type 0
 LeavesLog old new task answer = answer.code ≡ NO_MEMORY → task.kind ≢ Command → new.turn.made ≡ old.turn.made
 
@@ -81,7 +79,7 @@ Answered layout begin segment old new task (Some answer) = Handled layout begin 
 Answered layout begin segment old new task None = Handled layout begin old new (task ∷ []) []
     × IsFullFor begin old new task
 
--- The record was served in turn, and moved a word as its answer tells; where it has none, it may have moved one.
+-- The record was served in turn, and moved a word as its answer tells; if it has none, it may have moved one.
 abbrev pub AnsweredExactly : Begin → ℕ → View → View → Record → Option Answer → Type 0
 AnsweredExactly begin segment old new task (Some answer) = MovedInTurn begin old new 1
     (deed_of segment task answer ∷ [])

@@ -18,7 +18,7 @@ ghost use Rattle.law_calls.specs.Answering.{protected_answer, unserved_answer};
 
 use sdls_outside::Site;
 
-/// Law: a record for whose answer memory was wanting before its call has that answer, and nothing was done for it.
+/// Law: a record for whose answer memory ran out before its call has that answer, and nothing was done for it.
 pub fn unserved_answers()
     ensures { (begin : Begin) (layout : Layout) (segment : ℕ) (v : View) (task : Record)
         → Answered layout begin segment v v task (Some unserved_answer) }

@@ -18,7 +18,7 @@ ghost use Rattle.law_calls.specs.Answering.{OpensRecord, protected_answer, unser
 
 use sdls_outside::Site;
 
-/// Law: a record for whose answer memory was wanting before its call moved no word.
+/// Law: a record for whose answer memory ran out before its call moved no word.
 pub fn unserved_is_exact()
     ensures { (begin : Begin) (segment : ℕ) (v : View) (task : Record)
         → AnsweredExactly begin segment v v task (Some unserved_answer) }

@@ -13,11 +13,12 @@ use Rattle.drill_frames.specs.declared.counts.Counts.{Counts}
 use Rattle.drill_frames.specs.Counting.{count_accepted, count_code, count_fields, no_counts, sum_of}
 use Rattle.drill_frames.specs.Frames.{open_tasks, protect_tasks, replay_tasks}
 use Rattle.law_drill.specs.Drilled.{AreChunks, IsDrilled, UnitIsOpened, HandlesSegment, all_counts, tells_want}
-use Rattle.law_drill.specs.Plans.{receiver_lines, receiver_plan, sender_lines, sender_plan}
+use Rattle.law_drill.specs.Plans.{receiver_plan, sender_plan}
+use Rattle.law_drill.proofs.Read.{receiver_bare, sender_bare}
 use Rattle.law_drill.proofs.Judging.{receiving}
 use Rattle.law_drill.proofs.Lanes.{each}
 use Rattle.law_drill.proofs.Lists.{all_counted}
-use Rattle.law_drill.proofs.Opened.{Starts, receiver_begins, sender_begins}
+use Rattle.law_drill.proofs.Opened.{ShowsOne, Starts, receiver_begins, sender_begins}
 use Rattle.law_drill.proofs.OpenedChunks.{IsSent, TakenAll, accepted_all, none_taken, rejected_all, taken_chunk}
 use Rattle.law_drill.proofs.Opening.{OpensOnce}
 use Rattle.law_drill.proofs.Receiving.{AreSent}
@@ -39,7 +40,7 @@ same_counts a b p q r =
     ap (λ (n : ℕ). these n a.accepted a.rejected) p ∙ (ap (λ (n : ℕ). these b.protected n a.rejected) q ∙ ap (these b.protected b.accepted) r)
 
 module _ (once : OpensOnce) (one other : Begin) (s t0 t v w0 mid w : View) (chunk n : ℕ) (before more : Counts)
-    (sends : Starts one sender_lines (sending (each 1))) (receives : Starts other receiver_lines (receiving (each 0) (each 0)))
+    (sends : Starts one sender_bare (sending (each 1))) (receives : Starts other receiver_bare (receiving (each 0) (each 0)))
     (so_far : Served one other s t0 v w0 (256 * chunk) chunk before) (some : 1 ≤ n) (short : n ≤ 256) (few : 256 * chunk + n ≤ 100000) where
   abbrev sent : List Answer
   sent = so_far.sent
@@ -92,7 +93,7 @@ module _ (once : OpensOnce) (one other : Begin) (s t0 t v w0 mid w : View) (chun
             ∙ ap (sum_of (record { protected = 256 * chunk; accepted = 256 * chunk; rejected = chunk })) more_is;
       }
 
-module _ (once : OpensOnce) (one other : Begin) (number : ℕ) (s v : View) (few : number ≤ 100000) (sends : UnitIsOpened sender_plan one s)
+module _ (once : OpensOnce) (one_state : ShowsOne) (one other : Begin) (number : ℕ) (s v : View) (few : number ≤ 100000) (sends : UnitIsOpened sender_plan one s)
     (receives : UnitIsOpened receiver_plan other v) where
   pub chunks_served : (chunks : ℕ) → 256 * chunks < number + 256 → (t w : View) (answers : List Answer) (counts : Counts)
       → AreChunks one other number s v chunks t w answers counts → list_any tells_want answers ≡ false
@@ -101,8 +102,8 @@ module _ (once : OpensOnce) (one other : Begin) (number : ℕ) (s v : View) (few
       let none : min number (256 * 0) ≡ 0 = omega arith in
       let served : Served one other s s v v 0 0 (record { protected = 0; accepted = 0; rejected = 0 }) = record {
         sent = [];
-        sent_all = none_sent one s sends.opened sends.began.rows sends.whole (sender_begins one s sends);
-        taken_all = none_taken other v (octets_in []) receives.opened receives.began.rows receives.whole (receiver_begins other v receives);
+        sent_all = none_sent one s sends.opened sends.began.rows sends.whole (sender_begins one_state one s sends);
+        taken_all = none_taken other v (octets_in []) receives.opened receives.began.rows receives.whole (receiver_begins one_state other v receives);
         counts_are = refl;
       } in
       subst (λ (m : ℕ). Served one other s t v w m 0 counts) (sym none)
@@ -121,17 +122,17 @@ module _ (once : OpensOnce) (one other : Begin) (number : ℕ) (s v : View) (few
       let n : ℕ = min number (256 * (chunks + 1)) - 256 * chunks in
       let frames : 256 * chunks + n ≡ min number (256 * suc chunks) = omega arith in
       let next : chunks + 1 ≡ suc chunks = omega arith in
-      let served = served_by once one other s t0 t v w0 chunk.mid w chunks n before more (sender_begins one s sends) (receiver_begins other v receives)
+      let served = served_by once one other s t0 t v w0 chunk.mid w chunks n before more (sender_begins one_state one s sends) (receiver_begins one_state other v receives)
       (subst (λ (m : ℕ). Served one other s t0 v w0 m chunks before) whole so_far) (omega arith) (omega arith) (omega arith)
       chunk.sent chunk.opened chunk.again chunk.protects chunk.opens chunk.replays first.0 last.0 last.1 chunk.protected chunk.accepted chunk.rejected in
       subst (λ (c : Counts). Served one other s t v w (min number (256 * suc chunks)) (suc chunks) c) (sym counts_are)
       (subst (λ (m : ℕ). Served one other s t v w m (suc chunks) (sum_of before more)) frames
       (subst (λ (k : ℕ). Served one other s t v w (256 * chunks + n) k (sum_of before more)) next served))
 
-pub drill_complete : OpensOnce → (number : ℕ) (answers : List Answer) (counts : Counts) → number ≤ 100000 → IsDrilled number answers counts
+pub drill_complete : OpensOnce → ShowsOne → (number : ℕ) (answers : List Answer) (counts : Counts) → number ≤ 100000 → IsDrilled number answers counts
     → list_any tells_want answers ≡ false → counts ≡ all_counts number
-drill_complete once number answers counts few is wants =
-    let served = chunks_served once is.sender is.receiver number is.s is.v few is.sends is.receives ((number + 255) / 256)
+drill_complete once one_state number answers counts few is wants =
+    let served = chunks_served once one_state is.sender is.receiver number is.s is.v few is.sends is.receives ((number + 255) / 256)
     (omega arith) is.t is.w answers counts is.chunks wants in
     let all : min number (256 * ((number + 255) / 256)) ≡ number = omega arith in
     served.counts_are ∙ ap (λ (m : ℕ). record { protected = m; accepted = m; rejected = (number + 255) / 256 }) all

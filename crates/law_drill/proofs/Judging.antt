@@ -7,7 +7,8 @@ use Rattle.frame_shield.specs.Protects.{Protects}
 use Rattle.frame_checks.specs.declared.open_reply.OpenReply.{OpenReply}
 use Rattle.frame_checks.specs.Header.{channel_of}
 use Rattle.frame_checks.specs.OpeningFrames.{IsOpenReply}
-use Rattle.law_drill.specs.Plans.{link_line, receiver_lines}
+use Rattle.law_drill.specs.Plans.{link_line}
+use Rattle.law_drill.proofs.Read.{receiver_bare}
 use Rattle.law_drill.proofs.Binding.{bound_to, clear_on, field_by}
 use Rattle.law_drill.proofs.Lanes.{each, four, key_on, row_on, state_at, suite_on}
 use Rattle.law_drill.proofs.Opening.{Judges, OpensOnce, judges}
@@ -16,14 +17,14 @@ abbrev pub receiving : (ℕ → ℕ) → (ℕ → ℕ) → State
 receiving highs floors = state_at 2 Receive (each 1) highs floors
 
 channel_on : (lane c d e : ℕ) (rest : List ℕ)
-    → channel_at receiver_lines.channels (record { link = 0; spacecraft = 1; channel = lane; map = None }) ≡ Some lane
-    → c / 2 ^ 2 ≡ lane → channel_of receiver_lines 0 link_line.layout (0 ∷ 1 ∷ c ∷ d ∷ e ∷ rest) ≡ Some lane
+    → channel_at receiver_bare.channels (record { link = 0; spacecraft = 1; channel = lane; map = None }) ≡ Some lane
+    → c / 2 ^ 2 ≡ lane → channel_of receiver_bare 0 link_line.layout (0 ∷ 1 ∷ c ∷ d ∷ e ∷ rest) ≡ Some lane
 channel_on lane c d e rest there same =
-    ap (λ (channel : ℕ). channel_at receiver_lines.channels (record { link = 0; spacecraft = 1; channel = channel; map = None })) same ∙ there
+    ap (λ (channel : ℕ). channel_at receiver_bare.channels (record { link = 0; spacecraft = 1; channel = channel; map = None })) same ∙ there
 
 pub judges_on : OpensOnce → (highs floors : ℕ → ℕ) (n s : ℕ) (g : ℕ → ℕ) (out field : List ℕ) (reply : OpenReply) (lane : ℕ) → lane < 4
     → Protects (bound_to 1 (lane + 1) (suite_on lane) (key_on lane) (lane + 1)) n (clear_on lane s (field_by g)) out
-    → IsOpenReply receiver_lines (receiving highs floors) 0 out reply field
+    → IsOpenReply receiver_bare (receiving highs floors) 0 out reply field
     → Judges (row_on Receive highs lane) (lane + 1) (key_on lane) n (field_by g) reply field
 judges_on once highs floors n s g out field reply = four _
     (judges once (receiving highs floors) 0 1 (suite_on 0) (key_on 0) 1 (row_on Receive highs 0) (omega arith) refl (λ rest. refl)

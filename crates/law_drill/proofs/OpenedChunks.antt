@@ -21,7 +21,7 @@ use Rattle.law_workers.specs.Opened.{IsJustOpened}
 use Rattle.drill_frames.specs.Counting.{count_accepted, count_code, count_fields, gives_field}
 use Rattle.drill_frames.specs.Frames.{data_field, open_task, open_tasks, replay_tasks}
 use Rattle.law_drill.specs.Drilled.{HandlesSegment, tells_want}
-use Rattle.law_drill.specs.Plans.{receiver_lines}
+use Rattle.law_drill.proofs.Read.{receiver_bare}
 use Rattle.law_drill.proofs.Judging.{receiving}
 use Rattle.law_drill.proofs.Lanes.{each}
 use Rattle.law_drill.proofs.Lists.{Below, From, all_counted, answers_all, ascend_then, deed_at, deeds_all, deeds_long, none_counted, pairs_all, zip_long}
@@ -164,7 +164,7 @@ pub record TakenAll (begin : Begin) (first now : View) (total chunks : ℕ) (oct
   pub few : length tasks ≤ total + chunks
 
 pub none_taken : (begin : Begin) (first : View) (octets : ℕ → List ℕ) → IsJustOpened begin first → begin.rows ≡ MOST_KEYS → IsWhole MOST_KEYS first
-    → Starts begin receiver_lines (receiving (each 0) (each 0)) → TakenAll begin first first 0 0 octets
+    → Starts begin receiver_bare (receiving (each 0) (each 0)) → TakenAll begin first first 0 0 octets
 none_taken begin first octets opened rows whole starts = record {
   tasks = [];
   deeds = [];
@@ -184,9 +184,10 @@ none_taken begin first octets opened rows whole starts = record {
   few = omega arith;
 }
 
--- One more chunk, from the frame at its front on. All its frames were sent, and no answer of the receiver tells want of memory.
+-- One more chunk, from the frame at its front on. All its frames were sent, and no answer of the receiver says that
+-- memory ran out.
 module _ (once : OpensOnce) (begin : Begin) (first now mid next : View) (chunk : ℕ) (octets longer : ℕ → List ℕ) (numbers : ℕ → ℕ)
-    (starts : Starts begin receiver_lines (receiving (each 0) (each 0))) (so_far : TakenAll begin first now (256 * chunk) chunk octets)
+    (starts : Starts begin receiver_bare (receiving (each 0) (each 0))) (so_far : TakenAll begin first now (256 * chunk) chunk octets)
     (head : Answer) (rest : List Answer) (codes : All IsSent (head ∷ rest)) (short : length (head ∷ rest) ≤ 256) (few : 256 * chunk + length
     (head ∷ rest) ≤ 100000)
     (same : (i : ℕ) → i < 256 * chunk → octets i ≡ longer i)
@@ -231,7 +232,7 @@ module _ (once : OpensOnce) (begin : Begin) (first now mid next : View) (chunk :
 
   all_opened : length opened ≡ length new
   all_opened =
-      let e = few_made IsTurn once receiver_layout begin first mid (old ++ new) _ done_mid starts.plan starts.start starts.told_is starts.slots_are starts.used_are
+      let e = few_made IsTurn once receiver_layout begin first mid (old ++ new) _ done_mid starts.plan starts.start
       total few_mid numbers longer sent handed_mid (all_lanes total longer (old ++ new) handed_mid) in
       all_answered begin now mid new opened opens.full opens.ends e
 
@@ -302,35 +303,32 @@ module _ (once : OpensOnce) (begin : Begin) (first now mid next : View) (chunk :
 
   all_again : length again ≡ 1
   all_again =
-      let e = few_made IsTurn once receiver_layout begin first next every _ done_all starts.plan starts.start starts.told_is starts.slots_are starts.used_are
+      let e = few_made IsTurn once receiver_layout begin first next every _ done_all starts.plan starts.start
       total few_all numbers longer sent handed_all (all_lanes total longer every handed_all) in
       all_answered begin mid next (repeated ∷ []) again replays_one.full replays_one.ends e
 
   -- ---- what is counted
 
   abbrev Opened : Record → Answer → Type 0
-  Opened task answer = WasOpened IsTurn once receiver_layout begin first next every every_deed done_all starts.plan starts.start starts.told_is starts.slots_are
-      starts.used_are
+  Opened task answer = WasOpened IsTurn once receiver_layout begin first next every every_deed done_all starts.plan starts.start
       total few_all numbers longer sent handed_all (all_lanes total longer every handed_all) task (task.index - chunk) answer
 
   abbrev FitsHere : Deed → Type 0
-  FitsHere deed = Fits (near IsTurn once receiver_layout begin first next every every_deed done_all starts.plan starts.start starts.told_is starts.slots_are
-      starts.used_are
+  FitsHere deed = Fits (near IsTurn once receiver_layout begin first next every every_deed done_all starts.plan starts.start
       total few_all numbers longer sent handed_all (all_lanes total longer every handed_all)) (course_in begin next) deed.task deed.answer
 
   all_fit : All FitsHere every_deed
-  all_fit = fits IsTurn once receiver_layout begin first next every every_deed done_all starts.plan starts.start starts.told_is starts.slots_are starts.used_are
+  all_fit = fits IsTurn once receiver_layout begin first next every every_deed done_all starts.plan starts.start
       total few_all numbers longer sent handed_all (all_lanes total longer every handed_all)
 
   -- a record that was answered well tells its entry
   abbrev Tells : Record → Answer → Type 0
-  Tells task answer = TellsEntry IsTurn once receiver_layout begin first next every every_deed done_all starts.plan starts.start starts.told_is starts.slots_are
-      starts.used_are
+  Tells task answer = TellsEntry IsTurn once receiver_layout begin first next every every_deed done_all starts.plan starts.start
       total few_all numbers longer sent handed_all (all_lanes total longer every handed_all) task answer
 
   tells_so : (deed : Deed) → Handed IsTurn total longer deed.task → FitsHere deed → IsGood deed.answer → Tells deed.task deed.answer
   tells_so deed hand fit good =
-      entry_told IsTurn once receiver_layout begin first next every every_deed done_all starts.plan starts.start starts.told_is starts.slots_are starts.used_are
+      entry_told IsTurn once receiver_layout begin first next every every_deed done_all starts.plan starts.start
       total few_all numbers longer sent handed_all
       (all_lanes total longer every handed_all) deed.task hand deed.answer fit good.no_fault good.not_stopped good.not_wanting
 
@@ -348,10 +346,9 @@ module _ (once : OpensOnce) (begin : Begin) (first now mid next : View) (chunk :
       let fit = all_right FitsHere old_deeds new_deeds (all_left FitsHere (old_deeds ++ new_deeds) (deeds_of 0 (repeated ∷ []) again) all_fit) j d low in
       let ahead = is.ahead in
       let frame : is.hand.frame ≡ deed.task.index - chunk = omega arith in
-      subst (λ (i : ℕ). WasOpened IsTurn once receiver_layout begin first next every every_deed done_all starts.plan starts.start starts.told_is starts.slots_are
-      starts.used_are
+      subst (λ (i : ℕ). WasOpened IsTurn once receiver_layout begin first next every every_deed done_all starts.plan starts.start
       total few_all numbers longer sent handed_all (all_lanes total longer every handed_all) deed.task i deed.answer) frame
-      (opened_by IsTurn once receiver_layout begin first next every every_deed done_all starts.plan starts.start starts.told_is starts.slots_are starts.used_are
+      (opened_by IsTurn once receiver_layout begin first next every every_deed done_all starts.plan starts.start
       total few_all numbers longer sent handed_all (all_lanes total longer every handed_all) (λ frame index turn. turn) deed.task is.hand deed.answer is.first_time there
       (tells_so deed is.hand fit good))
 
@@ -378,8 +375,7 @@ module _ (once : OpensOnce) (begin : Begin) (first now mid next : View) (chunk :
       }
 
   abbrev OpenedFrame : Record → ℕ → Answer → Type 0
-  OpenedFrame task frame answer = WasOpened IsTurn once receiver_layout begin first next every every_deed done_all starts.plan starts.start starts.told_is
-      starts.slots_are starts.used_are
+  OpenedFrame task frame answer = WasOpened IsTurn once receiver_layout begin first next every every_deed done_all starts.plan starts.start
       total few_all numbers longer sent handed_all (all_lanes total longer every handed_all) task frame answer
 
   first_opened : OpenedFrame first_open (256 * chunk) (at opened 0)
@@ -414,7 +410,7 @@ module _ (once : OpensOnce) (begin : Begin) (first now mid next : View) (chunk :
       let fit = all_right FitsHere (old_deeds ++ new_deeds) (deeds_of 0 (repeated ∷ []) again) all_fit j d low in
       let hand : Handed IsTurn total longer deed.task = subst (λ (t : Record). Handed IsTurn total longer t) (sym is) repeated_hand in
       let tells : Tells repeated deed.answer = subst (λ (t : Record). Tells t deed.answer) is (tells_so deed hand fit good) in
-      replayed_by IsTurn once receiver_layout begin first next every every_deed done_all starts.plan starts.start starts.told_is starts.slots_are starts.used_are
+      replayed_by IsTurn once receiver_layout begin first next every every_deed done_all starts.plan starts.start
       total few_all numbers longer sent handed_all (all_lanes total longer every handed_all) first_open repeated first_hand repeated_hand deed.answer
       (at opened 0)
       first_among repeated_among refl (omega arith) first_opened tells

@@ -27,7 +27,8 @@ use Rattle.frame_checks.specs.declared.open_reply.OpenReply.TheVariants.{Accepte
 use Rattle.frame_checks.specs.Binding.{binding_of}
 use Rattle.frame_checks.specs.Header.{channel_of, is_clear}
 use Rattle.frame_checks.specs.OpeningFrames.{IsJudged, IsOpenedUnder, IsOpenReply, IsReplyOn, IsReplyUnder, IsToldOr, association_checks, association_in}
-use Rattle.law_drill.specs.Plans.{link_line, receiver_lines}
+use Rattle.law_drill.specs.Plans.{link_line}
+use Rattle.law_drill.proofs.Read.{receiver_bare}
 use Rattle.law_drill.proofs.Binding.{bound_to, clear_on, field_by}
 
 -- a frame opens to at most one number and data field
@@ -74,9 +75,9 @@ module _ (once : OpensOnce) (state : State) (channel spi : ℕ) (suite : Suite) 
     (low : channel < 4)
     (index : to_be_bytes w16 spi ≡ 0 ∷ spi ∷ [])
     (named : (rest : List ℕ) → association_in state (0 ∷ spi ∷ rest) ≡ Some row)
-    (on : (c d e : ℕ) (rest : List ℕ) → c / 2 ^ 2 ≡ channel → channel_of receiver_lines 0 link_line.layout (0 ∷ 1 ∷ c ∷ d ∷ e ∷ rest) ≡ Some channel)
+    (on : (c d e : ℕ) (rest : List ℕ) → c / 2 ^ 2 ≡ channel → channel_of receiver_bare 0 link_line.layout (0 ∷ 1 ∷ c ∷ d ∷ e ∷ rest) ≡ Some channel)
     (passes : first_failing (association_checks row channel) ≡ None)
-    (binds : binding_of receiver_lines state link_line row ≡ Some (bound_to 2 spi suite key octet)) where
+    (binds : binding_of receiver_bare state link_line row ≡ Some (bound_to 2 spi suite key octet)) where
   abbrev sends : Binding
   sends = bound_to 1 spi suite key octet
 
@@ -153,7 +154,7 @@ module _ (once : OpensOnce) (state : State) (channel spi : ℕ) (suite : Suite) 
 
   replied : (n s : ℕ) (room out own field rest : List ℕ) (reply : OpenReply)
       → TcFrame (record { segment = false; fecf = true; most = 1024 }) (plain channel s room) out
-      → room ≡ 0 ∷ spi ∷ rest → Opens receives out n own → IsReplyOn receiver_lines state 0 out reply field link_line
+      → room ≡ 0 ∷ spi ∷ rest → Opens receives out n own → IsReplyOn receiver_bare state 0 out reply field link_line
       → Judges row spi key n own reply field
   replied n s room out own field rest reply framed begins opens r =
       let none : first_fault link_line.layout out ≡ None = no_fault link_line.layout (tc (plain channel s room)) out framed in
@@ -161,22 +162,22 @@ module _ (once : OpensOnce) (state : State) (channel spi : ℕ) (suite : Suite) 
       let same_parts = one_frame link_line.layout has.parts (tc (plain channel s room)) out has.framed framed in
       let same_room : r.room ≡ 0 ∷ spi ∷ rest = has.room_is ∙ (ap room_of same_parts ∙ begins) in
       let octets = front s room out framed in
-      let on_channel : channel_of receiver_lines 0 link_line.layout out ≡ Some channel =
-      ap (channel_of receiver_lines 0 link_line.layout) octets.3 ∙ on octets.0 octets.1 s octets.2 octets.4 in
+      let on_channel : channel_of receiver_bare 0 link_line.layout out ≡ Some channel =
+      ap (channel_of receiver_bare 0 link_line.layout) octets.3 ∙ on octets.0 octets.1 s octets.2 octets.4 in
       let in_clear : is_clear link_line.layout out ≡ false = ap (is_clear link_line.layout) octets.3 in
       let names : association_in state r.room ≡ Some row = ap (association_in state) same_room ∙ named rest in
       let long : nat_lt (length r.room) 2 ≡ false = le-ltb (length r.room) 2 (omega (arith, ap length same_room)) in
       let passed = none_failing _ _ _ _ _ _ (faultless _ none) in_clear long (none_there channel _ on_channel) (none_there row _ names) in
-      let under : IsReplyUnder receiver_lines state 0 link_line out r.room reply field =
-      subst (λ (o : Option OpenReply). IsToldOr o reply (IsReplyUnder receiver_lines state 0 link_line out r.room reply field)) passed r.told in
+      let under : IsReplyUnder receiver_bare state 0 link_line out r.room reply field =
+      subst (λ (o : Option OpenReply). IsToldOr o reply (IsReplyUnder receiver_bare state 0 link_line out r.room reply field)) passed r.told in
       let same_channel : under.channel ≡ channel = some_same under.channel channel _ under.on on_channel in
       let same_row : under.row ≡ row = some_same under.row row _ under.named names in
       let told = subst (λ (c : ℕ). IsToldOr (first_failing (association_checks row c)) reply
-      (IsOpenedUnder receiver_lines state link_line row out reply field)) same_channel
+      (IsOpenedUnder receiver_bare state link_line row out reply field)) same_channel
       (subst (λ (x : SaRow). IsToldOr (first_failing (association_checks x under.channel)) reply
-      (IsOpenedUnder receiver_lines state link_line x out reply field)) same_row under.told) in
-      let opened : IsOpenedUnder receiver_lines state link_line row out reply field =
-      subst (λ (o : Option OpenReply). IsToldOr o reply (IsOpenedUnder receiver_lines state link_line row out reply field)) passes told in
+      (IsOpenedUnder receiver_bare state link_line x out reply field)) same_row under.told) in
+      let opened : IsOpenedUnder receiver_bare state link_line row out reply field =
+      subst (λ (o : Option OpenReply). IsToldOr o reply (IsOpenedUnder receiver_bare state link_line row out reply field)) passes told in
       let bound : opened.binding ≡ receives = some_same opened.binding receives _ opened.bound binds in
       judged n out own field opens reply (subst (λ (b : Binding). IsJudged row b out reply field) bound opened.judged)
 
@@ -185,7 +186,7 @@ module _ (once : OpensOnce) (state : State) (channel spi : ℕ) (suite : Suite) 
   number_back suites.Gcm device n = refl
 
   pub judges : (n s : ℕ) (g : ℕ → ℕ) (out field : List ℕ) (reply : OpenReply) → Protects sends n (clear_on channel s (field_by g)) out
-      → IsOpenReply receiver_lines state 0 out reply field → Judges row spi key n (field_by g) reply field
+      → IsOpenReply receiver_bare state 0 out reply field → Judges row spi key n (field_by g) reply field
   judges n s g out field reply is replies =
       let parts = clear_parts s g is.parts is.clear_framed in
       let framed : TcFrame (record { segment = false; fecf = true; most = 1024 }) (plain channel s is.room) out =

@@ -1,5 +1,5 @@
 -- What the receiver of a drill answers: it accepts each frame the first time, and refuses its number the second time.
-use Rattle.std.proofs.Common.{◌≡◌, ◌≢◌, ◌⊎◌, ℕ, zero, suc, ◌+◌, ◌-◌, ◌/◌, ◌%◌, ◌<◌, ◌≤◌, if◌then◌else◌, nat_eq, Bool, true, false, IsTrue, List, [], ◌∷◌, ◌++◌, length, take, map, get_or, Option, None, Some, refl, sym, ◌∙◌, ap, subst, inl, inr, ⊎_elim, arith, Contains}
+use Rattle.std.proofs.Common.{◌≡◌, ◌≢◌, ◌⊎◌, ℕ, zero, suc, ◌+◌, ◌-◌, ◌/◌, ◌%◌, ◌<◌, ◌≤◌, if◌then◌else◌, nat_eq, Bool, true, false, List, [], ◌∷◌, ◌++◌, length, take, map, get_or, Option, None, Some, refl, sym, ◌∙◌, ap, subst, inl, inr, ⊎_elim, arith, Contains}
 use Rattle.std.specs.List.{All, slice_get}
 use Rattle.std.proofs.lemmas.Bool.{cases_lt, eqb-true}
 use Rattle.std.proofs.lemmas.Bool.Decides.{nat_tests}
@@ -29,10 +29,9 @@ use Rattle.frame_checks.specs.OpeningFrames.{IsOpenReply}
 use Rattle.run_promise.specs.Answers.{Told, told_by, opened_told}
 use Rattle.run_promise.specs.Counts.{draws, drawers, is_none_index, reserves_of}
 use Rattle.run_promise.specs.Entries.{frame_change, frame_entry, raised_floor}
-use Rattle.run_promise.specs.Fits.{Course, Fits, FitsKind, IsFull, IsOpenAnswer}
+use Rattle.run_promise.specs.Fits.{Course, Fits, FitsKind, IsOpenAnswer}
 use Rattle.run_promise.specs.Legal.{IsLegal, IsOpening}
 use Rattle.run_promise.specs.Run.{NearWord}
-use Rattle.run_promise.specs.Stored.{stored_count}
 use Rattle.run_promise.specs.Begin.{Begin}
 use Rattle.run_promise.specs.Deed.{Deed}
 use Rattle.law_workers.specs.Deeds.{Does, course_in}
@@ -41,7 +40,7 @@ use Rattle.law_workers.specs.Views.{entries_in}
 use Rattle.law_workers.proofs.WholeRun.{rules_at_end, IsHistory, answers_fit, legal}
 use Rattle.law_workers.proofs.Counting.{entries_in_order, few_entries, few_reserves}
 use Rattle.drill_frames.specs.Frames.{clear_frame, data_field, field_octet, field_octets, open_task}
-use Rattle.law_drill.specs.Plans.{receiver_lines}
+use Rattle.law_drill.proofs.Read.{receiver_bare}
 use Rattle.law_drill.proofs.Accepting.{Taken, none_taken, taken_more, taken_nothing}
 use Rattle.law_drill.proofs.Binding.{bound_to, field_by}
 use Rattle.law_drill.proofs.Judging.{judges_on, receiving}
@@ -101,8 +100,7 @@ reserve_counts (one ∷ es) zero entry there none =
 reserve_counts (one ∷ es) (suc p) entry there none = let h = reserve_counts es p entry there none in omega arith
 
 module _ (IsAt : ℕ → ℕ → Type 0) (once : OpensOnce) (layout : Layout) (begin : Begin) (first now : View) (tasks : List Record) (deeds : List Deed)
-    (done : Done layout begin first now tasks deeds) (plan : begin.plan ≡ receiver_lines) (start : begin.start ≡ receiving (each 0) (each 0))
-    (told : begin.told ≡ true) (slots : begin.slots ≡ 8192) (used : begin.used ≡ 0)
+    (done : Done layout begin first now tasks deeds) (plan : begin.plan ≡ receiver_bare) (start : begin.start ≡ receiving (each 0) (each 0))
     (total : ℕ) (few : length tasks ≤ 200000) (numbers : ℕ → ℕ) (octets : ℕ → List ℕ) (sent : AreSent total numbers octets)
     (handed : All (Handed IsAt total octets) tasks) (lanes : All (λ (task : Record). layout.lane_of task.index ≡ task.lane) tasks) where
   abbrev pub entries : List Entry
@@ -123,10 +121,10 @@ module _ (IsAt : ℕ → ℕ → Type 0) (once : OpensOnce) (layout : Layout) (b
 
   -- each entry is that of a frame that was opened
   opening_at : (p : ℕ) (entry : Entry) → slice_get entries p ≡ Some entry
-      → IsOpening receiver_lines (after (receiving (each 0) (each 0)) (take p entries)) tasks entry
+      → IsOpening receiver_bare (after (receiving (each 0) (each 0)) (take p entries)) tasks entry
   opening_at p entry there =
-      let legal_so : IsLegal near receiver_lines (after (receiving (each 0) (each 0)) (take p entries)) tasks entry =
-      subst (λ (s : State). IsLegal near receiver_lines (after s (take p entries)) tasks entry) start
+      let legal_so : IsLegal near receiver_bare (after (receiving (each 0) (each 0)) (take p entries)) tasks entry =
+      subst (λ (s : State). IsLegal near receiver_bare (after s (take p entries)) tasks entry) start
       (subst (λ (l : PlanLines). IsLegal near l (after begin.start (take p entries)) tasks entry) plan (history.each p entry there)) in
       elim legal_so [
         | inl opening ↦ opening
@@ -158,7 +156,7 @@ module _ (IsAt : ℕ → ℕ → Type 0) (once : OpensOnce) (layout : Layout) (b
 
   -- The history up to a place: the highest number of each lane is one that was accepted, and none accepted is above it.
   pub record Took (p : ℕ) (es : List Entry) : Type 0 where
-    pub taken : Taken es 100001
+    pub taken : Taken es
     pub from : (lane : ℕ) → lane < 4 → (taken.highs lane ≡ 0) ⊎ OfFrame p lane (taken.highs lane)
     pub above : (place lane number : ℕ) → place < p → lane < 4 → Accepts place lane number → number ≤ taken.highs lane
 
@@ -177,15 +175,15 @@ module _ (IsAt : ℕ → ℕ → Type 0) (once : OpensOnce) (layout : Layout) (b
   }
 
   -- what the receiver replies to a record in the state after some entries
-  replies_to : (p : ℕ) (t : Taken (take p entries) 100001) (task : Record) (hand : Handed IsAt total octets task) (reply : OpenReply) (field : List ℕ)
-      → IsOpenReply receiver_lines (after (receiving (each 0) (each 0)) (take p entries)) task.link task.octets reply field
+  replies_to : (p : ℕ) (t : Taken (take p entries)) (task : Record) (hand : Handed IsAt total octets task) (reply : OpenReply) (field : List ℕ)
+      → IsOpenReply receiver_bare (after (receiving (each 0) (each 0)) (take p entries)) task.link task.octets reply field
       → Judges (row_on Receive t.highs (hand.frame % 4)) (hand.frame % 4 + 1) (key_on (hand.frame % 4)) (numbers hand.frame)
       (data_field hand.frame) reply field
   replies_to p t task hand reply field is =
       let i = hand.frame in
-      let same : IsOpenReply receiver_lines (receiving t.highs t.floors) 0 (octets i) reply field =
-      subst (λ (s : State). IsOpenReply receiver_lines s 0 (octets i) reply field) t.is
-      (subst (λ (r : Record). IsOpenReply receiver_lines (after (receiving (each 0) (each 0)) (take p entries)) r.link r.octets reply field) hand.is is) in
+      let same : IsOpenReply receiver_bare (receiving t.highs t.floors) 0 (octets i) reply field =
+      subst (λ (s : State). IsOpenReply receiver_bare s 0 (octets i) reply field) t.is
+      (subst (λ (r : Record). IsOpenReply receiver_bare (after (receiving (each 0) (each 0)) (take p entries)) r.link r.octets reply field) hand.is is) in
       let protects = subst (λ (c : List ℕ). Protects (bound_to 1 (i % 4 + 1) (suite_on (i % 4)) (key_on (i % 4)) (i % 4 + 1)) (numbers i) c (octets i))
       (clear_is i)
       (sent.protects i hand.within) in
@@ -218,7 +216,7 @@ module _ (IsAt : ℕ → ℕ → Type 0) (once : OpensOnce) (layout : Layout) (b
   old_by false lane other number new old e low up = low
 
   module _ (p : ℕ) (entry : Entry) (there : slice_get entries p ≡ Some entry) (before : Took p (take p entries)) where
-    abbrev opening : IsOpening receiver_lines (after (receiving (each 0) (each 0)) (take p entries)) tasks entry
+    abbrev opening : IsOpening receiver_bare (after (receiving (each 0) (each 0)) (take p entries)) tasks entry
     opening = opening_at p entry there
 
     abbrev hand : Handed IsAt total octets opening.task
@@ -242,13 +240,12 @@ module _ (IsAt : ℕ → ℕ → Type 0) (once : OpensOnce) (layout : Layout) (b
         → Took (suc p) (take p entries ++ entry ∷ [])
     took_number from to reply fresh =
         let state = after (receiving (each 0) (each 0)) (take p entries) in
-        let change : entry.change ≡ changes.Accepted (lane + 1) (key_on lane) number (raised_floor receiver_lines (receiving highs before.taken.floors)
+        let change : entry.change ≡ changes.Accepted (lane + 1) (key_on lane) number (raised_floor receiver_bare (receiving highs before.taken.floors)
         (key_on lane) number) =
         ap (λ (e : Entry). e.change) opening.entry_is
-        ∙ (ap (frame_change receiver_lines state) reply
-        ∙ ap (λ (s : State). changes.Accepted (lane + 1) (key_on lane) number (raised_floor receiver_lines s (key_on lane) number)) before.taken.is) in
-        let most = sent.most hand.frame hand.within in
-        let step = taken_more (take p entries) 100001 entry lane number (omega arith) most (omega arith) before.taken change in
+        ∙ (ap (frame_change receiver_bare state) reply
+        ∙ ap (λ (s : State). changes.Accepted (lane + 1) (key_on lane) number (raised_floor receiver_bare s (key_on lane) number)) before.taken.is) in
+        let step = taken_more (take p entries) entry lane number _ (omega arith) before.taken change in
         let mine : OfFrame (suc p) lane number = record {
           place = p;
           before = omega arith;
@@ -270,7 +267,7 @@ module _ (IsAt : ℕ → ℕ → Type 0) (once : OpensOnce) (layout : Layout) (b
           | inr later_place ↦
               let at : place ≡ p = omega arith in
               let it = subst (λ (x : ℕ). Accepts x other n) at accepts in
-              let twice : changes.Accepted it.2 (key_on other) n it.3 ≡ changes.Accepted (lane + 1) (key_on lane) number (raised_floor receiver_lines
+              let twice : changes.Accepted it.2 (key_on other) n it.3 ≡ changes.Accepted (lane + 1) (key_on lane) number (raised_floor receiver_bare
               (receiving highs before.taken.floors) (key_on lane) number) =
               sym it.4 ∙ (by_entry (λ (e : Entry). e.change) there it.0 it.1 ∙ change) in
               let keys : key_on lane ≡ key_on other = (let t = twice in cc) in
@@ -287,7 +284,7 @@ module _ (IsAt : ℕ → ℕ → Type 0) (once : OpensOnce) (layout : Layout) (b
 
     took_nothing : entry.change ≡ changes.Nothing → Took (suc p) (take p entries ++ entry ∷ [])
     took_nothing change =
-        let step = taken_nothing (take p entries) 100001 entry change before.taken in
+        let step = taken_nothing (take p entries) entry change before.taken in
         let from_now : FromAll (suc p) highs = λ other is_lane. ⊎_elim (λ none. inl none) (λ is. inr (further p other (highs other) is))
         (before.from other is_lane) in
         let above_now : AboveAll (suc p) highs = λ place other n low is_lane accepts. elim (cases_lt place p) [
@@ -309,12 +306,12 @@ module _ (IsAt : ℕ → ℕ → Type 0) (once : OpensOnce) (layout : Layout) (b
     took_next = elim (replies_to p before.taken opening.task hand opening.reply opening.field opening.replies) [
       | takes from to reply field fresh ↦ took_number from to reply fresh
       | refuses high width reply stale ↦ took_nothing (ap (λ (e : Entry). e.change) opening.entry_is
-          ∙ ap (frame_change receiver_lines (after (receiving (each 0) (each 0)) (take p entries))) reply)
+          ∙ ap (frame_change receiver_bare (after (receiving (each 0) (each 0)) (take p entries))) reply)
     ]
 
   pub took : (p : ℕ) → p ≤ length entries → Took p (take p entries)
   took zero within = record {
-    taken = none_taken 100001;
+    taken = none_taken;
     from = λ lane is_lane. inl refl;
     above = λ place lane number low is_lane accepts. absurd (omega arith);
   }
@@ -335,9 +332,9 @@ module _ (IsAt : ℕ → ℕ → Type 0) (once : OpensOnce) (layout : Layout) (b
   pub record TellsEntry (task : Record) (answer : Answer) : Type 0 where
     pub reply : OpenReply
     pub field : List ℕ
-    pub replies : IsOpenReply receiver_lines (after (receiving (each 0) (each 0)) (take (answer.position - 1) entries)) task.link task.octets reply field
+    pub replies : IsOpenReply receiver_bare (after (receiving (each 0) (each 0)) (take (answer.position - 1) entries)) task.link task.octets reply field
     pub there : slice_get entries (answer.position - 1)
-        ≡ Some (frame_entry receiver_lines (after (receiving (each 0) (each 0)) (take (answer.position - 1) entries)) task.index reply)
+        ≡ Some (frame_entry receiver_bare (after (receiving (each 0) (each 0)) (take (answer.position - 1) entries)) task.index reply)
     pub tells : told_by answer ≡ opened_told reply field
 
   tells_entry : (task : Record) (answer : Answer) → IsOpenAnswer course task answer → TellsEntry task answer
@@ -346,9 +343,9 @@ module _ (IsAt : ℕ → ℕ → Type 0) (once : OpensOnce) (layout : Layout) (b
       record {
         reply = is.reply;
         field = is.field;
-        replies = subst (λ (s : State). IsOpenReply receiver_lines (after s (take place entries)) task.link task.octets is.reply is.field) start
+        replies = subst (λ (s : State). IsOpenReply receiver_bare (after s (take place entries)) task.link task.octets is.reply is.field) start
             (subst (λ (l : PlanLines). IsOpenReply l (after begin.start (take place entries)) task.link task.octets is.reply is.field) plan is.replies);
-        there = subst (λ (s : State). slice_get entries place ≡ Some (frame_entry receiver_lines (after s (take place entries)) task.index is.reply)) start
+        there = subst (λ (s : State). slice_get entries place ≡ Some (frame_entry receiver_bare (after s (take place entries)) task.index is.reply)) start
             (subst (λ (l : PlanLines). slice_get entries place ≡ Some (frame_entry l (after begin.start
             (take place entries)) task.index is.reply)) plan is.stands.there);
         tells = is.told;
@@ -443,12 +440,12 @@ module _ (IsAt : ℕ → ℕ → Type 0) (once : OpensOnce) (layout : Layout) (b
               code = ap (λ (x : Told). x.code) tells;
               body = ap (λ (x : Told). x.body) tells ∙ field;
               place = place;
-              entry = frame_entry receiver_lines state task.index is.reply;
+              entry = frame_entry receiver_bare state task.index is.reply;
               there = is.there;
               index = refl;
               spi = hand.frame % 4 + 1;
-              floor = raised_floor receiver_lines state (key_on (hand.frame % 4)) (numbers hand.frame);
-              change = ap (frame_change receiver_lines state) reply;
+              floor = raised_floor receiver_bare state (key_on (hand.frame % 4)) (numbers hand.frame);
+              change = ap (frame_change receiver_bare state) reply;
             }
         | refuses high width reply stale ↦ absurd (stale (fresh_number turn place _ task hand first_time among is.there refl t))
       ]
@@ -484,23 +481,7 @@ module _ (IsAt : ℕ → ℕ → Type 0) (once : OpensOnce) (layout : Layout) (b
         | refuses top width reply stale ↦ ap (λ (x : Told). x.code) (is.tells ∙ ap (λ (r : OpenReply). opened_told r is.field) reply)
       ]
 
-  not_full : (task : Record) (answer : Answer) → IsFull near course task answer → ⊥
-  not_full task answer is =
-      let full = is.full (told_true told) in
-      let t = (took answer.position is.within).taken in
-      let a = t.low 0 (omega arith) in
-      let b = t.low 1 (omega arith) in
-      let c = t.low 2 (omega arith) in
-      let d = t.low 3 (omega arith) in
-      let stored = t.stored in
-      let same : stored_count begin.start (take answer.position entries) ≡ stored_count (receiving (each 0) (each 0)) (take answer.position entries) =
-      ap (λ (s : State). stored_count s (take answer.position entries)) start in
-      omega arith
-    where
-      told_true : begin.told ≡ true → IsTrue begin.told
-      told_true h = h
-
-  -- an answer that tells no fault and no want of memory tells the record's entry
+  -- an answer that says no fault, and not that memory ran out, tells the record's entry
   pub entry_told : (task : Record) (hand : Handed IsAt total octets task) (answer : Answer) → Fits near course task answer → answer.code ≢ codes_of.SITE_FAULT
       → answer.code ≢ codes_of.STOPPED → answer.code ≢ codes_of.NO_MEMORY → TellsEntry task answer
   entry_told task hand answer fits no_fault not_stopped not_wanting =
@@ -508,10 +489,9 @@ module _ (IsAt : ℕ → ℕ → Type 0) (once : OpensOnce) (layout : Layout) (b
       let is : FitsKind near course task answer Open = subst (FitsKind near course task answer) kind fits in
       elim is [
         | inl is ↦ tells_entry task answer is
-        | inr (inl is) ↦ absurd (not_full task answer is)
-        | inr (inr (inl is)) ↦ absurd (no_fault (ap (λ (t : Told). t.code) is.tells.told))
-        | inr (inr (inr (inl is))) ↦ absurd (not_stopped (ap (λ (t : Told). t.code) is.tells.told))
-        | inr (inr (inr (inr is))) ↦ absurd (not_wanting (ap (λ (t : Told). t.code) is.told))
+        | inr (inl is) ↦ absurd (no_fault (ap (λ (t : Told). t.code) is.tells.told))
+        | inr (inr (inl is)) ↦ absurd (not_stopped (ap (λ (t : Told). t.code) is.tells.told))
+        | inr (inr (inr is)) ↦ absurd (not_wanting (ap (λ (t : Told). t.code) is.told))
       ]
 
   pub fits : All (λ (deed : Deed). Fits near course deed.task deed.answer) deeds

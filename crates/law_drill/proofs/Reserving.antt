@@ -12,7 +12,7 @@ use Rattle.unit_state.specs.Restart.{counts}
 use Rattle.unit_state.proofs.Histories.{after_more, epochs_more}
 use Rattle.run_promise.specs.Legal.{IsReserve}
 use Rattle.run_promise.specs.Numbers.{mark_of, floor_of, reserve_of}
-use Rattle.law_drill.specs.Plans.{sender_lines}
+use Rattle.law_drill.proofs.Read.{sender_bare}
 use Rattle.law_drill.proofs.Lanes.{each, end_on, floor_on, four, key_lane, key_on, mark_on, marked_on, state_at, with_on}
 
 abbrev pub sending : (ℕ → ℕ) → State
@@ -47,7 +47,7 @@ sum_with : (marks : ℕ → ℕ) (x lane : ℕ) → lane < 4 → all_marks (with
 sum_with marks x = four _ (omega arith) (omega arith) (omega arith) (omega arith)
 
 same_reserve : (marks : ℕ → ℕ) (number lane : ℕ) → lane < 4 → number + 64 ≤ end_of (key_on lane)
-    → (reserve_of sender_lines (sending marks) (key_on lane) number).change ≡ Marks (key_on lane) (number + 64) 0
+    → (reserve_of sender_bare (sending marks) (key_on lane) number).change ≡ Marks (key_on lane) (number + 64) 0
 same_reserve marks number lane low below =
     let most : min (number + 64) (end_of (key_on lane)) ≡ number + 64 = omega arith in
     ap (λ (m : ℕ). Marks (key_on lane) m (floor_of (sending marks) (key_on lane))) most
@@ -56,10 +56,10 @@ same_reserve marks number lane low below =
 -- one reserve more
 pub reserved_more : (near : ℕ → ℕ → Type 0) (es : List Entry) (bound : ℕ) (entry : Entry) → bound ≤ 200000
     → ((lane number : ℕ) → lane < 4 → near (key_on lane) number → number ≤ bound)
-    → Reserved es bound → IsReserve near sender_lines (after (sending (each 1)) es) entry → Reserved (es ++ entry ∷ []) bound
+    → Reserved es bound → IsReserve near sender_bare (after (sending (each 1)) es) entry → Reserved (es ++ entry ∷ []) bound
 reserved_more near es bound entry small near_low so_far reserves =
     let marks = so_far.marks in
-    let r : IsReserve near sender_lines (sending marks) entry = subst (λ (s : State). IsReserve near sender_lines s entry) so_far.is reserves in
+    let r : IsReserve near sender_bare (sending marks) entry = subst (λ (s : State). IsReserve near sender_bare s entry) so_far.is reserves in
     let (lane, low, same) = key_lane 1 Send marks (each 0) (each 0) r.key r.there in
     let number = r.number in
     let is_near : near (key_on lane) number = subst (λ (k : ℕ). near k number) (sym same) r.is_near in
@@ -69,7 +69,7 @@ reserved_more near es bound entry small near_low so_far reserves =
     let end = end_on lane low in
     let change : entry.change ≡ Marks (key_on lane) (number + 64) 0 =
     ap (λ (e : Entry). e.change) r.entry_is
-    ∙ (ap (λ (k : ℕ). (reserve_of sender_lines (sending marks) k number).change) (sym same) ∙ same_reserve marks number lane low (omega arith)) in
+    ∙ (ap (λ (k : ℕ). (reserve_of sender_bare (sending marks) k number).change) (sym same) ∙ same_reserve marks number lane low (omega arith)) in
     let next : after (sending (each 1)) (es ++ entry ∷ []) ≡ sending (with_on lane (number + 64) marks) =
     after_more (sending (each 1)) es (entry ∷ [])
     ∙ (ap (λ (s : State). applied s entry.change) so_far.is

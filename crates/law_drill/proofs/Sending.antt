@@ -1,5 +1,5 @@
--- What the sender of a drill answers: each frame is protected, where no memory was wanting and its site did not fail.
-use Rattle.std.proofs.Common.{◌≡◌, ◌≢◌, ℕ, zero, suc, ◌+◌, ◌%◌, ◌<◌, ◌≤◌, Bool, true, false, IsTrue, List, [], ◌∷◌, ◌++◌, length, take, map, get_or, Option, None, Some, Ok, refl, sym, ◌∙◌, ap, subst, inl, inr, ⊎_elim, arith, cond}
+-- What the sender of a drill answers: each frame is protected, if memory did not run out and its site did not fail.
+use Rattle.std.proofs.Common.{◌≡◌, ◌≢◌, ℕ, zero, suc, ◌+◌, ◌%◌, ◌<◌, ◌≤◌, Bool, true, false, List, [], ◌∷◌, ◌++◌, length, take, map, get_or, Option, None, Some, Ok, refl, sym, ◌∙◌, ap, subst, inl, inr, ⊎_elim, arith, cond}
 use Rattle.std.specs.List.{All, slice_get}
 use Rattle.std.proofs.lemmas.List.{length-take, take_all, take_more}
 use Rattle.std.proofs.lemmas.List.Elements.{All-contains}
@@ -21,19 +21,17 @@ use Rattle.unit_plan.specs.PlanLines.{PlanLines}
 use Rattle.unit_plan.specs.PlanRules.{IsPlan}
 use Rattle.unit_state.specs.declared.state.State.{State}
 use Rattle.unit_state.specs.State.{KeepsRules}
-use Rattle.unit_state.specs.Applied.{applied}
 use Rattle.unit_state.specs.History.{after, at_epoch, epoch_after}
 use Rattle.frame_shield.specs.declared.binding.Binding.{Binding}
 use Rattle.frame_shield.specs.Protects.{Protects}
 use Rattle.frame_checks.specs.ProtectingFrames as protecting
 use Rattle.run_promise.specs.Answers.{Told, told_by, unbound_told}
 use Rattle.run_promise.specs.Counts.{drawers, draws}
-use Rattle.run_promise.specs.Fits.{Course, Fits, IsBound, IsExhausted, IsFull, IsProtected, IsUnbound}
+use Rattle.run_promise.specs.Fits.{Course, Fits, IsBound, IsExhausted, IsProtected, IsUnbound}
 use Rattle.run_promise.specs.Legal.{IsLegal, IsReserve}
 use Rattle.run_promise.specs.Numbers.{mark_of}
 use Rattle.run_promise.specs.ProtectingFrames.{protect_reply}
 use Rattle.run_promise.specs.Run.{IsAskedFor, NearWord}
-use Rattle.run_promise.specs.Stored.{IsStored, stored_count}
 use Rattle.run_promise.specs.Begin.{Begin}
 use Rattle.run_promise.specs.Deed.{Deed}
 use Rattle.law_workers.specs.Deeds.{Does, course_in}
@@ -43,7 +41,7 @@ use Rattle.law_workers.specs.Work.{indexed}
 use Rattle.law_workers.specs.Opened.{IsJustOpened}
 use Rattle.law_workers.proofs.WholeRun.{rules_at_end, IsHistory, answers_fit, legal}
 use Rattle.drill_frames.specs.Frames.{clear_frame, field_octet, field_octets, protect_task}
-use Rattle.law_drill.specs.Plans.{sender_lines}
+use Rattle.law_drill.proofs.Read.{sender_bare}
 use Rattle.law_drill.proofs.Binding.{bound_on, bound_to, clear_on, field_by}
 use Rattle.law_drill.proofs.Lanes.{each, end_on, key_on, mark_on, suite_on}
 use Rattle.law_drill.proofs.Reserving.{Reserved, none_reserved, reserved_more, sending}
@@ -61,14 +59,6 @@ pub record Done (layout : Layout) (begin : Begin) (first now : View) (tasks : Li
 pub drawers_few : (tasks : List Record) → drawers tasks ≤ length tasks
 drawers_few [] = omega arith
 drawers_few (task ∷ tasks) = let h = drawers_few tasks in one (draws task.kind) (drawers tasks) (length tasks) h
-  where
-    one : (b : Bool) (m n : ℕ) → m ≤ n → cond b 1 0 + m ≤ suc n
-    one true m n h = omega arith
-    one false m n h = omega arith
-
-pub stored_few : (state : State) (es : List Entry) → stored_count state es ≤ length es
-stored_few state [] = omega arith
-stored_few state (entry ∷ es) = let h = stored_few (applied state entry.change) es in one (IsStored state entry) _ _ h
   where
     one : (b : Bool) (m n : ℕ) → m ≤ n → cond b 1 0 + m ≤ suc n
     one true m n h = omega arith
@@ -102,8 +92,8 @@ pub record Sent (i : ℕ) (answer : Answer) : Type 0 where
   pub protects : Protects (bound_to 1 (i % 4 + 1) (suite_on (i % 4)) (key_on (i % 4)) (i % 4 + 1)) answer.number (clear_frame i) answer.body
 
 module _ (layout : Layout) (begin : Begin) (first now : View) (tasks : List Record) (deeds : List Deed)
-    (done : Done layout begin first now tasks deeds) (plan : begin.plan ≡ sender_lines) (start : begin.start ≡ sending (each 1))
-    (told : begin.told ≡ true) (slots : begin.slots ≡ 8192) (used : begin.used ≡ 0) (frames : All IsFrame tasks) (few : length tasks ≤ 100000) where
+    (done : Done layout begin first now tasks deeds) (plan : begin.plan ≡ sender_bare) (start : begin.start ≡ sending (each 1))
+    (frames : All IsFrame tasks) (few : length tasks ≤ 100000) where
   abbrev pub entries : List Entry
   entries = entries_in now
 
@@ -129,10 +119,10 @@ module _ (layout : Layout) (begin : Begin) (first now : View) (tasks : List Reco
       let kind : Protect ≡ Command = sym (ap (λ (t : Record). t.kind) same) ∙ asked.kind_is in absurd (cc)) is.is_base
 
   -- each entry is a reserve
-  reserve_at : (p : ℕ) (entry : Entry) → slice_get entries p ≡ Some entry → IsReserve near sender_lines (after (sending (each 1)) (take p entries)) entry
+  reserve_at : (p : ℕ) (entry : Entry) → slice_get entries p ≡ Some entry → IsReserve near sender_bare (after (sending (each 1)) (take p entries)) entry
   reserve_at p entry there =
-      let legal_so : IsLegal near sender_lines (after (sending (each 1)) (take p entries)) tasks entry =
-      subst (λ (s : State). IsLegal near sender_lines (after s (take p entries)) tasks entry) start
+      let legal_so : IsLegal near sender_bare (after (sending (each 1)) (take p entries)) tasks entry =
+      subst (λ (s : State). IsLegal near sender_bare (after s (take p entries)) tasks entry) start
       (subst (λ (l : PlanLines). IsLegal near l (after begin.start (take p entries)) tasks entry) plan (history.each p entry there)) in
       elim legal_so [
         | inl opening ↦
@@ -160,18 +150,16 @@ module _ (layout : Layout) (begin : Begin) (first now : View) (tasks : List Reco
       subst (λ (es : List Entry). Reserved es bound) (sym next)
       (reserved_more near (take p entries) bound entry (omega arith) near_low before (reserve_at p entry there))
 
-  pub few_stored : (p : ℕ) → p ≤ length entries → length (take p entries) ≤ 6300
-  few_stored p within =
-      let r = reserved p within in
+  pub few_entries : length entries ≤ 6300
+  few_entries =
+      let r = reserved (length entries) (omega arith) in
       let a = r.low 0 (omega arith) in
       let b = r.low 1 (omega arith) in
       let c = r.low 2 (omega arith) in
       let d = r.low 3 (omega arith) in
       let sum = r.grown in
+      let all = length-take (length entries) entries in
       omega arith
-
-  pub few_entries : length entries ≤ 6300
-  few_entries = let h = few_stored (length entries) (omega arith) in let all = length-take (length entries) entries in omega arith
 
   no_epochs : epoch_after entries ≡ 0
   no_epochs =
@@ -191,7 +179,7 @@ module _ (layout : Layout) (begin : Begin) (first now : View) (tasks : List Reco
       ap (λ (e : ℕ). protect_reply begin.plan (at_epoch begin.start entries e) 0 (clear_frame i)) zero_is
       ∙ (ap (λ (s : State). protect_reply begin.plan s 0 (clear_frame i)) (first_epoch begin.start entries ∙ start)
       ∙ (ap (λ (l : PlanLines). protect_reply l (sending (each 1)) 0 (clear_frame i)) plan
-      ∙ (ap (protect_reply sender_lines (sending (each 1)) 0) (clear_is i) ∙ bound_on (i % 256) (field_octet i) (i % 4) (omega arith))))
+      ∙ (ap (protect_reply sender_bare (sending (each 1)) 0) (clear_is i) ∙ bound_on (i % 256) (field_octet i) (i % 4) (omega arith))))
 
   abbrev ours : ℕ → Binding
   ours i = bound_to 1 (i % 4 + 1) (suite_on (i % 4)) (key_on (i % 4)) (i % 4 + 1)
@@ -230,26 +218,15 @@ module _ (layout : Layout) (begin : Begin) (first now : View) (tasks : List Reco
       let high : end_of (key_on (i % 4)) ≤ answer.number = subst (λ (k : ℕ). end_of k ≤ answer.number) key is.at_end in
       omega arith
 
-  not_full : (task : Record) (answer : Answer) → IsFull near course task answer → ⊥
-  not_full task answer is =
-      let full = is.full (told_true told) in
-      let few = few_stored answer.position is.within in
-      let stored = stored_few begin.start (take answer.position entries) in
-      omega arith
-    where
-      told_true : begin.told ≡ true → IsTrue begin.told
-      told_true h = h
-
   pub sent_so : (i : ℕ) (answer : Answer) → Fits near course (protect_task i) answer → answer.code ≢ codes_of.SITE_FAULT → answer.code ≢ codes_of.STOPPED
       → answer.code ≢ codes_of.NO_MEMORY → Sent i answer
   sent_so i answer fits no_fault not_stopped not_wanting = elim fits [
     | inl is ↦ sent_by i answer is
     | inr (inl is) ↦ absurd (not_unbound i answer is)
     | inr (inr (inl is)) ↦ absurd (not_exhausted i answer is)
-    | inr (inr (inr (inl is))) ↦ absurd (not_full (protect_task i) answer is)
-    | inr (inr (inr (inr (inl is)))) ↦ absurd (no_fault (ap (λ (t : Told). t.code) is.tells.told))
-    | inr (inr (inr (inr (inr (inl is))))) ↦ absurd (not_stopped (ap (λ (t : Told). t.code) is.tells.told))
-    | inr (inr (inr (inr (inr (inr is))))) ↦ absurd (not_wanting (ap (λ (t : Told). t.code) is.told))
+    | inr (inr (inr (inl is))) ↦ absurd (no_fault (ap (λ (t : Told). t.code) is.tells.told))
+    | inr (inr (inr (inr (inl is)))) ↦ absurd (not_stopped (ap (λ (t : Told). t.code) is.tells.told))
+    | inr (inr (inr (inr (inr is)))) ↦ absurd (not_wanting (ap (λ (t : Told). t.code) is.told))
   ]
 
   pub fits : All (λ (deed : Deed). Fits near course deed.task deed.answer) deeds

@@ -23,7 +23,7 @@ use Rattle.law_workers.specs.Opened.{IsJustOpened}
 use Rattle.law_workers.specs.Ends.{EndsSegment}
 use Rattle.drill_frames.specs.Frames.{protect_task, protect_tasks}
 use Rattle.law_drill.specs.Drilled.{HandlesSegment, tells_fault, tells_want}
-use Rattle.law_drill.specs.Plans.{sender_lines}
+use Rattle.law_drill.proofs.Read.{sender_bare}
 use Rattle.law_drill.proofs.Lanes.{each, key_on}
 use Rattle.law_drill.proofs.Lists.{Below, From, ascend_once, ascend_then, come_before, deed_at, deeds_all, deeds_both, deeds_long, deeds_then, none_pass}
 use Rattle.law_drill.proofs.Opened.{Starts}
@@ -64,7 +64,7 @@ blank = record { code = 51; detail = 0; key = 0; position = 0; number = 0; body 
 abbrev pub at : List Answer → ℕ → Answer
 at answers i = get_or answers i blank
 
--- an answer that tells no fault and no want of memory
+-- an answer that says no fault, and not that memory ran out
 pub record IsGood (answer : Answer) : Type 0 where
   pub no_fault : answer.code ≢ codes_of.SITE_FAULT
   pub not_stopped : answer.code ≢ codes_of.STOPPED
@@ -128,7 +128,7 @@ deed_is m sent i d many low =
     deed_at 0 (protect_tasks 0 m) sent i d (protect_task 0) blank (omega arith) (omega arith)
     ∙ ap (λ (t : Record). deed_of 0 t (at sent i)) (get_or-map-range_with_len protect_task 0 m i i (protect_task 0) low (omega arith))
 
-pub none_sent : (begin : Begin) (first : View) → IsJustOpened begin first → begin.rows ≡ MOST_KEYS → IsWhole MOST_KEYS first → Starts begin sender_lines (sending (each 1))
+pub none_sent : (begin : Begin) (first : View) → IsJustOpened begin first → begin.rows ≡ MOST_KEYS → IsWhole MOST_KEYS first → Starts begin sender_bare (sending (each 1))
     → SentAll begin first first 0 []
 none_sent begin first opened rows whole starts = record {
   many = refl;
@@ -144,7 +144,7 @@ none_sent begin first opened rows whole starts = record {
   each_is = λ i low. absurd (omega arith);
 }
 
-module _ (begin : Begin) (first now next : View) (m n : ℕ) (sent later : List Answer) (starts : Starts begin sender_lines (sending (each 1)))
+module _ (begin : Begin) (first now next : View) (m n : ℕ) (sent later : List Answer) (starts : Starts begin sender_bare (sending (each 1)))
     (so_far : SentAll begin first now m sent) (serves : HandlesSegment begin now next (protect_tasks m n) later) (few : m + n ≤ 100000)
     (wants : list_any tells_want later ≡ false) where
   abbrev both_tasks : List Record
@@ -165,7 +165,7 @@ module _ (begin : Begin) (first now next : View) (m n : ℕ) (sent later : List 
 
   pub answered : length later ≡ n
   answered =
-      let e = few_entries (drill_layout 0) begin first next both_tasks _ done_both starts.plan starts.start starts.told_is starts.slots_are starts.used_are
+      let e = few_entries (drill_layout 0) begin first next both_tasks _ done_both starts.plan starts.start
       frames_both many_both in
       let all = all_answered begin now next (protect_tasks m n) later serves.full serves.ends (omega arith) in
       all ∙ length-map-range_with_len protect_task m n
@@ -190,12 +190,11 @@ module _ (begin : Begin) (first now next : View) (m n : ℕ) (sent later : List 
       let long = deeds_long 0 (protect_tasks 0 (m + n)) all_sent (omega arith) in
       let dummy : Deed = deed_of 0 (protect_task 0) blank in
       let all_fit = fits (drill_layout 0) begin first next (protect_tasks 0
-      (m + n)) _ done_all starts.plan starts.start starts.told_is starts.slots_are starts.used_are
+      (m + n)) _ done_all starts.plan starts.start
       (are_frames (m + n)) (omega arith) i dummy (omega arith) in
       let fit = subst (λ (d : Deed). Fits (near (drill_layout 0) begin first next (protect_tasks 0
-      (m + n)) _ done_all starts.plan starts.start starts.told_is starts.slots_are
-      starts.used_are (are_frames (m + n)) (omega arith)) (course_in begin next) d.task d.answer) (deed_is (m + n) all_sent i dummy total low) all_fit in
-      sent_so (drill_layout 0) begin first next (protect_tasks 0 (m + n)) _ done_all starts.plan starts.start starts.told_is starts.slots_are starts.used_are
+      (m + n)) _ done_all starts.plan starts.start (are_frames (m + n)) (omega arith)) (course_in begin next) d.task d.answer) (deed_is (m + n) all_sent i dummy total low) all_fit in
+      sent_so (drill_layout 0) begin first next (protect_tasks 0 (m + n)) _ done_all starts.plan starts.start
       (are_frames (m + n)) (omega arith) i (at all_sent i) fit good.no_fault good.not_stopped good.not_wanting
 
   pub sent_more : SentAll begin first next (m + n) all_sent

@@ -3,11 +3,14 @@ use Rattle.std.specs.Prelude.{◌≡◌, ℕ, zero, suc, ◌+◌, ◌-◌, ◌*�
 use Rattle.std.specs.Prelude.{Ok}
 use Rattle.std.specs.List.{list_any}
 use Rattle.sdls_base.specs.declared.TheConstants.{MOST_KEYS}
-use Rattle.unit_image.specs.Image.{held, initial_image}
+use Rattle.image_beginning.specs.Beginning.{SaysPlan, image_of_plan}
+use Rattle.unit_image.specs.Image.{held}
 use Rattle.record_io.specs.declared.answers.Answer.{Answer}
 use Rattle.record_io.specs.declared.records.Record.{Record}
 use Rattle.record_io.specs.declared.code.TheConstants as codes_of
 use Rattle.unit_plan.specs.Plan.{plan_of}
+use Rattle.unit_plan.specs.PlanLines.{PlanLines}
+use Rattle.unit_state.specs.declared.state.State.{State}
 use Rattle.unit_image.specs.Shows.{Shows}
 use Rattle.counter_table.specs.declared.view.View.{View}
 use Rattle.counter_table.specs.Whole.{IsWhole}
@@ -21,22 +24,25 @@ use Rattle.drill_frames.specs.declared.counts.Counts.{Counts}
 use Rattle.drill_frames.specs.declared.records.TheConstants.{CHUNK}
 use Rattle.drill_frames.specs.Counting.{count_accepted, count_code, count_fields, no_counts, sum_of}
 use Rattle.drill_frames.specs.Frames.{protect_tasks, open_tasks, replay_tasks}
-use Rattle.law_drill.specs.Plans.{receiver_plan, sender_plan, slots}
+use Rattle.law_drill.specs.Plans.{receiver_plan, sender_plan}
 
 -- ---- the units
 
--- A unit was opened on the image of this plan, without records; its one worker, with all shares, has this view and did
+-- A unit was opened on the image that this plan begins with; its one worker, with all shares, has this view and did
 -- nothing yet: it spent no number, and each word `next` is its key's mark.
 pub record UnitIsOpened (plan : List ℕ) (begin : Begin) (v : View) : Type 0 where
+  pub lines : PlanLines
+  pub first : State
+  pub said : SaysPlan plan lines first
   pub began : BeganWith true begin v.turn.known.opening
-  pub image : v.turn.known.opening.image ≡ initial_image plan slots
-  pub says : plan_of (held (initial_image plan slots)).plan ≡ Ok begin.plan
-  pub shows : Shows (initial_image plan slots) begin.start
+  pub image : v.turn.known.opening.image ≡ image_of_plan plan lines first
+  pub says : plan_of (held (image_of_plan plan lines first)).plan ≡ Ok begin.plan
+  pub shows : Shows (image_of_plan plan lines first) begin.start
   pub whole : IsWhole MOST_KEYS v
   pub unspent : v.numbers.spent ≡ []
   pub opened : runs.IsJustOpened begin v
 
--- the answer says that the site of its unit has failed, or that memory was wanting
+-- the answer says that the site of its unit has failed, or that memory ran out
 abbrev pub tells_fault : Answer → Bool
 tells_fault answer = (answer.code == codes_of.SITE_FAULT) || (answer.code == codes_of.STOPPED)
 

@@ -30,10 +30,6 @@ sender_plan = plan_text (codes "1") (codes "send")
 unfoldable pub receiver_plan : List ℕ
 receiver_plan = plan_text (codes "2") (codes "receive")
 
--- the slots of both images
-abbrev pub slots : ℕ
-slots = 8192
-
 -- ---- what the lines say
 
 abbrev pub link_line : Link
@@ -64,7 +60,7 @@ abbrev pub drill_lines : ℕ → Direction → PlanLines
 drill_lines digit direction = record {
   heads = 5;
   device = 0 ∷ 0 ∷ 13 ∷ digit ∷ [];
-  slots = slots;
+  slots = 8192;
   block = 64;
   accept = 64;
   links = (0, link_line) ∷ [];

@@ -7,6 +7,7 @@ ghost use Rattle.law_drill.specs.Drilled.{IsComplete, IsDrilled};
 ghost use Rattle.law_drill.specs.Plans.{receiver_lines, receiver_plan, sender_lines, sender_plan};
 
 use frame_shield::opens_once;
+use unit_image::shows_one;
 
 /// Law: the texts of both units are plans, and this is what their lines say.
 pub fn plans_are_read()
@@ -14,11 +15,12 @@ pub fn plans_are_read()
     ensures receiver { plan_of receiver_plan ≡ Ok receiver_lines }
 {}
 
-/// Law: where no answer of a drill tells want of memory, each of its frames was protected and accepted, and the first
+/// Law: if no answer of a drill says that memory ran out, each of its frames was protected and accepted, and the first
 /// of each chunk rejected the second time.
 pub fn drill_is_complete()
     ensures { (number : ℕ) (answers : List Answer) (counts : Counts) → number ≤ 100000 → IsDrilled number answers counts
         → IsComplete number answers counts }
 {
     opens_once();
+    shows_one();
 }

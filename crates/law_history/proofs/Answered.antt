@@ -66,10 +66,9 @@ used_reply answer (replies.Refused refused value) key number told code some key_
 command_by : (near : ℕ → ℕ → Type 0) (course : Course) (task : Record) (answer : Answer) → FitsKind near course task answer Command → answer.code ≡ 3
     → IsCommandAnswer course task answer
 command_by near course task answer (inl is) code = is
-command_by near course task answer (inr (inl is)) code = absurd (other_code answer _ is.told code refl)
+command_by near course task answer (inr (inl is)) code = absurd (other_code answer _ is.tells.told code refl)
 command_by near course task answer (inr (inr (inl is))) code = absurd (other_code answer _ is.tells.told code refl)
-command_by near course task answer (inr (inr (inr (inl is)))) code = absurd (other_code answer _ is.tells.told code refl)
-command_by near course task answer (inr (inr (inr (inr is)))) code = absurd (other_code answer _ is.told code refl)
+command_by near course task answer (inr (inr (inr is))) code = absurd (other_code answer _ is.told code refl)
 
 done_code : (near : ℕ → ℕ → Type 0) (course : Course) (task : Record) (answer : Answer) (key number : ℕ) → task.kind ≡ Command
     → Fits near course task answer → Uses answer key number → (answer.code ≡ 3) × (answer.key ≢ 0)

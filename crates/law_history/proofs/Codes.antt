@@ -32,18 +32,15 @@ told_code kind answer told is of = subst (λ (t : Told). IsCodeOf kind t.code) (
 
 any_code : (near : ℕ → ℕ → Type 0) (course : Course) (task : Record) (kind : RecordKind) (answer : Answer) → kind ≢ Monitor → FitsAny near course task answer
     → IsCodeOf kind answer.code
-any_code near course task Protect answer other (inl is) = told_code Protect answer _ is.told refl
+any_code near course task Protect answer other (inl is) = told_code Protect answer _ is.tells.told refl
 any_code near course task Protect answer other (inr (inl is)) = told_code Protect answer _ is.tells.told refl
-any_code near course task Protect answer other (inr (inr (inl is))) = told_code Protect answer _ is.tells.told refl
-any_code near course task Protect answer other (inr (inr (inr is))) = told_code Protect answer _ is.told refl
-any_code near course task Open answer other (inl is) = told_code Open answer _ is.told refl
+any_code near course task Protect answer other (inr (inr is)) = told_code Protect answer _ is.told refl
+any_code near course task Open answer other (inl is) = told_code Open answer _ is.tells.told refl
 any_code near course task Open answer other (inr (inl is)) = told_code Open answer _ is.tells.told refl
-any_code near course task Open answer other (inr (inr (inl is))) = told_code Open answer _ is.tells.told refl
-any_code near course task Open answer other (inr (inr (inr is))) = told_code Open answer _ is.told refl
-any_code near course task Command answer other (inl is) = told_code Command answer _ is.told refl
+any_code near course task Open answer other (inr (inr is)) = told_code Open answer _ is.told refl
+any_code near course task Command answer other (inl is) = told_code Command answer _ is.tells.told refl
 any_code near course task Command answer other (inr (inl is)) = told_code Command answer _ is.tells.told refl
-any_code near course task Command answer other (inr (inr (inl is))) = told_code Command answer _ is.tells.told refl
-any_code near course task Command answer other (inr (inr (inr is))) = told_code Command answer _ is.told refl
+any_code near course task Command answer other (inr (inr is)) = told_code Command answer _ is.told refl
 any_code near course task Monitor answer other any = absurd (other refl)
 
 unbound_code : (answer : Answer) (found : protecting.Answer) → unbound_told found ≡ Some (told_by answer) → IsCodeOf Protect answer.code
@@ -131,10 +128,9 @@ opening_by : (near : ℕ → ℕ → Type 0) (course : Course) (task : Record) (
 opening_by near course task answer Protect key number fits accepts =
     absurd (false≢true (subst (IsCodeOf Protect) accepts.0 (kind_code near course task answer Protect fits)))
 opening_by near course task answer Open key number (inl is) accepts = is
-opening_by near course task answer Open key number (inr (inl is)) accepts = absurd (not_code answer _ key number is.told accepts refl)
+opening_by near course task answer Open key number (inr (inl is)) accepts = absurd (not_code answer _ key number is.tells.told accepts refl)
 opening_by near course task answer Open key number (inr (inr (inl is))) accepts = absurd (not_code answer _ key number is.tells.told accepts refl)
-opening_by near course task answer Open key number (inr (inr (inr (inl is)))) accepts = absurd (not_code answer _ key number is.tells.told accepts refl)
-opening_by near course task answer Open key number (inr (inr (inr (inr is)))) accepts = absurd (not_code answer _ key number is.told accepts refl)
+opening_by near course task answer Open key number (inr (inr (inr is))) accepts = absurd (not_code answer _ key number is.told accepts refl)
 opening_by near course task answer Command key number fits accepts =
     absurd (false≢true (subst (IsCodeOf Command) accepts.0 (kind_code near course task answer Command fits)))
 opening_by near course task answer Monitor key number fits accepts =

@@ -23,7 +23,6 @@ use Rattle.record_io.specs.declared.records.Record.{Record}
 use Rattle.run_promise.specs.Numbers.{floor_of}
 use Rattle.run_promise.specs.Entries.{IsNeedOf, IsStepOf, frame_entry, record_entry}
 use Rattle.run_promise.specs.Log.{entries_of}
-use Rattle.run_promise.specs.Stored.{stored_count}
 use Rattle.run_promise.specs.Legal.{KeyOf, SeesFor, AsksFor, IsLegal, IsLegalAt}
 use Rattle.run_promise.specs.Counts.{drawers}
 use Rattle.run_promise.specs.Run.{IsAskedFor, NearWord}
@@ -267,24 +266,17 @@ module _ (near wider : ℕ → ℕ → Type 0) (nearer : (key number : ℕ) → 
 
   any_more : (task : Record) (answer : Answer) → FitsAny near course task answer → FitsAny wider new task answer
   any_more task answer (inl is) = inl (record {
-    told = is.told;
-    within = within_more answer.position is.within;
-    slots_are = is.slots_are;
-    full = λ told. ap (λ (entries : List Entry). course.begin.used + stored_count course.begin.start entries) (take-append-le answer.position course.entries more is.within) ∙ is.full told;
-    may = append_more task.kind answer.position task is.within is.may;
-  })
-  any_more task answer (inr (inl is)) = inr (inl (record {
     tells = tells_more SITE_FAULT answer is.tells;
     may = once_more task is.may;
     entry = is.entry;
     last = stands_more answer is.entry is.last;
     own = is.own;
-  }))
-  any_more task answer (inr (inr (inl is))) = inr (inr (inl (record {
+  })
+  any_more task answer (inr (inl is)) = inr (inl (record {
     tells = tells_more STOPPED answer is.tells;
     may = ⊎_elim (λ other. inl other) (λ once. inr (once_more task once)) is.may;
-  })))
-  any_more task answer (inr (inr (inr is))) = inr (inr (inr is))
+  }))
+  any_more task answer (inr (inr is)) = inr (inr is)
 
   abbrev bound_more : (task : Record) (answer : Answer) → IsBound course task answer → IsBound new task answer
   bound_more task answer is = record {

@@ -7,7 +7,6 @@ pub mod Loaded
 pub mod Codes
 pub mod GoingOn
 pub mod Releasing
-pub mod StoredReleases
 pub mod Used
 pub mod Answered
 pub mod Ended

@@ -27,7 +27,7 @@ pub use growing::{
 };
 pub use keys::{loaded_once, loaded_stays, loaded_stays_since_epoch, octets_are_loaded, rows_stay};
 pub use one::{messages_have_one_step, messages_need_one, openings_tell_one};
-pub use releases::{releases_are_legal, releases_are_stored, run_with_releases, stored_counts_add};
+pub use releases::{releases_are_legal, run_with_releases};
 pub use runs::{
     accepted_above_the_start, accepted_once, accepted_stays_covered, epochs_are_places,
     kept_floors_rise_along, marks_rise_along, rules_stay_along, used_stays_below,

@@ -1,6 +1,6 @@
 //! Laws of the releases at the end of a run.
 
-ghost use Rattle.std.specs.Prelude.{◌≡◌, ℕ, ◌+◌, ◌≤◌, List, ◌++◌, length, take, slice_get, Some};
+ghost use Rattle.std.specs.Prelude.{◌≡◌, ℕ, ◌≤◌, List, ◌++◌, length, slice_get, Some};
 ghost use Rattle.sdls_base.specs.declared.entry.Entry.{Entry};
 ghost use Rattle.unit_plan.specs.PlanLines.{PlanLines};
 ghost use Rattle.unit_state.specs.declared.state.State.{State};
@@ -9,7 +9,6 @@ ghost use Rattle.unit_state.specs.History.{after, after_first};
 ghost use Rattle.record_io.specs.declared.records.Record.{Record};
 ghost use Rattle.record_io.specs.Places.{Place, records_of};
 ghost use Rattle.run_promise.specs.Numbers.{releases};
-ghost use Rattle.run_promise.specs.Stored.{stored_count};
 ghost use Rattle.run_promise.specs.Legal.{AreNear, IsRelease};
 ghost use Rattle.run_promise.specs.Run.{LegalRun, NearWord, TurnIn};
 
@@ -22,20 +21,6 @@ pub fn releases_are_legal()
         → AreNear (NearWord start entries records) state.keys 0 words → made ++ rest ≡ releases state 0 words
         → (p : ℕ) (entry : Entry) → slice_get made p ≡ Some entry
         → IsRelease (NearWord start entries records) (after_first state made p) entry }
-{}
-
-/// Law: entries take as many slots as the first of them do, and the rest behind those.
-pub fn stored_counts_add()
-    ensures { (state : State) (entries more : List Entry)
-        → stored_count state (entries ++ more) ≡ stored_count state entries + stored_count (after state entries) more }
-{}
-
-/// Law: each release takes a slot of the journal, so that the first of the releases of the keys from any place on, in
-/// loading order, take as many as they are.
-pub fn releases_are_stored()
-    ensures { (state : State) (place : ℕ) (words : List ℕ) (count : ℕ)
-        → stored_count state (take count (releases state place words))
-        ≡ length (take count (releases state place words)) }
 {}
 
 /// Law: a legal run without releases, with releases behind it, is a legal run.

@@ -1,8 +1,11 @@
-//! The laws that each image shows a state or is refused, and that what it shows keeps its rules (profile).
+//! Laws of images (profile): each shows a state or is refused; what the image that a plan begins with shows; what an
+//! opening that a crash cuts off leaves.
 //!
 //! There is no code to run here: the functions are laws over definitions, with an empty body.
 #![tactic(auto)]
 
 mod laws;
 
-pub use laws::{refused_exactly, shown_keeps_rules};
+pub use laws::{
+    beginning_shows, cut_beginning, opening_keeps_forms, refused_exactly, shown_keeps_rules,
+};

@@ -14,11 +14,12 @@ use Rattle.drill_frames.specs.Arriving.{arrived_frames, arrived_tasks, count_giv
 use Rattle.drill_frames.specs.Counting.{count_code}
 use Rattle.drill_frames.specs.Frames.{protect_tasks}
 use Rattle.law_drill.specs.Drilled.{HandlesSegment, UnitIsOpened, tells_want}
-use Rattle.law_drill.specs.Plans.{receiver_lines, receiver_plan, sender_lines, sender_plan}
+use Rattle.law_drill.specs.Plans.{receiver_plan, sender_plan}
+use Rattle.law_drill.proofs.Read.{receiver_bare, sender_bare}
 use Rattle.law_drill.proofs.Judging.{receiving}
 use Rattle.law_drill.proofs.Lanes.{each}
 use Rattle.law_drill.proofs.Lists.{all_counted}
-use Rattle.law_drill.proofs.Opened.{Starts, receiver_begins, sender_begins}
+use Rattle.law_drill.proofs.Opened.{ShowsOne, Starts, receiver_begins, sender_begins}
 use Rattle.law_drill.proofs.OpenedChunks.{IsSent}
 use Rattle.law_drill.proofs.Opening.{OpensOnce}
 use Rattle.law_drill.proofs.Receiving.{AreSent}
@@ -36,7 +37,7 @@ pub record LinkServed (one other : Begin) (s t v w : View) (frames chunks : ℕ)
   pub counted : AreAllCounted frames counts
 
 module _ (once : OpensOnce) (one other : Begin) (s t0 t v w0 w : View) (chunk n : ℕ) (before more : LinkCounts)
-    (sends : Starts one sender_lines (sending (each 1))) (receives : Starts other receiver_lines (receiving (each 0) (each 0)))
+    (sends : Starts one sender_bare (sending (each 1))) (receives : Starts other receiver_bare (receiving (each 0) (each 0)))
     (so_far : LinkServed one other s t0 v w0 (256 * chunk) chunk before) (short : n ≤ 256) (few : 256 * chunk + n ≤ 100000)
     (later opened : List Answer) (protects : HandlesSegment one t0 t (protect_tasks (256 * chunk) n) later)
     (opens : HandlesSegment other w0 w (arrived_tasks (1024 * chunk) (256 * chunk) later (arrived_frames (256 * chunk) later)) opened)
@@ -104,7 +105,7 @@ module _ (once : OpensOnce) (one other : Begin) (s t0 t v w0 w : View) (chunk n 
         counted = record { protected = omega arith; lost = omega arith; told = omega arith };
       }
 
-module _ (once : OpensOnce) (one other : Begin) (number : ℕ) (s v : View) (few : number ≤ 100000) (sends : UnitIsOpened sender_plan one s)
+module _ (once : OpensOnce) (one_state : ShowsOne) (one other : Begin) (number : ℕ) (s v : View) (few : number ≤ 100000) (sends : UnitIsOpened sender_plan one s)
     (receives : UnitIsOpened receiver_plan other v) where
   pub chunks_served : (chunks : ℕ) → 256 * chunks < number + 256 → (t w : View) (answers : List Answer) (counts : LinkCounts)
       → AreLinkChunks one other number s v chunks t w answers counts → list_any tells_want answers ≡ false
@@ -113,8 +114,8 @@ module _ (once : OpensOnce) (one other : Begin) (number : ℕ) (s v : View) (few
       let none : min number (256 * 0) ≡ 0 = omega arith in
       let served : LinkServed one other s s v v 0 0 no_link_counts = record {
         sent = [];
-        sent_all = none_sent one s sends.opened sends.began.rows sends.whole (sender_begins one s sends);
-        taken = none_taken other v (octets_in []) receives.opened receives.began.rows receives.whole (receiver_begins other v receives);
+        sent_all = none_sent one s sends.opened sends.began.rows sends.whole (sender_begins one_state one s sends);
+        taken = none_taken other v (octets_in []) receives.opened receives.began.rows receives.whole (receiver_begins one_state other v receives);
         counted = record { protected = refl; lost = refl; told = refl };
       } in
       subst (λ (m : ℕ). LinkServed one other s t v w m 0 counts) (sym none)
@@ -131,17 +132,17 @@ module _ (once : OpensOnce) (one other : Begin) (number : ℕ) (s v : View) (few
       let n : ℕ = min number (256 * (chunks + 1)) - 256 * chunks in
       let frames : 256 * chunks + n ≡ min number (256 * suc chunks) = omega arith in
       let next : chunks + 1 ≡ suc chunks = omega arith in
-      let served = served_by once one other s t0 t v w0 w chunks n before more (sender_begins one s sends) (receiver_begins other v receives)
+      let served = served_by once one other s t0 t v w0 w chunks n before more (sender_begins one_state one s sends) (receiver_begins one_state other v receives)
       (subst (λ (m : ℕ). LinkServed one other s t0 v w0 m chunks before) whole so_far) (omega arith) (omega arith)
       chunk.sent chunk.opened chunk.protects chunk.opens both.0 both.1 chunk.protected chunk.lost chunk.accepted chunk.rejected in
       subst (λ (c : LinkCounts). LinkServed one other s t v w (min number (256 * suc chunks)) (suc chunks) c) (sym counts_are)
       (subst (λ (m : ℕ). LinkServed one other s t v w m (suc chunks) (link_sum_of before more)) frames
       (subst (λ (k : ℕ). LinkServed one other s t v w (256 * chunks + n) k (link_sum_of before more)) next served))
 
-pub link_complete : OpensOnce → (number : ℕ) (answers : List Answer) (counts : LinkCounts) → number ≤ 100000 → IsLinkDrilled number answers counts
+pub link_complete : OpensOnce → ShowsOne → (number : ℕ) (answers : List Answer) (counts : LinkCounts) → number ≤ 100000 → IsLinkDrilled number answers counts
     → list_any tells_want answers ≡ false → AreAllCounted number counts
-link_complete once number answers counts few is wants =
-    let served = chunks_served once is.sender is.receiver number is.s is.v few is.sends is.receives ((number + 255) / 256)
+link_complete once one_state number answers counts few is wants =
+    let served = chunks_served once one_state is.sender is.receiver number is.s is.v few is.sends is.receives ((number + 255) / 256)
     (omega arith) is.t is.w answers counts is.chunks wants in
     let all : min number (256 * ((number + 255) / 256)) ≡ number = omega arith in
     subst (λ (m : ℕ). AreAllCounted m counts) all served.counted

@@ -22,7 +22,7 @@ use Rattle.law_workers.proofs.Handling as handling
 use Rattle.drill_frames.specs.Arriving.{arrived_frames, arrived_task, arrived_tasks, count_given, octets_in}
 use Rattle.drill_frames.specs.Counting.{count_code}
 use Rattle.law_drill.specs.Drilled.{HandlesSegment, tells_want}
-use Rattle.law_drill.specs.Plans.{receiver_lines}
+use Rattle.law_drill.proofs.Read.{receiver_bare}
 use Rattle.law_drill.proofs.Judging.{receiving}
 use Rattle.law_drill.proofs.Lanes.{each}
 use Rattle.law_drill.proofs.Lists.{Below, From, ascend_then, deed_at, deeds_all, deeds_long}
@@ -50,7 +50,7 @@ pub record TakenLink (begin : Begin) (first now : View) (total chunks : ℕ) (oc
   pub few : length tasks ≤ 2 * total
 
 pub none_taken : (begin : Begin) (first : View) (octets : ℕ → List ℕ) → IsJustOpened begin first → begin.rows ≡ MOST_KEYS → IsWhole MOST_KEYS first
-    → Starts begin receiver_lines (receiving (each 0) (each 0)) → TakenLink begin first first 0 0 octets
+    → Starts begin receiver_bare (receiving (each 0) (each 0)) → TakenLink begin first first 0 0 octets
 none_taken begin first octets opened rows whole starts = record {
   tasks = [];
   deeds = [];
@@ -73,7 +73,7 @@ none_taken begin first octets opened rows whole starts = record {
 
 -- One more chunk. All its frames were sent, and no answer of the receiver says that memory ran out.
 module _ (once : OpensOnce) (begin : Begin) (first now next : View) (chunk : ℕ) (octets longer : ℕ → List ℕ) (numbers : ℕ → ℕ)
-    (starts : Starts begin receiver_lines (receiving (each 0) (each 0))) (so_far : TakenLink begin first now (256 * chunk) chunk octets)
+    (starts : Starts begin receiver_bare (receiving (each 0) (each 0))) (so_far : TakenLink begin first now (256 * chunk) chunk octets)
     (later : List Answer) (codes : All IsSent later) (short : length later ≤ 256) (few : 256 * chunk + length later ≤ 100000)
     (same : (i : ℕ) → i < 256 * chunk → octets i ≡ longer i) (own : (j : ℕ) → j < length later → longer (256 * chunk + j) ≡ (at later j).body)
     (sent : AreSent (256 * chunk + length later) numbers longer) (opened : List Answer)
@@ -161,26 +161,21 @@ module _ (once : OpensOnce) (begin : Begin) (first now next : View) (chunk : ℕ
 
   answered : length opened ≡ length new
   answered =
-      let e = few_made Any once (drill_layout 0) begin first next every every_deed done_all starts.plan starts.start starts.told_is starts.slots_are
-      starts.used_are total few_all numbers longer sent handed_all on_lanes in
+      let e = few_made Any once (drill_layout 0) begin first next every every_deed done_all starts.plan starts.start total few_all numbers longer sent handed_all on_lanes in
       all_answered begin now next new opened opens_new.full opens_new.ends e
 
   abbrev FitsHere : Deed → Type 0
-  FitsHere deed = Fits (near Any once (drill_layout 0) begin first next every every_deed done_all starts.plan starts.start starts.told_is starts.slots_are
-      starts.used_are total few_all numbers longer sent handed_all on_lanes) (course_in begin next) deed.task deed.answer
+  FitsHere deed = Fits (near Any once (drill_layout 0) begin first next every every_deed done_all starts.plan starts.start total few_all numbers longer sent handed_all on_lanes) (course_in begin next) deed.task deed.answer
 
   all_fit : All FitsHere every_deed
-  all_fit = fits Any once (drill_layout 0) begin first next every every_deed done_all starts.plan starts.start starts.told_is starts.slots_are
-      starts.used_are total few_all numbers longer sent handed_all on_lanes
+  all_fit = fits Any once (drill_layout 0) begin first next every every_deed done_all starts.plan starts.start total few_all numbers longer sent handed_all on_lanes
 
   abbrev Tells : Record → Answer → Type 0
-  Tells task answer = TellsEntry Any once (drill_layout 0) begin first next every every_deed done_all starts.plan starts.start starts.told_is
-      starts.slots_are starts.used_are total few_all numbers longer sent handed_all on_lanes task answer
+  Tells task answer = TellsEntry Any once (drill_layout 0) begin first next every every_deed done_all starts.plan starts.start total few_all numbers longer sent handed_all on_lanes task answer
 
   tells_so : (task : Record) (answer : Answer) → Handed Any total longer task → FitsHere (deed_of 0 task answer) → IsGood answer → Tells task answer
   tells_so task answer hand fit good =
-      entry_told Any once (drill_layout 0) begin first next every every_deed done_all starts.plan starts.start starts.told_is starts.slots_are
-      starts.used_are total few_all numbers longer sent handed_all on_lanes task hand answer fit good.no_fault good.not_stopped good.not_wanting
+      entry_told Any once (drill_layout 0) begin first next every every_deed done_all starts.plan starts.start total few_all numbers longer sent handed_all on_lanes task hand answer fit good.no_fault good.not_stopped good.not_wanting
 
   -- the record at a place of the chunk
   abbrev number_on : ℕ → ℕ
@@ -210,8 +205,7 @@ module _ (once : OpensOnce) (begin : Begin) (first now next : View) (chunk : ℕ
       subst FitsHere deed (all_right FitsHere old_deeds new_deeds all_fit j dummy (omega arith)) in
       let good : IsGood (at opened j) =
       subst (λ (d : Deed). IsGood d.answer) deed (deeds_answers IsGood 0 new opened (all_good opened opens_new.quiet wants) j dummy (omega arith)) in
-      judged_by Any once (drill_layout 0) begin first next every every_deed done_all starts.plan starts.start starts.told_is starts.slots_are
-      starts.used_are total few_all numbers longer sent handed_all on_lanes (task_on j) (hand_on j (omega arith)) (at opened j)
+      judged_by Any once (drill_layout 0) begin first next every every_deed done_all starts.plan starts.start total few_all numbers longer sent handed_all on_lanes (task_on j) (hand_on j (omega arith)) (at opened j)
       (tells_so (task_on j) (at opened j) (hand_on j (omega arith)) fit good)
 
   pub told_all : count_given (arrived_frames (256 * chunk) later) opened + count_code codes_of.NUMBER opened ≡ length (deliveries (length later))

@@ -5,6 +5,7 @@ ghost use Rattle.drill_frames.specs.declared.link_counts.LinkCounts.{LinkCounts}
 ghost use Rattle.law_link_drill.specs.Linked.{IsLinkComplete, IsLinkDrilled};
 
 use frame_shield::opens_once;
+use unit_image::shows_one;
 
 /// Law: if no answer of a drill over a link says that memory ran out, each of its frames was protected; those of them
 /// that the link loses are lost, and each of the others is accepted or rejected as often as it arrives.
@@ -13,4 +14,5 @@ pub fn link_drill_is_complete()
         → IsLinkDrilled number answers counts → IsLinkComplete number answers counts }
 {
     opens_once();
+    shows_one();
 }

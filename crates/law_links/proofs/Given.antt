@@ -67,10 +67,9 @@ module _ (near : ℕ → ℕ → Type 0) (course : Course) (task : Record) (answ
   protected_by Protect (inr (inl h)) of =
       absurd (not_unbound (protect_reply course.begin.plan (state_in course answer.position) task.link task.octets) h.told)
   protected_by Protect (inr (inr (inl h))) of = absurd (other_code _ h.told refl)
-  protected_by Protect (inr (inr (inr (inl h)))) of = absurd (other_code _ h.told refl)
+  protected_by Protect (inr (inr (inr (inl h)))) of = absurd (other_code _ h.tells.told refl)
   protected_by Protect (inr (inr (inr (inr (inl h))))) of = absurd (other_code _ h.tells.told refl)
-  protected_by Protect (inr (inr (inr (inr (inr (inl h)))))) of = absurd (other_code _ h.tells.told refl)
-  protected_by Protect (inr (inr (inr (inr (inr (inr h)))))) of = absurd (other_code _ h.told refl)
+  protected_by Protect (inr (inr (inr (inr (inr h))))) of = absurd (other_code _ h.told refl)
   protected_by Open h of = absurd (false≢true (subst (IsCodeOf Open) code of))
   protected_by Command h of = absurd (false≢true (subst (IsCodeOf Command) code of))
   protected_by Monitor h of = absurd (false≢true (subst (IsCodeOf Monitor) code of))

@@ -15,8 +15,7 @@ use Rattle.law_history.proofs.Along.{OfRun, of_places, accepted_taken, not_taken
 use Rattle.law_history.proofs.Codes.{accepting_opening, accepts_at}
 use Rattle.run_promise.specs.Deed.{Deed}
 use Rattle.run_promise.specs.Life.{Given, LifeRun, IsRun, FollowFrom, IsLife, answers_begun, given_in}
-use Rattle.law_runs.proofs.Initials.{initial_rests, initial_shows}
-use Rattle.law_runs.proofs.Lives.{ShowsOnce, IsLeft, one_more}
+use Rattle.law_runs.proofs.Lives.{ShowsOnce, IsLeft, begins_left, one_more}
 use Rattle.law_links.specs.Ascending.{AcceptsBelow, AscendsInRun, given_by, NumbersAscend}
 use Rattle.law_links.proofs.Begun.{all_left, all_right, begun_any, given_all}
 
@@ -118,10 +117,4 @@ module _ (key : ℕ) where
 
 pub ascends : ShowsOnce → (image : List ℕ) (runs : List LifeRun) → IsLife image runs → (key : ℕ)
     → NumbersAscend key runs
-ascends once image runs life key =
-    ascend key once image [] runs (record {
-      image_shows = initial_shows image life.initial;
-      forms_show = λ form opened. absurd (initial_rests image life.initial form opened);
-      apart = λ i j d lt low. absurd (omega arith);
-      known = λ s shown k d low. absurd (omega arith);
-    }) life.follow
+ascends once image runs life key = ascend key once image [] runs (begins_left image life.initial) life.follow

@@ -1,6 +1,6 @@
 -- Two runs of one lane over one image that handled the same records, and answered each, made the same entries, where the site did
 -- not fail and memory was not wanting.
-use Rattle.std.proofs.Common.{◌≡◌, ◌≢◌, ◌⊎◌, ℕ, zero, suc, ◌+◌, ◌<◌, ◌≤◌, ◌==◌, Bool, IsTrue, true, false, List, [], ◌∷◌, ◌++◌, length, map, take, drop, refl, sym, ◌∙◌, ap, subst, inl, inr, arith, append_assoc, append-nil, length-append, eqb, Ok}
+use Rattle.std.proofs.Common.{◌≡◌, ◌≢◌, ℕ, zero, suc, ◌+◌, ◌<◌, ◌≤◌, ◌==◌, Bool, IsTrue, true, false, List, [], ◌∷◌, ◌++◌, length, map, take, drop, refl, sym, ◌∙◌, ap, subst, inl, inr, arith, append_assoc, append-nil, length-append, eqb, Ok}
 use Rattle.std.specs.Bool.{⊤}
 use Rattle.std.specs.List.{All, list_any, slice_index}
 use Rattle.std.proofs.lemmas.Bool.{cases_eq, cases_lt}
@@ -9,9 +9,9 @@ use Rattle.std.proofs.lemmas.List.{ext_get_or, length-take, take-append-drop, ta
 use Rattle.sdls_base.specs.declared.TheConstants.{MOST_KEYS}
 use Rattle.sdls_base.specs.declared.entry.Entry.{Entry}
 use Rattle.sdls_outside.specs.Faults.{Rose}
-use Rattle.unit_image.specs.Image.{held, slots_of, used_of}
+use Rattle.unit_image.specs.Image.{held}
 use Rattle.record_io.specs.declared.answers.Answer.{Answer}
-use Rattle.record_io.specs.declared.code.TheConstants.{NO_MEMORY, JOURNAL_FULL, SITE_FAULT, STOPPED}
+use Rattle.record_io.specs.declared.code.TheConstants.{NO_MEMORY, SITE_FAULT, STOPPED}
 use Rattle.record_io.specs.declared.status.TheConstants as status
 use Rattle.record_io.specs.declared.kinds.RecordKind.{RecordKind}
 use Rattle.record_io.specs.declared.kinds.RecordKind.TheVariants.{Protect, Open, Command, Monitor}
@@ -27,7 +27,6 @@ use Rattle.run_promise.specs.Answers.{codes_of}
 use Rattle.run_promise.specs.Fits.{Course, Fits}
 use Rattle.run_promise.specs.Numbers.{releases, mark_at}
 use Rattle.run_promise.specs.Run.{IsLegalHistory, NearWord}
-use Rattle.run_promise.specs.Stored.{stored_count}
 use Rattle.law_history.proofs.Codes.{fits_code}
 use Rattle.run_promise.specs.declared.limits.TheConstants.{MOST_ENTRIES}
 use Rattle.run_promise.specs.Begin.{Begin}
@@ -42,7 +41,7 @@ use Rattle.run_promise.specs.declared.end.RunEnd.TheVariants.{Ended, SiteFault}
 use Rattle.run_promise.specs.Call.{CallSeen, ShowsAtEntry, image_at_entry}
 use Rattle.run_promise.specs.Account.{Account, SaysSiteFailed, begin_of, course_of, deeds_from, deeds_in, due_octets, end_answer, end_octets, end_status}
 use Rattle.run_promise.specs.Causes.{TellsEnd}
-use Rattle.run_promise.specs.Ends.{IsJournalFull, IsReleased, IsSoundCall, RunEnds, due_releases}
+use Rattle.run_promise.specs.Ends.{IsReleased, IsSoundCall, RunEnds, due_releases}
 use Rattle.law_runs.specs.Says.{IsUnfailed, NoneFails, NoneWants}
 
 -- ---- codes
@@ -53,9 +52,9 @@ AreLow [] = ⊤
 AreLow (code ∷ codes) = (code ≤ NO_MEMORY) × AreLow codes
 
 are_low : (kind : RecordKind) → AreLow (codes_of kind)
-are_low Protect = (omega arith, (omega arith, (omega arith, (omega arith, (omega arith, (omega arith, (omega arith, (omega arith, (omega arith, (omega arith, tt))))))))))
-are_low Open = (omega arith, (omega arith, (omega arith, (omega arith, (omega arith, (omega arith, (omega arith, (omega arith, (omega arith, (omega arith, (omega arith, (omega arith, (omega arith, (omega arith, tt))))))))))))))
-are_low Command = (omega arith, (omega arith, (omega arith, (omega arith, (omega arith, (omega arith, tt))))))
+are_low Protect = (omega arith, (omega arith, (omega arith, (omega arith, (omega arith, (omega arith, (omega arith, (omega arith, (omega arith, tt)))))))))
+are_low Open = (omega arith, (omega arith, (omega arith, (omega arith, (omega arith, (omega arith, (omega arith, (omega arith, (omega arith, (omega arith, (omega arith, (omega arith, (omega arith, tt)))))))))))))
+are_low Command = (omega arith, (omega arith, (omega arith, (omega arith, (omega arith, tt)))))
 are_low Monitor = (omega arith, (omega arith, (omega arith, tt)))
 
 low_code : (codes : List ℕ) (code : ℕ) → AreLow codes → IsTrue (list_any (λ own. own == code) codes) → code ≤ NO_MEMORY
@@ -81,17 +80,17 @@ same_tasks (place ∷ places) [] others one two = absurd (omega arith)
 same_tasks (place ∷ places) (answer ∷ answers) [] one two = absurd (omega arith)
 same_tasks (place ∷ places) (answer ∷ answers) (other ∷ others) one two = (refl, same_tasks places answers others (omega arith) (omega arith))
 
--- an answer that tells neither a fault of the site nor want of memory has no code from 31 on
+-- an answer that tells neither a fault of the site nor that memory ran out has no code from 31 on
 one_served : (near : ℕ → ℕ → Type 0) (course : Course) (place : Place) (answer : Answer) → Fits near course place.task answer
-    → ¬ SaysSiteFailed answer → answer.code ≢ NO_MEMORY → answer.code ≤ JOURNAL_FULL
+    → ¬ SaysSiteFailed answer → answer.code ≢ NO_MEMORY → answer.code < SITE_FAULT
 one_served near course place answer fits fault wants =
     by_code answer.code (low_code (codes_of place.task.kind) answer.code (are_low place.task.kind) (fits_code near course place.task answer fits))
     wants (λ is. fault (inl is)) (λ is. fault (inr is))
   where
-    by_code : (code : ℕ) → code ≤ NO_MEMORY → (code ≡ NO_MEMORY → ⊥) → (code ≡ SITE_FAULT → ⊥) → (code ≡ STOPPED → ⊥) → code ≤ JOURNAL_FULL
-    by_code code low a b c = elim (cases_lt JOURNAL_FULL code) [
-      | inl high ↦ absurd (grind arith)
-      | inr small ↦ omega arith
+    by_code : (code : ℕ) → code ≤ NO_MEMORY → (code ≡ NO_MEMORY → ⊥) → (code ≡ SITE_FAULT → ⊥) → (code ≡ STOPPED → ⊥) → code < SITE_FAULT
+    by_code code low a b c = elim (cases_lt code SITE_FAULT) [
+      | inl small ↦ small
+      | inr high ↦ absurd (grind arith)
     ]
 
 -- so it is with the first answers
@@ -172,22 +171,15 @@ none_fails call run still wants = λ k d low. (
 -- ---- releases
 
 -- of two runs with the same entries of the lane and the same releases due, neither makes more releases than the other
-module _ (state : State) (base due : List Entry) (used slots : ℕ)
-    (adds : (state : State) (entries more : List Entry) → stored_count state (entries ++ more) ≡ stored_count state entries + stored_count (after state entries) more)
-    (stored : (count : ℕ) → stored_count (after state base) (take count due) ≡ length (take count due)) where
-  no_fewer : (count more : ℕ) → (count < length due → (used + stored_count state (base ++ take count due) ≡ slots) ⊎ (length (base ++ take count due) ≡ MOST_ENTRIES))
-      → used + stored_count state (base ++ take more due) ≤ slots → length (base ++ take more due) ≤ MOST_ENTRIES
-      → length (take more due) ≤ length (take count due)
-  no_fewer count more refused room bounded = elim (cases_lt count (length due)) [
+module _ (base due : List Entry) where
+  no_fewer : (count more : ℕ) → (count < length due → length (base ++ take count due) ≡ MOST_ENTRIES)
+      → length (base ++ take more due) ≤ MOST_ENTRIES → length (take more due) ≤ length (take count due)
+  no_fewer count more refused bounded = elim (cases_lt count (length due)) [
     | inr all ↦
         let a = length-take count due in let b = length-take more due in omega arith
-    | inl few ↦ elim (refused few) [
-      | inl full ↦
-          let a = adds state base (take count due) in let b = adds state base (take more due) in
-          let c = stored count in let d = stored more in omega arith
-      | inr long ↦
-          let a = length-append base (take count due) in let b = length-append base (take more due) in omega arith
-    ]
+    | inl few ↦
+        let long = refused few in
+        let a = length-append base (take count due) in let b = length-append base (take more due) in omega arith
   ]
 
   same_front : (count more : ℕ) → length (take more due) ≡ length (take count due) → take more due ≡ take count due
@@ -207,16 +199,14 @@ module _ (state : State) (base due : List Entry) (used slots : ℕ)
 -- ---- two calls
 
 -- what a call began with, by what its caller sees
-began_with : Bool → List ℕ → PlanLines → State → Begin
-began_with told image plan state =
-    record { rows = MOST_KEYS; told = told; plan = plan; start = state; slots = slots_of image; used = used_of image }
+began_with : Bool → PlanLines → State → Begin
+began_with told plan state = record { rows = MOST_KEYS; told = told; plan = plan; start = state }
 
 -- two calls over one image began with the same
 pub began_alike : (call other : CallSeen) (plan : PlanLines) (state : State) → IsTrue call.told → IsTrue other.told
-    → image_at_entry other ≡ image_at_entry call → begin_of other plan state ≡ begin_of call plan state
+    → begin_of other plan state ≡ begin_of call plan state
 unfolding began_with
-began_alike call other plan state told tells image = ap (λ (b : Bool). began_with b (image_at_entry other) plan state) (tells ∙ sym told)
-    ∙ ap (λ (i : List ℕ). began_with call.told i plan state) image
+began_alike call other plan state told tells = ap (λ (b : Bool). began_with b plan state) (tells ∙ sym told)
 
 module _ (call other : CallSeen) (run : RunEnds call) (again : RunEnds other) (plan : PlanLines) (state : State)
     (still : IsUnfailed call) (restill : IsUnfailed other)
@@ -225,17 +215,14 @@ module _ (call other : CallSeen) (run : RunEnds call) (again : RunEnds other) (p
     (handled : again.account.handled ≡ run.account.handled)
     (one : OneLane (records_of run.account.handled)) (fails : NoneFails run.account.answers) (refails : NoneFails again.account.answers)
     (once : (begin : Begin) (rows : ℕ) (words : ℕ → ℕ) (before : List Noted) (history : List Entry) (deeds others : List Deed) (moves more : List Move)
-    (own entries : List Entry) → IsTrue begin.told → AreReported before deeds → AreReported before others
+    (own entries : List Entry) → AreReported before deeds → AreReported before others
     → ((front rest : List Entry) → own ≡ front ++ rest → KeepsRules (after begin.start (history ++ front)))
     → SameTasks deeds others → AreServed deeds → AreServed others
     → ServesAll begin history deeds moves own → ServesAll begin history others more entries
     → Runs rows words moves → Runs rows words more
     → (map (λ (deed : Deed). deed.answer) deeds ≡ map (λ (deed : Deed). deed.answer) others) × (own ≡ entries) × (moves ≡ more))
     (along : (plan : PlanLines) (start : State) (places : List Place) (entries : List Entry) → IsLegalHistory plan start places entries
-    → (p : ℕ) → p ≤ length entries → KeepsRules (after_first start entries p))
-    (adds : (state : State) (entries more : List Entry) → stored_count state (entries ++ more) ≡ stored_count state entries + stored_count (after state entries) more)
-    (stored : (state : State) (place : ℕ) (words : List ℕ) (count : ℕ)
-    → stored_count state (take count (releases state place words)) ≡ length (take count (releases state place words))) where
+    → (p : ℕ) → p ≤ length entries → KeepsRules (after_first start entries p)) where
   reshows : ShowsAtEntry other plan state
   reshows = record {
     says = subst (λ (i : List ℕ). plan_of (held i).plan ≡ Ok plan) (sym image) shows.says;
@@ -257,7 +244,7 @@ module _ (call other : CallSeen) (run : RunEnds call) (again : RunEnds other) (p
   requiet rose = restill (rose_later other.site.faults again.account.last other.site_after.faults again.after_later rose)
 
   begins : begin_of other plan state ≡ begin_of call plan state
-  begins = began_alike call other plan state told tells image
+  begins = began_alike call other plan state told tells
 
   recounted : length again.account.answers ≡ length run.account.handled
   recounted = reach ∙ ap length handled
@@ -278,7 +265,7 @@ module _ (call other : CallSeen) (run : RunEnds call) (again : RunEnds other) (p
     all_same : (map (λ (deed : Deed). deed.answer) (deeds_in run.account) ≡ map (λ (deed : Deed). deed.answer) (deeds_in again.account))
         × (take s.run.history.run.ends call.entries ≡ take t.run.history.run.ends other.entries) × (e.moves ≡ f.moves)
     all_same = once (begin_of call plan state) MOST_KEYS (mark_at state) [] [] (deeds_in run.account) (deeds_in again.account) e.moves f.moves
-        (take s.run.history.run.ends call.entries) (take t.run.history.run.ends other.entries) told run.reports again.reports
+        (take s.run.history.run.ends call.entries) (take t.run.history.run.ends other.entries) run.reports again.reports
         (rules_front state call.entries s.run.history.run.ends (along plan state run.account.handled call.entries s.run.history)) tasks
         (all_served (NearWord state call.entries (records_of run.account.handled)) (course_of call run.account plan state) run.account.handled run.account.answers s.run.answers fails)
         (all_served (NearWord state other.entries (records_of again.account.handled)) (course_of other again.account plan state) again.account.handled again.account.answers t.run.answers
@@ -314,46 +301,23 @@ module _ (call other : CallSeen) (run : RunEnds call) (again : RunEnds other) (p
         ∙ ap (λ (l : List Entry). l ++ drop t.run.history.run.ends other.entries) (sym all_same.1)
         ∙ ap (λ (l : List Entry). base ++ l) (q.are_due ∙ ap (take q.count) same_due)
 
-    abbrev used : ℕ
-    used = used_of (image_at_entry call)
+    refused : r.count < length due → length (base ++ take r.count due) ≡ MOST_ENTRIES
+    refused few = elim (r.refused few) [
+      | inl rose ↦ absurd (still rose)
+      | inr long ↦ ap length (sym entries_are) ∙ long
+    ]
 
-    abbrev slots : ℕ
-    slots = slots_of (image_at_entry call)
-
-    refused : r.count < length due → (used + stored_count state (base ++ take r.count due) ≡ slots) ⊎ (length (base ++ take r.count due) ≡ MOST_ENTRIES)
-    refused few = by_cause (r.refused few)
-      where
-        by_cause : Rose call.site.faults call.site_after.faults ⊎ (IsJournalFull call state ⊎ (length call.entries ≡ MOST_ENTRIES))
-            → (used + stored_count state (base ++ take r.count due) ≡ slots) ⊎ (length (base ++ take r.count due) ≡ MOST_ENTRIES)
-        by_cause (inl rose) = absurd (still rose)
-        by_cause (inr (inl full)) = inl (subst (λ (l : List Entry). used + stored_count state l ≡ slots) entries_are full)
-        by_cause (inr (inr long)) = inr (ap length (sym entries_are) ∙ long)
-
-    rerefused : q.count < length due → (used + stored_count state (base ++ take q.count due) ≡ slots) ⊎ (length (base ++ take q.count due) ≡ MOST_ENTRIES)
-    rerefused few = by_cause (q.refused (let d = ap length same_due in omega arith))
-      where
-        by_cause : Rose other.site.faults other.site_after.faults ⊎ (IsJournalFull other state ⊎ (length other.entries ≡ MOST_ENTRIES))
-            → (used + stored_count state (base ++ take q.count due) ≡ slots) ⊎ (length (base ++ take q.count due) ≡ MOST_ENTRIES)
-        by_cause (inl rose) = absurd (restill rose)
-        by_cause (inr (inl full)) = inl (subst (λ (l : List Entry). used + stored_count state l ≡ slots) others_are
-            (subst (λ (i : List ℕ). used_of i + stored_count state other.entries ≡ slots_of i) image full))
-        by_cause (inr (inr long)) = inr (ap length (sym others_are) ∙ long)
-
-    room : used + stored_count state (base ++ take r.count due) ≤ slots
-    room = subst (λ (l : List Entry). used + stored_count state l ≤ slots) entries_are (r.room still)
-
-    reroom : used + stored_count state (base ++ take q.count due) ≤ slots
-    reroom = subst (λ (l : List Entry). used + stored_count state l ≤ slots) others_are
-        (subst (λ (i : List ℕ). used_of i + stored_count state other.entries ≤ slots_of i) image (q.room restill))
-
-    releases_stored : (count : ℕ) → stored_count (after state base) (take count due) ≡ length (take count due)
-    releases_stored count = stored (after state base) 0 r.words count
+    rerefused : q.count < length due → length (base ++ take q.count due) ≡ MOST_ENTRIES
+    rerefused few = elim (q.refused (let d = ap length same_due in omega arith)) [
+      | inl rose ↦ absurd (restill rose)
+      | inr long ↦ ap length (sym others_are) ∙ long
+    ]
 
     same_entries : other.entries ≡ call.entries
     same_entries =
-        let a = no_fewer state base due used slots adds releases_stored r.count q.count refused reroom (let b = again.bounded in let l = ap length others_are in omega arith) in
-        let c = no_fewer state base due used slots adds releases_stored q.count r.count rerefused room (let b = run.bounded in let l = ap length entries_are in omega arith) in
-        others_are ∙ ap (λ (l : List Entry). base ++ l) (same_front state base due used slots adds releases_stored r.count q.count (omega arith)) ∙ sym entries_are
+        let a = no_fewer base due r.count q.count refused (let b = again.bounded in let l = ap length others_are in omega arith) in
+        let c = no_fewer base due q.count r.count rerefused (let b = run.bounded in let l = ap length entries_are in omega arith) in
+        others_are ∙ ap (λ (l : List Entry). base ++ l) (same_front base due r.count q.count (omega arith)) ∙ sym entries_are
 
     same_due_octets : again.account.told ≡ run.account.told → due_octets other again.account ≡ due_octets call run.account
     same_due_octets ends = ap (λ (l : List Answer). answers_octets l ++ end_octets other again.account.told) same_answers

@@ -18,10 +18,10 @@ seen_near near far more k (seens.Number n) h = more k n h
 seen_near near far more k (seens.Exhausted n) h = more k n h
 
 module _ (near far : ℕ → ℕ → Type 0) (more : (k n : ℕ) → near k n → far k n) (plan : PlanLines) (start : State) (es : List Entry)
-    (rows rows' slots used before faults slots' used' before' faults' : ℕ) (told told' : Bool) where
+    (rows rows' before faults before' faults' : ℕ) (told told' : Bool) where
   abbrev old : Course
   old = record {
-    begin = record { rows = rows; told = told; plan = plan; start = start; slots = slots; used = used };
+    begin = record { rows = rows; told = told; plan = plan; start = start };
     faults_before = before;
     faults = faults;
     entries = es;
@@ -29,7 +29,7 @@ module _ (near far : ℕ → ℕ → Type 0) (more : (k n : ℕ) → near k n �
 
   abbrev new : Course
   new = record {
-    begin = record { rows = rows'; told = told'; plan = plan; start = start; slots = slots'; used = used' };
+    begin = record { rows = rows'; told = told'; plan = plan; start = start };
     faults_before = before';
     faults = faults';
     entries = es;

@@ -30,7 +30,7 @@ use Rattle.run_promise.specs.Causes.{CameBy, PutsDue, PutsFront, TellsEnd}
 use Rattle.law_runs.specs.Doing.{IsFounded, octets_put}
 use Rattle.law_runs.specs.Coming.{HasBroken, HasPut, StopsAtFullHistory, PutsBy, EndsReading}
 use Rattle.law_runs.specs.Ending.{Finishes, IsEndPut}
-use Rattle.law_runs.specs.Ran.{CountsSlots, Ran, begin_by}
+use Rattle.law_runs.specs.Ran.{Ran, begin_by}
 use Rattle.law_runs.proofs.Faults.{told_rose}
 use Rattle.law_runs.proofs.Doing.{ends_run}
 use Rattle.law_runs.proofs.Moved.{moved_run, settled_more}
@@ -47,15 +47,12 @@ use Rattle.run_promise.specs.Alone.{OneLane, IsExact}
 use Rattle.law_runs.proofs.Exacting.{exact_call}
 use Rattle.law_runs.proofs.Words.{moved_call}
 use Rattle.run_promise.specs.Words.{MovedWords}
-use Rattle.run_promise.specs.Ends.{ServesSoundly, IsEarly, IsJournalFull, IsReleased, IsServed, RunEnds}
+use Rattle.run_promise.specs.Ends.{ServesSoundly, IsEarly, IsReleased, IsServed, RunEnds}
 use Rattle.law_runs.proofs.Appending.{may_append}
 use Rattle.law_workers.proofs.WholeRun.{near, rules_at_end}
 use Rattle.unit_image.specs.Shows.{Shows, ShowsNone}
 use Rattle.unit_plan.specs.declared.plan_error.PlanFault.{PlanFault}
-use Rattle.run_promise.specs.Stored.{stored_count}
 use Rattle.unit_plan.specs.PlanLines.{PlanLines}
-use Rattle.unit_image.specs.Image.{slots_of, used_of}
-use Rattle.unit_image.proofs.Images.{records_of as image_records}
 use Rattle.run_promise.specs.Fits.{MayAppend, Course, Fits}
 use Rattle.run_promise.specs.Deed.{is_entered}
 use Rattle.law_runs.proofs.Assembled.{sound_run, covered_run}
@@ -204,8 +201,8 @@ module _ (told : Bool) (site after : SiteSeen) (source source_after : SourceSeen
   released_put : pieces_of end.released.log ≡ octets_put now
   released_put = released_pieces words book end.released end.answer end.releases ∙ ap pieces_of ran.log
 
-  has_put : (c : RunEnd) → c ≢ ends.PutFailed → PutsBy (begin_by told site.trace.now.image book.plan book.start) now site.put_faults book.site.put_faults ran.come.answers c
-      → HasPut (begin_by told site.trace.now.image book.plan book.start) now site.put_faults book.site.put_faults ran.come.answers
+  has_put : (c : RunEnd) → c ≢ ends.PutFailed → PutsBy (begin_by told book.plan book.start) now site.put_faults book.site.put_faults ran.come.answers c
+      → HasPut (begin_by told book.plan book.start) now site.put_faults book.site.put_faults ran.come.answers
   has_put ends.Ended other h = h
   has_put (ends.Malformed offset) other h = h
   has_put (ends.SourceFault count) other h = h
@@ -215,8 +212,8 @@ module _ (told : Bool) (site after : SiteSeen) (source source_after : SourceSeen
   has_put ends.SessionFull other h = h
   has_put ends.PutFailed other h = absurd (other refl)
 
-  pub has_broken : came ≡ ends.PutFailed → HasBroken (begin_by told site.trace.now.image book.plan book.start) now site.put_faults book.site.put_faults ran.come.answers
-  has_broken is = subst (PutsBy (begin_by told site.trace.now.image book.plan book.start) now site.put_faults book.site.put_faults ran.come.answers) is ran.come.put
+  pub has_broken : came ≡ ends.PutFailed → HasBroken (begin_by told book.plan book.start) now site.put_faults book.site.put_faults ran.come.answers
+  has_broken is = subst (PutsBy (begin_by told book.plan book.start) now site.put_faults book.site.put_faults ran.come.answers) is ran.come.put
 
   -- the octets of End, by the entries that the released book has
   end_is : answer_octets (end_answer end.end (length (entries_of end.released.log))) ≡ end_octets call end.end
@@ -267,7 +264,7 @@ module _ (told : Bool) (site after : SiteSeen) (source source_after : SourceSeen
   ]
     where
       go : (r : Result (Unit {0}) BookFault) → IsEndPut told end.end end.released end.last status
-          → HasPut (begin_by told site.trace.now.image book.plan book.start) now site.put_faults book.site.put_faults ran.come.answers
+          → HasPut (begin_by told book.plan book.start) now site.put_faults book.site.put_faults ran.come.answers
           → end.last.site.put_faults ≡ sites.after_put r end.released.site.put_faults
           → (IsTrue told → sites.Puts (answer_octets (end_answer end.end (length (entries_of end.released.log)))) r end.released.site.trace end.last.site.trace)
           → MatchResult r (λ _. (status ≡ end_status end.end) × (end.last.site.faults ≡ end.released.site.faults))
@@ -413,15 +410,15 @@ module _ (told : Bool) (site after : SiteSeen) (source source_after : SourceSeen
 
   faults_told : All (λ (answer : Answer). SaysSiteFailed answer → Rose site.faults book.site.faults) ran.come.answers
   faults_told k d low fault =
-      let B : Begin = begin_by told site.trace.now.image book.plan book.start in
-      let r = told_rose (IsBetween (begin_by told site.trace.now.image book.plan book.start) first now) (course_in (begin_by told site.trace.now.image book.plan book.start) now)
+      let B : Begin = begin_by told book.plan book.start in
+      let r = told_rose (IsBetween (begin_by told book.plan book.start) first now) (course_in (begin_by told book.plan book.start) now)
       (places_of ran.come.of) ran.come.answers ran.come.few ran.come.done.does.answers.fit k d low fault in
       let a = ran.known in let b = ran.known_first in let c = ran.same_faults in omega arith
 
   -- ---- the run is sound
 
   abbrev begin : Begin
-  begin = begin_by told site.trace.now.image book.plan book.start
+  begin = begin_by told book.plan book.start
 
   abbrev places : List Place
   places = places_of ran.come.of
@@ -487,7 +484,7 @@ module _ (told : Bool) (site after : SiteSeen) (source source_after : SourceSeen
   stopped_so : Rose now.turn.known.opening.faults now.turn.known.faults → take entries_added.count (releases book.state 0 words) ≡ []
   stopped_so rose = none_released (let a = ran.known in let b = ran.known_first in let r = rose in omega arith)
 
-  course_is : course_at_end (begin_by told site.trace.now.image book.plan book.start) now (take entries_added.count (releases book.state 0 words)) book.site.faults
+  course_is : course_at_end (begin_by told book.plan book.start) now (take entries_added.count (releases book.state 0 words)) book.site.faults
       ≡ course_of call account book.plan book.start
   course_is =
       ap (λ (n : ℕ). record (course_of call account book.plan book.start) { faults_before = n; entries = entries_in now ++ take entries_added.count (releases book.state 0 words) })
@@ -495,20 +492,20 @@ module _ (told : Bool) (site after : SiteSeen) (source source_after : SourceSeen
       ∙ ap (λ (l : List Entry). record (course_of call account book.plan book.start) { entries = l }) (sym entries_split)
 
   module _ (is_told : IsTrue told) where
-    abbrev founded : IsFounded (begin_by told site.trace.now.image book.plan book.start) first
+    abbrev founded : IsFounded (begin_by told book.plan book.start) first
     founded = ran.founded is_told
 
-    abbrev known_end : EndsRun (begin_by told site.trace.now.image book.plan book.start) first now (places_of ran.come.of) (deeds_from (places_of ran.come.of) ran.come.answers)
+    abbrev known_end : EndsRun (begin_by told book.plan book.start) first now (places_of ran.come.of) (deeds_from (places_of ran.come.of) ran.come.answers)
         (λ row. slice_index words row) (take entries_added.count (releases book.state 0 words)) book.site.faults
-    known_end = ends_run (begin_by told site.trace.now.image book.plan book.start) first now (places_of ran.come.of) ran.come.answers (ran.founded is_told) ran.come.done
+    known_end = ends_run (begin_by told book.plan book.start) first now (places_of ran.come.of) ran.come.answers (ran.founded is_told) ran.come.done
         ran.whole up (λ row. slice_index words row) ran.stand (take entries_added.count (releases book.state 0 words)) are_of_keys book.site.faults
         (let a = ran.known in omega arith) stopped_so
 
     sound_so : IsSound
-        (course_at_end (begin_by told site.trace.now.image book.plan book.start) now (take entries_added.count (releases book.state 0 words)) book.site.faults)
+        (course_at_end (begin_by told book.plan book.start) now (take entries_added.count (releases book.state 0 words)) book.site.faults)
         (places_of ran.come.of) (deeds_from (places_of ran.come.of) ran.come.answers)
     sound_so = let e = known_end in
-        sound_run (begin_by told site.trace.now.image book.plan book.start) first now (places_of ran.come.of) (deeds_from (places_of ran.come.of) ran.come.answers)
+        sound_run (begin_by told book.plan book.start) first now (places_of ran.come.of) (deeds_from (places_of ran.come.of) ran.come.answers)
         e.opened e.does e.whole e.rows e.plan_is e.rules e.left (λ row. slice_index words row) e.words_are (take entries_added.count (releases book.state 0 words)) e.releases_are
         e.pieces e.lined e.once e.ascend book.site.faults e.fewer e.stopped ran.come.reports
 
@@ -516,14 +513,14 @@ module _ (told : Bool) (site after : SiteSeen) (source source_after : SourceSeen
         (deeds_from (places_of ran.come.of) ran.come.answers)
     covered_so = let e = known_end in
         subst (λ (c : Course). StaysCovered c (deeds_from (places_of ran.come.of) ran.come.answers)) course_is
-        (covered_run (begin_by told site.trace.now.image book.plan book.start) first now (places_of ran.come.of) (deeds_from (places_of ran.come.of) ran.come.answers)
+        (covered_run (begin_by told book.plan book.start) first now (places_of ran.come.of) (deeds_from (places_of ran.come.of) ran.come.answers)
         e.opened e.does e.whole e.rows e.plan_is e.rules e.left (λ row. slice_index words row) e.words_are (take entries_added.count (releases book.state 0 words)) e.releases_are
         e.pieces e.lined e.once e.ascend book.site.faults e.fewer e.stopped)
 
     abbrev run_so : LegalRun book.plan book.start (records_of (places_of ran.come.of)) (TurnIn (places_of ran.come.of)) (entries_in now ++ take entries_added.count (releases book.state 0 words))
-    run_so = legal_run (begin_by told site.trace.now.image book.plan book.start) first now (records_of (places_of ran.come.of)) (deeds_from (places_of ran.come.of) ran.come.answers)
+    run_so = legal_run (begin_by told book.plan book.start) first now (records_of (places_of ran.come.of)) (deeds_from (places_of ran.come.of) ran.come.answers)
         known_end.opened known_end.does known_end.whole known_end.rows known_end.rules
-        (rules_at_end (begin_by told site.trace.now.image book.plan book.start) first now (places_of ran.come.of) (deeds_from (places_of ran.come.of) ran.come.answers)
+        (rules_at_end (begin_by told book.plan book.start) first now (places_of ran.come.of) (deeds_from (places_of ran.come.of) ran.come.answers)
         known_end.opened known_end.does known_end.whole known_end.plan_is known_end.rules)
         (λ row. slice_index words row) known_end.words_are (take entries_added.count (releases book.state 0 words)) known_end.releases_are
         (TurnIn (places_of ran.come.of)) known_end.pieces known_end.lined known_end.once
@@ -584,7 +581,7 @@ module _ (told : Bool) (site after : SiteSeen) (source source_after : SourceSeen
         let (rest, is) = log_on in
         subst (λ (l : List Logged). AreSettled (course_of call account book.plan book.start) end.last.standing l 0
         (deeds_from (places_of ran.come.of) ran.come.answers)) (sym is)
-        (settled_more (course_in (begin_by told site.trace.now.image book.plan book.start) now) (course_of call account book.plan book.start)
+        (settled_more (course_in (begin_by told book.plan book.start) now) (course_of call account book.plan book.start)
         refl book.standing end.last.standing standing_on (log_of now) rest refl (end.entries_are ∙ ap entries_of is) 0
         (deeds_from (places_of ran.come.of) ran.come.answers) (ran.come.settled is_told (ran.founded is_told)))
 
@@ -645,19 +642,6 @@ module _ (told : Bool) (site after : SiteSeen) (source source_after : SourceSeen
   rose_to_end : Rose book.opened.faults book.site.faults → Rose site.faults after.faults
   rose_to_end rose = let a = ran.same_faults in let b = end.goes_on.later in let c = last_later in let d = after_faults in omega arith
 
-  -- no more slots are used than there are: the last book's journal is that of its image
-  room_so : CountsSlots told site.trace.now.image end.last → IsTrue told → ¬ Rose site.faults after.faults
-      → used_of site.trace.now.image + stored_count book.start entries ≤ slots_of site.trace.now.image
-  room_so slots is_told stood =
-      let calm : ¬ Rose end.last.opened.faults end.last.site.faults =
-      λ rose. stood (let a = ap (λ (s : SiteSeen). s.faults) last_opened in let b = ran.same_faults in let c = after_faults in let r = rose in omega arith) in
-      let counted = slots is_told calm in
-      let journal = (end.kept.current is_told calm).settled.opened.of_image in
-      let few : used_of end.last.site.trace.now.image ≤ slots_of end.last.site.trace.now.image = (image_records end.last.site.trace.now.image).within in
-      let same : stored_count end.last.start (entries_of end.last.log) ≡ stored_count book.start entries =
-      ap (λ (st : State). stored_count st (entries_of end.last.log)) (started is_told) ∙ ap (stored_count book.start) (sym end.entries_are) in
-      let a = counted.0 in let b = counted.1 in let c = journal.slots in let d = journal.used in omega arith
-
   -- the state behind the entries of the lanes
   at_close : after_first book.start entries (length (entries_in now)) ≡ histories.after book.start (entries_in now)
   at_close =
@@ -669,9 +653,9 @@ module _ (told : Bool) (site after : SiteSeen) (source source_after : SourceSeen
   near_so is_told key row is =
       let e = known_end is_told in
       subst (λ (l : List Entry). NearWord book.start l (records_of (places_of ran.come.of)) key (slice_index words row)) (sym entries_split)
-      (word_near (begin_by told site.trace.now.image book.plan book.start) first now (records_of (places_of ran.come.of)) (deeds_from (places_of ran.come.of) ran.come.answers)
+      (word_near (begin_by told book.plan book.start) first now (records_of (places_of ran.come.of)) (deeds_from (places_of ran.come.of) ran.come.answers)
       e.opened e.does e.whole e.rows e.rules
-      (rules_at_end (begin_by told site.trace.now.image book.plan book.start) first now (places_of ran.come.of) (deeds_from (places_of ran.come.of) ran.come.answers)
+      (rules_at_end (begin_by told book.plan book.start) first now (places_of ran.come.of) (deeds_from (places_of ran.come.of) ran.come.answers)
       e.opened e.does e.whole e.plan_is e.rules)
       (λ row. slice_index words row) e.words_are (take entries_added.count (releases book.state 0 words)) e.releases_are key row
       (ap (λ (st : State). place_of st.keys key) (sym at_close) ∙ is))
@@ -681,21 +665,20 @@ module _ (told : Bool) (site after : SiteSeen) (source source_after : SourceSeen
       (deeds_from (places_of ran.come.of) ran.come.answers)
   above_so is_told k x low key number row uses is =
       let e = known_end is_told in
-      used_below (begin_by told site.trace.now.image book.plan book.start) first now (records_of (places_of ran.come.of)) (deeds_from (places_of ran.come.of) ran.come.answers)
+      used_below (begin_by told book.plan book.start) first now (records_of (places_of ran.come.of)) (deeds_from (places_of ran.come.of) ran.come.answers)
       e.opened e.does e.whole e.rows e.rules
-      (rules_at_end (begin_by told site.trace.now.image book.plan book.start) first now (places_of ran.come.of) (deeds_from (places_of ran.come.of) ran.come.answers)
+      (rules_at_end (begin_by told book.plan book.start) first now (places_of ran.come.of) (deeds_from (places_of ran.come.of) ran.come.answers)
       e.opened e.does e.whole e.plan_is e.rules)
       (λ row. slice_index words row) e.words_are (take entries_added.count (releases book.state 0 words)) e.releases_are k x low key number row uses
       (ap (λ (st : State). place_of st.keys key) (sym at_close) ∙ is)
 
   moved_so : IsTrue told → MovedWords call account book.start words
   moved_so is_told =
-      moved_call call account (begin_by told site.trace.now.image book.plan book.start) first now words
+      moved_call call account (begin_by told book.plan book.start) first now words
       (take entries_added.count (releases book.state 0 words)) refl (ran.founded is_told).opened ran.stand (known_end is_told).once ran.come.moved entries_split
 
-  released_so : CountsSlots told site.trace.now.image end.last → IsTrue told
-      → (r : IsReleased call account book.start (length (entries_in now))) × (r.words ≡ words)
-  released_so slots is_told = elim rose_or [
+  released_so : IsTrue told → (r : IsReleased call account book.start (length (entries_in now))) × (r.words ≡ words)
+  released_so is_told = elim rose_or [
     | inl rose ↦ (
       record {
         words = words;
@@ -709,7 +692,6 @@ module _ (told : Bool) (site after : SiteSeen) (source source_after : SourceSeen
         moved = moved_so is_told;
         near = near_so is_told;
         above = above_so is_told;
-        room = room_so slots is_told;
       },
       refl,
     )
@@ -734,41 +716,17 @@ module _ (told : Bool) (site after : SiteSeen) (source source_after : SourceSeen
             moved = moved_so is_told;
             near = near_so is_told;
             above = above_so is_told;
-            room = room_so slots is_told;
           },
           refl,
         )
   ]
     where
-      full_journal : end.released.journal.used ≡ end.released.journal.slots → (end.last.journal.used ≡ end.last.journal.slots)
-      full_journal is = elim end.puts_end [
-        | inl broken ↦ ap (λ (b : BookView). b.journal.used) broken.1 ∙ is ∙ sym (ap (λ (b : BookView). b.journal.slots) broken.1)
-        | inr put ↦ ap (λ (b : BookView). b.journal.used) put.1.made ∙ is ∙ sym (ap (λ (b : BookView). b.journal.slots) put.1.made)
-      ]
-
-      started_last : end.last.start ≡ book.start
-      started_last = elim end.puts_end [
-        | inl broken ↦ ap (λ (b : BookView). b.start) broken.1 ∙ end.goes_on.start
-        | inr put ↦ ap (λ (b : BookView). b.start) put.1.made ∙ end.goes_on.start
-      ]
-
-      refused_by : IsRefusedRelease end.released
-          → Rose site.faults after.faults ⊎ (IsJournalFull call book.start ⊎ (length entries ≡ MOST_ENTRIES))
+      refused_by : IsRefusedRelease end.released → Rose site.faults after.faults ⊎ (length entries ≡ MOST_ENTRIES)
       refused_by (inl rose) = inl (let a = ap (λ (s : SiteSeen). s.faults) end.goes_on.opened in let b = ran.same_faults in let c = last_later in let d = after_faults in let r = rose in omega arith)
-      refused_by (inr (inl full)) = inr (inr (let a = ap length entries_known in omega arith))
-      refused_by (inr (inr none_free)) = elim (cases_lt end.last.site.faults (min (end.last.opened.faults + 1) 18446744073709551615)) [
-        | inr ge ↦ inl (let a = ap (λ (s : SiteSeen). s.faults) last_opened in let b = ran.same_faults in let c = after_faults in omega arith)
-        | inl lt ↦
-            let c = slots is_told (λ rose. absurd (omega arith)) in
-            let u = full_journal none_free in
-            let e : stored_count end.last.start (entries_of end.last.log) ≡ stored_count book.start entries =
-            ap (λ (st : State). stored_count st (entries_of end.last.log)) started_last ∙ ap (stored_count book.start) (sym end.entries_are) in
-            inr (inl (let x = c.0 in let z = c.1 in omega arith))
-      ]
+      refused_by (inr full) = inr (let a = ap length entries_known in omega arith)
 
   module _ (shows_one : (image : List ℕ) (one other : State) → Shows image one → Shows image other → one ≡ other)
-      (shows_some : (image : List ℕ) (state : State) (offset : ℕ) → Shows image state → ¬ ShowsNone image offset)
-      (slots : CountsSlots told site.trace.now.image end.last) where
+      (shows_some : (image : List ℕ) (state : State) (offset : ℕ) → Shows image state → ¬ ShowsNone image offset) where
     plan_same : IsTrue told → (plan : PlanLines) (state : State) → ShowsAtEntry call plan state → plan ≡ book.plan
     plan_same is_told plan state shows = same_ok plan book.plan (sym shows.says ∙ ran.says is_told)
 
@@ -802,22 +760,22 @@ module _ (told : Bool) (site after : SiteSeen) (source source_after : SourceSeen
           unmade = subst (λ (es : List Entry). HasNoEntry es f.place.task.index) (sym same) f.unmade;
         }
       where
-        due_at : (f : StopsAtFullHistory (begin_by told site.trace.now.image book.plan book.start) first now (places_of ran.come.of) ran.come.answers) → entries ≡ entries_in now
+        due_at : (f : StopsAtFullHistory (begin_by told book.plan book.start) first now (places_of ran.come.of) ran.come.answers) → entries ≡ entries_in now
             → IsTrue told → (plan : PlanLines) (state : State) → ShowsAtEntry call plan state
-            → IsTrue (is_entered f.place.task.kind) ⊎ MayAppend (IsBetween (begin_by told site.trace.now.image book.plan book.start) first now) (course_in (begin_by told site.trace.now.image book.plan book.start) now) MOST_ENTRIES f.place.task
+            → IsTrue (is_entered f.place.task.kind) ⊎ MayAppend (IsBetween (begin_by told book.plan book.start) first now) (course_in (begin_by told book.plan book.start) now) MOST_ENTRIES f.place.task
             → IsTrue (is_entered f.place.task.kind) ⊎ MayAppend (NearWord state entries (records_of (places_of ran.come.of))) (course_of call account plan state) MOST_ENTRIES f.place.task
         due_at f same is_told plan state shows (inl other) = inl other
         due_at f same is_told plan state shows (inr may) =
-            let far : (k n : ℕ) → IsBetween (begin_by told site.trace.now.image book.plan book.start) first now k n → NearWord book.start (entries_in now) (records_of (places_of ran.come.of)) k n =
+            let far : (k n : ℕ) → IsBetween (begin_by told book.plan book.start) first now k n → NearWord book.start (entries_in now) (records_of (places_of ran.come.of)) k n =
             (let e = known_end is_told in
-            near (begin_by told site.trace.now.image book.plan book.start) first now (records_of (places_of ran.come.of)) (deeds_from (places_of ran.come.of) ran.come.answers)
+            near (begin_by told book.plan book.start) first now (records_of (places_of ran.come.of)) (deeds_from (places_of ran.come.of) ran.come.answers)
             e.opened e.does e.whole e.rows e.rules
-            (rules_at_end (begin_by told site.trace.now.image book.plan book.start) first now (places_of ran.come.of) (deeds_from (places_of ran.come.of) ran.come.answers)
+            (rules_at_end (begin_by told book.plan book.start) first now (places_of ran.come.of) (deeds_from (places_of ran.come.of) ran.come.answers)
             e.opened e.does e.whole e.plan_is e.rules)) in
             let here : MayAppend (NearWord book.start (entries_in now) (records_of (places_of ran.come.of)))
             (record (course_of call account book.plan book.start) { entries = entries_in now }) MOST_ENTRIES f.place.task =
-            may_append (IsBetween (begin_by told site.trace.now.image book.plan book.start) first now) (NearWord book.start (entries_in now) (records_of (places_of ran.come.of))) far
-            book.plan book.start (entries_in now) _ _ _ _ _ _ _ _ _ _ _ _ MOST_ENTRIES f.place.task may in
+            may_append (IsBetween (begin_by told book.plan book.start) first now) (NearWord book.start (entries_in now) (records_of (places_of ran.come.of))) far
+            book.plan book.start (entries_in now) _ _ _ _ _ _ _ _ MOST_ENTRIES f.place.task may in
             let there : MayAppend (NearWord book.start entries (records_of (places_of ran.come.of))) (course_of call account book.plan book.start) MOST_ENTRIES f.place.task =
             subst (λ (l : List Entry). MayAppend (NearWord book.start l (records_of (places_of ran.come.of))) (record (course_of call account book.plan book.start) { entries = l }) MOST_ENTRIES f.place.task)
             (sym same) here in
@@ -840,14 +798,14 @@ module _ (told : Bool) (site after : SiteSeen) (source source_after : SourceSeen
     -- where its records are of one lane
     exact_so : IsTrue told → OneLane (records_of (places_of ran.come.of)) → IsExact call account book.plan book.start words (length (entries_in now))
     exact_so is_told one =
-        exact_call call account book.plan (begin_by told site.trace.now.image book.plan book.start) first now words
+        exact_call call account book.plan (begin_by told book.plan book.start) first now words
         (take entries_added.count (releases book.state 0 words)) refl (ran.founded is_told).opened ran.whole ran.stand (ran.come.exactly one) entries_split
         (ran.known_first ∙ ran.same_faults) ran.known
 
     sound_call : IsTrue told → ServesSoundly call account book.plan book.start
     unfolding legal_run
     sound_call is_told =
-        let (r, same) = released_so slots is_told in
+        let (r, same) = released_so is_told in
         record {
           sound = record { run = sound_call_run is_told; moments = moments_so is_told };
           released = r;

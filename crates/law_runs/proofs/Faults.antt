@@ -65,10 +65,9 @@ counted course code answer h = let a = h.rose in let b = h.counted in omega arit
 
 any_rose : (near : ℕ → ℕ → Type 0) (course : Course) (task : Record) (answer : Answer) → FitsAny near course task answer → SaysSiteFailed answer
     → Rose course.faults_before course.faults
-any_rose near course task answer (inl is) fault = absurd (not_fault answer _ is.told refl fault)
+any_rose near course task answer (inl is) fault = counted course _ answer is.tells
 any_rose near course task answer (inr (inl is)) fault = counted course _ answer is.tells
-any_rose near course task answer (inr (inr (inl is))) fault = counted course _ answer is.tells
-any_rose near course task answer (inr (inr (inr is))) fault = absurd (not_fault answer _ is.told refl fault)
+any_rose near course task answer (inr (inr is)) fault = absurd (not_fault answer _ is.told refl fault)
 
 kind_rose : (near : ℕ → ℕ → Type 0) (course : Course) (task : Record) (answer : Answer) (kind : RecordKind) → FitsKind near course task answer kind
     → SaysSiteFailed answer → Rose course.faults_before course.faults

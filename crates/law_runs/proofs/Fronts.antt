@@ -1,5 +1,5 @@
 -- Two runs of one lane over one image that handled the same records: as far as both have answers, these are the same.
-use Rattle.std.proofs.Common.{◌≡◌, ℕ, zero, suc, ◌+◌, ◌≤◌, IsTrue, List, [], ◌∷◌, ◌++◌, length, map, take, Ok, refl, sym, ◌∙◌, ap, subst, arith, append_assoc}
+use Rattle.std.proofs.Common.{◌≡◌, ℕ, zero, suc, ◌≤◌, IsTrue, List, [], ◌∷◌, ◌++◌, length, map, take, Ok, refl, sym, ◌∙◌, ap, subst, arith, append_assoc}
 use Rattle.std.proofs.lemmas.List.{take_all}
 use Rattle.sdls_base.specs.declared.TheConstants.{MOST_KEYS}
 use Rattle.sdls_base.specs.declared.entry.Entry.{Entry}
@@ -12,8 +12,7 @@ use Rattle.unit_plan.specs.PlanLines.{PlanLines}
 use Rattle.unit_state.specs.declared.state.State.{State}
 use Rattle.unit_state.specs.State.{KeepsRules}
 use Rattle.unit_state.specs.History.{after, after_first}
-use Rattle.run_promise.specs.Numbers.{mark_at, releases}
-use Rattle.run_promise.specs.Stored.{stored_count}
+use Rattle.run_promise.specs.Numbers.{mark_at}
 use Rattle.run_promise.specs.Run.{IsLegalHistory, NearWord}
 use Rattle.run_promise.specs.Begin.{Begin}
 use Rattle.run_promise.specs.Deed.{Deed}
@@ -92,7 +91,7 @@ module _ (call other : CallSeen) (run : RunEnds call) (again : RunEnds other) (p
     (handled : again.account.handled ≡ run.account.handled)
     (one : OneLane (records_of run.account.handled))
     (once : (begin : Begin) (rows : ℕ) (words : ℕ → ℕ) (before : List Noted) (history : List Entry) (deeds others : List Deed) (moves more : List Move)
-    (own entries : List Entry) → IsTrue begin.told → AreReported before deeds → AreReported before others
+    (own entries : List Entry) → AreReported before deeds → AreReported before others
     → ((front rest : List Entry) → own ≡ front ++ rest → KeepsRules (after begin.start (history ++ front)))
     → SameTasks deeds others → AreServed deeds → AreServed others
     → ServesAll begin history deeds moves own → ServesAll begin history others more entries
@@ -120,9 +119,9 @@ module _ (call other : CallSeen) (run : RunEnds call) (again : RunEnds other) (p
           let (entries, left, at, reserves, few_left, zero_left) = f.served in
           let (front, more, split, served) = front_serves (begin_of call plan state) [] n (deeds_in run.account) e.moves own serves in
           let (back, most, cut, reserved) = front_serves (begin_of call plan state) [] n (deeds_in again.account) f.moves entries
-          (subst (λ (b : Begin). ServesAll b [] (deeds_in again.account) f.moves entries) (began_alike call other plan state told tells image) reserves) in
+          (subst (λ (b : Begin). ServesAll b [] (deeds_in again.account) f.moves entries) (began_alike call other plan state told tells) reserves) in
           let both = once (begin_of call plan state) MOST_KEYS (mark_at state) [] [] (take n (deeds_in run.account)) (take n (deeds_in again.account))
-          (take n e.moves) (take n f.moves) front back told (front_reported n [] (deeds_in run.account) run.reports)
+          (take n e.moves) (take n f.moves) front back (front_reported n [] (deeds_in run.account) run.reports)
           (front_reported n [] (deeds_in again.account) again.reports)
           (λ (some : List Entry) (behind : List Entry) there.
           rules_front state call.entries s.run.history.run.ends (along plan state run.account.handled call.entries s.run.history) some (behind ++ (more ++ rest))
@@ -149,12 +148,8 @@ module _ (call other : CallSeen) (run : RunEnds call) (again : RunEnds other) (p
 
   -- where each record was answered, all answers are the same, and the entries too, where the site did not fail
   pub alike : length run.account.answers ≡ length run.account.handled → length again.account.answers ≡ length again.account.handled
-      → NoneFails run.account.answers → NoneFails again.account.answers
-      → ((state : State) (entries more : List Entry) → stored_count state (entries ++ more) ≡ stored_count state entries + stored_count (after state entries) more)
-      → ((state : State) (place : ℕ) (words : List ℕ) (count : ℕ)
-      → stored_count state (take count (releases state place words)) ≡ length (take count (releases state place words)))
-      → AnswersAlike call other run.account again.account
-  alike each reach fails refails adds stored =
+      → NoneFails run.account.answers → NoneFails again.account.answers → AnswersAlike call other run.account again.account
+  alike each reach fails refails =
       let counted : length again.account.answers ≡ length run.account.answers = reach ∙ ap length handled ∙ sym each in
       let all : take (length run.account.answers) run.account.answers ≡ run.account.answers =
       take_all (length run.account.answers) run.account.answers (omega arith) in
@@ -162,7 +157,7 @@ module _ (call other : CallSeen) (run : RunEnds call) (again : RunEnds other) (p
       take_all (length run.account.answers) again.account.answers (omega arith) in
       let entries : IsUnfailed call → IsUnfailed other → (other.entries ≡ call.entries)
       × (again.account.told ≡ run.account.told → due_octets other again.account ≡ due_octets call run.account) = λ still restill.
-      entries_alike call other run again plan state still restill each reach told tells image shows handled one fails refails once along adds stored in
+      entries_alike call other run again plan state still restill each reach told tells image shows handled one fails refails once along in
       record {
         answers = sym reall ∙ fronts_alike (length run.account.answers) (omega arith) (omega arith)
             (subst NoneFails (sym all) fails) (subst NoneFails (sym reall) refails) ∙ all;

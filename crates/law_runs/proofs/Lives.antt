@@ -6,8 +6,9 @@ use Rattle.std.proofs.lemmas.List.Elements.{All-append}
 use Rattle.std.proofs.lemmas.List.Kept.{AllPairs-cons}
 use Rattle.std.proofs.lemmas.Bool.Decides.{nat_tests}
 use Rattle.sdls_base.specs.declared.entry.Entry.{Entry}
-use Rattle.unit_image.specs.Image.{held, IsOpenedForm, Settles, StaysWithin}
-use Rattle.unit_image.proofs.Images.{stays_opened}
+use Rattle.unit_image.specs.Image.{held, HasOneClosed, Holds, IsOpenedForm, Settles}
+use Rattle.law_image.specs.Keeping.{IsShown, KeepsForms}
+use Rattle.law_image.proofs.Images.{shown_before, stays_opened}
 use Rattle.key_book.specs.declared.key_row.KeyRow.{KeyRow}
 use Rattle.record_io.specs.declared.kinds.RecordKind.{RecordKind}
 use Rattle.record_io.specs.declared.kinds.RecordKind.TheVariants.{Protect, Open, Command, Monitor}
@@ -51,9 +52,9 @@ use Rattle.unit_plan.specs.PlanLines.{PlanLines, link_of}
 use Rattle.run_promise.specs.ProtectingFrames.{protect_reply, layout_check}
 use Rattle.run_promise.specs.Deed.{is_protected, Deed, is_ordered, tells_entry, Differ}
 use Rattle.run_promise.specs.Sound.{EachBegun, IsCoveredBy}
-use Rattle.run_promise.specs.Life.{LifeRun, IsRun, FollowFrom, IsLife, left_by, Given, answers_begun, given_of, given_in, state_told, UsesOctets, AcceptsOctets, AreApart, OnceInLife}
-use Rattle.law_runs.specs.Known.{IsShown, Knows, LeavesKnowing}
-use Rattle.law_runs.proofs.Initials.{initial_shows, initial_rests}
+use Rattle.run_promise.specs.Life.{LifeRun, IsRun, IsInitial, FollowFrom, IsLife, left_by, Given, answers_begun, given_of, given_in, state_told, UsesOctets, AcceptsOctets, AreApart, OnceInLife}
+use Rattle.law_runs.specs.Known.{Knows, LeavesKnowing}
+use Rattle.law_runs.proofs.Initials.{initial_rests, initial_settled, initial_shows}
 
 all_cons : {X : Type 0} (P : X → Type 0) (x : X) (xs : List X) → P x → All P xs → All P (x ∷ xs)
 all_cons P x xs h t zero d low = h
@@ -124,24 +125,13 @@ pub record IsKnown (state : State) (given : Given) : Type 0 where
   pub named : (key : ℕ) (octets : List ℕ) (number : ℕ) → UsesOctets given key octets number → IsLoadedWith state key octets
   pub opened : (key : ℕ) (octets : List ℕ) (number : ℕ) → AcceptsOctets given key octets number → IsLoadedWith state key octets
 
--- an image whose gate was being closed shows what it showed before, or what its opened form showed
-shown_before : (start image : List ℕ) (at_start state : State) → Shows start at_start → Settles start image → IsShown image state → IsShown start state
-shown_before start image at_start state shows settles shown =
-    let within : StaysWithin start image = stays_opened start image shows.holds.opens settles in
-    elim shown [
-      | inl here ↦ elim within.holds [
-        | inl same ↦ inl (record {
-          what = held start;
-          holds = record { opens = shows.holds.opens; is = refl };
-          says = subst (λ (what : _). Says what state) (sym here.holds.is ∙ same.is) here.says;
-        })
-        | inr opened ↦ inr (image, opened, here)
-      ]
-      | inr torn ↦ elim (within.forms torn.0 torn.1) [
-        | inl is ↦ inl (subst (λ (i : List ℕ). Shows i state) is torn.2)
-        | inr opened ↦ inr (torn.0, opened, torn.2)
-      ]
-    ]
+-- an image that holds what another one holds shows the state that that one shows
+holding_shows : (start image : List ℕ) (state : State) → Shows start state → Holds image (held start) → Shows image state
+holding_shows start image state shows holds = record {
+  what = held start;
+  holds = holds;
+  says = subst (λ (what : _). Says what state) (sym shows.holds.is) shows.says;
+}
 
 -- a state that an image shows is one that a restart left
 left_restarted : (image : List ℕ) (state : State) → Shows image state → restarted state ≡ state
@@ -236,10 +226,9 @@ module _ (near : ℕ → ℕ → Type 0) (course : Course) where
       not_told (Err faults.Channel) answer e c = let k = ap (λ (t : Told). t.code) (same_Some _ (told_by answer) e) in absurd (omega arith)
       not_told (Err faults.State) answer e c = let k = ap (λ (t : Told). t.code) (same_Some _ (told_by answer) e) in absurd (omega arith)
   told_epoch deed Protect is p code (inr (inr (inl h))) = let k = ap (λ (t : Told). t.code) h.told in absurd (omega arith)
-  told_epoch deed Protect is p code (inr (inr (inr (inl h)))) = let k = ap (λ (t : Told). t.code) h.told in absurd (omega arith)
+  told_epoch deed Protect is p code (inr (inr (inr (inl h)))) = let k = ap (λ (t : Told). t.code) h.tells.told in absurd (omega arith)
   told_epoch deed Protect is p code (inr (inr (inr (inr (inl h))))) = let k = ap (λ (t : Told). t.code) h.tells.told in absurd (omega arith)
-  told_epoch deed Protect is p code (inr (inr (inr (inr (inr (inl h)))))) = let k = ap (λ (t : Told). t.code) h.tells.told in absurd (omega arith)
-  told_epoch deed Protect is p code (inr (inr (inr (inr (inr (inr h)))))) = let k = ap (λ (t : Told). t.code) h.told in absurd (omega arith)
+  told_epoch deed Protect is p code (inr (inr (inr (inr (inr h))))) = let k = ap (λ (t : Told). t.code) h.told in absurd (omega arith)
   told_epoch deed Open is p code h = absurd (let k : Open ≡ Protect = p in cc)
   told_epoch deed Command is p code h = absurd (let k : Command ≡ Protect = p in cc)
   told_epoch deed Monitor is p code h = absurd (let k : Monitor ≡ Protect = p in cc)
@@ -256,8 +245,34 @@ ShowsSome image = (state : State) × Shows image state
 pub record IsLeft (image : List ℕ) (given : List Given) : Type 0 where
   pub image_shows : ShowsSome image
   pub forms_show : (form : List ℕ) → IsOpenedForm image form → ShowsSome form
+  pub settled : HasOneClosed image
   pub apart : AllPairs AreApart given
   pub known : (state : State) → IsShown image state → All (IsKnown state) given
+
+-- an image that `init` made, before a run
+pub begins_left : (image : List ℕ) → IsInitial image → IsLeft image []
+begins_left image initial = record {
+  image_shows = initial_shows image initial;
+  forms_show = λ form opened. absurd (initial_rests image initial form opened);
+  settled = initial_settled image initial;
+  apart = λ i j d lt low. absurd (omega arith);
+  known = λ s shown k d low. absurd (omega arith);
+}
+
+-- a run from an image of which at most one closed gate is not 0
+module _ (run : LifeRun) (is_run : IsRun run) (settled : HasOneClosed run.start) where
+  -- an opening that was cut off left nothing but the forms of the image at the start
+  kept : Settles run.start run.image → KeepsForms run.start run.image
+  kept settles = stays_opened run.start run.image is_run.shows.holds.opens settled settles
+
+  pub shown_at_start : Settles run.start run.image → (state : State) → IsShown run.image state → IsShown run.start state
+  shown_at_start settles state shown = shown_before run.start run.image state is_run.shows.holds.opens (kept settles) shown
+
+  pub settled_after : HasOneClosed run.image
+  settled_after = elim is_run.moment.image_shows [
+    | inl opening ↦ (kept opening.1).settled
+    | inr served ↦ served.shows.settled
+  ]
 
 module _ (once : ShowsOnce) (run : LifeRun) (is_run : IsRun run) where
   abbrev entries : List Entry
@@ -422,7 +437,7 @@ module _ (once : ShowsOnce) (run : LifeRun) (is_run : IsRun run) where
     known_after : (state : State) → IsShown run.image state → All (IsKnown state) (given ++ new)
     known_after state shown = elim is_run.moment.image_shows [
       | inl opening ↦ All-append (IsKnown state) given new
-          (left.known state (shown_before run.start run.image start state is_run.shows opening.1 shown)) (none_new opening.0 (IsKnown state))
+          (left.known state (shown_at_start run is_run left.settled opening.1 state shown)) (none_new opening.0 (IsKnown state))
       | inr served ↦ elim shown [
         | inl shows ↦ to_shown served.p state (once run.image _ state served.shows.shows shows) (served_known served.p served.shows.within (served.covers served.p (omega arith) served.shows.within))
         | inr torn ↦
@@ -487,15 +502,8 @@ module _ (once : ShowsOnce) (run : LifeRun) (is_run : IsRun run) where
     -- while it was opened, the image shows what that at the start shows, or what an opened form of it shows
     shown_after : ShowsSome run.image
     shown_after = elim is_run.moment.image_shows [
-      | inl opening ↦ elim (stays_opened run.start run.image is_run.shows.holds.opens opening.1).holds [
-        | inl same ↦ (
-          start,
-          record {
-            what = held run.start;
-            holds = same;
-            says = subst (λ (what : _). Says what start) (sym is_run.shows.holds.is) is_run.shows.says;
-          },
-        )
+      | inl opening ↦ elim (kept run is_run left.settled opening.1).holds [
+        | inl same ↦ (start, holding_shows run.start run.image start is_run.shows same)
         | inr opened ↦ left.forms_show run.image opened
       ]
       | inr served ↦ (restarted (after_first start entries served.p), served.shows.shows)
@@ -503,15 +511,21 @@ module _ (once : ShowsOnce) (run : LifeRun) (is_run : IsRun run) where
 
     forms_after : (form : List ℕ) → IsOpenedForm run.image form → ShowsSome form
     forms_after form opened = elim is_run.moment.image_shows [
-      | inl opening ↦ elim ((stays_opened run.start run.image is_run.shows.holds.opens opening.1).forms form opened) [
-        | inl is ↦ (start, subst (λ (i : List ℕ). Shows i start) (sym is) is_run.shows)
+      | inl opening ↦ elim ((kept run is_run left.settled opening.1).forms form opened) [
+        | inl same ↦ (start, holding_shows run.start form start is_run.shows same)
         | inr before ↦ left.forms_show form before
       ]
       | inr served ↦ let (q, above, within, shows) = served.shows.forms form opened in (restarted (after_first start entries q), shows)
     ]
 
     pub one_more : IsLeft run.image (given ++ new)
-    one_more = record { image_shows = shown_after; forms_show = forms_after; apart = apart_after; known = known_after }
+    one_more = record {
+      image_shows = shown_after;
+      forms_show = forms_after;
+      settled = settled_after run is_run left.settled;
+      apart = apart_after;
+      known = known_after;
+    }
 
 -- each life leaves such an image
 pub lives : ShowsOnce → (image : List ℕ) (given : List Given) (runs : List LifeRun) → IsLeft image given → FollowFrom image runs
@@ -523,13 +537,7 @@ lives once image given (run ∷ runs) left (start, is_run, follow) =
     (lives once run.image (given ++ given_of run.course (answers_begun (length run.sunk) run.deeds)) runs next follow)
 
 life_left : ShowsOnce → (image : List ℕ) (runs : List LifeRun) → IsLife image runs → IsLeft (left_by image runs) (given_in runs)
-life_left once image runs life =
-    lives once image [] runs (record {
-      image_shows = initial_shows image life.initial;
-      forms_show = λ form opened. absurd (initial_rests image life.initial form opened);
-      apart = λ i j d lt low. absurd (omega arith);
-      known = λ s shown k d low. absurd (omega arith);
-    }) life.follow
+life_left once image runs life = lives once image [] runs (begins_left image life.initial) life.follow
 
 -- no two uses of all runs have one key, by identifier or by octets, and one number, and no two acceptances
 pub once_in_life : ShowsOnce → (image : List ℕ) (runs : List LifeRun) → IsLife image runs → OnceInLife runs

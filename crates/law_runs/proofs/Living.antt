@@ -26,9 +26,9 @@ follow_append image (one ∷ runs) run follow is is_run = (follow.0, follow.1, f
 at_entry : (call : CallSeen) (state : State) → Shows (image_at_entry call) state → (plan : PlanLines) × ShowsAtEntry call plan state
 at_entry call state shows =
     let text : shows.what.plan ≡ (held (image_at_entry call)).plan = sym (ap (λ (h : Held). h.plan) shows.holds.is) in (
-      shows.says.plan,
+      shows.says.begins.plan,
       record {
-        says = subst (λ (octets : List ℕ). plan_of octets ≡ Ok shows.says.plan) text shows.says.said.read;
+        says = subst (λ (octets : List ℕ). plan_of octets ≡ Ok shows.says.begins.plan) text shows.says.begins.said.read;
         shows = shows;
       },
     )

@@ -502,7 +502,7 @@ module _ (start now : SourceSeen) (begin : Begin) (first v : View) (failed_befor
             → IsTrue (is_entered f.task.kind) ⊎ MayAppend (IsBetween begin first w) (course_in begin w) MOST_ENTRIES f.task
         due (inl other) = inl other
         due (inr may) = inr (subst (λ (es : List Entry). MayAppend (IsBetween begin first w) (record (course_in begin w) { entries = es }) MOST_ENTRIES f.task) (sym h.puts.entries)
-            (may_append (IsBetween begin v mid) (IsBetween begin first w) between_on begin.plan begin.start (entries_in mid) _ _ _ _ _ _ _ _ _ _ _ _ MOST_ENTRIES f.task may))
+            (may_append (IsBetween begin v mid) (IsBetween begin first w) between_on begin.plan begin.start (entries_in mid) _ _ _ _ _ _ _ _ MOST_ENTRIES f.task may))
 
     more_put : length (octets_put mid) ≤ length (octets_put w)
     more_put =

@@ -19,8 +19,7 @@ use Rattle.sdls_outside.proofs.Moments.{each_puts, each_then, each_weaker, momen
 use Rattle.key_book.specs.declared.key_row.KeyRow.{KeyRow}
 use Rattle.key_book.specs.KeyBook.{AreKeyRows, place_of, row_of}
 use Rattle.unit_image.specs.Image.{held, OnlySyncs, Settles}
-use Rattle.unit_image.proofs.Images.{records_of}
-use Rattle.unit_image.proofs.Images.{only_syncs_moments}
+use Rattle.law_image.proofs.Images.{only_syncs_moments}
 use Rattle.record_io.specs.declared.status.TheConstants.{DONE, SITE_FAULT}
 use Rattle.record_io.specs.Answers.{answer_octets}
 use Rattle.record_io.specs.Reading.{SourceSeen, HasTaken}
@@ -337,7 +336,6 @@ module _ (told : Bool) (site back after : SiteSeen) (source : SourceSeen) (fault
                 marks_found state 0 MOST_KEYS row (omega arith) ∙ ap (mark_at state) (let e : 0 + row ≡ row = omega arith in e) ∙ mark_known state [] key row rules is in
                 record { least = omega arith; base = mark_of state key; is_base = inl refl; most = omega arith };
             above = λ k d few. absurd (omega arith);
-            room = λ stood. let few = (records_of site.trace.now.image).within in omega arith;
           },
           refl,
         )

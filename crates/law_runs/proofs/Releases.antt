@@ -22,7 +22,7 @@ use Rattle.law_workers.proofs.Histories.{entries_both}
 use Rattle.law_runs.specs.Release.{AreReleases}
 use Rattle.law_workers.proofs.Rows.{row_placed}
 use Rattle.unit_book.specs.declared.fault.BookFault.{BookFault}
-use Rattle.unit_book.specs.declared.fault.BookFault.TheVariants.{SiteFault, Stopped, SessionFull, JournalFull, NoMemory}
+use Rattle.unit_book.specs.declared.fault.BookFault.TheVariants.{SiteFault, Stopped, SessionFull, NoMemory}
 use Rattle.run_promise.specs.declared.limits.TheConstants.{MOST_ENTRIES}
 use Rattle.unit_book.specs.Book.{BookView, IsBarred, IsUnstored, Refuses}
 use Rattle.unit_book.specs.GoesOn.{TellsRise}
@@ -31,10 +31,9 @@ use Rattle.std.specs.Prelude.{IfErr}
 
 -- ---- what was added
 
--- why a release was refused: the site failed, the run has as many entries as it may, or no slot is free
+-- why a release was refused: the site failed, or the run has as many entries as it may
 abbrev pub IsRefusedRelease : BookView → Type 0
-IsRefusedRelease new = Rose new.opened.faults new.site.faults
-    ⊎ ((length (entries_of new.log) ≡ MOST_ENTRIES) ⊎ (new.journal.used ≡ new.journal.slots))
+IsRefusedRelease new = Rose new.opened.faults new.site.faults ⊎ (length (entries_of new.log) ≡ MOST_ENTRIES)
 
 pieces_both : (a b : List Logged) → pieces_of (a ++ b) ≡ pieces_of a ++ pieces_of b
 pieces_both [] b = refl
@@ -98,15 +97,10 @@ ended words old mid new made (entry ∷ rest) (Err fault) all entries is risen =
         (sym (ap (λ (n : ℕ). take n (releases old.state 0 words)) (sym size) ∙ ap (take (length (made ++ entry ∷ []))) (sym longer) ∙ take_front (made ++ entry ∷ []) rest))
 
     unstored : (f : BookFault) → IsUnstored entry mid new f → TellsRise new f → AreAdded words old new
-    unstored (SiteFault count) (due, room, rose, told, eq) tells = record {
+    unstored (SiteFault count) (stored, rose, told, eq) tells = record {
       count = length made + 1;
       entries = left (ap (λ (b : BookView). entries_of b.log) eq ∙ entries_both mid.log (lines.Entry entry ∷ []));
       refused = λ few. inl tells.0;
-    }
-    unstored (JournalFull slots) (due, used, told, eq) tells = record {
-      count = length made;
-      entries = same eq;
-      refused = λ few. inr (inr (ap (λ (b : BookView). b.journal.used) eq ∙ used ∙ sym (ap (λ (b : BookView). b.journal.slots) eq)));
     }
     unstored (Stopped count) h tells = absurd h
     unstored SessionFull h tells = absurd h
@@ -121,10 +115,9 @@ ended words old mid new made (entry ∷ rest) (Err fault) all entries is risen =
     barred SessionFull h eq = record {
       count = length made;
       entries = same eq;
-      refused = λ few. inr (inl (ap (λ (b : BookView). length (entries_of b.log)) eq ∙ h.1));
+      refused = λ few. inr (ap (λ (b : BookView). length (entries_of b.log)) eq ∙ h.1);
     }
     barred (SiteFault count) h eq = absurd h
-    barred (JournalFull slots) h eq = absurd h
     barred NoMemory h eq = absurd h
 
     go : (f : BookFault) → Refuses entry mid new f → TellsRise new f → AreAdded words old new
@@ -193,8 +186,7 @@ end_pieces (entry ∷ rest) mid new (Err fault) (inl (h, eq)) = ap (λ (b : Book
 end_pieces (entry ∷ rest) mid new (Err fault) (inr (can, h)) = go fault h
   where
     go : (f : BookFault) → IsUnstored entry mid new f → pieces_of new.log ≡ pieces_of mid.log
-    go (SiteFault count) (due, room, rose, told, eq) = ap (λ (b : BookView). pieces_of b.log) eq ∙ pieces_same mid.log entry
-    go (JournalFull slots) (due, used, told, eq) = ap (λ (b : BookView). pieces_of b.log) eq
+    go (SiteFault count) (stored, rose, told, eq) = ap (λ (b : BookView). pieces_of b.log) eq ∙ pieces_same mid.log entry
     go (Stopped count) h = absurd h
     go SessionFull h = absurd h
     go NoMemory h = absurd h
@@ -213,12 +205,11 @@ ends_quietly (entry ∷ rest) mid new (Err fault) (inl (h, eq)) = inl eq
 ends_quietly (entry ∷ rest) mid new (Err fault) (inr (can, h)) = go fault h
   where
     go : (f : BookFault) → IsUnstored entry mid new f → (new ≡ mid) ⊎ (length (entries_of mid.log) < length (entries_of new.log))
-    go (SiteFault count) (due, room, rose, told, eq) = inr (
+    go (SiteFault count) (stored, rose, told, eq) = inr (
         let a = ap (λ (b : BookView). length (entries_of b.log)) eq in
         let b = ap length (entries_both mid.log (lines.Entry entry ∷ [])) in
         let c = length-append (entries_of mid.log) (entry ∷ []) in omega arith
         )
-    go (JournalFull slots) (due, used, told, eq) = inl eq
     go (Stopped count) h = absurd h
     go SessionFull h = absurd h
     go NoMemory h = absurd h

@@ -1,10 +1,12 @@
 -- A run without records is sound, and so is each moment of a call that reads an image and stores nothing: for
 -- `no_records_are_sound` and `reading_keeps_lives`.
-use Rattle.std.proofs.Common.{◌≡◌, ◌⊎◌, ℕ, IsTrue, List, [], refl, sym, subst, inl, inr, ⊎_elim, arith}
+use Rattle.std.proofs.Common.{◌≡◌, ◌⊎◌, ℕ, IsTrue, List, [], refl, sym, ◌∙◌, ap, subst, inl, inr, ⊎_elim, arith}
+use Rattle.std.specs.Prelude.{slice_index}
 use Rattle.std.proofs.lemmas.Option.{none-some}
 use Rattle.sdls_base.specs.declared.entry.Entry.{Entry}
 use Rattle.sdls_outside.specs.Disk.{Leaves}
-use Rattle.unit_image.specs.Image.{HasOneClosed}
+use Rattle.unit_image.specs.Image.{HasOneClosed, IsClosedGate, IsOpenedForm}
+use Rattle.law_image.proofs.Images.{records_of}
 use Rattle.unit_plan.specs.PlanLines.{PlanLines}
 use Rattle.unit_plan.specs.PlanRules.{IsPlan}
 use Rattle.unit_state.specs.declared.state.State.{State}
@@ -52,8 +54,19 @@ pub no_records : (course : Course) → IsPlan course.begin.plan → KeepsRules c
 no_records course plan_is rules empty =
     subst (λ (entries : List Entry). IsSound (record course { entries = entries }) [] []) (sym empty) (none_sound course plan_is rules)
 
-module _ (closed : (image : List ℕ) (state : State) → Shows image state → HasOneClosed image)
-    (one : (image : List ℕ) (a b : State) → Shows image a → Shows image b → a ≡ b) (call : CallSeen) (plan : PlanLines) (state : State)
+-- Of an image with no opened form only the gate of the other bank may be closed and not 0: the first slot that is closed
+-- has a gate that is not open.
+none_settled : (image : List ℕ) → ((form : List ℕ) → ¬ IsOpenedForm image form) → HasOneClosed image
+none_settled image none = record { one = one; opened = λ form at is closed. absurd (none form is) }
+  where
+    one : (at beside : ℕ) → IsClosedGate image at → IsClosedGate image beside → at ≡ beside
+    one at beside (some, inl (few, is)) closed =
+        absurd (none _ (at, (some, inl (few, is)), λ opened. (records_of image).closed few (ap (slice_index image) (sym is) ∙ opened), refl))
+    one at beside (some, inr is) (other, inl (few, is_slot)) =
+        absurd (none _ (beside, (other, inl (few, is_slot)), λ opened. (records_of image).closed few (ap (slice_index image) (sym is_slot) ∙ opened), refl))
+    one at beside (some, inr is) (other, inr same) = is ∙ sym same
+
+module _ (one : (image : List ℕ) (a b : State) → Shows image a → Shows image b → a ≡ b) (call : CallSeen) (plan : PlanLines) (state : State)
     (shows : ShowsAtEntry call plan state) where
   abbrev Sound : List ℕ → Type 0
   Sound image = SoundMoment (course_of call (no_account call) plan state) [] [] (image_at_entry call) image []
@@ -67,7 +80,7 @@ module _ (closed : (image : List ℕ) (state : State) → Shows image state → 
         within = omega arith;
         shows = subst (λ (s : State). Shows image (restarted s)) (one (image_at_entry call) shown.0 state shown.1 shows.shows) shown.2;
         forms = λ form is. absurd (shown.3 form is);
-        settled = closed image _ shown.2;
+        settled = none_settled image shown.3;
       };
       covers = λ q low within. tt;
     });

@@ -1,5 +1,5 @@
 -- What a state that a life left knows of its answers (profile).
-use Rattle.std.specs.Prelude.{◌⊎◌, ℕ, ◌<◌, ◌≤◌, List}
+use Rattle.std.specs.Prelude.{ℕ, ◌<◌, ◌≤◌, List}
 use Rattle.std.specs.List.{All}
 use Rattle.unit_image.specs.Image.{IsOpenedForm}
 use Rattle.unit_state.specs.declared.state.State.{State}
@@ -7,10 +7,7 @@ use Rattle.unit_image.specs.Shows.{Shows}
 use Rattle.run_promise.specs.Answers.{Uses, Accepts}
 use Rattle.run_promise.specs.Numbers.{mark_of, floor_of}
 use Rattle.run_promise.specs.Life.{Given}
-
--- the image shows the state, or one of its opened forms does
-abbrev pub IsShown : List ℕ → State → Type 0
-IsShown image state = Shows image state ⊎ ((form : List ℕ) × IsOpenedForm image form × Shows form state)
+pub use Rattle.law_image.specs.Keeping.{IsShown}
 
 -- what a state knows of an answer: each number used is below its mark, and each accepted at most its floor
 pub record Knows (state : State) (given : Given) : Type 0 where

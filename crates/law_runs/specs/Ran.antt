@@ -1,11 +1,10 @@
 -- What is known of a call of `run` whose book was opened, once its counters were closed (profile).
-use Rattle.std.specs.Prelude.{◌≡◌, ℕ, ◌+◌, ◌<◌, Bool, IsTrue, List, length, slice_index, Ok}
+use Rattle.std.specs.Prelude.{◌≡◌, ℕ, ◌<◌, Bool, IsTrue, List, length, slice_index, Ok}
 use Rattle.sdls_base.specs.declared.TheConstants.{MOST_KEYS}
-use Rattle.sdls_outside.specs.Faults.{Rose}
 use Rattle.sdls_outside.specs.Moments.{EachMoment}
 use Rattle.counter_table.specs.declared.view.View.{View}
 use Rattle.counter_table.specs.Whole.{IsWhole, RowStands}
-use Rattle.unit_image.specs.Image.{held, slots_of, used_of}
+use Rattle.unit_image.specs.Image.{held}
 use Rattle.record_io.specs.Reading.{SourceSeen}
 use Rattle.unit_plan.specs.Plan.{plan_of}
 use Rattle.unit_plan.specs.PlanLines.{PlanLines}
@@ -13,8 +12,6 @@ use Rattle.unit_state.specs.declared.state.State.{State}
 use Rattle.unit_image.specs.OpeningImage.{Opening}
 use Rattle.unit_image.specs.Shows.{Shows}
 use Rattle.run_promise.specs.Site.{SiteSeen}
-use Rattle.run_promise.specs.Log.{entries_of}
-use Rattle.run_promise.specs.Stored.{stored_count}
 use Rattle.unit_book.specs.Book.{BookView, IsKept}
 use Rattle.run_promise.specs.Begin.{Begin}
 use Rattle.law_workers.specs.Views.{log_of}
@@ -23,21 +20,13 @@ use Rattle.law_runs.specs.Doing.{IsFounded}
 use Rattle.law_runs.specs.Coming.{HasCome}
 
 -- what a run begins with whose image shows this state of this plan
-abbrev pub begin_by : Bool → List ℕ → PlanLines → State → Begin
-begin_by told image plan start = record {
+abbrev pub begin_by : Bool → PlanLines → State → Begin
+begin_by told plan start = record {
   rows = MOST_KEYS;
   told = told;
   plan = plan;
   start = start;
-  slots = slots_of image;
-  used = used_of image;
 }
-
--- where the site tells what it holds and has not failed, so many slots of the image are used
-abbrev pub CountsSlots : Bool → List ℕ → BookView → Type 0
-CountsSlots told image book = IsTrue told → ¬ Rose book.opened.faults book.site.faults
-    → (book.journal.slots ≡ slots_of image) × (book.journal.used
-    ≡ used_of image + stored_count book.start (entries_of book.log))
 
 -- The book was opened on the site, one worker did all that was done from the first view to the last, and the counters
 -- were closed with these words `next`.
@@ -48,8 +37,8 @@ pub record Ran (told : Bool) (site : SiteSeen) (source source_after : SourceSeen
   pub opening : IsTrue told → EachMoment site.trace book.opened.trace (Opening site.trace)
   pub sunk : IsTrue told → book.opened.trace.now.sunk ≡ site.trace.now.sunk
   pub same_faults : book.opened.faults ≡ site.faults
-  pub founded : IsTrue told → IsFounded (begin_by told site.trace.now.image book.plan book.start) first
-  pub come : HasCome source source_after (begin_by told site.trace.now.image book.plan book.start) first now
+  pub founded : IsTrue told → IsFounded (begin_by told book.plan book.start) first
+  pub come : HasCome source source_after (begin_by told book.plan book.start) first now
       site.put_faults book.site.put_faults book.standing came
   pub whole : IsWhole MOST_KEYS now
   pub kept : IsKept told book

@@ -10,7 +10,7 @@ ghost use Rattle.run_promise.specs.Call.{CallSeen, image_at_entry, ShowsAtEntry}
 ghost use Rattle.run_promise.specs.Account.{AnsweredEach};
 ghost use Rattle.run_promise.specs.Ends.{RunEnds};
 
-use law_history::{releases_are_stored, rules_stay_along, stored_counts_add};
+use law_history::rules_stay_along;
 use law_workers::served_once;
 use record_io::input_reads_once;
 
@@ -38,8 +38,6 @@ pub fn one_lane_answers_alike()
 {
     served_once();
     rules_stay_along();
-    releases_are_stored();
-    stored_counts_add();
 }
 
 /// Law: two calls over one image that handled the same records, all of one lane, give the same answers as far as both

@@ -25,14 +25,14 @@ ghost use Rattle.law_runs.specs.Release.{AreReleases};
 ghost use Rattle.record_io.specs.Reading.{SourceSeen};
 ghost use Rattle.run_promise.specs.declared.end.RunEnd.{RunEnd};
 ghost use Rattle.law_runs.specs.Ending.{Finishes};
-ghost use Rattle.law_runs.specs.Ran.{CountsSlots, Ran};
+ghost use Rattle.law_runs.specs.Ran.{Ran};
 ghost use Rattle.law_runs.specs.Reads.{ReadsAlone};
 ghost use Rattle.law_runs.specs.Refused.{Refused};
 ghost use Rattle.law_runs.specs.Doing.{HasDone, IsBefore, IsFounded};
 
 use crate::life::{sound_call_keeps_lives, sound_reading_keeps_lives};
 use law_image::shown_keeps_rules;
-use unit_image::{opening_keeps_forms, refused_with_one, shows_one};
+use unit_image::{refused_with_one, shows_one};
 
 /// Law: a run that one worker did is sound, with the releases behind it, if each monitoring message has the answer of
 /// the log; and what covers an answer covers it to the end.
@@ -65,7 +65,6 @@ pub fn run_ends_well()
         (book : BookView) (words : List ℕ) (entries : List Entry) (status : ℕ)
         → Ran told site source source_after first now came book words
         → (end : Finishes told site.faults words came book after entries status)
-        → CountsSlots told site.trace.now.image end.last
         → EndsAndLives (record {
           source = source;
           source_after = source_after;
@@ -116,7 +115,6 @@ pub fn reading_keeps_lives()
     ensures { (call : CallSeen) → call.entries ≡ [] → ReadsAlone call → KeepsLivesReading call }
 {
     shows_one();
-    opening_keeps_forms();
     no_records_are_sound();
     sound_reading_keeps_lives();
 }

@@ -123,22 +123,15 @@ module _ (near far : ℕ → ℕ → Type 0) (more : (k n : ℕ) → near k n �
 
   fits_any : (t : Record) (x : Answer) → FitsAny near old t x → FitsAny far new t x
   fits_any t x (inl h) = inl (record {
-    told = h.told;
-    within = let a = length-append es rest in let b = h.within in omega arith;
-    slots_are = h.slots_are;
-    full = λ is_told. rw (take-append-le x.position es rest h.within) (h.full is_told);
-    may = can_append t.kind x.position t h.within h.may;
-  })
-  fits_any t x (inr (inl h)) = inr (inl (record {
     tells = tells_more _ x h.tells;
     may = once_more t h.may;
     entry = h.entry;
     last = stands_more x h.entry h.last;
     own = h.own;
-  }))
-  fits_any t x (inr (inr (inl h))) =
-      inr (inr (inl (record { tells = tells_more _ x h.tells; may = ⊎_elim inl (λ m. inr (once_more t m)) h.may })))
-  fits_any t x (inr (inr (inr h))) = inr (inr (inr h))
+  })
+  fits_any t x (inr (inl h)) =
+      inr (inl (record { tells = tells_more _ x h.tells; may = ⊎_elim inl (λ m. inr (once_more t m)) h.may }))
+  fits_any t x (inr (inr h)) = inr (inr h)
 
   before_kept : (x : Answer) (e : Entry) → StandsAt old x e → after_first begin.start (es ++ rest) (x.position - 1) ≡ after_first begin.start es (x.position - 1)
   before_kept x e h = let low = slice_get_within es (x.position - 1) e h.there in first_kept (x.position - 1) (omega arith)

@@ -1,5 +1,5 @@
 -- One lane alone: the moves of records one after the other are the machine's.
-use Rattle.std.proofs.Common.{◌≡◌, ◌⊎◌, ℕ, zero, suc, ◌+◌, ◌-◌, ◌<◌, ◌≤◌, List, [], ◌∷◌, ◌++◌, length, Some, Option, refl, sym, ◌∙◌, ap, subst, inl, inr, arith, append_assoc, append-nil, length-append, max, Bool, if◌then◌else◌, eq-eqb}
+use Rattle.std.proofs.Common.{◌≡◌, ◌⊎◌, ℕ, zero, suc, ◌+◌, ◌-◌, ◌<◌, ◌≤◌, List, [], ◌∷◌, ◌++◌, length, Some, Option, refl, sym, ◌∙◌, ap, subst, inl, inr, arith, append_assoc, append-nil, max, Bool, if◌then◌else◌, eq-eqb}
 use Rattle.std.specs.List.{All, slice_get, slice_index_or}
 use Rattle.std.proofs.lemmas.List.{take-append-le}
 use Rattle.std.proofs.lemmas.List.Elements.{All-append, All-cons, All-nil, Contains-append_left, Contains-append_right}
@@ -21,9 +21,6 @@ use Rattle.counter_table.specs.Turn.{stands}
 use Rattle.counter_table.specs.Whole.{IsWhole}
 use Rattle.ep_core.specs.declared.need.Need.{Need}
 use Rattle.ep_core.specs.declared.need.Need.TheVariants as needs
-use Rattle.run_promise.specs.Entries.{IsStepOf}
-use Rattle.run_promise.specs.Legal.{KeyOf}
-use Rattle.run_promise.specs.Numbers.{mark_of}
 use Rattle.run_promise.specs.Begin.{Begin}
 use Rattle.law_workers.specs.Views.{KnowsMore, log_of, entries_in}
 use Rattle.run_promise.specs.Deed.{Deed}
@@ -101,11 +98,6 @@ module _ (start : State) (es rest : List Entry) where
     protected = λ c. let (row, is, same) = h.protected c in (row, row_on _ row is, same);
     exhausted = λ c. let (row, is, same) = h.exhausted c in (row, row_on _ row is, same);
     unbound = h.unbound;
-    full = λ c.
-        let (low, (key, row, number, is, mark, same)) = h.full c in
-        let size : length (es ++ rest) ≡ length es + length rest = length-append es rest in
-        let st = state_on d.answer.position low in
-        (omega arith, (key, row, number, row_on key row is, subst (λ (s : State). mark_of s key ≤ number) (sym st) mark, same));
   }
 
   command_on : (d : Deed) (m : Move) → TellsCommand start es d m → TellsCommand start (es ++ rest) d m
@@ -117,30 +109,6 @@ module _ (start : State) (es rest : List Entry) where
           e,
           get_front es rest (d.answer.position - 1) low ∙ there,
           subst (λ (s : State). TellsSeen start (es ++ rest) s d.task e.seen m) (sym st) (seen_on (after_first start es (d.answer.position - 1)) d.task e.seen m tells),
-        );
-    full = λ c.
-        let (low, which) = h.full c in
-        let size : length (es ++ rest) ≡ length es + length rest = length-append es rest in
-        let st = state_on d.answer.position low in (
-          omega arith,
-          elim which [
-            | inl a ↦ inl (
-              a.0,
-              a.1,
-              a.2,
-              subst (λ (s : State). IsStepOf s d.task.octets a.0 (a.1, a.2)) (sym st) a.3,
-              subst (λ (s : State). TellsSeen start (es ++ rest) s d.task a.0 m) (sym st) (seen_on (after_first start es d.answer.position) d.task a.0 m a.4),
-            )
-            | inr b ↦ inr (
-              b.0,
-              b.1,
-              b.2,
-              subst (λ (s : State). KeyOf s d.task.octets b.0) (sym st) b.3,
-              row_on b.0 b.1 b.4,
-              subst (λ (s : State). mark_of s b.0 ≤ b.2) (sym st) b.5,
-              b.6,
-            )
-          ],
         );
   }
 

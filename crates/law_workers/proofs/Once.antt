@@ -1,5 +1,5 @@
 -- One lane alone: its answers, its entries and its moves are one by the history, the words and the records.
-use Rattle.std.proofs.Common.{◌≡◌, ◌⊎◌, ℕ, ◌+◌, ◌≤◌, List, [], ◌∷◌, ◌++◌, length, map, Some, Ok, IsTrue, refl, sym, ◌∙◌, ap, subst, inl, inr, arith, append_assoc, append-nil}
+use Rattle.std.proofs.Common.{◌≡◌, ◌⊎◌, ℕ, ◌+◌, ◌<◌, List, [], ◌∷◌, ◌++◌, length, map, Some, Ok, refl, sym, ◌∙◌, ap, subst, inl, inr, arith, append_assoc}
 use Rattle.std.proofs.lemmas.Option.{none-some, same_Some}
 use Rattle.sdls_base.specs.KeyId.{end_of}
 use Rattle.sdls_base.specs.declared.change.Change.{Change}
@@ -16,17 +16,15 @@ use Rattle.ep_core.specs.declared.need.Need.{Need}
 use Rattle.ep_core.specs.declared.need.Need.TheVariants as needs
 use Rattle.ep_core.specs.declared.reply.Reply.{Reply}
 use Rattle.record_io.specs.declared.answers.Answer.{Answer}
-use Rattle.record_io.specs.declared.code.TheConstants.{PROTECTED, EXHAUSTED, JOURNAL_FULL}
+use Rattle.record_io.specs.declared.code.TheConstants.{PROTECTED, EXHAUSTED, SITE_FAULT}
 use Rattle.record_io.specs.declared.kinds.RecordKind.{RecordKind}
 use Rattle.record_io.specs.declared.kinds.RecordKind.TheVariants.{Protect, Open, Command, Monitor}
 use Rattle.record_io.specs.declared.records.Record.{Record}
 use Rattle.unit_plan.specs.PlanLines.{PlanLines}
 use Rattle.unit_state.specs.declared.state.State.{State}
 use Rattle.unit_state.specs.State.{KeepsRules}
-use Rattle.run_promise.specs.Answers.{Told, told_by, counting, numbered, opened_told, replied_told, unbound_told}
-use Rattle.run_promise.specs.Entries.{frame_change, frame_entry, record_entry, IsNeedOf, IsStepOf}
-use Rattle.run_promise.specs.Numbers.{mark_of, reserve_of}
-use Rattle.run_promise.specs.Stored.{IsStored}
+use Rattle.run_promise.specs.Answers.{Told, told_by, numbered, opened_told, replied_told, unbound_told}
+use Rattle.run_promise.specs.Entries.{frame_change, record_entry, IsNeedOf, IsStepOf}
 use Rattle.run_promise.specs.Begin.{Begin}
 use Rattle.run_promise.specs.Deed.{Deed}
 use Rattle.run_promise.specs.Machine.{Move, Found, Drew, Raised, Overdrew, IsAt, word_after, Runs}
@@ -35,7 +33,7 @@ use Rattle.fsr_log.specs.Message.{IsMonitoring}
 use Rattle.fsr_log.specs.Noted.{Noted}
 use Rattle.run_promise.specs.Reports.{AreReported, noted_of}
 use Rattle.law_workers.proofs.Reported.{report_once, same_noted}
-use Rattle.run_promise.specs.Serving.{now, HasSlot, SaysFull, Funds, AloneUnbound, AloneBound, AloneProtected, AloneExhausted, AloneUnfunded, AloneOpened, AloneUnopened, AloneShows, AloneShown, AloneHandled, AloneUnhandled, AloneUnmet, ServesKind, AloneServes, ServesAll, SameTasks, AreServed}
+use Rattle.run_promise.specs.Serving.{now, Funds, AloneUnbound, AloneBound, AloneProtected, AloneExhausted, AloneOpened, AloneShows, AloneShown, AloneHandled, ServesKind, AloneServes, ServesAll, SameTasks, AreServed}
 
 same_answer : (a b : Answer) → told_by a ≡ told_by b → a.position ≡ b.position → a ≡ b
 same_answer a b told place =
@@ -68,7 +66,7 @@ module _ (rows : ℕ) (words : ℕ → ℕ) where
   ended_is m row n (inl is) at = (is, (subst (IsAt rows words) is at).1)
   ended_is m row n (inr is) at = absurd (subst (IsAt rows words) is at)
 
-module _ (begin : Begin) (tells : IsTrue begin.told)
+module _ (begin : Begin)
     (one_need : (state : State) (octets : List ℕ) (need other : Need) → IsNeedOf state octets need → IsNeedOf state octets other → need ≡ other)
     (one_step : (state : State) (octets : List ℕ) (seen : Seen) (step other : Change × Reply) → KeepsRules state → IsStepOf state octets seen step
     → IsStepOf state octets seen other → step ≡ other)
@@ -79,26 +77,11 @@ module _ (begin : Begin) (tells : IsTrue begin.told)
     (one_message : (one other : Monitoring) (octets : List ℕ) → IsMonitoring one octets → IsMonitoring other octets → one ≡ other)
     (rows : ℕ) where
   module _ (history : List Entry) where
-    slot_or_full : (entry other : Entry) → entry ≡ other → HasSlot begin history entry → (answer : Answer) → SaysFull begin history other answer → ⊥
-    slot_or_full entry other same slot answer full =
-        let s = slot tells (subst (λ (e : Entry). IsTrue (IsStored (now begin history) e)) (sym same) full.stored) in
-        let u = full.none_left tells in omega arith
-
-    full_same : (a b : Answer) (entry other : Entry) → SaysFull begin history entry a → SaysFull begin history other b → a ≡ b
-    full_same a b entry other x y = same_answer a b
-        (x.told ∙ ap (λ (n : ℕ). counting JOURNAL_FULL 0 n) (x.slots_are tells ∙ sym (y.slots_are tells)) ∙ sym y.told) (x.position_is ∙ sym y.position_is)
-
     funds_same : (key n : ℕ) (own more : List Entry) → Funds begin history key n own → Funds begin history key n more → own ≡ more
     funds_same key n own more (inl a) (inl b) = a.0 ∙ sym b.0
     funds_same key n own more (inl a) (inr b) = absurd (let x = a.1 in let y = b.1 in omega arith)
     funds_same key n own more (inr a) (inl b) = absurd (let x = a.1 in let y = b.1 in omega arith)
     funds_same key n own more (inr a) (inr b) = a.0 ∙ sym b.0
-
-    funds_full : (key n : ℕ) (own : List Entry) (answer : Answer) → Funds begin history key n own → mark_of (now begin history) key ≤ n
-        → SaysFull begin history (reserve_of begin.plan (now begin history) key n) answer → ⊥
-    funds_full key n own answer (inl a) low full = let x = a.1 in omega arith
-    funds_full key n own answer (inr a) low full =
-        slot_or_full (reserve_of begin.plan (now begin history) key n) (reserve_of begin.plan (now begin history) key n) refl a.2 answer full
 
     module _ (words : ℕ → ℕ) (task : Record) (a b : Answer) (own more : List Entry) (m n : Move) (at : IsAt rows words m) (at' : IsAt rows words n) where
       bound_same : (x y : AloneBound begin history task) → (x.binding ≡ y.binding) × (x.row ≡ y.row)
@@ -149,15 +132,6 @@ module _ (begin : Begin) (tells : IsTrue begin.told)
             move ∙ ap (λ (r : ℕ). Found r a.number) row ∙ ap (λ (k : ℕ). Found y.is.row k) number ∙ sym other,
           )
 
-      unfunded_both : AloneUnfunded begin history task a own m → AloneUnfunded begin history task b more n → Same a b own more m n
-      unfunded_both x y =
-          let (binding, row) = bound_same x.is y.is in
-          let number : x.number ≡ y.number = drew_is rows words m x.is.row x.number x.move_is at ∙ ap words row ∙ sym (drew_is rows words n y.is.row y.number y.move_is at') in (
-            full_same a b (reserve_of begin.plan (now begin history) x.is.binding.key x.number) (reserve_of begin.plan (now begin history) y.is.binding.key y.number) x.full y.full,
-            x.own_is ∙ sym y.own_is,
-            x.move_is ∙ ap (λ (r : ℕ). Drew r x.number) row ∙ ap (λ (k : ℕ). Drew y.is.row k) number ∙ sym y.move_is,
-          )
-
       protected_or_exhausted : AloneProtected begin history task a own m → AloneExhausted begin history task b more n → ⊥
       protected_or_exhausted x y =
           let (binding, row) = bound_same x.is y.is in
@@ -166,22 +140,6 @@ module _ (begin : Begin) (tells : IsTrue begin.told)
           let end : end_of x.is.binding.key ≡ end_of y.is.binding.key = ap (λ (z : Binding). end_of z.key) binding in
           let p = x.below in let q = y.at_end in omega arith
 
-      protected_or_unfunded : AloneProtected begin history task a own m → AloneUnfunded begin history task b more n → ⊥
-      protected_or_unfunded x y =
-          let (binding, row) = bound_same x.is y.is in
-          let number : a.number ≡ y.number = drew_is rows words m x.is.row a.number x.move_is at ∙ ap words row ∙ sym (drew_is rows words n y.is.row y.number y.move_is at') in
-          funds_full y.is.binding.key y.number own b
-          (subst (λ (z : Binding). Funds begin history z.key y.number own) binding (subst (λ (k : ℕ). Funds begin history x.is.binding.key k own) number x.funded))
-          y.unmarked y.full
-
-      exhausted_or_unfunded : AloneExhausted begin history task a own m → AloneUnfunded begin history task b more n → ⊥
-      exhausted_or_unfunded x y =
-          let (binding, row) = bound_same x.is y.is in
-          let (move, word) = ended_is rows words m x.is.row a.number x.move_is at in
-          let number : a.number ≡ y.number = word ∙ ap words row ∙ sym (drew_is rows words n y.is.row y.number y.move_is at') in
-          let end : end_of x.is.binding.key ≡ end_of y.is.binding.key = ap (λ (z : Binding). end_of z.key) binding in
-          let p = x.at_end in let q = y.below in omega arith
-
       opened_both : AloneOpened begin history task a own m → AloneOpened begin history task b more n → Same a b own more m n
       opened_both x y =
           let (told, change) = one_opening begin.plan (now begin history) task.link task.octets x.reply y.reply x.field y.field x.replies y.replies in (
@@ -189,19 +147,6 @@ module _ (begin : Begin) (tells : IsTrue begin.told)
             x.own_is ∙ ap (λ (c : Change). record_entry task.index seens.Nothing c ∷ []) change ∙ sym y.own_is,
             x.move_is ∙ sym y.move_is,
           )
-
-      opened_or_unopened : AloneOpened begin history task a own m → AloneUnopened begin history task b more n → ⊥
-      opened_or_unopened x y =
-          let (told, change) = one_opening begin.plan (now begin history) task.link task.octets x.reply y.reply x.field y.field x.replies y.replies in
-          slot_or_full (frame_entry begin.plan (now begin history) task.index x.reply) (frame_entry begin.plan (now begin history) task.index y.reply)
-          (ap (λ (c : Change). record_entry task.index seens.Nothing c) change) x.slot b y.full
-
-      unopened_both : AloneUnopened begin history task a own m → AloneUnopened begin history task b more n → Same a b own more m n
-      unopened_both x y = (
-        full_same a b (frame_entry begin.plan (now begin history) task.index x.reply) (frame_entry begin.plan (now begin history) task.index y.reply) x.full y.full,
-        x.own_is ∙ sym y.own_is,
-        x.move_is ∙ sym y.move_is,
-      )
 
       -- what the words show for a need
       shown_both : (need : Need) (seen other : Seen) → AloneShows begin history need seen own m → AloneShows begin history need other more n
@@ -290,119 +235,27 @@ module _ (begin : Begin) (tells : IsTrue begin.told)
             move,
           )
 
-      handled_or_unhandled : (own more : List Entry) (x : AloneHandled begin history task a own m) (y : AloneUnhandled begin history task b more n)
-          → KeepsRules (now begin (history ++ x.reserve)) → ⊥
-      handled_or_unhandled own more x y rules =
-          slot_or_full_at (record_entry task.index x.is.seen x.is.change) (record_entry task.index y.is.seen y.is.change)
-          (entry_same x.reserve more x.is y.is rules)
-          (subst (λ (l : List Entry). HasSlot begin (history ++ l) (record_entry task.index x.is.seen x.is.change)) (shown_same x.reserve more x.is y.is).1 x.slot)
-          y.full
-        where
-          slot_or_full_at : (entry other : Entry) → entry ≡ other → HasSlot begin (history ++ more) entry → SaysFull begin (history ++ more) other b → ⊥
-          slot_or_full_at entry other same slot full =
-              let s = slot tells (subst (λ (e : Entry). IsTrue (IsStored (now begin (history ++ more)) e)) (sym same) full.stored) in
-              let u = full.none_left tells in omega arith
-
-      unhandled_both : (own more : List Entry) (x : AloneUnhandled begin history task a own m) (y : AloneUnhandled begin history task b more n) → Same a b own more m n
-      unhandled_both own more x y =
-          let (seen, same, move) = shown_same own more x.is y.is in (
-            same_answer a b
-                (x.full.told ∙ ap (λ (k : ℕ). counting JOURNAL_FULL 0 k) (x.full.slots_are tells ∙ sym (y.full.slots_are tells)) ∙ sym y.full.told)
-                (x.full.position_is ∙ ap (λ (l : List Entry). length (history ++ l)) same ∙ sym y.full.position_is),
-            same,
-            move,
-          )
-
-      shown_or_unmet : (own more : List Entry) → AloneShown begin history task own m → AloneUnmet begin history task b more n → ⊥
-      shown_or_unmet own more x y =
-          by_seen x.seen (subst (λ (k : Need). AloneShows begin history k x.seen own m)
-          (one_need (now begin history) task.octets x.need (needs.Number y.key) x.needed y.needed) x.shows)
-        where
-          by_seen : (seen : Seen) → AloneShows begin history (needs.Number y.key) seen own m → ⊥
-          by_seen (seens.Number p) (low, funds, (row, row_is, k)) =
-              let same : row ≡ y.row = same_Some row y.row (sym row_is ∙ y.row_is) in
-              let number : p ≡ y.number = drew_is rows words m row p k at ∙ ap words same ∙ sym (drew_is rows words n y.row y.number y.move_is at') in
-              funds_full y.key y.number own b (subst (λ (z : ℕ). Funds begin history y.key z own) number funds) y.unmarked y.full
-          by_seen (seens.Exhausted p) (high, none, (row, row_is, k)) =
-              let same : row ≡ y.row = same_Some row y.row (sym row_is ∙ y.row_is) in
-              let number : p ≡ y.number = (ended_is rows words m row p k at).1 ∙ ap words same ∙ sym (drew_is rows words n y.row y.number y.move_is at') in
-              let low = y.below in omega arith
-          by_seen seens.Nothing h = absurd h
-          by_seen (seens.Word p) h = absurd h
-
-      unmet_both : (own more : List Entry) → AloneUnmet begin history task a own m → AloneUnmet begin history task b more n → Same a b own more m n
-      unmet_both own more x y =
-          let needs_same : needs.Number x.key ≡ needs.Number y.key = one_need (now begin history) task.octets (needs.Number x.key) (needs.Number y.key) x.needed y.needed in
-          let key : x.key ≡ y.key = cc in
-          let row : x.row ≡ y.row = same_Some x.row y.row (sym x.row_is ∙ ap (λ (z : ℕ). place_of (now begin history).keys z) key ∙ y.row_is) in
-          let number : x.number ≡ y.number = drew_is rows words m x.row x.number x.move_is at ∙ ap words row ∙ sym (drew_is rows words n y.row y.number y.move_is at') in (
-            full_same a b (reserve_of begin.plan (now begin history) x.key x.number) (reserve_of begin.plan (now begin history) y.key y.number) x.full y.full,
-            x.own_is ∙ sym y.own_is,
-            x.move_is ∙ ap (λ (z : ℕ). Drew z x.number) row ∙ ap (λ (z : ℕ). Drew y.row z) number ∙ sym y.move_is,
-          )
-
-    -- the same the other way round
-    flipped_unmet : (words : ℕ → ℕ) (task : Record) (a b : Answer) (m n : Move) → IsAt rows words m → IsAt rows words n → (own more : List Entry)
-        → AloneShown begin history task own n → AloneUnmet begin history task a more m → ⊥
-    flipped_unmet words task a b m n at at' own more x y = shown_or_unmet words task b a n m at' at own more x y
-
-    module _ (words : ℕ → ℕ) (task : Record) (a b : Answer) (m n : Move) (at : IsAt rows words m) (at' : IsAt rows words n) where
-      flipped : (own more : List Entry) → AloneShown begin history task own n → AloneUnmet begin history task a more m → ⊥
-      flipped = flipped_unmet words task a b m n at at'
-
       -- a record of a kind: the states after the entries that it made keep the rules
       kind_once : (kind : RecordKind) → (kind ≡ Monitor → told_by a ≡ told_by b) → (own more : List Entry) → ((front rest : List Entry) → own ≡ front ++ rest → KeepsRules (now begin (history ++ front)))
           → ServesKind begin history kind task a own m → ServesKind begin history kind task b more n → Same a b own more m n
       kind_once Protect told own more rules (inl x) (inl y) = unbound_both words task a b own more m n at at' x y
       kind_once Protect told own more rules (inl x) (inr (inl y)) = absurd (unbound_or_bound words task a b own more m n at at' x y.is)
-      kind_once Protect told own more rules (inl x) (inr (inr (inl y))) = absurd (unbound_or_bound words task a b own more m n at at' x y.is)
-      kind_once Protect told own more rules (inl x) (inr (inr (inr y))) = absurd (unbound_or_bound words task a b own more m n at at' x y.is)
+      kind_once Protect told own more rules (inl x) (inr (inr y)) = absurd (unbound_or_bound words task a b own more m n at at' x y.is)
       kind_once Protect told own more rules (inr (inl x)) (inl y) = absurd (unbound_or_bound words task b a more own n m at' at y x.is)
       kind_once Protect told own more rules (inr (inl x)) (inr (inl y)) = protected_both words task a b own more m n at at' x y
-      kind_once Protect told own more rules (inr (inl x)) (inr (inr (inl y))) = absurd (protected_or_exhausted words task a b own more m n at at' x y)
-      kind_once Protect told own more rules (inr (inl x)) (inr (inr (inr y))) = absurd (protected_or_unfunded words task a b own more m n at at' x y)
-      kind_once Protect told own more rules (inr (inr (inl x))) (inl y) = absurd (unbound_or_bound words task b a more own n m at' at y x.is)
-      kind_once Protect told own more rules (inr (inr (inl x))) (inr (inl y)) = absurd (protected_or_exhausted words task b a more own n m at' at y x)
-      kind_once Protect told own more rules (inr (inr (inl x))) (inr (inr (inl y))) = exhausted_both words task a b own more m n at at' x y
-      kind_once Protect told own more rules (inr (inr (inl x))) (inr (inr (inr y))) = absurd (exhausted_or_unfunded words task a b own more m n at at' x y)
-      kind_once Protect told own more rules (inr (inr (inr x))) (inl y) = absurd (unbound_or_bound words task b a more own n m at' at y x.is)
-      kind_once Protect told own more rules (inr (inr (inr x))) (inr (inl y)) = absurd (protected_or_unfunded words task b a more own n m at' at y x)
-      kind_once Protect told own more rules (inr (inr (inr x))) (inr (inr (inl y))) = absurd (exhausted_or_unfunded words task b a more own n m at' at y x)
-      kind_once Protect told own more rules (inr (inr (inr x))) (inr (inr (inr y))) = unfunded_both words task a b own more m n at at' x y
-      kind_once Open told own more rules (inl x) (inl y) = opened_both words task a b own more m n at at' x y
-      kind_once Open told own more rules (inl x) (inr y) = absurd (opened_or_unopened words task a b own more m n at at' x y)
-      kind_once Open told own more rules (inr x) (inl y) = absurd (opened_or_unopened words task b a more own n m at' at y x)
-      kind_once Open told own more rules (inr x) (inr y) = unopened_both words task a b own more m n at at' x y
-      kind_once Command told own more rules (inl x) (inl y) =
-          handled_both words task a b m n at at' own more x y (rules x.reserve (record_entry task.index x.is.seen x.is.change ∷ []) x.own_is)
-      kind_once Command told own more rules (inl x) (inr (inl y)) =
-          absurd (handled_or_unhandled words task a b m n at at' own more x y (rules x.reserve (record_entry task.index x.is.seen x.is.change ∷ []) x.own_is))
-      kind_once Command told own more rules (inl x) (inr (inr y)) = absurd (shown_or_unmet words task a b m n at at' x.reserve more x.is y)
-      kind_once Command told own more rules (inr (inl x)) (inl y) = absurd (unhandled_or_handled x y)
-        where
-          unhandled_or_handled : AloneUnhandled begin history task a own m → AloneHandled begin history task b more n → ⊥
-          unhandled_or_handled x y =
-              let same = (shown_same words task a b m n at at' own y.reserve x.is y.is).1 in
-              let after_own = rules own [] (sym (append-nil own)) in
-              slot_or_full_here (record_entry task.index y.is.seen y.is.change) (record_entry task.index x.is.seen x.is.change)
-              (sym (entry_same words task a b m n at at' own y.reserve x.is y.is after_own))
-              (subst (λ (l : List Entry). HasSlot begin (history ++ l) (record_entry task.index y.is.seen y.is.change)) (sym same) y.slot) x.full
-            where
-              slot_or_full_here : (entry other : Entry) → entry ≡ other → HasSlot begin (history ++ own) entry → SaysFull begin (history ++ own) other a → ⊥
-              slot_or_full_here entry other same slot full =
-                  let s = slot tells (subst (λ (e : Entry). IsTrue (IsStored (now begin (history ++ own)) e)) (sym same) full.stored) in
-                  let u = full.none_left tells in omega arith
-      kind_once Command told own more rules (inr (inl x)) (inr (inl y)) = unhandled_both words task a b m n at at' own more x y
-      kind_once Command told own more rules (inr (inl x)) (inr (inr y)) = absurd (shown_or_unmet words task a b m n at at' own more x.is y)
-      kind_once Command told own more rules (inr (inr x)) (inl y) = absurd (flipped y.reserve own y.is x)
-      kind_once Command told own more rules (inr (inr x)) (inr (inl y)) = absurd (flipped more own y.is x)
-      kind_once Command told own more rules (inr (inr x)) (inr (inr y)) = unmet_both words task a b m n at at' own more x y
+      kind_once Protect told own more rules (inr (inl x)) (inr (inr y)) = absurd (protected_or_exhausted words task a b own more m n at at' x y)
+      kind_once Protect told own more rules (inr (inr x)) (inl y) = absurd (unbound_or_bound words task b a more own n m at' at y x.is)
+      kind_once Protect told own more rules (inr (inr x)) (inr (inl y)) = absurd (protected_or_exhausted words task b a more own n m at' at y x)
+      kind_once Protect told own more rules (inr (inr x)) (inr (inr y)) = exhausted_both words task a b own more m n at at' x y
+      kind_once Open told own more rules x y = opened_both words task a b own more m n at at' x y
+      kind_once Command told own more rules x y =
+          handled_both own more x y (rules x.reserve (record_entry task.index x.is.seen x.is.change ∷ []) x.own_is)
       kind_once Monitor told own more rules x y = (same_answer a b (told refl) (x.0 ∙ sym y.0), x.1 ∙ sym y.1, x.2 ∙ sym y.2)
 
     -- a record that the site and memory sufficed for
     serves_once : (words : ℕ → ℕ) (task : Record) (a b : Answer) (m n : Move) → IsAt rows words m → IsAt rows words n → (own more : List Entry)
         → (task.kind ≡ Monitor → told_by a ≡ told_by b)
-        → ((front rest : List Entry) → own ≡ front ++ rest → KeepsRules (now begin (history ++ front))) → a.code ≤ JOURNAL_FULL → b.code ≤ JOURNAL_FULL
+        → ((front rest : List Entry) → own ≡ front ++ rest → KeepsRules (now begin (history ++ front))) → a.code < SITE_FAULT → b.code < SITE_FAULT
         → AloneServes begin history task a own m → AloneServes begin history task b more n → Same a b own more m n
     serves_once words task a b m n at at' own more told rules low less (inl late) y = absurd (omega arith)
     serves_once words task a b m n at at' own more told rules low less (inr x) (inl late) = absurd (omega arith)

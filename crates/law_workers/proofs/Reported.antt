@@ -1,5 +1,5 @@
 -- A monitoring message has one answer of the log, by the answers before it: for `served_once`.
-use Rattle.std.proofs.Common.{◌≡◌, ℕ, ◌≤◌, List, Ok, Err, inl, inr, sym, ◌∙◌, ap, subst, arith}
+use Rattle.std.proofs.Common.{◌≡◌, ℕ, ◌<◌, List, Ok, Err, inl, inr, sym, ◌∙◌, ap, subst, arith}
 use Rattle.std.specs.Prelude.{Result}
 use Rattle.std.proofs.lemmas.Option.{none-some, same_Some}
 use Rattle.fsr_log.specs.declared.messages.Monitoring.{Monitoring}
@@ -9,7 +9,7 @@ use Rattle.fsr_log.specs.Reply.{Answers, reply_of}
 use Rattle.fsr_log.specs.Report.{Report, report_of}
 use Rattle.fsr_log.proofs.Reading.{message_has_none}
 use Rattle.record_io.specs.declared.answers.Answer.{Answer}
-use Rattle.record_io.specs.declared.code.TheConstants.{JOURNAL_FULL}
+use Rattle.record_io.specs.declared.code.TheConstants.{SITE_FAULT}
 use Rattle.record_io.specs.declared.records.Record.{Record}
 use Rattle.run_promise.specs.Answers.{Told, monitored_told, told_by}
 use Rattle.run_promise.specs.Deed.{Deed}
@@ -34,7 +34,7 @@ module _ (one_message : (one other : Monitoring) (octets : List ℕ) → IsMonit
   said_once report octets (Err m) (Err n) x y =
       ap (λ (o : ℕ). monitored_told (Err o)) (same_Some m n (sym x ∙ y))
 
-  pub report_once : (before : List Noted) (d e : Deed) → d.task ≡ e.task → d.answer.code ≤ JOURNAL_FULL → e.answer.code ≤ JOURNAL_FULL
+  pub report_once : (before : List Noted) (d e : Deed) → d.task ≡ e.task → d.answer.code < SITE_FAULT → e.answer.code < SITE_FAULT
       → IsReported before d → IsReported before e → told_by d.answer ≡ told_by e.answer
   report_once before d e same low less (inl wants) y = let c = ap (λ (t : Told). t.code) wants in absurd (omega arith)
   report_once before d e same low less (inr x) (inl wants) = let c = ap (λ (t : Told). t.code) wants in absurd (omega arith)

@@ -1,5 +1,5 @@
 //! Laws of what one lane did alone.
-ghost use Rattle.std.specs.Prelude.{◌≡◌, ℕ, ◌+◌, ◌<◌, ◌≤◌, IsTrue, List, [], ◌∷◌, ◌++◌, length, map, slice_get};
+ghost use Rattle.std.specs.Prelude.{◌≡◌, ℕ, ◌+◌, ◌<◌, ◌≤◌, List, [], ◌∷◌, ◌++◌, length, map, slice_get};
 ghost use Rattle.counter_table.specs.declared.view.View.{View};
 ghost use Rattle.counter_table.specs.Numbers.{amount};
 ghost use Rattle.counter_table.specs.Turn.{stands};
@@ -59,12 +59,11 @@ pub fn alone_is_exact()
 {}
 
 /// Law: one lane alone answers once. From one history and the same words the same records have the same answers, make
-/// the same entries and move the words alike, as far as the site tells what it holds, where for none of them the site
-/// failed or memory was wanting, each state of the history keeps the rules, and each monitoring message has the answer of
-/// the log of the answers before it.
+/// the same entries and move the words alike, if for none of them the site failed or memory ran out, each state of the
+/// history keeps the rules, and each monitoring message has the answer of the log of the answers before it.
 pub fn served_once()
     ensures { (begin : Begin) (rows : ℕ) (words : ℕ → ℕ) (before : List Noted) (history : List Entry)
-        (deeds others : List Deed) (moves more : List Move) (own entries : List Entry) → IsTrue begin.told
+        (deeds others : List Deed) (moves more : List Move) (own entries : List Entry)
         → AreReported before deeds → AreReported before others
         → ((front rest : List Entry) → own ≡ front ++ rest → KeepsRules (after begin.start (history ++ front)))
         → SameTasks deeds others → AreServed deeds → AreServed others

@@ -137,7 +137,7 @@ breaks_in_octets told old new header octets left_old left_new head offset at fou
       malformed = λ t. subst LacksItem (sym (whole t)) (lacks_octets header octets head found cut);
     }
 
--- memory is wanting for the octets behind a head; where there are none, the head is the whole item
+-- memory runs out for the octets behind a head; if there are none, the head is the whole item
 pub wants_octets : (told : Bool) (old : ℕ) (header left : List ℕ) (head : Head) (len : ℕ) → len ≡ head.len → IsHead header head
     → old + 6 ≤ MOST_OCTETS → Wants told old (header ++ left) left
 wants_octets told old header left head zero none found few =

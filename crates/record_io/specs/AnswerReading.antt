@@ -4,7 +4,7 @@ use Rattle.std.specs.List.{list_any}
 use Rattle.record_io.specs.declared.answers.Answer.{Answer}
 use Rattle.record_io.specs.declared.answers.TheConstants.{ANSWER_HEADER}
 use Rattle.record_io.specs.declared.code.TheConstants.{PROTECTED, ACCEPTED, CLEAR, DONE, REFUSED, LAYOUT, CHANNEL, SPI}
-use Rattle.record_io.specs.declared.code.TheConstants.{DIRECTION, STATE, COVERAGE, MAC, NUMBER, EXHAUSTED, JOURNAL_FULL}
+use Rattle.record_io.specs.declared.code.TheConstants.{DIRECTION, STATE, COVERAGE, MAC, NUMBER, EXHAUSTED}
 use Rattle.record_io.specs.declared.code.TheConstants.{SITE_FAULT, STOPPED, NO_MEMORY, END}
 use Rattle.record_io.specs.Answers.{Cut, Header, HasWidths, header_octets}
 use Rattle.record_io.specs.declared.code.TheConstants.{MONITORED, MONITOR_FAULT}
@@ -12,7 +12,7 @@ use Rattle.record_io.specs.declared.answer_reading.AnswerHead.{AnswerHead}
 
 abbrev pub answer_codes : List ℕ
 answer_codes = PROTECTED ∷ ACCEPTED ∷ CLEAR ∷ DONE ∷ REFUSED ∷ MONITORED ∷ MONITOR_FAULT ∷ LAYOUT ∷ CHANNEL ∷ SPI
-    ∷ DIRECTION ∷ STATE ∷ COVERAGE ∷ MAC ∷ NUMBER ∷ EXHAUSTED ∷ JOURNAL_FULL ∷ SITE_FAULT ∷ STOPPED ∷ NO_MEMORY ∷ END
+    ∷ DIRECTION ∷ STATE ∷ COVERAGE ∷ MAC ∷ NUMBER ∷ EXHAUSTED ∷ SITE_FAULT ∷ STOPPED ∷ NO_MEMORY ∷ END
     ∷ []
 
 -- the code is that of an answer

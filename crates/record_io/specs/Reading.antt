@@ -85,7 +85,7 @@ ReadsTo start now standing items records (Malformed offset) = (last : ReadsLast 
     × (offset ≡ length last.read) × (IsTrue start.told → IsInput start.left (items ++ last.more) (MalformedAt offset))
 ReadsTo start now standing items records (SourceFault count) = ReadsLast start now items records × (count ≡ now.faults)
 
--- where memory was wanting, what was taken: more items, whose records are lost, and a part of another
+-- if memory ran out, what was taken: more items, whose records are lost, and a part of another
 pub record Loses (start now : SourceSeen) (items : List Item) : Type 0 where
   pub more : List Item
   pub read : List ℕ

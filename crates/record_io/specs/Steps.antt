@@ -125,7 +125,7 @@ ReadsItem told taken taken_new left_old left_new (reads.Next kind lane link octe
     Took told (item ∷ []) [] taken left_old left_new × (taken_new ≡ taken + length (item_octets item))
 ReadsItem told taken taken_new left_old left_new (reads.Ends end) = EndsNext told taken taken_new left_old left_new end
 
--- where memory was wanting: some items were read, and a part of another was taken
+-- if memory ran out: some items were read, and a part of another was taken
 abbrev pub Wants : Bool → ℕ → List ℕ → List ℕ → Type 0
 Wants told taken left_old left_new = (items : List Item) × (part : List ℕ)
     × Took told items part taken left_old left_new

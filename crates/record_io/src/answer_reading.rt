@@ -9,7 +9,7 @@ ghost use Rattle.record_io.specs.declared.answer_reading.AnswerError.TheVariants
 
 use crate::answers::{ANSWER_HEADER, Answer};
 use crate::code::{
-    ACCEPTED, CHANNEL, CLEAR, COVERAGE, DIRECTION, DONE, END, EXHAUSTED, JOURNAL_FULL, LAYOUT, MAC,
+    ACCEPTED, CHANNEL, CLEAR, COVERAGE, DIRECTION, DONE, END, EXHAUSTED, LAYOUT, MAC,
     MONITOR_FAULT, MONITORED, NO_MEMORY, NUMBER, PROTECTED, REFUSED, SITE_FAULT, SPI, STATE,
     STOPPED,
 };
@@ -19,7 +19,7 @@ use std::alloc::{AllocError, Global};
 use thiserror::Error;
 
 /// The codes of answers.
-const KNOWN: [u8; 21] = [
+const KNOWN: [u8; 20] = [
     PROTECTED,
     ACCEPTED,
     CLEAR,
@@ -36,7 +36,6 @@ const KNOWN: [u8; 21] = [
     MAC,
     NUMBER,
     EXHAUSTED,
-    JOURNAL_FULL,
     SITE_FAULT,
     STOPPED,
     NO_MEMORY,

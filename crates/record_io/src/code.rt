@@ -48,16 +48,13 @@ pub const NUMBER: u8 = 0x17;
 /// The key's numbers have come to their end.
 pub const EXHAUSTED: u8 = 0x20;
 
-/// All slots of the image are used.
-pub const JOURNAL_FULL: u8 = 0x30;
-
 /// The site failed while the entry was stored.
 pub const SITE_FAULT: u8 = 0x31;
 
 /// The site had failed before.
 pub const STOPPED: u8 = 0x32;
 
-/// Memory is wanting.
+/// Memory ran out.
 pub const NO_MEMORY: u8 = 0x33;
 
 /// The run ends: the detail is its status. It stands behind all other answers.

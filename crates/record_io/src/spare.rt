@@ -61,7 +61,7 @@ impl Spare {
         Ok(list)
     }
 
-    /// Keeps a list, unless there are enough, or memory is wanting for its place.
+    /// Keeps a list, unless there are enough, or memory for its place runs out.
     fn keep(&mut self, list: Vec<u8>)
         ensures none_lost { self.old ≤ self.new }
         ensures one_more { self.new ≤ self.old + 1 }
@@ -91,7 +91,7 @@ impl Spare {
         }
     }
 
-    /// Parts with so many of the lists, or with all. Where memory is wanting it parts with none.
+    /// Parts with so many of the lists, or with all. If memory runs out it parts with none.
     pub fn share(&mut self, alloc: Global, most: usize) -> Spare
         ensures few { result ≤ most }
         ensures parted { result + self.new ≡ self.old }
@@ -103,7 +103,7 @@ impl Spare {
         }
     }
 
-    /// Takes back what is left of a share, if there are not enough then, and memory is not wanting.
+    /// Takes back what is left of a share, if there are not enough then, and memory suffices.
     pub fn rejoin(&mut self, mut other: Spare)
         ensures none_lost { self.old ≤ self.new }
         ensures more { self.new ≤ self.old + other }

@@ -18,7 +18,7 @@ pub const SOURCE_FAULT: u8 = 4;
 /// The site failed.
 pub const SITE_FAULT: u8 = 5;
 
-/// Memory is wanting.
+/// Memory ran out.
 pub const NO_MEMORY: u8 = 6;
 
 /// There is an image already, or the image shows no state.

@@ -2,7 +2,6 @@
 use Rattle.std.specs.Prelude.{◌≡◌, ◌⊎◌, ℕ, ◌<◌, ◌≤◌, nat_lt, if◌then◌else◌, List, [], ◌∷◌, ◌++◌, length}
 use Rattle.std.specs.Prelude.{take}
 use Rattle.sdls_base.specs.declared.TheConstants.{MOST_KEYS}
-use Rattle.unit_image.specs.Image.{slots_of, used_of}
 use Rattle.record_io.specs.declared.answers.Answer.{Answer}
 use Rattle.record_io.specs.declared.code.TheConstants.{END, SITE_FAULT, STOPPED}
 use Rattle.record_io.specs.declared.kinds.RecordKind.TheVariants.{Monitor}
@@ -112,7 +111,7 @@ abbrev pub AnsweredEach : Account → Type 0
 AnsweredEach account = length account.answers ≡ length account.handled
 
 -- Which records were handled, and which have answers, by what came: all records of the items; those of the first
--- segments, where memory was wanting; none where the book was not opened. Where the history is full, or a put failed,
+-- segments, if memory ran out; none if the book was not opened. If the history is full, or a put failed,
 -- all that were read were handled, but for a Monitor record that ended their segment, and some may lack an answer.
 abbrev pub AreAnswered : Account → RunEnd → Type 0
 AreAnswered account Ended = HandledAll account × AnsweredEach account
@@ -132,8 +131,6 @@ begin_of call plan state = record {
   told = call.told;
   plan = plan;
   start = state;
-  slots = slots_of (image_at_entry call);
-  used = used_of (image_at_entry call);
 }
 
 abbrev pub course_of : CallSeen → Account → PlanLines → State → Course

@@ -13,7 +13,7 @@ use Rattle.ep_core.specs.declared.reply.Reply.{Reply}
 use Rattle.ep_core.specs.declared.reply.Reply.TheVariants as replies
 use Rattle.record_io.specs.declared.answers.Answer.{Answer}
 use Rattle.record_io.specs.declared.code.TheConstants.{PROTECTED, ACCEPTED, CLEAR, DONE, REFUSED, LAYOUT, CHANNEL, SPI}
-use Rattle.record_io.specs.declared.code.TheConstants.{DIRECTION, STATE, COVERAGE, MAC, NUMBER, EXHAUSTED, JOURNAL_FULL}
+use Rattle.record_io.specs.declared.code.TheConstants.{DIRECTION, STATE, COVERAGE, MAC, NUMBER, EXHAUSTED}
 use Rattle.record_io.specs.declared.code.TheConstants.{SITE_FAULT, STOPPED, NO_MEMORY, MONITORED, MONITOR_FAULT}
 use Rattle.record_io.specs.declared.kinds.RecordKind.{RecordKind}
 use Rattle.record_io.specs.declared.kinds.RecordKind.TheVariants.{Protect, Open, Command, Monitor}
@@ -83,7 +83,7 @@ monitored_told (Err offset) = counting MONITOR_FAULT 0 offset
 
 -- the codes of the answers that a record of any kind but Monitor may have, and of those of each kind
 abbrev pub any_codes : List ℕ
-any_codes = JOURNAL_FULL ∷ SITE_FAULT ∷ STOPPED ∷ NO_MEMORY ∷ []
+any_codes = SITE_FAULT ∷ STOPPED ∷ NO_MEMORY ∷ []
 
 abbrev pub codes_of : RecordKind → List ℕ
 codes_of Protect = PROTECTED ∷ CLEAR ∷ LAYOUT ∷ CHANNEL ∷ STATE ∷ EXHAUSTED ∷ any_codes
@@ -103,6 +103,6 @@ Uses answer key number = ((answer.code ≡ PROTECTED) ⊎ ((answer.code ≡ DONE
 abbrev pub Accepts : Answer → ℕ → ℕ → Type 0
 Accepts answer key number = (answer.code ≡ ACCEPTED) × (answer.key ≡ key) × (answer.number ≡ number)
 
--- The code says that the record made no entry: no slot was left for it, the site had failed before, or memory ran out.
+-- The code says that the record made no entry: the site had failed before, or memory ran out.
 abbrev pub IsUnmade : ℕ → Type 0
-IsUnmade code = (code ≡ JOURNAL_FULL) ⊎ ((code ≡ STOPPED) ⊎ (code ≡ NO_MEMORY))
+IsUnmade code = (code ≡ STOPPED) ⊎ (code ≡ NO_MEMORY)

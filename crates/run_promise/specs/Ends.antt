@@ -7,7 +7,7 @@ use Rattle.sdls_base.specs.declared.entry.Entry.{Entry}
 use Rattle.sdls_outside.specs.Faults.{Rose}
 use Rattle.sdls_outside.specs.Disk.{Leaves}
 use Rattle.sdls_outside.specs.Moments.{EachMoment}
-use Rattle.unit_image.specs.Image.{Settles, slots_of, used_of}
+use Rattle.unit_image.specs.Image.{Settles}
 use Rattle.key_book.specs.KeyBook.{place_of}
 use Rattle.record_io.specs.declared.status.TheConstants as status
 use Rattle.record_io.specs.Places.{records_of}
@@ -17,7 +17,6 @@ use Rattle.unit_state.specs.declared.state.State.{State}
 use Rattle.unit_state.specs.History.{after_first}
 use Rattle.unit_image.specs.Shows.{ShowsNone}
 use Rattle.run_promise.specs.Numbers.{releases}
-use Rattle.run_promise.specs.Stored.{stored_count}
 use Rattle.run_promise.specs.Answers.{Uses}
 use Rattle.run_promise.specs.Run.{NearWord}
 use Rattle.run_promise.specs.declared.limits.TheConstants.{MOST_ENTRIES}
@@ -51,13 +50,8 @@ pub record IsSoundCall (call : CallSeen) (account : Account) (plan : PlanLines) 
 abbrev pub due_releases : CallSeen → State → ℕ → List ℕ → List Entry
 due_releases call state ends words = releases (after_first state call.entries ends) 0 words
 
--- all slots of the image are used, by its own records and by the entries that were stored
-abbrev pub IsJournalFull : CallSeen → State → Type 0
-IsJournalFull call state =
-    used_of (image_at_entry call) + stored_count state call.entries ≡ slots_of (image_at_entry call)
-
 -- The releases behind the entries of the lanes: those that are due, up to the first that was refused; none where the
--- site had failed before. One is refused only where the site fails, the journal is full, or the history is full.
+-- site had failed before. One is refused only if the site fails or the history is full.
 pub record IsReleased (call : CallSeen) (account : Account) (state : State) (ends : ℕ) : Type 0 where
   pub words : List ℕ
   pub rows : length words ≡ MOST_KEYS
@@ -65,7 +59,7 @@ pub record IsReleased (call : CallSeen) (account : Account) (state : State) (end
   pub are_due : drop ends call.entries ≡ take count (due_releases call state ends words)
   pub stopped : Rose call.site.faults account.last → length call.entries ≡ ends
   pub refused : count < length (due_releases call state ends words)
-      → Rose call.site.faults call.site_after.faults ⊎ (IsJournalFull call state ⊎ (length call.entries ≡ MOST_ENTRIES))
+      → Rose call.site.faults call.site_after.faults ⊎ (length call.entries ≡ MOST_ENTRIES)
   -- where all records were answered, a full history is told of a release that is due
   pub full : account.came ≡ Ended → account.told ≡ SessionFull → count < length (due_releases call state ends words)
   -- a fault of the site that the status does not tell is one of a release, which was entered
@@ -79,9 +73,6 @@ pub record IsReleased (call : CallSeen) (account : Account) (state : State) (end
   pub above : All (λ deed. (key number row : ℕ) → Uses deed.answer key number
       → place_of (after_first state call.entries ends).keys key ≡ Some row → number < slice_index words row)
       (deeds_in account)
-  -- no more slots are used than there are, where the site did not fail
-  pub room : ¬ Rose call.site.faults call.site_after.faults
-      → used_of (image_at_entry call) + stored_count state call.entries ≤ slots_of (image_at_entry call)
 
 -- The image at the entry shows this state of this plan: the run is sound, the keys are released, and one lane alone is
 -- exact.

@@ -18,7 +18,7 @@ use Rattle.frame_checks.specs.ProtectingFrames.{channel_check}
 use Rattle.ep_core.specs.declared.need.Need.TheVariants.{Number}
 use Rattle.ep_core.specs.declared.reply.Reply.{Reply}
 use Rattle.record_io.specs.declared.answers.Answer.{Answer}
-use Rattle.record_io.specs.declared.code.TheConstants.{PROTECTED, EXHAUSTED, JOURNAL_FULL, SITE_FAULT, STOPPED}
+use Rattle.record_io.specs.declared.code.TheConstants.{PROTECTED, EXHAUSTED, SITE_FAULT, STOPPED}
 use Rattle.record_io.specs.declared.code.TheConstants.{NO_MEMORY}
 use Rattle.record_io.specs.declared.kinds.RecordKind.{RecordKind}
 use Rattle.record_io.specs.declared.kinds.RecordKind.TheVariants.{Protect, Open, Command, Monitor}
@@ -26,7 +26,6 @@ use Rattle.record_io.specs.declared.records.Record.{Record}
 use Rattle.run_promise.specs.Begin.{Begin}
 use Rattle.run_promise.specs.Numbers.{mark_of, floor_of}
 use Rattle.run_promise.specs.Entries.{frame_entry, record_entry, IsNeedOf, IsStepOf}
-use Rattle.run_promise.specs.Stored.{stored_count}
 use Rattle.run_promise.specs.Legal.{KeyOf, SeesFor, SeenNear}
 use Rattle.run_promise.specs.ProtectingFrames.{protect_reply}
 use Rattle.run_promise.specs.Answers.{told_by, plain, counting, numbered, opened_told, replied_told, unbound_told}
@@ -176,16 +175,6 @@ pub record IsCommandAnswer (course : Course) (task : Record) (answer : Answer) :
 
 -- ---- what a record of any kind but Monitor may be answered
 
--- The answer tells the number of slots. They are those of the image, and all are used, as far as the site tells what it
--- holds; and the record can need one.
-pub record IsFull (near : ℕ → ℕ → Type 0) (course : Course) (task : Record) (answer : Answer) : Type 0 where
-  pub told : told_by answer ≡ counting JOURNAL_FULL 0 answer.number
-  pub within : answer.position ≤ length course.entries
-  pub slots_are : IsTrue course.begin.told → answer.number ≡ course.begin.slots
-  pub full : IsTrue course.begin.told → course.begin.used + stored_count course.begin.start (take answer.position course.entries)
-      ≡ course.begin.slots
-  pub may : MayAppend near course answer.position task
-
 -- the answer tells a count of faults that rose since the opening, and the count of all entries
 pub record TellsRisenCount (course : Course) (code : ℕ) (answer : Answer) : Type 0 where
   pub told : told_by answer ≡ counting code 0 answer.number
@@ -207,7 +196,7 @@ pub record IsStopped (near : ℕ → ℕ → Type 0) (course : Course) (task : R
   pub tells : TellsRisenCount course STOPPED answer
   pub may : (task.kind ≢ Protect) ⊎ MayAppendOnce near course task
 
--- memory was wanting
+-- memory ran out
 pub record IsWanting (answer : Answer) : Type 0 where
   pub told : told_by answer ≡ plain NO_MEMORY 0
   pub position_is : answer.position ≡ 0
@@ -220,8 +209,7 @@ pub record IsReport (course : Course) (answer : Answer) : Type 0 where
 
 abbrev pub FitsAny : (ℕ → ℕ → Type 0) → Course → Record → Answer → Type 0
 FitsAny near course task answer =
-    IsFull near course task answer ⊎ (IsFaulted near course task answer
-    ⊎ (IsStopped near course task answer ⊎ IsWanting answer))
+    IsFaulted near course task answer ⊎ (IsStopped near course task answer ⊎ IsWanting answer)
 
 abbrev pub FitsKind : (ℕ → ℕ → Type 0) → Course → Record → Answer → RecordKind → Type 0
 FitsKind near course task answer Protect = IsProtected near course task answer

@@ -2,7 +2,7 @@
 use Rattle.std.specs.Prelude.{◌≡◌, ◌≢◌, ◌⊎◌, ⊤, ℕ, ◌-◌, nat_lt, if◌then◌else◌, List, [], ◌∷◌, ◌++◌, length}
 use Rattle.std.specs.Prelude.{IsSomeAnd, Ok}
 use Rattle.std.specs.List.{AllPairs}
-use Rattle.unit_image.specs.Image.{held, initial_image}
+use Rattle.unit_image.specs.Image.{held}
 use Rattle.record_io.specs.declared.kinds.RecordKind.{RecordKind}
 use Rattle.record_io.specs.declared.kinds.RecordKind.TheVariants.{Protect, Open, Command, Monitor}
 use Rattle.record_io.specs.declared.answers.Answer.{Answer}
@@ -13,7 +13,8 @@ use Rattle.unit_plan.specs.Plan.{plan_of}
 use Rattle.unit_plan.specs.PlanLines.{PlanLines}
 use Rattle.unit_state.specs.declared.state.State.{State}
 use Rattle.unit_state.specs.State.{key_row}
-use Rattle.unit_image.specs.Shows.{SaysPlan, Shows}
+use Rattle.image_beginning.specs.Beginning.{SaysPlan, image_of_plan}
+use Rattle.unit_image.specs.Shows.{Shows}
 use Rattle.run_promise.specs.Answers.{Uses, Accepts}
 use Rattle.run_promise.specs.Fits.{Course, state_in, state_before}
 use Rattle.run_promise.specs.Deed.{Deed}
@@ -51,7 +52,7 @@ FollowFrom image (run ∷ runs) = (run.start ≡ image) × IsRun run × FollowFr
 -- the image that `init` makes of a plan
 abbrev pub IsInitial : List ℕ → Type 0
 IsInitial image = (text : List ℕ) × (plan : PlanLines) × (first : State) × SaysPlan text plan first
-    × (image ≡ initial_image text plan.slots)
+    × (image ≡ image_of_plan text plan first)
 
 -- the first run starts from an image that `init` made
 pub record IsLife (image : List ℕ) (runs : List LifeRun) : Type 0 where

@@ -9,7 +9,6 @@ use Rattle.ep_core.specs.declared.need.Need.{Need}
 use Rattle.ep_core.specs.declared.need.Need.TheVariants as needs
 use Rattle.ep_core.specs.declared.reply.Reply.{Reply}
 use Rattle.record_io.specs.declared.code.TheConstants.{PROTECTED, CLEAR, DONE, REFUSED, LAYOUT, STATE, EXHAUSTED}
-use Rattle.record_io.specs.declared.code.TheConstants.{JOURNAL_FULL}
 use Rattle.record_io.specs.declared.kinds.RecordKind.{RecordKind}
 use Rattle.record_io.specs.declared.kinds.RecordKind.TheVariants.{Protect, Open, Command, Monitor}
 use Rattle.record_io.specs.declared.records.Record.{Record}
@@ -50,31 +49,20 @@ module _ (start : State) (entries : List Entry) where
       Shown state task (λ key. needs.Number key) (λ row. Found row number) move
       ⊎ Shown state task (λ key. needs.Number key) (λ row. Overdrew row number) move
 
-  -- the answer to a frame that is protected tells its move: the number used, the word or number at the end, none where
-  -- it is not bound, and where the journal is full a number that is not funded
+  -- the answer to a frame that is protected tells its move: the number used, the word or number at the end, or none if
+  -- it is not bound
   pub record TellsProtect (deed : Deed) (move : Move) : Type 0 where
     pub protected : deed.answer.code ≡ PROTECTED → (row : ℕ) × HasRow deed.answer.key row
         × (move ≡ Drew row deed.answer.number)
     pub exhausted : deed.answer.code ≡ EXHAUSTED → (row : ℕ) × HasRow deed.answer.key row
         × ((move ≡ Found row deed.answer.number) ⊎ (move ≡ Overdrew row deed.answer.number))
     pub unbound : (deed.answer.code ≡ CLEAR) ⊎ ((LAYOUT ≤ deed.answer.code) × (deed.answer.code ≤ STATE)) → move ≡ Kept
-    pub full : deed.answer.code ≡ JOURNAL_FULL → (deed.answer.position ≤ length entries)
-        × ((key : ℕ) × (row : ℕ) × (number : ℕ)
-        × HasRow key row × (mark_of (before deed.answer.position) key ≤ number) × (move ≡ Drew row number))
 
-  -- a command's answer by its entry, and where the journal is full by what the step in the state then would have seen,
-  -- or a number that is not funded
+  -- a command's answer tells it by its entry
   pub record TellsCommand (deed : Deed) (move : Move) : Type 0 where
     pub entry : (deed.answer.code ≡ DONE) ⊎ (deed.answer.code ≡ REFUSED) → (e : Entry)
         × (slice_get entries (deed.answer.position - 1) ≡ Some e)
         × TellsSeen (before (deed.answer.position - 1)) deed.task e.seen move
-    pub full : deed.answer.code ≡ JOURNAL_FULL → (deed.answer.position ≤ length entries) × (
-        ((seen : Seen) × (change : Change) × (reply : Reply)
-        × IsStepOf (before deed.answer.position) deed.task.octets seen (change, reply)
-        × TellsSeen (before deed.answer.position) deed.task seen move)
-        ⊎ ((key : ℕ) × (row : ℕ) × (number : ℕ) × KeyOf (before deed.answer.position) deed.task.octets key
-        × HasRow key row
-        × (mark_of (before deed.answer.position) key ≤ number) × (move ≡ Drew row number)))
 
   -- codes 31, 32 and 33 tell nothing of the move
   abbrev pub TellsKind : RecordKind → Deed → Move → Type 0

@@ -1,6 +1,6 @@
 -- One lane alone, record by record: what a record makes of the history that those before it left, and how it is
 -- answered (profile).
-use Rattle.std.specs.Prelude.{◌≡◌, ⊤, ◌⊎◌, ℕ, ◌+◌, ◌<◌, ◌≤◌, IsTrue, List, [], ◌∷◌, ◌++◌, length, Option, Some, None}
+use Rattle.std.specs.Prelude.{◌≡◌, ⊤, ◌⊎◌, ℕ, ◌+◌, ◌<◌, ◌≤◌, List, [], ◌∷◌, ◌++◌, length, Option, Some, None}
 use Rattle.std.specs.Prelude.{Result, Ok, Err}
 use Rattle.sdls_base.specs.KeyId.{end_of}
 use Rattle.sdls_base.specs.declared.change.Change.{Change}
@@ -18,17 +18,16 @@ use Rattle.ep_core.specs.declared.need.Need.{Need}
 use Rattle.ep_core.specs.declared.need.Need.TheVariants as needs
 use Rattle.ep_core.specs.declared.reply.Reply.{Reply}
 use Rattle.record_io.specs.declared.answers.Answer.{Answer}
-use Rattle.record_io.specs.declared.code.TheConstants.{PROTECTED, EXHAUSTED, JOURNAL_FULL}
+use Rattle.record_io.specs.declared.code.TheConstants.{PROTECTED, EXHAUSTED, SITE_FAULT}
 use Rattle.record_io.specs.declared.kinds.RecordKind.{RecordKind}
 use Rattle.record_io.specs.declared.kinds.RecordKind.TheVariants.{Protect, Open, Command, Monitor}
 use Rattle.record_io.specs.declared.records.Record.{Record}
 use Rattle.unit_state.specs.declared.state.State.{State}
 use Rattle.unit_state.specs.History.{after, at_epoch, epoch_after}
-use Rattle.run_promise.specs.Answers.{told_by, counting, numbered, opened_told, replied_told, unbound_told}
+use Rattle.run_promise.specs.Answers.{told_by, numbered, opened_told, replied_told, unbound_told}
 use Rattle.run_promise.specs.Entries.{frame_entry, record_entry, IsNeedOf, IsStepOf}
 use Rattle.run_promise.specs.Numbers.{mark_of, reserve_of}
 use Rattle.run_promise.specs.ProtectingFrames.{protect_reply}
-use Rattle.run_promise.specs.Stored.{IsStored, stored_count}
 use Rattle.run_promise.specs.Begin.{Begin}
 use Rattle.run_promise.specs.Deed.{Deed}
 use Rattle.run_promise.specs.Machine.{Move, Kept, Found, Drew, Raised, Overdrew}
@@ -48,27 +47,10 @@ module _ (begin : Begin) (history : List Entry) where
   abbrev pub at_last_epoch : State
   at_last_epoch = at_epoch begin.start history (epoch_after history)
 
-  -- the slots used, those that the image used before among them
-  abbrev pub used_now : ℕ
-  used_now = begin.used + stored_count begin.start history
-
-  -- there is a slot for the entry, where it takes one
-  abbrev pub HasSlot : Entry → Type 0
-  HasSlot entry = IsTrue begin.told → IsTrue (IsStored now entry) → used_now < begin.slots
-
-  -- The answer says that the journal is full: the entry takes a slot, and none is left.
-  pub record SaysFull (entry : Entry) (answer : Answer) : Type 0 where
-    pub told : told_by answer ≡ counting JOURNAL_FULL 0 answer.number
-    pub position_is : answer.position ≡ length history
-    pub slots_are : IsTrue begin.told → answer.number ≡ begin.slots
-    pub stored : IsTrue (IsStored now entry)
-    pub none_left : IsTrue begin.told → used_now ≡ begin.slots
-
   -- The number that was drawn is below its key's mark, or an entry of its own reserves it.
   abbrev pub Funds : ℕ → ℕ → List Entry → Type 0
   Funds key number own = ((own ≡ []) × (number < mark_of now key))
-      ⊎ ((own ≡ reserve_of begin.plan now key number ∷ []) × (mark_of now key ≤ number)
-      × HasSlot (reserve_of begin.plan now key number))
+      ⊎ ((own ≡ reserve_of begin.plan now key number ∷ []) × (mark_of now key ≤ number))
 
   -- ---- a frame that is to be protected
 
@@ -106,16 +88,6 @@ module _ (begin : Begin) (history : List Entry) where
     pub own_is : own ≡ []
     pub move_is : (move ≡ Found is.row answer.number) ⊎ (move ≡ Overdrew is.row answer.number)
 
-  -- the number that was drawn cannot be reserved
-  pub record AloneUnfunded (task : Record) (answer : Answer) (own : List Entry) (move : Move) : Type 0 where
-    pub is : AloneBound task
-    pub number : ℕ
-    pub below : number < end_of is.binding.key
-    pub unmarked : mark_of now is.binding.key ≤ number
-    pub full : SaysFull (reserve_of begin.plan now is.binding.key number) answer
-    pub own_is : own ≡ []
-    pub move_is : move ≡ Drew is.row number
-
   -- ---- a frame that is to be opened
 
   -- the checks tell the answer, and an entry says so
@@ -125,17 +97,7 @@ module _ (begin : Begin) (history : List Entry) where
     pub replies : IsOpenReply begin.plan now task.link task.octets reply field
     pub told : told_by answer ≡ opened_told reply field
     pub position_is : answer.position ≡ length history + 1
-    pub slot : HasSlot (frame_entry begin.plan now task.index reply)
     pub own_is : own ≡ frame_entry begin.plan now task.index reply ∷ []
-    pub move_is : move ≡ Kept
-
-  -- that entry cannot be stored
-  pub record AloneUnopened (task : Record) (answer : Answer) (own : List Entry) (move : Move) : Type 0 where
-    pub reply : OpenReply
-    pub field : List ℕ
-    pub replies : IsOpenReply begin.plan now task.link task.octets reply field
-    pub full : SaysFull (frame_entry begin.plan now task.index reply) answer
-    pub own_is : own ≡ []
     pub move_is : move ≡ Kept
 
   -- ---- a command
@@ -171,43 +133,21 @@ module _ (begin : Begin) (history : List Entry) where
     pub is : AloneShown begin history task reserve move
     pub told : told_by answer ≡ replied_told is.reply
     pub position_is : answer.position ≡ length history + length own
-    pub slot : HasSlot begin (history ++ reserve) (record_entry task.index is.seen is.change)
     pub own_is : own ≡ reserve ++ record_entry task.index is.seen is.change ∷ []
-
-  -- that entry cannot be stored
-  pub record AloneUnhandled (task : Record) (answer : Answer) (own : List Entry) (move : Move) : Type 0 where
-    pub is : AloneShown begin history task own move
-    pub full : SaysFull begin (history ++ own) (record_entry task.index is.seen is.change) answer
-
-  -- the number that was drawn for it cannot be reserved
-  pub record AloneUnmet (task : Record) (answer : Answer) (own : List Entry) (move : Move) : Type 0 where
-    pub key : ℕ
-    pub needed : IsNeedOf (now begin history) task.octets (needs.Number key)
-    pub row : ℕ
-    pub row_is : place_of (now begin history).keys key ≡ Some row
-    pub number : ℕ
-    pub below : number < end_of key
-    pub unmarked : mark_of (now begin history) key ≤ number
-    pub full : SaysFull begin history (reserve_of begin.plan (now begin history) key number) answer
-    pub own_is : own ≡ []
-    pub move_is : move ≡ Drew row number
 
   -- ---- a record of any kind
 
   abbrev pub ServesKind : RecordKind → Record → Answer → List Entry → Move → Type 0
   ServesKind Protect task answer own move = AloneUnbound begin history task answer own move
-      ⊎ (AloneProtected begin history task answer own move
-      ⊎ (AloneExhausted begin history task answer own move ⊎ AloneUnfunded begin history task answer own move))
+      ⊎ (AloneProtected begin history task answer own move ⊎ AloneExhausted begin history task answer own move)
   ServesKind Open task answer own move = AloneOpened begin history task answer own move
-      ⊎ AloneUnopened begin history task answer own move
   ServesKind Command task answer own move = AloneHandled task answer own move
-      ⊎ (AloneUnhandled task answer own move ⊎ AloneUnmet task answer own move)
   ServesKind Monitor task answer own move = (answer.position ≡ length history) × (own ≡ []) × (move ≡ Kept)
 
   -- The record has this answer, made these entries and moved a word so. Nothing is said of one for which the site
-  -- failed or memory was wanting: codes from 31 on.
+  -- failed or memory ran out: codes from 31 on.
   abbrev pub AloneServes : Record → Answer → List Entry → Move → Type 0
-  AloneServes task answer own move = (JOURNAL_FULL < answer.code) ⊎ ServesKind task.kind task answer own move
+  AloneServes task answer own move = (SITE_FAULT ≤ answer.code) ⊎ ServesKind task.kind task answer own move
 
 -- records served one after the other: each finds the history that those before it left
 abbrev pub ServesAll : Begin → List Entry → List Deed → List Move → List Entry → Type 0
@@ -225,7 +165,7 @@ SameTasks [] (other ∷ others) = ⊥
 SameTasks (one ∷ ones) [] = ⊥
 SameTasks (one ∷ ones) (other ∷ others) = (one.task ≡ other.task) × SameTasks ones others
 
--- for none of them the site failed or memory was wanting
+-- for none of them the site failed or memory ran out
 abbrev pub AreServed : List Deed → Type 0
 AreServed [] = ⊤
-AreServed (deed ∷ deeds) = (deed.answer.code ≤ JOURNAL_FULL) × AreServed deeds
+AreServed (deed ∷ deeds) = (deed.answer.code < SITE_FAULT) × AreServed deeds

@@ -17,7 +17,7 @@ pub enum RunEnd {
     SourceFault(u64),
     /// The site failed; its count of faults.
     SiteFault(u64),
-    /// Memory is wanting.
+    /// Memory ran out.
     NoMemory,
     /// The image shows no state; the offset of the first check that fails.
     NoState(u64),

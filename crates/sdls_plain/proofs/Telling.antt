@@ -8,8 +8,8 @@ use Rattle.sdls_outside.specs.Site.{Sank}
 use Rattle.sdls_outside.proofs.Moments.{each_then, each_weaker, moment_now}
 use Rattle.sdls_base.specs.declared.entry.Logged.{Logged}
 use Rattle.sdls_base.specs.declared.entry.Logged.TheVariants as logged
-use Rattle.unit_image.specs.Image.{held, OnlySyncs, used_of}
-use Rattle.unit_image.proofs.Images.{only_syncs_moments}
+use Rattle.unit_image.specs.Image.{held, IsAtRest, OnlySyncs, used_of}
+use Rattle.image_parts.proofs.Moments.{only_syncs_moments}
 use Rattle.unit_plan.specs.Plan.{plan_of}
 use Rattle.status_text.specs.Text.{status_text}
 use Rattle.unit_image.specs.declared.fault.OpenFault.{OpenFault}
@@ -19,6 +19,7 @@ use Rattle.unit_state.specs.Restart.{restarted}
 use Rattle.unit_state.specs.History.{after_first}
 use Rattle.unit_image.specs.OpeningImage.{IsOpenCause, Opening}
 use Rattle.unit_image.specs.Shows.{Shows, ShowsNone}
+use Rattle.run_promise.specs.Log.{entries_of}
 use Rattle.run_promise.specs.Site.{SiteSeen}
 use Rattle.unit_book.specs.Book.{BookView, IsKept, Serves, with_put}
 use Rattle.sdls_plain.specs.declared.stat.StatEnd.{StatEnd}
@@ -30,15 +31,15 @@ use Rattle.sdls_plain.proofs.Sinking.{sinks_leave}
 
 -- a book whose log is one piece serves the state at its start alone
 pub serves_alone : (start : State) (piece : List ℕ) (standing : ℕ) (before image sunk : List ℕ)
-    → Serves start (logged.Piece piece ∷ []) standing before image sunk → ShowsAlone start image
-serves_alone start piece standing before image sunk serves =
+    → Serves start (logged.Piece piece ∷ []) standing before image sunk → IsAtRest image → ShowsAlone start image
+serves_alone start piece standing before image sunk serves rests =
     let shown = serves.shows in
     let after = shown.2 in
     let none : shown.0 ≡ 0 = (let low = after.within in omega arith) in
     let first : after_first start [] shown.0 ≡ start = ap (after_first start []) none in
     record {
       shows = subst (λ (s : State). Shows image (restarted s)) first after.shows;
-      no_form = λ form is. let later = after.forms form is in let more = later.1 in let within = later.2 in absurd (omega arith);
+      no_form = λ form is. rests is.0 is.1;
     }
 
 -- a moment of the opening, and one behind it
@@ -87,12 +88,29 @@ book_moments told old new piece made none first kept is_told =
     let opened : new.opened ≡ old.site = ap (λ (b : BookView). b.opened) made ∙ first in
     let start : new.start ≡ old.start = ap (λ (b : BookView). b.start) made in
     let log : new.log ≡ logged.Piece piece ∷ [] = ap (λ (b : BookView). b.log) made ∙ ap (λ (l : List Logged). l ++ logged.Piece piece ∷ []) none in
-    each_weaker old.site.trace new.site.trace (Serves new.start new.log new.standing new.opened.trace.now.sunk)
-    (λ image sunk. ShowsAlone old.start image)
-    (λ image sunk serves. subst (λ (s : State). ShowsAlone s image) start (serves_alone new.start piece new.standing new.opened.trace.now.sunk image sunk
-    (subst (λ (l : List Logged). Serves new.start l new.standing new.opened.trace.now.sunk image sunk) log serves)))
-    (subst (λ (o : SiteSeen). EachMoment o.trace new.site.trace (Serves new.start new.log new.standing new.opened.trace.now.sunk)) opened
-    (kept.history is_told).moments)
+    let history = kept.history is_told in
+    let idle = history.idle (ap entries_of log) in
+    let S : List ℕ → List ℕ → Type 0 = Serves new.start new.log new.standing new.opened.trace.now.sunk in
+    let both : EachMoment new.opened.trace new.site.trace (λ image sunk. S image sunk × IsAtRest image) =
+    each_both new.opened.trace new.site.trace S (λ image sunk. IsAtRest image) history.moments idle.moments in
+    each_weaker old.site.trace new.site.trace (λ image sunk. S image sunk × IsAtRest image) (λ image sunk. ShowsAlone old.start image)
+    (λ image sunk holds. subst (λ (s : State). ShowsAlone s image) start (serves_alone new.start piece new.standing new.opened.trace.now.sunk image sunk
+    (subst (λ (l : List Logged). Serves new.start l new.standing new.opened.trace.now.sunk image sunk) log holds.0) holds.1))
+    (subst (λ (o : SiteSeen). EachMoment o.trace new.site.trace (λ image sunk. S image sunk × IsAtRest image)) opened both)
+  where
+    each_both : (old new : Trace) (P Q : List ℕ → List ℕ → Type 0) → EachMoment old new P → EachMoment old new Q
+        → EachMoment old new (λ image sunk. P image sunk × Q image sunk)
+    each_both old new P Q one other = record {
+      later = one.later;
+      each = λ image sunk moment. (one.each image sunk moment, other.each image sunk moment);
+      before = λ time image sunk low moment. elim (one.before time image sunk low moment) [
+        | inl there ↦ inl there
+        | inr p ↦ elim (other.before time image sunk low moment) [
+          | inl there ↦ inl there
+          | inr q ↦ inr (p, q)
+        ]
+      ];
+    }
 
 -- what is told of the book is what is due for the image that it was opened on
 pub told_due : (told : Bool) (rose : Type 0) (image text : List ℕ) (book : BookView) (end : StatEnd) → TellsBook book text end

@@ -11,8 +11,7 @@ use Rattle.unit_plan.specs.PlanLines.{PlanLines}
 use Rattle.unit_plan.specs.Plan.{plan_of}
 use Rattle.unit_state.specs.declared.state.State.{State}
 use Rattle.unit_state.specs.Initial.{initial}
-use Rattle.unit_image.specs.Shows.{SaysPlan}
-use Rattle.unit_image.specs.Image.{initial_image}
+use Rattle.image_beginning.specs.Beginning.{SaysPlan, image_of_plan}
 use Rattle.sdls_plain.specs.declared.init.InitEnd.{InitEnd}
 use Rattle.sdls_plain.specs.declared.init.InitEnd.TheVariants.{Made, ImageExists, Refused, SourceFault, SiteFault}
 use Rattle.sdls_plain.specs.declared.init.InitEnd.TheVariants.{NoMemory}
@@ -26,9 +25,9 @@ abbrev pub IsPlanFault : List ℕ → PlanFault → Type 0
 IsPlanFault text fault = (plan_of text ≡ Err fault)
     ⊎ ((plan : PlanLines) × (plan_of text ≡ Ok plan) × (initial plan ≡ Err fault))
 
--- a text is this plan, whose lines make a state; or it is none, for its first fault; want of memory needs no cause
-abbrev pub JudgesPlan : List ℕ → Result PlanLines PlanError → Type 0
-JudgesPlan text (Ok plan) = (first : State) × SaysPlan text plan first
+-- a text is this plan, whose lines make this state; or it is none, for its first fault; out of memory needs no cause
+abbrev pub JudgesPlan : List ℕ → Result (PlanLines × State) PlanError → Type 0
+JudgesPlan text (Ok (plan, first)) = SaysPlan text plan first
 JudgesPlan text (Err (errors.Refused fault)) = IsPlanFault text fault
 JudgesPlan text (Err errors.NoMemory) = ⊤
 
@@ -73,7 +72,7 @@ abbrev pub InitEnds : (List ℕ → Type 0) → Type 0 → Type 0 → Bool → T
 InitEnds IsInput unread source_rose told site_rose old new Made = (input : List ℕ) × (plan : PlanLines)
     × (first : State)
     × IsInput input × SaysPlan input plan first × (IsTrue told → ((old.now.image ≡ []) × IsSynced new.now
-    × (new.now.image ≡ initial_image input plan.slots) × (new.now.sunk ≡ old.now.sunk)))
+    × (new.now.image ≡ image_of_plan input plan first) × (new.now.sunk ≡ old.now.sunk)))
 InitEnds IsInput unread source_rose told site_rose old new ImageExists =
     unread × (IsTrue told → ((old.now.image ≢ []) × (new ≡ old)))
 InitEnds IsInput unread source_rose told site_rose old new (Refused fault) = (input : List ℕ)

@@ -47,7 +47,7 @@ pub record TellsState (image text : List ℕ) : Type 0 where
   pub shows : Shows image state
   pub text_is : text ≡ status_text state (used_of image) plan.slots
 
--- why `stat` ends so, and the text that is due; want of memory needs no cause
+-- why `stat` ends so, and the text that is due; that memory runs out needs no cause
 abbrev pub StatDue : Bool → Type 0 → List ℕ → List ℕ → StatEnd → Type 0
 StatDue told site_rose image text Told = IsTrue told → TellsState image text
 StatDue told site_rose image text SiteFault = site_rose × (text ≡ line (codes "site fault"))
@@ -73,7 +73,7 @@ PutsText told text due status old new site_rose =
     ⊎ ((status ≡ statuses.SITE_FAULT) × site_rose ×
     (IsTrue told → Between old.now.sunk (old.now.sunk ++ text) new.now.sunk))
 
--- what is told of a book that was opened: its state, or that memory is wanting
+-- what is written of a book that was opened: its state, or that memory ran out
 abbrev pub TellsBook : BookView → List ℕ → StatEnd → Type 0
 TellsBook book text Told = text ≡ status_text book.state book.journal.used book.plan.slots
 TellsBook book text SiteFault = ⊥

@@ -7,7 +7,8 @@ ghost use Rattle.sdls_outside.specs.Output.{Delivers, OnlySinks};
 
 use crate::output::put_text;
 use crate::status::{DONE, MALFORMED, NO_MEMORY, NO_STATE, SITE_FAULT, SOURCE_FAULT};
-use disk_journal::create;
+use image_beginning::create_image;
+use image_content::CONTENT_LENGTH;
 use itoa::Buffer;
 use record_io::Outcome;
 use sdls_outside::{Failed, Site, Source, collect};
@@ -28,7 +29,7 @@ pub enum InitEnd {
     SourceFault,
     /// The site failed.
     SiteFault,
-    /// Memory is wanting.
+    /// Memory ran out.
     NoMemory,
 }
 
@@ -47,32 +48,13 @@ impl InitEnd {
     }
 }
 
-/// The plan that this text is, where its lines make a state too.
-fn plan_of(alloc: Global, text: &[u8]) -> Result<Plan, PlanError>
+/// The plan that this text is, and the state that its lines make.
+fn plan_of(alloc: Global, text: &[u8]) -> Result<(Plan, State), PlanError>
     ensures { JudgesPlan text.now result }
 {
     let plan = Plan::read(alloc, text)?;
-    let _state = State::initial(alloc, &plan)?;
-    Ok(plan)
-}
-
-/// Makes the image of the plan that this text is, where there is none.
-fn make_image<O: Site>(alloc: Global, site: &mut O, text: &[u8]) -> InitEnd
-    requires { IsTrue O.told → (O.trace site.old).now.image ≡ [] }
-    ensures ends { InitEnds (λ input. input ≡ text.now) ⊥ ⊥ O.told (Rose (O.faults site.old) (O.faults site.new))
-        (O.trace site.old) (O.trace site.new) result }
-    ensures later { O.faults site.old ≤ O.faults site.new }
-    ensures quiet { result ≢ InitEnd.SiteFault → O.faults site.new ≡ O.faults site.old }
-{
-    let plan = match plan_of(alloc, text) {
-        Ok(plan) => plan,
-        Err(PlanError::Refused(fault)) => return InitEnd::Refused(fault),
-        Err(PlanError::NoMemory) => return InitEnd::NoMemory,
-    };
-    match create(site, text, plan.slots()) {
-        Ok(()) => InitEnd::Made,
-        Err(_) => InitEnd::SiteFault,
-    }
+    let state = State::initial(alloc, &plan)?;
+    Ok((plan, state))
 }
 
 /// So many zeros.
@@ -80,6 +62,32 @@ fn zeros(alloc: Global, count: usize) -> Result<Vec<u8>, AllocError>
     ensures { IfOk result (λ zeros. vec_len zeros ≡ count) }
 {
     vec![in alloc; 0; count]
+}
+
+/// Makes the image of the plan that this text is, if there is none.
+fn make_image<O: Site>(alloc: Global, site: &mut O, text: &[u8]) -> InitEnd
+    requires empty { IsTrue O.told → (O.trace site.old).now.image ≡ [] }
+    requires short { length text.now ≤ MOST_OCTETS + 1 }
+    ensures ends { InitEnds (λ input. input ≡ text.now) ⊥ ⊥ O.told (Rose (O.faults site.old) (O.faults site.new))
+        (O.trace site.old) (O.trace site.new) result }
+    ensures later { O.faults site.old ≤ O.faults site.new }
+    ensures quiet { result ≢ InitEnd.SiteFault → O.faults site.new ≡ O.faults site.old }
+{
+    let (plan, state) = match plan_of(alloc, text) {
+        Ok(made) => made,
+        Err(PlanError::Refused(fault)) => return InitEnd::Refused(fault),
+        Err(PlanError::NoMemory) => return InitEnd::NoMemory,
+    };
+    let Ok(mut bare) = zeros(alloc, text.len() + 1) else {
+        return InitEnd::NoMemory;
+    };
+    let Ok(mut content) = zeros(alloc, CONTENT_LENGTH) else {
+        return InitEnd::NoMemory;
+    };
+    match create_image(site, text, &plan, &state, &mut bare, &mut content) {
+        Ok(()) => InitEnd::Made,
+        Err(_) => InitEnd::SiteFault,
+    }
 }
 
 /// Reads the input to its end into the room, and makes the image of the plan that it is. The room has

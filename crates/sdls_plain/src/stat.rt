@@ -27,7 +27,7 @@ pub enum StatEnd {
     Told,
     /// The site failed.
     SiteFault,
-    /// Memory is wanting.
+    /// Memory ran out.
     NoMemory,
     /// The image shows no state: the offset of the first check that fails.
     NoState(u64),
@@ -63,7 +63,7 @@ fn put_through<O: Site>(book: &mut Book<O>, text: &[u8], status: u8) -> u8
     }
 }
 
-/// Puts the state of the book as text, or that memory is wanting, and answers the status.
+/// Writes the state of the book as text, or that memory ran out, and answers the status.
 fn put_state<O: Site>(alloc: Global, book: &mut Book<O>) -> u8
     requires kept { IsKept O.told book.old }
     ensures kept { IsKept O.told book.new }

@@ -20,7 +20,7 @@ use Rattle.counter_table.specs.Play.{Follows}
 use Rattle.run_promise.specs.Entries.{IsNeedOf, record_entry}
 use Rattle.run_promise.specs.Log.{entries_of}
 use Rattle.unit_book.specs.declared.fault.BookFault.{BookFault}
-use Rattle.unit_book.specs.declared.fault.BookFault.TheVariants.{SiteFault, Stopped, JournalFull, SessionFull, NoMemory}
+use Rattle.unit_book.specs.declared.fault.BookFault.TheVariants.{SiteFault, Stopped, SessionFull, NoMemory}
 use Rattle.unit_book.specs.Marks.{KeepsMarks}
 use Rattle.run_promise.specs.Numbers.{marks_of}
 use Rattle.unit_book.specs.Book.{BookView, IsKept, IsUnstored}
@@ -99,9 +99,8 @@ refuses_changes index pdu seen found given fault (inl h) = ap (λ (b : BookView)
 refuses_changes index pdu seen found given fault (inr (inl h)) = ap (λ (b : BookView). b.changes) h.1
 refuses_changes index pdu seen found given fault (inr (inr h)) = by_fault fault h.1.2 where
   by_fault : (f : BookFault) → IsUnstored (record_entry index seen h.1.0.0) found given f → given.changes ≡ found.changes
-  by_fault (SiteFault count) u = ap (λ (b : BookView). b.changes) u.4
+  by_fault (SiteFault count) u = ap (λ (b : BookView). b.changes) u.3
   by_fault (Stopped count) u = absurd u
-  by_fault (JournalFull slots) u = ap (λ (b : BookView). b.changes) u.3
   by_fault SessionFull u = absurd u
   by_fault NoMemory u = absurd u
 

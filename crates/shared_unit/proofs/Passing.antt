@@ -8,7 +8,7 @@ use Rattle.counter_table.specs.declared.counters.Worker.{Worker}
 use Rattle.counter_table.specs.Turn.{epoch_seen, seeing}
 use Rattle.counter_table.specs.Worker.{view, IsSame}
 use Rattle.unit_book.specs.declared.fault.BookFault.{BookFault}
-use Rattle.unit_book.specs.declared.fault.BookFault.TheVariants.{SiteFault, Stopped, JournalFull, SessionFull, NoMemory}
+use Rattle.unit_book.specs.declared.fault.BookFault.TheVariants.{SiteFault, Stopped, SessionFull, NoMemory}
 use Rattle.unit_book.specs.Book.{BookView, IsBarred, IsUnstored, CanEnter, Made}
 use Rattle.run_promise.specs.Numbers.{mark_of, reserve_of}
 use Rattle.shared_unit.specs.declared.permit.Permit.{Permit}
@@ -30,9 +30,8 @@ reserves_changes key n (Ok mark) found given h = by_case h.2 where
   by_case (inr p) = let e = ap (λ (b : BookView). b.changes) p.1.1.1.is in omega arith
 reserves_changes key n (Err fault) found given h = by_case h.1 where
   by_fault : (f : BookFault) → IsUnstored (reserve_of found.plan found.state key n) found given f → given.changes ≡ found.changes
-  by_fault (SiteFault count) u = ap (λ (b : BookView). b.changes) u.4
+  by_fault (SiteFault count) u = ap (λ (b : BookView). b.changes) u.3
   by_fault (Stopped count) u = absurd u
-  by_fault (JournalFull slots) u = ap (λ (b : BookView). b.changes) u.3
   by_fault SessionFull u = absurd u
   by_fault NoMemory u = absurd u
 

@@ -6,7 +6,7 @@ use Rattle.sdls_outside.specs.Moments.{EachMoment}
 use Rattle.unit_image.specs.Image.{held}
 use Rattle.unit_plan.specs.Plan.{plan_of}
 use Rattle.unit_plan.specs.PlanLines.{PlanLines}
-use Rattle.unit_image.specs.OpeningImage.{Opening, SameJournal}
+use Rattle.unit_image.specs.OpeningImage.{Opening}
 use Rattle.unit_image.specs.Shows.{Shows}
 use Rattle.counter_table.specs.declared.view.Known.{Known}
 use Rattle.counter_table.specs.declared.view.Turn.{Turn}
@@ -43,7 +43,6 @@ pub record BookIsOpened (told : Bool) (site : SiteSeen) (book : BookView) : Type
   pub kept : IsKept told book
   pub begun_is : book ≡ begun book.site site.trace.now.image book.plan book.start book.journal
   pub shows : IsTrue told → Shows site.trace.now.image book.start × Shows book.site.trace.now.image book.start
-      × SameJournal site.trace.now.image book.site.trace.now.image book.journal
   pub plan : IsTrue told → plan_of (held site.trace.now.image).plan ≡ Ok book.plan
   pub any_moment : IsTrue told → EachMoment site.trace book.site.trace (Opening site.trace)
   pub stays : IsTrue told → Leaves book.site.trace.now book.site.trace.now.image

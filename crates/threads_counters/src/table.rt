@@ -43,7 +43,7 @@ impl Counted for Tally {
     }
 }
 
-// Draws numbers from row 0. A `None` is want of memory or of numbers.
+// Draws numbers from row 0. `None` if memory or the numbers ran out.
 fn drawn<B: Counted>(
     alloc: Global,
     counters: &Counters<B>,

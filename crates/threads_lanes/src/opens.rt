@@ -88,7 +88,7 @@ fn sixteen_lanes_accept_a_frame_once(rt: HostRuntime) -> Result<(), Fail> {
         come: Count::new(),
         missed: Flag::new(),
     };
-    let image = image_of(alloc, RECEIVER, 16).ok_or("no image")?;
+    let image = image_of(alloc, RECEIVER).ok_or("no image")?;
     let told = told(
         &rt,
         alloc,

@@ -83,7 +83,7 @@ fn protected<R: Wait>(
 #[test]
 fn loaded_keys_are_used_at_once(rt: HostRuntime) -> Result<(), Fail> {
     let alloc = rt.alloc();
-    let image = image_of(alloc, PLAN, 64).ok_or("no image")?;
+    let image = image_of(alloc, PLAN).ok_or("no image")?;
     let (unit, mut first) = opened(&rt, alloc, image, Vec::new(alloc)).ok_or("no unit")?;
     let second = unit.split(&mut first);
     assert!(rt; keyed_there(&rt, &unit, first));

@@ -12,7 +12,7 @@ use std::thread::{Threads, join};
 
 const FRAMES: u64 = 10_000;
 
-// Protects so many frames: the numbers that were used. `None` is a refusal, or want of memory.
+// Protects so many frames: the numbers that were used. `None` is a refusal, or that memory ran out.
 fn protected<R: Wait>(
     rt: &R,
     alloc: Global,
@@ -56,10 +56,11 @@ fn protected_on_two<R: Threads + Wait + Sync>(
     Some((worker, numbers, others))
 }
 
+/// Each reserve takes a slot of 16, so that the banks turn again and again meanwhile.
 #[test]
 fn two_threads_protect_under_one_key(rt: HostRuntime) -> Result<(), Fail> {
     let alloc = rt.alloc();
-    let image = image_of_sender(alloc, 512, 64, TELECOMMAND_SENDER).ok_or("no image")?;
+    let image = image_of_sender(alloc, 16, 64, TELECOMMAND_SENDER).ok_or("no image")?;
     let (unit, mut first) = opened(&rt, alloc, image, Vec::new(alloc)).ok_or("no unit")?;
     let second = unit.split(&mut first);
     let (mut worker, mut numbers, others) = protected_on_two(

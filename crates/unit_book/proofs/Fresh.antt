@@ -4,14 +4,12 @@ use Rattle.std.proofs.lemmas.List.{take_all}
 use Rattle.sdls_outside.specs.Disk.{Leaves}
 use Rattle.sdls_outside.specs.Moments.{Trace, Between}
 use Rattle.sdls_outside.proofs.Moments.{each_same, synced_leaves}
-use Rattle.unit_image.specs.Image.{IsSettled, JournalView}
+use Rattle.unit_image.specs.Image.{IsAtRest, IsSettled, JournalView}
 use Rattle.unit_plan.specs.PlanLines.{PlanLines}
 use Rattle.unit_state.specs.declared.state.State.{State}
 use Rattle.unit_state.specs.State.{KeepsRules}
 use Rattle.unit_state.specs.Restart.{restarted}
-use Rattle.unit_image.specs.OpeningImage.{SameJournal}
 use Rattle.unit_image.specs.Shows.{Shows}
-use Rattle.unit_image.proofs.Stored.{settled_within}
 use Rattle.run_promise.specs.Site.{SiteSeen}
 use Rattle.unit_book.specs.Book.{ShowsFrom, Serves, IsHistory, IsKept, begun}
 use Rattle.unit_book.proofs.MarksKept.{marks_same}
@@ -26,8 +24,10 @@ fresh_history : (now : Trace) (start : State) (journal : JournalView) → IsSett
 fresh_history now start journal settled shows =
     let before : List ℕ = now.now.sunk in
     let shows_now : (image : List ℕ) → Leaves now.now image → ShowsFrom start [] 0 image = λ image leaves.
-    let same : image ≡ now.now.image = synced_leaves now.now image settled.opened.synced leaves in
-    subst (λ (octets : List ℕ). ShowsFrom start [] 0 octets) (sym same) (shows_from_all start [] now.now.image shows settled.rests) in
+    let same : image ≡ now.now.image = synced_leaves now.now image settled.synced leaves in
+    subst (λ (octets : List ℕ). ShowsFrom start [] 0 octets) (sym same) (shows_from_all start [] now.now.image shows settled.of_image.rests) in
+    let rests : (image : List ℕ) → Leaves now.now image → IsAtRest image = λ image leaves.
+    subst IsAtRest (sym (synced_leaves now.now image settled.synced leaves)) settled.of_image.rests in
     let here : Between (before ++ []) (before ++ []) before =
     subst (λ (octets : List ℕ). Between octets octets before) (sym (append_nil before))
     (record { least = omega arith; prefix = sym (take_all (length before) before (omega arith)) }) in
@@ -40,13 +40,13 @@ fresh_history now start journal settled shows =
         shows = shows_now image leaves;
       });
       shows_now = shows_now;
+      idle = λ none. record { moments = each_same now (λ image sunk. IsAtRest image) rests; rests_now = rests };
     }
 
 pub fresh_kept : (told : Bool) (site : SiteSeen) (image : List ℕ) (plan : PlanLines) (start : State) (journal : JournalView)
     → KeepsRules start → (IsTrue told → IsSettled site.trace journal) → (IsTrue told → Shows site.trace.now.image (restarted start))
-    → (IsTrue told → SameJournal image site.trace.now.image journal)
     → IsKept told (begun site image plan start journal)
-fresh_kept told site image plan start journal rules settled shows same = record {
+fresh_kept told site image plan start journal rules settled shows = record {
   later = omega arith;
   stands = omega arith;
   few_left = omega arith;
@@ -62,20 +62,14 @@ fresh_kept told site image plan start journal rules settled shows same = record 
     settled = settled is_told;
     shows = shows is_told;
   };
-  counted = λ is_told not. record {
-    within = settled_within site.trace journal (settled is_told);
-    slots = (same is_told).slots;
-    used = let count = (same is_told).used in omega arith;
-  };
 }
 
 -- the same, as the fields of a new book show it
 pub fresh_shown : (told : Bool) (site opened : SiteSeen) (image : List ℕ) (plan : PlanLines) (state start : State) (journal : JournalView)
     → opened ≡ site → start ≡ state → KeepsRules state → (IsTrue told → IsSettled site.trace journal)
     → (IsTrue told → Shows site.trace.now.image (restarted state))
-    → (IsTrue told → SameJournal image site.trace.now.image journal)
     → IsKept told (record (begun site image plan state journal) { opened = opened; start = start })
-fresh_shown told site opened image plan state start journal same_site same_state rules settled shows same =
+fresh_shown told site opened image plan state start journal same_site same_state rules settled shows =
     subst (λ (o : SiteSeen). IsKept told (record (begun site image plan state journal) { opened = o; start = start })) (sym same_site)
     (subst (λ (s : State). IsKept told (record (begun site image plan state journal) { start = s })) (sym same_state)
-    (fresh_kept told site image plan state journal rules settled shows same))
+    (fresh_kept told site image plan state journal rules settled shows))

@@ -10,7 +10,7 @@ use Rattle.unit_state.specs.Applied.{applied}
 use Rattle.unit_state.proofs.StateLaws.{places_kept}
 use Rattle.run_promise.specs.Site.{SiteSeen}
 use Rattle.unit_book.specs.declared.fault.BookFault.{BookFault}
-use Rattle.unit_book.specs.declared.fault.BookFault.TheVariants.{SiteFault, Stopped, SessionFull, JournalFull, NoMemory}
+use Rattle.unit_book.specs.declared.fault.BookFault.TheVariants.{SiteFault, Stopped, SessionFull, NoMemory}
 use Rattle.run_promise.specs.Log.{entries_of}
 use Rattle.unit_book.specs.Marks.{is_release, HasNoRelease, KeepsMarks}
 use Rattle.unit_book.specs.Book.{BookView, IsBarred, IsUnstored, CanEnter, Enters, PutFails, left_out, with_put}
@@ -28,7 +28,6 @@ goes_same book = record {
   image = refl;
   plan = refl;
   start = refl;
-  slots = refl;
   added = [];
   log = append_none book.log;
   later = omega arith;
@@ -52,7 +51,6 @@ goes_then old mid new first next = record {
   image = next.image ∙ first.image;
   plan = next.plan ∙ first.plan;
   start = next.start ∙ first.start;
-  slots = next.slots ∙ first.slots;
   added = first.added ++ next.added;
   log = next.log ∙ ap (λ (log : List Logged). log ++ next.added) first.log ∙ append_assoc old.log first.added next.added;
   later = let one : old.site.faults ≤ mid.site.faults = first.later in let other : mid.site.faults ≤ new.site.faults = next.later in omega arith;
@@ -87,7 +85,6 @@ goes_put piece old new site low is = subst (GoesOn old) (sym is) (record {
   image = refl;
   plan = refl;
   start = refl;
-  slots = refl;
   added = logged.Piece piece ∷ [];
   log = refl;
   later = low;
@@ -112,7 +109,6 @@ goes_entered entry old new position keeps can low made =
       image = refl;
       plan = refl;
       start = refl;
-      slots = made.slots;
       added = logged.Entry entry ∷ [];
       log = refl;
       later = subst (λ (b : BookView). old.site.faults ≤ b.site.faults) made.is low;
@@ -128,13 +124,12 @@ goes_entered entry old new position keeps can low made =
 pub goes_unstored : (entry : Entry) (old new : BookView) (fault : BookFault)
     → CanEnter old → old.site.faults ≤ new.site.faults → IsUnstored entry old new fault → GoesOn old new
 goes_unstored entry old new (SiteFault count) can low unstored =
-    let is : new ≡ left_out entry (record old { site = new.site }) = unstored.4 in
+    let is : new ≡ left_out entry (record old { site = new.site }) = unstored.3 in
     subst (GoesOn old) (sym is) (record {
       opened = refl;
       image = refl;
       plan = refl;
       start = refl;
-      slots = refl;
       added = logged.Entry entry ∷ [];
       log = refl;
       later = low;
@@ -145,7 +140,6 @@ goes_unstored entry old new (SiteFault count) can low unstored =
       places = λ id place there. there;
       marks = λ none. marks_same old.state;
     })
-goes_unstored entry old new (JournalFull slots) can low unstored = subst (GoesOn old) (sym unstored.3) (goes_same old)
 goes_unstored entry old new (Stopped count) can low unstored = absurd unstored
 goes_unstored entry old new SessionFull can low unstored = absurd unstored
 goes_unstored entry old new NoMemory can low unstored = absurd unstored
@@ -165,11 +159,10 @@ calm_entered entry old new position still made = λ rose all.
 pub calm_unstored : (entry : Entry) (old new : BookView) (fault : BookFault) → old.standing ≤ length (entries_of old.log)
     → IsUnstored entry old new fault → IsCalm old new
 calm_unstored entry old new (SiteFault count) stands unstored = λ rose all.
-    let standing : new.standing ≡ old.standing = ap (λ (b : BookView). b.standing) unstored.4 in
+    let standing : new.standing ≡ old.standing = ap (λ (b : BookView). b.standing) unstored.3 in
     let size : length (entries_of new.log) ≡ length (entries_of old.log) + 1 =
-    ap (λ (b : BookView). length (entries_of b.log)) unstored.4
+    ap (λ (b : BookView). length (entries_of b.log)) unstored.3
     ∙ ap length (entries_append old.log (logged.Entry entry ∷ [])) ∙ length-append (entries_of old.log) (entry ∷ []) in absurd (omega arith)
-calm_unstored entry old new (JournalFull slots) stands unstored = subst (IsCalm old) (sym unstored.3) (calm_same old)
 calm_unstored entry old new (Stopped count) stands unstored = absurd unstored
 calm_unstored entry old new SessionFull stands unstored = absurd unstored
 calm_unstored entry old new NoMemory stands unstored = absurd unstored
@@ -185,7 +178,6 @@ pub barred_tells : (book : BookView) (fault : BookFault) → IsBarred book fault
 barred_tells book (Stopped count) barred = barred
 barred_tells book SessionFull barred = tt
 barred_tells book (SiteFault count) barred = absurd barred
-barred_tells book (JournalFull slots) barred = absurd barred
 barred_tells book NoMemory barred = absurd barred
 
 rose_since : (before mid now : ℕ) → before ≤ mid → Rose mid now → Rose before now
@@ -194,12 +186,11 @@ rose_since before mid now low rose = omega arith
 pub unstored_tells : (entry : Entry) (old new : BookView) (fault : BookFault) → old.opened.faults ≤ old.site.faults
     → IsUnstored entry old new fault → TellsRise new fault
 unstored_tells entry old new (SiteFault count) low unstored =
-    let opened : new.opened ≡ old.opened = ap (λ (b : BookView). b.opened) unstored.4 in (
+    let opened : new.opened ≡ old.opened = ap (λ (b : BookView). b.opened) unstored.3 in (
       subst (λ (o : SiteSeen). Rose o.faults new.site.faults) (sym opened)
-          (rose_since old.opened.faults old.site.faults new.site.faults low unstored.2),
-      unstored.3,
+          (rose_since old.opened.faults old.site.faults new.site.faults low unstored.1),
+      unstored.2,
     )
-unstored_tells entry old new (JournalFull slots) low unstored = tt
 unstored_tells entry old new (Stopped count) low unstored = absurd unstored
 unstored_tells entry old new SessionFull low unstored = absurd unstored
 unstored_tells entry old new NoMemory low unstored = absurd unstored
@@ -211,7 +202,6 @@ put_tells old new (SiteFault count) low opened fails = (
       (rose_since old.opened.faults old.site.faults new.site.faults low fails.0),
   fails.1,
 )
-put_tells old new (JournalFull slots) low opened fails = absurd fails
 put_tells old new (Stopped count) low opened fails = absurd fails
 put_tells old new SessionFull low opened fails = absurd fails
 put_tells old new NoMemory low opened fails = absurd fails
@@ -234,8 +224,6 @@ marks_committed entry old new (Err fault) keeps unstored not = marks_unstored en
     marks_unstored : (entry : Entry) (old new : BookView) (fault : BookFault)
         → IsUnstored entry old new fault → KeepsMarks old.state new.state
     marks_unstored entry old new (SiteFault count) unstored =
-        subst (λ (b : BookView). KeepsMarks old.state b.state) (sym unstored.4) (marks_same old.state)
-    marks_unstored entry old new (JournalFull slots) unstored =
         subst (λ (b : BookView). KeepsMarks old.state b.state) (sym unstored.3) (marks_same old.state)
     marks_unstored entry old new (Stopped count) unstored = absurd unstored
     marks_unstored entry old new SessionFull unstored = absurd unstored

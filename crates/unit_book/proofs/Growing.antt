@@ -2,7 +2,7 @@
 use Rattle.std.proofs.Common.{◌≡◌, ℕ, ◌+◌, ◌≤◌, List, [], ◌∷◌, ◌++◌, length, refl, sym, ◌∙◌, ap, subst, inl, inr, arith, length-append}
 use Rattle.std.proofs.lemmas.List.{take_all, take-append-le}
 use Rattle.sdls_base.specs.declared.entry.Entry.{Entry}
-use Rattle.unit_image.specs.Image.{Becomes, HasOneClosed, Held, held, Holds, IsAtRest, RestsHolding}
+use Rattle.unit_image.specs.Image.{Becomes, HasOneClosed, Held, held, Holds, IsAtRest}
 use Rattle.unit_state.specs.declared.state.State.{State}
 use Rattle.unit_state.specs.Applied.{applied}
 use Rattle.unit_state.specs.Restart.{restarted}
@@ -73,9 +73,9 @@ shows_from_all start entries image shows rests = (
 -- An image in a change from what was held to what is held next: it shows all entries before the one more, and that one
 -- where it holds the next, as its opened forms do.
 pub shows_becomes : (start : State) (entries : List Entry) (entry : Entry) (old next : Held) (image : List ℕ)
-    → Becomes old next image → RestsHolding next image → Says old (restarted (after start entries))
+    → Becomes old next image → Says old (restarted (after start entries))
     → Says next (restarted (after start (entries ++ entry ∷ []))) → ShowsFrom start (entries ++ entry ∷ []) (length entries) image
-shows_becomes start entries entry old next image becomes rests says_old says_next =
+shows_becomes start entries entry old next image becomes says_old says_next =
     let size : length (entries ++ entry ∷ []) ≡ length entries + 1 = length-append entries (entry ∷ []) in
     let whole : after_first start (entries ++ entry ∷ []) (length entries + 1) ≡ after start (entries ++ entry ∷ []) =
     first_all start (entries ++ entry ∷ []) (length entries + 1) (omega arith) in
@@ -104,7 +104,7 @@ shows_becomes start entries entry old next image becomes rests says_old says_nex
         record {
           within = omega arith;
           shows = record { what = next; holds = holds; says = next_says };
-          forms = λ form is. absurd (rests holds is.0 is.1);
+          forms = λ form is. (length entries + 1, omega arith, omega arith, record { what = next; holds = becomes.forms form is; says = next_says });
           settled = becomes.settled;
         },
       )

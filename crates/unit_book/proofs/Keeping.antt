@@ -1,5 +1,5 @@
 -- What holds of a book after its calls.
-use Rattle.std.proofs.Common.{◌≡◌, ℕ, ◌+◌, ◌<◌, ◌≤◌, ◌⊎◌, Bool, IsTrue, true, false, if◌then◌else◌, is_some, List, [], ◌∷◌, ◌++◌, length, take, refl, Ok, Err, sym, ◌∙◌, ap, subst, arith, length-append}
+use Rattle.std.proofs.Common.{◌≡◌, ℕ, ◌+◌, ◌<◌, ◌≤◌, ◌⊎◌, Bool, IsTrue, true, false, if◌then◌else◌, List, [], ◌∷◌, ◌++◌, length, take, refl, Ok, Err, sym, ◌∙◌, ap, subst, arith, length-append}
 use Rattle.std.proofs.lemmas.List.{take_all, take-append-le}
 use Rattle.sdls_base.specs.declared.entry.Entry.{Entry}
 use Rattle.sdls_base.specs.declared.entry.Logged.{Logged}
@@ -7,23 +7,22 @@ use Rattle.sdls_base.specs.declared.entry.Logged.TheVariants as logged
 use Rattle.sdls_outside.specs.Faults.{Rose}
 use Rattle.sdls_outside.specs.Moments.{Trace}
 use Rattle.sdls_outside.specs.Site.{Sank}
-use Rattle.unit_image.specs.Image.{Held, held, JournalView, used_of}
+use Rattle.unit_image.specs.Image.{Held, held, JournalView}
 use Rattle.unit_state.specs.declared.state.State.{State}
 use Rattle.unit_state.specs.Applied.{applied}
 use Rattle.unit_state.specs.Allows.{Allows}
-use Rattle.unit_state.specs.Restart.{restarted, stored_as, counts}
+use Rattle.unit_state.specs.Restart.{restarted, counts}
 use Rattle.unit_state.specs.History.{after, after_first, epoch_after}
 use Rattle.unit_state.proofs.RulesKept.{rules_kept}
 use Rattle.unit_image.specs.Shows.{Says}
-use Rattle.unit_image.specs.Storing.{slots_taken, Stores}
-use Rattle.unit_image.specs.declared.storing.StoreFault.{StoreFault}
+use Rattle.unit_image.specs.Storing.{Stores}
+use Rattle.unit_image.specs.declared.storing.SiteFault.{SiteFault}
 use Rattle.run_promise.specs.Site.{SiteSeen}
 use Rattle.run_promise.specs.declared.limits.TheConstants.{MOST_ENTRIES}
 use Rattle.run_promise.specs.Log.{entries_of}
 use Rattle.unit_book.specs.Log.{sunk_between}
-use Rattle.run_promise.specs.Stored.{stored_count}
 use Rattle.unit_book.specs.Marks.{is_release, HasNoRelease, KeepsMarks}
-use Rattle.unit_book.specs.Book.{BookView, CountsUsedSlots, IsKept, CanEnter, Enters, entered, left_out, with_put}
+use Rattle.unit_book.specs.Book.{BookView, IsKept, CanEnter, Enters, entered, left_out, with_put}
 use Rattle.unit_book.proofs.MarksKept.{no_release_last, marks_then}
 use Rattle.unit_book.proofs.Growing.{after_entry, first_same, first_all, says_held}
 use Rattle.unit_book.proofs.Serving.{piece_entries, entry_entries, puts_history, piece_current, NextEntry, failed_history, stored_history}
@@ -40,16 +39,6 @@ epoch_more : (entries : List Entry) (entry : Entry)
 epoch_more [] entry = let sum : (if counts entry.change then 1 else 0) + 0 ≡ 0 + (if counts entry.change then 1 else 0) = omega arith in sum
 epoch_more (first ∷ entries) entry =
     let rest : epoch_after (entries ++ entry ∷ []) ≡ epoch_after entries + (if counts entry.change then 1 else 0) = epoch_more entries entry in
-    omega arith
-
-stored_more : (start : State) (entries : List Entry) (entry : Entry)
-    → stored_count start (entries ++ entry ∷ [])
-    ≡ stored_count start entries + (if is_some (stored_as (after start entries) entry.change) then 1 else 0)
-stored_more start [] entry = let sum : (if is_some (stored_as start entry.change) then 1 else 0) + 0 ≡ 0 + (if is_some (stored_as start entry.change) then 1 else 0) = omega arith in sum
-stored_more start (first ∷ entries) entry =
-    let rest : stored_count (applied start first.change) (entries ++ entry ∷ [])
-    ≡ stored_count (applied start first.change) entries + (if is_some (stored_as (after (applied start first.change) entries) entry.change) then 1 else 0) =
-    stored_more (applied start first.change) entries entry in
     omega arith
 
 -- a book after a put
@@ -77,14 +66,7 @@ kept_put told octets old site low puts kept =
           kept.stands (puts is_told) (kept.history is_told);
       current = λ is_told not. piece_current octets old.site.trace site.trace old.start old.journal old.log piece
           (puts is_told) (kept.current is_told (not_rose_earlier old.opened.faults old.site.faults site.faults low not));
-      counted = λ is_told not. subst (λ (entries : List Entry). CountsUsedSlots old.image old.start old.journal entries) (sym same)
-          (kept.counted is_told (not_rose_earlier old.opened.faults old.site.faults site.faults low not));
     }
-
--- what is taken of the slots is there
-taken_room : (some : Bool) (used slots : ℕ) → used ≤ slots → (IsTrue some → used < slots) → used + (if some then 1 else 0) ≤ slots
-taken_room true used slots low free = let below : used < slots = free refl in omega arith
-taken_room false used slots low free = omega arith
 
 -- what is known when an entry is to be made
 pub record Ready (told : Bool) (old : BookView) (entry : Entry) : Type 0 where
@@ -147,31 +129,11 @@ module _ (told : Bool) (old : BookView) (entry : Entry)
             (leads (subst (λ (s : State). Says (held old.site.trace.now.image) (restarted s)) (sym state_is) says));
       }
 
-  -- the count of the slots that are used
-  count_more : (journal : JournalView) → CountsUsedSlots old.image old.start old.journal (entries_of old.log)
-      → journal ≡ record old.journal { used = old.journal.used + slots_taken old.state entry.change }
-      → (IsTrue (is_some (stored_as old.state entry.change)) → old.journal.used < old.journal.slots)
-      → CountsUsedSlots old.image old.start journal (entries_of (old.log ++ logged.Entry entry ∷ []))
-  count_more journal counts counted free =
-      let used : old.journal.used ≡ used_of old.image + stored_count old.start (entries_of old.log) = counts.used in
-      let low : old.journal.used ≤ old.journal.slots = counts.within in
-      let all : stored_count old.start (entries_of (old.log ++ logged.Entry entry ∷ []))
-      ≡ stored_count old.start (entries_of old.log) + slots_taken old.state entry.change =
-      ap (stored_count old.start) more
-      ∙ stored_more old.start (entries_of old.log) entry
-      ∙ ap (λ (s : State). stored_count old.start (entries_of old.log) + slots_taken s entry.change) (sym state_is) in
-      let room : old.journal.used + slots_taken old.state entry.change ≤ old.journal.slots =
-      taken_room (is_some (stored_as old.state entry.change)) old.journal.used old.journal.slots low free in
-      subst (λ (j : JournalView). CountsUsedSlots old.image old.start j (entries_of (old.log ++ logged.Entry entry ∷ []))) (sym counted)
-      (record { within = room; slots = counts.slots; used = omega arith })
-
   -- the book, once the entry is stored, or where nothing is stored for it
   pub kept_stored : (site : SiteSeen) (journal : JournalView) → old.site.faults ≤ site.faults
-      → (IsTrue told → Stores {T = Unit {0}} {E = StoreFault} old.state entry.change (Ok tt) journal old.site.trace site.trace)
-      → journal ≡ record old.journal { used = old.journal.used + slots_taken old.state entry.change }
-      → (IsTrue (is_some (stored_as old.state entry.change)) → old.journal.used < old.journal.slots)
+      → (IsTrue told → Stores {T = Unit {0}} {E = SiteFault} old.state entry.change (Ok tt) journal old.site.trace site.trace)
       → IsKept told (entered entry (record old { site = site; journal = journal }))
-  kept_stored site journal low stores counted free =
+  kept_stored site journal low stores =
       let whole : old.standing ≡ length (entries_of old.log) = all_stand in
       let longer : length (entries_of (old.log ++ logged.Entry entry ∷ [])) ≡ length (entries_of old.log) + 1 = size in
       let below : length (entries_of old.log) < MOST_ENTRIES = r.can.1 in
@@ -197,15 +159,14 @@ module _ (told : Bool) (old : BookView) (entry : Entry)
               settled = s.done.0;
               shows = record {
                 what = s.next;
-                holds = record { opens = s.done.0.opened.of_image.opens; is = s.done.1 };
+                holds = record { opens = s.done.0.of_image.of_image.opens; is = s.done.1 };
                 says = subst (λ (entries : List Entry). Says s.next (restarted (after old.start entries))) (sym more) (next_entry s.next s.says is_told).then;
               };
             };
-        counted = λ is_told not. count_more journal (r.kept.counted is_told r.can.0) counted free;
       }
 
   -- the book, once the store has failed
-  pub kept_failed : (site : SiteSeen) (fault : StoreFault) (journal : JournalView) → Rose old.site.faults site.faults → old.site.faults ≤ site.faults
+  pub kept_failed : (site : SiteSeen) (fault : SiteFault) (journal : JournalView) → Rose old.site.faults site.faults → old.site.faults ≤ site.faults
       → (IsTrue told → Stores {T = Unit {0}} old.state entry.change (Err fault) journal old.site.trace site.trace)
       → IsKept told (left_out entry (record old { site = site }))
   kept_failed site fault journal rose low stores =
@@ -232,23 +193,17 @@ module _ (told : Bool) (old : BookView) (entry : Entry)
             failed_history old.opened.trace old.site.trace site.trace old.start old.log entry old.standing s.next
             (next_entry s.next s.says is_told) (r.kept.history is_told) whole s.moments;
         current = λ is_told not. absurd (not risen);
-        counted = λ is_told not. absurd (not risen);
       }
 
   -- and so the entry is made
   pub enters : (new : BookView) (site : SiteSeen) (journal : JournalView) (position : ℕ)
       → new ≡ entered entry (record old { site = site; journal = journal }) → position ≡ length (entries_of new.log)
-      → journal ≡ record old.journal { used = old.journal.used + slots_taken old.state entry.change }
-      → (IsTrue (is_some (stored_as old.state entry.change)) → old.journal.used < old.journal.slots)
       → Enters entry old new position
-  enters new site journal position is position_is counted free = record {
+  enters new site journal position is position_is = record {
     site = site;
     journal = journal;
     is = is;
     position_is = position_is;
-    slots = ap (λ (j : JournalView). j.slots) counted;
-    counted = λ counts. subst (λ (b : BookView). CountsUsedSlots b.image b.start b.journal (entries_of b.log)) (sym is)
-        (count_more journal counts counted free);
   }
 
 pub one_at_most : (b : Bool) → (if b then 1 else 0) ≤ 1
@@ -280,13 +235,7 @@ kept_put_shown told octets old shown site before log same before_is log_is low p
     ∙ ap (λ (t : Trace). with_put (sunk_between t site.trace) (record shown { site = site })) before_is))
     (kept_put told octets shown site low puts (subst (IsKept told) (sym same) kept))
 
--- a book with these parts, where the store did nothing, and once it has failed
-pub kept_same : (told : Bool) (old shown : BookView) (site : SiteSeen) (journal : JournalView) → shown ≡ old → site ≡ shown.site → journal ≡ shown.journal
-    → IsKept told old → IsKept told (record shown { site = site; journal = journal })
-kept_same told old shown site journal same site_is journal_is kept =
-    subst (λ (s : SiteSeen). IsKept told (record shown { site = s; journal = journal })) (sym site_is)
-    (subst (λ (j : JournalView). IsKept told (record shown { journal = j })) (sym journal_is) (subst (IsKept told) (sym same) kept))
-
+-- a book with these parts, once a store has failed
 pub kept_left_out : (told : Bool) (old shown new : BookView) (site : SiteSeen) (other : JournalView) (entry : Entry)
     → shown ≡ old → other ≡ shown.journal → new ≡ left_out entry (record shown { site = site; journal = other })
     → IsKept told (left_out entry (record shown { site = site })) → IsKept told new

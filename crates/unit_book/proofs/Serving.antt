@@ -8,12 +8,11 @@ use Rattle.sdls_outside.specs.Disk.{Leaves}
 use Rattle.sdls_outside.specs.Moments.{Trace, clock, Between, EachMoment}
 use Rattle.sdls_outside.specs.Site.{Sank, Puts}
 use Rattle.sdls_outside.proofs.Moments.{each_then, each_weaker, each_passes, moment_now, sank_synced, synced_leaves, leaves_same}
-use Rattle.unit_image.specs.Image.{EachImage, Held, held, IsAtRest, IsJournalOf, IsSettled, JournalView}
+use Rattle.unit_image.specs.Image.{Becomes, EachImage, Held, held, IsAtRest, IsSettled, IsSettledImage, JournalView}
 use Rattle.unit_state.specs.declared.state.State.{State}
 use Rattle.unit_state.specs.Restart.{restarted}
 use Rattle.unit_state.specs.History.{after}
 use Rattle.unit_image.specs.Shows.{Says, Shows}
-use Rattle.unit_image.specs.Storing.{IsStoring}
 use Rattle.run_promise.specs.Log.{entries_of, pieces_of}
 use Rattle.unit_book.specs.Log.{sunk_between}
 use Rattle.unit_book.specs.Book.{ShowsFrom, Serves, IsHistory, IsCurrent}
@@ -122,6 +121,14 @@ sank_history octets opened old new start log standing sank history stands =
           (each_passes old new Q sank.passes (λ image sunk leaves between. here image sunk between leaves)
           (λ image leaves. here image new.now.sunk whole (same image leaves)));
       shows_now = λ image leaves. shows standing image (omega arith) (same image leaves);
+      idle = λ none.
+          let was = history.idle (sym (piece_entries log (sunk_between old new)) ∙ none) in
+          record {
+            moments = each_then opened old new (λ image sunk. IsAtRest image) was.moments
+                (each_passes old new (λ image sunk. IsAtRest image) sank.passes (λ image sunk leaves between. was.rests_now image leaves)
+                (λ image leaves. was.rests_now image (same image leaves)));
+            rests_now = λ image leaves. was.rests_now image (same image leaves);
+          };
     }
 
 -- a put that sank nothing
@@ -138,6 +145,7 @@ same_history opened old start log standing history =
           (λ image sunk serves. serves_more start log line standing standing before image sunk (λ n low. omega arith) serves) history.moments;
       shows_now = λ image leaves. subst (λ (entries : List Entry). ShowsFrom start entries standing image)
           (sym (piece_entries log (sunk_between old old))) (history.shows_now image leaves);
+      idle = λ none. history.idle (sym (piece_entries log (sunk_between old old)) ∙ none);
     }
 
 pub sank_puts : {T E : Type 0} → (octets : List ℕ) (result : Result T E) (old new : Trace) → Puts octets result old new
@@ -160,11 +168,8 @@ puts_current octets old new start journal entries (inl same) current =
     subst (λ (trace : Trace). IsCurrent trace start journal entries) (sym same) current
 puts_current octets old new start journal entries (inr sank) current = record {
   settled = record {
-    opened = record {
-      synced = sank_synced octets old new sank current.settled.opened.synced;
-      of_image = subst (λ (image : List ℕ). IsJournalOf image journal) (sym sank.image) current.settled.opened.of_image;
-    };
-    rests = subst IsAtRest (sym sank.image) current.settled.rests;
+    synced = sank_synced octets old new sank current.settled.synced;
+    of_image = subst (λ (image : List ℕ). IsSettledImage image journal) (sym sank.image) current.settled.of_image;
   };
   shows = subst (λ (image : List ℕ). Shows image (restarted (after start entries))) (sym sank.image) current.shows;
 }
@@ -196,13 +201,13 @@ pub record NextEntry (start : State) (log : List Logged) (entry : Entry) (image 
 append_moments : (opened old new : Trace) (start : State) (log : List Logged) (entry : Entry) (standing next_standing : ℕ) (next : Held)
     → NextEntry start log entry old.now.image next → IsHistory opened old start log standing
     → ((n : ℕ) → n ≤ length (entries_of log) → min n next_standing ≤ min n standing)
-    → EachImage old new (IsStoring (held old.now.image) next)
+    → EachImage old new (Becomes (held old.now.image) next)
     → EachMoment opened new (Serves start (log ++ logged.Entry entry ∷ []) next_standing opened.now.sunk)
 append_moments opened old new start log entry standing next_standing next says history least each =
     let line : Logged = logged.Entry entry in
     let before : List ℕ = opened.now.sunk in
     let P : List ℕ → List ℕ → Type 0 = Serves start log standing before in
-    let G : List ℕ → List ℕ → Type 0 = λ image sunk. IsStoring (held old.now.image) next image × (sunk ≡ old.now.sunk) in
+    let G : List ℕ → List ℕ → Type 0 = λ image sunk. Becomes (held old.now.image) next image × (sunk ≡ old.now.sunk) in
     let Q : List ℕ → List ℕ → Type 0 = Serves start (log ++ line ∷ []) next_standing before in
     let sinks : old.now.sunk ≡ before ++ pieces_of (log ++ line ∷ []) =
     history.sunk ∙ ap (λ (octets : List ℕ). before ++ octets) (sym (entry_pieces log entry)) in
@@ -217,12 +222,12 @@ append_moments opened old new start log entry standing next_standing next says h
     (growing_shows start log entry old.now.image image next says grows.0)))) each.moments)
   where
     growing_shows : (start : State) (log : List Logged) (entry : Entry) (old image : List ℕ) (next : Held) → NextEntry start log entry old next
-        → IsStoring (held old) next image → ShowsFrom start (entries_of log ++ entry ∷ []) (length (entries_of log)) image
+        → Becomes (held old) next image → ShowsFrom start (entries_of log ++ entry ∷ []) (length (entries_of log)) image
     growing_shows start log entry old image next says grows =
-        shows_becomes start (entries_of log) entry (held old) next image grows.becomes grows.rests says.says says.then
+        shows_becomes start (entries_of log) entry (held old) next image grows says.says says.then
 
-growing_now : (old new : Trace) (next : Held) → EachImage old new (IsStoring (held old.now.image) next) → (image : List ℕ) → Leaves new.now image
-    → IsStoring (held old.now.image) next image
+growing_now : (old new : Trace) (next : Held) → EachImage old new (Becomes (held old.now.image) next) → (image : List ℕ) → Leaves new.now image
+    → Becomes (held old.now.image) next image
 growing_now old new next each image leaves = (each.moments.each image new.now.sunk (moment_now new (clock old) image leaves)).0
 
 entry_sunk : (opened old new : Trace) (log : List Logged) (entry : Entry) → new.now.sunk ≡ old.now.sunk
@@ -230,30 +235,38 @@ entry_sunk : (opened old new : Trace) (log : List Logged) (entry : Entry) → ne
 entry_sunk opened old new log entry same is =
     same ∙ is ∙ ap (λ (octets : List ℕ). opened.now.sunk ++ octets) (sym (entry_pieces log entry))
 
+-- a log with an entry has one
+some_entry : (log : List Logged) (entry : Entry) → entries_of (log ++ logged.Entry entry ∷ []) ≡ [] → ⊥
+some_entry log entry none =
+    let size : length (entries_of log ++ entry ∷ []) ≡ length (entries_of log) + 1 = length-append (entries_of log) (entry ∷ []) in
+    let zero : length (entries_of log ++ entry ∷ []) ≡ 0 = ap (λ (l : List Entry). length l) (sym (entry_entries log entry) ∙ none) in
+    let no : ⊥ = omega arith in no
+
 -- a store that failed
 pub failed_history : (opened old new : Trace) (start : State) (log : List Logged) (entry : Entry) (standing : ℕ) (next : Held)
     → NextEntry start log entry old.now.image next → IsHistory opened old start log standing → standing ≡ length (entries_of log)
-    → EachImage old new (IsStoring (held old.now.image) next) → IsHistory opened new start (log ++ logged.Entry entry ∷ []) standing
+    → EachImage old new (Becomes (held old.now.image) next) → IsHistory opened new start (log ++ logged.Entry entry ∷ []) standing
 failed_history opened old new start log entry standing next says history whole each = record {
   sunk = entry_sunk opened old new log entry each.sunk history.sunk;
   moments = append_moments opened old new start log entry standing standing next says history (λ n low. omega arith) each;
   shows_now = λ image leaves.
-      let grows : IsStoring (held old.now.image) next image = growing_now old new next each image leaves in
+      let grows : Becomes (held old.now.image) next image = growing_now old new next each image leaves in
       subst (λ (entries : List Entry). ShowsFrom start entries standing image) (sym (entry_entries log entry))
       (subst (λ (n : ℕ). ShowsFrom start (entries_of log ++ entry ∷ []) n image) (sym whole)
-      (shows_becomes start (entries_of log) entry (held old.now.image) next image grows.becomes grows.rests
+      (shows_becomes start (entries_of log) entry (held old.now.image) next image grows
       says.says says.then));
+  idle = λ none. absurd (some_entry log entry none);
 }
 
 -- an image that a crash may leave of a settled journal is the one that reads, at rest
 pub left_settled : (trace : Trace) (journal : JournalView) → IsSettled trace journal → (image : List ℕ) → Leaves trace.now image
     → image ≡ trace.now.image
-left_settled trace journal settled image leaves = synced_leaves trace.now image settled.opened.synced leaves
+left_settled trace journal settled image leaves = synced_leaves trace.now image settled.synced leaves
 
 -- one that is stored
 pub stored_history : (opened old new : Trace) (start : State) (journal : JournalView) (log : List Logged) (entry : Entry) (standing : ℕ)
     (next : Held) → NextEntry start log entry old.now.image next → IsHistory opened old start log standing
-    → standing ≡ length (entries_of log) → EachImage old new (IsStoring (held old.now.image) next)
+    → standing ≡ length (entries_of log) → EachImage old new (Becomes (held old.now.image) next)
     → IsSettled new journal → held new.now.image ≡ next
     → IsHistory opened new start (log ++ logged.Entry entry ∷ []) (standing + 1)
 stored_history opened old new start journal log entry standing next says history whole each settled holds = record {
@@ -265,7 +278,8 @@ stored_history opened old new start journal log entry standing next says history
       (subst (λ (octets : List ℕ). ShowsFrom start (entries_of log ++ entry ∷ []) (length (entries_of log) + 1) octets)
       (sym (left_settled new journal settled image leaves))
       (shows_next start (entries_of log) entry next new.now.image
-      (record { opens = settled.opened.of_image.opens; is = holds }) settled.rests says.then)));
+      (record { opens = settled.of_image.of_image.opens; is = holds }) settled.of_image.rests says.then)));
+  idle = λ none. absurd (some_entry log entry none);
 }
 
 -- what a put sank is a front of the octets, and after `Ok` all of them

@@ -8,7 +8,7 @@ use Rattle.sdls_base.specs.declared.entry.Logged.TheVariants as logged
 use Rattle.sdls_outside.specs.Disk.{Leaves}
 use Rattle.sdls_outside.specs.Faults.{Rose}
 use Rattle.sdls_outside.specs.Moments.{Trace, EachMoment, Between}
-use Rattle.unit_image.specs.Image.{IsSettled, JournalView, slots_of, used_of}
+use Rattle.unit_image.specs.Image.{IsAtRest, IsSettled, JournalView}
 use Rattle.unit_plan.specs.PlanLines.{PlanLines}
 use Rattle.unit_state.specs.declared.state.State.{State}
 use Rattle.unit_state.specs.State.{KeepsRules}
@@ -17,14 +17,14 @@ use Rattle.unit_state.specs.Restart.{restarted, counts, IsLight}
 use Rattle.unit_state.specs.History.{after, after_first, epoch_after}
 use Rattle.unit_image.specs.Shows.{Shows}
 use Rattle.unit_book.specs.declared.fault.BookFault.{BookFault}
-use Rattle.unit_book.specs.declared.fault.BookFault.TheVariants.{SiteFault, Stopped, SessionFull, JournalFull, NoMemory}
+use Rattle.unit_book.specs.declared.fault.BookFault.TheVariants.{SiteFault, Stopped, SessionFull, NoMemory}
 use Rattle.run_promise.specs.declared.limits.TheConstants.{MOST_ENTRIES}
 use Rattle.unit_book.specs.declared.next.Next.{Next}
 use Rattle.unit_book.specs.declared.next.Next.TheVariants.{Here, Then}
 use Rattle.run_promise.specs.Log.{entries_of, pieces_of}
 use Rattle.run_promise.specs.ShowsAfter.{ShowsAfter}
 use Rattle.run_promise.specs.Site.{SiteSeen}
-use Rattle.run_promise.specs.Stored.{IsStored, stored_count}
+use Rattle.run_promise.specs.Stored.{IsStored}
 use Rattle.unit_book.specs.Marks.{HasNoRelease, KeepsMarks}
 
 -- The site, and what it was when `open` returned; the image as it was read, its plan, and the state that it showed; the
@@ -54,24 +54,22 @@ pub record Serves (start : State) (log : List Logged) (standing : ℕ) (before i
   pub sinks : Between (before ++ pieces_of (take place log)) (before ++ pieces_of (take (place + 1) log)) sunk
   pub shows : ShowsFrom start (entries_of log) (min (length (entries_of (take place log))) standing) image
 
--- the run from the opening to now
+-- no gate was closed: each image that a crash may leave, then or now, is at rest
+pub record IsIdle (opened now : Trace) : Type 0 where
+  pub moments : EachMoment opened now (λ image sunk. IsAtRest image)
+  pub rests_now : (image : List ℕ) → Leaves now.now image → IsAtRest image
+
+-- The run from the opening to now. As long as it has no entry, the image is at rest.
 pub record IsHistory (opened now : Trace) (start : State) (log : List Logged) (standing : ℕ) : Type 0 where
   pub sunk : now.now.sunk ≡ opened.now.sunk ++ pieces_of log
   pub moments : EachMoment opened now (Serves start log standing opened.now.sunk)
   pub shows_now : (image : List ℕ) → Leaves now.now image → ShowsFrom start (entries_of log) standing image
+  pub idle : entries_of log ≡ [] → IsIdle opened now
 
--- the image shows all entries, and the journal can take another
+-- the image shows all entries, and the next can be stored
 pub record IsCurrent (now : Trace) (start : State) (journal : JournalView) (entries : List Entry) : Type 0 where
   pub settled : IsSettled now journal
   pub shows : Shows now.now.image (restarted (after start entries))
-
--- The slots are those of the image that was read, and used are one for each of its records and for each entry that
--- takes one: never more than there are.
-pub record CountsUsedSlots (image : List ℕ) (start : State) (journal : JournalView)
-    (entries : List Entry) : Type 0 where
-  pub within : journal.used ≤ journal.slots
-  pub slots : journal.slots ≡ slots_of image
-  pub used : journal.used ≡ used_of image + stored_count start entries
 
 -- What holds of a book between its calls.
 pub record IsKept (told : Bool) (book : BookView) : Type 0 where
@@ -89,8 +87,6 @@ pub record IsKept (told : Bool) (book : BookView) : Type 0 where
   pub history : IsTrue told → IsHistory book.opened.trace book.site.trace book.start book.log book.standing
   pub current : IsTrue told → ¬ Rose book.opened.faults book.site.faults
       → IsCurrent book.site.trace book.start book.journal (entries_of book.log)
-  pub counted : IsTrue told → ¬ Rose book.opened.faults book.site.faults
-      → CountsUsedSlots book.image book.start book.journal (entries_of book.log)
 
 -- The site has not failed since the opening, and there is room for an entry.
 abbrev pub CanEnter : BookView → Type 0
@@ -120,18 +116,13 @@ IsBarred book (Stopped count) = Rose book.opened.faults book.site.faults × (cou
 IsBarred book SessionFull = ¬ Rose book.opened.faults book.site.faults
     × (length (entries_of book.log) ≡ MOST_ENTRIES)
 IsBarred book (SiteFault count) = ⊥
-IsBarred book (JournalFull slots) = ⊥
 IsBarred book NoMemory = ⊥
 
 -- Why an entry that may be made is not, and what that leaves. After a fault of the site it is the last of the run.
 abbrev pub IsUnstored : Entry → BookView → BookView → BookFault → Type 0
 IsUnstored entry old new (SiteFault count) =
-    IsTrue (IsStored old.state entry) × (old.journal.used < old.journal.slots)
-    × Rose old.site.faults new.site.faults
-    × (count ≡ new.site.faults) × (new ≡ left_out entry (record old { site = new.site }))
-IsUnstored entry old new (JournalFull slots) =
-    IsTrue (IsStored old.state entry) × (old.journal.used ≡ old.journal.slots) × (slots ≡ old.journal.slots)
-    × (new ≡ old)
+    IsTrue (IsStored old.state entry) × Rose old.site.faults new.site.faults × (count ≡ new.site.faults)
+    × (new ≡ left_out entry (record old { site = new.site }))
 IsUnstored entry old new (Stopped count) = ⊥
 IsUnstored entry old new SessionFull = ⊥
 IsUnstored entry old new NoMemory = ⊥
@@ -141,26 +132,21 @@ abbrev pub IsNextState : State → Change → Next → Type 0
 IsNextState state change Here = IsLight change
 IsNextState state change (Then next) = next ≡ applied state change
 
--- The entry was made, and its change with it. The slots are counted as before.
+-- the entry was made, and its change with it
 pub record Enters (entry : Entry) (old new : BookView) (position : ℕ) : Type 0 where
   pub site : SiteSeen
   pub journal : JournalView
   pub is : new ≡ entered entry (record old { site = site; journal = journal })
   pub position_is : position ≡ length (entries_of new.log)
-  pub slots : journal.slots ≡ old.journal.slots
-  pub counted : CountsUsedSlots old.image old.start old.journal (entries_of old.log)
-      → CountsUsedSlots new.image new.start new.journal (entries_of new.log)
 
 -- a put fails only by a fault of the site, which the answer counts
 abbrev pub PutFails : ℕ → ℕ → BookFault → Type 0
 PutFails before now (SiteFault count) = Rose before now × (count ≡ now)
 PutFails before now (Stopped count) = ⊥
 PutFails before now SessionFull = ⊥
-PutFails before now (JournalFull slots) = ⊥
 PutFails before now NoMemory = ⊥
 
--- Why a call that makes this entry is refused, in the order of the refusals. Barred or without a slot, the book is as
--- it was.
+-- Why a call that makes this entry is refused, in the order of the refusals. Barred, the book is as it was.
 abbrev pub Refuses : Entry → BookView → BookView → BookFault → Type 0
 Refuses entry old new fault =
     (IsBarred old fault × (new ≡ old)) ⊎ (CanEnter old × IsUnstored entry old new fault)

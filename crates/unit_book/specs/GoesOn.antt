@@ -4,20 +4,19 @@ use Rattle.sdls_base.specs.declared.entry.Logged.{Logged}
 use Rattle.sdls_outside.specs.Faults.{Rose}
 use Rattle.unit_state.specs.Laws.{KeepsPlaces}
 use Rattle.unit_book.specs.declared.fault.BookFault.{BookFault}
-use Rattle.unit_book.specs.declared.fault.BookFault.TheVariants.{SiteFault, Stopped, SessionFull, JournalFull, NoMemory}
+use Rattle.unit_book.specs.declared.fault.BookFault.TheVariants.{SiteFault, Stopped, SessionFull, NoMemory}
 use Rattle.run_promise.specs.Log.{entries_of}
 use Rattle.unit_book.specs.Marks.{HasNoRelease, KeepsMarks}
 use Rattle.unit_book.specs.Book.{BookView}
 
--- The opening stands: what was read, its plan and state, the site as it was then, and the slots. The log goes on by the
--- lines that the call added. Neither the count of faults nor that of changes falls; once the first had risen, no entry
+-- The opening stands: what was read, its plan and state, and the site as it was then. The log goes on by the lines
+-- that the call added. Neither the count of faults nor that of changes falls; once the first had risen, no entry
 -- is added, and none stands that did not. Keys keep their places, and their marks do not fall but by a release.
 pub record GoesOn (old new : BookView) : Type 0 where
   pub opened : new.opened ≡ old.opened
   pub image : new.image ≡ old.image
   pub plan : new.plan ≡ old.plan
   pub start : new.start ≡ old.start
-  pub slots : new.journal.slots ≡ old.journal.slots
   pub added : List Logged
   pub log : new.log ≡ old.log ++ added
   pub later : old.site.faults ≤ new.site.faults
@@ -38,5 +37,4 @@ abbrev pub TellsRise : BookView → BookFault → Type 0
 TellsRise book (SiteFault count) = Rose book.opened.faults book.site.faults × (count ≡ book.site.faults)
 TellsRise book (Stopped count) = Rose book.opened.faults book.site.faults × (count ≡ book.site.faults)
 TellsRise book SessionFull = ⊤
-TellsRise book (JournalFull slots) = ⊤
 TellsRise book NoMemory = ⊤

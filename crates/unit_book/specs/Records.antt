@@ -1,10 +1,13 @@
 -- How a book handles frames and commands (CCSDS 355.0-B-2, ProcessSecurity; 355.1-B-1, procedures).
-use Rattle.std.specs.Prelude.{◌≡◌, ℕ, ◌⊎◌, List}
+use Rattle.std.specs.Prelude.{◌≡◌, ℕ, ◌⊎◌, List, [], ◌∷◌, ◌++◌}
 use Rattle.sdls_base.specs.declared.change.Change.{Change}
+use Rattle.sdls_base.specs.declared.entry.Entry.{Entry}
+use Rattle.sdls_base.specs.declared.entry.Logged.TheVariants as logged
 use Rattle.sdls_base.specs.declared.entry.Seen.{Seen}
 use Rattle.frame_checks.specs.declared.open_reply.OpenReply.{OpenReply}
 use Rattle.frame_checks.specs.OpeningFrames.{IsOpenReply}
 use Rattle.ep_core.specs.declared.reply.Reply.{Reply}
+use Rattle.unit_image.specs.Storing.{Destroys, LeavesRest}
 use Rattle.run_promise.specs.Entries.{frame_entry, record_entry, IsStepOf}
 use Rattle.unit_book.specs.declared.fault.BookFault.{BookFault}
 use Rattle.unit_book.specs.declared.fault.BookFault.TheVariants as faults
@@ -16,7 +19,7 @@ pub record OpensWithEntry (index link : ℕ) (frame field : List ℕ) (old new :
   pub reply_is : IsOpenReply old.plan old.state link frame reply field
   pub made : Made (frame_entry old.plan old.state index reply) old new position
 
--- Why a frame makes no entry, in the order of the refusals; what the checks answer of it comes before a want of slots.
+-- why a frame makes no entry, in the order of the refusals; what the checks answer of it comes before a fault of the site
 abbrev pub RefusesFrame : ℕ → ℕ → List ℕ → BookView → BookView → BookFault → Type 0
 RefusesFrame index link frame old new fault = (IsBarred old fault × (new ≡ old))
     ⊎ (CanEnter old × ((reply : OpenReply) × (field : List ℕ)
@@ -37,3 +40,9 @@ RefusesMessage index octets seen old new fault = (IsBarred old fault × (new ≡
     ⊎ ((fault ≡ faults.NoMemory) × (new ≡ old))
     ⊎ (CanEnter old × ((step : Change × Reply) × IsStepOf old.state octets seen step
     × IsUnstored (record_entry index seen step.0) old new fault))
+
+-- Where the entry that was made takes away the octets of keys, each octet of both banks of each image that a crash may
+-- leave is stated: the banks hold the new state, with no records.
+abbrev pub LeavesNoOctets : BookView → BookView → Type 0
+LeavesNoOctets old new = (entry : Entry) → new.log ≡ old.log ++ logged.Entry entry ∷ [] → Destroys entry.change
+    → LeavesRest new.site.trace new.journal new.state

@@ -1,9 +1,9 @@
 // The beginning of a book, and its end.
-ghost use Rattle.std.specs.Prelude.{◌≡◌, ◌≤◌, IsTrue, [], vec_capacity};
+ghost use Rattle.std.specs.Prelude.{◌≡◌, ◌≤◌, IsTrue, [], vec_capacity, vec_len};
+ghost use Rattle.image_content.specs.declared.layout.TheConstants.{CONTENT_LENGTH};
 ghost use Rattle.unit_image.specs.Image.{IsSettled};
 ghost use Rattle.unit_state.specs.State.{KeepsRules};
 ghost use Rattle.unit_state.specs.Restart.{restarted};
-ghost use Rattle.unit_image.specs.OpeningImage.{SameJournal};
 ghost use Rattle.unit_image.specs.Shows.{Shows};
 ghost use Rattle.run_promise.specs.Log.{entries_of};
 ghost use Rattle.run_promise.specs.Site.{site_seen};
@@ -19,13 +19,18 @@ use unit_image::Opened;
 
 impl<O: Site> Book<O> {
     /// The book over a site whose image, at rest, shows this state. `taken` is the site as `open` took it.
-    pub(crate) fn new(site: O, taken: Snapshot<O>, found: Opened, entries: Vec<Entry>) -> Book<O>
+    pub(crate) fn new(
+        site: O,
+        taken: Snapshot<O>,
+        found: Opened,
+        entries: Vec<Entry>,
+        room: Vec<u8>,
+    ) -> Book<O>
         requires rules { KeepsRules found.state }
         requires settled { IsTrue O.told → IsSettled (O.trace site) found.journal }
         requires shows { IsTrue O.told → Shows (O.trace site).now.image (restarted found.state) }
-        requires same { IsTrue O.told → SameJournal (O.trace taken.value).now.image (O.trace site).now.image
-            found.journal }
-        requires room { (entries.items ≡ []) × (MOST_ENTRIES ≤ vec_capacity entries) }
+        requires entries { (entries.items ≡ []) × (MOST_ENTRIES ≤ vec_capacity entries) }
+        requires room { vec_len room ≡ CONTENT_LENGTH }
         ensures view { result ≡ begun (site_seen O.trace O.faults O.put_faults site) (O.trace taken.value).now.image
             found.plan found.state found.journal }
         ensures kept { IsKept O.told result }
@@ -48,6 +53,7 @@ impl<O: Site> Book<O> {
             standing: 0,
             changes: 0,
             log: Log::Begun,
+            room,
         }
     }
 
@@ -69,6 +75,7 @@ impl<O: Site> Book<O> {
             standing: _,
             changes: _,
             log: _,
+            room: _,
         } = self;
         (site, entries)
     }

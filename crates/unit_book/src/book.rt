@@ -6,7 +6,7 @@ ghost use Rattle.sdls_outside.specs.Faults.{Rose};
 ghost use Rattle.sdls_outside.specs.Site.{Puts, after_put};
 ghost use Rattle.unit_state.specs.Applied.{applied};
 ghost use Rattle.unit_state.specs.Allows.{Allows};
-ghost use Rattle.unit_state.specs.Restart.{stored_as};
+ghost use Rattle.unit_image.specs.Storing.{Destroys, LeavesRest};
 ghost use Rattle.run_promise.specs.Log.{entries_of};
 ghost use Rattle.unit_book.specs.Log.{sunk_between};
 ghost use Rattle.unit_book.specs.Marks.{is_release, KeepsMarks};
@@ -23,7 +23,7 @@ use sdls_base::Entry;
 use sdls_outside::{Failed, Site};
 use std::marker::Model;
 use std::snapshot::Snapshot;
-use unit_image::{Journal, StoreFault, store};
+use unit_image::{Journal, SiteFault, store};
 use unit_plan::Plan;
 use unit_state::State;
 
@@ -42,14 +42,17 @@ pub struct Book<O: Site> {
     pub(crate) standing: u64,
     pub(crate) changes: u64,
     pub(crate) log: Log<O>,
+    /// Room for the content of a bank.
+    pub(crate) room: Vec<u8>,
 }
 
 impl<O: Site> Model for Book<O> {
-    ghost use Rattle.std.specs.Prelude.{◌≡◌, ◌≤◌, length, vec_capacity};
+    ghost use Rattle.std.specs.Prelude.{◌≡◌, ◌≤◌, length, vec_capacity, vec_len};
     ghost use Rattle.run_promise.specs.Log.{entries_of};
     ghost use Rattle.run_promise.specs.Site.{site_seen};
     ghost use Rattle.unit_book.specs.Log.{lines};
     ghost use Rattle.run_promise.specs.declared.limits.TheConstants.{MOST_ENTRIES};
+    ghost use Rattle.image_content.specs.declared.layout.TheConstants.{CONTENT_LENGTH};
     ghost use Rattle.unit_book.specs.Book.{BookView};
 
     ghost Value = { BookView };
@@ -70,7 +73,7 @@ impl<O: Site> Model for Book<O> {
     ghost invariant = { λ book. (book.faults ≡ O.faults book.opened.value)
         × (book.entries.items ≡ entries_of (lines O.trace book.log))
         × (book.standing ≤ length book.entries.items) × (book.changes ≤ book.standing)
-        × (MOST_ENTRIES ≤ vec_capacity book.entries) };
+        × (MOST_ENTRIES ≤ vec_capacity book.entries) × (vec_len book.room ≡ CONTENT_LENGTH) };
 }
 
 impl<O: Site> Book<O> {
@@ -151,6 +154,8 @@ impl<O: Site> Book<O> {
         requires marks { is_release entry ≡ false → KeepsMarks self.old.state (applied self.old.state entry.change) }
         ensures kept { IsKept O.told self.new }
         ensures made { MatchResult result (Enters entry self.old self.new) (IsUnstored entry self.old self.new) }
+        ensures gone { IsTrue O.told → OnOk result (Destroys entry.change
+            → LeavesRest self.new.site.trace self.new.journal self.new.state) }
         ensures sunk { IsTrue O.told → self.new.site.trace.now.sunk ≡ self.old.site.trace.now.sunk }
         ensures puts { self.new.site.put_faults ≡ self.old.site.put_faults }
         ensures stood { OnOk result (self.new.site.faults ≡ self.old.site.faults) }
@@ -161,16 +166,17 @@ impl<O: Site> Book<O> {
             &mut self.site,
             &self.state,
             &entry.change,
+            next.state(),
+            &mut self.room,
         ) {
             Ok(()) => {
                 self.enter(entry, next);
                 Ok(self.count())
             }
-            Err(StoreFault::SiteFault(count)) => {
+            Err(SiteFault(count)) => {
                 self.note_failed(entry);
                 Err(BookFault::SiteFault(count))
             }
-            Err(StoreFault::Full(slots)) => Err(BookFault::JournalFull(slots)),
         }
     }
 
@@ -185,6 +191,8 @@ impl<O: Site> Book<O> {
         ensures kept { IsKept O.told self.new }
         ensures made { MatchResult result (Enters entry self.old self.new)
             (IsUnstored entry self.old self.new) }
+        ensures gone { IsTrue O.told → OnOk result (Destroys entry.change
+            → LeavesRest self.new.site.trace self.new.journal self.new.state) }
         ensures goes_on { GoesOn self.old self.new }
         ensures marks { is_release entry ≡ false → KeepsMarks self.old.state self.new.state }
         ensures risen { IfErr result (TellsRise self.new) }

@@ -1,5 +1,5 @@
 // The commands of the key and association management.
-ghost use Rattle.std.specs.Prelude.{◌≡◌, ◌≤◌, ⊤, IfOk, IfErr, MatchResult};
+ghost use Rattle.std.specs.Prelude.{◌≡◌, ◌≤◌, ⊤, IsTrue, IfOk, IfErr, MatchResult};
 ghost use Rattle.ep_core.specs.declared.need.Need.{Need};
 ghost use Rattle.ep_core.specs.Seen.{MeetsNeed};
 ghost use Rattle.unit_state.specs.State.{KeepsRules};
@@ -10,7 +10,7 @@ ghost use Rattle.unit_book.specs.Marks.{KeepsMarks};
 ghost use Rattle.unit_book.specs.Book.{IsKept, IsNextState};
 ghost use Rattle.unit_book.specs.GoesOn.{GoesOn, IsCalm, TellsRise};
 ghost use Rattle.run_promise.specs.Entries.{IsNeedOf, IsStepOf};
-ghost use Rattle.unit_book.specs.Records.{Handles, RefusesMessage};
+ghost use Rattle.unit_book.specs.Records.{Handles, LeavesNoOctets, RefusesMessage};
 
 use crate::book::Book;
 use crate::fault::BookFault;
@@ -92,6 +92,8 @@ impl<O: Site> Book<O> {
         ensures made { MatchResult result
             (λ answer. Handles index pdu.now seen self.old self.new answer.0 answer.1)
             (RefusesMessage index pdu.now seen self.old self.new) }
+        // After a Destroy the keys' octets are gone: no image that a crash may leave holds them any more.
+        ensures gone { IsTrue O.told → IfOk result (λ _. LeavesNoOctets self.old self.new) }
         ensures goes_on { GoesOn self.old self.new }
         ensures marks { KeepsMarks self.old.state self.new.state }
         ensures risen { IfErr result (TellsRise self.new) }

@@ -9,13 +9,10 @@ pub enum BookFault {
     /// The site failed since the book was opened, and the call would add an entry; the count of its faults.
     #[error("book stopped when the site failed: {0} faults")]
     Stopped(u64),
-    /// All slots are used, and the call would add a record; the number of slots.
-    #[error("journal is full: {0} slots")]
-    JournalFull(u32),
     /// The run has as many entries as it may.
     #[error("run has as many entries as it may")]
     SessionFull,
-    /// Memory is wanting.
+    /// Memory ran out.
     #[error("no memory")]
     NoMemory,
 }

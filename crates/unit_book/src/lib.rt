@@ -26,7 +26,6 @@ mod showing;
 
 pub use book::Book;
 pub use fault::BookFault;
-// The content of a bank, which no image has yet.
 pub use image_content::{CONTENT_LENGTH, write_content};
 pub use laws::{
     calls_go_on, entries_lead, entries_stand, marks_stand, needs_name_keys, serves_at_epoch,

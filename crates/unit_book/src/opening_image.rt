@@ -1,33 +1,52 @@
 // The opening of a book.
-ghost use Rattle.std.specs.Prelude.{◌≡◌, ◌≤◌, IsTrue, Ok, IfOk, IfErr, MatchResult, [], vec_capacity};
+ghost use Rattle.std.specs.Prelude.{◌≡◌, ◌≤◌, IsTrue, Ok, IfOk, IfErr, OnOk, MatchResult, [], vec_capacity, vec_len};
 ghost use Rattle.sdls_outside.specs.Disk.{Leaves};
 ghost use Rattle.sdls_outside.specs.Moments.{EachMoment};
-ghost use Rattle.unit_image.specs.Image.{held, IsSettled, OnlySyncs};
+ghost use Rattle.image_content.specs.declared.layout.TheConstants.{CONTENT_LENGTH};
+ghost use Rattle.unit_image.specs.Image.{held, IsSettled, OnlySyncs, used_of};
 ghost use Rattle.unit_plan.specs.Plan.{plan_of};
 ghost use Rattle.unit_state.specs.State.{KeepsRules};
 ghost use Rattle.unit_image.specs.Shows.{Shows, ShowsNone};
 ghost use Rattle.unit_image.specs.OpeningImage.{HasOpenFault, IsOpenCause, Opening};
-ghost use Rattle.unit_image.specs.OpeningImage.{SameJournal, StandsUnlessFailed};
+ghost use Rattle.unit_image.specs.OpeningImage.{StandsUnlessFailed};
 ghost use Rattle.unit_book.specs.Book.{IsKept, begun};
 
 use crate::book::Book;
 use run_promise::MOST_ENTRIES;
 use sdls_base::Entry;
 use sdls_outside::{Failed, Site};
-use std::alloc::Global;
+use std::alloc::{AllocError, Global};
 use std::snapshot::Snapshot;
-use unit_image::{OpenFault, Opened};
+use unit_image::{CONTENT_LENGTH, OpenFault, Opened};
 
-/// Starts a run on the site, reserves the room for the entries, and opens the image.
-fn start<O: Site>(alloc: Global, site: &mut O) -> Result<(Opened, Vec<Entry>), OpenFault>
-    ensures room { IfOk result (λ begun. (begun.1.items ≡ []) × (MOST_ENTRIES ≤ vec_capacity begun.1)) }
-    ensures settled { IsTrue O.told → IfOk result (λ begun. IsSettled (O.trace site.new) begun.0.journal) }
-    ensures shows { IsTrue O.told → IfOk result (λ begun. Shows (O.trace site.old).now.image begun.0.state
-        × Shows (O.trace site.new).now.image begun.0.state
-        × SameJournal (O.trace site.old).now.image (O.trace site.new).now.image begun.0.journal) }
+/// What a book begins with: what the image shows, and rooms for the entries and for a content.
+#[derive(Drop)]
+struct Started {
+    found: Opened,
+    entries: Vec<Entry>,
+    room: Vec<u8>,
+}
+
+/// Room for the content of a bank.
+fn content_room(alloc: Global) -> Result<Vec<u8>, AllocError>
+    ensures { IfOk result (λ room. vec_len room ≡ CONTENT_LENGTH) }
+{
+    vec![in alloc; 0; CONTENT_LENGTH]
+}
+
+/// Starts a run on the site, reserves the rooms, and opens the image.
+fn start<O: Site>(alloc: Global, site: &mut O) -> Result<Started, OpenFault>
+    ensures entries { IfOk result (λ begun. (begun.entries.items ≡ [])
+        × (MOST_ENTRIES ≤ vec_capacity begun.entries)) }
+    ensures room { IfOk result (λ begun. vec_len begun.room ≡ CONTENT_LENGTH) }
+    ensures settled { IsTrue O.told → IfOk result (λ begun. IsSettled (O.trace site.new) begun.found.journal) }
+    ensures shows { IsTrue O.told → IfOk result (λ begun. Shows (O.trace site.old).now.image begun.found.state
+        × Shows (O.trace site.new).now.image begun.found.state) }
+    ensures holds { IsTrue O.told → OnOk result (held (O.trace site.new).now.image
+        ≡ held (O.trace site.old).now.image) }
     ensures plan { IsTrue O.told → IfOk result (λ begun.
-        plan_of (held (O.trace site.old).now.image).plan ≡ Ok begun.0.plan) }
-    ensures rules { IfOk result (λ begun. KeepsRules begun.0.state) }
+        plan_of (held (O.trace site.old).now.image).plan ≡ Ok begun.found.plan) }
+    ensures rules { IfOk result (λ begun. KeepsRules begun.found.state) }
     ensures any_moment { IsTrue O.told → EachMoment (O.trace site.old) (O.trace site.new) (Opening (O.trace site.old)) }
     ensures puts { O.put_faults site.new ≡ O.put_faults site.old }
     ensures fault { HasOpenFault (O.faults site.old) (O.faults site.new)
@@ -41,26 +60,34 @@ fn start<O: Site>(alloc: Global, site: &mut O) -> Result<(Opened, Vec<Entry>), O
     let Ok(entries) = Vec::with_capacity(alloc, MOST_ENTRIES) else {
         return Err(OpenFault::NoMemory);
     };
-    match unit_image::open(alloc, site) {
-        Ok(found) => Ok((found, entries)),
+    let Ok(mut room) = content_room(alloc) else {
+        return Err(OpenFault::NoMemory);
+    };
+    match unit_image::open(alloc, site, &mut room) {
+        Ok(found) => Ok(Started {
+            found,
+            entries,
+            room,
+        }),
         Err(fault) => Err(fault),
     }
 }
 
 impl<O: Site> Book<O> {
-    /// Opens the image of a site: starts a run on it, reserves the room for the entries, makes all checks of the image,
-    /// and brings its journal to rest.
+    /// Opens the image of a site: starts a run on it, reserves the room for the entries and for a content, makes all
+    /// checks of the image, and brings its journal to rest.
     ///
     /// An answer `Image`, with the offset of the first check that fails, says that the image shows no state; nothing is
-    /// written then. Each other refusal is a fault of the site or want of memory.
+    /// written then. Each other refusal is a fault of the site, or memory ran out.
     pub fn open(alloc: Global, mut site: O) -> Result<Book<O>, (OpenFault, O)>
         ensures kept { IfOk result (IsKept O.told) }
         ensures begun { IfOk result (λ book.
             book ≡ begun book.site (O.trace site).now.image book.plan book.start book.journal) }
         // The image that was read, and the one that the opening left, show the state at the start.
         ensures shows { IsTrue O.told → IfOk result (λ book. Shows (O.trace site).now.image book.start
-            × Shows book.site.trace.now.image book.start
-            × SameJournal (O.trace site).now.image book.site.trace.now.image book.journal) }
+            × Shows book.site.trace.now.image book.start) }
+        // The journal has as many records as the image that was read.
+        ensures used { IsTrue O.told → IfOk result (λ book. book.journal.used ≡ used_of (O.trace site).now.image) }
         ensures plan { IsTrue O.told → IfOk result (λ book. plan_of (held (O.trace site).now.image).plan
             ≡ Ok book.plan) }
 
@@ -69,7 +96,8 @@ impl<O: Site> Book<O> {
             (λ offset. IsTrue O.told → ShowsNone (O.trace site).now.image offset
             × OnlySyncs (O.trace site) (O.trace refused.1)) refused.0) }
 
-        // A crash at any moment leaves what one before may have left, or the image but for its closed gates.
+        // A crash at any moment leaves what one before may have left, or the image but for its closed gates, or one that
+        // shows the same.
         ensures any_moment { IsTrue O.told → MatchResult result
             (λ book. EachMoment (O.trace site) book.site.trace (Opening (O.trace site)))
             (λ refused. EachMoment (O.trace site) (O.trace refused.1) (Opening (O.trace site))) }
@@ -85,7 +113,13 @@ impl<O: Site> Book<O> {
     {
         let taken = Snapshot::of(&site);
         match start(alloc, &mut site) {
-            Ok((found, entries)) => Ok(Book::new(site, taken, found, entries)),
+            Ok(
+                Started {
+                    found,
+                    entries,
+                    room,
+                },
+            ) => Ok(Book::new(site, taken, found, entries, room)),
             Err(fault) => Err((fault, site)),
         }
     }

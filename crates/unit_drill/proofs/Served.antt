@@ -12,7 +12,6 @@ use Rattle.run_promise.specs.Begin.{Begin}
 use Rattle.law_workers.specs.Deeds.{deeds_of}
 use Rattle.law_workers.specs.Order.{Handled, Layout, LiesIn}
 use Rattle.law_workers.specs.Began.{BeganWith}
-use Rattle.unit_image.specs.Image.{slots_of, used_of}
 use Rattle.law_workers.specs.Ends.{EndsSegment}
 use Rattle.law_drill.specs.Drilled.{HandlesSegment, tells_fault}
 use Rattle.law_drill.proofs.Tasks.{OnLane, drill_layout, drill_lies}
@@ -36,18 +35,11 @@ few begin v w tasks answers false ends = omega arith
 few begin v w tasks answers true ends = let low = slice_get_within tasks (length answers) ends.0 ends.1 in omega arith
 
 abbrev begin_with : Opening → Begin
-begin_with opening = record {
-  rows = MOST_KEYS;
-  told = true;
-  plan = opening.plan;
-  start = opening.start;
-  slots = slots_of opening.image;
-  used = used_of opening.image;
-}
+begin_with opening = record { rows = MOST_KEYS; told = true; plan = opening.plan; start = opening.start }
 
 -- no more answers than records
 pub few_answers : (v w : View) (tasks : List Record) (answers : List Answer) (full : Bool)
     → ((begin : Begin) → BeganWith true begin v.turn.known.opening → EndsSegment begin v w tasks answers full) → length answers ≤ length tasks
 few_answers v w tasks answers full ends =
     few (begin_with v.turn.known.opening) v w tasks answers full (ends (begin_with v.turn.known.opening)
-    (record { rows = refl; tells = refl; plan = refl; start = refl; slots = λ told. refl; used = λ told. refl }))
+    (record { rows = refl; tells = refl; plan = refl; start = refl }))

@@ -1,17 +1,19 @@
 //! The images of the two units.
-ghost use Rattle.std.specs.Prelude.{◌≡◌, ◌≤◌, IfOk, length};
-ghost use Rattle.unit_image.specs.Image.{initial_image};
+ghost use Rattle.std.specs.Prelude.{◌≡◌, ◌≤◌, IfOk, length, vec_len};
+ghost use Rattle.unit_plan.specs.PlanLines.{PlanLines};
+ghost use Rattle.unit_state.specs.declared.state.State.{State};
+ghost use Rattle.image_beginning.specs.Beginning.{SaysPlan, image_of_plan};
 ghost use Rattle.sdls_outside.specs.Crash.{fresh};
 ghost use Rattle.sdls_outside.specs.MemSite.{site_trace};
 ghost use Rattle.law_drill.specs.Plans.{receiver_plan, sender_plan};
 
-use disk_journal::{PLAN_ROOM, create};
+use image_beginning::create_image;
+use image_content::CONTENT_LENGTH;
 use sdls_base::NoMemory;
 use sdls_outside::{Crash, MemSite};
-use std::alloc::Global;
-
-/// The slots of both images.
-const SLOTS: u32 = 8_192;
+use std::alloc::{AllocError, Global};
+use unit_plan::{MOST_OCTETS, Plan};
+use unit_state::State;
 
 const SENDER: &[u8] = b"sdls 1
 device 00000d01
@@ -57,7 +59,7 @@ sa 4 receive gcm 259 1 4294967296 3
 #[tactic(auto, unfolding(law_drill::specs::Plans::sender_plan))]
 pub(crate) fn sender_plan() -> &'static [u8]
     ensures lines { result.now ≡ sender_plan }
-    ensures short { length result.now ≤ PLAN_ROOM }
+    ensures short { length result.now ≤ MOST_OCTETS }
 {
     SENDER
 }
@@ -66,17 +68,44 @@ pub(crate) fn sender_plan() -> &'static [u8]
 #[tactic(auto, unfolding(law_drill::specs::Plans::receiver_plan))]
 pub(crate) fn receiver_plan() -> &'static [u8]
     ensures lines { result.now ≡ receiver_plan }
-    ensures short { length result.now ≤ PLAN_ROOM }
+    ensures short { length result.now ≤ MOST_OCTETS }
 {
     RECEIVER
 }
 
-/// A site in memory that holds the image of a plan, all of it synced. Whatever refuses it is out of memory.
-pub(crate) fn site_of(alloc: Global, plan: &[u8]) -> Result<MemSite, NoMemory>
-    requires { length plan.now ≤ PLAN_ROOM }
-    ensures { IfOk result (λ site. site_trace site ≡ fresh (initial_image plan.now SLOTS)) }
+/// So many zeros.
+fn zeros(alloc: Global, count: usize) -> Result<Vec<u8>, AllocError>
+    ensures { IfOk result (λ zeros. vec_len zeros ≡ count) }
 {
+    vec![in alloc; 0; count]
+}
+
+/// The plan that a text is, and the state that its lines make. Whatever refuses it is out of memory.
+fn plan_of(alloc: Global, text: &[u8]) -> Result<(Plan, State), NoMemory>
+    ensures { IfOk result (λ made. SaysPlan text.now made.0 made.1) }
+{
+    let Ok(plan) = Plan::read(alloc, text) else {
+        return Err(NoMemory);
+    };
+    let Ok(state) = State::initial(alloc, &plan) else {
+        return Err(NoMemory);
+    };
+    Ok((plan, state))
+}
+
+/// A site in memory that holds the image that the plan of a text begins with, all of it synced. Whatever refuses it is
+/// out of memory.
+pub(crate) fn site_of(alloc: Global, text: &[u8]) -> Result<MemSite, NoMemory>
+    requires { length text.now ≤ MOST_OCTETS }
+    ensures { IfOk result (λ site. (plan : PlanLines) × (first : State) × SaysPlan text.now plan first
+        × (site_trace site ≡ fresh (image_of_plan text.now plan first))) }
+{
+    let (plan, state) = plan_of(alloc, text)?;
+    let mut bare = zeros(alloc, text.len() + 1)?;
+    let mut content = zeros(alloc, CONTENT_LENGTH)?;
     let mut site = MemSite::new(alloc, Vec::new(alloc), Vec::new(alloc), None);
-    create(&mut site, plan, SLOTS).map_err(|_| NoMemory)?;
-    Ok(site.crashed(Crash::Kept))
+    match create_image(&mut site, text, &plan, &state, &mut bare, &mut content) {
+        Ok(()) => Ok(site.crashed(Crash::Kept)),
+        Err(_) => Err(NoMemory),
+    }
 }

@@ -10,7 +10,6 @@ ghost use Rattle.law_drill.specs.Drilled.{UnitIsOpened, HandlesSegment, tells_fa
 ghost use Rattle.unit_drill.specs.Drilled.{MayServe};
 
 use crate::image::site_of;
-use disk_journal::PLAN_ROOM;
 use frame_workers::{Gate, run_segment};
 use record_io::code::{SITE_FAULT, STOPPED};
 use record_io::{Answer, Record, RecordKind, Spare};
@@ -20,6 +19,7 @@ use shared_unit::{Unit, Worker};
 use std::alloc::Global;
 use std::sync::Wait;
 use std::thread::Threads;
+use unit_plan::MOST_OCTETS;
 
 pub(crate) struct DrillUnit {
     pub(crate) unit: Unit<MemSite>,
@@ -46,9 +46,9 @@ fn has_fault(answers: &[Answer]) -> bool
 }
 
 impl DrillUnit {
-    /// A unit of the image that has this plan. Whatever refuses it is want of memory: the image is that of a plan.
+    /// A unit of the image that this plan begins with. Whatever refuses it is want of memory: the image is that of a plan.
     pub(crate) fn open<R: Wait>(rt: &R, alloc: Global, plan: &[u8]) -> Result<DrillUnit, NoMemory>
-        requires { length plan.now ≤ PLAN_ROOM }
+        requires { length plan.now ≤ MOST_OCTETS }
         ensures { IfOk result (λ made. MayServe made.unit.counters made.unit.plan made.worker
             × ((begin : Begin) × UnitIsOpened plan.now begin (view made.worker))) }
     {

@@ -1,24 +1,24 @@
 -- Why the opening of an image fails, and what a crash in it leaves (profile).
-use Rattle.std.specs.Prelude.{◌≡◌, ℕ, ◌≤◌, ◌⊎◌, ⊤, List, length, Some, Result, IfErr, OnOk}
+use Rattle.std.specs.Prelude.{◌≡◌, ℕ, ◌+◌, ◌≤◌, ◌⊎◌, ⊤, List, Some, Result, IfErr, OnOk}
 use Rattle.std.specs.List.{slice_get}
 use Rattle.sdls_base.specs.declared.change.Change.{Change}
-use Rattle.sdls_outside.specs.Disk.{Leaves}
 use Rattle.sdls_outside.specs.Faults.{Rose}
-use Rattle.sdls_outside.specs.Moments.{Trace}
-use Rattle.disk_journal.specs.Image.{records, slot_count}
-use Rattle.disk_journal.specs.Forms.{Settles}
-use Rattle.disk_journal.specs.Journal.{JournalView}
-use Rattle.disk_journal.specs.declared.fault.JournalFault.{JournalFault}
-use Rattle.disk_journal.specs.declared.fault.JournalFault.TheVariants as journal_faults
 use Rattle.book_record.specs.Record.{IsRecord}
-use Rattle.unit_plan.specs.PlanLines.{PlanLines}
-use Rattle.disk_journal.specs.declared.layout.TheConstants.{PLAN_AT}
-use Rattle.unit_state.specs.declared.state.State.{State}
 use Rattle.unit_state.specs.Applied.{applied}
 use Rattle.unit_state.specs.Allows.{Allows}
-use Rattle.unit_image.specs.Shows.{SaysPlan}
+use Rattle.sdls_outside.specs.Disk.{Leaves}
+use Rattle.sdls_outside.specs.Moments.{Trace}
+use Rattle.unit_plan.specs.PlanLines.{PlanLines}
+use Rattle.unit_state.specs.declared.state.State.{State}
+use Rattle.image_parts.specs.declared.layout.TheConstants.{PLAN_AT}
 use Rattle.unit_image.specs.declared.fault.OpenFault.{OpenFault}
 use Rattle.unit_image.specs.declared.fault.OpenFault.TheVariants.{SiteFault, Image, NoMemory}
+use Rattle.disk_journal.specs.declared.fault.JournalFault.{JournalFault}
+use Rattle.disk_journal.specs.declared.fault.JournalFault.TheVariants as journal_faults
+use Rattle.disk_journal.specs.declared.layout.TheConstants.{CONTENT_AT}
+use Rattle.disk_journal.specs.Forms.{Settles}
+use Rattle.disk_journal.specs.Image.{current_at}
+use Rattle.unit_image.specs.Shows.{SaysBarePlan, IsContentUnder}
 
 -- A fault of the site carries the count of faults, which rose in the call; a refused image has the cause given; want of
 -- memory needs none.
@@ -42,17 +42,21 @@ pub record HasOpenFault {T : Type 0} (before now : ℕ) (refused : ℕ → Type 
   pub cause : IfErr result (IsOpenCause before now refused)
   pub calm : IfErr result (StandsUnlessFailed before now)
 
--- a fault of a journal that is opened or read; it is never full
+-- a fault of a journal that is opened or read
 abbrev pub as_open_fault : JournalFault → OpenFault
 as_open_fault (journal_faults.SiteFault count) = SiteFault count
 as_open_fault (journal_faults.Image offset) = Image offset
-as_open_fault (journal_faults.Full slots) = NoMemory
 
--- why a text is no plan whose lines make a state; want of memory needs no cause
+-- why a text is no plan without keys and associations; want of memory needs no cause
 abbrev pub IsTextCause : List ℕ → OpenFault → Type 0
 IsTextCause text (SiteFault count) = ⊥
-IsTextCause text (Image offset) = ((plan : PlanLines) (first : State) → ¬ SaysPlan text plan first) × (offset ≡ PLAN_AT)
+IsTextCause text (Image offset) = ((plan : PlanLines) → ¬ SaysBarePlan text plan) × (offset ≡ PLAN_AT)
 IsTextCause text NoMemory = ⊤
+
+-- the content of an image is that of no state under the plan, and this is where it begins
+pub record IsNoContent (image : List ℕ) (plan : PlanLines) (content : List ℕ) (offset : ℕ) : Type 0 where
+  pub none : (state : State) → ¬ IsContentUnder plan content state
+  pub offset_is : offset ≡ current_at image + CONTENT_AT
 
 -- the body at this place is the record of a change that the state allows, and the new state is the one after it
 pub record TakesRecord (bodies : List (List ℕ)) (place : ℕ) (old new : State) : Type 0 where
@@ -64,12 +68,6 @@ pub record TakesRecord (bodies : List (List ℕ)) (place : ℕ) (old new : State
   pub is : new ≡ applied old change
 
 -- A moment while an image is opened: the image is one that a crash before might leave, or the one that was read but for
--- its closed gates; nothing is sunk.
+-- its closed gates, or one that holds what that one held, as its opened forms do; nothing is sunk.
 abbrev pub Opening : Trace → List ℕ → List ℕ → Type 0
 Opening entry image sunk = (Leaves entry.now image ⊎ Settles entry.now.image image) × (sunk ≡ entry.now.sunk)
-
--- The image as it was opened has as many records as it had, and the journal is over them.
-pub record SameJournal (old new : List ℕ) (journal : JournalView) : Type 0 where
-  pub same_records : length (records new) ≡ length (records old)
-  pub slots : journal.slots ≡ slot_count old
-  pub used : journal.used ≡ length (records old)

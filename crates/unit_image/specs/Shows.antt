@@ -1,24 +1,32 @@
--- The state that an image shows (profile), or the offset that it is refused with.
-use Rattle.std.specs.Prelude.{◌≡◌, ◌≢◌, ℕ, ◌⊎◌, List, [], ◌∷◌, take, Some, None, Ok}
+-- The state that an image of two banks shows (profile), or the offset that it is refused with.
+use Rattle.std.specs.Prelude.{◌≡◌, ◌≢◌, ℕ, ◌+◌, ◌⊎◌, List, [], ◌∷◌, map, take, None, Some, Ok}
 use Rattle.std.specs.List.{slice_get}
 use Rattle.sdls_base.specs.declared.change.Change.{Change}
 use Rattle.unit_plan.specs.PlanLines.{PlanLines}
 use Rattle.unit_plan.specs.Plan.{plan_of}
-use Rattle.book_record.specs.Record.{IsRecord}
 use Rattle.unit_state.specs.declared.state.State.{State}
-use Rattle.unit_state.specs.Initial.{initial}
 use Rattle.unit_state.specs.Applied.{applied}
 use Rattle.unit_state.specs.Allows.{Allows}
 use Rattle.unit_state.specs.Restart.{restarted}
-use Rattle.disk_journal.specs.declared.layout.TheConstants.{PLAN_AT, SLOT_COUNT_AT}
+use Rattle.book_record.specs.Record.{IsRecord}
+use Rattle.image_content.specs.Reading.{IsContent}
+use Rattle.image_parts.specs.declared.layout.TheConstants.{PLAN_AT, SLOT_COUNT_AT}
+use Rattle.disk_journal.specs.declared.layout.TheConstants.{CONTENT_AT}
+use Rattle.disk_journal.specs.Image.{Held, held, current_at, record_at}
 use Rattle.disk_journal.specs.Fault.{image_fault}
-use Rattle.disk_journal.specs.Image.{Held, held, record_at}
 use Rattle.disk_journal.specs.Forms.{Holds}
 
--- the text says this plan, and the plan's lines make this state
-pub record SaysPlan (text : List ℕ) (plan : PlanLines) (first : State) : Type 0 where
+-- the text says this plan, which has no line of a key or an association
+pub record SaysBarePlan (text : List ℕ) (plan : PlanLines) : Type 0 where
   pub read : plan_of text ≡ Ok plan
-  pub made : initial plan ≡ Ok first
+  pub no_keys : plan.keys ≡ []
+  pub no_associations : plan.associations ≡ []
+
+-- the content is that of this state, which has the channels and the device field of the plan
+pub record IsContentUnder (plan : PlanLines) (content : List ℕ) (state : State) : Type 0 where
+  pub channels : state.channels ≡ map (λ row. row.0) plan.channels
+  pub device : state.device ≡ plan.device
+  pub spelled : IsContent state content
 
 -- the bodies, in order, are records of changes that the states before them allow, and the last state is what they lead
 -- to
@@ -27,12 +35,17 @@ LeadTo state [] last = last ≡ state
 LeadTo state (body ∷ bodies) last =
     (change : Change) × IsRecord change body × Allows state change × LeadTo (applied state change) bodies last
 
--- What stands in an image says this state: what a restart leaves of the plan's state after the records.
-pub record Says (what : Held) (state : State) : Type 0 where
+-- what stands in an image begins with this state
+pub record Begins (what : Held) (first : State) : Type 0 where
   pub plan : PlanLines
-  pub first : State
-  pub said : SaysPlan what.plan plan first
+  pub said : SaysBarePlan what.plan plan
   pub same_slots : plan.slots ≡ what.slots
+  pub content : IsContentUnder plan what.content first
+
+-- What stands in an image says this state: what a restart leaves of the content's state after the records.
+pub record Says (what : Held) (state : State) : Type 0 where
+  pub first : State
+  pub begins : Begins what first
   pub last : State
   pub led : LeadTo first what.records last
   pub left : state ≡ restarted last
@@ -56,13 +69,15 @@ pub record IsBadRecord (state : State) (bodies : List (List ℕ)) (place : ℕ) 
   pub unfit : IsNoChangeAt bodies place before
 
 -- What an image holds says no state, and this is the offset of the first check that fails: that the text is a plan
--- whose lines make a state; that the slots are the plan's; that each record is of a change that is allowed.
+-- without keys and associations; that the slots are the plan's; that the content is one; that each record is of a
+-- change that is allowed.
 abbrev pub SaysNone : List ℕ → Held → ℕ → Type 0
 SaysNone image what offset =
-    (((plan : PlanLines) (first : State) → ¬ SaysPlan what.plan plan first) × (offset ≡ PLAN_AT))
-    ⊎ ((plan : PlanLines) × (first : State) × SaysPlan what.plan plan first × (plan.slots ≢ what.slots)
-    × (offset ≡ SLOT_COUNT_AT))
-    ⊎ ((plan : PlanLines) × (first : State) × SaysPlan what.plan plan first × (plan.slots ≡ what.slots)
+    (((plan : PlanLines) → ¬ SaysBarePlan what.plan plan) × (offset ≡ PLAN_AT))
+    ⊎ ((plan : PlanLines) × SaysBarePlan what.plan plan × (plan.slots ≢ what.slots) × (offset ≡ SLOT_COUNT_AT))
+    ⊎ ((plan : PlanLines) × SaysBarePlan what.plan plan × (plan.slots ≡ what.slots)
+    × ((state : State) → ¬ IsContentUnder plan what.content state) × (offset ≡ current_at image + CONTENT_AT))
+    ⊎ ((first : State) × Begins what first
     × ((place : ℕ) × IsBadRecord first what.records place × (offset ≡ record_at image place)))
 
 -- the image shows no state, and this is the offset of the first check that fails: one of the journal's, or one of these

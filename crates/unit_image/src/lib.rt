@@ -1,20 +1,22 @@
-//! What an image shows: the state of a unit that its plan and its records lead to.
+//! What an image shows: the state of a unit that the content of its current bank and the records behind it lead to.
 //!
 //! Read `specs/Shows.antt` first: the state that an image shows, or the offset of the first check that fails. [`open`]
-//! makes the checks, answers that state and the image's journal, and brings the journal to rest. [`store`] stores a
-//! change of the state. `specs/Image.antt` passes on what the journal says of an image; whatever lies above takes it
-//! from there.
+//! makes the checks, returns that state and the image's journal, and brings the journal to rest. [`store`] stores a
+//! change of the state, by a record or by a turn of the banks. `specs/Image.antt` passes on what the journal says of an
+//! image; whatever lies above takes it from there.
 #![tactic(auto)]
 
+mod content_after;
 mod fault;
 mod laws;
 mod opening_image;
 mod reading;
-mod records;
 mod storing;
+mod typed_rows;
 
 pub use disk_journal::Journal;
 pub use fault::OpenFault;
-pub use laws::{opening_keeps_forms, refused_with_one, says_more, shows_one};
+pub use image_content::CONTENT_LENGTH;
+pub use laws::{refused_with_one, says_grown, says_turned, shows_one};
 pub use opening_image::{Opened, open};
-pub use storing::{StoreFault, store};
+pub use storing::{SiteFault, store};

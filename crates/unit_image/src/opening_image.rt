@@ -1,18 +1,23 @@
 // The opening of an image.
-ghost use Rattle.std.specs.Prelude.{◌≡◌, ◌≤◌, IsTrue, IfOk, length, vec_len};
+ghost use Rattle.std.specs.Prelude.{◌≡◌, ◌≤◌, IsTrue, IfOk, OnOk, length, vec_len};
 ghost use Rattle.sdls_outside.specs.Disk.{Leaves};
 ghost use Rattle.sdls_outside.specs.Moments.{EachMoment};
-ghost use Rattle.disk_journal.specs.Image.{held};
-ghost use Rattle.disk_journal.specs.Journal.{IsOpen, IsSettled};
-ghost use Rattle.disk_journal.specs.Changes.{EachImage, OnlySyncs};
+ghost use Rattle.image_parts.specs.Changes.{EachImage, OnlySyncs};
 ghost use Rattle.unit_state.specs.State.{KeepsRules};
 ghost use Rattle.unit_plan.specs.Plan.{plan_of};
+ghost use Rattle.unit_image.specs.OpeningImage.{HasOpenFault};
+ghost use Rattle.image_content.specs.declared.layout.TheConstants.{CONTENT_LENGTH};
+ghost use Rattle.image_parts.specs.declared.layout.TheConstants.{PLAN_ROOM};
+ghost use Rattle.disk_journal.specs.Image.{held};
+ghost use Rattle.disk_journal.specs.Journal.{IsOpen, IsSettled};
 ghost use Rattle.unit_image.specs.Shows.{Shows, ShowsNone};
-ghost use Rattle.unit_image.specs.OpeningImage.{HasOpenFault, Opening, SameJournal};
+ghost use Rattle.unit_image.specs.OpeningImage.{Opening};
 
 use crate::fault::OpenFault;
-use crate::reading::{Planned, open_fault, read_plan, take_records};
-use disk_journal::{Journal, PLAN_ROOM};
+use crate::reading::{open_fault, read_plan, read_state, take_records};
+use disk_journal::Journal;
+use image_content::CONTENT_LENGTH;
+use image_parts::PLAN_ROOM;
 use sdls_outside::Site;
 use std::alloc::{AllocError, Global};
 use unit_plan::Plan;
@@ -31,9 +36,11 @@ fn inspect_opened<O: Site>(
     alloc: Global,
     journal: Journal,
     site: &mut O,
+    text: &mut [u8],
     room: &mut [u8],
 ) -> Result<Opened, OpenFault>
-    requires room { length room.old ≡ PLAN_ROOM }
+    requires text { length text.old ≡ PLAN_ROOM }
+    requires room { length room.old ≡ CONTENT_LENGTH }
     requires opened { IsTrue O.told → IsOpen (O.trace site.old) journal }
     ensures journal { IfOk result (λ opened. opened.journal ≡ journal) }
     ensures shows { IsTrue O.told → IfOk result (λ opened. Shows (O.trace site.old).now.image opened.state) }
@@ -45,10 +52,8 @@ fn inspect_opened<O: Site>(
     ensures fault { HasOpenFault (O.faults site.old) (O.faults site.new)
         (λ offset. IsTrue O.told → ShowsNone (O.trace site.old).now.image offset) result }
 {
-    let Planned { plan, mut state } = match read_plan(alloc, &journal, site, room) {
-        Ok(planned) => planned,
-        Err(fault) => return Err(fault),
-    };
+    let plan = read_plan(alloc, &journal, site, text)?;
+    let mut state = read_state(alloc, &journal, site, &plan, room)?;
     match take_records(alloc, &journal, site, &mut state) {
         Ok(()) => {
             state.restart();
@@ -63,8 +68,14 @@ fn inspect_opened<O: Site>(
 }
 
 /// Opens the journal of a site, makes all checks of its image, and answers what it shows. Writes nothing.
-fn inspect<O: Site>(alloc: Global, site: &mut O, room: &mut [u8]) -> Result<Opened, OpenFault>
-    requires room { length room.old ≡ PLAN_ROOM }
+fn inspect<O: Site>(
+    alloc: Global,
+    site: &mut O,
+    text: &mut [u8],
+    room: &mut [u8],
+) -> Result<Opened, OpenFault>
+    requires text { length text.old ≡ PLAN_ROOM }
+    requires room { length room.old ≡ CONTENT_LENGTH }
     ensures opened { IsTrue O.told → IfOk result (λ opened. IsOpen (O.trace site.new) opened.journal) }
     ensures shows { IsTrue O.told → IfOk result (λ opened. Shows (O.trace site.old).now.image opened.state) }
     ensures plan { IsTrue O.told → IfOk result (λ opened.
@@ -78,18 +89,25 @@ fn inspect<O: Site>(alloc: Global, site: &mut O, room: &mut [u8]) -> Result<Open
         (λ offset. IsTrue O.told → ShowsNone (O.trace site.old).now.image offset) result }
 {
     match Journal::open(site) {
-        Ok(journal) => inspect_opened(alloc, journal, site, room),
+        Ok(journal) => inspect_opened(alloc, journal, site, text, room),
         Err(fault) => Err(open_fault(fault)),
     }
 }
 
 /// Makes all checks of an image, answers what it shows, and brings its journal to rest.
-fn show<O: Site>(alloc: Global, site: &mut O, room: &mut [u8]) -> Result<Opened, OpenFault>
-    requires room { length room.old ≡ PLAN_ROOM }
+fn show<O: Site>(
+    alloc: Global,
+    site: &mut O,
+    text: &mut [u8],
+    room: &mut [u8],
+) -> Result<Opened, OpenFault>
+    requires text { length text.old ≡ PLAN_ROOM }
+    requires room { length room.old ≡ CONTENT_LENGTH }
     ensures settled { IsTrue O.told → IfOk result (λ opened. IsSettled (O.trace site.new) opened.journal) }
     ensures shows { IsTrue O.told → IfOk result (λ opened. Shows (O.trace site.old).now.image opened.state
-        × Shows (O.trace site.new).now.image opened.state
-        × SameJournal (O.trace site.old).now.image (O.trace site.new).now.image opened.journal) }
+        × Shows (O.trace site.new).now.image opened.state) }
+    ensures holds { IsTrue O.told → OnOk result (held (O.trace site.new).now.image
+        ≡ held (O.trace site.old).now.image) }
     ensures plan { IsTrue O.told → IfOk result (λ opened.
         plan_of (held (O.trace site.old).now.image).plan ≡ Ok opened.plan) }
     ensures rules { IfOk result (λ opened. KeepsRules opened.state) }
@@ -99,7 +117,7 @@ fn show<O: Site>(alloc: Global, site: &mut O, room: &mut [u8]) -> Result<Opened,
         (λ offset. IsTrue O.told → ShowsNone (O.trace site.old).now.image offset
         × OnlySyncs (O.trace site.old) (O.trace site.new)) result }
 {
-    let opened = match inspect(alloc, site, room) {
+    let opened = match inspect(alloc, site, text, room) {
         Ok(opened) => opened,
         Err(fault) => return Err(fault),
     };
@@ -117,21 +135,24 @@ fn plan_room(alloc: Global) -> Result<Vec<u8>, AllocError>
 }
 
 /// Opens the image of a site: makes all checks of it, answers the state that it shows, and brings its journal to rest.
+/// The content is read into `room`, which holds any octets afterwards.
 ///
 /// An answer `Image`, with the offset of the first check that fails, says that the image shows no state; nothing is
-/// written then. Each other refusal is a fault of the site or want of memory.
-pub fn open<O: Site>(alloc: Global, site: &mut O) -> Result<Opened, OpenFault>
+/// written then. Each other refusal is a fault of the site, or memory ran out.
+pub fn open<O: Site>(alloc: Global, site: &mut O, room: &mut [u8]) -> Result<Opened, OpenFault>
+    requires { length room.old ≡ CONTENT_LENGTH }
     ensures settled { IsTrue O.told → IfOk result (λ opened. IsSettled (O.trace site.new) opened.journal) }
     ensures shows { IsTrue O.told → IfOk result (λ opened. Shows (O.trace site.old).now.image opened.state
-        × Shows (O.trace site.new).now.image opened.state
-        × SameJournal (O.trace site.old).now.image (O.trace site.new).now.image opened.journal) }
+        × Shows (O.trace site.new).now.image opened.state) }
+    ensures holds { IsTrue O.told → OnOk result (held (O.trace site.new).now.image
+        ≡ held (O.trace site.old).now.image) }
     // The plan is the one that the image's text says.
     ensures plan { IsTrue O.told → IfOk result (λ opened.
         plan_of (held (O.trace site.old).now.image).plan ≡ Ok opened.plan) }
     ensures rules { IfOk result (λ opened. KeepsRules opened.state) }
 
-    // A crash at any moment leaves what one before may have left, or the image with another octet in the gate of its
-    // first closed slot.
+    // A crash at any moment leaves what one before may have left, or the image with other octets in its closed gates, or
+    // one that holds what the image held.
     ensures any_moment { IsTrue O.told → EachMoment (O.trace site.old) (O.trace site.new) (Opening (O.trace site.old)) }
     // Only an image that shows no state is refused as one, and nothing is written then.
     ensures puts { O.put_faults site.new ≡ O.put_faults site.old }
@@ -139,8 +160,8 @@ pub fn open<O: Site>(alloc: Global, site: &mut O) -> Result<Opened, OpenFault>
         (λ offset. IsTrue O.told → ShowsNone (O.trace site.old).now.image offset
         × OnlySyncs (O.trace site.old) (O.trace site.new)) result }
 {
-    let Ok(mut room) = plan_room(alloc) else {
+    let Ok(mut text) = plan_room(alloc) else {
         return Err(OpenFault::NoMemory);
     };
-    show(alloc, site, &mut room)
+    show(alloc, site, &mut text, room)
 }

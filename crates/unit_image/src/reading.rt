@@ -1,18 +1,25 @@
-// What the plan and the records of an image say.
-ghost use Rattle.std.specs.Prelude.{◌≡◌, ◌≢◌, ℕ, ◌<◌, ◌≤◌, IsTrue, IfOk, OnOk, MatchOption, MatchResult, length};
+// What the plan, the content and the records of an image say.
+ghost use Rattle.std.specs.Prelude.{◌≡◌, ◌≢◌, ℕ, ◌≤◌, ◌<◌, IsTrue, IfOk, IfErr, OnOk, MatchOption, MatchResult, length};
 ghost use Rattle.sdls_base.specs.declared.change.Change.{Change};
 ghost use Rattle.book_record.specs.Record.{IsRecord};
-ghost use Rattle.disk_journal.specs.Image.{records, held, record_at};
-ghost use Rattle.disk_journal.specs.Journal.{IsOpen};
 ghost use Rattle.unit_state.specs.State.{KeepsRules};
 ghost use Rattle.unit_state.specs.Allows.{Allows};
-ghost use Rattle.unit_image.specs.Shows.{SaysPlan, LeadTo, IsNoChangeAt, IsBadRecord, SaysNone};
-ghost use Rattle.unit_image.specs.OpeningImage.{as_open_fault, HasOpenFault, IsTextCause, TakesRecord};
+ghost use Rattle.unit_image.specs.Shows.{LeadTo, IsNoChangeAt, IsBadRecord};
+ghost use Rattle.unit_image.specs.OpeningImage.{HasOpenFault, TakesRecord};
+ghost use Rattle.book_rows.specs.Rows.{HasRowsCause};
+ghost use Rattle.image_content.specs.declared.layout.TheConstants.{CONTENT_LENGTH};
+ghost use Rattle.disk_journal.specs.Image.{records, held, record_at};
+ghost use Rattle.disk_journal.specs.Journal.{IsOpen};
+ghost use Rattle.unit_image.specs.Shows.{SaysBarePlan, IsContentUnder, SaysNone};
+ghost use Rattle.unit_image.specs.OpeningImage.{as_open_fault, IsNoContent, IsTextCause};
 
 use crate::fault::OpenFault;
 use book_record::{RecordError, read_record};
-use disk_journal::{BODY_LENGTH, Journal, JournalFault, PLAN_AT, PLAN_ROOM, SLOT_COUNT_AT};
-use sdls_base::{Change, NoMemory};
+use book_rows::RowsFault;
+use disk_journal::{Journal, JournalFault};
+use image_content::{CONTENT_LENGTH, read_content};
+use image_parts::{PLAN_AT, PLAN_ROOM, SLOT_COUNT_AT};
+use sdls_base::{BODY_LENGTH, Change, ChannelList, NoMemory};
 use sdls_outside::Site;
 use std::alloc::Global;
 use unit_plan::{Plan, PlanError};
@@ -20,38 +27,30 @@ use unit_state::State;
 
 /// A fault of a journal that is opened or read, as one of the opening.
 pub(crate) fn open_fault(fault: JournalFault) -> OpenFault
-    requires { (slots : ℕ) → fault ≢ JournalFault.Full slots }
     ensures { result ≡ as_open_fault fault }
 {
     match fault {
         JournalFault::SiteFault(count) => OpenFault::SiteFault(count),
         JournalFault::Image(offset) => OpenFault::Image(offset),
-        JournalFault::Full(_) => unreachable!(),
     }
 }
 
-/// A plan, and the state that its lines make.
-#[derive(Drop)]
-pub(crate) struct Planned {
-    pub(crate) plan: Plan,
-    pub(crate) state: State,
-}
-
-/// Reads the text of a plan, and makes its first state.
-fn plan_said(alloc: Global, text: &[u8]) -> Result<Planned, OpenFault>
-    ensures said { MatchResult result (λ planned. SaysPlan text.now planned.plan planned.state) (IsTextCause text.now) }
-    ensures rules { IfOk result (λ planned. KeepsRules planned.state) }
+/// Reads the text of a plan, which has no line of a key or an association.
+fn plan_said(alloc: Global, text: &[u8]) -> Result<Plan, OpenFault>
+    ensures { MatchResult result (SaysBarePlan text.now) (IsTextCause text.now) }
 {
     let plan = match Plan::read(alloc, text) {
         Ok(plan) => plan,
         Err(PlanError::Refused(_)) => return Err(OpenFault::Image(PLAN_AT)),
         Err(PlanError::NoMemory) => return Err(OpenFault::NoMemory),
     };
-    match State::initial(alloc, &plan) {
-        Ok(state) => Ok(Planned { plan, state }),
-        Err(PlanError::Refused(_)) => Err(OpenFault::Image(PLAN_AT)),
-        Err(PlanError::NoMemory) => Err(OpenFault::NoMemory),
+    if !plan.keys().is_empty() {
+        return Err(OpenFault::Image(PLAN_AT));
     }
+    if !plan.associations().is_empty() {
+        return Err(OpenFault::Image(PLAN_AT));
+    }
+    Ok(plan)
 }
 
 /// Reads the plan of an image into `room`, and makes the checks of it.
@@ -60,13 +59,13 @@ pub(crate) fn read_plan<O: Site>(
     journal: &Journal,
     site: &mut O,
     room: &mut [u8],
-) -> Result<Planned, OpenFault>
+) -> Result<Plan, OpenFault>
     requires room { length room.old ≡ PLAN_ROOM }
     requires opened { IsTrue O.told → IsOpen (O.trace site.old) journal.now }
-    ensures said { IsTrue O.told → IfOk result (λ planned.
-        SaysPlan (held (O.trace site.old).now.image).plan planned.plan planned.state
-        × (planned.plan.slots ≡ (held (O.trace site.old).now.image).slots)) }
-    ensures rules { IfOk result (λ planned. KeepsRules planned.state) }
+    ensures said { IsTrue O.told → IfOk result (λ plan.
+        SaysBarePlan (held (O.trace site.old).now.image).plan plan
+        × (plan.slots ≡ (held (O.trace site.old).now.image).slots)) }
+    ensures room { length room.new ≡ PLAN_ROOM }
     ensures same { IsTrue O.told → O.trace site.new ≡ O.trace site.old }
     ensures puts { O.put_faults site.new ≡ O.put_faults site.old }
     ensures fault { HasOpenFault (O.faults site.old) (O.faults site.new)
@@ -78,17 +77,59 @@ pub(crate) fn read_plan<O: Site>(
         Err(fault) => return Err(open_fault(fault)),
     };
     match plan_said(alloc, &room[..count]) {
-        Ok(planned) => {
-            if planned.plan.slots() != journal.slots() {
+        Ok(plan) => {
+            if plan.slots() != journal.slots() {
                 return Err(OpenFault::Image(SLOT_COUNT_AT));
             }
-            Ok(planned)
+            Ok(plan)
         }
         Err(fault) => Err(fault),
     }
 }
 
-/// What the record in a body changes, where the state allows it, or `None`.
+/// The state of a content, under a plan.
+fn state_said(alloc: Global, content: &[u8], plan: &Plan) -> Result<State, RowsFault>
+    requires { length content.now ≡ CONTENT_LENGTH }
+    ensures found { IfOk result (IsContentUnder plan.now content.now) }
+    ensures fault { IfErr result (λ fault. HasRowsCause fault ((state : State)
+        → ¬ IsContentUnder plan.now content.now state)) }
+{
+    let Ok(channels) = Vec::from_slice(alloc, plan.channels()) else {
+        return Err(RowsFault::NoMemory);
+    };
+    read_content(alloc, content, ChannelList::new(channels), plan.device())
+}
+
+/// Reads the content of an image into `room`, and makes the check of it.
+pub(crate) fn read_state<O: Site>(
+    alloc: Global,
+    journal: &Journal,
+    site: &mut O,
+    plan: &Plan,
+    room: &mut [u8],
+) -> Result<State, OpenFault>
+    requires room { length room.old ≡ CONTENT_LENGTH }
+    requires opened { IsTrue O.told → IsOpen (O.trace site.old) journal.now }
+    ensures said { IsTrue O.told → IfOk result (IsContentUnder plan.now (held (O.trace site.old).now.image).content) }
+    ensures rules { IfOk result (λ state. KeepsRules state) }
+    ensures same { IsTrue O.told → O.trace site.new ≡ O.trace site.old }
+    ensures puts { O.put_faults site.new ≡ O.put_faults site.old }
+    ensures fault { HasOpenFault (O.faults site.old) (O.faults site.new)
+        (λ offset. IsTrue O.told → IsNoContent (O.trace site.old).now.image plan.now
+        (held (O.trace site.old).now.image).content offset) result }
+{
+    match journal.content(site, room) {
+        Ok(()) => {}
+        Err(fault) => return Err(open_fault(fault)),
+    }
+    match state_said(alloc, room, plan) {
+        Ok(state) => Ok(state),
+        Err(RowsFault::Unfit) => Err(OpenFault::Image(journal.content_at())),
+        Err(RowsFault::NoMemory) => Err(OpenFault::NoMemory),
+    }
+}
+
+/// What the record in a body changes, if the state allows it, or `None`.
 fn change_in(
     alloc: Global,
     body: &[u8; BODY_LENGTH],

@@ -1,65 +1,177 @@
-//! The store of a change.
-ghost use Rattle.std.specs.Prelude.{◌≡◌, ◌+◌, ◌<◌, ◌≤◌, IsTrue, is_some, IfErr, OnErr, OnOk};
+// The store of a change.
+ghost use Rattle.std.specs.Prelude.{◌≡◌, ◌↔◌, ◌≤◌, IsTrue, is_some, length, IfErr, OnErr, OnOk, MatchOption, None};
+ghost use Rattle.std.specs.Option.{option_and_then};
 ghost use Rattle.sdls_outside.specs.Faults.{Rose};
+ghost use Rattle.unit_state.specs.State.{KeepsRules, key_row};
 ghost use Rattle.unit_state.specs.Allows.{Allows};
-ghost use Rattle.unit_state.specs.Restart.{stored_as};
-ghost use Rattle.unit_state.specs.State.{KeepsRules};
-ghost use Rattle.unit_image.specs.Image.{IsSettled};
-ghost use Rattle.unit_image.specs.Storing.{IsStoreCause, Stores, UnlessFull, slots_taken};
+ghost use Rattle.unit_state.specs.Applied.{applied};
+ghost use Rattle.unit_state.specs.Restart.{IsLight, IsStorable, acceptance_stored, stored_as};
+ghost use Rattle.image_content.specs.declared.layout.TheConstants.{CONTENT_LENGTH};
+ghost use Rattle.disk_journal.specs.Changes.{KeepsBeside};
+ghost use Rattle.disk_journal.specs.Journal.{IsSettled, HasSiteFault};
+ghost use Rattle.unit_image.specs.Storing.{Destroys, Stores, LeavesRest, KeepsPlaces};
 
-use crate::records::stored_record;
+use crate::content_after::write_after;
+use book_record::write_record;
 use disk_journal::{Journal, JournalFault};
-use sdls_base::Change;
+use image_content::CONTENT_LENGTH;
+use sdls_base::{Change, KeyId, KeyState};
 use sdls_outside::Site;
 use thiserror::Error;
 use unit_state::State;
 
-/// Why a change is not stored.
+/// The site failed; the count of its faults, which rose in the call.
 #[derive(Clone, Copy, Debug, PartialEq, Eq, Error)]
-pub enum StoreFault {
-    /// The site failed; the count of its faults, which rose in the call. The image may hold the change or not.
-    #[error("site failed: {0} faults")]
-    SiteFault(u64),
-    /// All slots are used; the number of slots.
-    #[error("journal is full: {0} slots")]
-    Full(u32),
+#[error("site failed: {0} faults")]
+pub struct SiteFault(pub u64);
+
+/// Whether the octets of keys have to be gone after the change.
+fn destroys(change: &Change) -> bool
+    ensures { IsTrue result ↔ Destroys change.now }
+{
+    match change {
+        Change::KeyStates { ids: _, to } => *to == KeyState::Destroyed,
+        _ => false,
+    }
 }
 
-/// Stores a change that the state allows, if anything is stored for it. After `Ok` each crash leaves an image that
-/// shows what a restart leaves of the state after the change. After `SiteFault` the image has to be opened again; `Full`
-/// changes nothing. Takes no memory.
+/// The change that is stored for an acceptance, if it raises the floor of the key.
+fn acceptance(state: &State, key: KeyId, floor: u64) -> Option<Change>
+    ensures { result ≡ option_and_then (acceptance_stored key floor) (key_row state.now key) }
+{
+    let (_, row) = state.keys.find(key)?;
+    if row.floor == floor {
+        return None;
+    }
+    Some(Change::Marks {
+        key,
+        mark: row.mark,
+        floor,
+    })
+}
+
+/// Stores a change of which there are records: by a turn if the octets of keys have to be gone or no slot is free, and
+/// else by a record.
+fn store_storable<O: Site>(
+    journal: &mut Journal,
+    site: &mut O,
+    state: &State,
+    change: &Change,
+    next: Option<&State>,
+    room: &mut [u8],
+) -> Result<(), JournalFault>
+    requires sized { length room.old ≡ CONTENT_LENGTH }
+    requires settled { IsTrue O.told → IsSettled (O.trace site.old) journal.old }
+    requires rules { KeepsRules state.now }
+    requires storable { IsStorable change.now }
+    requires allowed { Allows state.now change.now }
+    requires next { MatchOption next (IsLight change.now) (λ next. next.now ≡ applied state.now change.now) }
+    ensures stores { IsTrue O.told → Stores state.now change.now result journal.new (O.trace site.old)
+        (O.trace site.new) }
+    ensures gone { IsTrue O.told → OnOk result (Destroys change.now
+        → LeavesRest (O.trace site.new) journal.new (applied state.now change.now)) }
+    ensures beside { IsTrue O.told → OnOk result
+        (KeepsBeside journal.old.layout (O.trace site.old).now.image (O.trace site.new).now.image) }
+    ensures places { KeepsPlaces journal.old journal.new }
+    ensures not_counted { OnErr result (journal.new ≡ journal.old) }
+    ensures fault { HasSiteFault (O.faults site.old) (O.faults site.new) result }
+    ensures puts { O.put_faults site.new ≡ O.put_faults site.old }
+{
+    if destroys(change) || journal.used() == journal.slots() {
+        write_after(state, change, next, room);
+        journal.turn(site, room)
+    } else {
+        journal.append(site, &write_record(change))
+    }
+}
+
+/// Stores what is stored for a change, if anything is, with the journal's own answer.
+fn store_change<O: Site>(
+    journal: &mut Journal,
+    site: &mut O,
+    state: &State,
+    change: &Change,
+    next: Option<&State>,
+    room: &mut [u8],
+) -> Result<(), JournalFault>
+    requires sized { length room.old ≡ CONTENT_LENGTH }
+    requires settled { IsTrue O.told → IsSettled (O.trace site.old) journal.old }
+    requires rules { KeepsRules state.now }
+    requires allowed { Allows state.now change.now }
+    requires next { MatchOption next (IsLight change.now) (λ next. next.now ≡ applied state.now change.now) }
+    ensures stores { IsTrue O.told → Stores state.now change.now result journal.new (O.trace site.old)
+        (O.trace site.new) }
+    ensures gone { IsTrue O.told → OnOk result (Destroys change.now
+        → LeavesRest (O.trace site.new) journal.new (applied state.now change.now)) }
+    ensures beside { IsTrue O.told → OnOk result
+        (KeepsBeside journal.old.layout (O.trace site.old).now.image (O.trace site.new).now.image) }
+    ensures places { KeepsPlaces journal.old journal.new }
+    ensures not_counted { OnErr result (journal.new ≡ journal.old) }
+    ensures idle { stored_as state.now change.now ≡ None → (site.new ≡ site.old) × (journal.new ≡ journal.old) }
+    ensures needed { OnErr result (IsTrue (is_some (stored_as state.now change.now))) }
+    ensures fault { HasSiteFault (O.faults site.old) (O.faults site.new) result }
+    ensures puts { O.put_faults site.new ≡ O.put_faults site.old }
+{
+    match change {
+        Change::Nothing => Ok(()),
+        Change::Accepted {
+            spi: _,
+            key,
+            number: _,
+            floor,
+        } => match acceptance(state, *key, *floor) {
+            Some(marks) => store_storable(journal, site, state, &marks, None, room),
+            None => Ok(()),
+        },
+        _ => store_storable(journal, site, state, change, next, room),
+    }
+}
+
+/// Stores a change that the state allows, if anything is stored for it. `next` is the state after the change; for a
+/// change that moves numbers alone it may be `None`. After `Ok` each crash leaves an image that shows what a restart
+/// leaves of the state after the change. After a fault the image may hold the change or not, and has to be opened
+/// again. Takes no memory; `room` holds any octets afterwards.
 pub fn store<O: Site>(
     journal: &mut Journal,
     site: &mut O,
     state: &State,
     change: &Change,
-) -> Result<(), StoreFault>
+    next: Option<&State>,
+    room: &mut [u8],
+) -> Result<(), SiteFault>
+    requires sized { length room.old ≡ CONTENT_LENGTH }
     requires settled { IsTrue O.told → IsSettled (O.trace site.old) journal.old }
     requires rules { KeepsRules state.now }
     requires allowed { Allows state.now change.now }
+    requires next { MatchOption next (IsLight change.now) (λ next. next.now ≡ applied state.now change.now) }
     ensures stores { IsTrue O.told → Stores state.now change.now result journal.new (O.trace site.old)
         (O.trace site.new) }
-    ensures counted { OnOk result (journal.new ≡ record journal.old {
-      used = journal.old.used + slots_taken state.now change.now;
-    }) }
-    ensures free { OnOk result (IsTrue (is_some (stored_as state.now change.now)) → journal.old.used < journal.old.slots) }
+
+    // After a change that takes away the octets of keys, each octet of both banks is stated, in each image that a crash
+    // may leave.
+    ensures gone { IsTrue O.told → OnOk result (Destroys change.now
+        → LeavesRest (O.trace site.new) journal.new (applied state.now change.now)) }
+
+    // What stands before the banks and past them is as it was, and the journal has its places in the image.
+    ensures beside { IsTrue O.told → OnOk result
+        (KeepsBeside journal.old.layout (O.trace site.old).now.image (O.trace site.new).now.image) }
+    ensures places { KeepsPlaces journal.old journal.new }
     ensures not_counted { OnErr result (journal.new ≡ journal.old) }
+
+    // If nothing is stored for the change, nothing is done.
+    ensures idle { stored_as state.now change.now ≡ None → (site.new ≡ site.old) × (journal.new ≡ journal.old) }
+
+    // Only a fault of the site is answered, and only if something is stored.
     ensures needed { OnErr result (IsTrue (is_some (stored_as state.now change.now))) }
-    ensures cause { IfErr result (IsStoreCause journal.old (O.faults site.old) (O.faults site.new)) }
-    ensures untouched { IfErr result (λ fault. UnlessFull fault (site.new ≡ site.old)) }
+    ensures cause { IfErr result (λ fault. Rose (O.faults site.old) (O.faults site.new)
+        × (fault.0 ≡ O.faults site.new)) }
     ensures stood { OnOk result (O.faults site.new ≡ O.faults site.old) }
     ensures later { O.faults site.old ≤ O.faults site.new }
     ensures puts { O.put_faults site.new ≡ O.put_faults site.old }
 {
-    let Some(body) = stored_record(state, change) else {
-        return Ok(());
-    };
-    if journal.used() == journal.slots() {
-        return Err(StoreFault::Full(journal.slots()));
-    }
-    match journal.append(site, &body) {
+    match store_change(journal, site, state, change, next, room) {
         Ok(()) => Ok(()),
-        Err(JournalFault::SiteFault(count)) => Err(StoreFault::SiteFault(count)),
-        Err(_) => unreachable!(),
+        Err(JournalFault::SiteFault(count)) => Err(SiteFault(count)),
+        Err(JournalFault::Image(_)) => unreachable!(),
     }
 }

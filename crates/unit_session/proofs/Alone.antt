@@ -19,7 +19,7 @@ use Rattle.counter_table.specs.Turn.{places, stands}
 use Rattle.counter_table.specs.Whole.{IsWhole, RowStands}
 use Rattle.record_io.specs.declared.records.Record.{Record}
 use Rattle.unit_book.specs.declared.fault.BookFault.{BookFault}
-use Rattle.unit_book.specs.declared.fault.BookFault.TheVariants.{SiteFault, Stopped, SessionFull, JournalFull, NoMemory}
+use Rattle.unit_book.specs.declared.fault.BookFault.TheVariants.{SiteFault, Stopped, SessionFull, NoMemory}
 use Rattle.unit_book.specs.Book.{BookView, PutFails}
 use Rattle.unit_book.specs.Log.{sunk_between}
 use Rattle.run_promise.specs.Log.{entries_of, pieces_of}
@@ -127,7 +127,6 @@ module _ (told : Bool) (octets : List ℕ) (result : Result (Unit {0}) BookFault
   rose_from (Err (SiteFault count)) h = h.0
   rose_from (Err (Stopped count)) h = absurd h
   rose_from (Err SessionFull) h = absurd h
-  rose_from (Err (JournalFull slots)) h = absurd h
   rose_from (Err NoMemory) h = absurd h
 
   rose_since : (r : Result (Unit {0}) BookFault) → OnErr r (Rose found.site.faults given.site.faults)

@@ -9,7 +9,7 @@ use Rattle.counter_table.specs.declared.counters.Worker.{Worker}
 use Rattle.counter_table.specs.declared.view.Opening as openings
 use Rattle.counter_table.specs.Numbers.{top}
 use Rattle.counter_table.specs.Worker.{view}
-use Rattle.unit_image.specs.Image.{held, slots_of, used_of}
+use Rattle.unit_image.specs.Image.{held}
 use Rattle.record_io.specs.Reading.{SourceSeen}
 use Rattle.unit_plan.specs.Plan.{plan_of}
 use Rattle.unit_plan.specs.PlanLines.{PlanLines}
@@ -20,7 +20,6 @@ use Rattle.unit_image.specs.OpeningImage.{Opening}
 use Rattle.unit_image.specs.Shows.{Shows}
 use Rattle.run_promise.specs.Site.{SiteSeen}
 use Rattle.run_promise.specs.Log.{entries_of}
-use Rattle.run_promise.specs.Stored.{stored_count}
 use Rattle.unit_book.specs.Book.{BookView}
 use Rattle.run_promise.specs.Numbers.{mark_at}
 use Rattle.shared_unit.specs.Sharing.{Begins, BookIsOpened}
@@ -28,7 +27,7 @@ use Rattle.shared_unit.specs.Told.{known_of_book}
 use Rattle.law_workers.specs.Began.{BeganWith}
 use Rattle.law_runs.specs.Coming.{HasCome}
 use Rattle.law_runs.specs.Ending.{PutsEnd}
-use Rattle.law_runs.specs.Ran.{CountsSlots, Ran, begin_by}
+use Rattle.law_runs.specs.Ran.{Ran, begin_by}
 use Rattle.run_promise.specs.declared.end.RunEnd.{RunEnd}
 use Rattle.unit_session.specs.Running.{RunsUnit}
 
@@ -71,31 +70,27 @@ module _ {B : Type 0} (told : Bool) (site after : SiteSeen) (opened : BookView) 
   shows : IsTrue told → Shows site.trace.now.image runs.book.start
   shows is_told = subst (Shows site.trace.now.image) (sym start_is) (here.shows is_told).0
 
-  began : BeganWith told (begin_by told site.trace.now.image runs.book.plan runs.book.start) (view worker).turn.known.opening
+  began : BeganWith told (begin_by told runs.book.plan runs.book.start) (view worker).turn.known.opening
   began =
       let first : (known_of_book runs.book).opening ≡ (view worker).turn.known.opening = runs.closes.follows.opening ∙ runs.opening in
-      let same : (view worker).turn.known.opening.image ≡ site.trace.now.image =
-      ap (λ (o : openings.Opening). o.image) (sym first) ∙ image_is in
       record {
         rows = refl;
         tells = refl;
         plan = ap (λ (o : openings.Opening). o.plan) (sym first);
         start = ap (λ (o : openings.Opening). o.start) (sym first);
-        slots = λ is_told. ap slots_of (sym same);
-        used = λ is_told. ap (λ (i : List ℕ). used_of i) (sym same);
       }
 
-  come : HasCome source source_after (begin_by told site.trace.now.image runs.book.plan runs.book.start) (view worker) runs.now
+  come : HasCome source source_after (begin_by told runs.book.plan runs.book.start) (view worker) runs.now
       site.put_faults runs.book.site.put_faults runs.book.standing runs.came
   come =
       let before : (view worker).turn.known.put_faults ≡ site.put_faults = begins.put_faults ∙ here.puts_same in
-      subst (λ (n : ℕ). HasCome source source_after (begin_by told site.trace.now.image runs.book.plan runs.book.start) (view worker) runs.now
+      subst (λ (n : ℕ). HasCome source source_after (begin_by told runs.book.plan runs.book.start) (view worker) runs.now
       n runs.book.site.put_faults runs.book.standing runs.came) before
-      (subst (λ (n : ℕ). HasCome source source_after (begin_by told site.trace.now.image runs.book.plan runs.book.start) (view worker) runs.now
+      (subst (λ (n : ℕ). HasCome source source_after (begin_by told runs.book.plan runs.book.start) (view worker) runs.now
       (view worker).turn.known.put_faults n runs.book.standing runs.came) (sym runs.closes.as_known.put_faults)
-      (subst (λ (n : ℕ). HasCome source source_after (begin_by told site.trace.now.image runs.book.plan runs.book.start) (view worker) runs.now
+      (subst (λ (n : ℕ). HasCome source source_after (begin_by told runs.book.plan runs.book.start) (view worker) runs.now
       (view worker).turn.known.put_faults runs.now.turn.known.put_faults n runs.came) (sym runs.closes.as_known.standing)
-      (runs.comes (begin_by told site.trace.now.image runs.book.plan runs.book.start) began)))
+      (runs.comes (begin_by told runs.book.plan runs.book.start) began)))
 
   pub has_run : ((text : List ℕ) (plan : PlanLines) → plan_of text ≡ Ok plan → IsPlan plan)
       → ((image : List ℕ) (state : State) → Shows image state → restarted state ≡ state)
@@ -129,14 +124,3 @@ module _ {B : Type 0} (told : Bool) (site after : SiteSeen) (opened : BookView) 
     rows = runs.closes.rows;
     stand = runs.closes.each;
   }
-
-  -- the slots of the image are counted to the end
-  pub counts : CountsSlots told site.trace.now.image runs.finishes.last
-  counts = λ is_told stood.
-      let counted = runs.finishes.kept.counted is_told stood in
-      let same : runs.finishes.last.image ≡ site.trace.now.image =
-      image_stays told runs.came runs.finishes.end runs.finishes.released runs.finishes.last status runs.finishes.puts_end
-      ∙ runs.finishes.goes_on.image ∙ image_is in (
-        counted.slots ∙ ap slots_of same,
-        counted.used ∙ ap (λ (i : List ℕ). used_of i + stored_count runs.finishes.last.start (entries_of runs.finishes.last.log)) same,
-      )

@@ -9,7 +9,6 @@ use Rattle.sdls_base.specs.declared.TheConstants.{MOST_KEYS}
 use Rattle.counter_table.specs.declared.view.Opening.{Opening}
 use Rattle.counter_table.specs.declared.view.View.{View}
 use Rattle.counter_table.specs.Whole.{IsWhole}
-use Rattle.unit_image.specs.Image.{slots_of, used_of}
 use Rattle.record_io.specs.declared.answers.Answer.{Answer}
 use Rattle.record_io.specs.declared.records.Record.{Record}
 use Rattle.record_io.specs.Answers.{answers_octets}
@@ -41,8 +40,6 @@ begin_with told opening = record {
   told = told;
   plan = opening.plan;
   start = opening.start;
-  slots = slots_of opening.image;
-  used = used_of opening.image;
 }
 
 pub began_with : (told : Bool) (opening : Opening) → BeganWith told (begin_with told opening) opening
@@ -51,8 +48,6 @@ began_with told opening = record {
   tells = refl;
   plan = refl;
   start = refl;
-  slots = λ is_told. refl;
-  used = λ is_told. refl;
 }
 
 -- an entry is made of a record that is neither a Protect record nor a Monitor record

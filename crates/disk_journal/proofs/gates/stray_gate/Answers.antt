@@ -1,22 +1,23 @@
-use Rattle.std.proofs.Common.{◌≤◌, ◌<◌, ◌∙◌, ℕ, Some, ap, sym, arith}
-use Rattle.sdls_outside.specs.Moments.{Trace}
-use Rattle.disk_journal.specs.Slots.{gate_at}
-use Rattle.disk_journal.proofs.Failing.{stray_found, stray_none}
+use Rattle.std.proofs.Common.{ℕ, ◌+◌, ◌-◌, ◌<◌, ◌∙◌, Some, sym, ap, arith}
+use Rattle.disk_journal.specs.Banks.{gate_at}
+use Rattle.disk_journal.proofs.GateChecks.{first_other, closed_pass}
 use Rattle.disk_journal.proofs.gates.stray_gate.Goals as goal
 
-pub returns-then-branch-ne-CLOSED-clause-found : goal.returns-then-branch-ne-CLOSED-clause-found
-returns-then-branch-ne-CLOSED-clause-found g c = λ told.
-    let gate_is = c.in_ok-gate.ensures.gate told
-    ∙ ap (λ (trace : Trace). gate_at trace.now.image c.loop-index.index) (c.loop-index.invariant.same told) in
-    let low : c.args.from ≤ c.loop-index.index = omega arith in
-    let below : c.loop-index.index < c.args.slots = omega arith in
+pub returns-then-index-layout-clause-found : goal.returns-then-index-layout-clause-found
+returns-then-index-layout-clause-found g c = λ told.
+    let gate = gate_at c.args.layout (g.O.Site.trace c.args.site.now).now.image c.args.bank in
+    let found = c.in_ok-index.ensures.found told in
+    let below = c.if-index-layout.true in
+    let low = found.reached below in
+    let high : c.in_ok-index.index < c.args.from + (c.args.layout.slots - c.args.from) = omega (arith, low, below) in
     ap (λ (at : ℕ). Some at) c.slot_offset.ensures
-    ∙ sym (stray_found (gate_at (g.O.Site.trace c.args.site.now).now.image) c.args.from c.args.slots c.loop-index.index low below
-    (c.loop-index.invariant.before told) (λ zero. c.if-branch-ne-CLOSED.true (gate_is ∙ zero)))
+    ∙ sym (first_other c.args.layout c.args.bank gate (c.args.layout.slots - c.args.from) c.args.from c.in_ok-index.index
+    low high found.before (found.other below))
 
 pub returns-clause-found : goal.returns-clause-found
 returns-clause-found g c = λ told.
-    sym (stray_none (gate_at (g.O.Site.trace c.args.site.now).now.image) c.args.from c.args.slots
-    (λ k low below.
-    let passed : k < c.loop-index.index = omega arith in
-    c.loop-index.invariant.before told k low passed))
+    let gate = gate_at c.args.layout (g.O.Site.trace c.args.site.now).now.image c.args.bank in
+    let found = c.in_ok-index.ensures.found told in
+    let all = c.if-index-layout.false in
+    sym (closed_pass c.args.layout c.args.bank gate (c.args.layout.slots - c.args.from) c.args.from
+    (λ k low high. let below : k < c.in_ok-index.index = omega (arith, all) in found.before k low below))

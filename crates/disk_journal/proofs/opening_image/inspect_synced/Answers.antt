@@ -1,6 +1,7 @@
 use Rattle.std.proofs.Common.{◌∙◌, inl, inr}
 use Rattle.sdls_outside.specs.Site.{Synced}
-use Rattle.disk_journal.proofs.Verdicts.{synced_between, same_verdict, on_ok_so}
+use Rattle.image_parts.proofs.Calls.{synced_between, on_ok_so}
+use Rattle.disk_journal.proofs.Verdicts.{same_verdict}
 use Rattle.disk_journal.proofs.opening_image.inspect_synced.Goals as goal
 
 pub returns-in_err-image_length-clause-unchanged : goal.returns-in_err-image_length-clause-unchanged

@@ -6,4 +6,4 @@ pub returns : goal.returns
 returns c = λ call empty reads.
     c.sound_reading_keeps_lives.ensures call
     (λ plan state shows. c.no_records_are_sound.ensures call (no_account call) plan state shows empty)
-    (λ is_told plan state shows. reads_soundly (λ image state shown. c.opening_keeps_forms.ensures.one image shown.holds.opens) c.shows_one.ensures call plan state shows is_told reads)
+    (λ is_told plan state shows. reads_soundly c.shows_one.ensures call plan state shows is_told reads)

@@ -18,7 +18,7 @@ returns-in-Ok-clause-ends g c =
       text = told.1;
       due = told_due g.O.Site.told _ (g.O.Site.trace site).now.image told.1 book told.0 told.2 c.in-Ok.ensures.plan
           (λ is. subst (Shows (g.O.Site.trace site).now.image) (sym start) (c.in-Ok.ensures.shows is).0)
-          (λ is. (c.in-Ok.ensures.shows is).2.used);
+          c.in-Ok.ensures.used;
       put = puts_from g.O.Site.told told.1 (stat_status told.0) c.tell_state.result.status (g.O.Site.trace site) book.site.trace (g.O.Site.trace last)
           (Rose (g.O.Site.faults site) (g.O.Site.faults last)) (Rose book.site.faults (g.O.Site.faults last)) (λ late. omega (arith, late))
           (λ is. sunk_same (g.O.Site.trace site) book.site.trace (c.in-Ok.ensures.stays is) (c.in-Ok.ensures.any_moment is)) told.3;

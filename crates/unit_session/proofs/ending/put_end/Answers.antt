@@ -4,7 +4,7 @@ use Rattle.sdls_outside.specs.Site as sites
 use Rattle.record_io.specs.declared.answers.Answer.{Answer}
 use Rattle.record_io.specs.Answers.{answer_octets}
 use Rattle.unit_book.specs.declared.fault.BookFault.{BookFault}
-use Rattle.unit_book.specs.declared.fault.BookFault.TheVariants.{SiteFault, Stopped, SessionFull, JournalFull, NoMemory}
+use Rattle.unit_book.specs.declared.fault.BookFault.TheVariants.{SiteFault, Stopped, SessionFull, NoMemory}
 use Rattle.unit_book.specs.Book.{PutFails}
 use Rattle.run_promise.specs.Log.{entries_of}
 use Rattle.run_promise.specs.declared.end.RunEnd.TheVariants as ends
@@ -15,7 +15,6 @@ rose_of : (before now : ℕ) (fault : BookFault) → PutFails before now fault �
 rose_of before now (SiteFault count) is = is.0
 rose_of before now (Stopped count) is = absurd is
 rose_of before now SessionFull is = absurd is
-rose_of before now (JournalFull slots) is = absurd is
 rose_of before now NoMemory is = absurd is
 
 pub returns-clause-ends : goal.returns-clause-ends

@@ -6,7 +6,7 @@ use Rattle.counter_table.specs.Worker.{view}
 use Rattle.run_promise.specs.Lives.{EndsAndLives}
 use Rattle.run_promise.specs.Site.{SiteSeen, site_seen}
 use Rattle.unit_session.specs.Running.{PutsRefusal, RunsUnit}
-use Rattle.unit_session.proofs.Closed.{counts, has_run}
+use Rattle.unit_session.proofs.Closed.{has_run}
 use Rattle.unit_session.proofs.running.run_recorded.Goals as goal
 
 pub returns-in-Ok : goal.returns-in-Ok
@@ -26,8 +26,6 @@ returns-in-Ok g c =
     (has_run told (seen c.args.site) (seen c.serve_unit.result.site) book c.in-Ok.unit.counters c.in-Ok.unit.plan c.in-Ok.worker opened begins source after
     entries c.serve_unit.result.status runs c.shown_keeps_rules.ensures.plan c.shown_keeps_rules.ensures.left)
     runs.finishes
-    (counts told (seen c.args.site) (seen c.serve_unit.result.site) book c.in-Ok.unit.counters c.in-Ok.unit.plan c.in-Ok.worker opened begins source after
-    entries c.serve_unit.result.status runs)
 
 pub returns-in-Err : goal.returns-in-Err
 returns-in-Err g c =

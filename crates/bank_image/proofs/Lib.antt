@@ -1,6 +1,0 @@
-pub mod Leading
-pub mod Shown
-pub mod Turned
-pub mod Restarted
-pub mod ContentAfter
-pub mod Stored

@@ -1,0 +1,292 @@
+-- A whole turn.
+use Rattle.std.proofs.Common.{◌≡◌, ℕ, ◌+◌, ◌-◌, ◌<◌, ◌≤◌, ◌∷◌, ◌∙◌, List, [], length, get_or, refl, sym, ap, subst, inl, inr, arith}
+use Rattle.disk_journal.proofs.Keeping.{beside_of, beside_then, fresh_generation}
+use Rattle.disk_journal.proofs.Stands.{Stands, opens_stands, stands_at, stands_current, stands_opens, stands_records, twice_other}
+use Rattle.disk_journal.proofs.Turns.{IsNew, Opened, Starts, Turns, after, bank_within, before, first_step, fourth_step, gate_inside, gate_torn, is_filled, later_fits, new_holds, new_rests, new_stands, rest_new, second_step, third_step, with_other_gate}
+use Rattle.disk_journal.proofs.Zeros.{cleared}
+use Rattle.disk_journal.specs.Banks.{bank_at, bank_length, gate_at, generation_at, head_length, next, other, slot_at}
+use Rattle.disk_journal.specs.Changes.{IsCleared, IsZero, KeepsBeside, Steps, filled, with_gate}
+use Rattle.disk_journal.specs.Forms.{Becomes, Holds}
+use Rattle.disk_journal.specs.Image.{current, current_at, first_closed, held, image_layout, other_at, plan_of, records, turned}
+use Rattle.disk_journal.specs.Journal.{IsSettled, IsSettledImage, JournalView}
+use Rattle.disk_journal.specs.Rest.{IsRest, IsRestIn}
+use Rattle.disk_journal.specs.declared.layout.Bank.{Bank}
+use Rattle.disk_journal.specs.declared.layout.Layout.{Layout}
+use Rattle.image_parts.proofs.Moments.{image_weaker, synced_holds}
+use Rattle.image_parts.proofs.Ranges.{overwritten_but, overwritten_one}
+use Rattle.image_parts.specs.Changes.{AllBut, EachImage}
+use Rattle.image_parts.specs.declared.layout.TheConstants.{CLOSED, OPEN}
+use Rattle.sdls_outside.specs.Disk.{IsSynced, Leaves}
+use Rattle.sdls_outside.specs.Moments.{Trace}
+use Rattle.std.proofs.lemmas.Bool.{cases_eq}
+
+-- a journal at rest can turn
+pub starts_of : (image : List ℕ) (journal : JournalView) → IsSettledImage image journal → Starts image (image_layout image) (current image) (records image)
+starts_of image journal settled = record {
+  stands = opens_stands image settled.of_image.opens;
+  free = λ room. elim (cases_eq (gate_at (image_layout image) image (current_at image) (first_closed image)) CLOSED) [
+    | inl shut ↦ shut
+    | inr torn ↦ absurd (settled.rests (slot_at (image_layout image) (current_at image) (first_closed image)) (torn, inl (room, refl)))
+  ];
+  spare = settled.spare;
+}
+
+pub turns_of : (image text : List ℕ) (journal : JournalView) (generation : ℕ) → IsSettledImage image journal → length text ≡ (image_layout image).content_length
+    → generation ≡ next journal.generation → Turns image (image_layout image) generation (current image) (records image) text
+turns_of image text journal generation settled sized later = record {
+  starts = starts_of image journal settled;
+  sized = sized;
+  later = later ∙ ap next settled.of_image.generation;
+}
+
+-- the images between the steps
+opened_image : (old : List ℕ) (layout : Layout) (generation : ℕ) (bank : Bank) (bodies : List (List ℕ)) (text : List ℕ)
+    → Turns old layout generation bank bodies text
+    → Opened old layout generation bank text (with_gate OPEN (bank_at layout (other bank)) (filled (bank_at layout (other bank)) generation text old))
+opened_image old layout generation bank bodies text turns =
+    let to = bank_at layout (other bank) in
+    let mid = filled to generation text old in
+    let made = is_filled old layout generation bank bodies text turns in
+    let long : length mid ≡ length old = made.change.same_length in
+    let inside : to < length old = gate_inside old layout (other bank) turns.starts.stands.front in
+    with_other_gate old mid (with_gate OPEN to mid) layout generation bank text made
+    (overwritten_but mid to (OPEN ∷ []) (omega arith)) (overwritten_one mid to OPEN (omega arith))
+
+pub record Closed (old : List ℕ) (layout : Layout) (generation : ℕ) (bank : Bank) (text image : List ℕ) : Type 0 where
+  pub is_new : IsNew old layout generation (other bank) text image
+  pub shut : get_or image (bank_at layout bank) 0 ≡ CLOSED
+
+closed_image : (old : List ℕ) (layout : Layout) (generation : ℕ) (bank : Bank) (bodies : List (List ℕ)) (text : List ℕ)
+    → Turns old layout generation bank bodies text
+    → Closed old layout generation bank text
+    (with_gate CLOSED (bank_at layout bank) (with_gate OPEN (bank_at layout (other bank)) (filled (bank_at layout (other bank)) generation text old)))
+closed_image old layout generation bank bodies text turns =
+    let from = bank_at layout bank in
+    let to = bank_at layout (other bank) in
+    let mid = with_gate OPEN to (filled to generation text old) in
+    let opened = opened_image old layout generation bank bodies text turns in
+    let long : length mid ≡ length old = opened.change.same_length in
+    let inside : from < length old = gate_inside old layout bank turns.starts.stands.front in
+    record {
+      is_new = gate_torn old mid (with_gate CLOSED from mid) layout generation bank bodies text turns opened
+          (overwritten_but mid from (CLOSED ∷ []) (omega arith));
+      shut = overwritten_one mid from CLOSED (omega arith);
+    }
+
+-- each moment
+pub steps_become : (old : List ℕ) (layout : Layout) (generation : ℕ) (bank : Bank) (bodies : List (List ℕ)) (text image : List ℕ)
+    → Turns old layout generation bank bodies text
+    → Steps (bank_at layout bank) (bank_at layout (other bank)) (head_length layout) (bank_length layout) generation text old image
+    → Becomes (before old layout bank bodies) (after old layout text) image
+steps_become old layout generation bank bodies text image turns (inl change) =
+    first_step old layout generation bank bodies text image turns change
+steps_become old layout generation bank bodies text image turns (inr (inl change)) =
+    second_step old (filled (bank_at layout (other bank)) generation text old) image layout generation bank bodies text turns
+    (is_filled old layout generation bank bodies text turns) change
+steps_become old layout generation bank bodies text image turns (inr (inr (inl change))) =
+    third_step old (with_gate OPEN (bank_at layout (other bank)) (filled (bank_at layout (other bank)) generation text old)) image
+    layout generation bank bodies text turns (opened_image old layout generation bank bodies text turns) change
+steps_become old layout generation bank bodies text image turns (inr (inr (inr change))) =
+    let closed = closed_image old layout generation bank bodies text turns in
+    fourth_step old (with_gate CLOSED (bank_at layout bank) (with_gate OPEN (bank_at layout (other bank)) (filled (bank_at layout (other bank)) generation text old)))
+    image layout generation bank bodies text closed.is_new closed.shut change
+
+-- the end
+abbrev pub fresh_view : ℕ → Layout → Bank → ℕ → JournalView
+fresh_view plan_length layout bank generation = record {
+  plan_length = plan_length;
+  layout = layout;
+  bank = bank;
+  generation = generation;
+  used = 0;
+}
+
+pub record Ended (old : List ℕ) (layout : Layout) (generation : ℕ) (bank : Bank) (text image : List ℕ) : Type 0 where
+  pub of_image : (plan_length : ℕ) → plan_length ≡ length (plan_of old)
+      → IsSettledImage image (fresh_view plan_length layout (other bank) generation)
+  pub holds : Holds image (after old layout text)
+  pub beside : KeepsBeside layout old image
+  pub rest : IsRest image (other bank) generation text
+
+pub zero_all : (from size : ℕ) (image : List ℕ) → get_or image from 0 ≡ CLOSED → IsZero (from + 1) (from + size) image → IsZero from (from + size) image
+zero_all from size image first rest i low high = elim (cases_eq i from) [
+  | inl same ↦ ap (λ (k : ℕ). get_or image k 0) same ∙ first
+  | inr other ↦ rest i (omega arith) high
+]
+
+ended_beside : (old : List ℕ) (layout : Layout) (generation : ℕ) (bank : Bank) (bodies : List (List ℕ)) (text image : List ℕ)
+    → Turns old layout generation bank bodies text
+    → AllBut (bank_at layout bank + 1) (bank_length layout - 1)
+    (with_gate CLOSED (bank_at layout bank) (with_gate OPEN (bank_at layout (other bank)) (filled (bank_at layout (other bank)) generation text old))) image
+    → KeepsBeside layout old image
+ended_beside old layout generation bank bodies text image turns change =
+    let from = bank_at layout bank in
+    let to = bank_at layout (other bank) in
+    let mid = with_gate OPEN to (filled to generation text old) in
+    let opened = opened_image old layout generation bank bodies text turns in
+    let long : length mid ≡ length old = opened.change.same_length in
+    let inside : from < length old = gate_inside old layout bank turns.starts.stands.front in
+    beside_then layout old mid image (beside_of to (head_length layout) layout (other bank) old mid opened.change (omega arith) (omega arith))
+    (beside_then layout mid (with_gate CLOSED from mid) image
+    (beside_of from 1 layout bank mid (with_gate CLOSED from mid) (overwritten_but mid from (CLOSED ∷ []) (omega arith)) (omega arith) (omega arith))
+    (beside_of (from + 1) (bank_length layout - 1) layout bank (with_gate CLOSED from mid) image change (omega arith) (omega arith)))
+
+pub ended : (old : List ℕ) (layout : Layout) (generation : ℕ) (bank : Bank) (bodies : List (List ℕ)) (text image : List ℕ)
+    → Turns old layout generation bank bodies text
+    → IsCleared (bank_at layout bank) (bank_length layout)
+    (with_gate CLOSED (bank_at layout bank) (with_gate OPEN (bank_at layout (other bank)) (filled (bank_at layout (other bank)) generation text old))) image
+    → Ended old layout generation bank text image
+ended old layout generation bank bodies text image turns cleared =
+    let from = bank_at layout bank in
+    let closed = closed_image old layout generation bank bodies text turns in
+    let mid = with_gate CLOSED from (with_gate OPEN (bank_at layout (other bank)) (filled (bank_at layout (other bank)) generation text old)) in
+    let image_new : IsNew old layout generation (other bank) text image =
+    rest_new old mid image layout generation bank text closed.is_new closed.shut cleared.change in
+    let shut : get_or image from 0 ≡ CLOSED = cleared.change.outside from (inl (omega arith)) ∙ closed.shut in
+    let stands : Stands image layout (other bank) [] = new_stands old layout generation (other bank) text image image_new in
+    let count : image_layout image ≡ layout = image_new.front.same_layout in
+    let is_current : current image ≡ other bank = stands_current image layout (other bank) [] stands in
+    let none : records image ≡ [] = stands_records image layout (other bank) [] stands in
+    let empty : IsZero from (from + bank_length layout) image = zero_all from (bank_length layout) image shut cleared.zero in
+    let spare : IsZero (bank_at layout (other (other bank))) (bank_at layout (other (other bank)) + bank_length layout) image =
+    subst (λ (back : Bank). IsZero (bank_at layout back) (bank_at layout back + bank_length layout) image) (sym (twice_other bank)) empty in
+    let spare_there : IsZero (other_at image) (other_at image + bank_length (image_layout image)) image =
+    subst (λ (n : Layout). IsZero (bank_at n (other (current image))) (bank_at n (other (current image)) + bank_length n) image) (sym count)
+    (subst (λ (one : Bank). IsZero (bank_at layout (other one)) (bank_at layout (other one) + bank_length layout) image) (sym is_current) spare) in
+    record {
+      of_image = λ plan_length planned. record {
+        of_image = record {
+          opens = stands_opens image layout (other bank) [] stands;
+          plan = planned ∙ ap (λ (text : List ℕ). length text) (sym image_new.plan);
+          layout = sym count;
+          bank = sym is_current;
+          generation = sym (ap (λ (at : ℕ). generation_at image at) (stands_at image layout (other bank) [] stands)
+              ∙ fresh_generation (bank_at layout (other bank)) layout generation text image image_new.fresh (later_fits old layout generation bank bodies text turns));
+          used = ap (λ (some : List (List ℕ)). length some) (sym none);
+        };
+        rests = new_rests old image layout generation bank text image_new shut;
+        spare = spare_there;
+      };
+      holds = new_holds old layout generation (other bank) text image image_new;
+      beside = ended_beside old layout generation bank bodies text image turns cleared.change;
+      rest = subst (λ (n : Layout). IsRestIn n image (other bank) generation text) (sym count) (record {
+        is_current = is_current;
+        gate = image_new.gate;
+        has_generation = image_new.fresh.has_generation;
+        has_content = image_new.fresh.has_content;
+        zero_slots = image_new.fresh.zero;
+        spare = spare;
+      });
+    }
+
+-- where a call of turn writes, told by its journal and by its image
+pub record Written (image : List ℕ) (journal : JournalView) (from to generation : ℕ) (bank : Bank) : Type 0 where
+  pub of_image : IsSettledImage image journal
+  pub from_is : from ≡ bank_at journal.layout journal.bank
+  pub bank_is : bank ≡ other journal.bank
+  pub to_is : to ≡ bank_at journal.layout bank
+  pub later : generation ≡ next journal.generation
+
+pub record Placed (image : List ℕ) (journal : JournalView) (from to : ℕ) (bank : Bank) : Type 0 where
+  pub same_layout : journal.layout ≡ image_layout image
+  pub from_same : from ≡ current_at image
+  pub to_same : to ≡ other_at image
+  pub bank_same : bank ≡ other (current image)
+
+pub placed : (image : List ℕ) (journal : JournalView) (from to generation : ℕ) (bank : Bank) → Written image journal from to generation bank
+    → Placed image journal from to bank
+placed image journal from to generation bank written =
+    let layout : journal.layout ≡ image_layout image = written.of_image.of_image.layout in
+    let here : journal.bank ≡ current image = written.of_image.of_image.bank in
+    let bank_same : bank ≡ other (current image) = written.bank_is ∙ ap other here in
+    record {
+      same_layout = layout;
+      from_same = written.from_is ∙ ap (λ (n : Layout). bank_at n journal.bank) layout ∙ ap (bank_at (image_layout image)) here;
+      to_same = written.to_is ∙ ap (λ (n : Layout). bank_at n bank) layout ∙ ap (bank_at (image_layout image)) bank_same;
+      bank_same = bank_same;
+    }
+
+pub turn_within : (old : Trace) (journal : JournalView) (from to generation : ℕ) (bank : Bank) → Written old.now.image journal from to generation bank
+    → (from + bank_length journal.layout ≤ length old.now.image) × (to + bank_length journal.layout ≤ length old.now.image)
+turn_within old journal from to generation bank written =
+    let image = old.now.image in
+    let at = placed image journal from to generation bank written in
+    let front = (starts_of image journal written.of_image).stands.front in (
+      subst (λ (n : ℕ). n + bank_length journal.layout ≤ length image) (sym at.from_same)
+          (subst (λ (n : Layout). current_at image + bank_length n ≤ length image) (sym at.same_layout)
+          (bank_within image (image_layout image) (current image) front)),
+      subst (λ (n : ℕ). n + bank_length journal.layout ≤ length image) (sym at.to_same)
+          (subst (λ (n : Layout). other_at image + bank_length n ≤ length image) (sym at.same_layout)
+          (bank_within image (image_layout image) (other (current image)) front)),
+    )
+
+sized_there : (image : List ℕ) (journal : JournalView) (text : List ℕ) → IsSettledImage image journal
+    → length text ≡ journal.layout.content_length → length text ≡ (image_layout image).content_length
+sized_there image journal text settled sized = sized ∙ ap (λ (one : Layout). one.content_length) settled.of_image.layout
+
+pub turn_moments : (old new : Trace) (journal : JournalView) (text : List ℕ) (from to generation : ℕ) (bank : Bank)
+    → Written old.now.image journal from to generation bank → length text ≡ journal.layout.content_length
+    → EachImage old new (Steps from to (head_length journal.layout) (bank_length journal.layout) generation text old.now.image)
+    → EachImage old new (Becomes (held old.now.image) (turned text (held old.now.image)))
+turn_moments old new journal text from to generation bank written sized each =
+    let image = old.now.image in
+    let at = placed image journal from to generation bank written in
+    image_weaker old new (Steps from to (head_length journal.layout) (bank_length journal.layout) generation text image) (Becomes (held image) (turned text (held image)))
+    (λ left steps.
+    steps_become image (image_layout image) generation (current image) (records image) text left
+    (turns_of image text journal generation written.of_image (sized_there image journal text written.of_image sized) written.later)
+    (subst (λ (n : Layout). Steps (current_at image) (other_at image) (head_length n) (bank_length n) generation text image left) at.same_layout
+    (subst (λ (n : ℕ). Steps (current_at image) n (head_length journal.layout) (bank_length journal.layout) generation text image left) at.to_same
+    (subst (λ (n : ℕ). Steps n to (head_length journal.layout) (bank_length journal.layout) generation text image left) at.from_same steps))))
+    each
+
+pub turn_ended : (old new : Trace) (journal : JournalView) (text : List ℕ) (from to generation : ℕ) (bank : Bank)
+    → Written old.now.image journal from to generation bank → length text ≡ journal.layout.content_length
+    → IsCleared from (bank_length journal.layout) (with_gate CLOSED from (with_gate OPEN to (filled to generation text old.now.image))) new.now.image
+    → Ended old.now.image (image_layout old.now.image) generation (current old.now.image) text new.now.image
+turn_ended old new journal text from to generation bank written sized cleared =
+    let image = old.now.image in
+    let at = placed image journal from to generation bank written in
+    ended image (image_layout image) generation (current image) (records image) text new.now.image
+    (turns_of image text journal generation written.of_image (sized_there image journal text written.of_image sized) written.later)
+    (subst (λ (n : Layout). IsCleared (current_at image) (bank_length n)
+    (with_gate CLOSED (current_at image) (with_gate OPEN (other_at image) (filled (other_at image) generation text image))) new.now.image) at.same_layout
+    (subst (λ (n : ℕ). IsCleared (current_at image) (bank_length journal.layout)
+    (with_gate CLOSED (current_at image) (with_gate OPEN n (filled n generation text image))) new.now.image) at.to_same
+    (subst (λ (n : ℕ). IsCleared n (bank_length journal.layout)
+    (with_gate CLOSED n (with_gate OPEN to (filled to generation text image))) new.now.image) at.from_same cleared)))
+
+pub turn_stored : (old new : Trace) (journal : JournalView) (text : List ℕ) (from to generation : ℕ) (bank : Bank)
+    → Written old.now.image journal from to generation bank → length text ≡ journal.layout.content_length
+    → IsSynced new.now × IsCleared from (bank_length journal.layout) (with_gate CLOSED from (with_gate OPEN to (filled to generation text old.now.image))) new.now.image
+    → IsSettled new (fresh_view journal.plan_length journal.layout bank generation) × (held new.now.image ≡ turned text (held old.now.image))
+turn_stored old new journal text from to generation bank written sized stored =
+    let at = placed old.now.image journal from to generation bank written in
+    let end = turn_ended old new journal text from to generation bank written sized stored.1 in (
+      record {
+        synced = stored.0;
+        of_image = subst (λ (n : Layout). IsSettledImage new.now.image (fresh_view journal.plan_length n bank generation)) (sym at.same_layout)
+            (subst (λ (one : Bank). IsSettledImage new.now.image (fresh_view journal.plan_length (image_layout old.now.image) one generation)) (sym at.bank_same)
+            (end.of_image journal.plan_length written.of_image.of_image.plan));
+      },
+      end.holds.is,
+    )
+
+pub turn_rest : (old new : Trace) (journal : JournalView) (text : List ℕ) (from to generation : ℕ) (bank : Bank)
+    → Written old.now.image journal from to generation bank → length text ≡ journal.layout.content_length
+    → IsSynced new.now × IsCleared from (bank_length journal.layout) (with_gate CLOSED from (with_gate OPEN to (filled to generation text old.now.image))) new.now.image
+    → (image : List ℕ) → Leaves new.now image → IsRest image bank generation text
+turn_rest old new journal text from to generation bank written sized stored image leaves =
+    let at = placed old.now.image journal from to generation bank written in
+    let end = turn_ended old new journal text from to generation bank written sized stored.1 in
+    synced_holds new.now (λ left. IsRest left bank generation text) stored.0
+    (subst (λ (one : Bank). IsRest new.now.image one generation text) (sym at.bank_same) end.rest) image leaves
+
+pub turn_beside : (old new : Trace) (journal : JournalView) (text : List ℕ) (from to generation : ℕ) (bank : Bank)
+    → Written old.now.image journal from to generation bank → length text ≡ journal.layout.content_length
+    → IsSynced new.now × IsCleared from (bank_length journal.layout) (with_gate CLOSED from (with_gate OPEN to (filled to generation text old.now.image))) new.now.image
+    → KeepsBeside journal.layout old.now.image new.now.image
+turn_beside old new journal text from to generation bank written sized stored =
+    let at = placed old.now.image journal from to generation bank written in
+    subst (λ (one : Layout). KeepsBeside one old.now.image new.now.image) (sym at.same_layout)
+    (turn_ended old new journal text from to generation bank written sized stored.1).beside

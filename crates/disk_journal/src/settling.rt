@@ -1,0 +1,112 @@
+// Bringing an image to rest.
+ghost use Rattle.std.specs.Prelude.{◌≡◌, ◌+◌, ◌-◌, ◌*◌, ◌^◌, ◌≤◌, ◌<◌, ◌⊎◌, IsTrue, OnOk, IfOk, length, slice_index};
+ghost use Rattle.sdls_outside.specs.Disk.{IsSynced};
+ghost use Rattle.sdls_outside.specs.Faults.{HasCause};
+ghost use Rattle.image_parts.specs.Changes.{AllBut, EachImage};
+ghost use Rattle.disk_journal.specs.Changes.{IsZero, IsCleared};
+ghost use Rattle.disk_journal.specs.Changes.{Gated, GatedSlot};
+
+use crate::header::has_other;
+use crate::layout::{RUN, RUN_LENGTH};
+use crate::storing::{clear_bank, store};
+use image_parts::{CLOSED, SLOT_LENGTH};
+use sdls_outside::{Failed, Site};
+
+/// Writes 0 as the gate at `at`, if it is not 0.
+pub(crate) fn close_gate<O: Site>(site: &mut O, at: u64) -> Result<(), Failed>
+    requires synced { IsTrue O.told → IsSynced (O.trace site.old).now }
+    requires within { IsTrue O.told → at + 1 ≤ length (O.trace site.old).now.image }
+    ensures closed { IsTrue O.told → OnOk result (IsSynced (O.trace site.new).now
+        × (slice_index (O.trace site.new).now.image at ≡ CLOSED)) }
+    ensures ends { IsTrue O.told → OnOk result (Gated at (O.trace site.old).now.image (O.trace site.new).now.image) }
+    ensures any_moment { IsTrue O.told → EachImage (O.trace site.old) (O.trace site.new)
+        (Gated at (O.trace site.old).now.image) }
+    ensures cause { HasCause (O.faults site.old) (O.faults site.new) result }
+    ensures puts { O.put_faults site.new ≡ O.put_faults site.old }
+{
+    let mut octets = [0];
+    site.read_at(at, &mut octets)?;
+    if octets[0] == CLOSED {
+        return Ok(());
+    }
+    store(site, at, &[CLOSED])
+}
+
+/// The same for the gate of the slot `index` of `slots`, if the slot is there.
+pub(crate) fn close_slot<O: Site>(
+    site: &mut O,
+    at: u64,
+    index: u32,
+    slots: u32,
+) -> Result<(), Failed>
+    requires synced { IsTrue O.told → IsSynced (O.trace site.old).now }
+    requires within { IsTrue O.told → index < slots → at + 1 ≤ length (O.trace site.old).now.image }
+    ensures closed { IsTrue O.told → OnOk result (IsSynced (O.trace site.new).now
+        × (index < slots → slice_index (O.trace site.new).now.image at ≡ CLOSED)) }
+    ensures ends { IsTrue O.told → OnOk result
+        (GatedSlot at index slots (O.trace site.old).now.image (O.trace site.new).now.image) }
+    ensures any_moment { IsTrue O.told → EachImage (O.trace site.old) (O.trace site.new)
+        (GatedSlot at index slots (O.trace site.old).now.image) }
+    ensures cause { HasCause (O.faults site.old) (O.faults site.new) result }
+    ensures puts { O.put_faults site.new ≡ O.put_faults site.old }
+{
+    if index >= slots {
+        return Ok(());
+    }
+    close_gate(site, at)
+}
+
+/// Whether the octets from `at` on are 0, as many as `octets` has, into which they are read.
+fn reads_zeros<O: Site>(site: &mut O, at: u64, octets: &mut [u8]) -> Result<bool, Failed>
+    requires { IsTrue O.told → at + length octets.old ≤ length (O.trace site.old).now.image }
+    ensures zero { IsTrue O.told → IfOk result (λ found. IsTrue found
+        → IsZero at (at + length octets.old) (O.trace site.old).now.image) }
+    ensures same { IsTrue O.told → O.trace site.new ≡ O.trace site.old }
+    ensures cause { HasCause (O.faults site.old) (O.faults site.new) result }
+    ensures puts { O.put_faults site.new ≡ O.put_faults site.old }
+{
+    site.read_at(at, octets)?;
+    Ok(!has_other(octets))
+}
+
+/// Whether so many blocks of a slot's length are 0, from `bank` on.
+fn is_zero<O: Site>(site: &mut O, bank: u64, blocks: u32) -> Result<bool, Failed>
+    requires place { bank + SLOT_LENGTH * blocks < 2 ^ 64 }
+    requires within { IsTrue O.told → bank + SLOT_LENGTH * blocks ≤ length (O.trace site.old).now.image }
+    ensures zero { IsTrue O.told → IfOk result (λ found. IsTrue found
+        → IsZero bank (bank + SLOT_LENGTH * blocks) (O.trace site.old).now.image) }
+    ensures same { IsTrue O.told → O.trace site.new ≡ O.trace site.old }
+    ensures cause { HasCause (O.faults site.old) (O.faults site.new) result }
+    ensures puts { O.put_faults site.new ≡ O.put_faults site.old }
+{
+    let mut room = [0; RUN_LENGTH];
+    let mut block = 0;
+    while block < blocks {
+        let count = RUN.min(blocks - block);
+        let octets = &mut room[..SLOT_LENGTH as usize * count as usize];
+        if !reads_zeros(site, bank + SLOT_LENGTH * block as u64, octets)? {
+            return Ok(false);
+        }
+        block += count;
+    }
+    Ok(true)
+}
+
+/// Writes zeros over the rest of a bank whose gate is 0, if it has other octets.
+pub(crate) fn clear_spare<O: Site>(site: &mut O, bank: u64, blocks: u32) -> Result<(), Failed>
+    requires some { 1 ≤ blocks }
+    requires place { bank + SLOT_LENGTH * blocks < 2 ^ 64 }
+    requires synced { IsTrue O.told → IsSynced (O.trace site.old).now }
+    requires within { IsTrue O.told → bank + SLOT_LENGTH * blocks ≤ length (O.trace site.old).now.image }
+    ensures cleared { IsTrue O.told → OnOk result (IsSynced (O.trace site.new).now
+        × IsCleared bank (SLOT_LENGTH * blocks) (O.trace site.old).now.image (O.trace site.new).now.image) }
+    ensures any_moment { IsTrue O.told → EachImage (O.trace site.old) (O.trace site.new)
+        (AllBut (bank + 1) (SLOT_LENGTH * blocks - 1) (O.trace site.old).now.image) }
+    ensures cause { HasCause (O.faults site.old) (O.faults site.new) result }
+    ensures puts { O.put_faults site.new ≡ O.put_faults site.old }
+{
+    if is_zero(site, bank, blocks)? {
+        return Ok(());
+    }
+    clear_bank(site, bank, blocks)
+}

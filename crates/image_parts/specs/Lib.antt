@@ -1,0 +1,5 @@
+pub mod Slots
+pub mod Gates
+pub mod Header
+pub mod Changes
+pub mod Zeros

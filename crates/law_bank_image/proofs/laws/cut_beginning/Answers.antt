@@ -1,5 +1,0 @@
-use Rattle.law_bank_image.proofs.Cut.{whole_or_refused}
-use Rattle.law_bank_image.proofs.laws.cut_beginning.Goals as goal
-
-pub returns : goal.returns
-returns c = whole_or_refused

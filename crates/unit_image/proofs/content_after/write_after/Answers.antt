@@ -1,0 +1,27 @@
+use Rattle.std.proofs.Common.{◌≡◌, ◌∙◌, sym, ap, subst}
+use Rattle.std.specs.Prelude.{MatchOption}
+use Rattle.unit_state.specs.declared.state.State.{State}
+use Rattle.unit_state.specs.Applied.{applied}
+use Rattle.unit_state.specs.Restart.{IsLight, restarted}
+use Rattle.unit_state.proofs.RulesKept.{rules_kept}
+use Rattle.unit_state.proofs.StateLaws.{restarted_twice}
+use Rattle.image_content.specs.Content.{content_of}
+use Rattle.image_content.specs.Reading.{HasRows, IsContent}
+use Rattle.unit_image.proofs.ContentAfter.{left_content}
+use Rattle.unit_image.proofs.content_after.write_after.Goals as goal
+
+pub returns-in-Some-clause-content : goal.returns-in-Some-clause-content
+returns-in-Some-clause-content c =
+    let next : State = applied c.args.state.now c.args.change.now in
+    let is : c.in-Some.next.now ≡ next =
+    subst (λ o. MatchOption o (IsLight c.args.change.now) (λ n. n.now ≡ next)) c.in-Some.is c.requires.next in
+    subst (IsContent (restarted next)) (sym (c.write_whole.ensures.written ∙ ap content_of is))
+    (left_content next (restarted_twice next) (c.restart_leaves_content.ensures next)
+    (rules_kept c.args.state.now c.args.change.now c.requires.rules c.requires.allowed) (subst HasRows is c.write_whole.ensures.rows))
+
+pub returns-in-None-clause-content : goal.returns-in-None-clause-content
+returns-in-None-clause-content c =
+    let next : State = applied c.args.state.now c.args.change.now in
+    subst (IsContent (restarted next)) (sym c.write_marked.ensures.written)
+    (left_content next (restarted_twice next) (c.restart_leaves_content.ensures next)
+    (rules_kept c.args.state.now c.args.change.now c.requires.rules c.requires.allowed) c.write_marked.ensures.rows)

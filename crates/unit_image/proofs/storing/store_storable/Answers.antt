@@ -1,0 +1,22 @@
+use Rattle.unit_state.specs.Applied.{applied}
+use Rattle.unit_image.proofs.Recorded.{has_record}
+use Rattle.unit_image.specs.Storing.{Destroys}
+use Rattle.unit_image.proofs.Stored.{both, stores_record, stores_turn, turned_rest}
+use Rattle.unit_image.proofs.storing.store_storable.Goals as goal
+
+pub write_record-requires : goal.write_record-requires
+write_record-requires g c = has_record c.args.state.now c.args.change.now c.requires.storable c.requires.allowed
+
+pub returns-then-used-slots-clause-stores : goal.returns-then-used-slots-clause-stores
+returns-then-used-slots-clause-stores g c = λ told. stores_turn c.args.state.now c.args.change.now c.write_after.new.content c.turn.result c.turn.new.self
+    (g.O.Site.trace c.args.site.now) (g.O.Site.trace c.turn.new.site) c.write_after.ensures.content (c.turn.ensures.becomes told)
+    (both _ _ c.turn.result (c.turn.ensures.stored told) (c.turn.ensures.holds told))
+
+pub returns-then-used-slots-clause-gone : goal.returns-then-used-slots-clause-gone
+returns-then-used-slots-clause-gone g c = λ told. turned_rest (Destroys c.args.change.now) (applied c.args.state.now c.args.change.now)
+    c.write_after.new.content c.turn.result c.turn.new.self (g.O.Site.trace c.turn.new.site) c.write_after.ensures.written (c.turn.ensures.rest told)
+
+pub returns-else-used-slots-clause-stores : goal.returns-else-used-slots-clause-stores
+returns-else-used-slots-clause-stores g c = λ told. stores_record c.args.state.now c.args.change.now c.write_record.result c.append.result c.append.new.self
+    (g.O.Site.trace c.args.site.now) (g.O.Site.trace c.append.new.site) c.requires.storable c.requires.allowed c.write_record.ensures.record_of
+    (c.append.ensures.becomes told) (both _ _ c.append.result (c.append.ensures.stored told) (c.append.ensures.holds told))
