@@ -2,11 +2,12 @@
 //! and what it answers is printed; `#` and a title is printed as it is.
 //!
 //! `new` begins a recording, `run OCTETS` adds a run with its length, and `octets OCTETS` adds these octets alone.
-//! `many N` adds a run of N frames protected under key 1, with the numbers from 1 on.
-//! `audit` prints what the audit says. `fronts OCTETS` prints what it says with each front of these octets as a run
-//! more, for the lengths whose answer is another than that of the length before, and `cuts` the same of each front of
-//! the whole. `pieces` prints what it says, or which source of pieces of 1 to 64 octets makes it say something else;
-//! `fails` what it says if the source fails at its first call, its second and so on, where that changes. Octets are words of hexadecimal digits; `x1024` before a word says how often it stands there.
+//! `many N` adds a run of N frames protected under key 1, with the numbers from 1 on. `audit` prints what the audit
+//! says. `fronts OCTETS` prints what it says with each front of these octets as a run more, for the lengths whose
+//! answer is another than that of the length before, and `cuts` the same of each front of the whole. `pieces` prints
+//! what it says, or which source of pieces of 1 to 64 octets makes it say something else; `fails` what it says if the
+//! source fails at its first call, its second and so on, where that changes. Octets are words of hexadecimal digits;
+//! `x1024` before a word says how often it stands there.
 #![tactic(auto)]
 
 mod auditing;

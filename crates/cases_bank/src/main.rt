@@ -1,5 +1,5 @@
-//! Tables of rows, of bare plans and of contents, for `book_record`, `plan_bare` and `image_content`. A line of standard
-//! input is a step, and what it answers is printed; `#` and a title is printed as it is.
+//! Tables of rows, of bare plans and of contents, for `book_record`, `plan_bare` and `image_content`. A line of
+//! standard input is a step, and what it answers is printed; `#` and a title is printed as it is.
 //!
 //! `key ROW` and `sa ROW` print what is read of the row of a key or of an association, behind `same` if writing that
 //! gives the row again. A row is hexadecimal words, with zeros behind them; behind `xN` the next word stands N times.

@@ -11,8 +11,8 @@ use std::mem;
 use std::sync::Wait;
 use std::thread::Threads;
 
-/// The call `run`: its status, the count of its entries, and the site. What it ensures is not said again: the clauses would
-/// be carried through each step behind the call.
+/// The call `run`: its status, the count of its entries, and the site. What it ensures is not said again: the clauses
+/// would be carried through each step behind the call.
 fn ran<R: Threads + Wait + Sync, S: Source, O: Site + Send + Drop>(
     rt: &R,
     alloc: Global,

@@ -1,5 +1,5 @@
-// Runs of a whole unit over sites in memory. What `run` ensures is not said again: a test looks at what a run wrote, and
-// the clauses would be carried through each step behind the call.
+// Runs of a whole unit over sites in memory. What `run` ensures is not said again: a test looks at what a run wrote,
+// and the clauses would be carried through each step behind the call.
 use case_lines::words_of;
 use case_runs::{BEGINNING, FENCE, TELECOMMAND, joined};
 use sdls_outside::{MemSite, Site, Source, SureSource};

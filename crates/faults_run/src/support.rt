@@ -14,9 +14,9 @@ pub(crate) const NUMBERS: [(u32, &str); 5] = [
     (5, "bab7e412062d1f67a829af4fdeb348ea"),
 ];
 
-/// The first call of the site, from 0 on, behind the opening of an image of 16 slots without records: begin twice, sync,
-/// the header; the front of each bank; the slots for the first closed gate, and those behind it; plan and content; the
-/// gate of the first slot, and that of the other bank; its 117 blocks, of which a call reads 64.
+/// The first call of the site, from 0 on, behind the opening of an image of 16 slots without records: begin twice,
+/// sync, the header; the front of each bank; the slots for the first closed gate, and those behind it; plan and
+/// content; the gate of the first slot, and that of the other bank; its 117 blocks, of which a call reads 64.
 pub(crate) const CALL_AFTER_OPENING: u64 = 4 + 2 + 2 + 2 + 2 + 2;
 
 /// The calls of a run with five frames, each with a segment of its own: the opening, two appends, a put for each

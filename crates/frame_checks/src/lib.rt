@@ -6,8 +6,8 @@
 //! and opens it in place. Neither changes the state: what an acceptance leaves is the caller's to make and to store. No
 //! call takes memory.
 //!
-//! `try_frame` makes what of this no other frame can change, under what `opener_of` found: the checks for which the plan
-//! is enough, the MAC, and the cipher. `open_tried` judges the number afterwards, in the state as it stands then.
+//! `try_frame` makes what of this no other frame can change, under what `opener_of` found: the checks for which the
+//! plan is enough, the MAC, and the cipher. `open_tried` judges the number afterwards, in the state as it stands then.
 #![tactic(auto)]
 
 mod header;

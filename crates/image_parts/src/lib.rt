@@ -1,5 +1,5 @@
-//! What the images of a unit have in common (profile): where the header, the plan and the slots stand, and what a crash may
-//! leave of a stretch of octets that is written.
+//! What the images of a unit have in common (profile): where the header, the plan and the slots stand, and what a crash
+//! may leave of a stretch of octets that is written.
 //!
 //! There is no code to run here, but constants, definitions and lemmas.
 #![tactic(auto)]

@@ -22,8 +22,8 @@ use book_record::change_of_its_kind;
 use disk_journal::opening_stays;
 use unit_image::refused_with_one;
 
-/// Law: the image that a plan begins with shows what a restart leaves of the state that the plan's lines make. It has no
-/// records, and no closed gate of it is other than 0.
+/// Law: the image that a plan begins with shows what a restart leaves of the state that the plan's lines make. It has
+/// no records, and no closed gate of it is other than 0.
 pub fn beginning_shows()
     ensures shows { (text : List ℕ) (plan : PlanLines) (first : State) → SaysPlan text plan first
         → Shows (image_of_plan text plan first) (restarted first) }
@@ -43,9 +43,10 @@ pub fn cut_beginning()
         → (image_fault image ≡ Some 0) ⊎ (image ≡ initial_image plan slots content) }
 {}
 
-/// Law: what an opening that a crash cuts off leaves of an image that opens, with at most one closed gate that is not 0.
-/// With other octets in its closed gates it stays within the image. Rewritten, it holds the same, as its opened forms do.
-/// Whichever it is, it keeps the forms of the image, and shows nothing that the image and its forms do not show.
+/// Law: what an opening that a crash cuts off leaves of an image that opens, with at most one closed gate that is not
+/// 0. With other octets in its closed gates it stays within the image. Rewritten, it holds the same, as its opened
+/// forms do. Whichever it is, it keeps the forms of the image, and shows nothing that the image and its forms do not
+/// show.
 pub fn opening_keeps_forms()
     ensures regated { (image left : List ℕ) → image_fault image ≡ None → HasOneClosed image → Regates image left
         → StaysWithin image left }
@@ -69,8 +70,8 @@ pub fn refused_exactly()
     refused_with_one();
 }
 
-/// Law: the plan that a text says keeps the rules of plans, and the state that an image shows those of states. A restart
-/// leaves that state.
+/// Law: the plan that a text says keeps the rules of plans, and the state that an image shows those of states. A
+/// restart leaves that state.
 pub fn shown_keeps_rules()
     ensures plan { (text : List ℕ) (plan : PlanLines) → plan_of text ≡ Ok plan → IsPlan plan }
     ensures state { (image : List ℕ) (state : State) → Shows image state → KeepsRules state }

@@ -1,8 +1,9 @@
 //! The recorded input of `run` and its answers, octet for octet.
 //!
 //! [`Reader::next_segment`] reads the records of the input, a segment a call, and says how the segment ends.
-//! [`answer_header`] writes what stands before an answer's body, and [`read_answer`] reads an answer. The numbers that the formats give to kinds, answers
-//! and ends are named in `kinds`, [`code`] and [`status`]; [`Outcome`] is how a call ends.
+//! [`answer_header`] writes what stands before an answer's body, and [`read_answer`] reads an answer. The numbers that
+//! the formats give to kinds, answers and ends are named in `kinds`, [`code`] and [`status`]; [`Outcome`] is how a call
+//! ends.
 #![tactic(auto)]
 
 mod answer_reading;

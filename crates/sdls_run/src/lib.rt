@@ -1,11 +1,11 @@
 //! The top call of the space link security unit: words in, octets out, and a status at the end.
 //!
-//! [`run`] serves the words after the program's name: `check KEY` judges one AOS transfer frame
-//! (CCSDS 732.0-B-4) that carries a CMAC (CCSDS 355.0-B-2), `init` makes the image of a unit from a plan,
-//! `run` serves a recorded input of frames to protect, frames to open and commands, `stat` tells
-//! what an image holds, `audit` looks for repeats in what runs wrote, and `drill N` protects and opens N frames with two
-//! units in memory, `drill link N` over a link between them; every other list of words is answered with the usage line.
-//! [`run_plain`] serves the words that need no threads.
+//! [`run`] serves the words after the program's name: `check KEY` judges one AOS transfer frame (CCSDS 732.0-B-4) that
+//! carries a CMAC (CCSDS 355.0-B-2), `init` makes the image of a unit from a plan, `run` serves a recorded input of
+//! frames to protect, frames to open and commands, `stat` tells what an image holds, `audit` looks for repeats in what
+//! runs wrote, and `drill N` protects and opens N frames with two units in memory, `drill link N` over a link between
+//! them; every other list of words is answered with the usage line. [`run_plain`] serves the words that need no
+//! threads.
 //!
 //! The input comes from a `Source`, and what is put goes to a `Site`: both are traits of
 //! `sdls_outside`, so that a clause can speak of what they hold.

@@ -7,9 +7,9 @@
 //! [`Unit::open_frame`], [`Unit::command`], [`Unit::permit`], [`Unit::put`] and [`Unit::count`] take it once. With an
 //! [`OpenPermit`] a frame's MAC is compared, and the frame deciphered, before the turn is taken.
 //!
-//! Read `specs/Permit.antt` and `specs/Opening.antt` first: when a permit is true, and what is done with one. What is known of the book is what
-//! the counters tell (crate `counter_table`), and what a call does under the turn is what the book says (crate
-//! `unit_book`).
+//! Read `specs/Permit.antt` and `specs/Opening.antt` first: when a permit is true, and what is done with one. What is
+//! known of the book is what the counters tell (crate `counter_table`), and what a call does under the turn is what the
+//! book says (crate `unit_book`).
 #![tactic(auto)]
 
 mod calls;

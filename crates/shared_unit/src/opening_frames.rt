@@ -56,8 +56,8 @@ fn open_under<O: Site>(
     }
 }
 
-/// Opens a frame that came as these octets in the held book, and keeps what opens such frames. A frame that was tried is
-/// judged by its number, where the book is still in the permit's epoch.
+/// Opens a frame that came as these octets in the held book, and keeps what opens such frames. A frame that was tried
+/// is judged by its number, where the book is still in the permit's epoch.
 fn open_in<O: Site>(
     shelf: &mut Shelf<O>,
     kept: &mut Option<OpenPermit>,
@@ -112,8 +112,8 @@ impl<O: Site> Unit<O> {
 
     /// Handles the record with this number, whose frame came on this link as these octets: opens the frame in place
     /// where no check fails, and answers the reply and its position (CCSDS 355.0-B-2, ProcessSecurity). Under a kept
-    /// permit of the frame the MAC is compared and the frame deciphered before the turn is taken, and under the turn its
-    /// number is judged, if no command has changed the state since. Beside a fault stands the count of the run's
+    /// permit of the frame the MAC is compared and the frame deciphered before the turn is taken, and under the turn
+    /// its number is judged, if no command has changed the state since. Beside a fault stands the count of the run's
     /// entries. After an answer that is not `Accepted` the frame's octets may be any. Takes no memory.
     pub fn open_frame<R: Wait>(
         &self,

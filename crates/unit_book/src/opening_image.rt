@@ -96,8 +96,8 @@ impl<O: Site> Book<O> {
             (λ offset. IsTrue O.told → ShowsNone (O.trace site).now.image offset
             × OnlySyncs (O.trace site) (O.trace refused.1)) refused.0) }
 
-        // A crash at any moment leaves what one before may have left, or the image but for its closed gates, or one that
-        // shows the same.
+        // A crash at any moment leaves what one before may have left, or the image but for its closed gates, or one
+        // that shows the same.
         ensures any_moment { IsTrue O.told → MatchResult result
             (λ book. EachMoment (O.trace site) book.site.trace (Opening (O.trace site)))
             (λ refused. EachMoment (O.trace site) (O.trace refused.1) (Opening (O.trace site))) }

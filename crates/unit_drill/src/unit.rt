@@ -46,7 +46,8 @@ fn has_fault(answers: &[Answer]) -> bool
 }
 
 impl DrillUnit {
-    /// A unit of the image that this plan begins with. Whatever refuses it is want of memory: the image is that of a plan.
+    /// A unit of the image that this plan begins with. Whatever refuses it is want of memory: the image is that of a
+    /// plan.
     pub(crate) fn open<R: Wait>(rt: &R, alloc: Global, plan: &[u8]) -> Result<DrillUnit, NoMemory>
         requires { length plan.now ≤ MOST_OCTETS }
         ensures { IfOk result (λ made. MayServe made.unit.counters made.unit.plan made.worker

@@ -151,8 +151,8 @@ pub fn open<O: Site>(alloc: Global, site: &mut O, room: &mut [u8]) -> Result<Ope
         plan_of (held (O.trace site.old).now.image).plan ≡ Ok opened.plan) }
     ensures rules { IfOk result (λ opened. KeepsRules opened.state) }
 
-    // A crash at any moment leaves what one before may have left, or the image with other octets in its closed gates, or
-    // one that holds what the image held.
+    // A crash at any moment leaves what one before may have left, or the image with other octets in its closed gates,
+    // or one that holds what the image held.
     ensures any_moment { IsTrue O.told → EachMoment (O.trace site.old) (O.trace site.new) (Opening (O.trace site.old)) }
     // Only an image that shows no state is refused as one, and nothing is written then.
     ensures puts { O.put_faults site.new ≡ O.put_faults site.old }

@@ -16,8 +16,8 @@ use unit_book::BookFault;
 /// The octets of answers that are put at once, at most.
 const PIECE: usize = 65536;
 
-/// A unit with the one worker that serves a run, the log of the answers so far, and the octets of answers that are to be
-/// put in one piece.
+/// A unit with the one worker that serves a run, the log of the answers so far, and the octets of answers that are to
+/// be put in one piece.
 pub struct Session<O: Site> {
     pub(crate) unit: Unit<O>,
     pub(crate) worker: Worker<O>,
