@@ -10,7 +10,7 @@ use denote.Param.SendFields.{as_row_send, as_row_sync, declared_send, declared_s
 use denote.Hole.{as_row}
 use Rattle.std.specs.Prelude.{[], ◌∷◌}
 use Rattle.std.specs.contracts.snapshot.Snapshot as Snapshot
-use Rattle.std.proofs.Crossing.{crosses, send, Vec-send}
+use Rattle.std.proofs.Crossing.{crosses, send, Box-send, Vec-send}
 use Rattle.sdls_base.specs.contracts.entry.Entry as Entry
 use Rattle.sdls_base.proofs.entry.Entry.TheSendSync as entry
 use Rattle.sdls_outside.specs.contracts.mem_site.MemSite as MemSite
@@ -92,7 +92,7 @@ book_send = view_send _ _ _ _ _ (declared_send (BookFields.the_type MemSite.the_
 
 shelf_send : IsSend (Shelf.the_row MemSite.the_row site.ghosts)
 shelf_send = view_send _ _ _ _ _
-    (declared_send (ShelfFields.the_type MemSite.the_row site.ghosts) (as_row_send (row_field (Book.the_row MemSite.the_row site.ghosts)) book_send, tt))
+    (declared_send (ShelfFields.the_type MemSite.the_row site.ghosts) (Box-send (Book.the_row MemSite.the_row site.ghosts) book_send, tt))
 
 pub unit_sync : IsSync (TheUnit.the_row MemSite.the_row site.ghosts)
 unit_sync = declared_sync (TheUnit.the_type MemSite.the_row site.ghosts) (

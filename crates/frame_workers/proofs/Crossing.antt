@@ -10,7 +10,7 @@ use denote.Param.SendFields.{as_row_send, as_row_sync, declared_send, declared_s
 use denote.Hole.{as_row}
 use Rattle.std.specs.Prelude.{[], ◌∷◌}
 use Rattle.std.specs.contracts.snapshot.Snapshot as Snapshot
-use Rattle.std.proofs.Crossing.{crosses, Vec-send}
+use Rattle.std.proofs.Crossing.{crosses, Box-send, Vec-send}
 use Rattle.sdls_base.specs.contracts.entry.Entry as Entry
 use Rattle.sdls_base.proofs.entry.Entry.TheSendSync as entry
 use Rattle.sdls_outside.specs.declared.site.Site as Site
@@ -75,7 +75,7 @@ module _ (O : RattleType) (g : Site.Ghosts O.Denot) (s : IsSend O) where
   ))
 
   pub shelf_send : IsSend (Shelf.the_row O g)
-  shelf_send = view_send _ _ _ _ _ (declared_send (ShelfFields.the_type O g) (as_row_send (row_field (Book.the_row O g)) book_send, tt))
+  shelf_send = view_send _ _ _ _ _ (declared_send (ShelfFields.the_type O g) (Box-send (Book.the_row O g) book_send, tt))
 
   pub unit_sync : IsSync (TheUnit.the_row O g)
   unit_sync = declared_sync (TheUnit.the_type O g) (

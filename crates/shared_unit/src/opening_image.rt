@@ -64,11 +64,15 @@ impl<O: Site> Unit<O> {
             Ok(plan) => plan,
             Err(NoMemory) => return Err(site_of(book)),
         };
+        let shelf = match Shelf::new(alloc, book) {
+            Ok(shelf) => shelf,
+            Err(book) => return Err(site_of(book)),
+        };
         let (counters, mut worker) = match Counters::new(alloc, ROWS) {
             Ok(made) => made,
-            Err(NoMemory) => return Err(site_of(book)),
+            Err(NoMemory) => return Err(site_of(shelf.into_book())),
         };
-        counters.fill(&mut worker, Shelf::new(book));
+        counters.fill(&mut worker, shelf);
         let unit = Unit { counters, plan };
         let held = unit.counters.take(rt, &mut worker);
         held.book.look();
@@ -81,8 +85,8 @@ impl<O: Site> Unit<O> {
     }
 
     /// Opens the image of a site, and makes the words of its keys: each word `next` and `limit` begins at its key's
-    /// mark. Answers the unit and its first worker, which has all shares. The refusals are those of [`Book::open`];
-    /// where memory for the words is wanting, the site is as the opening left it.
+    /// mark. Returns the unit and its first worker, which has all shares. The refusals are those of [`Book::open`].
+    /// If memory for the words or for the place of the book runs out, the site is as the opening left it.
     pub fn open<R: Wait>(
         rt: &R,
         alloc: Global,

@@ -24,12 +24,13 @@ use frame_checks::{OpenReply, Opener};
 use frame_shield::{Binding, Opened, ShieldFault};
 use sdls_base::{KeyId, NoMemory, Seen};
 use sdls_outside::Site;
+use std::alloc::{AllocFailed, Global};
 use std::marker::Model;
 use unit_book::{Book, BookFault};
 
-/// A book that is kept. Contracts see it as the book.
+/// A book that is kept, behind a pointer: who takes the turn moves the pointer alone. Contracts see it as the book.
 pub struct Shelf<O: Site> {
-    book: Book<O>,
+    book: Box<Book<O>>,
 }
 
 impl<O: Site> Model for Shelf<O> {
@@ -37,9 +38,9 @@ impl<O: Site> Model for Shelf<O> {
 
     ghost Value = { BookView };
 
-    ghost view = { λ shelf. shelf.book };
+    ghost view = { λ shelf. shelf.book.value };
 
-    ghost invariant = { λ shelf. IsKept O.told shelf.book };
+    ghost invariant = { λ shelf. IsKept O.told shelf.book.value };
 }
 
 impl<O: Site> Counted for Shelf<O> {
@@ -66,11 +67,15 @@ impl<O: Site + Drop> Drop for Shelf<O> {
 }
 
 impl<O: Site> Shelf<O> {
-    pub(crate) fn new(book: Book<O>) -> Shelf<O>
+    /// Gives the book its place. If memory runs out, the book comes back.
+    pub(crate) fn new(alloc: Global, book: Book<O>) -> Result<Shelf<O>, Book<O>>
         requires { IsKept O.told book }
-        ensures { result ≡ book }
+        ensures { MatchResult result (λ shelf. shelf ≡ book) (λ back. back ≡ book) }
     {
-        Shelf { book }
+        match Box::new(alloc, book) {
+            Ok(book) => Ok(Shelf { book }),
+            Err(AllocFailed { value }) => Err(value),
+        }
     }
 
     pub(crate) fn into_book(self) -> Book<O>
@@ -78,7 +83,7 @@ impl<O: Site> Shelf<O> {
         ensures kept { IsKept O.told result }
     {
         let Shelf { book } = self;
-        book
+        Box::into_inner(book)
     }
 
     /// For contracts alone: the book is kept.

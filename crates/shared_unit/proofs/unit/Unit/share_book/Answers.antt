@@ -17,7 +17,7 @@ use Rattle.shared_unit.proofs.unit.Unit.share_book.Goals as goal
 
 pub fill-requires-clause-book : goal.fill-requires-clause-book
 fill-requires-clause-book g c =
-    subst (λ (b : BookView). MayFill (known_of_book b)) (sym c.new-2.ensures)
+    subst (λ (b : BookView). MayFill (known_of_book b)) (sym c.in-Ok-new.ensures)
     (may_fill g.O.Site.told c.args.book c.requires.kept c.requires.first)
 
 pub raise_all-requires-clause-marks : goal.raise_all-requires-clause-marks
@@ -33,13 +33,13 @@ pub returns-clause-made : goal.returns-clause-made
 returns-clause-made g c =
     let book : BookView = c.args.book in
     let found : BookView = c.take-held.result.book in
-    let first = c.in-Ok-new.ensures.2 in
+    let first = c.in-Ok-new-2.ensures.2 in
     let t : Turn = (view c.fill.new.worker).turn in
     let u : View = view c.give.new.worker in
     let other : View = view c.split-other.result in
-    begins g.O.Site.told book found c.in-Ok-new.made.0 c.in-Ok.plan c.join.new.worker t
+    begins g.O.Site.told book found c.in-Ok-new-2.made.0 c.in-Ok.plan c.join.new.worker t
     (view c.take-held.new.worker) (view c.raise_all.new.worker) u
-    (c.fill.ensures.turn ∙ ap (λ (b : BookView). filling (known_of_book b) (view c.in-Ok-new.made.1).turn) c.new-2.ensures
+    (c.fill.ensures.turn ∙ ap (λ (b : BookView). filling (known_of_book b) (view c.in-Ok-new-2.made.1).turn) c.in-Ok-new.ensures
     ∙ ap (λ (x : View). filling (known_of_book book) x.turn) first)
     c.requires.first
     (holds_visits g.O.Site.told found found t (view c.take-held.new.worker).turn (view c.raise_all.new.worker).turn u.turn
