@@ -5,3 +5,4 @@ pub mod Making
 pub mod Spelling
 pub mod Sinking
 pub mod Telling
+pub mod Stopping

@@ -1,4 +1,4 @@
--- What ends `init` for the text that was collected ends it for the input, for `collect_and_make`.
+-- What ends `init` for the text that was collected ends it for the input, for `collect_and_make`; and for `run_init`.
 use Rattle.std.proofs.Common.{◌≡◌, ℕ, ◌+◌, ◌<◌, ◌≤◌, Bool, true, false, IsTrue, List, ◌++◌, length, take, refl, ap, sym, ◌∙◌, subst, arith, append-nil, Ok}
 use Rattle.std.proofs.Common.{inl, inr, ◌⊎◌}
 use Rattle.std.proofs.lemmas.Bool.{cases_lt, false≢true}
@@ -46,7 +46,7 @@ same_plan left_old left_new buffer count sized collects = elim (collected left_o
 ]
 
 -- what says a plan is short, so it is the whole input
-said_whole : (left_old left_new buffer : List ℕ) (count : ℕ) (plan : PlanLines) → length buffer ≡ 65537
+pub said_whole : (left_old left_new buffer : List ℕ) (count : ℕ) (plan : PlanLines) → length buffer ≡ 65537
     → Collects left_old left_new buffer count → plan_of (take count buffer) ≡ Ok plan → take count buffer ≡ left_old
 said_whole left_old left_new buffer count plan sized collects says = elim (collected left_old left_new buffer count sized collects) [
   | inl same ↦ same
@@ -103,3 +103,14 @@ ends_of_input left_old left_new buffer count source_told site_told unread source
       )
 ]
 ends_of_input left_old left_new buffer count source_told site_told unread source_rose site_rose old new NoMemory sized collects ends = ends
+
+-- a fault of the site is one still after the text was put
+pub ends_later : (IsInput : List ℕ → Type 0) (unread source_rose : Type 0) (told : Bool) (early late : Type 0)
+    → (old new : Trace) (end : InitEnd) → (early → late)
+    → InitEnds IsInput unread source_rose told early old new end → InitEnds IsInput unread source_rose told late old new end
+ends_later IsInput unread source_rose told early late old new Made rises ends = ends
+ends_later IsInput unread source_rose told early late old new ImageExists rises ends = ends
+ends_later IsInput unread source_rose told early late old new (Refused first) rises ends = ends
+ends_later IsInput unread source_rose told early late old new SourceFault rises ends = ends
+ends_later IsInput unread source_rose told early late old new SiteFault rises ends = (rises ends.0, ends.1)
+ends_later IsInput unread source_rose told early late old new NoMemory rises ends = ends

@@ -1,7 +1,7 @@
 -- How `init` ends (profile).
 use Rattle.std.specs.Prelude.{◌≡◌, ◌≢◌, ◌⊎◌, ⊤, ℕ, Bool, IsTrue, List, [], ◌++◌, codes, decimal, Result, Ok, Err}
 use Rattle.sdls_outside.specs.Disk.{IsSynced}
-use Rattle.sdls_outside.specs.Moments.{Trace}
+use Rattle.sdls_outside.specs.Moments.{Trace, EachMoment}
 use Rattle.unit_plan.specs.declared.plan_error.PlanCause.{PlanCause}
 use Rattle.unit_plan.specs.declared.plan_error.PlanCause.TheVariants as causes
 use Rattle.unit_plan.specs.declared.plan_error.PlanFault.{PlanFault}
@@ -12,6 +12,7 @@ use Rattle.unit_plan.specs.Plan.{plan_of}
 use Rattle.unit_state.specs.declared.state.State.{State}
 use Rattle.unit_state.specs.Initial.{initial}
 use Rattle.image_beginning.specs.Beginning.{SaysPlan, image_of_plan}
+use Rattle.unit_image.specs.Shows.{ShowsNone}
 use Rattle.sdls_plain.specs.declared.init.InitEnd.{InitEnd}
 use Rattle.sdls_plain.specs.declared.init.InitEnd.TheVariants.{Made, ImageExists, Refused, SourceFault, SiteFault}
 use Rattle.sdls_plain.specs.declared.init.InitEnd.TheVariants.{NoMemory}
@@ -66,8 +67,9 @@ init_status SiteFault = statuses.SITE_FAULT
 init_status NoMemory = statuses.NO_MEMORY
 
 -- Why `init` ends so, and what stands before the text is put: the initial image of the plan, on the disk, or all as it
--- was. After a fault of the site anything may stand if there was no image and the input is a plan; else all is as it
--- was, and nothing was taken of the source (`unread`), as if an image exists. Out of memory needs no cause.
+-- was. After a fault of the site, if there was no image and the input is a plan, what stands is that of `LeavesNoOther`
+-- below; else all is as it was, and nothing was taken of the source (`unread`), as if an image exists. Out of memory
+-- needs no cause.
 abbrev pub InitEnds : (List ℕ → Type 0) → Type 0 → Type 0 → Bool → Type 0 → Trace → Trace → InitEnd → Type 0
 InitEnds IsInput unread source_rose told site_rose old new Made = (input : List ℕ) × (plan : PlanLines)
     × (first : State)
@@ -85,8 +87,22 @@ InitEnds IsInput unread source_rose told site_rose old new SiteFault = site_rose
     × (IsTrue told → old.now.image ≡ [])))
 InitEnds IsInput unread source_rose told site_rose old new NoMemory = IsTrue told → ((old.now.image ≡ []) × (new ≡ old))
 
--- how `init` ends: for one of these reasons, and then with the text and the status that are due
-abbrev pub EndsInit : (List ℕ → Type 0) → Type 0 → Type 0 → Bool → Trace → Trace → Type 0 → ℕ → Type 0
-EndsInit IsInput unread source_rose told old new site_rose status = (middle : Trace) × (end : InitEnd)
-    × InitEnds IsInput unread source_rose told site_rose old middle end
-    × Ends told middle new site_rose (init_text end) (init_status end) status
+-- the image is refused at its first octet, or it is the one that the plan of this input begins with
+abbrev pub IsNoneOrInitial : List ℕ → List ℕ → Type 0
+IsNoneOrInitial input image = ShowsNone image 0
+    ⊎ ((plan : PlanLines) × (first : State) × SaysPlan input plan first × (image ≡ image_of_plan input plan first))
+
+-- At each moment a crash leaves no unit, or that of the input's plan, and so never another one.
+abbrev pub LeavesNoOther : (List ℕ → Type 0) → Trace → Trace → Type 0
+LeavesNoOther IsInput old new = (input : List ℕ) × IsInput input
+    × EachMoment old new (λ image sunk. IsNoneOrInitial input image)
+
+-- How `init` ends: for one of these reasons, and then with the text and the status that are due. If there was no image,
+-- no moment leaves another unit than that of the plan.
+pub record EndsInit (IsInput : List ℕ → Type 0) (unread source_rose : Type 0) (told : Bool) (old new : Trace)
+    (site_rose : Type 0) (status : ℕ) : Type 0 where
+  pub middle : Trace
+  pub end : InitEnd
+  pub ends : InitEnds IsInput unread source_rose told site_rose old middle end
+  pub put : Ends told middle new site_rose (init_text end) (init_status end) status
+  pub moments : IsTrue told → old.now.image ≡ [] → LeavesNoOther IsInput old new

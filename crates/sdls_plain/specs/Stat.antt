@@ -60,7 +60,7 @@ pub record ShowsAlone (state : State) (image : List ℕ) : Type 0 where
   pub no_form : (form : List ℕ) → ¬ IsOpenedForm image form
 
 -- A moment of `stat`: what a crash then leaves, one at the entry may leave too; or it is the image as read, but for its
--- closed gates; or it shows the state that was shown.
+-- closed gates, or holds what that one held; or it shows the state that was shown.
 abbrev pub StatMoment : Trace → List ℕ → Type 0
 StatMoment entry image = Leaves entry.now image ⊎ (Settles entry.now.image image
     ⊎ ((state : State) × Shows entry.now.image state × ShowsAlone state image))

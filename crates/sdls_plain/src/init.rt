@@ -1,7 +1,8 @@
 ghost use Rattle.std.specs.Prelude.{◌≡◌, ◌≢◌, ◌+◌, ◌≤◌, [], length, vec_len, decimal, IsTrue, IfOk};
 ghost use Rattle.sdls_outside.specs.Faults.{HasCause, Rose};
+ghost use Rattle.sdls_outside.specs.Moments.{EachMoment};
 ghost use Rattle.sdls_plain.specs.Init.{EndsInit, InitEnds, JudgesPlan, cause_text, cause_word, init_status, init_text};
-ghost use Rattle.sdls_plain.specs.Init.{plan_fault_text};
+ghost use Rattle.sdls_plain.specs.Init.{IsNoneOrInitial, LeavesNoOther, plan_fault_text};
 ghost use Rattle.sdls_outside.specs.Intake.{TakesAtMost};
 ghost use Rattle.sdls_outside.specs.Output.{Delivers, OnlySinks};
 
@@ -10,6 +11,7 @@ use crate::status::{DONE, MALFORMED, NO_MEMORY, NO_STATE, SITE_FAULT, SOURCE_FAU
 use image_beginning::create_image;
 use image_content::CONTENT_LENGTH;
 use itoa::Buffer;
+use law_image::cut_beginning;
 use record_io::Outcome;
 use sdls_outside::{Failed, Site, Source, collect};
 use std::alloc::{AllocError, Global};
@@ -70,6 +72,8 @@ fn make_image<O: Site>(alloc: Global, site: &mut O, text: &[u8]) -> InitEnd
     requires short { length text.now ≤ MOST_OCTETS + 1 }
     ensures ends { InitEnds (λ input. input ≡ text.now) ⊥ ⊥ O.told (Rose (O.faults site.old) (O.faults site.new))
         (O.trace site.old) (O.trace site.new) result }
+    ensures moments { IsTrue O.told → EachMoment (O.trace site.old) (O.trace site.new)
+        (λ image sunk. IsNoneOrInitial text.now image) }
     ensures later { O.faults site.old ≤ O.faults site.new }
     ensures quiet { result ≢ InitEnd.SiteFault → O.faults site.new ≡ O.faults site.old }
 {
@@ -84,6 +88,7 @@ fn make_image<O: Site>(alloc: Global, site: &mut O, text: &[u8]) -> InitEnd
     let Ok(mut content) = zeros(alloc, CONTENT_LENGTH) else {
         return InitEnd::NoMemory;
     };
+    cut_beginning();
     match create_image(site, text, &plan, &state, &mut bare, &mut content) {
         Ok(()) => InitEnd::Made,
         Err(_) => InitEnd::SiteFault,
@@ -103,6 +108,8 @@ fn collect_and_make<S: Source, O: Site>(
     ensures ends { InitEnds (λ input. IsTrue S.told → input ≡ S.left source.old) (source.new ≡ source.old)
         (Rose (S.faults source.old) (S.faults source.new)) O.told (Rose (O.faults site.old) (O.faults site.new))
         (O.trace site.old) (O.trace site.new) result }
+    ensures moments { IsTrue O.told → LeavesNoOther (λ input. IsTrue S.told → input ≡ S.left source.old)
+        (O.trace site.old) (O.trace site.new) }
     ensures taken { IsTrue S.told → TakesAtMost (MOST_OCTETS + 1) (S.left source.old) (S.left source.new) }
     ensures later { O.faults site.old ≤ O.faults site.new }
     ensures quiet { result ≢ InitEnd.SiteFault → O.faults site.new ≡ O.faults site.old }
@@ -120,6 +127,8 @@ fn read_and_make<S: Source, O: Site>(alloc: Global, source: &mut S, site: &mut O
     ensures ends { InitEnds (λ input. IsTrue S.told → input ≡ S.left source.old) (source.new ≡ source.old)
         (Rose (S.faults source.old) (S.faults source.new)) O.told (Rose (O.faults site.old) (O.faults site.new))
         (O.trace site.old) (O.trace site.new) result }
+    ensures moments { IsTrue O.told → LeavesNoOther (λ input. IsTrue S.told → input ≡ S.left source.old)
+        (O.trace site.old) (O.trace site.new) }
     ensures taken { IsTrue S.told → TakesAtMost (MOST_OCTETS + 1) (S.left source.old) (S.left source.new) }
     ensures later { O.faults site.old ≤ O.faults site.new }
     ensures quiet { result ≢ InitEnd.SiteFault → O.faults site.new ≡ O.faults site.old }
@@ -136,6 +145,8 @@ fn initialize<S: Source, O: Site>(alloc: Global, source: &mut S, site: &mut O) -
     ensures ends { InitEnds (λ input. IsTrue S.told → input ≡ S.left source.old) (source.new ≡ source.old)
         (Rose (S.faults source.old) (S.faults source.new)) O.told (Rose (O.faults site.old) (O.faults site.new))
         (O.trace site.old) (O.trace site.new) result }
+    ensures moments { IsTrue O.told → (O.trace site.old).now.image ≡ []
+        → LeavesNoOther (λ input. IsTrue S.told → input ≡ S.left source.old) (O.trace site.old) (O.trace site.new) }
     ensures untouched { IsTrue O.told → (O.trace site.old).now.image ≢ [] → O.trace site.new ≡ O.trace site.old }
     ensures taken { IsTrue S.told → TakesAtMost (MOST_OCTETS + 1) (S.left source.old) (S.left source.new) }
     ensures later { O.faults site.old ≤ O.faults site.new }
