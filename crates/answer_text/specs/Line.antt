@@ -134,15 +134,15 @@ abbrev pub HasLine : Form → ℕ → Answer → (List ℕ → Type 0) → Type 
 HasLine form index answer P = MatchOption (code_at answer.code) ⊥
     (λ code. HasValues code answer (λ values. P (line_text form index code values)))
 
--- what is answered is want of memory, or that the fact does not hold
+-- what is answered is lack of memory, or that the fact does not hold
 abbrev pub LacksUnlessNoMemory : Type 0 → TextError → Type 0
 LacksUnlessNoMemory fact errors.NoMemory = ⊤
 LacksUnlessNoMemory fact errors.NoAnswer = ¬ fact
 
--- the answer is none of this code, or memory was wanting
+-- the answer is none of this code, or memory ran out
 abbrev pub LacksValues : Code → Answer → TextError → Type 0
 LacksValues code answer error = LacksUnlessNoMemory (HasValues code answer (λ _. ⊤)) error
 
--- the answer is none of the formats, or memory was wanting
+-- the answer is none of the formats, or memory ran out
 abbrev pub LacksLine : Answer → TextError → Type 0
 LacksLine answer error = LacksUnlessNoMemory (IsOfFormats answer) error

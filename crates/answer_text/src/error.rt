@@ -11,7 +11,7 @@ pub enum TextError {
     /// It is none of the formats.
     #[error("no answer")]
     NoAnswer,
-    /// Memory was wanting.
+    /// Memory ran out.
     #[error("no memory")]
     NoMemory,
 }

@@ -55,7 +55,7 @@ pub fn put_answer(
 ) -> Result<(), TextError>
     // What is put is the line of the answer in this form.
     ensures put { OnOk result (HasLine form index answer.now (λ line. text.new.items ≡ text.old.items ++ line)) }
-    // Only an answer that is none of the formats has no line, but for want of memory.
+    // Only an answer that is none of the formats has no line, but for lack of memory.
     ensures lacks { IfErr result (LacksLine answer.now) }
 {
     let Some(code) = Code::of(answer.code) else {

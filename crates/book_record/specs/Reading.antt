@@ -23,7 +23,7 @@ abbrev pub IsReadUnlessNoMemory : {X : Type 0} → Result X RecordError → X �
 IsReadUnlessNoMemory (Ok x) value = x ≡ value
 IsReadUnlessNoMemory (Err e) value = e ≡ NoMemory
 
--- the error has this cause; want of memory needs none
+-- the error has this cause; lack of memory needs none
 abbrev pub HasCause : RecordError → Type 0 → Type 0
 HasCause Malformed Cause = Cause
 HasCause NoMemory Cause = ⊤

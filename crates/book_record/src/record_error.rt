@@ -10,7 +10,7 @@ pub enum RecordError {
     /// The body is no record.
     #[error("malformed record")]
     Malformed,
-    /// Memory was wanting.
+    /// Memory ran out.
     #[error("no memory")]
     NoMemory,
 }

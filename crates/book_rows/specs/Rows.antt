@@ -6,7 +6,7 @@ use Rattle.unit_state.specs.declared.state.State.{State}
 use Rattle.book_rows.specs.declared.rows_fault.RowsFault.{RowsFault}
 use Rattle.book_rows.specs.declared.rows_fault.RowsFault.TheVariants.{Unfit, NoMemory}
 
--- a fault of rows has this cause; want of memory needs none
+-- a fault of rows has this cause; lack of memory needs none
 abbrev pub HasRowsCause : RowsFault → Type 0 → Type 0
 HasRowsCause Unfit Broken = Broken
 HasRowsCause NoMemory Broken = ⊤

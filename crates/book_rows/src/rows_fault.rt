@@ -10,7 +10,7 @@ pub enum RowsFault {
     /// The rows break a rule of a state.
     #[error("rows break a rule")]
     Unfit,
-    /// Memory was wanting.
+    /// Memory ran out.
     #[error("no memory")]
     NoMemory,
 }

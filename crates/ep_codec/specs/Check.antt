@@ -4,7 +4,7 @@ use Rattle.sdls_base.specs.FirstFailing.{Check, first_failing}
 use Rattle.ep_codec.specs.declared.pdu_error.PduError.{PduError}
 use Rattle.ep_codec.specs.declared.pdu_error.PduError.TheVariants.{Fault, NoMemory}
 
--- the error is the first fault; want of memory needs no cause
+-- the error is the first fault; lack of memory needs no cause
 abbrev pub IsFirst : PduError → List (Check ℕ) → Type 0
 IsFirst (Fault offset) checks = first_failing checks ≡ Some offset
 IsFirst NoMemory checks = ⊤

@@ -10,7 +10,7 @@ pub enum PduError {
     /// The octets are no message of this type. The offset of the first fault, in octets from the first.
     #[error("no message, fault at octet {0}")]
     Fault(u32),
-    /// Memory was wanting.
+    /// Memory ran out.
     #[error("no memory")]
     NoMemory,
 }

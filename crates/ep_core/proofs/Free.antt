@@ -1,4 +1,4 @@
--- What no book refuses: its refusals but want of memory are told, so that nothing told is nothing refused.
+-- What no book refuses: its refusals but lack of memory are told, so that nothing told is nothing refused.
 use Rattle.std.proofs.Common.{◌≡◌, ℕ, ◌+◌, ◌≤◌, length, Bool, true, false, not, nat_lt, nat_le, List, [], ◌∷◌, ◌++◌, Option, Some, None, IsSome, refl, sym, ap, ◌∙◌, arith}
 use Rattle.std.specs.Prelude.{⊤, is_some}
 use Rattle.std.specs.List.{AllByRecursion}

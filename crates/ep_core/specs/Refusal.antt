@@ -64,7 +64,7 @@ value_of (PduFault offset) = offset
 value_of (NotMaster key) = key
 value_of (NotSession key) = key
 
--- ---- what the books refuse; want of memory is no refusal
+-- ---- what the books refuse; lack of memory is no refusal
 
 abbrev pub of_keys : KeyRefusal → Option Refusal
 of_keys (key_book.AlreadyLoaded key) = Some (AlreadyLoaded key)

@@ -117,7 +117,7 @@ impl Refusal {
         }
     }
 
-    /// What the book of keys refuses. Want of memory is no refusal.
+    /// What the book of keys refuses. Lack of memory is no refusal.
     pub(crate) fn of_keys(refusal: KeyRefusal) -> Option<Refusal>
         ensures { result ≡ of_keys refusal }
     {

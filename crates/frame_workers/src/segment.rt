@@ -65,7 +65,7 @@ fn look_back<O: Site>(unit: &Unit<O>, worker: &mut Worker<O>)
 }
 
 /// Handles the records of a segment, the lanes at the same time, each by a worker of its own, and the records of a lane
-/// one after the other. The answers stand in the order of the records. Where memory is wanting, no record was handled.
+/// one after the other. The answers stand in the order of the records. If memory runs out, no record was handled.
 /// None of them is a Monitor record, which no worker handles. The bodies of answers are spare lists, if there are any.
 pub fn run_segment<R: Threads + Wait + Sync, O: Site + Send, G: Gate + Sync>(
     rt: &R,

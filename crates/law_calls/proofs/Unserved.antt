@@ -1,4 +1,4 @@
--- A record for whose answer memory was wanting before its call.
+-- A record for whose answer memory ran out before its call.
 use Rattle.std.proofs.Common.{ℕ, [], Some, refl, sym, append-nil, arith}
 use Rattle.record_io.specs.declared.records.Record.{Record}
 use Rattle.record_io.specs.declared.code.TheConstants.{NO_MEMORY}

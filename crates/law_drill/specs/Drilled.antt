@@ -102,6 +102,6 @@ pub record IsDrilled (number : ℕ) (answers : List Answer) (counts : Counts) : 
 abbrev pub all_counts : ℕ → Counts
 all_counts number = record { protected = number; accepted = number; rejected = (number + (CHUNK - 1)) / CHUNK }
 
--- where no answer tells want of memory, all are counted
+-- where no answer tells lack of memory, all are counted
 abbrev pub IsComplete : ℕ → List Answer → Counts → Type 0
 IsComplete number answers counts = list_any tells_want answers ≡ false → counts ≡ all_counts number

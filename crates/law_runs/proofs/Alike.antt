@@ -1,5 +1,5 @@
 -- Two runs of one lane over one image that handled the same records, and answered each, made the same entries, where the site did
--- not fail and memory was not wanting.
+-- not fail and memory sufficed.
 use Rattle.std.proofs.Common.{◌≡◌, ◌≢◌, ℕ, zero, suc, ◌+◌, ◌<◌, ◌≤◌, ◌==◌, Bool, IsTrue, true, false, List, [], ◌∷◌, ◌++◌, length, map, take, drop, refl, sym, ◌∙◌, ap, subst, inl, inr, arith, append_assoc, append-nil, length-append, eqb, Ok}
 use Rattle.std.specs.Bool.{⊤}
 use Rattle.std.specs.List.{All, list_any, slice_index}
@@ -46,7 +46,7 @@ use Rattle.law_runs.specs.Says.{IsUnfailed, NoneFails, NoneWants}
 
 -- ---- codes
 
--- each of the codes is at most that of want of memory
+-- each of the codes is at most that of lack of memory
 abbrev AreLow : List ℕ → Type 0
 AreLow [] = ⊤
 AreLow (code ∷ codes) = (code ≤ NO_MEMORY) × AreLow codes

@@ -368,7 +368,7 @@ module _ (start now : SourceSeen) (begin : Begin) (first v : View) (failed_befor
           (All-append (λ (p : Place). r.number ≤ p.segment) (places_from (counted first_count items) r.more) (place ∷ []) later_segments
           (All-cons (λ (p : Place). r.number ≤ p.segment) place [] high (All-nil (λ (p : Place). r.number ≤ p.segment))))
 
-  -- memory was wanting: the records of the segments before are handled
+  -- memory ran out: the records of the segments before are handled
   pub wants : HasCome start now begin first v failed_before failed stored ends.NoMemory
   wants = record {
     items = r.all;
@@ -590,7 +590,7 @@ module _ (start now : SourceSeen) (begin : Begin) (first v : View) (failed_befor
         ∙ ap (λ (ds : List Deed). notes_in items answers ++ map noted_of ds)
         (deeds_of_segment r.number more next r.of ∙ ap (λ (rs : List Record). deeds_of r.number rs next) (sym r.records_are))
 
--- memory was wanting while a segment was read
+-- memory ran out while a segment was read
 pub wants_reading : (start before now : SourceSeen) (standing : Standing) (begin : Begin) (first v : View) (failed_before failed stored : ℕ)
     (way : IsUnderWay start before standing begin first v failed_before failed stored) → Loses start now way.items
     → HasCome start now begin first v failed_before failed stored ends.NoMemory

@@ -319,7 +319,7 @@ module _ (call : CallSeen) (run : RunEnds call) where
       let i = length-drop ends call.entries in
       omega arith
 
-  -- no count rises, the input is well formed, and short enough for the history: then all is done, or memory was wanting
+  -- no count rises, the input is well formed, and short enough for the history: then all is done, or memory ran out
   module _ (plan : PlanLines) (state : State) (free : IsUnhindered call run plan state)
       (reads_once : (input : List ℕ) (xs ys : List Item) (e f : InputEnd) → IsInput input xs e → IsInput input ys f → (xs ≡ ys) × (e ≡ f))
       (shows_state : (image : List ℕ) (shown : State) (offset : ℕ) → Shows image shown → ¬ ShowsNone image offset) where

@@ -32,7 +32,7 @@ abbrev pub GoesToItsEnd : (call : CallSeen) → RunEnds call → Type 0
 GoesToItsEnd call ends = (ends.account.came ≡ Ended) ⊎ (((offset : ℕ) × (ends.account.came ≡ Malformed offset))
     ⊎ (((count : ℕ) × (ends.account.came ≡ SourceFault count)) × Rose call.source.faults call.source_after.faults))
 
--- The status is that of the refused image, of a fault of the site, or of want of memory; with the first the image is as
+-- The status is that of the refused image, of a fault of the site, or of lack of memory; with the first the image is as
 -- it was.
 pub record IsLeftRefused (call : CallSeen) : Type 0 where
   pub status_is : (call.status ≡ status.NO_STATE)
@@ -44,7 +44,7 @@ pub record EndsWithFullHistory (call : CallSeen) (ends : RunEnds call) : Type 0 
   pub full : length call.entries ≡ MOST_ENTRIES
   pub by : (ends.account.came ≡ SessionFull) ⊎ ((ends.account.came ≡ Ended) × (ends.account.told ≡ SessionFull))
 
--- Nothing can keep the run from its end but want of memory: the image shows a state, no count rose, the input is whole
+-- Nothing can keep the run from its end but lack of memory: the image shows a state, no count rose, the input is whole
 -- and well formed, and not too long for the history.
 pub record IsUnhindered (call : CallSeen) (ends : RunEnds call) (plan : PlanLines) (state : State) : Type 0 where
   pub site_told : IsTrue call.told
@@ -55,11 +55,11 @@ pub record IsUnhindered (call : CallSeen) (ends : RunEnds call) (plan : PlanLine
   pub well_formed : (items : _) × IsInput call.source.left items Whole
   pub short : 2 * length (places_of ends.account.items) + MOST_KEYS < MOST_ENTRIES
 
--- for no record memory was wanting
+-- for no record memory ran out
 abbrev pub NoneWants : List Answer → Type 0
 NoneWants answers = All (λ answer. answer.code ≢ NO_MEMORY) answers
 
--- none of the answers tells a fault of the site or want of memory: none is 31, 32 or 33
+-- none of the answers tells a fault of the site or lack of memory: none is 31, 32 or 33
 abbrev pub NoneFails : List Answer → Type 0
 NoneFails answers = All (λ answer. (¬ SaysSiteFailed answer) × (answer.code ≢ NO_MEMORY)) answers
 

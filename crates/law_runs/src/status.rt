@@ -35,7 +35,7 @@ pub fn faults_are_told()
 {}
 
 /// Law: after a fault of the disk the run goes on: with the status of a fault of the site and at least one entry, where
-/// no put failed and memory was not wanting, the input was read to its end.
+/// no put failed and memory sufficed, the input was read to its end.
 pub fn goes_to_its_end()
     ensures { (call : CallSeen) (run : RunEnds call) → call.site_after.put_faults ≡ call.site.put_faults
         → call.status ≡ SITE_FAULT
@@ -67,7 +67,7 @@ pub fn refused_stays()
         → IsLeftRefused call }
 {}
 
-/// Law: a run that nothing hinders does all, or memory was wanting.
+/// Law: a run that nothing hinders does all, or memory ran out.
 pub fn unhindered_run_completes()
     ensures { (call : CallSeen) (run : RunEnds call) (plan : PlanLines) (state : State)
         → IsUnhindered call run plan state

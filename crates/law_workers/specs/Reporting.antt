@@ -18,7 +18,7 @@ pub record Looked (begin : Begin) (old new : View) (tasks : List Record) : Type 
   pub log : log_of new ≡ log_of old
   pub stands : new.turn.known.standing ≤ length (entries_in new)
 
--- a reply or a fault, at the count of the entries that stand; or memory was wanting
+-- a reply or a fault, at the count of the entries that stand; or memory ran out
 abbrev pub IsReportAt : View → Answer → Type 0
 IsReportAt view answer = ((said : Result (List ℕ) ℕ) × (told_by answer ≡ monitored_told said)
     × (answer.position ≡ view.turn.known.standing)) ⊎ IsWanting answer

@@ -23,7 +23,7 @@ use Rattle.sa_book.specs.declared.sa_refusal.SaRefusal.TheVariants.{KeyNotActive
 use Rattle.sa_book.specs.declared.sa_refusal.SaRefusal.TheVariants.{PastEnd, UnknownChannel, KeyTaken, NoMemory}
 use Rattle.sa_book.specs.SaBook.{row_of, covers}
 
--- a refusal is want of memory, or the first that applies
+-- a refusal is lack of memory, or the first that applies
 abbrev pub IsSaRefusal : SaRefusal → Option SaRefusal → Type 0
 IsSaRefusal refusal first = (refusal ≡ NoMemory) ⊎ (first ≡ Some refusal)
 

@@ -10,7 +10,7 @@ use crate::sa_refusal::SaRefusal;
 use sdls_base::{ChannelId, KeyId, KeyState, NewSa, Spi};
 
 impl SaBook {
-    /// What `create` would refuse, but for want of memory.
+    /// What `create` would refuse, but for lack of memory.
     pub fn create_refusal(&self, new: &NewSa, known: &[ChannelId]) -> Option<SaRefusal>
         requires { All (λ channel. channel ≤ 63) new.now.channels }
         ensures { result ≡ create_refusal self.now new.now known.now }

@@ -38,7 +38,7 @@ pub enum SaRefusal {
     /// The receiving association with this index holds the key.
     #[error("key is held by receiving association {}", .0.get())]
     KeyTaken(Spi),
-    /// Memory was wanting.
+    /// Memory ran out.
     #[error("no memory")]
     NoMemory,
 }

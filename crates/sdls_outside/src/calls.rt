@@ -49,7 +49,7 @@ impl Calls {
         self.failing.contains(&self.made) || is_dead
     }
 
-    // Counts a fault of the call that is on, where memory is wanting for it.
+    // Counts a fault of the call that is on, if memory runs out for it.
     pub fn counted(&mut self, outcome: Result<(), AllocError>) -> Result<(), Failed>
         ensures variant { is_ok result ≡ is_ok outcome }
         ensures plan { plan_of self.new ≡ plan_of self.old }

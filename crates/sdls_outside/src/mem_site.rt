@@ -13,7 +13,7 @@ use crate::{Crash, Failed, Site};
 use std::alloc::Global;
 
 /// A disk and a sink in memory, which fails at the calls listed. A call that fails changes nothing
-/// that is told. A call for which memory is wanting fails too.
+/// that is told. A call for which memory runs out fails too.
 #[derive(Drop)]
 pub struct MemSite {
     history: History,
@@ -134,7 +134,7 @@ impl Site for MemSite {
         Ok(())
     }
 
-    /// It fails at the calls listed, and where memory is wanting.
+    /// It fails at the calls listed, and if memory runs out.
     fn write_at(&mut self, at: u64, octets: &[u8]) -> Result<(), Failed>
         requires { at ≤ length (site_trace self.old).now.image }
         ensures fails { IsTrue (fails_next (site_plan self.old)) → IsErr result }
@@ -149,7 +149,7 @@ impl Site for MemSite {
         self.calls.counted(written)
     }
 
-    /// It fails at the calls listed, and where memory is wanting.
+    /// It fails at the calls listed, and if memory runs out.
     fn sync(&mut self) -> Result<(), Failed>
         ensures fails { IsTrue (fails_next (site_plan self.old)) → IsErr result }
         ensures counts { site_plan self.new ≡ record (site_plan self.old) { made = counted (site_plan self.old).made } }
@@ -162,7 +162,7 @@ impl Site for MemSite {
         self.calls.counted(synced)
     }
 
-    /// It fails at the calls listed, and where memory is wanting.
+    /// It fails at the calls listed, and if memory runs out.
     fn put(&mut self, octets: &[u8]) -> Result<(), Failed>
         ensures fails { IsTrue (fails_next (site_plan self.old)) → IsErr result }
         ensures counts { site_plan self.new ≡ record (site_plan self.old) { made = counted (site_plan self.old).made } }

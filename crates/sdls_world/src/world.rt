@@ -76,7 +76,7 @@ impl World {
         self.used.as_slice()
     }
 
-    /// Does one step. Want of memory changes nothing, and comes also where a word would pass 2^64 - 1.
+    /// Does one step. Lack of memory changes nothing, and comes also where a word would pass 2^64 - 1.
     pub fn step(&mut self, step: &Step) -> Result<(), NoMemory>
         ensures ok { OnOk result (self.new ≡ after self.old step.now) }
         ensures err { OnErr result (self.new ≡ self.old) }
@@ -85,7 +85,7 @@ impl World {
         self.change(step)
     }
 
-    /// Does the steps, one after the other. After want of memory it has done some first ones.
+    /// Does the steps, one after the other. After lack of memory it has done some first ones.
     pub fn run(&mut self, steps: &[Step]) -> Result<(), NoMemory>
         ensures ok { OnOk result (self.new ≡ after_all self.old steps.now) }
         ensures err { OnErr result ((count : ℕ) × (self.new ≡ after_all self.old (take count steps.now))) }

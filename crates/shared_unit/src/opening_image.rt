@@ -52,7 +52,7 @@ impl<O: Site> Unit<O> {
         }
     }
 
-    // A unit over a book that was opened, with all words at its marks. Where memory is wanting the site comes back.
+    // A unit over a book that was opened, with all words at its marks. If memory runs out, the site comes back.
     fn share_book<R: Wait>(rt: &R, alloc: Global, book: Book<O>) -> Result<(Unit<O>, Worker<O>), O>
         requires kept { IsKept O.told book }
         requires first { book.log ≡ [] }

@@ -51,7 +51,7 @@ pub record AddsNext (left left_new old new : List ℕ) : Type 0 where
 abbrev pub SaysNothing : List ℕ → Type 0
 SaysNothing text = (line : Line) → Says text line → ⊥
 
--- the fault of this line comes with its number, and only where the line says nothing; want of memory needs no cause
+-- the fault of this line comes with its number, and only where the line says nothing; lack of memory needs no cause
 abbrev pub EndsAt : ℕ → List ℕ → End → Type 0
 EndsAt number text Done = ⊥
 EndsAt number text (LineFault at fault) = (at ≡ number) × SaysNothing text

@@ -13,7 +13,7 @@ use sdls_base::NoMemory;
 use sdls_outside::{Failed, Site, Source};
 use std::alloc::Global;
 
-/// Adds the octets of a line's item. After want of memory nothing was added.
+/// Adds the octets of a line's item. After lack of memory nothing was added.
 fn add(alloc: Global, out: &mut Vec<u8>, line: &Line) -> Result<(), NoMemory>
     requires { IsLine line.now }
     ensures added { OnOk result (out.new.items ≡ out.old.items ++ item_octets (line_item line.now)) }

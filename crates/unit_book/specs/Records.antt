@@ -33,7 +33,7 @@ pub record Handles (index : ℕ) (octets : List ℕ) (seen : Seen) (old new : Bo
   pub step : IsStepOf old.state octets seen (change, reply)
   pub made : Made (record_entry index seen change) old new position
 
--- Why a message makes no entry, in the order of the refusals. Want of memory, which needs no cause, leaves the book as
+-- Why a message makes no entry, in the order of the refusals. Lack of memory, which needs no cause, leaves the book as
 -- it was.
 abbrev pub RefusesMessage : ℕ → List ℕ → Seen → BookView → BookView → BookFault → Type 0
 RefusesMessage index octets seen old new fault = (IsBarred old fault × (new ≡ old))

@@ -26,7 +26,7 @@ pub record AreCounts (number : ℕ) (counts : Counts) : Type 0 where
   pub drilled : IsDrilled number answers counts
   pub complete : IsComplete number answers counts
 
--- the line and the status of a drill; want of memory needs no cause
+-- the line and the status of a drill; lack of memory needs no cause
 abbrev pub DrillDue : ℕ → List ℕ → ℕ → Type 0
 DrillDue number text status =
     ((counts : Counts) × AreCounts number counts × (text ≡ drill_text number counts) × (status ≡ statuses.DONE))

@@ -66,7 +66,7 @@ fn line_of<R: Threads + Wait + Sync, G: Gate + Sync>(
         × (line.items ≡ drill_text number counts)) }
 {
     let counts = counts_of(rt, alloc, number, gate)?;
-    // For contracts alone: where no answer told want of memory, all frames are counted.
+    // For contracts alone: where no answer told lack of memory, all frames are counted.
     drill_is_complete();
     drill_line(alloc, number, counts)
 }
@@ -108,7 +108,7 @@ pub(crate) fn end_with<O: Site>(
 }
 
 /// Runs a drill of this many frames, on four lanes, and puts its line: how many the one unit protected, how many the
-/// other accepted with their data fields, and how many it rejected for their number. Where memory is wanting, or the
+/// other accepted with their data fields, and how many it rejected for their number. If memory runs out, or the
 /// site of one of these units fails, it puts that in place of the line. The gate is called before and after each
 /// record.
 ///

@@ -46,7 +46,7 @@ fn has_fault(answers: &[Answer]) -> bool
 }
 
 impl DrillUnit {
-    /// A unit of the image that this plan begins with. Whatever refuses it is want of memory: the image is that of a
+    /// A unit of the image that this plan begins with. Whatever refuses it is lack of memory: the image is that of a
     /// plan.
     pub(crate) fn open<R: Wait>(rt: &R, alloc: Global, plan: &[u8]) -> Result<DrillUnit, NoMemory>
         requires { length plan.now ≤ MOST_OCTETS }
@@ -60,7 +60,7 @@ impl DrillUnit {
         }
     }
 
-    /// Handles the records of a segment. A fault of the unit's own site is want of memory.
+    /// Handles the records of a segment. A fault of the unit's own site is lack of memory.
     pub(crate) fn serve<R: Threads + Wait + Sync, G: Gate + Sync>(
         &mut self,
         rt: &R,

@@ -47,7 +47,7 @@ abbrev pub as_open_fault : JournalFault → OpenFault
 as_open_fault (journal_faults.SiteFault count) = SiteFault count
 as_open_fault (journal_faults.Image offset) = Image offset
 
--- why a text is no plan without keys and associations; want of memory needs no cause
+-- why a text is no plan without keys and associations; lack of memory needs no cause
 abbrev pub IsTextCause : List ℕ → OpenFault → Type 0
 IsTextCause text (SiteFault count) = ⊥
 IsTextCause text (Image offset) = ((plan : PlanLines) → ¬ SaysBarePlan text plan) × (offset ≡ PLAN_AT)

@@ -9,7 +9,7 @@ pub enum OpenFault {
     /// The image shows no state; the offset of the first check that fails.
     #[error("image shows no state: the check at octet {0} fails")]
     Image(u64),
-    /// Memory is wanting.
+    /// Memory ran out.
     #[error("no memory")]
     NoMemory,
 }

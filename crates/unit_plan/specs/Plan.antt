@@ -166,7 +166,7 @@ after line plan (text ∷ lines) = line_taken line plan text >>= λ next. after 
 abbrev pub plan_of : List ℕ → Result PlanLines PlanFault
 plan_of text = if nat_lt 65536 (length text) then fault 1 Long else after 1 no_lines (lines_of text)
 
--- what a call answers, and what it left, is what taking a line gives, unless memory was wanting
+-- what a call answers, and what it left, is what taking a line gives, unless memory ran out
 abbrev pub TakesPlanLine : Result (Unit {0}) PlanError → Result PlanLines PlanFault → PlanLines → Type 0
 TakesPlanLine (Ok u) said plan = said ≡ Ok plan
 TakesPlanLine (Err (Refused first)) said plan = said ≡ Err first

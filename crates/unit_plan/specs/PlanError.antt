@@ -24,7 +24,7 @@ abbrev pub require : {A : Type 0} → ℕ → PlanCause → Option A → Result 
 require line cause None = fault line cause
 require line cause (Some x) = Ok x
 
--- what a call answers is this, unless memory was wanting
+-- what a call answers is this, unless memory ran out
 abbrev pub Gives : {A : Type 0} → Result A PlanError → Result A PlanFault → Type 0
 Gives (Ok x) said = said ≡ Ok x
 Gives (Err (Refused first)) said = said ≡ Err first

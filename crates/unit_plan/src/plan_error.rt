@@ -45,7 +45,7 @@ pub struct PlanFault {
 pub enum PlanError {
     #[error("{0}")]
     Refused(PlanFault),
-    /// Memory was wanting.
+    /// Memory ran out.
     #[error("no memory")]
     NoMemory,
 }

@@ -231,7 +231,7 @@ module _ (start before now : SourceSeen) (standing standing_now : Standing) (beg
       → Comes start now begin first w (end_of_stop stop)
   leads_to_stop r stop s = stops_so start now begin first v w goes.way.items goes.way.answers goes.way.served records r whole old new goes.reports stop s
 
--- memory was wanting while the segment was read
+-- memory ran out while the segment was read
 pub leads_unread : (start before now : SourceSeen) (standing : Standing) (begin : Begin) (first v : View) (report : Report)
     (goes : Goes start before standing begin first v report) → Loses start now goes.way.items → Comes start now begin first v ends.NoMemory
 leads_unread start before now standing begin first v report goes l =

@@ -10,7 +10,7 @@ use Rattle.run_promise.specs.Fits.{IsWanting}
 use Rattle.run_promise.specs.Reports.{AreReported, noted_of}
 use Rattle.law_workers.specs.Deeds.{deeds_of}
 
--- the answer to a monitoring message, by what the log reports, where so many entries stand; or memory was wanting
+-- the answer to a monitoring message, by what the log reports, where so many entries stand; or memory ran out
 abbrev pub LogAnswers : Report → List ℕ → ℕ → Answer → Type 0
 LogAnswers report octets standing answer = IsWanting answer
     ⊎ ((said : Result (List ℕ) ℕ) × Answers report octets said × (told_by answer ≡ monitored_told said)

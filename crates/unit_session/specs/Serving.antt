@@ -28,7 +28,7 @@ pub record IsHandledAndPut (begin : Begin) (records : List Record) (v w : View) 
   pub reported : ReportsAll records answers old
   pub so : P mid answers
 
--- Each record was answered, and all was put; or memory was wanting, and nothing was done; or the history was full, and
+-- Each record was answered, and all was put; or memory ran out, and nothing was done; or the history was full, and
 -- the answers before were put; or a put failed.
 abbrev pub ServesSegment : Begin → List Record → Result (Unit {0}) Stop → View → View → Report → Report → Type 0
 ServesSegment begin records (Ok done) v w old new = IsHandledAndPut begin records v w old new (λ mid answers.

@@ -32,7 +32,7 @@ use unit_book::BookFault;
 /// Why no more records are served.
 #[derive(Clone, Copy, Debug, PartialEq, Eq)]
 pub enum Stop {
-    /// Memory is wanting.
+    /// Memory ran out.
     NoMemory,
     /// The history is full.
     Full,

@@ -26,7 +26,7 @@ pub struct Session<O: Site> {
     pub(crate) spare: Spare,
 }
 
-/// Room for a piece of answers. Where memory is wanting for it there is none, and answers are put alone.
+/// Room for a piece of answers. If memory for it runs out, there is none, and answers are put alone.
 fn room_for_answers(alloc: Global) -> Vec<u8>
     ensures { result.items ≡ [] }
 {

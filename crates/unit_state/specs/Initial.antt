@@ -104,7 +104,7 @@ in_order (key ∷ keys) (found ∷ associations) =
 abbrev pub initial : PlanLines → Result State PlanFault
 initial plan = lines_made (bare plan) (in_order plan.keys plan.associations)
 
--- what a call answers, and the state that it left, is what lines make, unless memory was wanting
+-- what a call answers, and the state that it left, is what lines make, unless memory ran out
 abbrev pub MakesLines : Result (Unit {0}) PlanError → Result State PlanFault → State → Type 0
 MakesLines (Ok u) said state = said ≡ Ok state
 MakesLines (Err (RefusedAt first)) said state = said ≡ Err first

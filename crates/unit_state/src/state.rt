@@ -33,7 +33,7 @@ fn to_floors(associations: &mut SaBook, keys: &[KeyRow])
 }
 
 impl State {
-    /// Makes a change that the state allows. After want of memory the state is as it was.
+    /// Makes a change that the state allows. After lack of memory the state is as it was.
     pub fn apply(&mut self, change: &Change) -> Result<(), NoMemory>
         requires { Allows self.old change.now }
         ensures applied { OnOk result (self.new ≡ applied self.old change.now) }
