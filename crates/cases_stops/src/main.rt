@@ -1,0 +1,42 @@
+//! Tables of runs on a site that is dead from a call on, or that fails at one call, for each call of the run. A line of
+//! standard input is a step; what it answers is printed, and `# TITLE` is printed as it is.
+//!
+//! `plan LINE` gathers a line of a plan, and `unit` makes the image of a unit of it. `records` begins an input anew;
+//! `protect LINK OCTETS`, `open LINK OCTETS`, `command OCTETS` and `fence` gather its items, all on lane 0. Each run is
+//! over this image and this input.
+//!
+//! `stops KIND`: the site is dead from call k, for k from 0 on, until a run meets no stop. Behind each the image is
+//! crashed: `kept`, `lost`, or filled with an octet. Then the same input is run again. `gone FIRST KIND OCTETS`: the
+//! same from a call on, and these octets stand nowhere in what the crash leaves, nor behind the next run.
+//!
+//! `failing OPENING`: one call fails, for each call of a run, of which so many open the image.
+//!
+//! `next` begins the input of a later run. `refused` runs the first input twice, each time over the image of the unit,
+//! and the later one behind each. `docs/refuse_memory` has each allocation of that refused in turn.
+#![tactic(auto)]
+
+mod answers;
+mod failing;
+mod refused;
+mod runs;
+mod stops;
+mod table;
+
+use table::Table;
+
+fn main(rt: HostRuntime) -> anyhow::Result<()> {
+    let mut table = Table::new(rt.alloc());
+    for line in rt.lines(rt.alloc()) {
+        let line = line?;
+        let line = line.as_str();
+        if line.starts_with("#") {
+            println!(rt; "{line}")?;
+        } else {
+            let answer = table.answer(&rt, rt.alloc(), line)?;
+            if !answer.is_empty() {
+                println!(rt; "{answer}")?;
+            }
+        }
+    }
+    Ok(())
+}
