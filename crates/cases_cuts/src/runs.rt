@@ -3,7 +3,8 @@ use case_lines::number_of;
 use case_runs::BEGINNING;
 use record_io::Outcome;
 use record_io::code::{ACCEPTED, DONE};
-use sdls_outside::{MemSite, SureSource};
+use record_io::status::SOURCE_FAULT;
+use sdls_outside::{MemSite, MemSource, Source, SureSource};
 use std::alloc::{AllocError, Global};
 use std::sync::Wait;
 use std::thread::Threads;
@@ -42,14 +43,18 @@ pub fn no_records(alloc: Global) -> Result<Vec<u8>, AllocError> {
 
 /// A run: the site that it leaves. What it ensures is not said again: the clauses would be carried through each step
 /// behind the call.
-fn ran<R: Threads + Wait + Sync>(rt: &R, alloc: Global, input: Vec<u8>, site: MemSite) -> MemSite {
-    let mut source = SureSource::new(input);
+fn ran<R: Threads + Wait + Sync, S: Source>(
+    rt: &R,
+    alloc: Global,
+    source: &mut S,
+    site: MemSite,
+) -> (u8, MemSite) {
     let Outcome {
-        status: _,
+        status,
         site,
         entries: _,
-    } = run_recorded(rt, alloc, &mut source, site, &OpenGate);
-    site
+    } = run_recorded(rt, alloc, source, site, &OpenGate);
+    (status, site)
 }
 
 /// An answer: code, detail, key, number and body.
@@ -66,23 +71,11 @@ fn told_of(alloc: Global, header: &[u8], body: &[u8]) -> anyhow::Result<Told> {
     })
 }
 
-/// What a run over a copy of the image answers, End included.
-pub fn answers_of<R: Threads + Wait + Sync>(
-    rt: &R,
-    alloc: Global,
-    image: &[u8],
-    input: Vec<u8>,
-) -> anyhow::Result<Vec<Told>> {
-    let image = Vec::from_slice(alloc, image)?;
-    let site = ran(
-        rt,
-        alloc,
-        input,
-        MemSite::new(alloc, image, Vec::new(alloc), None),
-    );
+/// The answers that were put.
+fn answers_put(alloc: Global, sunk: &[u8]) -> anyhow::Result<Vec<Told>> {
     let mut answers = Vec::new(alloc);
-    let mut rest = site.sunk();
-    for _ in 0..site.sunk().len() {
+    let mut rest = sunk;
+    for _ in 0..sunk.len() {
         let Some((header, behind)) = rest.split_at_checked(HEADER) else {
             break;
         };
@@ -92,4 +85,37 @@ pub fn answers_of<R: Threads + Wait + Sync>(
         rest = behind;
     }
     Ok(answers)
+}
+
+/// What a run over a copy of the image answers, End included.
+pub fn answers_of<R: Threads + Wait + Sync>(
+    rt: &R,
+    alloc: Global,
+    image: &[u8],
+    input: Vec<u8>,
+) -> anyhow::Result<Vec<Told>> {
+    let image = Vec::from_slice(alloc, image)?;
+    let site = MemSite::new(alloc, image, Vec::new(alloc), None);
+    let (_, site) = ran(rt, alloc, &mut SureSource::new(input), site);
+    answers_put(alloc, site.sunk())
+}
+
+/// The same from a source that gives at most so many octets a call, and fails at one call. None if the run does not
+/// come to it.
+pub fn answers_before<R: Threads + Wait + Sync>(
+    rt: &R,
+    alloc: Global,
+    image: &[u8],
+    input: Vec<u8>,
+    piece: usize,
+    call: u64,
+) -> anyhow::Result<Option<Vec<Told>>> {
+    let image = Vec::from_slice(alloc, image)?;
+    let site = MemSite::new(alloc, image, Vec::new(alloc), None);
+    let mut source = MemSource::new(input, piece.max(1), vec![in alloc; call]?);
+    let (status, site) = ran(rt, alloc, &mut source, site);
+    if status != SOURCE_FAULT {
+        return Ok(None);
+    }
+    Ok(Some(answers_put(alloc, site.sunk())?))
 }

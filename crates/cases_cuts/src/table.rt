@@ -1,8 +1,8 @@
 //! The steps, and what they answer.
 use crate::changes::{Change, change_of, changed, places};
 use crate::rows::Rows;
-use crate::runs::{Head, answers_of, no_records, push_record};
-use case_lines::{Gathered, number_at, said, word_at};
+use crate::runs::{Head, Told, answers_before, answers_of, no_records, push_record};
+use case_lines::{Gathered, number_at, octets, said, word_at};
 use case_units::image_of;
 use std::alloc::{AllocError, Global};
 use std::sync::Wait;
@@ -10,6 +10,18 @@ use std::thread::Threads;
 
 /// The most records that a run gets.
 const MOST: usize = 32;
+
+/// All answers in one line.
+fn line_of(alloc: Global, answers: Vec<Told>) -> anyhow::Result<String> {
+    let mut line = String::new(alloc);
+    for told in answers {
+        if !line.is_empty() {
+            line.push_str(", ")?;
+        }
+        line.push_str(told.text.as_str())?;
+    }
+    Ok(line)
+}
 
 /// What was gathered: a plan, the image of a unit, and a record.
 #[derive(Drop)]
@@ -140,14 +152,7 @@ impl Table {
         if let Some(at) = input.get_mut(place) {
             *at = octet;
         }
-        let mut line = String::new(alloc);
-        for told in answers_of(rt, alloc, self.image.as_slice(), input)? {
-            if !line.is_empty() {
-                line.push_str(", ")?;
-            }
-            line.push_str(told.text.as_str())?;
-        }
-        Ok(line)
+        line_of(alloc, answers_of(rt, alloc, self.image.as_slice(), input)?)
     }
 
     /// The answers of a run over the input with each octet at the place that a line says.
@@ -162,6 +167,37 @@ impl Table {
         for octet in 0..=255u8 {
             let answer = self.answers_with(rt, alloc, place, octet)?;
             rows.push(alloc, usize::from(octet), answer)?;
+        }
+        Ok(rows.into_lines(alloc)?)
+    }
+
+    /// The answers of runs over all fronts of the input.
+    fn ends<R: Threads + Wait + Sync>(&self, rt: &R, alloc: Global) -> anyhow::Result<String> {
+        let mut rows = Rows::new(alloc);
+        for length in 0..=self.input.len() {
+            let front = Vec::from_slice(alloc, self.input.get(..length).unwrap_or(&[]))?;
+            let answers = answers_of(rt, alloc, self.image.as_slice(), front)?;
+            rows.push(alloc, length, line_of(alloc, answers)?)?;
+        }
+        Ok(rows.into_lines(alloc)?)
+    }
+
+    /// The answers of runs from a source that gives at most so many octets a call and fails at one, by that call.
+    fn broken<R: Threads + Wait + Sync>(
+        &self,
+        rt: &R,
+        alloc: Global,
+        rest: &str,
+    ) -> anyhow::Result<String> {
+        let mut rows = Rows::new(alloc);
+        let piece = usize::try_from(number_at(rest, 0)).unwrap_or(usize::MAX);
+        for call in 0..=self.input.len() {
+            let input = Vec::from_slice(alloc, self.input.as_slice())?;
+            let image = self.image.as_slice();
+            match answers_before(rt, alloc, image, input, piece, call as u64)? {
+                Some(answers) => rows.push(alloc, call, line_of(alloc, answers)?)?,
+                None => break,
+            }
         }
         Ok(rows.into_lines(alloc)?)
     }
@@ -185,10 +221,12 @@ impl Table {
             }
             "unit" => self.make(alloc),
             "input" => {
-                self.input = hex::decode(alloc, rest)?;
+                self.input = octets(alloc, &mut rest.split_whitespace())?;
                 Ok(String::new(alloc))
             }
             "values" => self.values(rt, alloc, rest),
+            "ends" => self.ends(rt, alloc),
+            "broken" => self.broken(rt, alloc, rest),
             "open" => self.take(rt, alloc, Head { kind: 2, link }, word_at(rest, 1)),
             "command" => self.take(rt, alloc, Head { kind: 3, link: 0 }, rest),
             _ => said(alloc, "no step"),
