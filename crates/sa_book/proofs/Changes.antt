@@ -1,5 +1,5 @@
 -- What each change of a row leaves of the rules.
-use Rattle.std.proofs.Common.{◌≡◌, ℕ, ◌+◌, ◌<◌, ◌≤◌, ◌^◌, ◌↔◌, lit≤, Bool, true, false, not, ◌&&◌, nat_eq, nat_le, List, [], ◌∷◌, length, get_or, set, Option, Some, None, IsNone, is_some, sym, refl, ap, ◌∙◌, subst, arith}
+use Rattle.std.proofs.Common.{◌≡◌, ℕ, ◌+◌, ◌<◌, ◌≤◌, ◌^◌, ◌↔◌, lit≤, max, Bool, true, false, not, ◌&&◌, nat_eq, nat_le, List, [], ◌∷◌, length, get_or, set, Option, Some, None, IsNone, is_some, sym, refl, ap, ◌∙◌, subst, arith}
 use Rattle.std.specs.List.{list_any, Contains}
 use Rattle.std.specs.Option.{option_map, SomeIff}
 use Rattle.std.proofs.lemmas.Bool.{false≢true}
@@ -19,7 +19,10 @@ use Rattle.sdls_base.specs.Bounds.{AreChannels, IsWidth}
 use Rattle.sdls_base.specs.FirstFailing.{fails_if, first_told}
 use Rattle.sdls_base.specs.declared.states.SaState.{SaState}
 use Rattle.sdls_base.specs.declared.states.SaState.TheVariants.{Unkeyed, Keyed, Operational}
+use Rattle.replay_window.specs.declared.TheConstants.{MOST_BACK}
 use Rattle.replay_window.specs.declared.window.Window.{Window}
+use Rattle.replay_window.specs.WindowField.{IsWindowField}
+use Rattle.replay_window.specs.Window.{accepted, with_field}
 use Rattle.sa_book.specs.declared.sa_row.SaRow.{SaRow}
 use Rattle.sa_book.specs.declared.sa_refusal.SaRefusal.{SaRefusal}
 use Rattle.sa_book.specs.declared.sa_refusal.SaRefusal.TheVariants.{SpiTaken, UnknownChannel, TableFull, WrongSuite}
@@ -27,6 +30,7 @@ use Rattle.sa_book.specs.SaRow.{IsSaRow, HasHigh, following, with_key, without_k
 use Rattle.sa_book.specs.SaBook.{IsSaBook, row_of, place_of, covers, is_operational, is_same_direction, with_row}
 use Rattle.sa_book.specs.SaRefusal.{unless_unkeyed, unless_keyed, unless_operational, unless_active, if_unkeyed, is_same_class, is_receiving, is_key, taken_key, receives_with, receiver_with, number_refusal, number_refusal_of, key_refusal, rival_of, taken_channel, create_refusal, first_unknown}
 use Rattle.sdls_base.proofs.Searches.{find_none, is_some-find}
+use Rattle.sa_book.proofs.HighRules.{FitsWindow}
 use Rattle.sa_book.proofs.Rows.{IsSaBook-set, IsSaBook-insert, rules_at}
 
 -- what no refusal says
@@ -65,6 +69,7 @@ with_state row state ok had has =
       suite = ok.suite;
       high = ok.high;
       width = ok.width;
+      back = ok.back;
       channels = ok.channels;
     }
 
@@ -139,6 +144,7 @@ IsSaBook-expire rows i row ok within read =
       suite = tt;
       high = no_high row.direction;
       width = rules.width;
+      back = rules.back;
       channels = rules.channels;
     })
     refl
@@ -185,6 +191,10 @@ width_after : (direction : Direction) (number : ℕ) (window : Window) → IsWid
 width_after Receive number window h = h
 width_after Send number window h = h
 
+back_after : (direction : Direction) (number : ℕ) (window : Window) → window.back ≤ MOST_BACK → (following direction number window).back ≤ MOST_BACK
+back_after Receive number window h = h
+back_after Send number window h = h
+
 receives_test : (row : SaRow) (key : ℕ) → row.direction ≡ Receive → row.key ≡ Some key → receives_with key row ≡ true
 receives_test row key direction holds =
     ap (λ (d : Direction). is_receiving d && is_key key row.key) direction
@@ -207,6 +217,7 @@ IsSaBook-rekey rows i row key state number floor ok within read free =
       suite = class_same (class_of key) (class_of_suite row.suite) (not_false _ (not_refused _ WrongSuite parts.0));
       high = high_after row.direction row.key key number row.window rules.high below;
       width = width_after row.direction number row.window rules.width;
+      back = back_after row.direction number row.window rules.back;
       channels = rules.channels;
     })
     refl
@@ -220,15 +231,16 @@ IsSaBook-rekey rows i row key state number floor ok within read free =
 
 -- numbers and windows
 
-with_window : (rows : List SaRow) (i : ℕ) (row : SaRow) (window : Window) → IsSaBook rows → i < length rows → row ≡ get_or rows i row → HasHigh row.direction row.key window.high → IsWidth window.width → IsSaBook (set rows i (record row { window = window }))
-with_window rows i row window ok within read high width =
+with_window : (rows : List SaRow) (i : ℕ) (row : SaRow) (window : Window) → IsSaBook rows → i < length rows → row ≡ get_or rows i row → FitsWindow row window → IsSaBook (set rows i (record row { window = window }))
+with_window rows i row window ok within read fits =
     let rules = rules_at rows i row ok within read in
     IsSaBook-set rows i row (record row { window = window }) ok within read
     (record {
       keyless = rules.keyless;
       suite = rules.suite;
-      high = high;
-      width = width;
+      high = fits.high;
+      width = fits.width;
+      back = fits.back;
       channels = rules.channels;
     })
     refl
@@ -244,24 +256,34 @@ IsSaBook-set_number rows i row number floor ok within read free =
     let rules = rules_at rows i row ok within read in
     let parts = none_both _ _ free in
     with_window rows i row (following row.direction number row.window) ok within read
-    (high_set row.direction row.key number floor row.window rules.high
-    (λ none. has_no_key row.state parts.0 (rules.keyless.1 none)) (none_both _ _ parts.1).0)
-    (width_after row.direction number row.window rules.width)
+    (record {
+      high = high_set row.direction row.key number floor row.window rules.high
+          (λ none. has_no_key row.state parts.0 (rules.keyless.1 none)) (none_both _ _ parts.1).0;
+      width = width_after row.direction number row.window rules.width;
+      back = back_after row.direction number row.window rules.back;
+    })
 
-pub IsSaBook-set_window : (rows : List SaRow) (i : ℕ) (row : SaRow) (width : ℕ) → IsSaBook rows → i < length rows → row ≡ get_or rows i row → IsWidth width → IsSaBook (set rows i (record row { window = record row.window { width = width } }))
-IsSaBook-set_window rows i row width ok within read wide =
-    with_window rows i row (record row.window { width = width }) ok within read (rules_at rows i row ok within read).high wide
+pub IsSaBook-set_window : (rows : List SaRow) (i : ℕ) (row : SaRow) (field : ℕ) → IsSaBook rows → i < length rows → row ≡ get_or rows i row → IsWindowField field → IsSaBook (set rows i (record row { window = with_field field row.window }))
+IsSaBook-set_window rows i row field ok within read bounds =
+    with_window rows i row (with_field field row.window) ok within read
+    (record { high = (rules_at rows i row ok within read).high; width = bounds.width; back = bounds.back })
 
-high_accepted : (direction : Direction) (held : Option ℕ) (key number : ℕ) → direction ≡ Receive → held ≡ Some key → number < end_of key → HasHigh direction held number
-high_accepted Receive (Some own) key number d h below = subst (λ n. number < end_of n) (sym (same_Some own key h)) below
-high_accepted Receive None key number d h below = absurd (cc)
-high_accepted Send held key number d h below = absurd (cc)
+high_accepted : (direction : Direction) (held : Option ℕ) (key number high : ℕ) → direction ≡ Receive → held ≡ Some key → number < end_of key → HasHigh direction held high
+    → HasHigh direction held (max high number)
+high_accepted Receive (Some own) key number high d h below has =
+    let low : number < end_of own = subst (λ n. number < end_of n) (sym (same_Some own key h)) below in omega arith
+high_accepted Receive None key number high d h below has = absurd (cc)
+high_accepted Send held key number high d h below has = absurd (cc)
 
-pub IsSaBook-accept : (rows : List SaRow) (i : ℕ) (row : SaRow) (number : ℕ) → IsSaBook rows → i < length rows → row ≡ get_or rows i row → MayAccept row number → IsSaBook (set rows i (record row { window = record row.window { high = number } }))
+pub IsSaBook-accept : (rows : List SaRow) (i : ℕ) (row : SaRow) (number : ℕ) → IsSaBook rows → i < length rows → row ≡ get_or rows i row → MayAccept row number → IsSaBook (set rows i (record row { window = accepted number row.window }))
 IsSaBook-accept rows i row number ok within read may =
-    with_window rows i row (record row.window { high = number }) ok within read
-    (high_accepted row.direction row.key may.key number may.receives may.holds may.fresh.below_end)
-    (rules_at rows i row ok within read).width
+    let rules = rules_at rows i row ok within read in
+    with_window rows i row (accepted number row.window) ok within read
+    (record {
+      high = high_accepted row.direction row.key may.key number row.window.high may.receives may.holds may.fresh.below_end rules.high;
+      width = rules.width;
+      back = rules.back;
+    })
 
 class_end : (class : KeyClass) → end_of_class class ≤ 2 ^ 48
 class_end Master = lit≤ tt
@@ -285,8 +307,8 @@ none_some : {X : Type 0} (o : Option X) → is_some o ≡ false → o ≡ None
 none_some None h = refl
 none_some (Some x) h = absurd (false≢true (sym h))
 
-pub IsSaBook-create : (rows : List SaRow) (new : NewSa) (known : List ℕ) → IsSaBook rows → IsWidth new.window → AreChannels new.channels → create_refusal rows new known ≡ None → IsSaBook (with_row rows (new_row new))
-IsSaBook-create rows new known ok wide channels free =
+pub IsSaBook-create : (rows : List SaRow) (new : NewSa) (known : List ℕ) → IsSaBook rows → IsWindowField new.window → AreChannels new.channels → create_refusal rows new known ≡ None → IsSaBook (with_row rows (new_row new))
+IsSaBook-create rows new known ok bounds channels free =
     let parts = create_parts (fails_if (is_some (row_of rows new.spi)) SpiTaken) (option_map UnknownChannel (first_unknown new.channels known)) (fails_if (nat_le MOST_ASSOCIATIONS (length rows)) TableFull) free in
     let alone = find_none (λ (row : SaRow). nat_eq row.spi new.spi) rows (none_some (row_of rows new.spi) (not_refused _ SpiTaken parts.0)) in
     let room : length rows < MOST_ASSOCIATIONS = below_of _ _ (not_refused _ TableFull parts.1) in
@@ -295,7 +317,8 @@ IsSaBook-create rows new known ok wide channels free =
       keyless = (λ u. refl, λ none. refl);
       suite = tt;
       high = no_high new.direction;
-      width = wide;
+      width = bounds.width;
+      back = bounds.back;
       channels = channels;
     })
     (λ k d low same. false≢true (sym (alone k d low) ∙ equal_number _ _ same))

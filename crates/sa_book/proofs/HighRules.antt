@@ -1,35 +1,50 @@
--- What the rules keep where only highest numbers change.
-use Rattle.std.proofs.Common.{◌≡◌, ℕ, ◌<◌, ◌≤◌, min, Bool, true, false, cond, nat_eq, ◌&&◌, List, [], ◌∷◌, map, get_or, Option, Some, None, sym, refl, ap, ◌∙◌, subst, arith}
+-- What the rules keep where windows begin anew.
+use Rattle.std.proofs.Common.{◌≡◌, ℕ, ◌<◌, ◌≤◌, Bool, true, false, cond, nat_eq, nat_lt, ◌&&◌, List, [], ◌∷◌, map, get_or, Option, Some, None, sym, refl, ap, ◌∙◌, subst, arith}
+use Rattle.std.proofs.lemmas.Bool.{ltb-true}
 use Rattle.std.proofs.lemmas.Bool.Decides.{nat_tests}
 use Rattle.std.proofs.lemmas.List.{length-map}
 use Rattle.std.proofs.lemmas.List.Elements.{All-map}
+use Rattle.sdls_base.specs.Bounds.{IsWidth}
 use Rattle.sdls_base.specs.KeyId.{end_of}
 use Rattle.sdls_base.specs.declared.TheConstants.{MOST_ASSOCIATIONS}
 use Rattle.sdls_base.specs.declared.states.Direction.{Direction}
 use Rattle.sdls_base.specs.declared.states.Direction.TheVariants.{Send, Receive}
+use Rattle.replay_window.specs.declared.TheConstants.{MOST_BACK}
+use Rattle.replay_window.specs.declared.window.Window.{Window}
+use Rattle.replay_window.specs.Window.{begun_at, lowered_to}
 use Rattle.sa_book.specs.declared.sa_row.SaRow.{SaRow}
 use Rattle.sa_book.specs.SaRow.{IsSaRow, HasHigh}
 use Rattle.sa_book.specs.SaBook.{RowsAreApart, IsSaBook}
 use Rattle.sa_book.specs.SaRefusal.{receives_with, is_receiving, is_key}
-use Rattle.sa_book.specs.Numbers.{with_high, lowered, all_high}
+use Rattle.sa_book.specs.Numbers.{with_high, with_floor, lowered, all_high, all_begun}
 use Rattle.sdls_base.proofs.Searches.{pairs_map}
 
-same_high : (b : Bool) (row : SaRow) (high : ℕ) → cond b (with_high row high) row ≡ with_high row (cond b high row.window.high)
-same_high true row high = refl
-same_high false row high = refl
+-- an association may have the window
+pub record FitsWindow (row : SaRow) (window : Window) : Type 0 where
+  pub high : HasHigh row.direction row.key window.high
+  pub width : IsWidth window.width
+  pub back : window.back ≤ MOST_BACK
 
-IsSaRow-high : (row : SaRow) (high : ℕ) → IsSaRow row → HasHigh row.direction row.key high → IsSaRow (with_high row high)
-IsSaRow-high row high ok has =
-    record { keyless = ok.keyless; suite = ok.suite; high = has; width = ok.width; channels = ok.channels }
+pub IsSaRow-window : (row : SaRow) (window : Window) → IsSaRow row → FitsWindow row window → IsSaRow (record row { window = window })
+IsSaRow-window row window ok fits =
+    record { keyless = ok.keyless; suite = ok.suite; high = fits.high; width = fits.width; back = fits.back; channels = ok.channels }
 
-IsSaBook-highs : (rows : List SaRow) (h : SaRow → ℕ) → IsSaBook rows → ((row : SaRow) → IsSaRow row → HasHigh row.direction row.key (h row)) → IsSaBook (map (λ row. with_high row (h row)) rows)
-IsSaBook-highs rows h ok has =
-    let g : SaRow → SaRow = λ row. with_high row (h row) in
+pub IsSaBook-windows : (rows : List SaRow) (w : SaRow → Window) → IsSaBook rows → ((row : SaRow) → IsSaRow row → FitsWindow row (w row)) → IsSaBook (map (λ (row : SaRow). record row { window = w row }) rows)
+IsSaBook-windows rows w ok fits =
+    let g : SaRow → SaRow = λ row. record row { window = w row } in
     record {
       most = subst (λ n. n ≤ MOST_ASSOCIATIONS) (sym (length-map rows g)) ok.most;
-      each = All-map IsSaRow g rows (λ k d low. IsSaRow-high (get_or rows k d) (h (get_or rows k d)) (ok.each k d low) (has (get_or rows k d) (ok.each k d low)));
+      each = All-map IsSaRow g rows (λ k d low. IsSaRow-window (get_or rows k d) (w (get_or rows k d)) (ok.each k d low) (fits (get_or rows k d) (ok.each k d low)));
       apart = pairs_map RowsAreApart g rows (λ a b apart. record { order = apart.order; channels = apart.channels; keys = apart.keys }) ok.apart;
     }
+
+same_window : (b : Bool) (row : SaRow) (window : Window) → cond b (record row { window = window }) row ≡ record row { window = cond b window row.window }
+same_window true row window = refl
+same_window false row window = refl
+
+same_maps : (f g : SaRow → SaRow) (rows : List SaRow) → ((row : SaRow) → f row ≡ g row) → map f rows ≡ map g rows
+same_maps f g [] same = refl
+same_maps f g (row ∷ rows) same = ap (λ r. r ∷ map f rows) (same row) ∙ ap (λ rs. g row ∷ rs) (same_maps f g rows same)
 
 -- lower numbers
 
@@ -38,20 +53,20 @@ lower_high Receive (Some key) high less has most = omega arith
 lower_high Receive None high less has most = omega arith
 lower_high Send key high less has most = omega arith
 
-not_above : (b : Bool) (high floor : ℕ) → cond b (min high floor) high ≤ high
-not_above true high floor = omega arith
-not_above false high floor = omega arith
-
-same_maps : (f g : SaRow → SaRow) (rows : List SaRow) → ((row : SaRow) → f row ≡ g row) → map f rows ≡ map g rows
-same_maps f g [] same = refl
-same_maps f g (row ∷ rows) same = ap (λ r. r ∷ map f rows) (same row) ∙ ap (λ rs. g row ∷ rs) (same_maps f g rows same)
+-- a window that is lowered to a floor where a test says so
+lowered_fits : (row : SaRow) (b : Bool) (floor : ℕ) → IsSaRow row → FitsWindow row (cond b (lowered_to floor row.window) row.window)
+lowered_fits row false floor ok = record { high = ok.high; width = ok.width; back = ok.back }
+lowered_fits row true floor ok = by (nat_lt floor row.window.high) refl
+  where
+    by : (t : Bool) → nat_lt floor row.window.high ≡ t → FitsWindow row (cond t (begun_at floor row.window) row.window)
+    by true above = record { high = lower_high row.direction row.key row.window.high floor ok.high (omega (arith, ltb-true _ _ above)); width = ok.width; back = ok.back }
+    by false above = record { high = ok.high; width = ok.width; back = ok.back }
 
 pub IsSaBook-lowered : (rows : List SaRow) (key floor : ℕ) → IsSaBook rows → IsSaBook (lowered rows key floor)
 IsSaBook-lowered rows key floor ok =
-    let h : SaRow → ℕ = λ row. cond (receives_with key row) (min row.window.high floor) row.window.high in
-    subst IsSaBook (sym (same_maps _ _ rows (λ row. same_high (receives_with key row) row (min row.window.high floor))))
-    (IsSaBook-highs rows h ok
-    (λ row rules. lower_high row.direction row.key row.window.high (h row) rules.high (not_above (receives_with key row) row.window.high floor)))
+    subst IsSaBook (sym (same_maps _ _ rows (λ row. same_window (receives_with key row) row (lowered_to floor row.window))))
+    (IsSaBook-windows rows (λ row. cond (receives_with key row) (lowered_to floor row.window) row.window) ok
+    (λ row rules. lowered_fits row (receives_with key row) floor rules))
 
 -- one number for all
 
@@ -66,8 +81,17 @@ one_high Receive (Some own) key high old below has = same_key own key high (nat_
 one_high Receive None key high old below has = has
 one_high Send held key high old below has = has
 
+begun_fits : (row : SaRow) (b : Bool) (high : ℕ) → IsSaRow row → HasHigh row.direction row.key (cond b high row.window.high)
+    → FitsWindow row (cond b (begun_at high row.window) row.window)
+begun_fits row true high ok has = record { high = has; width = ok.width; back = ok.back }
+begun_fits row false high ok has = record { high = has; width = ok.width; back = ok.back }
+
 pub IsSaBook-all_high : (rows : List SaRow) (key high : ℕ) → high < end_of key → IsSaBook rows → IsSaBook (all_high rows key high)
 IsSaBook-all_high rows key high below ok =
-    subst IsSaBook (sym (same_maps _ _ rows (λ row. same_high (receives_with key row) row high)))
-    (IsSaBook-highs rows (λ row. cond (receives_with key row) high row.window.high) ok
-    (λ row rules. one_high row.direction row.key key high row.window.high below rules.high))
+    subst IsSaBook (sym (same_maps _ _ rows (λ row. same_window (receives_with key row) row (begun_at high row.window))))
+    (IsSaBook-windows rows (λ row. cond (receives_with key row) (begun_at high row.window) row.window) ok
+    (λ row rules. begun_fits row (receives_with key row) high rules (one_high row.direction row.key key high row.window.high below rules.high)))
+
+pub IsSaBook-all_begun : (rows : List SaRow) → IsSaBook rows → IsSaBook (all_begun rows)
+IsSaBook-all_begun rows ok =
+    IsSaBook-windows rows (λ row. begun_at row.window.high row.window) ok (λ row rules. record { high = rules.high; width = rules.width; back = rules.back })

@@ -2,22 +2,23 @@ ghost use Rattle.std.specs.Prelude.{◌≡◌, ℕ, ◌+◌, ◌<◌, ◌≤◌,
 ghost use Rattle.std.specs.Prelude.{Some, IfOk, IfErr, OnOk, OnErr, IsSomeAnd};
 ghost use Rattle.std.specs.Option.{option_map, ForSome};
 ghost use Rattle.std.specs.Result.{result_err};
-ghost use Rattle.sdls_base.specs.Bounds.{AreChannels, IsWidth};
+ghost use Rattle.sdls_base.specs.Bounds.{AreChannels};
 ghost use Rattle.sdls_base.specs.declared.states.Direction.TheVariants.{Receive};
 ghost use Rattle.sdls_base.specs.declared.states.SaState.TheVariants.{Keyed, Operational};
+ghost use Rattle.replay_window.specs.WindowField.{IsWindowField};
+ghost use Rattle.replay_window.specs.Window.{accepted, with_field};
 ghost use Rattle.sa_book.specs.declared.sa_row.SaRow.{SaRow};
-ghost use Rattle.sa_book.specs.SaRow.{MayAccept, new_row, with_key, without_key, following};
+ghost use Rattle.sa_book.specs.SaRow.{IsSaRow, MayAccept, new_row, with_key, without_key, following};
 ghost use Rattle.sa_book.specs.SaBook.{IsSaBook, MayFollow, row_of, changed, without, with_row, sender_on, in_use};
-ghost use Rattle.sa_book.specs.Numbers.{lowered, all_high};
+ghost use Rattle.sa_book.specs.Numbers.{lowered, all_high, all_begun};
 ghost use Rattle.sdls_base.specs.KeyId.{end_of};
 ghost use Rattle.sa_book.specs.SaRefusal.{IsSaRefusal, create_refusal, rekey_refusal, start_refusal, stop_refusal};
 ghost use Rattle.sa_book.specs.SaRefusal.{expire_refusal, delete_refusal, set_number_refusal, set_window_refusal};
 ghost use Rattle.sa_book.specs.SaRefusal.{read_number_refusal};
 
 use crate::sa_refusal::SaRefusal;
-use crate::sa_row::{SaRow, following};
+use crate::sa_row::{SaRow, follow};
 use crate::{highs, judging};
-use replay_window::Window;
 use sdls_base::{ChannelId, Direction, KeyId, KeyState, NewSa, NoMemory, SaState, Spi};
 use std::alloc::Global;
 use std::marker::Model;
@@ -33,8 +34,13 @@ impl Model for SaBook {
     ghost use Rattle.std.specs.Prelude.{List};
     ghost use Rattle.sa_book.specs.declared.sa_row.SaRow.{SaRow};
     ghost use Rattle.sa_book.specs.SaBook.{IsSaBook};
+    ghost use Rattle.std.specs.Coded.{codes, coded_ℕ};
+    ghost use Rattle.std.specs.FinSet as set;
+    ghost use Rattle.std.specs.Ordering.{nat_cmp};
 
     ghost Value = { List SaRow };
+
+    ghost coded = { Prim.hlevel (codes, set.code {R = nat_cmp} coded_ℕ) };
 
     ghost view = { λ book. book.rows.items };
 
@@ -53,7 +59,7 @@ impl SaBook {
 
     /// Creates an association, unkeyed. `known` are the unit's channels.
     pub fn create(&mut self, new: &NewSa, known: &[ChannelId]) -> Result<(), SaRefusal>
-        requires window { IsWidth new.now.window }
+        requires window { IsWindowField new.now.window }
         requires channels { AreChannels new.now.channels }
         requires numbers { All (λ channel. channel ≤ 63) new.now.channels }
         ensures created { OnOk result (self.new ≡ with_row self.old (new_row new.now)) }
@@ -88,7 +94,7 @@ impl SaBook {
         let row = &mut self.rows[i];
         row.state = SaState::Keyed;
         row.key = Some(key);
-        row.window = following(row.direction, number, row.window);
+        follow(row.direction, number, &mut row.window);
         Ok(())
     }
 
@@ -131,7 +137,7 @@ impl SaBook {
         let row = &mut self.rows[i];
         row.state = SaState::Unkeyed;
         row.key = None;
-        row.window.high = 0;
+        row.window.begin_at(0);
         Ok(())
     }
 
@@ -159,49 +165,56 @@ impl SaBook {
         let i = judging::place(&self.rows, spi)?;
         judging::judge_set_number(&self.rows[i], number, floor)?;
         let row = &mut self.rows[i];
-        row.window = following(row.direction, number, row.window);
+        follow(row.direction, number, &mut row.window);
         Ok(())
     }
 
-    /// Sets the width of an association's window. Takes no memory.
+    /// Sets width and back window of an association. Takes no memory.
     pub fn set_window(&mut self, spi: Spi, window: u64) -> Result<(), SaRefusal>
-        requires { IsWidth window }
+        requires { IsWindowField window }
         ensures set { OnOk result (self.new ≡ changed self.old spi
-            (λ row. record row { window = record row.window { width = window } })) }
+            (λ row. record row { window = with_field window row.window })) }
         ensures refused { result_err result ≡ set_window_refusal self.old spi }
         ensures kept { OnErr result (self.new ≡ self.old) }
     {
         let i = judging::place(&self.rows, spi)?;
         let row = &mut self.rows[i];
-        row.window.width = window;
+        row.window.set_field(window);
         Ok(())
     }
 
-    /// Takes a fresh number as the highest of an operational receiving association. Takes no memory.
+    /// Accepts a fresh number for an operational receiving association. Takes no memory.
     pub fn accept(&mut self, spi: Spi, number: u64)
         requires { IsSomeAnd (row_of self.old spi) (λ row. MayAccept row number) }
         ensures { self.new ≡ changed self.old spi
-            (λ row. record row { window = record row.window { high = number } }) }
+            (λ row. record row { window = accepted number row.window }) }
     {
         let i = judging::known_place(&self.rows, spi);
         let row = &mut self.rows[i];
         row.window.accept(number);
     }
 
-    /// Lowers the highest number of the associations that receive with a key to a floor, where it is above. Takes no
-    /// memory.
+    /// Begins the windows of the associations that receive with a key anew at a floor, if the highest number is above
+    /// it. Takes no memory.
     pub fn lower(&mut self, key: KeyId, floor: u64)
         ensures { self.new ≡ lowered self.old key floor }
     {
         highs::lower(&mut self.rows, key, floor);
     }
 
-    /// Sets the highest number of the associations that receive with a key. Takes no memory.
+    /// Begins the windows of the associations that receive with a key anew at a number. Takes no memory.
     pub fn set_high(&mut self, key: KeyId, high: u64)
         requires { high < end_of key }
         ensures { self.new ≡ all_high self.old key high }
     {
         highs::set(&mut self.rows, key, high);
+    }
+
+    /// Begins the window of every association anew at its highest number. Takes no memory.
+    pub fn begin_windows(&mut self)
+        ensures { self.new ≡ all_begun self.old }
+    {
+        highs::begin(&mut self.rows);
     }
 
     /// The next number of a receiving association that has a key: the one after the highest accepted.
@@ -218,6 +231,7 @@ impl SaBook {
     /// The row of an association.
     pub fn status(&self, spi: Spi) -> Result<&SaRow, SaRefusal>
         ensures row { IfOk result (λ row. row_of self.now spi ≡ Some row.now) }
+        ensures rules { IfOk result (λ row. IsSaRow row.now) }
         ensures unknown { IfErr result
             (λ refusal. (refusal ≡ SaRefusal.UnknownSpi) × (row_of self.now spi ≡ None)) }
     {

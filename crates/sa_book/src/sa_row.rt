@@ -16,7 +16,7 @@ pub struct SaRow {
     pub key: Option<KeyId>,
     /// The numbers of the channels that it covers, one to [`sdls_base::MOST_CHANNELS`], strictly ascending.
     pub channels: Octets,
-    /// The numbers that it accepts. `high` is 0 where it sends or has no key.
+    /// The numbers that it accepts. It begins at 0 where it sends or has no key.
     pub window: Window,
 }
 
@@ -34,23 +34,17 @@ impl SaRow {
             state: SaState::Unkeyed,
             key: None,
             channels: new.channels.clone()?,
-            window: Window {
-                high: 0,
-                width: new.window,
-            },
+            window: Window::new(0, new.window),
         })
     }
 }
 
-/// The window when `number`, which is at least 1, is the next to accept. A sending association keeps its window.
-pub(crate) fn following(direction: Direction, number: u64, window: Window) -> Window
-    ensures { result ≡ following direction number window }
+/// Makes `number`, which is at least 1, the next to accept. A sending association keeps its window.
+pub(crate) fn follow(direction: Direction, number: u64, window: &mut Window)
+    ensures { window.new ≡ following direction number window.old }
 {
     match direction {
-        Direction::Send => window,
-        Direction::Receive => Window {
-            high: number.saturating_sub(1),
-            width: window.width,
-        },
+        Direction::Send => {}
+        Direction::Receive => window.begin_at(number.saturating_sub(1)),
     }
 }

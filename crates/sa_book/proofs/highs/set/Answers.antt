@@ -1,5 +1,6 @@
 use Rattle.std.proofs.Common.{◌≡◌, cond, true, false, get_or, set, sym, ap, ◌∙◌}
 use Rattle.std.proofs.lemmas.List.Edits.{map_over_more}
+use Rattle.replay_window.specs.declared.window.Window.{Window}
 use Rattle.sa_book.specs.declared.sa_row.SaRow.{SaRow}
 use Rattle.sa_book.specs.SaRefusal.{receives_with}
 use Rattle.sa_book.specs.Numbers.{with_high}
@@ -16,7 +17,9 @@ loop-row-preserved c =
       | then-receives_with w ↦
           let test : receives_with c.args.key row ≡ true = sym c.receives_with.ensures ∙ w.if-receives_with.true in
           let new : with_high row c.args.high ≡ g c.row-item.result = sym (chosen _ (with_high row c.args.high) row test) ∙ ap g (sym c.row-item.is) in
-          w.row-items-is ∙ ap (set c.loop-row.row-items c.loop-row.row-index) new ∙ more
+          let is : c.if-receives_with.row-items ≡ set c.loop-row.row-items c.loop-row.row-index (record row { window = w.begin_at.new.self }) = w.row-items-is in
+          is ∙ ap (λ (v : Window). set c.loop-row.row-items c.loop-row.row-index (record row { window = v })) w.begin_at.ensures
+          ∙ ap (set c.loop-row.row-items c.loop-row.row-index) new ∙ more
       | else-receives_with w ↦
           let test : receives_with c.args.key row ≡ false = sym c.receives_with.ensures ∙ w.if-receives_with.false in
           let same : row ≡ g c.row-item.result = sym (left_out _ (with_high row c.args.high) row test) ∙ ap g (sym c.row-item.is) in

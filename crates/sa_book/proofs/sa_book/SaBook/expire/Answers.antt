@@ -35,9 +35,9 @@ invariant_of-self c =
     let within : c.in_ok-i.i < length c.self.inside.rows.items = within_place c.self.inside.rows.items c.args.spi c.in_ok-i.i c.index_mut-row.result.now place in
     let same : c.index.result.now ≡ c.index_mut-row.result.now = same_read c.self.inside.rows.items c.in_ok-i.i c.index.result.now c.index_mut-row.result.now within c.index.ensures c.index_mut-row.ensures.value in
     let free : unless_keyed c.index_mut-row.result.now.state ≡ None = subst (λ (r : SaRow). unless_keyed r.state ≡ None) same (sym c.in_ok-check_keyed.ensures) in
-    (IsSaBook-expire c.self.inside.rows.items c.in_ok-i.i c.index_mut-row.result.now c.self.invariant within c.index_mut-row.ensures.value)
+    rw c.begin_at.ensures (IsSaBook-expire c.self.inside.rows.items c.in_ok-i.i c.index_mut-row.result.now c.self.invariant within c.index_mut-row.ensures.value)
 
 pub returns-clause-expired : goal.returns-clause-expired
 returns-clause-expired c =
     let place : place_of c.self.inside.rows.items c.args.spi ≡ Some c.in_ok-i.i = rw c.deref.ensures.value at c.in_ok-i.ensures in
-    rw (← c.self.view_is) ((set-changed c.self.inside.rows.items c.args.spi c.in_ok-i.i without_key c.index_mut-row.result.now c.self.invariant place c.index_mut-row.ensures.value))
+    rw (← c.self.view_is, c.begin_at.ensures) ((set-changed c.self.inside.rows.items c.args.spi c.in_ok-i.i without_key c.index_mut-row.result.now c.self.invariant place c.index_mut-row.ensures.value))

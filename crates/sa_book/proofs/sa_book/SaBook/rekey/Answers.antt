@@ -35,9 +35,9 @@ invariant_of-self c =
     let within : c.in_ok-i.i < length c.self.inside.rows.items = within_place c.self.inside.rows.items c.args.spi c.in_ok-i.i c.index_mut-row.result.now place in
     let same : c.index.result.now ≡ c.index_mut-row.result.now = same_read c.self.inside.rows.items c.in_ok-i.i c.index.result.now c.index_mut-row.result.now within c.index.ensures c.index_mut-row.ensures.value in
     let free : key_refusal c.self.inside.rows.items c.index_mut-row.result.now c.args.key c.args.state c.args.number c.args.floor ≡ None = subst (λ (r : SaRow). key_refusal c.self.inside.rows.items r c.args.key c.args.state c.args.number c.args.floor ≡ None) same (sym (rw c.deref-2.ensures.value at c.in_ok-judge_rekey.ensures)) in
-    rw c.following-row.ensures (IsSaBook-rekey c.self.inside.rows.items c.in_ok-i.i c.index_mut-row.result.now c.args.key c.args.state c.args.number c.args.floor c.self.invariant within c.index_mut-row.ensures.value free)
+    rw c.follow.ensures (IsSaBook-rekey c.self.inside.rows.items c.in_ok-i.i c.index_mut-row.result.now c.args.key c.args.state c.args.number c.args.floor c.self.invariant within c.index_mut-row.ensures.value free)
 
 pub returns-clause-keyed : goal.returns-clause-keyed
 returns-clause-keyed c =
     let place : place_of c.self.inside.rows.items c.args.spi ≡ Some c.in_ok-i.i = rw c.deref.ensures.value at c.in_ok-i.ensures in
-    rw (← c.self.view_is) (rw c.following-row.ensures (set-changed c.self.inside.rows.items c.args.spi c.in_ok-i.i (with_key c.args.key c.args.number) c.index_mut-row.result.now c.self.invariant place c.index_mut-row.ensures.value))
+    rw (← c.self.view_is) (rw c.follow.ensures (set-changed c.self.inside.rows.items c.args.spi c.in_ok-i.i (with_key c.args.key c.args.number) c.index_mut-row.result.now c.self.invariant place c.index_mut-row.ensures.value))

@@ -36,9 +36,9 @@ invariant_of-self c =
     let within : c.in_ok-i.i < length c.self.inside.rows.items = within_place c.self.inside.rows.items c.args.spi c.in_ok-i.i c.index_mut-row.result.now place in
     let same : c.index.result.now ≡ c.index_mut-row.result.now = same_read c.self.inside.rows.items c.in_ok-i.i c.index.result.now c.index_mut-row.result.now within c.index.ensures c.index_mut-row.ensures.value in
     let free : first_told (if_unkeyed c.index_mut-row.result.now.state ∷ number_refusal_of c.index_mut-row.result.now.key c.args.number c.args.floor ∷ []) ≡ None = subst (λ (r : SaRow). first_told (if_unkeyed r.state ∷ number_refusal_of r.key c.args.number c.args.floor ∷ []) ≡ None) same (sym c.in_ok-judge_set_number.ensures) in
-    rw c.following-row.ensures (IsSaBook-set_number c.self.inside.rows.items c.in_ok-i.i c.index_mut-row.result.now c.args.number c.args.floor c.self.invariant within c.index_mut-row.ensures.value free)
+    rw c.follow.ensures (IsSaBook-set_number c.self.inside.rows.items c.in_ok-i.i c.index_mut-row.result.now c.args.number c.args.floor c.self.invariant within c.index_mut-row.ensures.value free)
 
 pub returns-clause-set : goal.returns-clause-set
 returns-clause-set c =
     let place : place_of c.self.inside.rows.items c.args.spi ≡ Some c.in_ok-i.i = rw c.deref.ensures.value at c.in_ok-i.ensures in
-    rw (← c.self.view_is) (rw c.following-row.ensures (set-changed c.self.inside.rows.items c.args.spi c.in_ok-i.i (λ (row : SaRow). record row { window = following row.direction c.args.number row.window }) c.index_mut-row.result.now c.self.invariant place c.index_mut-row.ensures.value))
+    rw (← c.self.view_is) (rw c.follow.ensures (set-changed c.self.inside.rows.items c.args.spi c.in_ok-i.i (λ (row : SaRow). record row { window = following row.direction c.args.number row.window }) c.index_mut-row.result.now c.self.invariant place c.index_mut-row.ensures.value))

@@ -1,4 +1,5 @@
 use Rattle.std.proofs.Common.{rules, ◌≡◌, ◌<◌, length, Some, None, sym, ap, ◌∙◌}
+use Rattle.replay_window.specs.Window.{with_field}
 use Rattle.sa_book.specs.declared.sa_row.SaRow.{SaRow}
 use Rattle.sa_book.specs.declared.sa_refusal.SaRefusal.{SaRefusal}
 use Rattle.sa_book.specs.SaBook.{place_of}
@@ -23,9 +24,9 @@ pub invariant_of-self : goal.invariant_of-self
 invariant_of-self c =
     let place : place_of c.self.inside.rows.items c.args.spi ≡ Some c.in_ok-i.i = rw c.deref.ensures.value at c.in_ok-i.ensures in
     let within : c.in_ok-i.i < length c.self.inside.rows.items = within_place c.self.inside.rows.items c.args.spi c.in_ok-i.i c.index_mut-row.result.now place in
-    (IsSaBook-set_window c.self.inside.rows.items c.in_ok-i.i c.index_mut-row.result.now c.args.window c.self.invariant within c.index_mut-row.ensures.value c.requires)
+    rw c.set_field.ensures (IsSaBook-set_window c.self.inside.rows.items c.in_ok-i.i c.index_mut-row.result.now c.args.window c.self.invariant within c.index_mut-row.ensures.value c.requires)
 
 pub returns-clause-set : goal.returns-clause-set
 returns-clause-set c =
     let place : place_of c.self.inside.rows.items c.args.spi ≡ Some c.in_ok-i.i = rw c.deref.ensures.value at c.in_ok-i.ensures in
-    rw (← c.self.view_is) ((set-changed c.self.inside.rows.items c.args.spi c.in_ok-i.i (λ (row : SaRow). record row { window = record row.window { width = c.args.window } }) c.index_mut-row.result.now c.self.invariant place c.index_mut-row.ensures.value))
+    rw (← c.self.view_is, c.set_field.ensures) ((set-changed c.self.inside.rows.items c.args.spi c.in_ok-i.i (λ (row : SaRow). record row { window = with_field c.args.window row.window }) c.index_mut-row.result.now c.self.invariant place c.index_mut-row.ensures.value))
