@@ -2,11 +2,12 @@
 use Rattle.std.proofs.Common.{◌≡◌, ℕ, ◌+◌, ◌-◌, ◌*◌, ◌%◌, ◌^◌, ◌<◌, true, List, [], ◌∷◌, ◌++◌, length, take, None, refl, sym, ap, ◌∙◌, arith, append_assoc, length-append}
 use Rattle.std.specs.Prelude.{◌&&◌, ◌==◌, IsTrue, slice_range}
 use Rattle.std.specs.Int.{w16, w64, to_be_bytes, is_in_range}
-use Rattle.std.proofs.lemmas.Bool.{and_from, eq-eqb}
+use Rattle.std.proofs.lemmas.Bool.{and_from, le-leb, eq-eqb}
 use Rattle.std.proofs.lemmas.List.{take_all, drop_at, take_at, append-nil}
 use Rattle.std.proofs.lemmas.Nat.{from_be_bytes-to_be_bytes_2, from_be_bytes-to_be_bytes_8}
-use Rattle.sdls_base.specs.Bounds.{IsWidth}
 use Rattle.sdls_base.specs.declared.TheConstants.{MOST_WINDOW}
+use Rattle.replay_window.specs.WindowField.{width_of, IsWindowField}
+use Rattle.replay_window.proofs.Fields.{field_small}
 use Rattle.ep_codec.specs.declared.procedure.PduType.TheVariants as types
 use Rattle.ep_codec.specs.declared.procedure.Procedure.{Procedure}
 use Rattle.ep_codec.specs.declared.procedure.Procedure.TheVariants as procedures
@@ -77,11 +78,8 @@ spi_small spi is = omega (arith, high_bound 1 65534 spi is)
 pub key_small : (key : ℕ) → IsTrue (is_key key) → key < 2 ^ 16
 key_small key is = omega (arith, high_bound 1 65535 key is)
 
-pub window_small : (window : ℕ) → IsWidth window → window < 2 ^ 64
-window_small window is = omega arith
-
-pub window_passes : (window : ℕ) → IsWidth window → is_window window ≡ true
-window_passes window is = in_bounds 1 MOST_WINDOW window is.least is.most
+pub window_passes : (window : ℕ) → IsWindowField window → is_window window ≡ true
+window_passes window is = and_from _ _ (le-leb _ _ is.back) (in_bounds 1 MOST_WINDOW (width_of window) is.width.least is.width.most)
 
 -- ---- commands
 
@@ -185,7 +183,7 @@ again (Create sa) is bounds =
     let low = bounds.1.one in
     let high = bounds.1.most in
     let e : word_at 3 octets ≡ sa.spi = from_be_bytes-to_be_bytes_2 sa.spi (spi_small sa.spi is) in
-    let f : number_at 7 octets ≡ sa.window = from_be_bytes-to_be_bytes_8 sa.window (window_small sa.window bounds.0) in
+    let f : number_at 7 octets ≡ sa.window = from_be_bytes-to_be_bytes_8 sa.window (field_small sa.window bounds.0) in
     let g = direction_again sa.direction in
     let h = suite_again sa.suite in
     let whole : length octets ≡ 16 + length channels = omega arith in
@@ -211,7 +209,7 @@ again (SetWindow spi window) is bounds =
     let body = to_be_bytes w16 spi ++ to_be_bytes w64 window in
     let octets = message 0x15 body in
     let e : word_at 3 octets ≡ spi = from_be_bytes-to_be_bytes_2 spi (spi_small spi is) in
-    let f : number_at 5 octets ≡ window = from_be_bytes-to_be_bytes_8 window (window_small window bounds) in
+    let f : number_at 5 octets ≡ window = from_be_bytes-to_be_bytes_8 window (field_small window bounds) in
     record {
       header = header_again types.Command procedures.SetWindow body refl (omega arith);
       fields = spi_again spi is octets e (window_check 5 octets ∷ []) (keeps (is_window (number_at 5 octets)) 5 [] (ap is_window f ∙ window_passes window bounds) refl);

@@ -23,7 +23,7 @@ use Rattle.ep_codec.specs.FieldList.{keys_in, key_checks, channel_checks}
 use Rattle.ep_codec.specs.MessageFault.{procedure_in, header_checks, command_checks}
 use Rattle.ep_codec.specs.Procedure.{tag_of}
 use Rattle.ep_codec.proofs.Faults.{others_passed}
-use Rattle.ep_codec.proofs.FieldFacts.{AreOctets, width_found, low_bound, high_bound, in_bounds, kept, octet_field, word_field, number_field, range_field, range_length, word_end, number_end, range_end, word_small, number_small, octets_drop}
+use Rattle.ep_codec.proofs.FieldFacts.{AreOctets, window_found, low_bound, high_bound, in_bounds, kept, octet_field, word_field, number_field, range_field, range_length, word_end, number_end, range_end, word_small, number_small, octets_drop}
 use Rattle.ep_codec.proofs.HeaderFacts.{Framed, header_passed}
 use Rattle.ep_codec.proofs.ListFacts.{keys_spelled, keys_count, keys_are, channels_small, channels_ascend}
 
@@ -151,7 +151,7 @@ association_found octets are framed none =
     record {
       types = spi_found octets (code_check 2 5 octets ∷ code_check 2 6 octets ∷ window_check 7 octets ∷ count_check 15 octets ∷ channel_checks 16 0 (drop 16 octets)) none;
       bounds = (
-        width_found (number_at 7 octets) w,
+        window_found (number_at 7 octets) w,
         record { one = omega arith; most = omega arith; ascending = channels_ascend 16 0 (drop 16 octets) n5 },
         channels_small 16 0 (drop 16 octets) n5,
       );
@@ -220,7 +220,7 @@ fields_found octets procedures.SetWindow are framed none =
     let n = whole_length (length octets) 10 framed.room framed.fits in
     record {
       types = spi_found octets (window_check 5 octets ∷ []) none;
-      bounds = width_found (number_at 5 octets) (kept (is_window (number_at 5 octets)) 5 [] (others_passed (not (is_spi (word_at 3 octets))) 3 (window_check 5 octets ∷ []) none));
+      bounds = window_found (number_at 5 octets) (kept (is_window (number_at 5 octets)) 5 [] (others_passed (not (is_spi (word_at 3 octets))) 3 (window_check 5 octets ∷ []) none));
       spelled = spelled_by octets procedures.SetWindow _ framed (spi_number_spelled octets are n);
     }
 fields_found octets procedures.Rekey are framed none =

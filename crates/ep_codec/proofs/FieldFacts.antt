@@ -6,8 +6,8 @@ use Rattle.std.proofs.lemmas.Bool.{and_parts, and_from, leb-true, le-leb}
 use Rattle.std.proofs.lemmas.List.{drop_more, drop_all, take-append-drop, append-nil, drop-drop, length-take, length-drop}
 use Rattle.std.proofs.lemmas.Nat.{be_bytes_2, be_bytes_4, be_bytes_8}
 use Rattle.sdls_base.specs.FirstFailing.{Check, first_failing}
-use Rattle.sdls_base.specs.Bounds.{IsWidth}
 use Rattle.sdls_base.specs.declared.TheConstants.{MOST_WINDOW}
+use Rattle.replay_window.specs.WindowField.{width_of, IsWindowField}
 use Rattle.ep_codec.specs.Field.{is_window, octet_at, word_at, double_word_at, number_at}
 use Rattle.ep_codec.proofs.Faults.{first_passed}
 
@@ -23,9 +23,14 @@ low_bound low high n h = leb-true low n (and_parts _ _ h).0
 pub high_bound : (low high n : ℕ) → is_in_range low high n ≡ true → n ≤ high
 high_bound low high n h = leb-true n high (and_parts _ _ h).1
 
--- the width of a window, as a test and as a fact
-pub width_found : (n : ℕ) → is_window n ≡ true → IsWidth n
-width_found n is = record { least = low_bound 1 MOST_WINDOW n is; most = high_bound 1 MOST_WINDOW n is }
+-- a window field, as a test and as a fact
+pub window_found : (n : ℕ) → is_window n ≡ true → IsWindowField n
+window_found n is =
+    let parts = and_parts _ _ is in
+    record {
+      back = leb-true _ _ parts.0;
+      width = record { least = low_bound 1 MOST_WINDOW (width_of n) parts.1; most = high_bound 1 MOST_WINDOW (width_of n) parts.1 };
+    }
 
 pub in_bounds : (low high n : ℕ) → low ≤ n → n ≤ high → is_in_range low high n ≡ true
 in_bounds low high n p q = and_from _ _ (le-leb low n p) (le-leb n high q)

@@ -26,7 +26,8 @@ use Rattle.ep_codec.specs.Procedure.{tag_of, has_reply_length}
 use Rattle.ep_codec.proofs.FieldFacts.{low_bound, high_bound, in_bounds, keeps}
 use Rattle.ep_codec.proofs.HeaderFacts.{Passes, header_again}
 use Rattle.ep_codec.proofs.CommandFacts.{direction_in, suite_in}
-use Rattle.ep_codec.proofs.CommandAgain.{range_at, sealed_again, spi_again, key_passes, spi_small, key_small, window_small, window_passes}
+use Rattle.replay_window.proofs.Fields.{field_small}
+use Rattle.ep_codec.proofs.CommandAgain.{range_at, sealed_again, spi_again, key_passes, spi_small, key_small, window_passes}
 use Rattle.ep_codec.proofs.Lengths.{rows_length}
 use Rattle.ep_codec.proofs.ListFacts.{rows_read_again, rows_pass}
 use Rattle.ep_codec.proofs.ReplyFacts.{optional_some}
@@ -175,7 +176,7 @@ again (Status spi state direction suite key window) is bounds =
     let body = to_be_bytes w16 spi ++ sa_state_code state ∷ direction_code direction ∷ suite_code suite ∷ (to_be_bytes w16 (unwrap_or key 0) ++ to_be_bytes w64 window) in
     let octets = message 0x9f body in
     let e : word_at 3 octets ≡ spi = from_be_bytes-to_be_bytes_2 spi (spi_small spi is.0) in
-    let f : number_at 10 octets ≡ window = from_be_bytes-to_be_bytes_8 window (window_small window bounds) in
+    let f : number_at 10 octets ≡ window = from_be_bytes-to_be_bytes_8 window (field_small window bounds) in
     let g : word_at 8 octets ≡ unwrap_or key 0 = from_be_bytes-to_be_bytes_2 (unwrap_or key 0) (optional_small key is.1) in
     let h : optional_key (word_at 8 octets) ≡ key = ap optional_key g ∙ optional_again key is.1 in
     let a = sa_state_again state in

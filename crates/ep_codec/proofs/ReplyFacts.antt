@@ -18,7 +18,7 @@ use Rattle.ep_codec.specs.Field.{octet_at, word_at, double_word_at, number_at, i
 use Rattle.ep_codec.specs.MessageFault.{procedure_in, header_checks, reply_checks}
 use Rattle.ep_codec.specs.Procedure.{tag_of}
 use Rattle.ep_codec.proofs.Faults.{others_passed}
-use Rattle.ep_codec.proofs.FieldFacts.{AreOctets, width_found, low_bound, high_bound, in_bounds, kept, octet_field, word_field, double_word_field, range_field, range_length, number_end, range_end, word_small, double_word_small, number_small, octets_drop}
+use Rattle.ep_codec.proofs.FieldFacts.{AreOctets, window_found, low_bound, high_bound, in_bounds, kept, octet_field, word_field, double_word_field, range_field, range_length, number_end, range_end, word_small, double_word_small, number_small, octets_drop}
 use Rattle.ep_codec.proofs.HeaderFacts.{Framed, header_passed}
 use Rattle.ep_codec.proofs.CommandFacts.{whole_length, spi_found, key_found, spi_number_spelled, sealed_spelled, tag_length, sealed_length, direction_spelled, suite_spelled}
 use Rattle.ep_codec.proofs.ListFacts.{rows_spelled, rows_count, rows_are}
@@ -168,7 +168,7 @@ status_found octets are framed none =
     λ i. to_be_bytes w16 (word_at 3 octets) ++ sym a i ∷ sym d i ∷ sym s i ∷ (to_be_bytes w16 (sym k i) ++ to_be_bytes w64 (number_at 10 octets)) in
     record {
       types = (spi_found octets c1 none, optional_found (word_at 8 octets) (word_small 8 octets are));
-      bounds = width_found (number_at 10 octets) (kept (is_window (number_at 10 octets)) 10 [] n4);
+      bounds = window_found (number_at 10 octets) (kept (is_window (number_at 10 octets)) 10 [] n4);
       spelled = spelled_by octets procedures.Status _ framed (body ∙ named);
     }
 

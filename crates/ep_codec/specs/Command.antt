@@ -3,8 +3,9 @@
 use Rattle.std.specs.Prelude.{◌≡◌, ⊤, ℕ, ◌*◌, ◌^◌, ◌<◌, ◌≤◌, IsTrue, List, ◌∷◌, ◌++◌, length}
 use Rattle.std.specs.List.{flat_map, AllByRecursion}
 use Rattle.std.specs.Int.{w16, w64, to_be_bytes, is_in_range}
-use Rattle.sdls_base.specs.Bounds.{AreChannels, IsKeyCount, IsWidth}
+use Rattle.sdls_base.specs.Bounds.{AreChannels, IsKeyCount}
 use Rattle.sdls_base.specs.Spelling.{association_octets}
+use Rattle.replay_window.specs.WindowField.{IsWindowField}
 use Rattle.ep_codec.specs.declared.command.Command.{Command}
 use Rattle.ep_codec.specs.declared.command.Command.TheVariants.{Rekeying, Activate, Deactivate, Verify, Destroy}
 use Rattle.ep_codec.specs.declared.command.Command.TheVariants.{Inventory, Compose, ReadNumber, Create, Delete}
@@ -59,10 +60,10 @@ IsInBounds (Destroy keys) = IsKeyCount (length keys)
 IsInBounds (Inventory first last) = first ≤ last
 IsInBounds (Compose master keys) = IsKeyCount (length keys)
 IsInBounds (ReadNumber spi) = ⊤
-IsInBounds (Create sa) = IsWidth sa.window × AreChannels sa.channels
+IsInBounds (Create sa) = IsWindowField sa.window × AreChannels sa.channels
     × AllByRecursion (λ channel. channel ≤ 63) sa.channels
 IsInBounds (Delete spi) = ⊤
-IsInBounds (SetWindow spi window) = IsWidth window
+IsInBounds (SetWindow spi window) = IsWindowField window
 IsInBounds (Rekey spi key number) = ⊤
 IsInBounds (Expire spi) = ⊤
 IsInBounds (SetNumber spi number) = ⊤

@@ -1,12 +1,14 @@
 -- The fields of a procedure message: numbers in whole octets, the most significant first, and their bounds (profile).
-use Rattle.std.specs.Prelude.{ℕ, ◌+◌, ◌*◌, ◌-◌, ◌==◌, ◌&&◌, not, Bool, true, false, if◌then◌else◌, List, [], ◌∷◌}
-use Rattle.std.specs.Prelude.{length, slice_index, Option, Some, None}
+use Rattle.std.specs.Prelude.{ℕ, ◌+◌, ◌*◌, ◌-◌, ◌==◌, ◌&&◌, nat_le, not, Bool, true, false, if◌then◌else◌}
+use Rattle.std.specs.Prelude.{List, [], ◌∷◌, length, slice_index, Option, Some, None}
 use Rattle.std.specs.Int.{w16, w32, w64, from_be_bytes, is_in_range}
 use Rattle.sdls_base.specs.declared.TheConstants.{MOST_WINDOW}
 use Rattle.sdls_base.specs.declared.key_id.KeyClass.{KeyClass}
 use Rattle.sdls_base.specs.declared.key_id.KeyClass.TheVariants as classes
 use Rattle.sdls_base.specs.KeyId.{class_of}
 use Rattle.sdls_base.specs.FirstFailing.{Check}
+use Rattle.replay_window.specs.declared.TheConstants.{MOST_BACK}
+use Rattle.replay_window.specs.WindowField.{back_of, width_of}
 
 -- ---- bounds
 
@@ -18,9 +20,9 @@ is_key n = is_in_range 1 65535 n
 abbrev pub is_spi : ℕ → Bool
 is_spi n = is_in_range 1 65534 n
 
--- the width of an anti-replay window
+-- a window field: back window and width lie in their bounds
 abbrev pub is_window : ℕ → Bool
-is_window n = is_in_range 1 MOST_WINDOW n
+is_window n = nat_le (back_of n) MOST_BACK && is_in_range 1 MOST_WINDOW (width_of n)
 
 -- whether a key of the class seals, under GCM, or makes MACs
 abbrev pub seals : KeyClass → Bool

@@ -4,8 +4,8 @@ use Rattle.std.specs.Prelude.{◌≡◌, ⊤, ℕ, ◌^◌, ◌<◌, ◌≤◌, 
 use Rattle.std.specs.List.{flat_map, AllByRecursion}
 use Rattle.std.specs.Int.{w16, w32, w64, to_be_bytes}
 use Rattle.sdls_base.specs.declared.states.KeyState.{KeyState}
-use Rattle.sdls_base.specs.Bounds.{IsWidth}
 use Rattle.sdls_base.specs.KeyId.{class_of}
+use Rattle.replay_window.specs.WindowField.{IsWindowField}
 use Rattle.ep_codec.specs.declared.reply_pdu.ReplyPdu.{ReplyPdu}
 use Rattle.ep_codec.specs.declared.reply_pdu.ReplyPdu.TheVariants.{Rekeying, Activate, Deactivate, Destroy, Create}
 use Rattle.ep_codec.specs.declared.reply_pdu.ReplyPdu.TheVariants.{Delete, SetWindow, Rekey, Expire, SetNumber, Start}
@@ -61,7 +61,7 @@ IsInBounds Expire = ⊤
 IsInBounds SetNumber = ⊤
 IsInBounds Start = ⊤
 IsInBounds Stop = ⊤
-IsInBounds (Status spi state direction suite key window) = IsWidth window
+IsInBounds (Status spi state direction suite key window) = IsWindowField window
 
 -- each row has a key's identifier
 abbrev pub AreKeyRows : List (ℕ × KeyState) → Type 0

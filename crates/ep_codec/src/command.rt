@@ -37,11 +37,12 @@ pub enum Command {
     },
     /// Asks for the next number of an association.
     ReadNumber(Spi),
-    /// Creates an association, on 1 to 8 channels in ascending order, with a window from 1 to 2^32.
+    /// Creates an association, on 1 to 8 channels in ascending order, with a window field: the back window, 0 to 64, in
+    /// its first octet, and the width, 1 to 2^32, in the other seven.
     Create(NewSa),
     /// Deletes an association.
     Delete(Spi),
-    /// Sets the width of an association's anti-replay window, from 1 to 2^32.
+    /// Sets back window and width of an association's anti-replay window, by a window field.
     SetWindow {
         spi: Spi,
         window: u64,

@@ -6,7 +6,8 @@ ghost use Rattle.ep_codec.specs.Field.{word_at, double_word_at, number_at, octet
 ghost use Rattle.ep_codec.specs.Field.{window_check, code_check};
 
 use crate::pdu_error::PduError;
-use sdls_base::{Direction, KeyId, MOST_WINDOW, SaState, Spi, Suite};
+use replay_window::is_window_field;
+use sdls_base::{Direction, KeyId, SaState, Spi, Suite};
 
 /// The octets of a vector.
 pub(crate) const VECTOR: usize = 12;
@@ -93,9 +94,11 @@ pub(crate) fn window(octets: &[u8], at: usize) -> Result<u64, PduError>
     ensures { Judges result (window_check at octets.now ∷ [])
         (λ window. window ≡ number_at at octets.now) }
 {
-    match number_at(octets, at) {
-        window @ 1..=MOST_WINDOW => Ok(window),
-        _ => Err(PduError::Fault(at as u32)),
+    let window = number_at(octets, at);
+    if is_window_field(window) {
+        Ok(window)
+    } else {
+        Err(PduError::Fault(at as u32))
     }
 }
 
