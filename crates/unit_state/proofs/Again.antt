@@ -13,6 +13,8 @@ use Rattle.sdls_base.specs.declared.states.KeyState.{KeyState}
 use Rattle.sdls_base.specs.declared.states.SaState.{SaState}
 use Rattle.sdls_base.specs.declared.states.SaState.TheVariants.{Unkeyed, Keyed, Operational}
 use Rattle.replay_window.specs.declared.window.Window.{Window}
+use Rattle.replay_window.specs.Window.{accepted, begun_at, lowered_to, with_field}
+use Rattle.replay_window.proofs.Lowered.{lowered_high, begun_lowered}
 use Rattle.key_book.specs.declared.key_row.KeyRow.{KeyRow}
 use Rattle.key_book.specs.KeyBook.{row_of, changed}
 use Rattle.key_book.specs.KeyRow as keys
@@ -23,7 +25,7 @@ use Rattle.sa_book.specs.SaBook.{with_row}
 use Rattle.sa_book.specs.SaBook as association_rows
 use Rattle.sa_book.specs.SaRow.{new_row, with_key, without_key, following}
 use Rattle.sa_book.specs.SaRefusal.{receives_with}
-use Rattle.sa_book.specs.Numbers.{with_high}
+use Rattle.sa_book.specs.Numbers.{with_high, with_floor}
 use Rattle.unit_state.specs.declared.state.State.{State}
 use Rattle.unit_state.specs.Applied.{applied, numbered, in_state, direction_of, key_held}
 use Rattle.unit_state.specs.Restart.{restarted_high, restarted_row, restarted, AreAlike}
@@ -79,7 +81,7 @@ high_again old new stay Send key f high = refl
 
 row_again : (old new : List KeyRow) → Stay old new → (row : SaRow) → restarted_row new (restarted_row old row) ≡ restarted_row new row
 row_again old new stay row =
-    ap (λ (h : ℕ). record row { window = record row.window { high = h } }) (high_again old new stay row.direction row.key (λ h. h) row.window.high)
+    ap (λ (h : ℕ). record row { window = begun_at h row.window }) (high_again old new stay row.direction row.key (λ h. h) row.window.high)
 
 rows_again : (old new : List KeyRow) → Stay old new → (rows : List SaRow) → map (restarted_row new) (map (restarted_row old) rows) ≡ map (restarted_row new) rows
 rows_again old new stay [] = refl
@@ -99,9 +101,22 @@ some_again old new stay p g (row ∷ rows) same again =
     either true = again row
     either false = row_again old new stay row
 
-following_again : (old : List KeyRow) (direction : Direction) (key : Option ℕ) (number : ℕ) (window : Window) → following direction number (record window { high = restarted_high old direction key window.high }) ≡ following direction number window
-following_again old Receive key number window = refl
-following_again old Send key number window = refl
+-- a window in which a number is the next, and then begun anew
+abbrev begun_after : List KeyRow → Direction → Option ℕ → ℕ → Window → Window
+begun_after keys direction key number window =
+    begun_at (restarted_high keys direction key (following direction number window).high) (following direction number window)
+
+following_again : (old new : List KeyRow) (direction : Direction) (own key : Option ℕ) (number : ℕ) (window : Window)
+    → begun_after new direction key number (begun_at (restarted_high old direction own window.high) window) ≡ begun_after new direction key number window
+following_again old new Receive own key number window = refl
+following_again old new Send own key number window = refl
+
+-- an association that is lowered to a floor
+floor_left : (keys : List KeyRow) (floor : ℕ) (row : SaRow)
+    → restarted_row keys (with_floor row floor) ≡ with_high row (restarted_high keys row.direction row.key (min row.window.high floor))
+floor_left keys floor row =
+    ap (λ (h : ℕ). record row { window = begun_at (restarted_high keys row.direction row.key h) (lowered_to floor row.window) }) (lowered_high floor row.window)
+    ∙ ap (λ (w : Window). record row { window = w }) (begun_lowered (restarted_high keys row.direction row.key (min row.window.high floor)) floor row.window)
 
 -- rows of which one is left out
 left-map : {X Y : Type 0} (p : Y → Bool) (q : X → Bool) (g : X → Y) (xs : List X) → ((x : X) → p (g x) ≡ q x) → filter p (map g xs) ≡ map g (filter q xs)
@@ -180,8 +195,10 @@ again state (Marks key mark floor) =
     let new : List KeyRow = changed state.keys key (λ row. record row { mark = mark; floor = floor }) in
     let stay : Stay state.keys new = stay_changed state.keys key (λ (row : KeyRow). record row { mark = mark; floor = floor }) (λ _. refl) in
     ap (λ (rs : List SaRow). record state { keys = new; associations = rs })
-    (some_again state.keys new stay (receives_with key) (λ (row : SaRow). with_high row (min row.window.high floor)) state.associations (λ _. refl)
-    (λ row. ap (with_high row) (high_again state.keys new stay row.direction row.key (λ h. min h floor) row.window.high)))
+    (some_again state.keys new stay (receives_with key) (λ (row : SaRow). with_floor row floor) state.associations (λ _. refl)
+    (λ row. floor_left new floor (restarted_row state.keys row)
+    ∙ ap (with_high row) (high_again state.keys new stay row.direction row.key (λ h. min h floor) row.window.high)
+    ∙ sym (floor_left new floor row)))
 again state (Load items) =
     ap (λ (rs : List SaRow). record state { keys = state.keys ++ map keys.new_row items; associations = rs })
     (rows_again state.keys _ (stay_loaded state.keys (map keys.new_row items)) state.associations)
@@ -195,7 +212,8 @@ again state (Rekey spi key number) =
     ap (λ (d : Option Direction). restarted (record state { keys = numbered state.keys d (Some key) number; associations = association_rows.changed (map (restarted_row state.keys) state.associations) spi (with_key key number) })) (direction_again state spi)
     ∙ ap (λ (rs : List SaRow). record state { keys = new; associations = rs })
     (some_again state.keys new (stay_numbered state.keys (direction_of state spi) (Some key) number) (λ row. nat_eq row.spi spi) (with_key key number) state.associations (λ _. refl)
-    (λ row. ap (λ (w : Window). restarted_row new (record row { state = Keyed; key = Some key; window = w })) (following_again state.keys row.direction row.key number row.window)))
+    (λ row. ap (λ (w : Window). record row { state = Keyed; key = Some key; window = w })
+    (following_again state.keys new row.direction row.key (Some key) number row.window)))
 again state (SaTo spi to) =
     ap (λ (rs : List SaRow). record state { associations = rs }) (in_state_again state.keys state.associations spi to)
 again state (SetNumber spi number) =
@@ -205,15 +223,17 @@ again state (SetNumber spi number) =
     ∙ ap (λ (k : Option ℕ). restarted (record state { keys = numbered state.keys (direction_of state spi) k number; associations = association_rows.changed (map (restarted_row state.keys) state.associations) spi next })) (key_again state spi)
     ∙ ap (λ (rs : List SaRow). record state { keys = new; associations = rs })
     (some_again state.keys new (stay_numbered state.keys (direction_of state spi) (key_held state spi) number) (λ row. nat_eq row.spi spi) next state.associations (λ _. refl)
-    (λ row. ap (λ (w : Window). restarted_row new (record row { window = w })) (following_again state.keys row.direction row.key number row.window)))
+    (λ row. ap (λ (w : Window). record row { window = w }) (following_again state.keys new row.direction row.key row.key number row.window)))
 again state (SetWindow spi window) =
     ap (λ (rs : List SaRow). record state { associations = rs })
-    (some_again state.keys state.keys (stay_same state.keys) (λ row. nat_eq row.spi spi) (λ (row : SaRow). record row { window = record row.window { width = window } }) state.associations (λ _. refl)
-    (λ row. row_again state.keys state.keys (stay_same state.keys) (record row { window = record row.window { width = window } })))
+    (some_again state.keys state.keys (stay_same state.keys) (λ row. nat_eq row.spi spi) (λ (row : SaRow). record row { window = with_field window row.window }) state.associations (λ _. refl)
+    (λ row. row_again state.keys state.keys (stay_same state.keys) (record row { window = with_field window row.window })))
 again state (Accepted spi key number floor) =
     let new : List KeyRow = changed state.keys key (λ row. record row { floor = max row.floor floor }) in
     ap (λ (rs : List SaRow). record state { keys = new; associations = rs })
-    (some_again state.keys new (stay_changed state.keys key (λ (row : KeyRow). record row { floor = max row.floor floor }) (λ _. refl)) (λ row. nat_eq row.spi spi) (λ (row : SaRow). record row { window = record row.window { high = number } }) state.associations (λ _. refl) (λ _. refl))
+    (some_again state.keys new (stay_changed state.keys key (λ (row : KeyRow). record row { floor = max row.floor floor }) (λ _. refl)) (λ row. nat_eq row.spi spi) (λ (row : SaRow). record row { window = accepted number row.window }) state.associations (λ _. refl)
+    (λ row. ap (with_high row) (high_again state.keys new (stay_changed state.keys key (λ (row : KeyRow). record row { floor = max row.floor floor }) (λ _. refl))
+    row.direction row.key (λ h. max h number) row.window.high)))
 again state Nothing = restarted_twice state
 
 pub applied_alike : (one other : State) (change : Change) → AreAlike one other → AreAlike (applied one change) (applied other change)

@@ -1,5 +1,5 @@
 -- Changes that are stored, and changes that are not: what a restart leaves of them.
-use Rattle.std.proofs.Common.{◌≡◌, ◌≢◌, ℕ, zero, suc, ◌<◌, ◌≤◌, max, min, Bool, true, false, cond, ◌&&◌, nat_eq, List, [], ◌∷◌, length, get_or, map, Option, Some, None, IsSome, ⊎_elim, sym, refl, ap, ◌∙◌, subst, arith}
+use Rattle.std.proofs.Common.{◌≡◌, ◌≢◌, ℕ, zero, suc, ◌<◌, ◌≤◌, max, Bool, true, false, cond, ◌&&◌, nat_eq, List, [], ◌∷◌, length, get_or, map, Option, Some, None, IsSome, ⊎_elim, sym, refl, ap, ◌∙◌, subst, arith}
 use Rattle.std.specs.Option.{option_map, option_map_or, option_and_then}
 use Rattle.std.proofs.lemmas.Bool.{cases_eq, false≢true}
 use Rattle.std.proofs.lemmas.List.Quantifiers.{position-Some}
@@ -14,7 +14,10 @@ use Rattle.key_book.specs.declared.key_row.KeyRow.{KeyRow}
 use Rattle.key_book.specs.KeyBook.{AreKeyRows, row_of, place_of, changed}
 use Rattle.key_book.proofs.Rows.{other_identifier}
 use Rattle.sa_book.specs.SaRefusal.{receives_with, is_receiving, is_key}
-use Rattle.sa_book.specs.Numbers.{lowered}
+use Rattle.sa_book.specs.Numbers.{with_floor, lowered}
+use Rattle.replay_window.specs.declared.window.Window.{Window}
+use Rattle.replay_window.specs.Window.{accepted, begun_at, lowered_to}
+use Rattle.replay_window.proofs.Lowered.{begun_lowered}
 use Rattle.sa_book.specs.declared.sa_row.SaRow.{SaRow}
 use Rattle.sa_book.specs.SaBook as association_rows
 use Rattle.unit_state.specs.declared.state.State.{State}
@@ -47,24 +50,26 @@ killed keys row key held high receives holds there =
     ∙ ap (λ (o : Option ℕ). restarted_high keys Receive o high) holds
     ∙ ap (λ (o : Option KeyRow). option_map_or (λ (row : KeyRow). row.floor) o high) there
 
-unseen : (keys : List KeyRow) (row : SaRow) (key : ℕ) (held : KeyRow) (number : ℕ) → row.direction ≡ Receive → row.key ≡ Some key → row_of keys key ≡ Some held → restarted_row keys (record row { window = record row.window { high = number } }) ≡ restarted_row keys row
-unseen keys row key held number receives holds there =
-    ap (λ (h : ℕ). record row { window = record row.window { high = h } })
-    (killed keys row key held number receives holds there ∙ sym (killed keys row key held row.window.high receives holds there))
+unseen : (keys : List KeyRow) (row : SaRow) (key : ℕ) (held : KeyRow) (window : Window) → row.direction ≡ Receive → row.key ≡ Some key → row_of keys key ≡ Some held
+    → begun_at held.floor window ≡ begun_at held.floor row.window → restarted_row keys (record row { window = window }) ≡ restarted_row keys row
+unseen keys row key held window receives holds there same =
+    ap (λ (h : ℕ). record row { window = begun_at h window }) (killed keys row key held window.high receives holds there)
+    ∙ ap (λ (w : Window). record row { window = w }) same
+    ∙ ap (λ (h : ℕ). record row { window = begun_at h row.window }) (sym (killed keys row key held row.window.high receives holds there))
 
-one_unseen : (keys : List KeyRow) (row : SaRow) (number : ℕ) (b : Bool) → (b ≡ true → restarted_row keys (record row { window = record row.window { high = number } }) ≡ restarted_row keys row) → restarted_row keys (cond b (record row { window = record row.window { high = number } }) row) ≡ restarted_row keys row
+one_unseen : (keys : List KeyRow) (row : SaRow) (number : ℕ) (b : Bool) → (b ≡ true → restarted_row keys (record row { window = accepted number row.window }) ≡ restarted_row keys row) → restarted_row keys (cond b (record row { window = accepted number row.window }) row) ≡ restarted_row keys row
 one_unseen keys row number true same = same refl
 one_unseen keys row number false same = refl
 
 -- an acceptance moves the highest number of one association, which a restart does not see
-accepted_unseen : (keys : List KeyRow) (rows : List SaRow) (spi key number : ℕ) (row : SaRow) (held : KeyRow) → association_rows.IsSaBook rows → association_rows.row_of rows spi ≡ Some row → row.direction ≡ Receive → row.key ≡ Some key → row_of keys key ≡ Some held → map (restarted_row keys) (association_rows.changed rows spi (λ row. record row { window = record row.window { high = number } })) ≡ map (restarted_row keys) rows
+accepted_unseen : (keys : List KeyRow) (rows : List SaRow) (spi key number : ℕ) (row : SaRow) (held : KeyRow) → association_rows.IsSaBook rows → association_rows.row_of rows spi ≡ Some row → row.direction ≡ Receive → row.key ≡ Some key → row_of keys key ≡ Some held → map (restarted_row keys) (association_rows.changed rows spi (λ row. record row { window = accepted number row.window })) ≡ map (restarted_row keys) rows
 accepted_unseen keys rows spi key number row held ok at receives holds there =
     map_map (restarted_row keys) _ rows
     ∙ same_at_each _ (restarted_row keys) rows
     (λ k d low. one_unseen keys (get_or rows k d) number (nat_eq (get_or rows k d).spi spi)
     (λ test.
     let same : row ≡ get_or rows k d = same_Some _ _ (sym at ∙ one_row rows spi k d ok low test) in
-    unseen keys (get_or rows k d) key held number (ap (λ (r : SaRow). r.direction) (sym same) ∙ receives) (ap (λ (r : SaRow). r.key) (sym same) ∙ holds) there))
+    unseen keys (get_or rows k d) key held (accepted number (get_or rows k d).window) (ap (λ (r : SaRow). r.direction) (sym same) ∙ receives) (ap (λ (r : SaRow). r.key) (sym same) ∙ holds) there refl))
 
 -- a key has one row
 
@@ -115,7 +120,7 @@ acceptance_unstored state spi key number floor ok allowed none =
     let held : KeyRow = t.row in
     let equal : held.floor ≡ floor = same_floor (nat_eq held.floor floor) held key floor refl (sym (ap (option_and_then (acceptance_stored key floor)) t.is) ∙ none) in
     let keys : changed state.keys key (λ row. record row { floor = max row.floor floor }) ≡ state.keys = same_changed state.keys key held (λ row. record row { floor = max row.floor floor }) (λ row. row) ok.keys.rules t.is (floor_stays held floor equal) ∙ unchanged state.keys key in
-    ap (λ (ks : List KeyRow). record state { keys = ks; associations = map (restarted_row ks) (association_rows.changed state.associations spi (λ row. record row { window = record row.window { high = number } })) }) keys
+    ap (λ (ks : List KeyRow). record state { keys = ks; associations = map (restarted_row ks) (association_rows.changed state.associations spi (λ row. record row { window = accepted number row.window })) }) keys
     ∙ ap (λ (rs : List SaRow). record state { associations = rs }) (accepted_unseen state.keys state.associations spi key number at.row held ok.associations at.is at.holds.0.receives at.holds.1 t.is)
 
 some_stored : (change : Change) → Some change ≡ None → ⊥
@@ -142,13 +147,13 @@ with_high_at rows keys key floor held there =
     (λ k d low. low_unseen (receives_with key (get_or rows k d)) (get_or rows k d)
     (λ test. receiving (get_or rows k d) (get_or rows k d).direction (get_or rows k d).key refl refl test))
   where
-    receiving : (row : SaRow) (direction : Direction) (own : Option ℕ) → row.direction ≡ direction → row.key ≡ own → (is_receiving direction && is_key key own) ≡ true → restarted_row keys (record row { window = record row.window { high = min row.window.high floor } }) ≡ restarted_row keys row
+    receiving : (row : SaRow) (direction : Direction) (own : Option ℕ) → row.direction ≡ direction → row.key ≡ own → (is_receiving direction && is_key key own) ≡ true → restarted_row keys (with_floor row floor) ≡ restarted_row keys row
     receiving row Receive (Some k) e f test =
-        unseen keys row key held (min row.window.high floor) e (f ∙ ap (λ n. Some n) (equal_number k key test)) there
+        unseen keys row key held (lowered_to floor row.window) e (f ∙ ap (λ n. Some n) (equal_number k key test)) there (begun_lowered held.floor floor row.window)
     receiving row Receive None e f test = absurd (false≢true test)
     receiving row Send own e f test = absurd (false≢true test)
 
-    low_unseen : (b : Bool) (row : SaRow) → (b ≡ true → restarted_row keys (record row { window = record row.window { high = min row.window.high floor } }) ≡ restarted_row keys row) → restarted_row keys (cond b (record row { window = record row.window { high = min row.window.high floor } }) row) ≡ restarted_row keys row
+    low_unseen : (b : Bool) (row : SaRow) → (b ≡ true → restarted_row keys (with_floor row floor) ≡ restarted_row keys row) → restarted_row keys (cond b (with_floor row floor) row) ≡ restarted_row keys row
     low_unseen true row same = same refl
     low_unseen false row same = refl
 
@@ -180,7 +185,7 @@ acceptance_stores state spi key number floor stored ok allowed some =
         below_end = allowed.below_end;
       };
       alike =
-          ap (λ (ks : List KeyRow). record state { keys = ks; associations = map (restarted_row ks) (association_rows.changed state.associations spi (λ row. record row { window = record row.window { high = number } })) }) keys
+          ap (λ (ks : List KeyRow). record state { keys = ks; associations = map (restarted_row ks) (association_rows.changed state.associations spi (λ row. record row { window = accepted number row.window })) }) keys
           ∙ ap (λ (rs : List SaRow). record state { keys = new; associations = rs }) (accepted_unseen new state.associations spi key number at.row (record held { mark = held.mark; floor = floor }) ok.associations at.is at.holds.0.receives at.holds.1 here ∙ sym (with_high_at state.associations new key floor (record held { mark = held.mark; floor = floor }) here));
     })
 

@@ -212,7 +212,7 @@ allowed_still one other (SaTo spi to) storable keys channels rows allowed =
 allowed_still one other (SetNumber spi number) storable keys channels rows allowed =
     number_alike one other spi number keys rows allowed
 allowed_still one other (SetWindow spi window) storable keys channels rows allowed = record {
-  width = allowed.width;
+  bounds = allowed.bounds;
   book =
       same_said (λ rs. set_window_refusal rs spi) (λ rs. window_still rs spi) one.associations other.associations rows ∙ allowed.book;
 }

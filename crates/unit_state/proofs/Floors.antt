@@ -10,7 +10,7 @@ use Rattle.key_book.specs.declared.key_row.KeyRow.{KeyRow}
 use Rattle.key_book.specs.KeyBook.{AreKeyRows, row_of}
 use Rattle.sa_book.specs.declared.sa_row.SaRow.{SaRow}
 use Rattle.sa_book.specs.SaRefusal.{receives_with, is_receiving, is_key}
-use Rattle.sa_book.specs.Numbers.{with_high, all_high}
+use Rattle.sa_book.specs.Numbers.{with_high, all_high, all_begun}
 use Rattle.unit_state.specs.Restart.{restarted_high, restarted_row}
 use Rattle.unit_state.proofs.KeyRules.{equal_number, number_test}
 
@@ -72,8 +72,8 @@ row_left Send key high = refl
 row_left Receive None high = refl
 row_left Receive (Some key) high = refl
 
-pub rows_left : (rows : List SaRow) → map (restarted_row []) rows ≡ rows
+pub rows_left : (rows : List SaRow) → map (restarted_row []) rows ≡ all_begun rows
 rows_left [] = refl
 rows_left (row ∷ rows) =
     ap (λ (h : ℕ). with_high row h ∷ map (restarted_row []) rows) (row_left row.direction row.key row.window.high)
-    ∙ ap (λ rs. row ∷ rs) (rows_left rows)
+    ∙ ap (λ rs. with_high row row.window.high ∷ rs) (rows_left rows)

@@ -10,6 +10,7 @@ use Rattle.sdls_base.specs.declared.states.Direction.{Direction}
 use Rattle.sdls_base.specs.declared.states.Direction.TheVariants.{Send, Receive}
 use Rattle.key_book.specs.declared.key_row.KeyRow.{KeyRow}
 use Rattle.key_book.specs.KeyBook as key_rows
+use Rattle.replay_window.specs.Window.{begun_at}
 use Rattle.sa_book.specs.declared.sa_row.SaRow.{SaRow}
 use Rattle.sa_book.specs.SaBook as association_rows
 use Rattle.unit_state.specs.State.{MayHold, HasKey}
@@ -91,12 +92,16 @@ all_changed keys rows spi f has made =
     (λ k d low. one_has keys f (nat_eq (get_or rows k d).spi spi) (get_or rows k d) (has k d low) (made k d low))
 
 -- what a restart leaves
-restarted_holds : (keys : List KeyRow) (row : SaRow) (direction : Direction) (own : Option ℕ) → IfSome own (λ key. IsSomeAnd (key_rows.row_of keys key) (MayHold row)) → IfSome own (λ key. IsSomeAnd (key_rows.row_of keys key) (MayHold (record row { window = record row.window { high = restarted_high keys direction own row.window.high } })))
+restarted_holds : (keys : List KeyRow) (row : SaRow) (direction : Direction) (own : Option ℕ) → IfSome own (λ key. IsSomeAnd (key_rows.row_of keys key) (MayHold row)) → IfSome own (λ key. IsSomeAnd (key_rows.row_of keys key) (MayHold (record row { window = begun_at (restarted_high keys direction own row.window.high) row.window })))
 restarted_holds keys row direction None has = tt
-restarted_holds keys row Send (Some key) has = has
+restarted_holds keys row Send (Some key) has = kept (key_rows.row_of keys key) has
+  where
+    kept : (o : Option KeyRow) → IsSomeAnd o (MayHold row) → IsSomeAnd o (MayHold (record row { window = begun_at row.window.high row.window }))
+    kept None holds = absurd holds
+    kept (Some held) holds = record { active = holds.active; floor = holds.floor }
 restarted_holds keys row Receive (Some key) has = by (key_rows.row_of keys key) has
   where
-    by : (o : Option KeyRow) → IsSomeAnd o (MayHold row) → IsSomeAnd o (MayHold (record row { window = record row.window { high = option_map_or (λ (held : KeyRow). held.floor) o row.window.high } }))
+    by : (o : Option KeyRow) → IsSomeAnd o (MayHold row) → IsSomeAnd o (MayHold (record row { window = begun_at (option_map_or (λ (held : KeyRow). held.floor) o row.window.high) row.window }))
     by None holds = absurd holds
     by (Some held) holds = record { active = holds.active; floor = omega arith }
 

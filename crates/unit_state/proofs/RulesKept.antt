@@ -34,7 +34,9 @@ use Rattle.sa_book.specs.SaRow.{IsSaRow, HasHigh, new_row, with_key, without_key
 use Rattle.sa_book.specs.SaBook as association_rows
 use Rattle.sa_book.specs.SaBook.{IsSaBook, with_row, in_use}
 use Rattle.sa_book.specs.SaRefusal.{is_receiving, is_key, receives_with, unless_active, number_refusal, number_refusal_of, key_refusal, rekey_refusal}
-use Rattle.sa_book.specs.Numbers.{with_high}
+use Rattle.replay_window.specs.Window.{accepted, with_field}
+use Rattle.replay_window.proofs.Lowered.{lowered_high}
+use Rattle.sa_book.specs.Numbers.{with_floor}
 use Rattle.sa_book.proofs.HighRules.{IsSaBook-lowered}
 use Rattle.sa_book.proofs.Changes.{IsSaBook-create}
 use Rattle.unit_state.specs.declared.state.State.{State}
@@ -90,36 +92,44 @@ low_floor Receive (Some own) high key floor has e =
     receives_low (nat_eq own key) high floor (number_test own key (same_Some own key e))
 low_floor Send held high key floor has e = omega arith
 
-same_high : (b : Bool) (row : SaRow) (high : ℕ) → cond b (with_high row high) row ≡ with_high row (cond b high row.window.high)
-same_high true row high = refl
-same_high false row high = refl
+-- an association that was lowered to a floor where a test says so
+lowered_at : (b : Bool) (row : SaRow) (floor : ℕ) → (cond b (with_floor row floor) row).window.high ≡ cond b (min row.window.high floor) row.window.high
+lowered_at true row floor = lowered_high floor row.window
+lowered_at false row floor = refl
 
-marks_row : (row : SaRow) (held : KeyRow) (key mark floor high : ℕ) (b : Bool) → nat_eq held.id key ≡ b → high ≤ row.window.high → (held.id ≡ key → high ≤ floor) → MayHold row held → MayHold (with_high row high) (cond b (record held { mark = mark; floor = floor }) held)
-marks_row row held key mark floor high true e low at holds = record { active = holds.active; floor = at (equal_number _ _ e) }
-marks_row row held key mark floor high false e low at holds =
+lowered_key : (b : Bool) (row : SaRow) (floor : ℕ) → (cond b (with_floor row floor) row).key ≡ row.key
+lowered_key true row floor = refl
+lowered_key false row floor = refl
+
+marks_row : (row new : SaRow) (held : KeyRow) (key mark floor : ℕ) (b : Bool) → nat_eq held.id key ≡ b → new.window.high ≤ row.window.high → (held.id ≡ key → new.window.high ≤ floor) → MayHold row held → MayHold new (cond b (record held { mark = mark; floor = floor }) held)
+marks_row row new held key mark floor true e low at holds = record { active = holds.active; floor = at (equal_number _ _ e) }
+marks_row row new held key mark floor false e low at holds =
     record { active = holds.active; floor = omega (arith, low, holds.floor) }
 
-marks_at : (keys : List KeyRow) (key mark floor high : ℕ) (row : SaRow) (own : Option ℕ) → high ≤ row.window.high → (own ≡ Some key → high ≤ floor) → IfSome own (λ k. IsSomeAnd (key_rows.row_of keys k) (MayHold row)) → IfSome own (λ k. IsSomeAnd (key_rows.row_of (key_rows.changed keys key (λ (row : KeyRow). record row { mark = mark; floor = floor })) k) (MayHold (with_high row high)))
-marks_at keys key mark floor high row None low at has = has
-marks_at keys key mark floor high row (Some k) low at has =
+marks_at : (keys : List KeyRow) (key mark floor : ℕ) (row new : SaRow) (own : Option ℕ) → new.window.high ≤ row.window.high → (own ≡ Some key → new.window.high ≤ floor) → IfSome own (λ k. IsSomeAnd (key_rows.row_of keys k) (MayHold row)) → IfSome own (λ k. IsSomeAnd (key_rows.row_of (key_rows.changed keys key (λ (row : KeyRow). record row { mark = mark; floor = floor })) k) (MayHold new))
+marks_at keys key mark floor row new None low at has = has
+marks_at keys key mark floor row new (Some k) low at has =
     let t = there (key_rows.row_of keys k) (MayHold row) has in
-    some_and _ _ (MayHold (with_high row high))
+    some_and _ _ (MayHold new)
     (row_of_changed keys key k (λ (row : KeyRow). record row { mark = mark; floor = floor }) (λ _. refl) ∙ ap (option_map (λ (row : KeyRow). cond (nat_eq row.id key) (record row { mark = mark; floor = floor }) row)) t.is)
-    (marks_row row t.row key mark floor high (nat_eq t.row.id key) refl low (λ same. at (ap (λ n. Some n) (sym (named keys k t.row t.is) ∙ same))) t.holds)
+    (marks_row row new t.row key mark floor (nat_eq t.row.id key) refl low (λ same. at (ap (λ n. Some n) (sym (named keys k t.row t.is) ∙ same))) t.holds)
 
 marks_kept : (state : State) (key mark floor : ℕ) → KeepsRules state → AllowsMarks state key mark floor → KeepsRules (applied state (Marks key mark floor))
 marks_kept state key mark floor ok allowed =
     let at = some_there (held_row state key) allowed.there in
-    let high : SaRow → ℕ = λ row. cond (receives_with key row) (min row.window.high floor) row.window.high in
     record {
       keys = rules_marks state.keys key mark floor at.row ok.keys at.is allowed.from_one allowed.to_end allowed.below_end;
       associations = IsSaBook-lowered state.associations key floor ok.associations;
-      held = All-map (HasKey (key_rows.changed state.keys key (λ (row : KeyRow). record row { mark = mark; floor = floor }))) (λ (row : SaRow). cond (receives_with key row) (with_high row (min row.window.high floor)) row) state.associations
+      held = All-map (HasKey (key_rows.changed state.keys key (λ (row : KeyRow). record row { mark = mark; floor = floor }))) (λ (row : SaRow). cond (receives_with key row) (with_floor row floor) row) state.associations
           (λ i d low.
           let row : SaRow = get_or state.associations i d in
-          subst (HasKey (key_rows.changed state.keys key (λ (row : KeyRow). record row { mark = mark; floor = floor }))) (sym (same_high (receives_with key row) row (min row.window.high floor)))
-          (marks_at state.keys key mark floor (high row) row row.key (not_above (receives_with key row) row.window.high floor)
-          (λ e. low_floor row.direction row.key row.window.high key floor (ok.associations.each i d low).high e)
+          let new : SaRow = cond (receives_with key row) (with_floor row floor) row in
+          let is : new.window.high ≡ cond (receives_with key row) (min row.window.high floor) row.window.high = lowered_at (receives_with key row) row floor in
+          subst (λ (o : Option ℕ). IfSome o (λ k. IsSomeAnd (key_rows.row_of (key_rows.changed state.keys key (λ (row : KeyRow). record row { mark = mark; floor = floor })) k) (MayHold new)))
+          (sym (lowered_key (receives_with key row) row floor))
+          (marks_at state.keys key mark floor row new row.key
+          (subst (λ (h : ℕ). h ≤ row.window.high) (sym is) (not_above (receives_with key row) row.window.high floor))
+          (λ e. subst (λ (h : ℕ). h ≤ floor) (sym is) (low_floor row.direction row.key row.window.high key floor (ok.associations.each i d low).high e))
           (ok.held i d low)));
     }
 
@@ -345,9 +355,9 @@ window_kept state spi window ok allowed =
     let judge = judged state.associations spi _ allowed.book in
     record {
       keys = ok.keys;
-      associations = rules_widened state.associations spi window judge.row ok.associations allowed.width judge.there;
-      held = all_changed state.keys state.associations spi (λ row. record row { window = record row.window { width = window } }) ok.held
-          (λ i d low test. same_key state.keys (get_or state.associations i d) (record (get_or state.associations i d) { window = record (get_or state.associations i d).window { width = window } }) refl refl (ok.held i d low));
+      associations = rules_widened state.associations spi window judge.row ok.associations allowed.bounds judge.there;
+      held = all_changed state.keys state.associations spi (λ row. record row { window = with_field window row.window }) ok.held
+          (λ i d low test. same_key state.keys (get_or state.associations i d) (record (get_or state.associations i d) { window = with_field window (get_or state.associations i d).window }) refl refl (ok.held i d low));
     }
 
 accepted_kept : (state : State) (spi key number floor : ℕ) → KeepsRules state → AllowsAccepted state spi key number floor → KeepsRules (applied state (Accepted spi key number floor))
@@ -362,15 +372,15 @@ accepted_kept state spi key number floor ok allowed =
     record {
       keys = rules_raise_floor state.keys key floor held ok.keys t.is allowed.below_end;
       associations = rules_accepted state.associations spi number row ok.associations at.is at.holds.0;
-      held = all_changed keys state.associations spi (λ row. record row { window = record row.window { high = number } })
+      held = all_changed keys state.associations spi (λ row. record row { window = accepted number row.window })
           (all_still state.keys keys state.associations (grow_changed state.keys key f (λ _. refl) (λ _. record { state = refl; floor = omega arith })) ok.held)
           (λ i d low test.
           let one : row ≡ get_or state.associations i d = same_Some _ _ (sym at.is ∙ one_row state.associations spi i d ok.associations low test) in
-          subst (λ (r : SaRow). HasKey keys (record r { window = record r.window { high = number } })) one
-          (subst (λ (o : Option ℕ). IfSome o (λ key. IsSomeAnd (key_rows.row_of keys key) (MayHold (record row { window = record row.window { high = number } })))) (sym at.holds.1)
-          (some_and _ (f held) (MayHold (record row { window = record row.window { high = number } }))
+          subst (λ (r : SaRow). HasKey keys (record r { window = accepted number r.window })) one
+          (subst (λ (o : Option ℕ). IfSome o (λ key. IsSomeAnd (key_rows.row_of keys key) (MayHold (record row { window = accepted number row.window })))) (sym at.holds.1)
+          (some_and _ (f held) (MayHold (record row { window = accepted number row.window }))
           (row_of_changed state.keys key key f (λ _. refl) ∙ ap (option_map (λ (row : KeyRow). cond (nat_eq row.id key) (f row) row)) t.is ∙ ap (λ (row : KeyRow). Some row) (chosen_row _ (f held) held (number_test _ _ (named state.keys key held t.is))))
-          (record { active = holds.active; floor = omega (arith, allowed.covered) }))));
+          (record { active = holds.active; floor = omega (arith, allowed.covered, holds.floor) }))));
     }
 
 -- every change

@@ -2,11 +2,12 @@
 use Rattle.std.proofs.Common.{◌≡◌, ◌≢◌, ℕ, ◌<◌, true, nat_eq, List, length, get_or, set, Option, Some, None, inl, inr, ⊎_elim, ◌⊎◌, sym, refl, ap, ◌∙◌, subst, arith}
 use Rattle.std.proofs.lemmas.Bool.{cases_eq, cases_lt, false≢true}
 use Rattle.std.proofs.lemmas.List.Quantifiers.{position-Some}
-use Rattle.sdls_base.specs.Bounds.{IsWidth}
 use Rattle.sdls_base.proofs.Searches.{find_placed, find_nowhere, find_none}
 use Rattle.sdls_base.specs.declared.states.KeyState.{KeyState}
 use Rattle.sdls_base.specs.declared.states.SaState.{SaState}
 use Rattle.sdls_base.specs.declared.states.SaState.TheVariants.{Unkeyed, Keyed, Operational}
+use Rattle.replay_window.specs.WindowField.{IsWindowField}
+use Rattle.replay_window.specs.Window.{accepted, with_field}
 use Rattle.sa_book.specs.declared.sa_row.SaRow.{SaRow}
 use Rattle.sa_book.specs.declared.sa_refusal.SaRefusal.{SaRefusal}
 use Rattle.sa_book.specs.SaRow.{MayAccept, with_key, without_key, following}
@@ -49,14 +50,14 @@ rules_numbered rows spi number floor ok free =
     rules_changed rows spi (λ row. record row { window = following row.direction number row.window }) at.row ok at.there
     (λ i low read. IsSaBook-set_number rows i at.row number floor ok low read at.free)
 
-pub rules_widened : (rows : List SaRow) (spi width : ℕ) (row : SaRow) → IsSaBook rows → IsWidth width → row_of rows spi ≡ Some row → IsSaBook (changed rows spi (λ row. record row { window = record row.window { width = width } }))
-rules_widened rows spi width row ok bounds there =
-    rules_changed rows spi (λ row. record row { window = record row.window { width = width } }) row ok there
-    (λ i low read. IsSaBook-set_window rows i row width ok low read bounds)
+pub rules_widened : (rows : List SaRow) (spi field : ℕ) (row : SaRow) → IsSaBook rows → IsWindowField field → row_of rows spi ≡ Some row → IsSaBook (changed rows spi (λ row. record row { window = with_field field row.window }))
+rules_widened rows spi field row ok bounds there =
+    rules_changed rows spi (λ row. record row { window = with_field field row.window }) row ok there
+    (λ i low read. IsSaBook-set_window rows i row field ok low read bounds)
 
-pub rules_accepted : (rows : List SaRow) (spi number : ℕ) (row : SaRow) → IsSaBook rows → row_of rows spi ≡ Some row → MayAccept row number → IsSaBook (changed rows spi (λ row. record row { window = record row.window { high = number } }))
+pub rules_accepted : (rows : List SaRow) (spi number : ℕ) (row : SaRow) → IsSaBook rows → row_of rows spi ≡ Some row → MayAccept row number → IsSaBook (changed rows spi (λ row. record row { window = accepted number row.window }))
 rules_accepted rows spi number row ok there may =
-    rules_changed rows spi (λ row. record row { window = record row.window { high = number } }) row ok there
+    rules_changed rows spi (λ row. record row { window = accepted number row.window }) row ok there
     (λ i low read. IsSaBook-accept rows i row number ok low read may)
 
 rules_stopped : (rows : List SaRow) (spi : ℕ) → IsSaBook rows → stop_refusal rows spi ≡ None → IsSaBook (changed rows spi (λ row. record row { state = Keyed }))

@@ -12,6 +12,7 @@ use Rattle.sdls_base.specs.declared.states.SaState.TheVariants.{Operational}
 use Rattle.key_book.specs.declared.key_row.KeyRow.{KeyRow}
 use Rattle.key_book.specs.KeyRefusal.{load_refusal}
 use Rattle.key_book.specs.Moves.{moves_refusal}
+use Rattle.replay_window.proofs.Fields.{width_field}
 use Rattle.sa_book.specs.declared.sa_row.SaRow.{SaRow}
 use Rattle.sa_book.specs.SaBook.{in_use}
 use Rattle.sa_book.specs.SaRefusal.{create_refusal, start_refusal}
@@ -105,7 +106,7 @@ created_rules state next found ok bounds h =
     let c = checked found.line (is_none (create_refusal state.associations found.sa state.channels)) (applied state (Create found.sa)) next h in
     subst KeepsRules c.1
     (create_kept state found.sa ok (record {
-      window = record { least = bounds.window.least; most = bounds.window.most };
+      window = width_field found.sa.window (record { least = bounds.window.least; most = bounds.window.most });
       channels = record { one = bounds.channels.one; most = bounds.channels.most; ascending = bounds.channels.ascending };
       numbers = bounds.identifiers;
       book = none_of _ c.0;

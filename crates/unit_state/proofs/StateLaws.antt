@@ -1,5 +1,5 @@
 -- Laws of states, one case for each change.
-use Rattle.std.proofs.Common.{◌≡◌, ◌≢◌, ℕ, ◌-◌, ◌<◌, ◌≤◌, max, min, Bool, true, false, cond, nat_eq, List, [], ◌∷◌, ◌++◌, length, get_or, map, Option, Some, None, IsSomeAnd, sym, refl, ap, ◌∙◌, subst, arith}
+use Rattle.std.proofs.Common.{◌≡◌, ◌≢◌, ℕ, ◌-◌, ◌<◌, ◌≤◌, max, Bool, true, false, cond, nat_eq, List, [], ◌∷◌, ◌++◌, length, get_or, map, Option, Some, None, IsSomeAnd, sym, refl, ap, ◌∙◌, subst, arith}
 use Rattle.std.specs.Prelude.{IfSome}
 use Rattle.std.specs.List.{find, position, position_or_len}
 use Rattle.std.specs.Option.{option_map, option_map_or, option_or}
@@ -19,7 +19,11 @@ use Rattle.key_book.specs.declared.key_row.KeyRow.{KeyRow}
 use Rattle.key_book.specs.KeyRow.{HasBytes, new_row, in_state}
 use Rattle.key_book.specs.KeyBook.{IsKeyBook, row_of, place_of, changed}
 use Rattle.key_book.proofs.Moved.{moved_row}
+use Rattle.replay_window.specs.declared.window.Window.{Window}
+use Rattle.replay_window.specs.Window.{accepted, begun_at}
+use Rattle.replay_window.proofs.Lowered.{begun_lowered}
 use Rattle.sa_book.specs.declared.sa_row.SaRow.{SaRow}
+use Rattle.sa_book.specs.Numbers.{with_floor}
 use Rattle.unit_state.specs.declared.state.State.{State}
 use Rattle.unit_state.specs.Applied.{applied, numbered, direction_of, key_held}
 use Rattle.sa_book.specs.SaBook.{covers}
@@ -42,7 +46,7 @@ high_twice keys Send key high = refl
 
 row_twice : (keys : List KeyRow) (row : SaRow) → restarted_row keys (restarted_row keys row) ≡ restarted_row keys row
 row_twice keys row =
-    ap (λ (h : ℕ). record row { window = record row.window { high = h } }) (high_twice keys row.direction row.key row.window.high)
+    ap (λ (h : ℕ). record row { window = begun_at h row.window }) (high_twice keys row.direction row.key row.window.high)
 
 rows_twice : (keys : List KeyRow) (rows : List SaRow) → map (restarted_row keys) (map (restarted_row keys) rows) ≡ map (restarted_row keys) rows
 rows_twice keys [] = refl
@@ -235,7 +239,8 @@ pub light_still : (state : State) (change : Change) → IsLight change → still
 light_still state (Marks key mark floor) light =
     both_still state _ _
     (still_keys state.keys key (λ (row : KeyRow). record row { mark = mark; floor = floor }) (λ _. refl))
-    (still_rows state.associations (receives_with key) (λ (row : SaRow). record row { window = record row.window { high = min row.window.high floor } }) (λ _. refl))
+    (still_rows state.associations (receives_with key) (λ (row : SaRow). with_floor row floor)
+    (λ row. ap (λ (w : Window). record row { window = w }) (begun_lowered 0 floor row.window)))
 light_still state (Load items) light = absurd light
 light_still state (KeyStates ids to) light = absurd light
 light_still state (Create new) light = absurd light
@@ -246,7 +251,7 @@ light_still state (SetWindow spi window) light = absurd light
 light_still state (Accepted spi key number floor) light =
     both_still state _ _
     (still_keys state.keys key (λ (row : KeyRow). record row { floor = max row.floor floor }) (λ _. refl))
-    (still_rows state.associations (λ row. nat_eq row.spi spi) (λ (row : SaRow). record row { window = record row.window { high = number } }) (λ _. refl))
+    (still_rows state.associations (λ row. nat_eq row.spi spi) (λ (row : SaRow). record row { window = accepted number row.window }) (λ _. refl))
 light_still state Nothing light = refl
 
 -- what states that differ in numbers alone serve

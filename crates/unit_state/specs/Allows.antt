@@ -1,7 +1,7 @@
 -- The changes that a state allows: those that a command, a frame or a reserve may make there (profile).
-use Rattle.std.specs.Prelude.{◌≡◌, ◌≢◌, ⊤, ℕ, ◌+◌, ◌<◌, ◌≤◌, List, length, Option, Some, None, IsSome, IsSomeAnd, All}
+use Rattle.std.specs.Prelude.{◌≡◌, ◌≢◌, ⊤, ℕ, ◌<◌, ◌≤◌, List, length, Option, Some, None, IsSome, IsSomeAnd, All}
 use Rattle.std.specs.List.{Any}
-use Rattle.sdls_base.specs.Bounds.{AreChannels, IsKeyCount, IsKeyLength, IsWidth}
+use Rattle.sdls_base.specs.Bounds.{AreChannels, IsKeyCount, IsKeyLength}
 use Rattle.sdls_base.specs.KeyId.{class_of, end_of}
 use Rattle.sdls_base.specs.declared.key_id.KeyClass.TheVariants.{Master}
 use Rattle.sdls_base.specs.declared.key_item.KeyItem.{KeyItem}
@@ -9,8 +9,6 @@ use Rattle.sdls_base.specs.declared.change.Change.{Change}
 use Rattle.sdls_base.specs.declared.change.Change.TheVariants.{Marks, Load, KeyStates, Create, Rekey, SaTo, SetNumber}
 use Rattle.sdls_base.specs.declared.change.Change.TheVariants.{SetWindow, Accepted, Nothing}
 use Rattle.sdls_base.specs.declared.change.NewSa.{NewSa}
-use Rattle.sdls_base.specs.declared.states.Direction.{Direction}
-use Rattle.sdls_base.specs.declared.states.Direction.TheVariants.{Send, Receive}
 use Rattle.sdls_base.specs.declared.states.KeyState.{KeyState}
 use Rattle.sdls_base.specs.declared.states.KeyState.TheVariants.{Active}
 use Rattle.sdls_base.specs.declared.states.SaState.{SaState}
@@ -18,6 +16,7 @@ use Rattle.sdls_base.specs.declared.states.SaState.TheVariants.{Unkeyed, Keyed, 
 use Rattle.key_book.specs.declared.key_row.KeyRow.{KeyRow}
 use Rattle.key_book.specs.KeyRefusal.{load_refusal}
 use Rattle.key_book.specs.Moves.{moves_refusal}
+use Rattle.replay_window.specs.WindowField.{IsWindowField}
 use Rattle.sa_book.specs.declared.sa_refusal.SaRefusal.{SaRefusal}
 use Rattle.sa_book.specs.declared.sa_row.SaRow.{SaRow}
 use Rattle.sa_book.specs.SaRow.{MayAccept}
@@ -59,7 +58,7 @@ pub record AllowsStates (state : State) (ids : List ℕ) (to : KeyState) : Type 
 
 -- an association that the book takes, with its window and channels in their bounds
 pub record AllowsCreate (state : State) (new : NewSa) : Type 0 where
-  pub window : IsWidth new.window
+  pub window : IsWindowField new.window
   pub channels : AreChannels new.channels
   pub numbers : All (λ channel. channel ≤ 63) new.channels
   pub book : create_refusal state.associations new state.channels ≡ None
@@ -83,9 +82,9 @@ AllowsNumber state spi number = IsSomeAnd (association_row state spi) (λ row. I
     (λ key. IsSomeAnd (key_row state key)
     (λ held. set_number_refusal state.associations spi number (least_with 1 row.direction held) ≡ None)))
 
--- a window in its bounds
+-- a window field in its bounds
 pub record AllowsWindow (state : State) (spi window : ℕ) : Type 0 where
-  pub width : IsWidth window
+  pub bounds : IsWindowField window
   pub book : set_window_refusal state.associations spi ≡ None
 
 -- The association may accept the number with the key; the floor is at least the number and the key's floor.

@@ -12,6 +12,7 @@ use Rattle.key_book.specs.declared.key_row.KeyRow.{KeyRow}
 use Rattle.key_book.specs.KeyBook as key_rows
 use Rattle.key_book.specs.KeyRow as keys
 use Rattle.key_book.specs.Moves.{moved}
+use Rattle.replay_window.specs.Window.{accepted, with_field}
 use Rattle.sa_book.specs.declared.sa_row.SaRow.{SaRow}
 use Rattle.sa_book.specs.SaBook.{changed, without, with_row}
 use Rattle.sa_book.specs.Numbers.{lowered}
@@ -63,10 +64,10 @@ applied state (SetNumber spi number) = record state {
       changed state.associations spi (λ row. record row { window = following row.direction number row.window });
 }
 applied state (SetWindow spi window) = record state {
-  associations = changed state.associations spi (λ row. record row { window = record row.window { width = window } });
+  associations = changed state.associations spi (λ row. record row { window = with_field window row.window });
 }
 applied state (Accepted spi key number floor) = record state {
   keys = key_rows.changed state.keys key (λ row. record row { floor = max row.floor floor });
-  associations = changed state.associations spi (λ row. record row { window = record row.window { high = number } });
+  associations = changed state.associations spi (λ row. record row { window = accepted number row.window });
 }
 applied state Nothing = state

@@ -53,7 +53,7 @@ KeepsPlaces old new = (id place : ℕ) → place_of old.keys id ≡ Some place �
 abbrev pub HaveOwnBytes : List KeyRow → Type 0
 HaveOwnBytes rows = AllPairs (λ a b. a.bytes ≡ b.bytes → a.bytes ≡ []) rows
 
--- The same sender on each channel, and the same row of each key, but for marks, floors and highest numbers.
+-- The same sender on each channel, and the same row of each key, but for marks, floors and accepted numbers.
 pub record ServeAlike (one other : State) : Type 0 where
   pub sender : (channel : ℕ) → option_map still_association (sender_on one.associations channel)
       ≡ option_map still_association (sender_on other.associations channel)

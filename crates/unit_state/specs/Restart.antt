@@ -8,6 +8,7 @@ use Rattle.sdls_base.specs.declared.states.Direction.{Direction}
 use Rattle.sdls_base.specs.declared.states.Direction.TheVariants.{Send, Receive}
 use Rattle.key_book.specs.declared.key_row.KeyRow.{KeyRow}
 use Rattle.key_book.specs.KeyBook.{row_of}
+use Rattle.replay_window.specs.Window.{begun_at}
 use Rattle.sa_book.specs.declared.sa_row.SaRow.{SaRow}
 use Rattle.unit_state.specs.declared.state.State.{State}
 use Rattle.unit_state.specs.State.{key_row}
@@ -18,9 +19,10 @@ restarted_high keys Receive (Some key) high = option_map_or (λ row. row.floor) 
 restarted_high keys Receive None high = high
 restarted_high keys Send key high = high
 
+-- every window begins there
 abbrev pub restarted_row : List KeyRow → SaRow → SaRow
 restarted_row keys row = record row {
-  window = record row.window { high = restarted_high keys row.direction row.key row.window.high };
+  window = begun_at (restarted_high keys row.direction row.key row.window.high) row.window;
 }
 
 -- what a restart leaves of a state
@@ -87,12 +89,13 @@ counts (SetWindow spi window) = true
 counts (Accepted spi key number floor) = false
 counts Nothing = false
 
--- States that differ in marks, floors and highest numbers alone: with those at 0 they are the same.
+-- States that differ in marks, floors and accepted numbers alone: with marks and floors at 0, and each window begun at 0,
+-- they are the same.
 abbrev pub still_key : KeyRow → KeyRow
 still_key row = record row { mark = 0; floor = 0 }
 
 abbrev pub still_association : SaRow → SaRow
-still_association row = record row { window = record row.window { high = 0 } }
+still_association row = record row { window = begun_at 0 row.window }
 
 abbrev pub still : State → State
 still state = record state {

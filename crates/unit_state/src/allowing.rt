@@ -3,10 +3,11 @@
 ghost use Rattle.std.specs.Prelude.{◌≡◌, ◌↔◌, ◌<◌, ◌≤◌, true, [], Some, None, IfSome, All};
 ghost use Rattle.std.specs.List.{Any, list_any};
 ghost use Rattle.std.specs.Option.{option_map};
-ghost use Rattle.sdls_base.specs.Bounds.{AreChannels, IsKeyCount, IsWidth};
+ghost use Rattle.sdls_base.specs.Bounds.{AreChannels, IsKeyCount};
 ghost use Rattle.key_book.specs.KeyRow.{IsKeyRow};
 ghost use Rattle.sdls_base.specs.declared.states.KeyState.TheVariants.{Deactivated};
 ghost use Rattle.key_book.specs.Moves.{moves_refusal};
+ghost use Rattle.replay_window.specs.declared.TheConstants.{MOST_BACK};
 ghost use Rattle.sa_book.specs.SaBook.{in_use};
 ghost use Rattle.sa_book.specs.SaRefusal.{is_key};
 ghost use Rattle.sa_book.specs.SaRow.{MayAccept};
@@ -18,11 +19,11 @@ ghost use Rattle.unit_state.specs.Allows.{AllowsAccepted, state_refusal};
 use crate::state::State;
 use crate::taking::least_with;
 use key_book::KeyRow;
-use replay_window::Verdict;
+use replay_window::{Verdict, is_window_field};
 use sa_book::SaRow;
 use sdls_base::{
     Change, Direction, KeyClass, KeyId, KeyItem, KeyItems, KeyList, KeyState, MOST_KEYS_AT_ONCE,
-    MOST_WINDOW, NewSa, SaState, Spi,
+    NewSa, SaState, Spi,
 };
 
 fn is_count(count: usize) -> bool
@@ -72,13 +73,8 @@ fn are_channels(channels: &[u8]) -> bool
     unit_plan::are_channels(channels)
 }
 
-fn is_width(width: u64) -> bool
-    ensures { (result ≡ true) ↔ IsWidth width }
-{
-    1 <= width && width <= MOST_WINDOW
-}
-
 fn may_accept(row: &SaRow, key: KeyId, number: u64) -> bool
+    requires { row.now.window.back ≤ MOST_BACK }
     ensures { (result ≡ true) ↔ (MayAccept row.now number × (row.now.key ≡ Some key)) }
 {
     row.state == SaState::Operational
@@ -171,7 +167,7 @@ impl State {
     fn allows_create(&self, new: &NewSa) -> bool
         ensures { (result ≡ true) ↔ AllowsCreate self.now new.now }
     {
-        is_width(new.window)
+        is_window_field(new.window)
             && are_channels(new.channels.as_slice())
             && self
                 .associations
@@ -244,7 +240,7 @@ impl State {
     fn allows_window(&self, spi: Spi, window: u64) -> bool
         ensures { (result ≡ true) ↔ AllowsWindow self.now spi window }
     {
-        is_width(window) && self.associations.set_window_refusal(spi).is_none()
+        is_window_field(window) && self.associations.set_window_refusal(spi).is_none()
     }
 
     fn allows_accepted(&self, spi: Spi, key: KeyId, number: u64, floor: u64) -> bool

@@ -21,7 +21,8 @@ pub struct State {
     pub device: [u8; 4],
 }
 
-/// Gives each association that receives with one of the keys the key's floor as its highest number.
+/// Begins the window of each association that receives with one of the keys anew at the key's floor, and every other
+/// window at its highest number.
 fn to_floors(associations: &mut SaBook, keys: &[KeyRow])
     requires { AreKeyRows keys.now }
     ensures set { associations.new ≡ map (restarted_row keys.now) associations.old }
@@ -30,6 +31,7 @@ fn to_floors(associations: &mut SaBook, keys: &[KeyRow])
     for key in keys {
         associations.set_high(key.id, key.floor);
     }
+    associations.begin_windows();
 }
 
 impl State {

@@ -1,6 +1,6 @@
 use Rattle.sa_book.specs.Numbers.{all_high}
 use Rattle.sa_book.specs.SaBook.{IsSaBook}
-use Rattle.sa_book.proofs.HighRules.{IsSaBook-all_high}
+use Rattle.sa_book.proofs.HighRules.{IsSaBook-all_high, IsSaBook-all_begun}
 use Rattle.std.proofs.Common.{◌+◌, List, get_or, map, drop, sym, ap, subst, ◌∙◌}
 use Rattle.std.proofs.lemmas.List.{at_drop_more, drop_all}
 use Rattle.key_book.specs.declared.key_row.KeyRow.{KeyRow}
@@ -31,4 +31,9 @@ returns-clause-set c =
     sym
     (c.loop-key.invariant.set
     ∙ ap (λ ks. map (restarted_row ks) c.loop-key.associations) (drop_all c.loop-key.key-index c.args.keys.now c.loop-key-test.false)
-    ∙ rows_left c.loop-key.associations)
+    ∙ rows_left c.loop-key.associations
+    ∙ sym c.begin_windows.ensures)
+
+pub returns-clause-rules : goal.returns-clause-rules
+returns-clause-rules c rules =
+    subst IsSaBook (sym c.begin_windows.ensures) (IsSaBook-all_begun c.loop-key.associations (c.loop-key.invariant.rules rules))
