@@ -13,7 +13,7 @@ ghost use Rattle.frame_checks.specs.Trying.{IsOpener};
 
 use unit_state::serve_alike;
 
-/// Law: states that differ in marks, floors and highest numbers alone bind each frame alike.
+/// Law: states that differ in marks, floors and accepted numbers alone bind each frame alike.
 pub fn binding_stays()
     ensures { (plan : PlanLines) (one other : State) (link : ℕ) (clear : List ℕ) → still one ≡ still other
         → protect_check plan one link clear ≡ protect_check plan other link clear }

@@ -28,7 +28,8 @@ pub enum OpenReply {
     Coverage,
     /// The MAC is wrong, or the room has fewer octets than security header and MAC.
     Mac,
-    /// The number is not above the highest accepted, or past the window, or not below the key's end.
+    /// The number is not below the key's end, or it lies beyond the window, or at or below the highest accepted one
+    /// and not in the back window, or it was accepted before.
     Number {
         key: KeyId,
         number: u64,

@@ -6,6 +6,7 @@ ghost use Rattle.sdls_base.specs.Link.{IsLink};
 ghost use Rattle.frame_shield.specs.Binding.{IsBinding};
 ghost use Rattle.frame_shield.specs.Opens.{CarriesIndex};
 ghost use Rattle.unit_state.specs.State.{KeepsRules};
+ghost use Rattle.replay_window.specs.declared.TheConstants.{MOST_BACK};
 ghost use Rattle.frame_checks.specs.Accepting.{LeavesOctets, MayBeAccepted, OnAccepted, field_in};
 ghost use Rattle.frame_checks.specs.Addressed.{IsAddressed, IsRefusedBefore};
 ghost use Rattle.frame_checks.specs.OpeningFrames.{IsJudged, IsOpenReply, IsReplyOn, association_checks};
@@ -102,6 +103,7 @@ pub(crate) fn refusal_of(row: &SaRow, channel: ChannelId) -> Option<OpenReply>
 
 /// The reply to a frame that was opened under the binding, or whose MAC is wrong: its number is judged last.
 pub(crate) fn judge_number(row: &SaRow, binding: &Binding, opened: Opened) -> OpenReply
+    requires { row.now.window.back ≤ MOST_BACK }
     ensures judged { (old new : List ℕ) → IsUnshielded binding.now old new opened
         → IsJudged row.now binding.now old result (field_in result new) }
     ensures octets { (old new : List ℕ) → IsUnshielded binding.now old new opened → LeavesOctets result old new }
@@ -129,6 +131,7 @@ pub(crate) fn judge_number(row: &SaRow, binding: &Binding, opened: Opened) -> Op
 
 /// Opens a frame where its MAC is right, and then judges its number.
 fn judge(row: &SaRow, binding: &Binding, frame: &mut [u8]) -> OpenReply
+    requires window { row.now.window.back ≤ MOST_BACK }
     requires binding { IsBinding binding.now }
     requires frame { CarriesIndex binding.now frame.old }
     ensures judged { IsJudged row.now binding.now frame.old result (field_in result frame.new) }

@@ -35,6 +35,10 @@ pub binding_of-binding-requires-clause-key : goal.binding_of-binding-requires-cl
 binding_of-binding-requires-clause-key c =
     (named_keeps c.args.state.now c.requires.addressed.room c.args.addressed.now.row.now c.requires.rules c.requires.addressed.named).key
 
+pub judge-requires-clause-window : goal.judge-requires-clause-window
+judge-requires-clause-window c =
+    (named_keeps c.args.state.now c.requires.addressed.room c.args.addressed.now.row.now c.requires.rules c.requires.addressed.named).rules.back
+
 pub judge-requires-clause-frame : goal.judge-requires-clause-frame
 judge-requires-clause-frame c =
     carries c.args.plan.now c.args.state.now c.args.link c.args.line.now c.args.frame.now c.args.addressed.now.channel c.args.addressed.now.row.now
