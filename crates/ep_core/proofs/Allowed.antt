@@ -379,7 +379,7 @@ done_allowed state (Delete spi) s step rules bounds fits none is some =
     (associations_free spi None _ (tells_free None (association_row state spi)) none)
 done_allowed state (SetWindow spi window) s step rules bounds fits none is some =
     with_change state _ replies.SetWindow step is
-    (record { width = bounds; book = associations_free spi None _ (tells_window state.associations spi) none })
+    (record { bounds = bounds; book = associations_free spi None _ (tells_window state.associations spi) none })
 done_allowed state (Rekey spi key number) s step rules bounds fits none is some =
     with_change state _ replies.Rekey step is (rekey_allowed state spi key number s fits none)
 done_allowed state (Expire spi) s step rules bounds fits none is some =

@@ -18,6 +18,7 @@ use Rattle.sdls_base.specs.declared.states.SaState.TheVariants.{Unkeyed, Keyed, 
 use Rattle.key_book.specs.declared.inventory.Inventory.{Inventory as Listing}
 use Rattle.key_book.specs.declared.key_row.KeyRow.{KeyRow}
 use Rattle.key_book.specs.Inventory.{IsInventory}
+use Rattle.replay_window.specs.Window.{field_of}
 use Rattle.sa_book.specs.declared.sa_row.SaRow.{SaRow}
 use Rattle.unit_state.specs.declared.state.State.{State}
 use Rattle.unit_state.specs.State.{key_row, association_row}
@@ -118,7 +119,7 @@ IsDone state (SetNumber spi number) seen step = step ≡ done (changes.SetNumber
 IsDone state (Start spi) seen step = step ≡ done (changes.SaTo spi (Some Operational)) replies.Start
 IsDone state (Stop spi) seen step = step ≡ done (changes.SaTo spi (Some Keyed)) replies.Stop
 IsDone state (Status spi) seen step = IsSomeAnd (association_row state spi) (λ row. step
-    ≡ telling (replies.Status spi row.state row.direction row.suite row.key row.window.width))
+    ≡ telling (replies.Status spi row.state row.direction row.suite row.key (field_of row.window)))
 
 -- The step of a Rekeying under an active master key, once its text was opened, or its tag was wrong.
 abbrev pub IsLoading : State → Option (List ℕ) → Change × Reply → Type 0

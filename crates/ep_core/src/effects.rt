@@ -125,7 +125,7 @@ pub(crate) fn status(
         direction: row.direction,
         suite: row.suite,
         key: row.key,
-        window: row.window.width,
+        window: row.window.field(),
     };
     done(alloc, Change::Nothing, &pdu)
 }
