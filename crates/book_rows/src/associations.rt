@@ -10,6 +10,7 @@ ghost use Rattle.sa_book.specs.SaRow.{HasHigh, IsSaRow};
 ghost use Rattle.sa_book.specs.SaBook.{RowsAreApart, MayFollow};
 
 use book_record::are_channels;
+use replay_window::MOST_BACK;
 use sa_book::{SaBook, SaRow};
 use sdls_base::{Direction, KeyId, MOST_ASSOCIATIONS, MOST_WINDOW, SaState};
 
@@ -56,6 +57,7 @@ pub fn is_association_row(row: &SaRow) -> bool
         && has_suite(row)
         && has_high(row)
         && is_width(row.window.width)
+        && row.window.back <= MOST_BACK
         && are_channels(row.channels.as_slice())
 }
 

@@ -191,7 +191,7 @@ pub sas_are : (state : State) (content : List ℕ) → IsContent state content �
 sas_are state content is =
     let low = rows_low state.keys state.associations is.rules.associations.each is.rules.held (ap (λ (s : State). s.associations) is.left) in
     record {
-      each = λ k d inside. record { is_row = is.associations k d inside; high = low k d inside };
+      each = λ k d inside. record { is_row = is.associations k d inside; window = low k d inside };
       spelled = (content_says state content is).associations;
     }
 
@@ -228,7 +228,7 @@ pub read_content : (keys : List KeyRow) (associations : List SaRow) (channels de
 read_content keys associations channels device content size octets room are also key_size sa_size rules =
     let state = state_of keys associations channels device in
     let sas : All (λ (row : SaRow). IsSaRow (sa_parts row) (sa_octets row)) associations = λ k d inside. (also.each k d inside).is_row in
-    let left = rows_left keys associations (λ k d inside. (also.each k d inside).high) in
+    let left = rows_left keys associations (λ k d inside. (also.each k d inside).window) in
     let keys_size = keys_sized keys are.each in
     let sas_size = sas_sized associations sas in
     record {

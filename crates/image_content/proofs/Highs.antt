@@ -1,5 +1,5 @@
--- The highest numbers of a state that a restart leaves as it is: for `read_content`.
-use Rattle.std.proofs.Common.{◌≡◌, ℕ, List, [], ◌∷◌, Option, Some, None, refl, sym, ap, ◌∙◌, subst, All}
+-- The windows of a state that a restart leaves as it is: for `read_content`.
+use Rattle.std.proofs.Common.{◌≡◌, ℕ, ◌^◌, ◌<◌, arith, List, [], ◌∷◌, Option, Some, None, refl, sym, ap, ◌∙◌, subst, All}
 use Rattle.std.specs.Prelude.{map, IfSome, IsSomeAnd}
 use Rattle.std.specs.Option.{option_map_or}
 use Rattle.std.specs.List.{AllByRecursion}
@@ -8,14 +8,17 @@ use Rattle.sdls_base.specs.declared.states.Direction.{Direction}
 use Rattle.sdls_base.specs.declared.states.Direction.TheVariants.{Send, Receive}
 use Rattle.key_book.specs.declared.key_row.KeyRow.{KeyRow}
 use Rattle.key_book.specs.KeyBook.{row_of}
+use Rattle.replay_window.specs.declared.window.Window.{Window}
+use Rattle.replay_window.specs.Window.{begun_at, new_window, field_of}
+use Rattle.replay_window.proofs.Fields.{new_window-field}
 use Rattle.sa_book.specs.declared.sa_row.SaRow.{SaRow}
 use Rattle.sa_book.specs.SaRow.{HasHigh, IsSaRow}
 use Rattle.unit_state.specs.State.{MayHold, HasKey}
 use Rattle.unit_state.specs.Restart.{restarted_high, restarted_row}
 
--- the highest number is the one that a restart sets
+-- the window begins at the number that a restart sets
 abbrev pub IsLow : List KeyRow → SaRow → Type 0
-IsLow keys row = row.window.high ≡ restarted_high keys row.direction row.key 0
+IsLow keys row = row.window ≡ new_window (restarted_high keys row.direction row.key 0) (field_of row.window)
 
 -- ---- such a row is left as it is
 
@@ -28,8 +31,14 @@ low_is_left keys Receive (Some key) high low = held (row_of keys key) low where
 low_is_left keys Receive None high low = refl
 low_is_left keys Send key high low = refl
 
+begun_same : (window : Window) (high field : ℕ) → window ≡ new_window high field → begun_at window.high window ≡ window
+begun_same window high field new = subst (λ (w : Window). begun_at w.high w ≡ w) (sym new) refl
+
 row_left : (keys : List KeyRow) (row : SaRow) → IsLow keys row → restarted_row keys row ≡ row
-row_left keys row low = ap (λ (high : ℕ). record row { window = record row.window { high = high } }) (low_is_left keys row.direction row.key row.window.high low)
+row_left keys row low =
+    ap (λ (high : ℕ). record row { window = begun_at high row.window })
+    (low_is_left keys row.direction row.key row.window.high (ap (λ (window : Window). window.high) low))
+    ∙ ap (λ (window : Window). record row { window = window }) (begun_same row.window (restarted_high keys row.direction row.key 0) (field_of row.window) low)
 
 rows_left_each : (keys : List KeyRow) (rows : List SaRow) → AllByRecursion (IsLow keys) rows → map (restarted_row keys) rows ≡ rows
 rows_left_each keys [] all = refl
@@ -64,7 +73,11 @@ held_row keys row key is holds id same = some_row (row_of keys id) (MayHold row)
 
 pub row_low : (keys : List KeyRow) (row : SaRow) → IsSaRow row → HasKey keys row → restarted_row keys row ≡ row → IsLow keys row
 row_low keys row rules holds left =
-    left_is_low keys row.direction row.key row.window.high rules.high (ap (λ (row : SaRow). row.window.high) left) (held_row keys row row.key refl holds)
+    let small : row.window.width < 2 ^ 56 = omega (arith, rules.width.most) in
+    let stays : restarted_high keys row.direction row.key row.window.high ≡ row.window.high = ap (λ (row : SaRow). row.window.high) left in
+    let low = left_is_low keys row.direction row.key row.window.high rules.high stays (held_row keys row row.key refl holds) in
+    sym (ap (λ (row : SaRow). row.window) left) ∙ ap (λ (high : ℕ). begun_at high row.window) (stays ∙ low)
+    ∙ sym (new_window-field (restarted_high keys row.direction row.key 0) row.window small)
 
 rows_low_each : (keys : List KeyRow) (rows : List SaRow) → AllByRecursion IsSaRow rows → AllByRecursion (HasKey keys) rows → map (restarted_row keys) rows ≡ rows
     → AllByRecursion (IsLow keys) rows

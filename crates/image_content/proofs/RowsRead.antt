@@ -11,6 +11,7 @@ use Rattle.book_rows.specs.Rows.{HasRowsCause}
 use Rattle.book_rows.specs.declared.rows_fault.RowsFault.{RowsFault}
 use Rattle.book_rows.specs.declared.rows_fault.RowsFault.TheVariants.{Unfit, NoMemory}
 use Rattle.key_book.specs.declared.key_row.KeyRow.{KeyRow}
+use Rattle.replay_window.specs.Window.{new_window}
 use Rattle.sa_book.specs.declared.sa_row.SaRow.{SaRow}
 use Rattle.unit_state.specs.Restart.{restarted_high}
 use Rattle.image_content.specs.Content.{key_parts, sa_parts}
@@ -96,7 +97,8 @@ sa_sized keys row is = sa_row_length (sa_parts row) (sa_octets row) is.is_row
 pub same_sa : (keys : List KeyRow) (a b : SaRow) (octets : List ℕ) → IsRestartedRow keys a octets → IsRestartedRow keys b octets → a ≡ b
 same_sa keys a b octets is also =
     let same = one_sa_row (sa_parts a) (sa_parts b) octets is.is_row also.is_row in
-    let high = is.high ∙ ap (λ (parts : SaParts). restarted_high keys parts.sa.direction parts.key 0) same ∙ sym also.high in
+    let window : a.window ≡ b.window = is.window
+    ∙ ap (λ (parts : SaParts). new_window (restarted_high keys parts.sa.direction parts.key 0) parts.sa.window) same ∙ sym also.window in
     λ i. record {
       spi = (same i).sa.spi;
       direction = (same i).sa.direction;
@@ -104,5 +106,5 @@ same_sa keys a b octets is also =
       state = (same i).state;
       key = (same i).key;
       channels = (same i).sa.channels;
-      window = record { high = high i; width = (same i).sa.window };
+      window = window i;
     }

@@ -8,6 +8,7 @@ use Rattle.book_record.specs.Padded.{padded}
 use Rattle.book_record.specs.KeyParts.{key_row_octets}
 use Rattle.book_record.specs.SaParts.{sa_row_octets}
 use Rattle.key_book.specs.declared.key_row.KeyRow.{KeyRow}
+use Rattle.replay_window.specs.Window.{field_of}
 use Rattle.sa_book.specs.declared.sa_row.SaRow.{SaRow}
 use Rattle.unit_state.specs.declared.state.State.{State}
 use Rattle.image_content.specs.declared.layout.TheConstants.{GAP, KEY_ROWS, SA_ROWS}
@@ -23,14 +24,14 @@ key_parts row = record {
   floor = row.floor;
 }
 
--- what the row of an association says: all but the highest number that was accepted
+-- what the row of an association says: all but the numbers that were accepted
 abbrev pub sa_parts : SaRow → SaParts
 sa_parts row = record {
   sa = record {
     spi = row.spi;
     direction = row.direction;
     suite = row.suite;
-    window = row.window.width;
+    window = field_of row.window;
     channels = row.channels;
   };
   state = row.state;

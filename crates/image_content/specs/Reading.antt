@@ -6,6 +6,7 @@ use Rattle.book_record.specs.Reading.{octet_at, word_at}
 use Rattle.book_record.specs.KeyParts.{key_row_octets, IsKeyRow}
 use Rattle.book_record.specs.SaParts.{sa_row_octets, IsSaRow}
 use Rattle.key_book.specs.declared.key_row.KeyRow.{KeyRow}
+use Rattle.replay_window.specs.Window.{field_of, new_window}
 use Rattle.sa_book.specs.declared.sa_row.SaRow.{SaRow}
 use Rattle.unit_state.specs.declared.state.State.{State}
 use Rattle.unit_state.specs.State.{KeepsRules}
@@ -16,7 +17,7 @@ use Rattle.image_content.specs.Content.{key_parts, sa_parts, key_rows, sa_rows, 
 -- the row of an association as a restart leaves it, under these keys
 pub record IsRestartedRow (keys : List KeyRow) (row : SaRow) (octets : List ℕ) : Type 0 where
   pub is_row : IsSaRow (sa_parts row) octets
-  pub high : row.window.high ≡ restarted_high keys row.direction row.key 0
+  pub window : row.window ≡ new_window (restarted_high keys row.direction row.key 0) (field_of row.window)
 
 -- rows of keys, one behind the other
 pub record AreKeyRows (rows : List KeyRow) (octets : List ℕ) : Type 0 where

@@ -5,6 +5,7 @@ ghost use Rattle.std.specs.Option.{option_map, option_map_or};
 ghost use Rattle.key_book.specs.declared.key_row.KeyRow.{KeyRow};
 ghost use Rattle.key_book.specs.KeyBook.{row_of};
 ghost use Rattle.sa_book.specs.declared.sa_row.SaRow.{SaRow};
+ghost use Rattle.replay_window.specs.Window.{new_window};
 ghost use Rattle.unit_state.specs.Restart.{restarted_high};
 ghost use Rattle.book_record.specs.KeyParts.{IsKeyRow};
 ghost use Rattle.book_record.specs.SaParts.{IsSaRow};
@@ -97,7 +98,7 @@ fn high_of(keys: &[KeyRow], parts: &SaParts) -> u64
 
 fn sa_row_of(parts: SaParts, high: u64) -> SaRow
     ensures said { sa_parts result ≡ parts }
-    ensures high { result.window.high ≡ high }
+    ensures window { result.window ≡ new_window high parts.sa.window }
 {
     let SaParts { sa, state, key } = parts;
     let NewSa {
@@ -114,10 +115,7 @@ fn sa_row_of(parts: SaParts, high: u64) -> SaRow
         state,
         key,
         channels,
-        window: Window {
-            high,
-            width: window,
-        },
+        window: Window::new(high, window),
     }
 }
 

@@ -45,7 +45,7 @@ fn sa_row(row: &SaRow) -> [u8; SA_ROW_LENGTH]
         spi: row.spi,
         direction: row.direction,
         suite: row.suite,
-        window: row.window.width,
+        window: row.window.field(),
         channels: row.channels.as_slice(),
         state: row.state,
         key: row.key,
