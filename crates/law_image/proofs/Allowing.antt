@@ -22,7 +22,7 @@ use Rattle.unit_state.specs.declared.state.State.{State}
 use Rattle.unit_state.specs.Allows.{Allows, AllowsMarks, AllowsLoad, AllowsStates, AllowsCreate, AllowsRekey, AllowsNumber, AllowsWindow, IsActiveMaster, IsSessionKey}
 use Rattle.unit_state.specs.Taking.{least_with}
 use Rattle.book_record.specs.Record.{HasRecord, HasTypes, IsKey, IsSpi}
-use Rattle.law_image.proofs.Deciding.{Decided, decided_and, decided_three, decided_four, decided_as, decided_not, decided_lt, decided_le, decided_none, decided_some, decided_some_and, decided_all, decided_any, decided_channels, decided_width, decided_key_length}
+use Rattle.law_image.proofs.Deciding.{Decided, decided_and, decided_three, decided_four, decided_as, decided_not, decided_lt, decided_le, decided_none, decided_some, decided_some_and, decided_all, decided_any, decided_channels, decided_field, decided_key_length}
 
 master : (class : KeyClass) → Decided (class ≡ Master)
 master Master = inl refl
@@ -72,7 +72,7 @@ module _ (state : State) where
 
   create : (new : NewSa) → Decided (AllowsCreate state new)
   create new = decided_as
-      (decided_four (decided_width new.window) (decided_channels new.channels)
+      (decided_four (decided_field new.window) (decided_channels new.channels)
       (decided_all (λ channel. channel ≤ 63) (λ channel. decided_le channel 63) new.channels)
       (decided_none (create_refusal state.associations new state.channels)))
       (λ all. record { window = all.0; channels = all.1; numbers = all.2; book = all.3 })
@@ -80,8 +80,8 @@ module _ (state : State) where
 
   window_is : (spi window : ℕ) → Decided (AllowsWindow state spi window)
   window_is spi window = decided_as
-      (decided_and (decided_width window) (decided_none (set_window_refusal state.associations spi)))
-      (λ both. record { width = both.0; book = both.1 }) (λ is. (is.width, is.book))
+      (decided_and (decided_field window) (decided_none (set_window_refusal state.associations spi)))
+      (λ both. record { bounds = both.0; book = both.1 }) (λ is. (is.bounds, is.book))
 
   rekey : (spi key number : ℕ) → Decided (AllowsRekey state spi key number)
   rekey spi key number = decided_some_and _

@@ -1,5 +1,5 @@
 -- The one state that octets can be the content of, read off their places: for `refused_exactly`.
-use Rattle.std.proofs.Common.{◌≡◌, ℕ, zero, suc, ◌-◌, ◌≤◌, List, [], ◌∷◌, ◌++◌, length, take, drop, replicate, map, Option, Some, None, IfSome, IsSomeAnd, refl, sym, ◌∙◌, ap, subst, arith, append_assoc}
+use Rattle.std.proofs.Common.{◌≡◌, ℕ, zero, suc, ◌-◌, ◌^◌, ◌<◌, ◌≤◌, List, [], ◌∷◌, ◌++◌, length, take, drop, replicate, map, Option, Some, None, IfSome, IsSomeAnd, refl, sym, ◌∙◌, ap, subst, arith, append_assoc}
 use Rattle.std.specs.List.{AllByRecursion}
 use Rattle.std.specs.Option.{option_map_or}
 use Rattle.std.proofs.Math.Seq.{drop-append_seam, take-append_seam}
@@ -10,6 +10,9 @@ use Rattle.sdls_base.specs.declared.states.Direction.{Direction}
 use Rattle.sdls_base.specs.declared.states.Direction.TheVariants.{Send, Receive}
 use Rattle.key_book.specs.declared.key_row.KeyRow.{KeyRow}
 use Rattle.key_book.specs.KeyBook.{row_of}
+use Rattle.replay_window.specs.declared.window.Window.{Window}
+use Rattle.replay_window.specs.Window.{begun_at, field_of, new_window}
+use Rattle.replay_window.proofs.Fields.{new_window-field}
 use Rattle.sa_book.specs.declared.sa_row.SaRow.{SaRow}
 use Rattle.sa_book.specs.SaRow as sa_rules
 use Rattle.unit_state.specs.declared.state.State.{State}
@@ -47,7 +50,7 @@ sa_of keys parts = record {
   state = parts.state;
   key = parts.key;
   channels = parts.sa.channels;
-  window = record { high = restarted_high keys parts.sa.direction parts.key 0; width = parts.sa.window };
+  window = new_window (restarted_high keys parts.sa.direction parts.key 0) parts.sa.window;
 }
 
 abbrev keys_at : ℕ → List ℕ → List KeyRow
@@ -91,10 +94,10 @@ keys_back (row ∷ rows) rest all =
     ap (λ (s : List ℕ). keys_at (length rows) s) back ∙ keys_back rows rest all.1 in
     λ i. first i ∷ others i
 
--- the row of an association whose highest number is the one that a restart sets
+-- the row of an association whose window begins at the number that a restart sets
 record IsLowRow (keys : List KeyRow) (row : SaRow) : Type 0 where
   pub is : IsSaOf row
-  pub high : row.window.high ≡ restarted_high keys row.direction row.key 0
+  pub window : row.window ≡ new_window (restarted_high keys row.direction row.key 0) (field_of row.window)
 
 sas_back : (keys : List KeyRow) (rows : List SaRow) (rest : List ℕ) → AllByRecursion (IsLowRow keys) rows
     → sas_at keys (length rows) (sa_rows rows ++ rest) ≡ rows
@@ -106,7 +109,7 @@ sas_back keys (row ∷ rows) rest all =
     let front : take 32 ((octets ++ sa_rows rows) ++ rest) ≡ octets = ap (take 32) split ∙ front_of octets (sa_rows rows ++ rest) 32 size in
     let back : drop 32 ((octets ++ sa_rows rows) ++ rest) ≡ sa_rows rows ++ rest = ap (drop 32) split ∙ back_of octets (sa_rows rows ++ rest) 32 size in
     let low : sa_of keys (sa_parts row) ≡ row =
-    ap (λ (high : ℕ). record row { window = record row.window { high = high } }) (sym all.0.high) in
+    ap (λ (window : Window). record row { window = window }) (sym all.0.window) in
     let first : sa_of keys (sa_parts_at (take 32 ((octets ++ sa_rows rows) ++ rest))) ≡ row =
     ap (λ (s : List ℕ). sa_of keys (sa_parts_at s)) front ∙ ap (λ (parts : SaParts). sa_of keys parts) (sa_row_says (sa_parts row) octets all.0.is).value ∙ low in
     let others : sas_at keys (length rows) (drop 32 ((octets ++ sa_rows rows) ++ rest)) ≡ rows =
@@ -147,7 +150,7 @@ places state few short =
       associations = from_sas;
     }
 
--- ---- the highest numbers
+-- ---- the windows
 
 -- a key that is held has a row
 has_row : (keys : List KeyRow) (key : ℕ) (row : SaRow) → IsSomeAnd (row_of keys key) (MayHold row) → (held : KeyRow) × (row_of keys key ≡ Some held)
@@ -171,6 +174,15 @@ held_row : (keys : List KeyRow) (row : SaRow) (key : Option ℕ) → IfSome key 
 held_row keys row None holds = tt
 held_row keys row (Some id) holds = has_row keys id row holds
 
+low_window : (keys : List KeyRow) (row : SaRow) → sa_rules.IsSaRow row → HasKey keys row → restarted_row keys row ≡ row
+    → row.window ≡ new_window (restarted_high keys row.direction row.key 0) (field_of row.window)
+low_window keys row rules holds left =
+    let small : row.window.width < 2 ^ 56 = omega (arith, rules.width.most) in
+    let stays : restarted_high keys row.direction row.key row.window.high ≡ row.window.high = ap (λ (r : SaRow). r.window.high) left in
+    let low = low_high keys row.direction row.key row.window.high rules.high (held_row keys row row.key holds) stays in
+    sym (ap (λ (r : SaRow). r.window) left) ∙ ap (λ (high : ℕ). begun_at high row.window) (stays ∙ low)
+    ∙ sym (new_window-field (restarted_high keys row.direction row.key 0) row.window small)
+
 low_rows : (keys : List KeyRow) (rows : List SaRow) → AllByRecursion IsSaOf rows → AllByRecursion sa_rules.IsSaRow rows → AllByRecursion (HasKey keys) rows
     → map (restarted_row keys) rows ≡ rows → AllByRecursion (IsLowRow keys) rows
 low_rows keys [] are rules holds left = tt
@@ -179,8 +191,7 @@ low_rows keys (row ∷ rows) are rules holds left =
     let others : map (restarted_row keys) rows ≡ rows = cc in (
       record {
         is = are.0;
-        high = low_high keys row.direction row.key row.window.high rules.0.high (held_row keys row row.key holds.0)
-            (ap (λ (r : SaRow). r.window.high) own);
+        window = low_window keys row rules.0 holds.0 own;
       },
       low_rows keys rows are.1 rules.1 holds.1 others,
     )
@@ -227,7 +238,7 @@ sas_left keys zero octets = refl
 sas_left keys (suc n) octets =
     let parts = sa_parts_at (take 32 octets) in
     let first : restarted_row keys (sa_of keys parts) ≡ sa_of keys parts =
-    ap (λ (high : ℕ). record (sa_of keys parts) { window = record { high = high; width = parts.sa.window } }) (high_left keys parts.sa.direction parts.key) in
+    ap (λ (high : ℕ). record (sa_of keys parts) { window = new_window high parts.sa.window }) (high_left keys parts.sa.direction parts.key) in
     let others = sas_left keys n (drop 32 octets) in
     λ i. first i ∷ others i
 

@@ -11,6 +11,8 @@ use Rattle.sdls_base.specs.declared.states.KeyState.{KeyState}
 use Rattle.sdls_base.specs.declared.states.KeyState.TheVariants.{PreActive, Active, Deactivated, Destroyed}
 use Rattle.key_book.specs.declared.key_row.KeyRow.{KeyRow}
 use Rattle.key_book.specs.KeyRow as key_rules
+use Rattle.replay_window.specs.Window.{field_of}
+use Rattle.replay_window.proofs.Fields.{field_small, IsWindowField-field}
 use Rattle.sa_book.specs.declared.sa_row.SaRow.{SaRow}
 use Rattle.sa_book.specs.SaRow as sa_rules
 use Rattle.unit_state.specs.declared.state.State.{State}
@@ -53,9 +55,9 @@ key_typed row rules named =
 
 sa_typed : (row : SaRow) → sa_rules.IsSaRow row → IsNamedSa row → IsSaRow (sa_parts row) (sa_row_octets (sa_parts row))
 sa_typed row rules named =
-    let most : row.window.width ≤ 4294967296 = rules.width.most in
+    let small : field_of row.window < 2 ^ 64 = field_small (field_of row.window) (IsWindowField-field row.window.back row.window.width rules.back rules.width) in
     record {
-      types = record { spi = named.0; key = named.1; window = omega (arith, most) };
+      types = record { spi = named.0; key = named.1; window = small };
       fits = rules.channels;
       spelled = refl;
     }

@@ -5,6 +5,8 @@ use Rattle.std.proofs.lemmas.Bool.{cases_eq, cases_lt, false≢true}
 use Rattle.std.specs.List.{AllByRecursion as ByRecursion, slice_index}
 use Rattle.std.proofs.lemmas.List.Elements.{All-from_recursion, recursion_from_All}
 use Rattle.sdls_base.specs.declared.TheConstants.{MOST_CHANNELS, MOST_WINDOW}
+use Rattle.replay_window.specs.declared.TheConstants.{MOST_BACK}
+use Rattle.replay_window.specs.WindowField.{back_of, width_of, IsWindowField}
 use Rattle.sdls_base.specs.Bounds.{AreChannels, IsKeyLength, IsWidth}
 
 abbrev pub Decided : Type 0 → Type 0
@@ -129,6 +131,10 @@ decided_channels channels = decided_as (decided_three (decided_le 1 (length chan
 pub decided_width : (width : ℕ) → Decided (IsWidth width)
 decided_width width = decided_as (decided_and (decided_le 1 width) (decided_le width MOST_WINDOW)) (λ both. record { least = both.0; most = both.1 })
     (λ is. (is.least, is.most))
+
+pub decided_field : (field : ℕ) → Decided (IsWindowField field)
+decided_field field = decided_as (decided_and (decided_le (back_of field) MOST_BACK) (decided_width (width_of field)))
+    (λ both. record { back = both.0; width = both.1 }) (λ is. (is.back, is.width))
 
 pub decided_key_length : (n : ℕ) → Decided (IsKeyLength n)
 decided_key_length n = decided_or (decided_eq n 16) (decided_eq n 32)

@@ -16,6 +16,8 @@ use Rattle.key_book.specs.declared.key_row.KeyRow.{KeyRow}
 use Rattle.key_book.specs.KeyRow.{HasBytes, IsKeyRow}
 use Rattle.key_book.specs.KeyBook.{IsKeyBook, row_of}
 use Rattle.sa_book.specs.declared.sa_row.SaRow.{SaRow}
+use Rattle.replay_window.specs.declared.TheConstants.{MOST_BACK}
+use Rattle.replay_window.specs.Window.{field_of}
 use Rattle.sa_book.specs.SaRow.{HasHigh, IsSaRow}
 use Rattle.sa_book.specs.SaBook.{IsSaBook, RowsAreApart}
 use Rattle.unit_state.specs.declared.state.State.{State}
@@ -112,9 +114,10 @@ sa_rules row = decided_as
     (decided_and
     (decided_and (decided_if (unkeyed row.state) (decided_is_none row.key)) (decided_if (decided_is_none row.key) (unkeyed row.state)))
     (decided_if_some (λ key. class_of key ≡ class_of_suite row.suite) (λ key. same_class (class_of key) (class_of_suite row.suite)) row.key))
-    (has_high row.direction row.key row.window.high) (decided_width row.window.width) (decided_channels row.channels))
-    (λ all. record { keyless = all.0.0; suite = all.0.1; high = all.1; width = all.2; channels = all.3 })
-    (λ is. ((is.keyless, is.suite), is.high, is.width, is.channels))
+    (has_high row.direction row.key row.window.high)
+    (decided_and (decided_width row.window.width) (decided_le row.window.back MOST_BACK)) (decided_channels row.channels))
+    (λ all. record { keyless = all.0.0; suite = all.0.1; high = all.1; width = all.2.0; back = all.2.1; channels = all.3 })
+    (λ is. ((is.keyless, is.suite), is.high, (is.width, is.back), is.channels))
 
 -- no key is held by both
 no_key : (one other : Option ℕ) → Decided ((key : ℕ) → one ≡ Some key → other ≡ Some key → ⊥)
@@ -144,7 +147,7 @@ sa_types : (row : SaRow) → Decided (sa_row.HasSaTypes (sa_parts row))
 sa_types row = decided_as
     (decided_three (decided_and (decided_lt 0 row.spi) (decided_lt row.spi 65535))
     (decided_if_some IsKey (λ key. decided_and (decided_lt 0 key) (decided_lt key (2 ^ 16))) row.key)
-    (decided_lt row.window.width (2 ^ 64)))
+    (decided_lt (field_of row.window) (2 ^ 64)))
     (λ all. record { spi = all.0; key = all.1; window = all.2 })
     (λ is. (is.spi, is.key, is.window))
 

@@ -1,5 +1,5 @@
 -- The content of the state after a change: for `write_marks` and `write_after`. Rows of keys: for `see_keys`.
-use Rattle.std.proofs.Common.{◌≡◌, ℕ, suc, ◌+◌, ◌*◌, ◌^◌, ◌<◌, ◌≤◌, Bool, true, false, cond, min, nat_eq, List, [], ◌∷◌, ◌++◌, length, get_or, take, drop, Some, refl, sym, ◌∙◌, ap, subst, inl, inr, arith, length-take-le}
+use Rattle.std.proofs.Common.{◌≡◌, ℕ, suc, ◌+◌, ◌*◌, ◌^◌, ◌<◌, ◌≤◌, Bool, true, false, cond, nat_eq, List, [], ◌∷◌, ◌++◌, length, get_or, take, drop, Some, refl, sym, ◌∙◌, ap, subst, inl, inr, arith, length-take-le}
 use Rattle.std.proofs.lemmas.List.{length-map, set_split, take-append-drop}
 use Rattle.std.proofs.lemmas.List.Quantifiers.{position-Some}
 use Rattle.std.proofs.lemmas.Option.{same_Some}
@@ -14,9 +14,11 @@ use Rattle.key_book.specs.KeyRow.{HasBytes}
 use Rattle.key_book.specs.KeyRow as key_rules
 use Rattle.key_book.specs.KeyBook.{AreKeyRows, row_of, place_of, changed}
 use Rattle.key_book.proofs.Rows.{set-changed}
+use Rattle.replay_window.proofs.Lowered.{lowered_field}
+use Rattle.book_record.specs.declared.sa_parts.SaParts.{SaParts}
 use Rattle.sa_book.specs.declared.sa_row.SaRow.{SaRow}
 use Rattle.sa_book.specs.SaRefusal.{receives_with}
-use Rattle.sa_book.specs.Numbers.{with_high, lowered}
+use Rattle.sa_book.specs.Numbers.{with_floor, lowered}
 use Rattle.unit_state.specs.declared.state.State.{State}
 use Rattle.unit_state.specs.State.{KeepsRules}
 use Rattle.unit_state.specs.Applied.{applied}
@@ -70,28 +72,32 @@ typed_key mark floor fits also true row is = record {
   spelled = refl;
 }
 
-typed_sa : (floor : ℕ) (b : Bool) (row : SaRow) → IsTypedSa row → IsTypedSa (cond b (with_high row (min row.window.high floor)) row)
+-- what a row says of an association, its window begun at a floor, is what it said before
+floor_parts : (floor : ℕ) (row : SaRow) → sa_parts (with_floor row floor) ≡ sa_parts row
+floor_parts floor row = ap (λ (field : ℕ). record (sa_parts row) { sa = record (sa_parts row).sa { window = field } }) (lowered_field floor row.window)
+
+typed_sa : (floor : ℕ) (b : Bool) (row : SaRow) → IsTypedSa row → IsTypedSa (cond b (with_floor row floor) row)
 typed_sa floor false row is = is
-typed_sa floor true row is = is
+typed_sa floor true row is = subst (λ (parts : SaParts). IsSaRow parts (sa_row_octets parts)) (sym (floor_parts floor row)) is
 
 pub marked_rows : (state : State) (key mark floor : ℕ) → mark < 2 ^ 64 → floor < 2 ^ 64 → HasRows state → HasRows (applied state (Marks key mark floor))
 marked_rows state key mark floor fits also has = record {
   keys = All-map IsTypedKey (λ (row : KeyRow). cond (nat_eq row.id key) (marked mark floor row) row) state.keys
       (λ k d low. typed_key mark floor fits also (nat_eq (get_or state.keys k d).id key) (get_or state.keys k d) (has.keys k d low));
-  associations = All-map IsTypedSa (λ (row : SaRow). cond (receives_with key row) (with_high row (min row.window.high floor)) row) state.associations
+  associations = All-map IsTypedSa (λ (row : SaRow). cond (receives_with key row) (with_floor row floor) row) state.associations
       (λ k d low. typed_sa floor (receives_with key (get_or state.associations k d)) (get_or state.associations k d) (has.associations k d low));
   most_keys = subst (λ (n : ℕ). n ≤ MOST_KEYS)
       (sym (length-map state.keys (λ (row : KeyRow). cond (nat_eq row.id key) (marked mark floor row) row))) has.most_keys;
   most_associations = subst (λ (n : ℕ). n ≤ MOST_ASSOCIATIONS)
-      (sym (length-map state.associations (λ (row : SaRow). cond (receives_with key row) (with_high row (min row.window.high floor)) row)))
+      (sym (length-map state.associations (λ (row : SaRow). cond (receives_with key row) (with_floor row floor) row)))
       has.most_associations;
 }
 
 -- the content has no highest numbers
 
-same_parts : (floor : ℕ) (b : Bool) (row : SaRow) → sa_row_octets (sa_parts (cond b (with_high row (min row.window.high floor)) row)) ≡ sa_row_octets (sa_parts row)
+same_parts : (floor : ℕ) (b : Bool) (row : SaRow) → sa_row_octets (sa_parts (cond b (with_floor row floor) row)) ≡ sa_row_octets (sa_parts row)
 same_parts floor false row = refl
-same_parts floor true row = refl
+same_parts floor true row = ap (λ (parts : SaParts). sa_row_octets parts) (floor_parts floor row)
 
 lowered_rows : (rows : List SaRow) (key floor : ℕ) → sa_rows (lowered rows key floor) ≡ sa_rows rows
 lowered_rows [] key floor = refl
@@ -107,7 +113,7 @@ same_rows state rows same count = rw (same, count)
 pub lowered_content : (state : State) (key floor : ℕ) → content_of (record state { associations = lowered state.associations key floor }) ≡ content_of state
 lowered_content state key floor =
     same_rows state (lowered state.associations key floor) (lowered_rows state.associations key floor)
-    (length-map state.associations (λ (row : SaRow). cond (receives_with key row) (with_high row (min row.window.high floor)) row))
+    (length-map state.associations (λ (row : SaRow). cond (receives_with key row) (with_floor row floor) row))
 
 -- the row of the key is another one, at its place
 record IsMarked (keys : List KeyRow) (key mark floor place : ℕ) (row : KeyRow) : Type 0 where

@@ -41,6 +41,7 @@ module _ (state : State) (rules : KeepsRules state) where
     suite = ok.suite;
     high = high_left row.direction row.key row.window.high ok.high;
     width = ok.width;
+    back = ok.back;
     channels = ok.channels;
   }
 

@@ -40,11 +40,12 @@ fn see_key(row: &KeyRow)
 }
 
 fn see_association(row: &SaRow)
+    requires { association_rows.IsSaRow row.now }
     ensures { HasSaTypes (sa_parts row.now) }
 {
     row.spi.get();
     see_held(row.key);
-    see_number(row.window.width);
+    see_number(row.window.field());
 }
 
 fn see_keys(rows: &[KeyRow])
