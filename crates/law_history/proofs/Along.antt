@@ -5,6 +5,7 @@ use Rattle.std.proofs.lemmas.Bool.{cases_lt}
 use Rattle.std.proofs.lemmas.Option.{none-some, same_Some, slice_get_within}
 use Rattle.sdls_base.specs.declared.change.Change.TheVariants.{Marks}
 use Rattle.sdls_base.specs.declared.entry.Entry.{Entry}
+use Rattle.replay_window.specs.declared.TheConstants.{MOST_BACK}
 use Rattle.unit_plan.specs.PlanLines.{PlanLines}
 use Rattle.unit_plan.specs.PlanRules.{IsPlan}
 use Rattle.unit_state.specs.declared.state.State.{State}
@@ -23,7 +24,7 @@ use Rattle.run_promise.specs.Taken.{kept_floor, IsTaken}
 use Rattle.law_history.specs.Laws.{AcceptsAt, IsBelowReleases, NumbersRise}
 use Rattle.law_history.proofs.Legal.{legal_allowed, release_is_allowed}
 use Rattle.law_history.proofs.Marks.{mark_from_one, numbers_up, legal_up, release_entry, release_marks}
-use Rattle.law_history.proofs.Accepting.{acceptance_takes, not_fresh, entry_takes, kept_up, taken_restarted}
+use Rattle.law_history.proofs.Accepting.{acceptance_takes, not_fresh, near_fresh, entry_takes, kept_up, taken_restarted}
 
 -- ---- one entry after another
 
@@ -201,7 +202,8 @@ pub not_taken_at : (plan : PlanLines) (start : State) (records : List Record) (i
     → OfRun plan start records in_turn entries → (p key number : ℕ) → AcceptsAt entries p key number
     → IsTaken (after_first start entries p) key number → ⊥
 not_taken_at plan start records in_turn entries of p key number at taken =
-    not_fresh (after_first start entries p) at.spi key number taken
+    not_fresh (after_first start entries p) at.spi key number
+    (rules_along plan start records in_turn entries of p (let within : p < length entries = slice_get_within entries p at.entry at.there in omega arith)) taken
     (subst (Allows (after_first start entries p)) at.change_is (allowed_along plan start records in_turn entries of p at.entry at.there)).row
 
 pub accepted_twice : (plan : PlanLines) (start : State) (records : List Record) (in_turn : ℕ → ℕ → Type 0) (entries : List Entry)
@@ -210,6 +212,16 @@ accepted_twice plan start records in_turn entries of p q key number less one oth
     let within : q < length entries = slice_get_within entries q other.entry other.there in
     not_taken_at plan start records in_turn entries of q key number other
     (accepted_taken plan start records in_turn entries of p q key number one less (omega arith))
+
+-- what is accepted below a number that was accepted before is less than 64 below
+pub accepted_late : (plan : PlanLines) (start : State) (records : List Record) (in_turn : ℕ → ℕ → Type 0) (entries : List Entry)
+    → OfRun plan start records in_turn entries → (p q key high number : ℕ) → p < q → AcceptsAt entries p key high → AcceptsAt entries q key number
+    → high - number < MOST_BACK
+accepted_late plan start records in_turn entries of p q key high number less one other =
+    let within : q < length entries = slice_get_within entries q other.entry other.there in
+    near_fresh (after_first start entries q) other.spi key high number (rules_along plan start records in_turn entries of q (omega arith))
+    (accepted_taken plan start records in_turn entries of p q key high one less (omega arith))
+    (subst (Allows (after_first start entries q)) other.change_is (allowed_along plan start records in_turn entries of q other.entry other.there)).row
 
 pub accepted_above : (plan : PlanLines) (start : State) (records : List Record) (in_turn : ℕ → ℕ → Type 0) (entries : List Entry)
     → OfRun plan start records in_turn entries → restarted start ≡ start → (p key number : ℕ) → AcceptsAt entries p key number

@@ -29,8 +29,9 @@ pub use keys::{loaded_once, loaded_stays, loaded_stays_since_epoch, octets_are_l
 pub use one::{messages_have_one_step, messages_need_one, openings_tell_one};
 pub use releases::{releases_are_legal, run_with_releases};
 pub use runs::{
-    accepted_above_the_start, accepted_once, accepted_stays_covered, epochs_are_places,
-    kept_floors_rise_along, marks_rise_along, rules_stay_along, used_stays_below,
+    accepted_above_the_start, accepted_near, accepted_once, accepted_stays_covered,
+    epochs_are_places, kept_floors_rise_along, marks_rise_along, rules_stay_along,
+    used_stays_below,
 };
 pub use taken::{
     acceptance_takes, kept_floor_at_the_start, kept_floor_is_low, kept_floor_rises,

@@ -1,7 +1,8 @@
 //! Laws of the legal history of a run.
 
-ghost use Rattle.std.specs.Prelude.{◌≡◌, ℕ, ◌<◌, ◌≤◌, List, length};
+ghost use Rattle.std.specs.Prelude.{◌≡◌, ℕ, ◌-◌, ◌<◌, ◌≤◌, List, length};
 ghost use Rattle.sdls_base.specs.declared.entry.Entry.{Entry};
+ghost use Rattle.replay_window.specs.declared.TheConstants.{MOST_BACK};
 ghost use Rattle.unit_plan.specs.PlanLines.{PlanLines};
 ghost use Rattle.unit_state.specs.declared.state.State.{State};
 ghost use Rattle.unit_state.specs.State.{KeepsRules};
@@ -58,6 +59,14 @@ pub fn accepted_once()
     ensures { (plan : PlanLines) (start : State) (places : List Place) (entries : List Entry)
         → IsLegalHistory plan start places entries
         → (p q key number : ℕ) → p < q → AcceptsAt entries p key number → ¬ AcceptsAt entries q key number }
+{}
+
+/// Law: a number that is accepted below one that was accepted before it under its key is less than 64 below.
+pub fn accepted_near()
+    ensures { (plan : PlanLines) (start : State) (places : List Place) (entries : List Entry)
+        → IsLegalHistory plan start places entries
+        → (p q key high number : ℕ) → p < q → AcceptsAt entries p key high → AcceptsAt entries q key number
+        → high - number < MOST_BACK }
 {}
 
 /// Law: where the run begins with a state that a restart left, each number accepted is above the key's floor there.

@@ -1,6 +1,6 @@
 //! Laws of numbers that are taken.
 
-ghost use Rattle.std.specs.Prelude.{◌≡◌, ℕ, ◌≤◌, ◌↔◌, List};
+ghost use Rattle.std.specs.Prelude.{◌≡◌, ℕ, ◌≤◌, List};
 ghost use Rattle.sdls_base.specs.declared.change.Change.TheVariants.{Accepted};
 ghost use Rattle.sdls_base.specs.declared.entry.Entry.{Entry};
 ghost use Rattle.unit_plan.specs.PlanLines.{PlanLines};
@@ -17,10 +17,9 @@ ghost use Rattle.run_promise.specs.Numbers.{floor_of};
 ghost use Rattle.run_promise.specs.Legal.{anywhere, IsEntry};
 ghost use Rattle.run_promise.specs.Taken.{kept_floor, IsTaken};
 
-/// Law: the numbers that are taken are those up to the floor that a release would leave.
+/// Law: a number that is taken is at most the floor that a release would leave.
 pub fn taken_up_to_the_floor()
-    ensures { (state : State) (key number : ℕ) → KeepsRules state
-        → IsTaken state key number ↔ (number ≤ kept_floor state key) }
+    ensures { (state : State) (key number : ℕ) → IsTaken state key number → number ≤ kept_floor state key }
 {}
 
 /// Law: an acceptance takes its number.
@@ -40,7 +39,7 @@ pub fn taken_stays()
 /// Law: no opening accepts a taken number.
 pub fn taken_is_refused()
     ensures { (plan : PlanLines) (state : State) (link : ℕ) (frame field : List ℕ) (spi key number from to : ℕ)
-        → IsTaken state key number
+        → KeepsRules state → IsTaken state key number
         → ¬ IsOpenReply plan state link frame (opens.Accepted spi key number from to) field }
 {}
 

@@ -29,7 +29,7 @@ use Rattle.run_promise.specs.Sound.{IsSound}
 use Rattle.law_runs.specs.AtEnd.{StaysCovered}
 use Rattle.law_workers.proofs.WholeRun.{rules_at_end, pairs, pairs_above, one_fault, order, none_made, answers_fit}
 use Rattle.law_runs.proofs.Released.{legal_run, none_of_lanes, below_releases, fits_ended}
-use Rattle.law_runs.proofs.Accepting.{accepts_differ, accepts_above}
+use Rattle.law_runs.proofs.Accepting.{accepts_differ, accepts_near, accepts_above}
 use Rattle.law_runs.proofs.Covering.{stays_covered}
 
 behind_ended : (begin : Begin) (old new : View) (es rest : List Entry) (a b : Deed) → entries_in new ≡ es → StandsWithin begin old new a → StandsWithin begin old new b
@@ -84,6 +84,7 @@ module _ (begin : Begin) (first now : View) (places : List Place) (deeds : List 
     accepted = accepts_differ (NearWord begin.start (entries_in now ++ releases) (records_of places)) course places history deeds ascend fit;
     accepted_above = λ k a low. accepts_above (NearWord begin.start (entries_in now ++ releases) (records_of places)) course places history left
         (slice_index_or deeds k a) (fit k a low);
+    accepted_near = accepts_near (NearWord begin.start (entries_in now ++ releases) (records_of places)) course places history deeds fit;
     one_fault = one_fault begin first now (records_of places) deeds is_opened d whole rows started kept ascend;
     order = λ i j a lt low turn. behind_ended begin first now (entries_in now) releases _ _ refl (d.answers.stand i a (omega arith)) (d.answers.stand j a low)
         (order begin first now (records_of places) deeds is_opened d whole rows started kept ascend i j a lt low turn);

@@ -540,6 +540,7 @@ module _ (told : Bool) (site after : SiteSeen) (source source_after : SourceSeen
       pairs_above = sound_so.pairs_above;
       accepted = sound_so.accepted;
       accepted_above = sound_so.accepted_above;
+      accepted_near = sound_so.accepted_near;
       one_fault = sound_so.one_fault;
       order = subst (λ (c : Course). AllPairs (λ one other. InTurn one other → StandsBehind c.begin c.entries one other)
           (deeds_from (places_of ran.come.of) ran.come.answers)) course_is sound_so.order;

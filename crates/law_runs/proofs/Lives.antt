@@ -30,7 +30,7 @@ use Rattle.law_history.specs.Laws.{IsBelowReleases}
 use Rattle.run_promise.specs.Run.{NearWord, TurnIn}
 use Rattle.run_promise.specs.Taken.{kept_floor, IsLoadedWith}
 use Rattle.law_history.proofs.Codes.{fits_code}
-use Rattle.law_history.proofs.Accepting.{taken_kept, kept_taken, taken_restarted}
+use Rattle.law_history.proofs.Accepting.{taken_kept, kept_low as floor_kept_low, taken_restarted}
 use Rattle.law_history.proofs.Along.{OfRun, rules_along, kept_along, below_along, of_places}
 use Rattle.law_history.proofs.Loaded.{loaded_along, octets_loaded, one_key}
 use Rattle.law_history.proofs.Marks.{release_entry}
@@ -292,8 +292,7 @@ module _ (once : ShowsOnce) (run : LifeRun) (is_run : IsRun run) where
 
   -- the floor that a release would leave is no higher than the floor, and in the state of an image no lower
   kept_low : (p key : ℕ) → p ≤ length entries → kept_floor (after_first start entries p) key ≤ floor_of (after_first start entries p) key
-  kept_low p key within =
-      (kept_taken (after_first start entries p) key (kept_floor (after_first start entries p) key) (rules_at p within) (omega arith)).floor
+  kept_low p key within = floor_kept_low (after_first start entries p) key (rules_at p within)
 
   kept_at_start : (key : ℕ) → floor_of start key ≤ kept_floor start key
   kept_at_start key = taken_kept start key (floor_of start key)

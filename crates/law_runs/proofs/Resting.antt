@@ -42,6 +42,7 @@ none_sound course plan_is rules = record {
   pairs_above = λ k d low. absurd (omega arith);
   accepted = λ i j d less low. absurd (omega arith);
   accepted_above = λ k d low. absurd (omega arith);
+  accepted_near = λ k d low. absurd (omega arith);
   one_fault = λ i j d less low. absurd (omega arith);
   order = λ i j d less low. absurd (omega arith);
   none_made = λ k d low. absurd (omega arith);

@@ -2,6 +2,7 @@
 use Rattle.std.specs.Prelude.{◌≡◌, ℕ, ◌≤◌, IsTrue, List, All, IsSomeAnd}
 use Rattle.std.specs.Option.{option_map_or}
 use Rattle.sha2.specs.Sha256.{sha256}
+use Rattle.replay_window.specs.Past.{IsPast}
 use Rattle.sa_book.specs.SaRefusal.{receives_with}
 use Rattle.unit_state.specs.declared.state.State.{State}
 use Rattle.unit_state.specs.State.{key_row}
@@ -11,11 +12,11 @@ use Rattle.run_promise.specs.Numbers.{floor_of, released_floor}
 abbrev pub kept_floor : State → ℕ → ℕ
 kept_floor state key = option_map_or (released_floor state) (key_row state key) 0
 
--- No opening accepts the number under the key any more: it is no higher than the key's floor, nor than the highest
--- number of an association that receives with the key.
+-- No opening accepts the number under the key any more: it is no higher than the key's floor, and past in the window of an
+-- association that receives with the key.
 pub record IsTaken (state : State) (key number : ℕ) : Type 0 where
   pub floor : number ≤ floor_of state key
-  pub highs : All (λ row. IsTrue (receives_with key row) → number ≤ row.window.high) state.associations
+  pub windows : All (λ row. IsTrue (receives_with key row) → IsPast row.window number) state.associations
 
 -- the key was loaded with these octets; that stays so when they are dropped
 abbrev pub IsLoadedWith : State → ℕ → List ℕ → Type 0
