@@ -54,8 +54,13 @@ impl<O: Site> Model for Book<O> {
     ghost use Rattle.run_promise.specs.declared.limits.TheConstants.{MOST_ENTRIES};
     ghost use Rattle.image_content.specs.declared.layout.TheConstants.{CONTENT_LENGTH};
     ghost use Rattle.unit_book.specs.Book.{BookView};
+    ghost use Rattle.std.specs.Coded.{codes, coded_ℕ};
+    ghost use Rattle.std.specs.FinSet as set;
+    ghost use Rattle.std.specs.Ordering.{nat_cmp};
 
     ghost Value = { BookView };
+
+    ghost coded = { Prim.hlevel (codes, set.code {R = nat_cmp} coded_ℕ) };
 
     ghost view = { λ book. record {
       site = site_seen O.trace O.faults O.put_faults book.site;

@@ -18,12 +18,12 @@ ghost use Rattle.unit_book.specs.GoesOn.{GoesOn};
 ghost use Rattle.unit_book.specs.Needs.{NamesKey};
 ghost use Rattle.unit_book.specs.Epoch.{epoch_state, ServesAlike, HasBounds, StandsLast};
 
-/// Law: states that differ in marks, floors and highest numbers alone serve alike.
+/// Law: states that differ in marks, floors and accepted numbers alone serve alike.
 pub fn states_serve_alike()
     ensures { (plan : PlanLines) (one other : State) → still one ≡ still other → ServesAlike plan one other }
 {}
 
-/// Law: a book's state and that of its epoch differ in marks, floors and highest numbers alone, so that they serve
+/// Law: a book's state and that of its epoch differ in marks, floors and accepted numbers alone, so that they serve
 /// alike.
 pub fn serves_at_epoch()
     ensures still { (told : Bool) (book : BookView) → IsKept told book
