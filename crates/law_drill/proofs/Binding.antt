@@ -7,7 +7,7 @@ use Rattle.frame_shield.specs.declared.binding.Binding.{Binding}
 use Rattle.run_promise.specs.ProtectingFrames.{protect_reply}
 use Rattle.law_drill.specs.Plans.{key_of, link_line}
 use Rattle.law_drill.proofs.Read.{sender_bare}
-use Rattle.law_drill.proofs.Lanes.{each, four, key_on, state_at, suite_on}
+use Rattle.law_drill.proofs.Lanes.{begun, each, four, key_on, state_at, suite_on}
 
 abbrev pub bound_to : ℕ → ℕ → Suite → ℕ → ℕ → Binding
 bound_to digit spi suite key octet = record {
@@ -29,6 +29,6 @@ field_by octet = map octet (range_with_len 0 32)
 
 -- the frames of each lane are bound to its association
 pub bound_on : (s : ℕ) (g : ℕ → ℕ) (lane : ℕ) → lane < 4
-    → protect_reply sender_bare (state_at 1 Send (each 1) (each 0) (each 0)) 0 (clear_on lane s (field_by g))
+    → protect_reply sender_bare (state_at 1 Send (each 1) begun (each 0)) 0 (clear_on lane s (field_by g))
     ≡ Ok (Some (bound_to 1 (lane + 1) (suite_on lane) (key_on lane) (lane + 1)))
 bound_on s g = four _ refl refl refl refl

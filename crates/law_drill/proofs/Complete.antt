@@ -16,7 +16,7 @@ use Rattle.law_drill.specs.Drilled.{AreChunks, IsDrilled, UnitIsOpened, HandlesS
 use Rattle.law_drill.specs.Plans.{receiver_plan, sender_plan}
 use Rattle.law_drill.proofs.Read.{receiver_bare, sender_bare}
 use Rattle.law_drill.proofs.Judging.{receiving}
-use Rattle.law_drill.proofs.Lanes.{each}
+use Rattle.law_drill.proofs.Lanes.{begun, each}
 use Rattle.law_drill.proofs.Lists.{all_counted}
 use Rattle.law_drill.proofs.Opened.{ShowsOne, Starts, receiver_begins, sender_begins}
 use Rattle.law_drill.proofs.OpenedChunks.{IsSent, TakenAll, accepted_all, none_taken, rejected_all, taken_chunk}
@@ -40,7 +40,7 @@ same_counts a b p q r =
     ap (λ (n : ℕ). these n a.accepted a.rejected) p ∙ (ap (λ (n : ℕ). these b.protected n a.rejected) q ∙ ap (these b.protected b.accepted) r)
 
 module _ (once : OpensOnce) (one other : Begin) (s t0 t v w0 mid w : View) (chunk n : ℕ) (before more : Counts)
-    (sends : Starts one sender_bare (sending (each 1))) (receives : Starts other receiver_bare (receiving (each 0) (each 0)))
+    (sends : Starts one sender_bare (sending (each 1))) (receives : Starts other receiver_bare (receiving begun (each 0)))
     (so_far : Served one other s t0 v w0 (256 * chunk) chunk before) (some : 1 ≤ n) (short : n ≤ 256) (few : 256 * chunk + n ≤ 100000) where
   abbrev sent : List Answer
   sent = so_far.sent

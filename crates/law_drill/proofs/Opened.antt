@@ -21,7 +21,7 @@ use Rattle.run_promise.specs.Begin.{Begin}
 use Rattle.law_drill.specs.Drilled.{UnitIsOpened}
 use Rattle.law_drill.specs.Plans.{receiver_lines, receiver_plan, sender_lines, sender_plan}
 use Rattle.law_drill.proofs.Judging.{receiving}
-use Rattle.law_drill.proofs.Lanes.{each, first_is}
+use Rattle.law_drill.proofs.Lanes.{begun, each, first_is}
 use Rattle.law_drill.proofs.Read.{receiver_bare, receiver_read, sender_bare, sender_read}
 use Rattle.law_drill.proofs.Reserving.{sending}
 use Rattle.law_drill.proofs.Starting.{receiver_starts, sender_starts}
@@ -66,7 +66,7 @@ pub sender_begins : ShowsOne → (begin : Begin) (v : View) → UnitIsOpened sen
 sender_begins once begin v opened =
     begins_so once sender_plan sender_lines (sending (each 1)) sender_read (λ first made. sender_starts first made ∙ first_is 1 Send) begin v opened
 
-pub receiver_begins : ShowsOne → (begin : Begin) (v : View) → UnitIsOpened receiver_plan begin v → Starts begin receiver_bare (receiving (each 0) (each 0))
+pub receiver_begins : ShowsOne → (begin : Begin) (v : View) → UnitIsOpened receiver_plan begin v → Starts begin receiver_bare (receiving begun (each 0))
 receiver_begins once begin v opened =
-    begins_so once receiver_plan receiver_lines (receiving (each 0) (each 0)) receiver_read (λ first made. receiver_starts first made
+    begins_so once receiver_plan receiver_lines (receiving begun (each 0)) receiver_read (λ first made. receiver_starts first made
     ∙ first_is 2 Receive) begin v opened

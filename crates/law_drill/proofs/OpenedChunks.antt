@@ -23,7 +23,7 @@ use Rattle.drill_frames.specs.Frames.{data_field, open_task, open_tasks, replay_
 use Rattle.law_drill.specs.Drilled.{HandlesSegment, tells_want}
 use Rattle.law_drill.proofs.Read.{receiver_bare}
 use Rattle.law_drill.proofs.Judging.{receiving}
-use Rattle.law_drill.proofs.Lanes.{each}
+use Rattle.law_drill.proofs.Lanes.{begun, each}
 use Rattle.law_drill.proofs.Lists.{Below, From, all_counted, answers_all, ascend_then, deed_at, deeds_all, deeds_long, none_counted, pairs_all, zip_long}
 use Rattle.law_drill.proofs.Opened.{Starts}
 use Rattle.law_drill.proofs.Opening.{OpensOnce}
@@ -164,7 +164,7 @@ pub record TakenAll (begin : Begin) (first now : View) (total chunks : ℕ) (oct
   pub few : length tasks ≤ total + chunks
 
 pub none_taken : (begin : Begin) (first : View) (octets : ℕ → List ℕ) → IsJustOpened begin first → begin.rows ≡ MOST_KEYS → IsWhole MOST_KEYS first
-    → Starts begin receiver_bare (receiving (each 0) (each 0)) → TakenAll begin first first 0 0 octets
+    → Starts begin receiver_bare (receiving begun (each 0)) → TakenAll begin first first 0 0 octets
 none_taken begin first octets opened rows whole starts = record {
   tasks = [];
   deeds = [];
@@ -187,7 +187,7 @@ none_taken begin first octets opened rows whole starts = record {
 -- One more chunk, from the frame at its front on. All its frames were sent, and no answer of the receiver says that
 -- memory ran out.
 module _ (once : OpensOnce) (begin : Begin) (first now mid next : View) (chunk : ℕ) (octets longer : ℕ → List ℕ) (numbers : ℕ → ℕ)
-    (starts : Starts begin receiver_bare (receiving (each 0) (each 0))) (so_far : TakenAll begin first now (256 * chunk) chunk octets)
+    (starts : Starts begin receiver_bare (receiving begun (each 0))) (so_far : TakenAll begin first now (256 * chunk) chunk octets)
     (head : Answer) (rest : List Answer) (codes : All IsSent (head ∷ rest)) (short : length (head ∷ rest) ≤ 256) (few : 256 * chunk + length
     (head ∷ rest) ≤ 100000)
     (same : (i : ℕ) → i < 256 * chunk → octets i ≡ longer i)

@@ -41,10 +41,10 @@ use Rattle.law_workers.proofs.WholeRun.{rules_at_end, IsHistory, answers_fit, le
 use Rattle.law_workers.proofs.Counting.{entries_in_order, few_entries, few_reserves}
 use Rattle.drill_frames.specs.Frames.{clear_frame, data_field, field_octet, field_octets, open_task}
 use Rattle.law_drill.proofs.Read.{receiver_bare}
-use Rattle.law_drill.proofs.Accepting.{Taken, none_taken, taken_more, taken_nothing}
+use Rattle.law_drill.proofs.Accepting.{Taken, none_taken, above_fresh, fresh_above, taken_more, taken_nothing}
 use Rattle.law_drill.proofs.Binding.{bound_to, field_by}
 use Rattle.law_drill.proofs.Judging.{judges_on, receiving}
-use Rattle.law_drill.proofs.Lanes.{each, end_on, key_on, key_own, row_on, suite_on, with_on}
+use Rattle.law_drill.proofs.Lanes.{begun, each, end_on, key_on, key_own, row_on, suite_on, with_on}
 use Rattle.law_drill.proofs.Opening.{Judges, OpensOnce, refuses, takes}
 use Rattle.law_drill.proofs.Sending.{Done, clear_is, drawers_few, in_one, records_back}
 
@@ -100,7 +100,7 @@ reserve_counts (one ∷ es) zero entry there none =
 reserve_counts (one ∷ es) (suc p) entry there none = let h = reserve_counts es p entry there none in omega arith
 
 module _ (IsAt : ℕ → ℕ → Type 0) (once : OpensOnce) (layout : Layout) (begin : Begin) (first now : View) (tasks : List Record) (deeds : List Deed)
-    (done : Done layout begin first now tasks deeds) (plan : begin.plan ≡ receiver_bare) (start : begin.start ≡ receiving (each 0) (each 0))
+    (done : Done layout begin first now tasks deeds) (plan : begin.plan ≡ receiver_bare) (start : begin.start ≡ receiving begun (each 0))
     (total : ℕ) (few : length tasks ≤ 200000) (numbers : ℕ → ℕ) (octets : ℕ → List ℕ) (sent : AreSent total numbers octets)
     (handed : All (Handed IsAt total octets) tasks) (lanes : All (λ (task : Record). layout.lane_of task.index ≡ task.lane) tasks) where
   abbrev pub entries : List Entry
@@ -121,9 +121,9 @@ module _ (IsAt : ℕ → ℕ → Type 0) (once : OpensOnce) (layout : Layout) (b
 
   -- each entry is that of a frame that was opened
   opening_at : (p : ℕ) (entry : Entry) → slice_get entries p ≡ Some entry
-      → IsOpening receiver_bare (after (receiving (each 0) (each 0)) (take p entries)) tasks entry
+      → IsOpening receiver_bare (after (receiving begun (each 0)) (take p entries)) tasks entry
   opening_at p entry there =
-      let legal_so : IsLegal near receiver_bare (after (receiving (each 0) (each 0)) (take p entries)) tasks entry =
+      let legal_so : IsLegal near receiver_bare (after (receiving begun (each 0)) (take p entries)) tasks entry =
       subst (λ (s : State). IsLegal near receiver_bare (after s (take p entries)) tasks entry) start
       (subst (λ (l : PlanLines). IsLegal near l (after begin.start (take p entries)) tasks entry) plan (history.each p entry there)) in
       elim legal_so [
@@ -176,19 +176,19 @@ module _ (IsAt : ℕ → ℕ → Type 0) (once : OpensOnce) (layout : Layout) (b
 
   -- what the receiver replies to a record in the state after some entries
   replies_to : (p : ℕ) (t : Taken (take p entries)) (task : Record) (hand : Handed IsAt total octets task) (reply : OpenReply) (field : List ℕ)
-      → IsOpenReply receiver_bare (after (receiving (each 0) (each 0)) (take p entries)) task.link task.octets reply field
-      → Judges (row_on Receive t.highs (hand.frame % 4)) (hand.frame % 4 + 1) (key_on (hand.frame % 4)) (numbers hand.frame)
+      → IsOpenReply receiver_bare (after (receiving begun (each 0)) (take p entries)) task.link task.octets reply field
+      → Judges (row_on Receive t.windows (hand.frame % 4)) (hand.frame % 4 + 1) (key_on (hand.frame % 4)) (numbers hand.frame)
       (data_field hand.frame) reply field
   replies_to p t task hand reply field is =
       let i = hand.frame in
-      let same : IsOpenReply receiver_bare (receiving t.highs t.floors) 0 (octets i) reply field =
+      let same : IsOpenReply receiver_bare (receiving t.windows t.floors) 0 (octets i) reply field =
       subst (λ (s : State). IsOpenReply receiver_bare s 0 (octets i) reply field) t.is
-      (subst (λ (r : Record). IsOpenReply receiver_bare (after (receiving (each 0) (each 0)) (take p entries)) r.link r.octets reply field) hand.is is) in
+      (subst (λ (r : Record). IsOpenReply receiver_bare (after (receiving begun (each 0)) (take p entries)) r.link r.octets reply field) hand.is is) in
       let protects = subst (λ (c : List ℕ). Protects (bound_to 1 (i % 4 + 1) (suite_on (i % 4)) (key_on (i % 4)) (i % 4 + 1)) (numbers i) c (octets i))
       (clear_is i)
       (sent.protects i hand.within) in
-      subst (λ (own : List ℕ). Judges (row_on Receive t.highs (i % 4)) (i % 4 + 1) (key_on (i % 4)) (numbers i) own reply field) (sym (field_is i))
-      (judges_on once t.highs t.floors (numbers i) (i % 256) (field_octet i) (octets i) field reply (i % 4) (omega arith) protects same)
+      subst (λ (own : List ℕ). Judges (row_on Receive t.windows (i % 4)) (i % 4 + 1) (key_on (i % 4)) (numbers i) own reply field) (sym (field_is i))
+      (judges_on once t.windows t.floors (numbers i) (i % 256) (field_octet i) (octets i) field reply (i % 4) (omega arith) protects same)
 
   abbrev FromAll : ℕ → (ℕ → ℕ) → Type 0
   FromAll p highs = (lane : ℕ) → lane < 4 → (highs lane ≡ 0) ⊎ OfFrame p lane (highs lane)
@@ -216,7 +216,7 @@ module _ (IsAt : ℕ → ℕ → Type 0) (once : OpensOnce) (layout : Layout) (b
   old_by false lane other number new old e low up = low
 
   module _ (p : ℕ) (entry : Entry) (there : slice_get entries p ≡ Some entry) (before : Took p (take p entries)) where
-    abbrev opening : IsOpening receiver_bare (after (receiving (each 0) (each 0)) (take p entries)) tasks entry
+    abbrev opening : IsOpening receiver_bare (after (receiving begun (each 0)) (take p entries)) tasks entry
     opening = opening_at p entry there
 
     abbrev hand : Handed IsAt total octets opening.task
@@ -236,16 +236,17 @@ module _ (IsAt : ℕ → ℕ → Type 0) (once : OpensOnce) (layout : Layout) (b
     by_entry f entry_is other is = let same : other ≡ entry = (let twice = sym is ∙ entry_is in cc) in ap f same
 
     took_number : (from to : ℕ) → opening.reply ≡ Accepted (lane + 1) (key_on lane) number from to
-        → IsFresh (record { high = highs lane; width = 4294967296 }) number (end_of (key_on lane))
+        → IsFresh (before.taken.windows lane) number (end_of (key_on lane))
         → Took (suc p) (take p entries ++ entry ∷ [])
     took_number from to reply fresh =
-        let state = after (receiving (each 0) (each 0)) (take p entries) in
-        let change : entry.change ≡ changes.Accepted (lane + 1) (key_on lane) number (raised_floor receiver_bare (receiving highs before.taken.floors)
+        let state = after (receiving begun (each 0)) (take p entries) in
+        let change : entry.change ≡ changes.Accepted (lane + 1) (key_on lane) number (raised_floor receiver_bare (receiving before.taken.windows before.taken.floors)
         (key_on lane) number) =
         ap (λ (e : Entry). e.change) opening.entry_is
         ∙ (ap (frame_change receiver_bare state) reply
         ∙ ap (λ (s : State). changes.Accepted (lane + 1) (key_on lane) number (raised_floor receiver_bare s (key_on lane) number)) before.taken.is) in
-        let step = taken_more (take p entries) entry lane number _ (omega arith) before.taken change in
+        let up = fresh_above (before.taken.windows lane) (highs lane) number (end_of (key_on lane)) (before.taken.each_is lane) fresh in
+        let step = taken_more (take p entries) entry lane number _ (omega arith) before.taken up change in
         let mine : OfFrame (suc p) lane number = record {
           place = p;
           before = omega arith;
@@ -258,7 +259,6 @@ module _ (IsAt : ℕ → ℕ → Type 0) (once : OpensOnce) (layout : Layout) (b
           is_lane = refl;
           number_is = refl;
         } in
-        let up = fresh.above in
         let above_now : AboveAll (suc p) (with_on lane number highs) = λ place other n low is_lane accepts. elim (cases_lt place p) [
           | inl earlier_place ↦
               let h = before.above place other n earlier_place is_lane accepts in
@@ -268,7 +268,7 @@ module _ (IsAt : ℕ → ℕ → Type 0) (once : OpensOnce) (layout : Layout) (b
               let at : place ≡ p = omega arith in
               let it = subst (λ (x : ℕ). Accepts x other n) at accepts in
               let twice : changes.Accepted it.2 (key_on other) n it.3 ≡ changes.Accepted (lane + 1) (key_on lane) number (raised_floor receiver_bare
-              (receiving highs before.taken.floors) (key_on lane) number) =
+              (receiving before.taken.windows before.taken.floors) (key_on lane) number) =
               sym it.4 ∙ (by_entry (λ (e : Entry). e.change) there it.0 it.1 ∙ change) in
               let keys : key_on lane ≡ key_on other = (let t = twice in cc) in
               let numbers_are : n ≡ number = (let t = twice in cc) in
@@ -306,7 +306,7 @@ module _ (IsAt : ℕ → ℕ → Type 0) (once : OpensOnce) (layout : Layout) (b
     took_next = elim (replies_to p before.taken opening.task hand opening.reply opening.field opening.replies) [
       | takes from to reply field fresh ↦ took_number from to reply fresh
       | refuses high width reply stale ↦ took_nothing (ap (λ (e : Entry). e.change) opening.entry_is
-          ∙ ap (frame_change receiver_bare (after (receiving (each 0) (each 0)) (take p entries))) reply)
+          ∙ ap (frame_change receiver_bare (after (receiving begun (each 0)) (take p entries))) reply)
     ]
 
   pub took : (p : ℕ) → p ≤ length entries → Took p (take p entries)
@@ -332,9 +332,9 @@ module _ (IsAt : ℕ → ℕ → Type 0) (once : OpensOnce) (layout : Layout) (b
   pub record TellsEntry (task : Record) (answer : Answer) : Type 0 where
     pub reply : OpenReply
     pub field : List ℕ
-    pub replies : IsOpenReply receiver_bare (after (receiving (each 0) (each 0)) (take (answer.position - 1) entries)) task.link task.octets reply field
+    pub replies : IsOpenReply receiver_bare (after (receiving begun (each 0)) (take (answer.position - 1) entries)) task.link task.octets reply field
     pub there : slice_get entries (answer.position - 1)
-        ≡ Some (frame_entry receiver_bare (after (receiving (each 0) (each 0)) (take (answer.position - 1) entries)) task.index reply)
+        ≡ Some (frame_entry receiver_bare (after (receiving begun (each 0)) (take (answer.position - 1) entries)) task.index reply)
     pub tells : told_by answer ≡ opened_told reply field
 
   tells_entry : (task : Record) (answer : Answer) → IsOpenAnswer course task answer → TellsEntry task answer
@@ -415,7 +415,7 @@ module _ (IsAt : ℕ → ℕ → Type 0) (once : OpensOnce) (layout : Layout) (b
   fresh_number : (turn : TellsTurn) (place : ℕ) (entry : Entry) (task : Record) (hand : Handed IsAt total octets task) → IsFirst turn task hand
       → Contains tasks task
       → slice_get entries place ≡ Some entry → entry.index ≡ Some task.index → (t : Took place (take place entries))
-      → IsFresh (record { high = t.taken.highs (hand.frame % 4); width = 4294967296 }) (numbers hand.frame) (end_of (key_on (hand.frame % 4)))
+      → IsFresh (t.taken.windows (hand.frame % 4)) (numbers hand.frame) (end_of (key_on (hand.frame % 4)))
   fresh_number turn place entry task hand first_time among there index t =
       let lane = hand.frame % 4 in
       let least = sent.least hand.frame hand.within in
@@ -423,7 +423,8 @@ module _ (IsAt : ℕ → ℕ → Type 0) (once : OpensOnce) (layout : Layout) (b
       let end = end_on lane (omega arith) in
       let above : t.taken.highs lane < numbers hand.frame = ⊎_elim (λ none. (let e : t.taken.highs lane < numbers hand.frame = omega arith in e))
       (λ is. below_number turn place entry task hand first_time among there index (t.taken.highs lane) is) (t.from lane (omega arith)) in
-      record { above = above; within = omega arith; below_end = omega arith }
+      above_fresh (t.taken.windows lane) (t.taken.highs lane) (numbers hand.frame) (end_of (key_on lane)) (t.taken.each_is lane) above
+      (omega arith) (omega arith)
 
   pub opened_by : (turn : TellsTurn) (task : Record) (hand : Handed IsAt total octets task) (answer : Answer) → IsFirst turn task hand
       → Contains tasks task → TellsEntry task answer
@@ -432,7 +433,7 @@ module _ (IsAt : ℕ → ℕ → Type 0) (once : OpensOnce) (layout : Layout) (b
       let place = answer.position - 1 in
       let low = slice_get_within entries place _ is.there in
       let t = took place (omega arith) in
-      let state = after (receiving (each 0) (each 0)) (take place entries) in
+      let state = after (receiving begun (each 0)) (take place entries) in
       elim (replies_to place t.taken task hand is.reply is.field is.replies) [
         | takes from to reply field fresh ↦
             let tells = is.tells ∙ ap (λ (r : OpenReply). opened_told r is.field) reply in
@@ -477,7 +478,8 @@ module _ (IsAt : ℕ → ℕ → Type 0) (once : OpensOnce) (layout : Layout) (b
       (was.entry, was.there, was.spi, was.floor, was.change ∙ ap (λ (i : ℕ). changes.Accepted was.spi (key_on (i % 4)) (numbers i) was.floor) same) in
       let high = t.above was.place (hand.frame % 4) (numbers hand.frame) behind (omega arith) accepts in
       elim (replies_to place t.taken task hand is.reply is.field is.replies) [
-        | takes from to reply field fresh ↦ let up = fresh.above in absurd (omega arith)
+        | takes from to reply field fresh ↦ let up = fresh_above (t.taken.windows (hand.frame % 4)) (t.taken.highs (hand.frame % 4)) (numbers hand.frame)
+            (end_of (key_on (hand.frame % 4))) (t.taken.each_is (hand.frame % 4)) fresh in absurd (omega arith)
         | refuses top width reply stale ↦ ap (λ (x : Told). x.code) (is.tells ∙ ap (λ (r : OpenReply). opened_told r is.field) reply)
       ]
 

@@ -13,10 +13,10 @@ use Rattle.unit_state.proofs.Histories.{after_more, epochs_more}
 use Rattle.run_promise.specs.Legal.{IsReserve}
 use Rattle.run_promise.specs.Numbers.{mark_of, floor_of, reserve_of}
 use Rattle.law_drill.proofs.Read.{sender_bare}
-use Rattle.law_drill.proofs.Lanes.{each, end_on, floor_on, four, key_lane, key_on, mark_on, marked_on, state_at, with_on}
+use Rattle.law_drill.proofs.Lanes.{begun, each, end_on, floor_on, four, key_lane, key_on, mark_on, marked_on, state_at, with_on}
 
 abbrev pub sending : (ℕ → ℕ) → State
-sending marks = state_at 1 Send marks (each 0) (each 0)
+sending marks = state_at 1 Send marks begun (each 0)
 
 abbrev pub all_marks : (ℕ → ℕ) → ℕ
 all_marks marks = marks 0 + marks 1 + marks 2 + marks 3
@@ -51,7 +51,7 @@ same_reserve : (marks : ℕ → ℕ) (number lane : ℕ) → lane < 4 → number
 same_reserve marks number lane low below =
     let most : min (number + 64) (end_of (key_on lane)) ≡ number + 64 = omega arith in
     ap (λ (m : ℕ). Marks (key_on lane) m (floor_of (sending marks) (key_on lane))) most
-    ∙ ap (Marks (key_on lane) (number + 64)) (floor_on 1 Send marks (each 0) (each 0) lane low)
+    ∙ ap (Marks (key_on lane) (number + 64)) (floor_on 1 Send marks begun (each 0) lane low)
 
 -- one reserve more
 pub reserved_more : (near : ℕ → ℕ → Type 0) (es : List Entry) (bound : ℕ) (entry : Entry) → bound ≤ 200000
@@ -60,12 +60,12 @@ pub reserved_more : (near : ℕ → ℕ → Type 0) (es : List Entry) (bound : �
 reserved_more near es bound entry small near_low so_far reserves =
     let marks = so_far.marks in
     let r : IsReserve near sender_bare (sending marks) entry = subst (λ (s : State). IsReserve near sender_bare s entry) so_far.is reserves in
-    let (lane, low, same) = key_lane 1 Send marks (each 0) (each 0) r.key r.there in
+    let (lane, low, same) = key_lane 1 Send marks begun (each 0) r.key r.there in
     let number = r.number in
     let is_near : near (key_on lane) number = subst (λ (k : ℕ). near k number) (sym same) r.is_near in
     let most : number ≤ bound = near_low lane number low is_near in
     let unmarked : mark_of (sending marks) (key_on lane) ≤ number = subst (λ (k : ℕ). mark_of (sending marks) k ≤ number) (sym same) r.unmarked in
-    let at_mark = mark_on 1 Send marks (each 0) (each 0) lane low in
+    let at_mark = mark_on 1 Send marks begun (each 0) lane low in
     let end = end_on lane low in
     let change : entry.change ≡ Marks (key_on lane) (number + 64) 0 =
     ap (λ (e : Entry). e.change) r.entry_is

@@ -43,7 +43,7 @@ use Rattle.law_workers.proofs.WholeRun.{rules_at_end, IsHistory, answers_fit, le
 use Rattle.drill_frames.specs.Frames.{clear_frame, field_octet, field_octets, protect_task}
 use Rattle.law_drill.proofs.Read.{sender_bare}
 use Rattle.law_drill.proofs.Binding.{bound_on, bound_to, clear_on, field_by}
-use Rattle.law_drill.proofs.Lanes.{each, end_on, key_on, mark_on, suite_on}
+use Rattle.law_drill.proofs.Lanes.{begun, each, end_on, key_on, mark_on, suite_on}
 use Rattle.law_drill.proofs.Reserving.{Reserved, none_reserved, reserved_more, sending}
 
 -- the records that a unit handled since it was opened
@@ -110,7 +110,7 @@ module _ (layout : Layout) (begin : Begin) (first now : View) (tasks : List Reco
   near_low : (lane number : ℕ) → lane < 4 → near (key_on lane) number → number ≤ 1 + length tasks
   near_low lane number low is =
       let least : mark_of begin.start (key_on lane) ≡ 1 = ap (λ (s : State). mark_of s (key_on lane)) start
-      ∙ mark_on 1 Send (each 1) (each 0) (each 0) lane low in
+      ∙ mark_on 1 Send (each 1) begun (each 0) lane low in
       let few_drawn = drawers_few tasks in
       let most = is.most in
       ⊎_elim (λ (base : is.base ≡ mark_of begin.start (key_on lane)). (let e : number ≤ 1 + length tasks = omega arith in e))
@@ -195,7 +195,7 @@ module _ (layout : Layout) (begin : Begin) (first now : View) (tasks : List Reco
       let is_near = subst (λ (k : ℕ). near k answer.number) key is.is_near in
       let low = near_low (i % 4) answer.number (omega arith) is_near in
       let first_mark : mark_of begin.start (key_on (i % 4)) ≡ 1 =
-      ap (λ (s : State). mark_of s (key_on (i % 4))) start ∙ mark_on 1 Send (each 1) (each 0) (each 0) (i % 4) (omega arith) in
+      ap (λ (s : State). mark_of s (key_on (i % 4))) start ∙ mark_on 1 Send (each 1) begun (each 0) (i % 4) (omega arith) in
       let least = is_near.least in
       record {
         code = ap (λ (t : Told). t.code) is.told;

@@ -1,5 +1,6 @@
 -- The state that the lines of a drill's plan make, where they make one.
 use Rattle.std.proofs.Common.{◌≡◌, ℕ, ◌-◌, Bool, true, false, List, [], ◌∷◌, map, take, drop, Some, Ok, sym, ◌∙◌, ap}
+use Rattle.std.specs.FinSet as set
 use Rattle.sha2.specs.Sha256.{sha256}
 use Rattle.sdls_base.specs.declared.change.Change.TheVariants.{Load, KeyStates, Create, Rekey, SaTo}
 use Rattle.sdls_base.specs.declared.states.Direction.{Direction}
@@ -10,6 +11,7 @@ use Rattle.sdls_base.specs.declared.states.SaState.TheVariants.{Operational}
 use Rattle.sdls_base.specs.declared.states.Suite.{Suite}
 use Rattle.sdls_base.specs.declared.states.Suite.TheVariants.{Cmac, Gcm}
 use Rattle.key_book.specs.declared.key_row.KeyRow.{KeyRow}
+use Rattle.replay_window.specs.declared.window.Window.{Window}
 use Rattle.sa_book.specs.declared.sa_row.SaRow.{SaRow}
 use Rattle.unit_plan.specs.declared.plan.PlanKey.{PlanKey}
 use Rattle.unit_plan.specs.declared.plan.PlanSa.{PlanSa}
@@ -99,23 +101,33 @@ key_at id octet mark floor = record {
   floor = floor;
 }
 
--- an association, with its highest number
-abbrev pub association_at : Direction → ℕ → Suite → ℕ → ℕ → SaRow
-association_at direction spi suite key high = record {
+-- a window that begins at 0
+abbrev pub first_window : Window
+first_window = record {
+  high = 0;
+  width = 4294967296;
+  base = 0;
+  back = 0;
+  taken = set.empty;
+}
+
+-- an association, with its window
+abbrev pub association_at : Direction → ℕ → Suite → ℕ → Window → SaRow
+association_at direction spi suite key window = record {
   spi = spi;
   direction = direction;
   suite = suite;
   state = Operational;
   key = Some key;
   channels = (spi - 1) ∷ [];
-  window = record { high = high; width = 4294967296 };
+  window = window;
 }
 
 abbrev pub first_state : ℕ → Direction → State
 first_state digit direction = record {
   keys = key_at 32769 1 1 0 ∷ key_at 257 2 1 0 ∷ key_at 32771 3 1 0 ∷ key_at 259 4 1 0 ∷ [];
-  associations = association_at direction 1 Cmac 32769 0 ∷ association_at direction 2 Gcm 257 0
-      ∷ association_at direction 3 Cmac 32771 0 ∷ association_at direction 4 Gcm 259 0 ∷ [];
+  associations = association_at direction 1 Cmac 32769 first_window ∷ association_at direction 2 Gcm 257 first_window
+      ∷ association_at direction 3 Cmac 32771 first_window ∷ association_at direction 4 Gcm 259 first_window ∷ [];
   channels = 0 ∷ 1 ∷ 2 ∷ 3 ∷ [];
   device = 0 ∷ 0 ∷ 13 ∷ digit ∷ [];
 }

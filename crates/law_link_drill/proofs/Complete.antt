@@ -17,7 +17,7 @@ use Rattle.law_drill.specs.Drilled.{HandlesSegment, UnitIsOpened, tells_want}
 use Rattle.law_drill.specs.Plans.{receiver_plan, sender_plan}
 use Rattle.law_drill.proofs.Read.{receiver_bare, sender_bare}
 use Rattle.law_drill.proofs.Judging.{receiving}
-use Rattle.law_drill.proofs.Lanes.{each}
+use Rattle.law_drill.proofs.Lanes.{begun, each}
 use Rattle.law_drill.proofs.Lists.{all_counted}
 use Rattle.law_drill.proofs.Opened.{ShowsOne, Starts, receiver_begins, sender_begins}
 use Rattle.law_drill.proofs.OpenedChunks.{IsSent}
@@ -37,7 +37,7 @@ pub record LinkServed (one other : Begin) (s t v w : View) (frames chunks : ℕ)
   pub counted : AreAllCounted frames counts
 
 module _ (once : OpensOnce) (one other : Begin) (s t0 t v w0 w : View) (chunk n : ℕ) (before more : LinkCounts)
-    (sends : Starts one sender_bare (sending (each 1))) (receives : Starts other receiver_bare (receiving (each 0) (each 0)))
+    (sends : Starts one sender_bare (sending (each 1))) (receives : Starts other receiver_bare (receiving begun (each 0)))
     (so_far : LinkServed one other s t0 v w0 (256 * chunk) chunk before) (short : n ≤ 256) (few : 256 * chunk + n ≤ 100000)
     (later opened : List Answer) (protects : HandlesSegment one t0 t (protect_tasks (256 * chunk) n) later)
     (opens : HandlesSegment other w0 w (arrived_tasks (1024 * chunk) (256 * chunk) later (arrived_frames (256 * chunk) later)) opened)

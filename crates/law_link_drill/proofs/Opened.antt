@@ -24,7 +24,7 @@ use Rattle.drill_frames.specs.Counting.{count_code}
 use Rattle.law_drill.specs.Drilled.{HandlesSegment, tells_want}
 use Rattle.law_drill.proofs.Read.{receiver_bare}
 use Rattle.law_drill.proofs.Judging.{receiving}
-use Rattle.law_drill.proofs.Lanes.{each}
+use Rattle.law_drill.proofs.Lanes.{begun, each}
 use Rattle.law_drill.proofs.Lists.{Below, From, ascend_then, deed_at, deeds_all, deeds_long}
 use Rattle.law_drill.proofs.Opened.{Starts}
 use Rattle.law_drill.proofs.OpenedChunks.{IsSent, all_right, deeds_answers, further_below, further_deeds, handed_more}
@@ -50,7 +50,7 @@ pub record TakenLink (begin : Begin) (first now : View) (total chunks : ℕ) (oc
   pub few : length tasks ≤ 2 * total
 
 pub none_taken : (begin : Begin) (first : View) (octets : ℕ → List ℕ) → IsJustOpened begin first → begin.rows ≡ MOST_KEYS → IsWhole MOST_KEYS first
-    → Starts begin receiver_bare (receiving (each 0) (each 0)) → TakenLink begin first first 0 0 octets
+    → Starts begin receiver_bare (receiving begun (each 0)) → TakenLink begin first first 0 0 octets
 none_taken begin first octets opened rows whole starts = record {
   tasks = [];
   deeds = [];
@@ -73,7 +73,7 @@ none_taken begin first octets opened rows whole starts = record {
 
 -- One more chunk. All its frames were sent, and no answer of the receiver says that memory ran out.
 module _ (once : OpensOnce) (begin : Begin) (first now next : View) (chunk : ℕ) (octets longer : ℕ → List ℕ) (numbers : ℕ → ℕ)
-    (starts : Starts begin receiver_bare (receiving (each 0) (each 0))) (so_far : TakenLink begin first now (256 * chunk) chunk octets)
+    (starts : Starts begin receiver_bare (receiving begun (each 0))) (so_far : TakenLink begin first now (256 * chunk) chunk octets)
     (later : List Answer) (codes : All IsSent later) (short : length later ≤ 256) (few : 256 * chunk + length later ≤ 100000)
     (same : (i : ℕ) → i < 256 * chunk → octets i ≡ longer i) (own : (j : ℕ) → j < length later → longer (256 * chunk + j) ≡ (at later j).body)
     (sent : AreSent (256 * chunk + length later) numbers longer) (opened : List Answer)
