@@ -3,7 +3,7 @@ pub mod Released
 pub mod Frames
 pub mod Given
 pub mod Carrying
-pub mod Rising
+pub mod InOrder
 pub mod Apart
 pub mod Linking
 pub mod Devices

@@ -5,7 +5,7 @@ use Rattle.std.proofs.lemmas.List.Elements.{All-contains}
 use Rattle.link_world.specs.declared.link.LinkEvent.{LinkEvent}
 use Rattle.link_world.specs.Link.{arrivals}
 use Rattle.run_promise.specs.Life.{Given, LifeRun, IsLife, OnceInLife, given_in}
-use Rattle.law_links.specs.Ascending.{NumbersAscend}
+use Rattle.law_links.specs.InOrder.{NumbersInOrder}
 use Rattle.law_links.specs.Carried.{AcceptsFrame, AreRepeated, BindingsAgree, IsCarried}
 use Rattle.law_links.specs.Linked.{AssociationsAgree, DeliversReleased, LinkHolds, released_in}
 use Rattle.law_links.proofs.Released.{numbered}
@@ -26,14 +26,14 @@ FramesOnce = (image other : List ℕ) (sender receiver : List LifeRun) → IsLif
 abbrev pub NumbersOnce : Type 0
 NumbersOnce = (image : List ℕ) (runs : List LifeRun) → IsLife image runs → OnceInLife runs
 
-abbrev pub Ascends : Type 0
-Ascends = (image : List ℕ) (runs : List LifeRun) → IsLife image runs → (key : ℕ) → NumbersAscend key runs
+abbrev pub InOrder : Type 0
+InOrder = (image : List ℕ) (runs : List LifeRun) → IsLife image runs → (key : ℕ) → NumbersInOrder key runs
 
-pub holds : WereReleased → Carries → FramesOnce → NumbersOnce → Ascends → (image other : List ℕ)
+pub holds : WereReleased → Carries → FramesOnce → NumbersOnce → InOrder → (image other : List ℕ)
     (sender receiver : List LifeRun) → IsLife image sender → IsLife other receiver → (key : ℕ) (events : List LinkEvent)
     → DeliversReleased key events sender receiver → AssociationsAgree key sender receiver
     → LinkHolds key sender receiver
-holds released carries frames numbers ascends image other sender receiver life again key events delivers agree =
+holds released carries frames numbers order image other sender receiver life again key events delivers agree =
     record {
       carried = λ got there accepts.
           let (frame, arrived, from) = delivers got there accepts in
@@ -50,5 +50,5 @@ holds released carries frames numbers ascends image other sender receiver life a
           );
       frames_once = frames image other sender receiver life again key agree;
       numbers_once = λ i j d lt low number. (numbers other receiver again i j d lt low).accepted key number;
-      ascend = ascends other receiver again key;
+      in_order = order other receiver again key;
     }

@@ -7,7 +7,7 @@ use Rattle.link_world.specs.Link.{arrivals}
 use Rattle.record_io.specs.declared.code.TheConstants.{PROTECTED}
 use Rattle.run_promise.specs.Answers.{Accepts}
 use Rattle.run_promise.specs.Life.{Given, LifeRun, given_in}
-use Rattle.law_links.specs.Ascending.{NumbersAscend}
+use Rattle.law_links.specs.InOrder.{NumbersInOrder}
 use Rattle.law_links.specs.Carried.{AcceptsFrame, AcceptsUnder, AreRepeated, BindingsAgree, IsCarried}
 
 -- the answers of a life that release a frame, in order
@@ -29,11 +29,11 @@ AssociationsAgree key sender receiver = (sent got : Given) → Contains (release
     → Contains (given_in receiver) got → AcceptsFrame key sent got → BindingsAgree sent got
 
 -- Each frame that the receiver accepts under the key is one that the sender released, with its number and its data
--- field; none is accepted twice, nor a number of the key; and the numbers accepted ascend.
+-- field; none is accepted twice, nor a number of the key; and the numbers accepted stand in order.
 pub record LinkHolds (key : ℕ) (sender receiver : List LifeRun) : Type 0 where
   pub carried : (got : Given) → Contains (given_in receiver) got → AcceptsUnder key got
       → (sent : Given) × Contains (released_in sender) sent × IsCarried sent got
   pub frames_once : AllPairs (λ one two. ¬ AreRepeated key (released_in sender) one two) (given_in receiver)
   pub numbers_once : AllPairs (λ one two. (number : ℕ) → Accepts one.deed.answer key number
       → ¬ Accepts two.deed.answer key number) (given_in receiver)
-  pub ascend : NumbersAscend key receiver
+  pub in_order : NumbersInOrder key receiver

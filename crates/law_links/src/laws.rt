@@ -6,7 +6,7 @@ ghost use Rattle.frame_shield.specs.Opens.{Opens};
 ghost use Rattle.frame_shield.specs.Protects.{Protects};
 ghost use Rattle.link_world.specs.declared.link.LinkEvent.{LinkEvent};
 ghost use Rattle.run_promise.specs.Life.{Given, given_in, IsLife, LifeRun};
-ghost use Rattle.law_links.specs.Ascending.{NumbersAscend};
+ghost use Rattle.law_links.specs.InOrder.{NumbersInOrder};
 ghost use Rattle.law_links.specs.Carried.{AcceptsFrame, AgreeOn, AreRepeated, BindingsAgree, IsCarried, IsDataField};
 ghost use Rattle.law_links.specs.Linked.{AssociationsAgree, DeliversReleased, LinkHolds, released_in};
 ghost use Rattle.law_links.specs.Triples.{AreTriplesApart, HaveDevice, SaysDevice};
@@ -48,16 +48,17 @@ pub fn released_is_accepted_once()
     used_once_in_a_life();
 }
 
-/// Law: over the life of a unit the numbers that it accepts under a key ascend, in the order of its history.
-pub fn accepted_ascend()
-    ensures { (image : List ℕ) (runs : List LifeRun) → IsLife image runs → (key : ℕ) → NumbersAscend key runs }
+/// Law: over the life of a unit the numbers that it accepts under a key stand in order: they ascend in its history, but
+/// for those that a back window accepts late.
+pub fn accepted_in_order()
+    ensures { (image : List ℕ) (runs : List LifeRun) → IsLife image runs → (key : ℕ) → NumbersInOrder key runs }
 {
     shows_one();
 }
 
 /// Law: two units on one link. If the link delivers only what the sender released, and each association that accepts a
 /// frame under a key agrees with the one that protected it, then what the receiver accepts under that key is what the
-/// sender released, once, and in ascending order of number.
+/// sender released, once, and in ascending order of number but for what a back window accepts late.
 pub fn two_units_on_one_link()
     ensures { (image other : List ℕ) (sender receiver : List LifeRun) → IsLife image sender → IsLife other receiver
         → (key : ℕ) (events : List LinkEvent) → DeliversReleased key events sender receiver
@@ -67,7 +68,7 @@ pub fn two_units_on_one_link()
     accepted_is_what_was_released();
     released_is_accepted_once();
     used_once_in_a_life();
-    accepted_ascend();
+    accepted_in_order();
 }
 
 /// Law: over the life of a unit the device field stays that of the plan from which its first image was made.

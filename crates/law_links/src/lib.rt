@@ -8,6 +8,6 @@
 mod laws;
 
 pub use laws::{
-    accepted_ascend, accepted_is_what_was_released, no_triple_twice, one_device_in_a_life,
+    accepted_in_order, accepted_is_what_was_released, no_triple_twice, one_device_in_a_life,
     released_frame_opens, released_is_accepted_once, two_units_on_one_link,
 };

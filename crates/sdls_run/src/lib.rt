@@ -16,7 +16,7 @@ mod top;
 
 // The laws on what `run` promises: of two units on one link, of lives, of what a status says, and of one lane alone.
 pub use law_links::{
-    accepted_ascend, no_triple_twice, one_device_in_a_life, two_units_on_one_link,
+    accepted_in_order, no_triple_twice, one_device_in_a_life, two_units_on_one_link,
 };
 pub use law_runs::{
     covered_in_a_life, due_is_put, faults_are_told, full_is_told, goes_to_its_end,

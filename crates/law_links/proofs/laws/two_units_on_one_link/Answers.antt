@@ -5,4 +5,4 @@ pub returns : goal.returns
 returns c =
     holds c.arrivals_were_released.ensures.below c.accepted_is_what_was_released.ensures
     c.released_is_accepted_once.ensures
-    c.used_once_in_a_life.ensures c.accepted_ascend.ensures
+    c.used_once_in_a_life.ensures c.accepted_in_order.ensures
