@@ -15,6 +15,7 @@ use Rattle.sdls_base.specs.declared.states.Suite.TheVariants.{Cmac, Gcm}
 use Rattle.text_words.specs.Words.{key_state_word, sa_state_word, direction_word, suite_word}
 use Rattle.ep_codec.specs.declared.reply_pdu.ReplyPdu.{ReplyPdu}
 use Rattle.ep_codec.specs.declared.reply_pdu.ReplyPdu.TheVariants as replies
+use Rattle.replay_window.specs.WindowField.{back_of}
 use Rattle.record_io.specs.declared.answers.Answer.{Answer}
 use Rattle.answer_text.specs.declared.codes.Code.{Code}
 use Rattle.answer_text.specs.declared.codes.Code.TheVariants.{Protected, Accepted, Clear, Done, Refused, Monitored, MonitorFault, Layout, Channel, Spi, Direction, State, Coverage, Mac, Number, Exhausted, SiteFault, Stopped, NoMemory, End}
@@ -115,6 +116,10 @@ plain_reply_name (replies.Compose master vector sealed tag) = refl
 plain_reply_name (replies.ReadNumber spi count) = refl
 plain_reply_name (replies.Status spi state direction suite key window) = refl
 
+plain_back : (b : Bool) (back : ℕ) → are_plain_parts (if b then [] else named (codes "back") back ∷ []) ≡ true
+plain_back true back = refl
+plain_back false back = refl
+
 plain_reply_values : (reply : ReplyPdu) → are_plain_parts (reply_values reply) ≡ true
 unfolding reply_values
 plain_reply_values replies.Rekeying = refl
@@ -135,7 +140,7 @@ plain_reply_values (replies.Inventory total keys) = both (are_plain_rows keys) t
 plain_reply_values (replies.Compose master vector sealed tag) = refl
 plain_reply_values (replies.ReadNumber spi count) = refl
 plain_reply_values (replies.Status spi state direction suite key window) =
-    rw (plain_direction direction, plain_suite suite, plain_sa_state state) refl
+    rw (plain_direction direction, plain_suite suite, plain_sa_state state, plain_back (back_of window == 0) (back_of window)) refl
 
 plain_drawn_if : (bare : Bool) (key count : ℕ) → are_plain_parts (if bare then [] else Part.drawn key count ∷ []) ≡ true
 plain_drawn_if true key count = refl

@@ -1,5 +1,6 @@
 -- The parts of a reply (profile).
-use Rattle.std.specs.Prelude.{ℕ, codes, List, [], ◌∷◌, unwrap_or}
+use Rattle.std.specs.Prelude.{ℕ, ◌==◌, if◌then◌else◌, codes, List, [], ◌∷◌, unwrap_or}
+use Rattle.replay_window.specs.WindowField.{back_of, width_of}
 use Rattle.ep_codec.specs.declared.reply_pdu.ReplyPdu.{ReplyPdu}
 use Rattle.ep_codec.specs.declared.reply_pdu.ReplyPdu.TheVariants.{Rekeying, Activate, Deactivate, Destroy, Create}
 use Rattle.ep_codec.specs.declared.reply_pdu.ReplyPdu.TheVariants.{Delete, SetWindow, Rekey, Expire, SetNumber, Start}
@@ -39,6 +40,11 @@ abbrev pub sealed_parts : List ℕ → List ℕ → List ℕ → List Part
 sealed_parts vector sealed tag =
     octets (codes "vector") vector ∷ octets (codes "sealed") sealed ∷ octets (codes "tag") tag ∷ []
 
+-- a window field: its width, and its back window if it has one
+abbrev pub window_field_parts : ℕ → List Part
+window_field_parts field = named (codes "window") (width_of field)
+    ∷ (if back_of field == 0 then [] else named (codes "back") (back_of field) ∷ [])
+
 -- what the reply carries
 unfoldable pub reply_values : ReplyPdu → List Part
 reply_values Rekeying = []
@@ -62,4 +68,4 @@ reply_values (ReadNumber spi count) = named (codes "spi") spi ∷ named (codes "
 reply_values (Status spi state direction suite key window) =
     named (codes "spi") spi ∷ word (codes "direction") (direction_word direction)
     ∷ word (codes "suite") (suite_word suite) ∷ word (codes "state") (sa_state_word state)
-    ∷ named (codes "key") (unwrap_or key 0) ∷ named (codes "window") window ∷ []
+    ∷ named (codes "key") (unwrap_or key 0) ∷ window_field_parts window

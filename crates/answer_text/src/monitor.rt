@@ -24,7 +24,7 @@ use std::alloc::Global;
 use text_words::put_octets;
 
 /// What a monitoring message asked for.
-#[derive(Clone, Copy, Debug, PartialEq, Eq)]
+#[derive(Clone, Copy, PartialEq, Eq)]
 pub(crate) enum MonitorReply {
     Ping,
     LogStatus,

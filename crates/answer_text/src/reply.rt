@@ -2,12 +2,13 @@
 ghost use Rattle.std.specs.Prelude.{◌≡◌, ◌++◌, ◌∷◌, [], OnOk};
 ghost use Rattle.ep_codec.specs.declared.reply_pdu.ReplyPdu.TheVariants as replies;
 ghost use Rattle.answer_text.specs.Part.{parts_text};
-ghost use Rattle.answer_text.specs.Reply.{procedure, reply_name, reply_values, sealed_parts};
+ghost use Rattle.answer_text.specs.Reply.{procedure, reply_name, reply_values, sealed_parts, window_field_parts};
 
 use crate::form::Form;
 use crate::putting::{put_named, put_named_octets, put_number, put_word};
 use crate::rows::put_rows;
 use ep_codec::ReplyPdu;
+use replay_window::{back_of, width_of};
 use sdls_base::{Direction, KeyId, NoMemory, SaState, Spi, Suite};
 use std::alloc::Global;
 use text_words::{direction_word, sa_state_word, suite_word};
@@ -71,6 +72,18 @@ fn put_sealed(
     put_named_octets(alloc, text, form, b"tag", tag)
 }
 
+/// Puts the width of a window field, and its back window if it has one.
+fn put_window(text: &mut Vec<u8>, form: Form, window: u64) -> Result<(), NoMemory>
+    ensures { OnOk result (text.new.items ≡ text.old.items ++ parts_text form (window_field_parts window)) }
+{
+    put_named(text, form, b"window", width_of(window))?;
+    let back = back_of(window);
+    if back == 0 {
+        return Ok(());
+    }
+    put_named(text, form, b"back", u64::from(back))
+}
+
 /// Puts what the reply of `status` carries.
 #[tactic(auto, unfolding(crate::specs::Reply::reply_values))]
 fn put_status(
@@ -96,7 +109,7 @@ fn put_status(
         b"key",
         u64::from(key.map_or(0, |key| key.get())),
     )?;
-    put_named(text, form, b"window", window)
+    put_window(text, form, window)
 }
 
 /// Puts what the reply carries.

@@ -1,4 +1,5 @@
 pub mod Texts
+pub mod Windows
 pub mod NumberLists
 pub mod ChannelLists
 pub mod CommandLengths

@@ -1,7 +1,8 @@
 -- The words of the commands (profile).
-use Rattle.std.specs.Prelude.{⊤, ℕ, decimal, map, List, [], ◌∷◌}
+use Rattle.std.specs.Prelude.{⊤, ℕ, ◌==◌, if◌then◌else◌, codes, decimal, map, List, [], ◌∷◌, ◌++◌}
 use Rattle.hex.specs.Hex.{encode_lower, IsBytes}
 use Rattle.sdls_base.specs.declared.change.NewSa.{NewSa}
+use Rattle.replay_window.specs.WindowField.{back_of, width_of}
 use Rattle.ep_codec.specs.Command.{IsInBounds, HasTypes}
 use Rattle.ep_codec.specs.declared.procedure.Procedure.{Procedure}
 use Rattle.ep_codec.specs.declared.procedure.Procedure.TheVariants as procedures
@@ -13,6 +14,14 @@ use Rattle.ep_codec.specs.declared.command.Command.TheVariants.{Inventory, Compo
 use Rattle.ep_codec.specs.declared.command.Command.TheVariants.{SetWindow, Rekey, Expire, SetNumber, Start, Stop}
 use Rattle.ep_codec.specs.declared.command.Command.TheVariants.{Status}
 use Rattle.input_text.specs.Name.{name_word}
+
+-- a back window, if there is one
+abbrev pub back_words : ℕ → List (List ℕ)
+back_words back = if back == 0 then [] else codes "back" ∷ decimal back ∷ []
+
+-- a window field: its width, and its back window if it has one
+abbrev pub window_words : ℕ → List (List ℕ)
+window_words field = decimal (width_of field) ∷ back_words (back_of field)
 
 -- the values of a command, a word each, in the order of its message: numbers are decimal, octets hexadecimal
 unfoldable pub value_words : Command → List (List ℕ)
@@ -26,9 +35,10 @@ value_words (Inventory first last) = decimal first ∷ decimal last ∷ []
 value_words (Compose master keys) = decimal master ∷ map decimal keys
 value_words (ReadNumber spi) = decimal spi ∷ []
 value_words (Create sa) =
-    decimal sa.spi ∷ direction_word sa.direction ∷ suite_word sa.suite ∷ decimal sa.window ∷ map decimal sa.channels
+    decimal sa.spi ∷ direction_word sa.direction ∷ suite_word sa.suite
+    ∷ (window_words sa.window ++ map decimal sa.channels)
 value_words (Delete spi) = decimal spi ∷ []
-value_words (SetWindow spi window) = decimal spi ∷ decimal window ∷ []
+value_words (SetWindow spi window) = decimal spi ∷ window_words window
 value_words (Rekey spi key number) = decimal spi ∷ decimal key ∷ decimal number ∷ []
 value_words (Expire spi) = decimal spi ∷ []
 value_words (SetNumber spi number) = decimal spi ∷ decimal number ∷ []

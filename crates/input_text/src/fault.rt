@@ -45,6 +45,8 @@ pub enum Expected {
     Suite,
     #[error("a window, 1 to 4294967296")]
     Window,
+    #[error("a back window, 1 to 64")]
+    Back,
     #[error("a channel, 0 to 63")]
     Channel,
     #[error("a channel above the one before it")]

@@ -1,11 +1,14 @@
 //! The words of a line, taken from left to right.
-ghost use Rattle.std.specs.Prelude.{◌≡◌, ◌≢◌, ◌^◌, ◌<◌, ◌≤◌, ℕ, List, [], ◌∷◌, decimal, length, IsOk, IfOk, IfSome};
-ghost use Rattle.std.specs.Prelude.{Some, MatchOption, MatchResult, IsTrue};
+ghost use Rattle.std.specs.Prelude.{◌≡◌, ◌≢◌, ◌^◌, ◌<◌, ◌≤◌, ℕ, List, [], ◌∷◌, ◌++◌, codes, decimal, length};
+ghost use Rattle.std.specs.Prelude.{Some, None, IsOk, IfOk, IfSome, MatchOption, MatchResult, IsTrue};
+ghost use Rattle.std.specs.Option.{option_map_or};
 ghost use Rattle.hex.specs.Hex.{encode_lower, IsBytes};
 ghost use Rattle.ep_codec.specs.Field.{is_key, is_spi};
 ghost use Rattle.unit_plan.specs.Lines.{words_of};
+ghost use Rattle.replay_window.specs.WindowField.{IsWindowField};
 ghost use Rattle.input_text.specs.Plain.{said_words};
 ghost use Rattle.text_words.specs.Words.{octets_word};
+ghost use Rattle.input_text.specs.Command.{window_words};
 ghost use Rattle.input_text.specs.Fields.{AnswersField, IsFault, IsNoMemory, AreRecorded};
 
 use crate::fault::{Expected, LineError, LineFault};
@@ -13,7 +16,8 @@ use crate::seen::Seen;
 use hex::FromHexError;
 use itoa::Buffer;
 use record_io::MOST_RECORD_OCTETS;
-use sdls_base::{KeyId, Octets, Spi};
+use replay_window::{MOST_BACK, window_field};
+use sdls_base::{KeyId, MOST_WINDOW, Octets, Spi};
 use std::alloc::{AllocError, Global};
 use std::marker::Model;
 use std::str;
@@ -55,6 +59,7 @@ fn take_word<'a>(words: &mut Words<'a>, place: &mut Place) -> Option<&'a [u8]>
             None => {}
             Some(b'#') => {
                 place.len = 0;
+                place.next = place.at;
                 *words = Words::of(&[]);
                 return None;
             }
@@ -65,6 +70,24 @@ fn take_word<'a>(words: &mut Words<'a>, place: &mut Place) -> Option<&'a [u8]>
     None
 }
 
+/// Takes the word that was given back, or else the next one from these, if there is one.
+fn take_next<'a>(
+    ahead: &mut Option<&'a [u8]>,
+    words: &mut Words<'a>,
+    place: &mut Place,
+) -> Option<&'a [u8]>
+    ensures empty { ahead.new ≡ None }
+    ensures taken { let later = said_words words.old in
+        let left = option_map_or (λ word. word.now ∷ later) ahead.old later in
+        MatchOption result ((left ≡ []) × (said_words words.new ≡ []))
+        (λ word. left ≡ word.now ∷ said_words words.new) }
+{
+    match ahead.take() {
+        Some(word) => Some(word),
+        None => take_word(words, place),
+    }
+}
+
 /// The words that are left of a line, which it takes from the line as it is read. It counts those that were taken, and
 /// knows where the last one stands, for messages.
 #[derive(Drop)]
@@ -72,17 +95,21 @@ pub(crate) struct Fields<'a> {
     line: &'a [u8],
     plain: &'a [u8],
     words: Words<'a>,
+    /// A word that was taken, and given back.
+    ahead: Option<&'a [u8]>,
     taken: usize,
     place: Place,
 }
 
 impl<'a> Model for Fields<'a> {
-    ghost use Rattle.std.specs.Prelude.{List, ℕ};
+    ghost use Rattle.std.specs.Prelude.{◌∷◌, List, ℕ};
+    ghost use Rattle.std.specs.Option.{option_map_or};
     ghost use Rattle.input_text.specs.Plain.{said_words};
 
     ghost Value = { List (List ℕ) };
 
-    ghost view = { λ fields. said_words fields.words };
+    ghost view = { λ fields. option_map_or (λ word. word.now ∷ said_words fields.words) fields.ahead
+        (said_words fields.words) };
 }
 
 /// The number that the word spells in decimal digits.
@@ -153,6 +180,7 @@ impl<'a> Fields<'a> {
             line,
             plain,
             words: Words::of(plain),
+            ahead: None,
             taken: 0,
             place: Place {
                 at: 0,
@@ -192,7 +220,25 @@ impl<'a> Fields<'a> {
         ensures { MatchOption result ((self.old ≡ []) × (self.new ≡ [])) (λ word. self.old ≡ word.now ∷ self.new) }
     {
         self.taken = self.taken.saturating_add(1);
-        take_word(&mut self.words, &mut self.place)
+        take_next(&mut self.ahead, &mut self.words, &mut self.place)
+    }
+
+    /// Takes the word `back`, if it is the next.
+    fn takes_back(&mut self) -> bool
+        ensures taken { IsTrue result → self.old ≡ codes "back" ∷ self.new }
+        ensures left { ¬ IsTrue result → self.new ≡ self.old }
+        ensures only { (rest : List (List ℕ)) → self.old ≡ codes "back" ∷ rest → IsTrue result }
+    {
+        match take_next(&mut self.ahead, &mut self.words, &mut self.place) {
+            Some(word) if word == b"back".as_slice() => {
+                self.taken = self.taken.saturating_add(1);
+                true
+            }
+            word => {
+                self.ahead = word;
+                false
+            }
+        }
     }
 
     /// Takes a number.
@@ -221,6 +267,21 @@ impl<'a> Fields<'a> {
             return Err(self.fault(expected));
         }
         Ok(n)
+    }
+
+    /// Takes a window: its width, and its back window behind the word `back`, if it has one.
+    pub fn window(&mut self) -> Result<u64, LineError>
+        ensures read { IfOk result (λ window. (self.old ≡ window_words window ++ self.new) × IsWindowField window) }
+        ensures only { (window : ℕ) (rest : List (List ℕ)) → IsWindowField window
+            → ((words : List (List ℕ)) → rest ≢ codes "back" ∷ words) → self.old ≡ window_words window ++ rest
+            → AnswersField result window }
+    {
+        let width = self.bounded(Expected::Window, 1, MOST_WINDOW)?;
+        if !self.takes_back() {
+            return Ok(width);
+        }
+        let back = self.bounded(Expected::Back, 1, u64::from(MOST_BACK))?;
+        Ok(window_field(back as u8, width))
     }
 
     /// The key that a word names, which was taken last.
@@ -362,6 +423,17 @@ impl<'a> Fields<'a> {
         let n = self.bounded(expected, least, most)?;
         self.end(Expected::End)?;
         Ok(n)
+    }
+
+    /// Takes a window, the last words.
+    pub fn last_window(&mut self) -> Result<u64, LineError>
+        ensures read { IfOk result (λ window. (self.old ≡ window_words window) × IsWindowField window) }
+        ensures only { (window : ℕ) → IsWindowField window → self.old ≡ window_words window
+            → AnswersField result window }
+    {
+        let window = self.window()?;
+        self.end(Expected::End)?;
+        Ok(window)
     }
 
     /// Takes the index of an association, the last word.

@@ -1,9 +1,10 @@
 //! The values of commands.
 #![tactic(auto, unfolding(crate::specs::Command::value_words, crate::specs::Command::HasOctets, ep_codec::specs::Command::IsInBounds, ep_codec::specs::Command::HasTypes))]
 
-ghost use Rattle.std.specs.Prelude.{◌≡◌, ◌≤◌, ◌^◌, ◌<◌, ℕ, List, length, IfOk, IsTrue, [], ◌∷◌, map, decimal};
+ghost use Rattle.std.specs.Prelude.{◌≡◌, ◌≤◌, ◌^◌, ◌<◌, ℕ, List, length, IfOk, IsTrue, [], ◌∷◌, ◌++◌, map, decimal};
 ghost use Rattle.std.specs.List.{AllByRecursion};
-ghost use Rattle.sdls_base.specs.Bounds.{AreChannels, IsKeyCount, IsWidth};
+ghost use Rattle.sdls_base.specs.Bounds.{AreChannels, IsKeyCount};
+ghost use Rattle.replay_window.specs.WindowField.{IsWindowField};
 ghost use Rattle.hex.specs.Hex.{encode_lower, IsBytes};
 ghost use Rattle.ep_codec.specs.Field.{is_key, is_spi};
 ghost use Rattle.ep_codec.specs.Command.{AreKeys, IsSealedLength};
@@ -12,13 +13,13 @@ ghost use Rattle.ep_codec.specs.CommandReading.{command_procedure};
 ghost use Rattle.ep_codec.specs.declared.procedure.Procedure.TheVariants as procedures;
 ghost use Rattle.text_words.specs.Words.{direction_word, suite_word};
 ghost use Rattle.input_text.specs.Fields.{AnswersField};
-ghost use Rattle.input_text.specs.Command.{value_words, IsCommand};
+ghost use Rattle.input_text.specs.Command.{value_words, window_words, IsCommand};
 
 use crate::fault::{Expected, LineError};
 use crate::fields::Fields;
 use crate::lists::{channels, keys};
 use ep_codec::Command;
-use sdls_base::{Direction, KeyId, MOST_WINDOW, NewSa, Octets, Suite};
+use sdls_base::{Direction, KeyId, NewSa, Octets, Suite};
 use std::alloc::Global;
 
 /// A key, and a number, the last words.
@@ -145,12 +146,12 @@ pub(crate) fn rekeying(alloc: Global, fields: &mut Fields<'_>) -> Result<Command
 pub(crate) fn set_window(fields: &mut Fields<'_>) -> Result<Command, LineError>
     ensures read { IfOk result (λ command. (fields.old ≡ value_words command) × IsCommand command
         × (command_procedure command ≡ procedures.SetWindow)) }
-    ensures only { (spi window : ℕ) → IsTrue (is_spi spi) → IsWidth window
+    ensures only { (spi window : ℕ) → IsTrue (is_spi spi) → IsWindowField window
         → fields.old ≡ value_words (commands.SetWindow spi window)
         → AnswersField result (commands.SetWindow spi window) }
 {
     let spi = fields.spi()?;
-    let window = fields.last_number(Expected::Window, 1, MOST_WINDOW)?;
+    let window = fields.last_window()?;
     Ok(Command::SetWindow { spi, window })
 }
 
@@ -168,13 +169,13 @@ pub(crate) fn compose(alloc: Global, fields: &mut Fields<'_>) -> Result<Command,
 
 /// A window, and channels, the last words.
 fn window_and_channels(alloc: Global, fields: &mut Fields<'_>) -> Result<(u64, Octets), LineError>
-    ensures read { IfOk result (λ read. (fields.old ≡ decimal read.0 ∷ map decimal read.1) × IsWidth read.0
+    ensures read { IfOk result (λ read. (fields.old ≡ window_words read.0 ++ map decimal read.1) × IsWindowField read.0
         × AreChannels read.1 × AllByRecursion (λ channel. channel ≤ 63) read.1) }
-    ensures only { (window : ℕ) (covered : List ℕ) → IsWidth window → AreChannels covered
+    ensures only { (window : ℕ) (covered : List ℕ) → IsWindowField window → AreChannels covered
         → AllByRecursion (λ channel. channel ≤ 63) covered
-        → fields.old ≡ decimal window ∷ map decimal covered → AnswersField result (window, covered) }
+        → fields.old ≡ window_words window ++ map decimal covered → AnswersField result (window, covered) }
 {
-    let window = fields.bounded(Expected::Window, 1, MOST_WINDOW)?;
+    let window = fields.window()?;
     let channels = channels(alloc, fields)?;
     Ok((window, channels))
 }
@@ -205,11 +206,11 @@ fn suite(fields: &mut Fields<'_>) -> Result<Suite, LineError>
 
 /// A suite, a window, and channels, the last words.
 fn from_suite(alloc: Global, fields: &mut Fields<'_>) -> Result<(Suite, u64, Octets), LineError>
-    ensures read { IfOk result (λ read. (fields.old ≡ suite_word read.0 ∷ decimal read.1 ∷ map decimal read.2)
-        × IsWidth read.1 × AreChannels read.2 × AllByRecursion (λ channel. channel ≤ 63) read.2) }
-    ensures only { (suite : Suite) (window : ℕ) (covered : List ℕ) → IsWidth window → AreChannels covered
+    ensures read { IfOk result (λ read. (fields.old ≡ suite_word read.0 ∷ (window_words read.1 ++ map decimal read.2))
+        × IsWindowField read.1 × AreChannels read.2 × AllByRecursion (λ channel. channel ≤ 63) read.2) }
+    ensures only { (suite : Suite) (window : ℕ) (covered : List ℕ) → IsWindowField window → AreChannels covered
         → AllByRecursion (λ channel. channel ≤ 63) covered
-        → fields.old ≡ suite_word suite ∷ decimal window ∷ map decimal covered
+        → fields.old ≡ suite_word suite ∷ (window_words window ++ map decimal covered)
         → AnswersField result (suite, window, covered) }
 {
     let suite = suite(fields)?;
@@ -223,11 +224,11 @@ fn from_direction(
     fields: &mut Fields<'_>,
 ) -> Result<(Direction, Suite, u64, Octets), LineError>
     ensures read { IfOk result (λ read. (fields.old
-        ≡ direction_word read.0 ∷ suite_word read.1 ∷ decimal read.2 ∷ map decimal read.3)
-        × IsWidth read.2 × AreChannels read.3 × AllByRecursion (λ channel. channel ≤ 63) read.3) }
-    ensures only { (direction : Direction) (suite : Suite) (window : ℕ) (covered : List ℕ) → IsWidth window
+        ≡ direction_word read.0 ∷ suite_word read.1 ∷ (window_words read.2 ++ map decimal read.3))
+        × IsWindowField read.2 × AreChannels read.3 × AllByRecursion (λ channel. channel ≤ 63) read.3) }
+    ensures only { (direction : Direction) (suite : Suite) (window : ℕ) (covered : List ℕ) → IsWindowField window
         → AreChannels covered → AllByRecursion (λ channel. channel ≤ 63) covered
-        → fields.old ≡ direction_word direction ∷ suite_word suite ∷ decimal window ∷ map decimal covered
+        → fields.old ≡ direction_word direction ∷ suite_word suite ∷ (window_words window ++ map decimal covered)
         → AnswersField result (direction, suite, window, covered) }
 {
     let direction = direction(fields)?;
@@ -238,7 +239,7 @@ fn from_direction(
 pub(crate) fn create(alloc: Global, fields: &mut Fields<'_>) -> Result<Command, LineError>
     ensures read { IfOk result (λ command. (fields.old ≡ value_words command) × IsCommand command
         × (command_procedure command ≡ procedures.Create)) }
-    ensures only { (sa : NewSa) → IsTrue (is_spi sa.spi) → IsWidth sa.window → AreChannels sa.channels
+    ensures only { (sa : NewSa) → IsTrue (is_spi sa.spi) → IsWindowField sa.window → AreChannels sa.channels
         → AllByRecursion (λ channel. channel ≤ 63) sa.channels
         → fields.old ≡ value_words (commands.Create sa) → AnswersField result (commands.Create sa) }
 {

@@ -14,7 +14,8 @@ use Rattle.sdls_base.specs.declared.states.Direction.{Direction}
 use Rattle.sdls_base.specs.declared.states.Direction.TheVariants.{Send, Receive}
 use Rattle.sdls_base.specs.declared.states.Suite.{Suite}
 use Rattle.sdls_base.specs.declared.states.Suite.TheVariants.{Cmac, Gcm}
-use Rattle.sdls_base.specs.Bounds.{IsWidth}
+use Rattle.replay_window.specs.declared.TheConstants.{MOST_BACK}
+use Rattle.replay_window.specs.WindowField.{back_of, width_of, IsWindowField}
 use Rattle.ep_codec.specs.Field.{is_key, is_spi}
 use Rattle.ep_codec.specs.Command.{IsInBounds, HasTypes, AreKeys, IsSealedLength}
 use Rattle.ep_codec.specs.declared.command.Command.{Command}
@@ -22,7 +23,7 @@ use Rattle.ep_codec.specs.declared.command.Command.TheVariants.{Rekeying, Activa
 use Rattle.input_text.specs.declared.line.Line.{Line}
 use Rattle.input_text.specs.declared.line.Line.TheVariants as lines
 use Rattle.text_words.specs.Words.{direction_word, octets_word, suite_word}
-use Rattle.input_text.specs.Command.{value_words, command_words}
+use Rattle.input_text.specs.Command.{back_words, command_words, value_words, window_words}
 use Rattle.input_text.specs.Line.{IsLine, line_words}
 use Rattle.unit_plan.specs.Lines.{words_of, lines_of}
 use Rattle.input_text.specs.Plain.{line_said, said_words}
@@ -38,8 +39,23 @@ spi_plain spi is = let small : spi < 2 ^ 64 = grind (arith, nat_tests) in decima
 key_plain : (key : ℕ) → IsTrue (is_key key) → IsPlain (decimal key)
 key_plain key is = decimal_plain key (key_small key is)
 
-window_plain : (window : ℕ) → IsWidth window → IsPlain (decimal window)
-window_plain window is = let most = is.most in decimal_plain window (omega (arith, most))
+chosen_plain : (b : Bool) (words : List (List ℕ)) → ArePlain words → ArePlain (if b then [] else words)
+chosen_plain true words each = tt
+chosen_plain false words each = each
+
+back_plain : (back : ℕ) → back ≤ MOST_BACK → ArePlain (back_words back)
+back_plain back low =
+    chosen_plain (back == 0) (codes "back" ∷ decimal back ∷ [])
+    ((refl, refl, refl, refl), (decimal_plain back (omega (arith, low)), tt))
+
+window_plain : (window : ℕ) → IsWindowField window → ArePlain (window_words window)
+window_plain window is =
+    let most = is.width.most in
+    (decimal_plain (width_of window) (omega (arith, most)), back_plain (back_of window) is.back)
+
+append_plain : (words more : List (List ℕ)) → ArePlain words → ArePlain more → ArePlain (words ++ more)
+append_plain [] more each behind = behind
+append_plain (word ∷ words) more each behind = (each.0, append_plain words more each.1 behind)
 
 keys_plain : (keys : List ℕ) → AreKeys keys → ArePlain (map decimal keys)
 keys_plain keys are = decimals_plain (λ key. IsTrue (is_key key)) keys key_small are
@@ -79,15 +95,13 @@ values_plain (Create sa) bounds types = (
     direction_plain sa.direction,
     (
       suite_plain sa.suite,
-      (
-        window_plain sa.window bounds.0,
-        decimals_plain (λ channel. channel ≤ 63) sa.channels (λ channel few. omega arith) bounds.2,
-      ),
+      append_plain (window_words sa.window) (map decimal sa.channels) (window_plain sa.window bounds.0)
+          (decimals_plain (λ channel. channel ≤ 63) sa.channels (λ channel few. omega arith) bounds.2),
     ),
   ),
 )
 values_plain (Delete spi) bounds types = (spi_plain spi types, tt)
-values_plain (SetWindow spi window) bounds types = (spi_plain spi types, (window_plain window bounds, tt))
+values_plain (SetWindow spi window) bounds types = (spi_plain spi types, window_plain window bounds)
 values_plain (Rekey spi key number) bounds types =
     (spi_plain spi types.0, (key_plain key types.1, (decimal_plain number types.2, tt)))
 values_plain (Expire spi) bounds types = (spi_plain spi types, tt)

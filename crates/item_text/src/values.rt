@@ -3,11 +3,12 @@
 
 ghost use Rattle.std.specs.Prelude.{◌≡◌, ◌++◌, [], ◌∷◌, OnOk};
 ghost use Rattle.ep_codec.specs.declared.command.Command.TheVariants as commands;
-ghost use Rattle.input_text.specs.Command.{command_words, value_words};
+ghost use Rattle.input_text.specs.Command.{command_words, value_words, window_words};
 ghost use Rattle.item_text.specs.Spelling.{spaced};
 
 use crate::putting::{put_channels, put_digits, put_keys, put_number, put_word};
 use ep_codec::Command;
+use replay_window::{back_of, width_of};
 use sdls_base::{NewSa, NoMemory};
 use std::alloc::Global;
 use text_words::{direction_word, suite_word};
@@ -37,6 +38,19 @@ fn name(command: &Command) -> &'static [u8]
     }
 }
 
+/// Puts the width of a window field, and its back window if it has one.
+fn put_window(text: &mut Vec<u8>, window: u64) -> Result<(), NoMemory>
+    ensures { OnOk result (text.new.items ≡ text.old.items ++ spaced (window_words window)) }
+{
+    put_number(text, width_of(window))?;
+    let back = back_of(window);
+    if back == 0 {
+        return Ok(());
+    }
+    put_word(text, b"back")?;
+    put_number(text, u64::from(back))
+}
+
 /// Puts what an association is created with.
 fn put_association(text: &mut Vec<u8>, sa: &NewSa) -> Result<(), NoMemory>
     ensures { OnOk result (text.new.items ≡ text.old.items ++ spaced (value_words (commands.Create sa.now))) }
@@ -44,7 +58,7 @@ fn put_association(text: &mut Vec<u8>, sa: &NewSa) -> Result<(), NoMemory>
     put_number(text, u64::from(sa.spi.get()))?;
     put_word(text, direction_word(sa.direction))?;
     put_word(text, suite_word(sa.suite))?;
-    put_number(text, sa.window)?;
+    put_window(text, sa.window)?;
     put_channels(text, sa.channels.as_slice())
 }
 
@@ -82,7 +96,7 @@ fn put_values(alloc: Global, text: &mut Vec<u8>, command: &Command) -> Result<()
         Command::Create(sa) => put_association(text, sa),
         Command::SetWindow { spi, window } => {
             put_number(text, u64::from(spi.get()))?;
-            put_number(text, *window)
+            put_window(text, *window)
         }
         Command::Rekey { spi, key, number } => {
             put_number(text, u64::from(spi.get()))?;

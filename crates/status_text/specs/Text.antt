@@ -1,5 +1,5 @@
 -- The text that tells the state of a unit (profile): the slots, each key, each association, a line each.
-use Rattle.std.specs.Prelude.{ℕ, ◌+◌, List, [], ◌∷◌, ◌++◌, suc, zero, codes, decimal, unwrap_or}
+use Rattle.std.specs.Prelude.{ℕ, ◌+◌, ◌==◌, if◌then◌else◌, List, [], ◌∷◌, ◌++◌, suc, zero, codes, decimal, unwrap_or}
 use Rattle.std.specs.Option.{option_map_or}
 use Rattle.text_words.specs.Words.{direction_word, key_state_word, sa_state_word, suite_word}
 use Rattle.key_book.specs.declared.key_row.KeyRow.{KeyRow}
@@ -16,12 +16,19 @@ key_line row = codes "key " ++ decimal row.id ++ codes " " ++ key_state_word row
     ++ decimal row.mark
     ++ codes " floor " ++ decimal row.floor ++ codes "\n"
 
--- an association without a key has key 0
+-- a back window, if there is one
+abbrev pub back_text : ℕ → List ℕ
+back_text back = if back == 0 then [] else codes " back " ++ decimal back
+
+-- the key of an association, 0 if it has none, and its window
+unfoldable pub key_and_window : SaRow → List ℕ
+key_and_window row = codes " key " ++ decimal (unwrap_or row.key 0) ++ codes " window " ++ decimal row.window.width
+    ++ back_text row.window.back
+
 unfoldable pub association_line : SaRow → List ℕ
 association_line row = codes "sa " ++ decimal row.spi ++ codes " " ++ direction_word row.direction ++ codes " "
     ++ suite_word row.suite
-    ++ codes " " ++ sa_state_word row.state ++ codes " key " ++ decimal (unwrap_or row.key 0) ++ codes " window "
-    ++ decimal row.window.width
+    ++ codes " " ++ sa_state_word row.state ++ key_and_window row
     ++ codes "\n"
 
 -- a line for each key whose identifier is one of so many from the first on, ascending

@@ -1,6 +1,6 @@
 //! The lines, each put behind a text.
 ghost use Rattle.std.specs.Prelude.{◌≡◌, ◌++◌, OnOk};
-ghost use Rattle.status_text.specs.Text.{association_line, key_line, slots_line};
+ghost use Rattle.status_text.specs.Text.{association_line, back_text, key_and_window, key_line, slots_line};
 
 use key_book::KeyRow;
 use sa_book::SaRow;
@@ -35,14 +35,34 @@ pub(crate) fn put_key(text: &mut Vec<u8>, row: &KeyRow) -> Result<(), NoMemory>
     put_octets(text, b"\n")
 }
 
+/// Puts the back window, if there is one.
+fn put_back(text: &mut Vec<u8>, back: u8) -> Result<(), NoMemory>
+    ensures { OnOk result (text.new.items ≡ text.old.items ++ back_text back) }
+{
+    if back == 0 {
+        return Ok(());
+    }
+    put_octets(text, b" back ")?;
+    put_decimal(text, u64::from(back))
+}
+
+/// Puts the key of an association, and its window.
+#[tactic(auto, unfolding(crate::specs::Text::key_and_window))]
+fn put_key_and_window(text: &mut Vec<u8>, row: &SaRow) -> Result<(), NoMemory>
+    ensures { OnOk result (text.new.items ≡ text.old.items ++ key_and_window row.now) }
+{
+    let key = row.key.map_or(0, |key| key.get());
+    put_octets(text, b" key ")?;
+    put_decimal(text, u64::from(key))?;
+    put_octets(text, b" window ")?;
+    put_decimal(text, row.window.width)?;
+    put_back(text, row.window.back)
+}
+
 #[tactic(auto, unfolding(crate::specs::Text::association_line))]
 pub(crate) fn put_association(text: &mut Vec<u8>, row: &SaRow) -> Result<(), NoMemory>
     ensures { OnOk result (text.new.items ≡ text.old.items ++ association_line row.now) }
 {
-    let key = match row.key {
-        Some(key) => key.get(),
-        None => 0,
-    };
     put_octets(text, b"sa ")?;
     put_decimal(text, u64::from(row.spi.get()))?;
     put_octets(text, b" ")?;
@@ -51,9 +71,6 @@ pub(crate) fn put_association(text: &mut Vec<u8>, row: &SaRow) -> Result<(), NoM
     put_octets(text, suite_word(row.suite))?;
     put_octets(text, b" ")?;
     put_octets(text, sa_state_word(row.state))?;
-    put_octets(text, b" key ")?;
-    put_decimal(text, u64::from(key))?;
-    put_octets(text, b" window ")?;
-    put_decimal(text, row.window.width)?;
+    put_key_and_window(text, row)?;
     put_octets(text, b"\n")
 }
