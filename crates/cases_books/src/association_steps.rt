@@ -2,9 +2,9 @@
 //! behind it.
 use crate::associations;
 use case_lines::said;
-use replay_window::{Verdict, Window};
+use replay_window::{MOST_BACK, Verdict, Window, window_field};
 use sa_book::{SaBook, SaRefusal, SaRow};
-use sdls_base::ChannelId;
+use sdls_base::{ChannelId, MOST_WINDOW};
 use std::alloc::{AllocError, Global};
 use std::str::SplitWhitespace;
 
@@ -27,6 +27,15 @@ fn change_text(
     }
 }
 
+/// A back window, if there is one.
+fn back_text(alloc: Global, back: u8) -> Result<String, AllocError> {
+    if back == 0 {
+        Ok(String::new(alloc))
+    } else {
+        format!(in alloc; " back {back}")
+    }
+}
+
 fn row_text(alloc: Global, row: &SaRow) -> anyhow::Result<String> {
     let spi = row.spi.get();
     let (direction, suite, state) = (row.direction, row.suite, row.state);
@@ -36,17 +45,20 @@ fn row_text(alloc: Global, row: &SaRow) -> anyhow::Result<String> {
     };
     let channels = hex::encode(alloc, row.channels.as_slice())?;
     let (high, width) = (row.window.high, row.window.width);
+    let back = back_text(alloc, row.window.back)?;
     Ok(format!(in alloc;
-        "{spi} {direction:?} {suite:?} {state:?} key {key} channels {channels} high {high} width {width}"
+        "{spi} {direction:?} {suite:?} {state:?} key {key} channels {channels} high {high} width {width}{back}"
     )?)
 }
 
-/// What a window says of a number: `HIGH WIDTH NUMBER END`.
+/// What a window without a back window says of a number: `HIGH WIDTH NUMBER END`.
 fn judge(alloc: Global, words: &mut SplitWhitespace<'_>) -> anyhow::Result<String> {
-    let window = Window {
-        high: case_lines::number(words).unwrap_or(0),
-        width: case_lines::number(words).unwrap_or(1),
-    };
+    let high = case_lines::number(words).unwrap_or(0);
+    let width = case_lines::number(words).unwrap_or(1).min(MOST_WINDOW);
+    let window = Window::new(high, window_field(0, width));
+    if window.back > MOST_BACK {
+        return said(alloc, "no back window");
+    }
     let number = case_lines::number(words).unwrap_or(0);
     let end = case_lines::number(words).unwrap_or(0);
     match window.judge(number, end) {

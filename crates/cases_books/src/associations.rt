@@ -2,13 +2,15 @@
 // conditions do not hold. Each has a function of its own, mostly without a clause: what the clauses of several calls
 // say together takes long to prove.
 ghost use Rattle.std.specs.Prelude.{◌≡◌, ◌≤◌, true, IfSome, All};
-ghost use Rattle.sdls_base.specs.Bounds.{AreChannels, IsWidth};
+ghost use Rattle.sdls_base.specs.Bounds.{AreChannels};
+ghost use Rattle.replay_window.specs.Window.{IsFresh};
+ghost use Rattle.replay_window.specs.WindowField.{IsWindowField};
 ghost use Rattle.std.specs.Option.{ForSome};
 ghost use Rattle.sdls_base.specs.declared.states.Direction.TheVariants.{Receive};
 ghost use Rattle.sa_book.specs.SaRow.{MayAccept};
 ghost use Rattle.sa_book.specs.SaBook.{row_of};
 
-use replay_window::Verdict;
+use replay_window::{MOST_BACK, Verdict, Window, is_window_field, window_field};
 use sa_book::{SaBook, SaRefusal, SaRow, rows_may_follow};
 use sdls_base::{
     ChannelId, Direction, KeyId, KeyState, MOST_WINDOW, NewSa, NoMemory, Octets, SaState, Spi,
@@ -31,7 +33,7 @@ fn two_channels(alloc: Global, low: u8, high: u8) -> Option<Octets>
 
 /// A CMAC association of two channels, with a window of 5: `SPI DIRECTION LOW HIGH`.
 fn new_association(alloc: Global, words: &mut SplitWhitespace<'_>) -> Option<NewSa>
-    ensures window { IfSome result (λ new. IsWidth new.window) }
+    ensures window { IfSome result (λ new. IsWindowField new.window) }
     ensures ascending { IfSome result (λ new. AreChannels new.channels) }
     ensures numbers { IfSome result (λ new. All (λ channel. channel ≤ 63) new.channels) }
 {
@@ -116,17 +118,37 @@ pub fn set_number(
     Some(book.set_number(spi, number, floor))
 }
 
-/// Sets the width of a window: `SPI WIDTH`.
+/// The window field of the words, in its bounds: `WIDTH`, or `WIDTH BACK`.
+fn field(words: &mut SplitWhitespace<'_>) -> Option<u64>
+    ensures { IfSome result IsWindowField }
+{
+    let width = case_lines::number(words)?;
+    let back = case_lines::number(words).unwrap_or(0);
+    if width > MOST_WINDOW || back > u64::from(MOST_BACK) {
+        return None;
+    }
+    let field = window_field(back as u8, width);
+    if is_window_field(field) {
+        Some(field)
+    } else {
+        None
+    }
+}
+
+/// Sets width and back window: `SPI WIDTH`, or `SPI WIDTH BACK`.
 pub fn set_window(
     book: &mut SaBook,
     words: &mut SplitWhitespace<'_>,
 ) -> Option<Result<(), SaRefusal>> {
     let spi = case_lines::spi(words)?;
-    let width = case_lines::number(words)?;
-    if width < 1 || width > MOST_WINDOW {
-        return None;
-    }
-    Some(book.set_window(spi, width))
+    Some(book.set_window(spi, field(words)?))
+}
+
+/// Whether the number is fresh in the window, and its back window in its bounds.
+fn is_fresh(window: &Window, number: u64, end: u64) -> bool
+    ensures { result ≡ true → IsFresh window.now number end }
+{
+    window.back <= MOST_BACK && window.judge(number, end) == Verdict::Fresh
 }
 
 /// Whether the association is operational and receives, and the number is fresh on it.
@@ -138,7 +160,7 @@ fn may_accept(row: &SaRow, number: u64) -> bool
     };
     row.state == SaState::Operational
         && row.direction == Direction::Receive
-        && row.window.judge(number, key.end()) == Verdict::Fresh
+        && is_fresh(&row.window, number, key.end())
 }
 
 /// Accepts a number where it is fresh on an operational receiving association: `SPI NUMBER`.

@@ -14,7 +14,7 @@ use frame_checks::{OpenReply, binding, open_frame};
 use frame_shield::{Binding, ShieldFault};
 use key_book::KeyRow;
 use sa_book::SaRow;
-use sdls_base::{Change, NoMemory, Seen};
+use sdls_base::{Change, KeyId, NoMemory, Seen};
 use std::alloc::Global;
 use std::marker::Model;
 use unit_plan::{Plan, PlanError};
@@ -47,8 +47,13 @@ pub struct Scenario {
 impl Model for Scenario {
     ghost use Rattle.unit_state.specs.declared.state.State.{State};
     ghost use Rattle.unit_state.specs.State.{KeepsRules};
+    ghost use Rattle.std.specs.Coded.{codes, coded_ℕ};
+    ghost use Rattle.std.specs.FinSet as set;
+    ghost use Rattle.std.specs.Ordering.{nat_cmp};
 
     ghost Value = { State };
+
+    ghost coded = { Prim.hlevel (codes, set.code {R = nat_cmp} coded_ℕ) };
 
     ghost view = { λ scenario. scenario.state };
 
@@ -157,6 +162,11 @@ impl Scenario {
         Ok((need, answer))
     }
 
+    /// The floor of a key.
+    fn floor(&self, key: KeyId) -> u64 {
+        self.state.keys.receive_floor(key).unwrap_or(0)
+    }
+
     fn open_only(&self, link: u8, frame: &mut [u8]) -> OpenReply {
         open_frame(&self.plan, &self.state, link, frame)
     }
@@ -175,7 +185,7 @@ impl Scenario {
                 spi,
                 key,
                 number,
-                floor: number,
+                floor: number.max(self.floor(key)),
             });
         }
         reply

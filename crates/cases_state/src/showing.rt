@@ -12,11 +12,21 @@ fn key_text(alloc: Global, row: &KeyRow) -> Result<String, AllocError> {
     format!(in alloc; "key {id} {state} octets {octets} mark {mark} floor {floor}")
 }
 
+/// A back window, if there is one.
+fn back_text(alloc: Global, back: u8) -> Result<String, AllocError> {
+    if back == 0 {
+        Ok(String::new(alloc))
+    } else {
+        format!(in alloc; " back {back}")
+    }
+}
+
 fn association_text(alloc: Global, row: &SaRow) -> Result<String, AllocError> {
     let (direction, state) = (direction_name(row.direction), sa_state_name(row.state));
     let key = row.key.map_or(0, |key| key.get());
     let (spi, high, width) = (row.spi.get(), row.window.high, row.window.width);
-    format!(in alloc; "sa {spi} {direction} {state} key {key} high {high} window {width}")
+    let back = back_text(alloc, row.window.back)?;
+    format!(in alloc; "sa {spi} {direction} {state} key {key} high {high} window {width}{back}")
 }
 
 /// The rows of a state, a line each.

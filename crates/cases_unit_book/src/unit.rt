@@ -25,8 +25,13 @@ pub struct Unit<O: Site> {
 
 impl<O: Site> Model for Unit<O> {
     ghost use Rattle.unit_book.specs.Book.{BookView, IsKept};
+    ghost use Rattle.std.specs.Coded.{codes, coded_ℕ};
+    ghost use Rattle.std.specs.FinSet as set;
+    ghost use Rattle.std.specs.Ordering.{nat_cmp};
 
     ghost Value = { BookView };
+
+    ghost coded = { Prim.hlevel (codes, set.code {R = nat_cmp} coded_ℕ) };
 
     ghost view = { λ unit. unit.book };
 

@@ -12,6 +12,8 @@ mod faults;
 #[cfg(test)]
 mod kept;
 #[cfg(test)]
+mod late;
+#[cfg(test)]
 mod meeting;
 #[cfg(test)]
 mod opens;
