@@ -9,3 +9,4 @@ pub mod ControlField
 pub mod Link
 pub mod Bounds
 pub mod Numbers
+pub mod Version

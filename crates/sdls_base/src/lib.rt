@@ -20,6 +20,7 @@ mod ocf;
 mod octets;
 mod spi;
 mod states;
+mod version;
 mod writing;
 
 pub use change::{Change, NewSa};
@@ -37,13 +38,14 @@ pub use ocf::cut_ocf;
 pub use octets::Octets;
 pub use spi::Spi;
 pub use states::{Direction, KeyState, SaState, Suite};
+pub use version::{CONTENT_LENGTH_ONE, CONTENT_LENGTH_TWO, Version};
 pub use writing::{before_fecf, fecf_fails, flag, put, put_fecf, put_frame, put_optional};
 
 /// The most keys that a unit loads in its life (profile).
-pub const MOST_KEYS: usize = 512;
+pub const MOST_KEYS: usize = 4_096;
 
 /// The most security associations that a unit has at one time (profile).
-pub const MOST_ASSOCIATIONS: usize = 64;
+pub const MOST_ASSOCIATIONS: usize = 256;
 
 /// The most channels that a security association covers (profile). The least is 1.
 pub const MOST_CHANNELS: usize = 8;
