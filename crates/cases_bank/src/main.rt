@@ -5,10 +5,11 @@
 //! gives the row again. A row is hexadecimal words, with zeros behind them; behind `xN` the next word stands N times.
 //!
 //! `: LINE` adds a line to a plan's text, and `new` begins an empty one. `bare` prints what the bare plan reads as, and
-//! its text with `/` for each line feed. `made` writes the content of the plan's state, and prints how many keys and
-//! associations it has. `at OFFSET LENGTH` prints octets of the content, and `set OFFSET OCTETS` puts others there.
-//! `read` prints what is read of it, behind `same` if writing that gives it again. `back` takes the content again that
-//! `made` wrote.
+//! its text with `/` for each line feed. `made` writes the content of version 1 of the plan's state, `made two` that of
+//! version 2, and each prints how many keys and associations it has, or that there is no room. `at OFFSET LENGTH`
+//! prints octets of the content, and `set OFFSET OCTETS` puts others there. `read` prints what is read of it, in the
+//! version that was made, behind `same` if writing that gives it again. `back` takes the content again that `made`
+//! wrote.
 #![tactic(auto)]
 
 mod bare;
@@ -16,12 +17,14 @@ mod contents;
 mod rows;
 
 use case_lines::{Answers, Gathered, part_of, print_answers, said, set_part_of};
+use sdls_base::Version;
 use std::alloc::Global;
 
-/// The text of a plan, the content that was written of it, and the same with what was put into it.
+/// The text of a plan, the content that was written of it in a version, and the same with what was put into it.
 #[derive(Drop)]
 struct Bank {
     text: Gathered,
+    version: Version,
     written: Vec<u8>,
     content: Vec<u8>,
 }
@@ -30,13 +33,20 @@ impl Bank {
     fn new(alloc: Global) -> Bank {
         Bank {
             text: Gathered::new(alloc),
+            version: Version::One,
             written: Vec::new(alloc),
             content: Vec::new(alloc),
         }
     }
 
-    fn make(&mut self, alloc: Global) -> anyhow::Result<String> {
-        let (content, answer) = contents::made(alloc, self.text.as_str())?;
+    fn make(&mut self, alloc: Global, rest: &str) -> anyhow::Result<String> {
+        let version = if rest == "two" {
+            Version::Two
+        } else {
+            Version::One
+        };
+        let (content, answer) = contents::made(alloc, version, self.text.as_str())?;
+        self.version = version;
         self.content = content.clone()?;
         self.written = content;
         Ok(answer)
@@ -49,7 +59,7 @@ impl Bank {
             "sa" => rows::association(alloc, rest),
             "bare" => bare::answer(alloc, self.text.as_str()),
             "at" => part_of(alloc, &self.content, rest),
-            "read" => contents::read(alloc, &self.content),
+            "read" => contents::read(alloc, self.version, &self.content),
             _ => said(alloc, "no step"),
         }
     }
@@ -63,7 +73,7 @@ impl Answers for Bank {
             ":" => self.text.push(rest)?,
             "set" => set_part_of(alloc, self.content.as_mut_slice(), rest)?,
             "back" => self.content = self.written.clone()?,
-            "made" => return Ok(Some(self.make(alloc)?)),
+            "made" => return Ok(Some(self.make(alloc, rest)?)),
             _ => return Ok(Some(self.told(alloc, step, rest)?)),
         }
         Ok(None)

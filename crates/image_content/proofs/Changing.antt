@@ -3,11 +3,11 @@ use Rattle.std.proofs.Common.{◌≡◌, ℕ, ◌+◌, ◌*◌, ◌-◌, List, [
 use Rattle.std.specs.List.{flat_map}
 use Rattle.std.specs.Int.{w16, w64, to_be_bytes}
 use Rattle.std.proofs.Math.Seq.{take-append_seam}
-use Rattle.std.proofs.lemmas.List.{length-replicate}
 use Rattle.std.proofs.lemmas.List.Elements.{All-from_recursion, recursion_from_All}
 use Rattle.std.specs.List.{AllByRecursion}
 use Rattle.sdls_base.proofs.Endings.{drop_front}
 use Rattle.sdls_base.specs.Code.{key_state_code}
+use Rattle.sdls_base.specs.declared.version.Version.{Version}
 use Rattle.book_record.specs.declared.key_parts.KeyParts.{KeyParts}
 use Rattle.book_record.specs.KeyParts.{key_row_octets, IsKeyRow}
 use Rattle.book_record.specs.Padded.{padded}
@@ -16,9 +16,9 @@ use Rattle.book_record.proofs.Rows.{padded_length, row_key_length_small, sa_row_
 use Rattle.key_book.specs.declared.key_row.KeyRow.{KeyRow}
 use Rattle.sa_book.specs.declared.sa_row.SaRow.{SaRow}
 use Rattle.unit_state.specs.declared.state.State.{State}
-use Rattle.image_content.specs.Content.{sa_parts, key_rows, sa_rows, content_of, replaced}
+use Rattle.image_content.specs.Content.{sa_parts, key_rows, sa_rows, counts_of, key_room_of, sa_room_of, associations_at, content_of, replaced}
 use Rattle.image_content.specs.Reading.{HasRows}
-use Rattle.image_content.proofs.Contents.{keys_sized, sas_sized}
+use Rattle.image_content.proofs.Contents.{keys_sized, sas_sized, head_length}
 use Rattle.image_content.proofs.RowsRead.{key_octets, sa_octets, IsKey, key_sized}
 
 -- ---- one part of a list in the place of another
@@ -48,38 +48,37 @@ at_row P (x ∷ front) back row all = at_row P front back row all.1
 
 -- ---- a key's row
 
-key_parts_of : (z f r b e s : List ℕ) → (z ++ ((f ++ (r ++ b)) ++ e)) ++ s ≡ (z ++ f) ++ (r ++ ((b ++ e) ++ s))
-key_parts_of z f r b e s = simp append_assoc
+key_parts_of : (h f r b e s : List ℕ) → (h ++ ((f ++ (r ++ b)) ++ e)) ++ s ≡ (h ++ f) ++ (r ++ ((b ++ e) ++ s))
+key_parts_of h f r b e s = simp append_assoc
 
-key_shape : (state : State) (front back : List KeyRow) (row : KeyRow) (n gap : ℕ) → length (front ++ row ∷ back) ≡ n
-    → 49152 - length (key_rows (front ++ row ∷ back)) ≡ gap
-    → content_of (record state { keys = front ++ row ∷ back })
-    ≡ (to_be_bytes w16 n ++ length state.associations ∷ (replicate 500 0 ++ key_rows front))
-    ++ (key_octets row ++ ((key_rows back ++ replicate gap 0) ++ padded 2048 (sa_rows state.associations)))
+key_shape : (version : Version) (state : State) (front back : List KeyRow) (row : KeyRow) (n gap : ℕ) → length (front ++ row ∷ back) ≡ n
+    → key_room_of version - length (key_rows (front ++ row ∷ back)) ≡ gap
+    → content_of version (record state { keys = front ++ row ∷ back })
+    ≡ (padded 503 (counts_of version n (length state.associations)) ++ key_rows front)
+    ++ (key_octets row ++ ((key_rows back ++ replicate gap 0) ++ padded (sa_room_of version) (sa_rows state.associations)))
 unfolding content_of
-key_shape state front back row n gap count rest =
+key_shape version state front back row n gap count rest =
     let none : ℕ = 0 in
-    let zeros : List ℕ = replicate 500 none in
-    let sas = padded 2048 (sa_rows state.associations) in
-    ap (λ (m : ℕ). to_be_bytes w16 m ++ length state.associations ∷ (zeros ++ padded 49152 (key_rows (front ++ row ∷ back)) ++ sas)) count
-    ∙ ap (λ (m : ℕ). to_be_bytes w16 n ++ length state.associations ∷ (zeros ++ (key_rows (front ++ row ∷ back) ++ replicate m none) ++ sas)) rest
-    ∙ ap (λ (s : List ℕ). to_be_bytes w16 n ++ length state.associations ∷ (zeros ++ (s ++ replicate gap none) ++ sas)) (rows_cut key_octets front back row)
-    ∙ ap (λ (s : List ℕ). to_be_bytes w16 n ++ length state.associations ∷ s)
-    (key_parts_of zeros (key_rows front) (key_octets row) (key_rows back) (replicate gap none) sas)
+    let head : ℕ → List ℕ = λ m. padded 503 (counts_of version m (length state.associations)) in
+    let sas = padded (sa_room_of version) (sa_rows state.associations) in
+    ap (λ (m : ℕ). (head m ++ padded (key_room_of version) (key_rows (front ++ row ∷ back))) ++ sas) count
+    ∙ ap (λ (m : ℕ). (head n ++ (key_rows (front ++ row ∷ back) ++ replicate m none)) ++ sas) rest
+    ∙ ap (λ (s : List ℕ). (head n ++ (s ++ replicate gap none)) ++ sas) (rows_cut key_octets front back row)
+    ∙ key_parts_of (head n) (key_rows front) (key_octets row) (key_rows back) (replicate gap none) sas
 
-pub key_row_changes : (state : State) (front back : List KeyRow) (old new : KeyRow) → HasRows state → state.keys ≡ front ++ old ∷ back
-    → IsKey new (key_octets new)
-    → content_of (record state { keys = front ++ new ∷ back }) ≡ replaced (503 + 96 * length front) (key_octets new) (content_of state)
-key_row_changes state front back old new has is typed =
+pub key_row_changes : (version : Version) (state : State) (front back : List KeyRow) (old new : KeyRow) → HasRows version state
+    → state.keys ≡ front ++ old ∷ back → IsKey new (key_octets new)
+    → content_of version (record state { keys = front ++ new ∷ back }) ≡ replaced (503 + 96 * length front) (key_octets new) (content_of version state)
+key_row_changes version state front back old new has is typed =
     let P : KeyRow → Type 0 = λ row. IsKey row (key_octets row) in
     let none : ℕ = 0 in
     let all = recursion_from_All P (front ++ old ∷ back) (subst (All P) is has.keys) in
     let front_size = keys_sized front (All-from_recursion P front (front_all P front (old ∷ back) all)) in
     let same : length (key_octets old) ≡ length (key_octets new) = key_sized old (at_row P front back old all) ∙ sym (key_sized new typed) in
     let n = length (front ++ old ∷ back) in
-    let gap = 49152 - length (key_rows (front ++ old ∷ back)) in
+    let gap = key_room_of version - length (key_rows (front ++ old ∷ back)) in
     let count : length (front ++ new ∷ back) ≡ n = omega (arith, length-append front (new ∷ back), length-append front (old ∷ back)) in
-    let rest : 49152 - length (key_rows (front ++ new ∷ back)) ≡ gap =
+    let rest : key_room_of version - length (key_rows (front ++ new ∷ back)) ≡ gap =
     omega (
       arith,
       ap length (rows_cut key_octets front back new),
@@ -90,41 +89,40 @@ key_row_changes state front back old new has is typed =
       length-append (key_octets new) (key_rows back),
       length-append (key_octets old) (key_rows back),
     ) in
-    let pre = to_be_bytes w16 n ++ length state.associations ∷ (replicate 500 none ++ key_rows front) in
-    let post = (key_rows back ++ replicate gap none) ++ padded 2048 (sa_rows state.associations) in
-    let zeros : List ℕ = replicate 500 none in
-    let place : 503 + 96 * length front ≡ length pre = omega (arith, front_size, length-append zeros (key_rows front), length-replicate 500 none) in
-    let before : content_of state ≡ pre ++ (key_octets old ++ post) =
-    ap (λ (keys : List KeyRow). content_of (record state { keys = keys })) is ∙ key_shape state front back old n gap refl refl in
-    key_shape state front back new n gap count rest
-    ∙ replaced_part pre (key_octets old) (key_octets new) post (503 + 96 * length front) place same
+    let head = padded 503 (counts_of version n (length state.associations)) in
+    let post = (key_rows back ++ replicate gap none) ++ padded (sa_room_of version) (sa_rows state.associations) in
+    let place : 503 + 96 * length front ≡ length (head ++ key_rows front) =
+    omega (arith, front_size, length-append head (key_rows front), head_length version n (length state.associations)) in
+    let before : content_of version state ≡ (head ++ key_rows front) ++ (key_octets old ++ post) =
+    ap (λ (keys : List KeyRow). content_of version (record state { keys = keys })) is ∙ key_shape version state front back old n gap refl refl in
+    key_shape version state front back new n gap count rest
+    ∙ replaced_part (head ++ key_rows front) (key_octets old) (key_octets new) post (503 + 96 * length front) place same
     ∙ ap (λ (s : List ℕ). replaced (503 + 96 * length front) (key_octets new) s) (sym before)
 
 -- ---- an association's row
 
-sa_parts_of : (z k f r b e : List ℕ) → (z ++ k) ++ ((f ++ (r ++ b)) ++ e) ≡ ((z ++ k) ++ f) ++ (r ++ (b ++ e))
-sa_parts_of z k f r b e = simp append_assoc
+sa_parts_of : (h f r b e : List ℕ) → h ++ ((f ++ (r ++ b)) ++ e) ≡ (h ++ f) ++ (r ++ (b ++ e))
+sa_parts_of h f r b e = simp append_assoc
 
-sa_shape : (state : State) (front back : List SaRow) (row : SaRow) (m gap : ℕ) → length (front ++ row ∷ back) ≡ m
-    → 2048 - length (sa_rows (front ++ row ∷ back)) ≡ gap
-    → content_of (record state { associations = front ++ row ∷ back })
-    ≡ (to_be_bytes w16 (length state.keys) ++ m ∷ ((replicate 500 0 ++ padded 49152 (key_rows state.keys)) ++ sa_rows front))
+sa_shape : (version : Version) (state : State) (front back : List SaRow) (row : SaRow) (m gap : ℕ) → length (front ++ row ∷ back) ≡ m
+    → sa_room_of version - length (sa_rows (front ++ row ∷ back)) ≡ gap
+    → content_of version (record state { associations = front ++ row ∷ back })
+    ≡ ((padded 503 (counts_of version (length state.keys) m) ++ padded (key_room_of version) (key_rows state.keys)) ++ sa_rows front)
     ++ (sa_octets row ++ (sa_rows back ++ replicate gap 0))
 unfolding content_of
-sa_shape state front back row m gap count rest =
+sa_shape version state front back row m gap count rest =
     let none : ℕ = 0 in
-    let zeros : List ℕ = replicate 500 none in
-    let keys = padded 49152 (key_rows state.keys) in
-    ap (λ (n : ℕ). to_be_bytes w16 (length state.keys) ++ n ∷ (zeros ++ keys ++ padded 2048 (sa_rows (front ++ row ∷ back)))) count
-    ∙ ap (λ (n : ℕ). to_be_bytes w16 (length state.keys) ++ m ∷ (zeros ++ keys ++ (sa_rows (front ++ row ∷ back) ++ replicate n none))) rest
-    ∙ ap (λ (s : List ℕ). to_be_bytes w16 (length state.keys) ++ m ∷ (zeros ++ keys ++ (s ++ replicate gap none))) (rows_cut sa_octets front back row)
-    ∙ ap (λ (s : List ℕ). to_be_bytes w16 (length state.keys) ++ m ∷ s)
-    (sa_parts_of zeros keys (sa_rows front) (sa_octets row) (sa_rows back) (replicate gap none))
+    let head : ℕ → List ℕ = λ n. padded 503 (counts_of version (length state.keys) n) ++ padded (key_room_of version) (key_rows state.keys) in
+    ap (λ (n : ℕ). head n ++ padded (sa_room_of version) (sa_rows (front ++ row ∷ back))) count
+    ∙ ap (λ (n : ℕ). head m ++ (sa_rows (front ++ row ∷ back) ++ replicate n none)) rest
+    ∙ ap (λ (s : List ℕ). head m ++ (s ++ replicate gap none)) (rows_cut sa_octets front back row)
+    ∙ sa_parts_of (head m) (sa_rows front) (sa_octets row) (sa_rows back) (replicate gap none)
 
-pub sa_row_changes : (state : State) (front back : List SaRow) (old new : SaRow) → HasRows state → state.associations ≡ front ++ old ∷ back
-    → IsSaRow (sa_parts new) (sa_octets new)
-    → content_of (record state { associations = front ++ new ∷ back }) ≡ replaced (49655 + 32 * length front) (sa_octets new) (content_of state)
-sa_row_changes state front back old new has is typed =
+pub sa_row_changes : (version : Version) (state : State) (front back : List SaRow) (old new : SaRow) → HasRows version state
+    → state.associations ≡ front ++ old ∷ back → IsSaRow (sa_parts new) (sa_octets new)
+    → content_of version (record state { associations = front ++ new ∷ back })
+    ≡ replaced (associations_at version + 32 * length front) (sa_octets new) (content_of version state)
+sa_row_changes version state front back old new has is typed =
     let P : SaRow → Type 0 = λ row. IsSaRow (sa_parts row) (sa_octets row) in
     let none : ℕ = 0 in
     let all = recursion_from_All P (front ++ old ∷ back) (subst (All P) is has.associations) in
@@ -133,9 +131,9 @@ sa_row_changes state front back old new has is typed =
     let same : length (sa_octets old) ≡ length (sa_octets new) =
     sa_row_length (sa_parts old) (sa_octets old) own ∙ sym (sa_row_length (sa_parts new) (sa_octets new) typed) in
     let m = length (front ++ old ∷ back) in
-    let gap = 2048 - length (sa_rows (front ++ old ∷ back)) in
+    let gap = sa_room_of version - length (sa_rows (front ++ old ∷ back)) in
     let count : length (front ++ new ∷ back) ≡ m = omega (arith, length-append front (new ∷ back), length-append front (old ∷ back)) in
-    let rest : 2048 - length (sa_rows (front ++ new ∷ back)) ≡ gap =
+    let rest : sa_room_of version - length (sa_rows (front ++ new ∷ back)) ≡ gap =
     omega (
       arith,
       ap length (rows_cut sa_octets front back new),
@@ -146,18 +144,19 @@ sa_row_changes state front back old new has is typed =
       length-append (sa_octets new) (sa_rows back),
       length-append (sa_octets old) (sa_rows back),
     ) in
-    let zeros : List ℕ = replicate 500 none in
-    let keys = padded 49152 (key_rows state.keys) in
-    let keys_size : length keys ≡ 49152 = padded_length 49152 (key_rows state.keys) (omega (arith, keys_sized state.keys has.keys, has.most_keys)) in
-    let pre = to_be_bytes w16 (length state.keys) ++ m ∷ ((zeros ++ keys) ++ sa_rows front) in
+    let head = padded 503 (counts_of version (length state.keys) m) in
+    let keys = padded (key_room_of version) (key_rows state.keys) in
+    let keys_size : length keys ≡ key_room_of version =
+    padded_length (key_room_of version) (key_rows state.keys) (omega (arith, keys_sized state.keys has.keys, has.fits.keys)) in
+    let pre = (head ++ keys) ++ sa_rows front in
     let post = sa_rows back ++ replicate gap none in
-    let place : 49655 + 32 * length front ≡ length pre =
-    omega (arith, front_size, keys_size, length-append (zeros ++ keys) (sa_rows front), length-append zeros keys, length-replicate 500 none) in
-    let before : content_of state ≡ pre ++ (sa_octets old ++ post) =
-    ap (λ (rows : List SaRow). content_of (record state { associations = rows })) is ∙ sa_shape state front back old m gap refl refl in
-    sa_shape state front back new m gap count rest
-    ∙ replaced_part pre (sa_octets old) (sa_octets new) post (49655 + 32 * length front) place same
-    ∙ ap (λ (s : List ℕ). replaced (49655 + 32 * length front) (sa_octets new) s) (sym before)
+    let place : associations_at version + 32 * length front ≡ length pre =
+    omega (arith, front_size, keys_size, length-append (head ++ keys) (sa_rows front), length-append head keys, head_length version (length state.keys) m) in
+    let before : content_of version state ≡ pre ++ (sa_octets old ++ post) =
+    ap (λ (rows : List SaRow). content_of version (record state { associations = rows })) is ∙ sa_shape version state front back old m gap refl refl in
+    sa_shape version state front back new m gap count rest
+    ∙ replaced_part pre (sa_octets old) (sa_octets new) post (associations_at version + 32 * length front) place same
+    ∙ ap (λ (s : List ℕ). replaced (associations_at version + 32 * length front) (sa_octets new) s) (sym before)
 
 -- ---- a mark and a floor
 

@@ -1,8 +1,9 @@
-//! The content of a bank: the rows of all keys and associations of a unit's state, 51,703 octets (profile). It is what
-//! an image will hold of a state. The highest numbers that were accepted are not in it: a restart sets them.
+//! The content of a bank of an image: the rows of all keys and associations of a unit's state (profile). It has 51,703
+//! octets in version 1, with room for 512 keys and 64 associations, and 401,911 in version 2, with room for every state.
+//! The highest numbers that were accepted are not in it: a restart sets them.
 //!
-//! [`write_content`] writes it without taking memory. [`read_content`] gives the state back, or says that the octets
-//! are no content. Read `specs/Content.antt` first. No image has a bank yet.
+//! [`write_content`] and [`write_content_two`] write it without taking memory. [`read_content`] gives the state back,
+//! or says that the octets are no content. Read `specs/Content.antt` first.
 #![tactic(auto)]
 
 mod laws;
@@ -13,6 +14,6 @@ mod rows;
 mod writing;
 
 pub use laws::{key_row_changes, marks_change, one_state, restart_leaves_content, sa_row_changes};
-pub use layout::CONTENT_LENGTH;
+pub use layout::KEYS_AT;
 pub use reading::read_content;
-pub use writing::write_content;
+pub use writing::{fits, write_content, write_content_two};

@@ -6,6 +6,7 @@ ghost use Rattle.book_record.specs.SaParts.{sa_row_octets};
 ghost use Rattle.key_book.specs.KeyRow.{IsKeyRow};
 ghost use Rattle.sa_book.specs.SaRow.{IsSaRow};
 ghost use Rattle.image_content.specs.Content.{key_parts, sa_parts, key_rows, sa_rows};
+ghost use Rattle.image_content.specs.Reading.{IsTypedKey, IsTypedSa};
 
 use book_record::{KEY_ROW_LENGTH, KeyView, SA_ROW_LENGTH, SaView, write_key_row, write_sa_row};
 use key_book::KeyRow;
@@ -25,7 +26,8 @@ pub(crate) fn put_zeros(out: &mut [u8], at: usize, count: usize) -> usize
 
 fn key_row(row: &KeyRow) -> [u8; KEY_ROW_LENGTH]
     requires { IsKeyRow row.now }
-    ensures { result ≡ key_row_octets (key_parts row.now) }
+    ensures spelled { result ≡ key_row_octets (key_parts row.now) }
+    ensures types { IsTypedKey row.now }
 {
     write_key_row(&KeyView {
         id: row.id,
@@ -39,7 +41,8 @@ fn key_row(row: &KeyRow) -> [u8; KEY_ROW_LENGTH]
 
 fn sa_row(row: &SaRow) -> [u8; SA_ROW_LENGTH]
     requires { IsSaRow row.now }
-    ensures { result ≡ sa_row_octets (sa_parts row.now) }
+    ensures spelled { result ≡ sa_row_octets (sa_parts row.now) }
+    ensures types { IsTypedSa row.now }
 {
     write_sa_row(&SaView {
         spi: row.spi,
@@ -58,6 +61,7 @@ pub(crate) fn put_key_rows(out: &mut [u8], at: usize, rows: &[KeyRow]) -> usize
     requires room { at + KEY_ROW_LENGTH * length rows.now ≤ length out.old }
     ensures place { result ≡ at + KEY_ROW_LENGTH * length rows.now }
     ensures written { take result out.new ≡ take at out.old ++ key_rows rows.now }
+    ensures types { All IsTypedKey rows.now }
 {
     let mut end = at;
     for row in rows {
@@ -72,6 +76,7 @@ pub(crate) fn put_sa_rows(out: &mut [u8], at: usize, rows: &[SaRow]) -> usize
     requires room { at + SA_ROW_LENGTH * length rows.now ≤ length out.old }
     ensures place { result ≡ at + SA_ROW_LENGTH * length rows.now }
     ensures written { take result out.new ≡ take at out.old ++ sa_rows rows.now }
+    ensures types { All IsTypedSa rows.now }
 {
     let mut end = at;
     for row in rows {

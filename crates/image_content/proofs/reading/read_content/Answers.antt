@@ -12,7 +12,7 @@ use Rattle.image_content.proofs.reading.read_content.Goals as goal
 pub returns-then-not-has_room-clause-fault : goal.returns-then-not-has_room-clause-fault
 returns-then-not-has_room-clause-fault c =
     λ state channels device is.
-    let told = c.has_room.ensures.1 (content_says state c.args.content.now is).room in
+    let told = c.has_room.ensures.1 (content_says c.args.version state c.args.content.now is).room in
     let not = c.if-not-has_room.true in
     absurd cc
 
@@ -21,7 +21,7 @@ returns-in_err-keys-clause-fault c =
     let p = err_from_is_err_and c.from_residual.result c.from_residual.ensures.1 in
     rw (p.1, p.2) (whole_cause c.in_err-keys.field-0.0
     (λ none state channels device is.
-    none state.keys (record { each = is.keys; spelled = c.keys_in.ensures.octets ∙ (content_says state c.args.content.now is).keys }))
+    none state.keys (record { each = is.rows.keys; spelled = c.keys_in.ensures.octets ∙ (content_says c.args.version state c.args.content.now is).keys }))
     c.in_err-keys.ensures.fault)
 
 pub returns-in_err-associations-clause-fault : goal.returns-in_err-associations-clause-fault
@@ -31,8 +31,8 @@ returns-in_err-associations-clause-fault c =
     let are = subst (AreKeyRows keys) c.keys_in.ensures.octets c.in_ok-keys.ensures.found in
     rw (p.1, p.2) (whole_cause c.in_err-associations.field-0.0
     (λ none state channels device is.
-    let own = sas_are state c.args.content.now is in
-    let same = c.as_slice.ensures.value ∙ keys_read state c.args.content.now is keys are in
+    let own = sas_are c.args.version state c.args.content.now is in
+    let same = c.as_slice.ensures.value ∙ keys_read c.args.version state c.args.content.now is keys are in
     none state.associations
     (subst (λ (rows : List KeyRow). AreSaRows rows state.associations c.associations_in.result.now) (sym same)
     (record { each = own.each; spelled = c.associations_in.ensures.octets ∙ own.spelled })))
@@ -51,9 +51,9 @@ returns-clause-found c =
     let key_size = ap length (sym c.keys_in.ensures.octets) ∙ c.keys_in.ensures.rows in
     let sa_size = ap length (sym c.associations_in.ensures.octets) ∙ c.associations_in.ensures.rows in
     let room = c.has_room.ensures.0 c.if-not-has_room.false in
-    made c.state_of_rows.result value (λ (state : State). IsContent state content × (state.channels ≡ c.args.channels) × (state.device ≡ c.args.device))
+    made c.state_of_rows.result value (λ (state : State). IsContent c.args.version state content × (state.channels ≡ c.args.channels) × (state.device ≡ c.args.device))
     c.state_of_rows.ensures
-    (λ rules. (read_content keys associations c.args.channels c.args.device content c.requires (λ i. (c.type_inv.content i).fits) room are also key_size sa_size rules, refl, refl))
+    (λ rules. (read_content c.args.version keys associations c.args.channels c.args.device content c.requires (λ i. (c.type_inv.content i).fits) room are also key_size sa_size rules, refl, refl))
 
 pub returns-clause-fault : goal.returns-clause-fault
 returns-clause-fault c =
@@ -66,9 +66,9 @@ returns-clause-fault c =
     subst (AreSaRows keys associations) c.associations_in.ensures.octets
     (subst (λ (rows : List KeyRow). AreSaRows rows associations c.associations_in.result.now) c.as_slice.ensures.value c.in_ok-associations.ensures.found) in
     not_made c.state_of_rows.result value
-    ((state : State) → state.channels ≡ c.args.channels → state.device ≡ c.args.device → ¬ IsContent state content) c.state_of_rows.ensures
+    ((state : State) → state.channels ≡ c.args.channels → state.device ≡ c.args.device → ¬ IsContent c.args.version state content) c.state_of_rows.ensures
     (λ broken state channels device is.
-    let own = keys_read state content is keys are in
-    let held = sas_read state content is associations (subst (λ (rows : List KeyRow). AreSaRows rows associations (associations_in content)) own also) in
+    let own = keys_read c.args.version state content is keys are in
+    let held = sas_read c.args.version state content is associations (subst (λ (rows : List KeyRow). AreSaRows rows associations (associations_in c.args.version content)) own also) in
     let same : state ≡ value = λ i. state_of ((sym own) i) ((sym held) i) (channels i) (device i) in
     broken (subst KeepsRules same is.rules))

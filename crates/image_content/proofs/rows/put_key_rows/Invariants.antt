@@ -1,5 +1,6 @@
-use Rattle.std.proofs.Common.{◌≡◌, ◌+◌, ◌*◌, ◌++◌, take}
+use Rattle.std.proofs.Common.{◌≡◌, ◌+◌, ◌*◌, ◌++◌, take, All}
 use Rattle.image_content.specs.Content.{key_rows}
+use Rattle.image_content.specs.Reading.{IsTypedKey}
 use Rattle.book_record.specs.declared.layout.TheConstants.{KEY_ROW_LENGTH}
 use Rattle.image_content.proofs.rows.put_key_rows.Given as goal
 
@@ -7,4 +8,5 @@ abbrev pub invariant-loop-row : goal.invariant-loop-row
 invariant-loop-row l = record {
   place : l.end ≡ l.at + KEY_ROW_LENGTH * l.row-index;
   written : take l.end l.out ≡ take l.at l.fn.out ++ key_rows (take l.row-index l.rows);
+  types : All IsTypedKey (take l.row-index l.rows);
 }

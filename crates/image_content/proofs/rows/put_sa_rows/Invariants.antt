@@ -1,5 +1,6 @@
-use Rattle.std.proofs.Common.{◌≡◌, ◌+◌, ◌*◌, ◌++◌, take}
+use Rattle.std.proofs.Common.{◌≡◌, ◌+◌, ◌*◌, ◌++◌, take, All}
 use Rattle.image_content.specs.Content.{sa_rows}
+use Rattle.image_content.specs.Reading.{IsTypedSa}
 use Rattle.book_record.specs.declared.layout.TheConstants.{SA_ROW_LENGTH}
 use Rattle.image_content.proofs.rows.put_sa_rows.Given as goal
 
@@ -7,4 +8,5 @@ abbrev pub invariant-loop-row : goal.invariant-loop-row
 invariant-loop-row l = record {
   place : l.end ≡ l.at + SA_ROW_LENGTH * l.row-index;
   written : take l.end l.out ≡ take l.at l.fn.out ++ sa_rows (take l.row-index l.rows);
+  types : All IsTypedSa (take l.row-index l.rows);
 }

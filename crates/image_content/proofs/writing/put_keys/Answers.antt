@@ -1,7 +1,7 @@
-use Rattle.std.proofs.Common.{◌≡◌, ◌++◌, ◌*◌, List, length, take, ap, ◌∙◌, arith}
+use Rattle.std.proofs.Common.{◌≡◌, ℕ, ◌++◌, ◌*◌, ◌-◌, List, length, take, replicate, ap, ◌∙◌, arith}
 use Rattle.key_book.specs.declared.key_row.KeyRow.{KeyRow}
 use Rattle.book_record.specs.Padded.{padded}
-use Rattle.image_content.specs.Content.{key_rows}
+use Rattle.image_content.specs.Content.{key_rows, key_room_of}
 use Rattle.image_content.proofs.Fields.{put_width, padded_put}
 use Rattle.image_content.proofs.writing.put_keys.Goals as goal
 
@@ -12,7 +12,8 @@ returns-clause-written c =
     let same = ap length c.rows-rows.ensures.rows in
     let put = c.put_key_rows-end.ensures in
     let size : length (key_rows rows) ≡ 96 * length rows =
-    put_width c.args.out.now c.put_key_rows-end.new.out (key_rows rows) c.args.at c.put_key_rows-end.result (96 * length rows) put.place (omega arith) (omega (arith, put.place, same, c.rows-rows.ensures.rules.most)) put.written in
+    put_width c.args.out.now c.put_key_rows-end.new.out (key_rows rows) c.args.at c.put_key_rows-end.result (96 * length rows) put.place (omega arith) (omega (arith, put.place, same, c.requires.fits)) put.written in
     padded_put front (key_rows rows) (take c.put_key_rows-end.result c.put_key_rows-end.new.out) (take c.put_zeros.result c.put_zeros.new.out)
-    49152 (96 * length rows) size put.written c.put_zeros.ensures.written
-    ∙ ap (λ (own : List KeyRow). front ++ padded 49152 (key_rows own)) c.rows-rows.ensures.rows
+    (key_room_of c.args.version) (96 * length rows) size put.written
+    (c.put_zeros.ensures.written ∙ ap (λ (width : ℕ). take c.put_key_rows-end.result c.put_key_rows-end.new.out ++ replicate (width - 96 * length rows) 0) c.key_room.ensures)
+    ∙ ap (λ (own : List KeyRow). front ++ padded (key_room_of c.args.version) (key_rows own)) c.rows-rows.ensures.rows
