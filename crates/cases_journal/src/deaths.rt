@@ -1,12 +1,12 @@
 // Steps on a site that is dead from a call on.
 use crate::images::{at_rest, fault_told, held_told, octet_of, site_of};
 use crate::steps::does;
-use case_lines::word_at;
+use case_lines::{number_at, word_at};
 use sdls_outside::{Crash, MemSite};
 use std::alloc::Global;
 
 /// More calls than a step makes.
-const MOST_CALLS: u64 = 1_000;
+const MOST_CALLS: u64 = 3_000;
 
 fn crash_of(word: &str) -> Crash {
     match word {
@@ -61,11 +61,22 @@ impl Rows {
     }
 }
 
-/// What each death of the step leaves: `STEP OCTET KIND`.
+/// The image that a death of the step leaves: `CALL STEP OCTET KIND`.
+pub fn left(alloc: Global, image: &[u8], line: &str) -> anyhow::Result<Vec<u8>> {
+    let (call, step) = line.split_once(' ').unwrap_or((line, ""));
+    let mut site = site_of(alloc, image, call.parse().ok())?;
+    let _ended = does(alloc, &mut site, step)?;
+    let crashed = site.crashed(crash_of(word_at(step, 2)));
+    Ok(Vec::from_slice(alloc, crashed.image())?)
+}
+
+/// What each death of the step leaves, from one call to before another: `STEP OCTET KIND FIRST END`. Without these,
+/// at each call of the step.
 pub fn told(alloc: Global, image: &[u8], line: &str) -> anyhow::Result<String> {
     let how = crash_of(word_at(line, 2));
+    let end = word_at(line, 4).parse().unwrap_or(MOST_CALLS);
     let mut rows = Rows::new(alloc);
-    for dead in 0..MOST_CALLS {
+    for dead in number_at(line, 3)..end {
         let mut site = site_of(alloc, image, Some(dead))?;
         let ended = does(alloc, &mut site, line)?;
         rows.push(alloc, opened_again(alloc, site.crashed(how))?)?;

@@ -4,9 +4,8 @@ ghost use Rattle.sdls_outside.specs.MemSite.{site_trace};
 ghost use Rattle.disk_journal.specs.Journal.{IsOpen, IsSettled};
 
 use case_lines::{number_at, octets, said};
-use disk_journal::{
-    CONTENT_LENGTH, Journal, JournalFault, LEAST_SLOTS, MOST_SLOTS, PLAN_ROOM, create,
-};
+use disk_journal::{Journal, JournalFault, LEAST_SLOTS, MOST_SLOTS, PLAN_ROOM, create, create_two};
+use sdls_base::{CONTENT_LENGTH_ONE, CONTENT_LENGTH_TWO, Version};
 use sdls_outside::MemSite;
 use std::alloc::Global;
 
@@ -21,15 +20,25 @@ pub fn octet_of(word: &str) -> u8 {
     u8::from_str_radix(word, 16).unwrap_or(0)
 }
 
-/// The image of a plan: `SLOTS CONTENT PLAN`. Without octets if the slots or the plan are out of bounds.
-pub fn created(alloc: Global, line: &str) -> anyhow::Result<Vec<u8>> {
+/// The image of a plan, of this version: `SLOTS CONTENT PLAN`. Without octets if the slots or the plan are out of
+/// bounds.
+pub fn created(alloc: Global, version: Version, line: &str) -> anyhow::Result<Vec<u8>> {
     let mut words = line.split_whitespace();
     let slots: u32 = words.next().unwrap_or("").parse().unwrap_or(0);
-    let content = vec![in alloc; octet_of(words.next().unwrap_or("")); CONTENT_LENGTH]?;
+    let octet = octet_of(words.next().unwrap_or(""));
     let plan = octets(alloc, &mut words)?;
     let mut site = MemSite::new(alloc, Vec::new(alloc), Vec::new(alloc), None);
     if slots >= LEAST_SLOTS && slots <= MOST_SLOTS && plan.len() as u64 <= PLAN_ROOM {
-        let _answer = create(&mut site, &plan, slots, &content);
+        let _answer = match version {
+            Version::One => {
+                let content = vec![in alloc; octet; CONTENT_LENGTH_ONE]?;
+                create(&mut site, &plan, slots, &content)
+            }
+            Version::Two => {
+                let content = vec![in alloc; octet; CONTENT_LENGTH_TWO]?;
+                create_two(&mut site, &plan, slots, &content)
+            }
+        };
     }
     Ok(Vec::from_slice(alloc, site.image())?)
 }
@@ -82,13 +91,21 @@ fn records_told(alloc: Global, site: &mut MemSite, journal: &Journal) -> anyhow:
 pub fn held_told(alloc: Global, site: &mut MemSite, journal: &Journal) -> anyhow::Result<String>
     requires { IsOpen (site_trace site.old) journal.now }
 {
-    let mut content = vec![in alloc; 0; CONTENT_LENGTH]?;
+    let mut content = vec![in alloc; 0; journal.version().content_length()]?;
     if journal.content(site, content.as_mut_slice()).is_err() {
         return said(alloc, "no content read");
     }
     let text = alone(alloc, &content)?;
     let records = records_told(alloc, site, journal)?;
     Ok(format!(in alloc; "{text}, {records}")?)
+}
+
+/// What is said of a version, which is nothing of the first.
+fn version_told(version: Version) -> &'static str {
+    match version {
+        Version::One => "",
+        Version::Two => " of version 2",
+    }
 }
 
 /// What the image holds when it is opened, or the offset that it is refused with.
@@ -98,8 +115,9 @@ pub fn told(alloc: Global, image: &[u8]) -> anyhow::Result<String> {
         Ok(journal) => {
             let at = journal.content_at();
             let slots = journal.slots();
+            let version = version_told(journal.version());
             let held = held_told(alloc, &mut site, &journal)?;
-            Ok(format!(in alloc; "{slots} slots, content at {at}, {held}")?)
+            Ok(format!(in alloc; "{slots} slots{version}, content at {at}, {held}")?)
         }
         Err(fault) => fault_told(alloc, fault),
     }

@@ -1,16 +1,17 @@
 //! Tables of the journal over two banks, for `disk_journal`. A line of standard input is a step on an image, and what
 //! it answers is printed; `#` and a title is printed as it is.
 //!
-//! `create SLOTS CONTENT PLAN` makes the image of a plan, whose octets are given, with a content of this octet alone.
-//! `append OCTET` and `turn OCTET` open the image, bring it to rest and add a record, or write a content, of this octet
-//! alone; `settle` does neither. `open` prints what the image holds, or the offset that it is refused with. `set OFFSET
-//! OCTETS` writes others over its own, `cut LENGTH` takes away what stands past a length, and `at OFFSET LENGTH` prints
-//! octets. `zeros OFFSET LENGTH` says whether so many octets are 0. `keep` keeps the image for later, and `back` takes
-//! it again.
+//! `create SLOTS CONTENT PLAN` makes the image of version 1 of a plan, whose octets are given, with a content of this
+//! octet alone, and `create_two` that of version 2. `append OCTET`, `turn OCTET` and `migrate OCTET` open the image,
+//! bring it to rest and add a record, or write a content, of this octet alone; `settle` does neither. `open` prints what
+//! the image holds, or the offset that it is refused with. `set OFFSET OCTETS` writes others over its own, `cut LENGTH`
+//! takes away what stands past a length, and `at OFFSET LENGTH` prints octets. `zeros OFFSET LENGTH` says whether so
+//! many octets are 0. `keep` keeps the image for later, and `back` takes it again.
 //!
 //! `dead STEP KIND` does a step from the image once for each call of it that the site can be dead from, which it then
 //! crashes so: `kept`, `lost`, or filled with an octet. It prints what the image holds after each when it is opened
-//! again, and how often that stands so in a row.
+//! again, and how often that stands so in a row. `dead STEP KIND FIRST END` takes some of the calls alone. `left CALL
+//! STEP KIND` takes the image that one of them leaves.
 #![tactic(auto)]
 
 mod deaths;
@@ -18,6 +19,7 @@ mod images;
 mod steps;
 
 use case_lines::{Answers, part_of, print_answers, said, set_part_of};
+use sdls_base::Version;
 use std::alloc::Global;
 
 /// An image, and the one that was kept.
@@ -58,12 +60,14 @@ impl Answers for Table {
     fn answer(&mut self, alloc: Global, line: &str) -> anyhow::Result<Option<String>> {
         let (step, rest) = line.split_once(' ').unwrap_or((line, ""));
         match step {
-            "create" => self.image = images::created(alloc, rest)?,
+            "create" => self.image = images::created(alloc, Version::One, rest)?,
+            "create_two" => self.image = images::created(alloc, Version::Two, rest)?,
             "set" => set_part_of(alloc, self.image.as_mut_slice(), rest)?,
+            "left" => self.image = deaths::left(alloc, &self.image, rest)?,
             "cut" => self.image.truncate(rest.parse().unwrap_or(0)),
             "keep" => self.kept = self.image.clone()?,
             "back" => self.image = self.kept.clone()?,
-            "append" | "turn" | "settle" => return Ok(Some(self.write(alloc, line)?)),
+            "append" | "turn" | "settle" | "migrate" => return Ok(Some(self.write(alloc, line)?)),
             _ => return Ok(Some(self.told(alloc, step, rest)?)),
         }
         Ok(None)

@@ -1,15 +1,21 @@
 -- What an opening that is cut off leaves of an image with one closed gate.
 use Rattle.std.proofs.Common.{◌≡◌, ◌≢◌, ℕ, ◌+◌, ◌<◌, ◌≤◌, ◌⊎◌, ◌∙◌, List, length, get_or, set, None, refl, sym, ap, subst, inl, inr, arith}
-use Rattle.disk_journal.proofs.Keeping.{bank_kept}
+use Rattle.disk_journal.proofs.Headers.{header_octet, old_tests}
+use Rattle.disk_journal.proofs.Keeping.{bank_kept, front_bounds}
+use Rattle.disk_journal.proofs.Moving.{KeepsBanks, moved_bank, moved_plan, moved_stands}
 use Rattle.disk_journal.proofs.Rests.{Keeps, keeps_other, keeps_same, keeps_slot}
-use Rattle.disk_journal.proofs.Stands.{Stands, apart, closed_in, holds_of, opens_stands}
+use Rattle.disk_journal.proofs.Stands.{IsStill, Stands, apart, closed_in, holds_of, opens_stands}
 use Rattle.disk_journal.proofs.Turns.{after, before}
 use Rattle.disk_journal.specs.Banks.{bank_at, bank_length, body_at, content_at, gate_at, next, other, slot_at}
 use Rattle.disk_journal.specs.Fault.{image_fault}
 use Rattle.disk_journal.specs.Forms.{HasOneClosed, Regates, StaysWithin}
 use Rattle.disk_journal.specs.Image.{IsAtRest, IsClosedGate, IsOpenedForm, current, current_at, first_closed, image_layout, other_at, plan_of, records, slot_count}
 use Rattle.disk_journal.specs.declared.layout.Bank.{Bank}
+use Rattle.disk_journal.specs.declared.layout.HeaderForm.{HeaderForm}
+use Rattle.disk_journal.specs.declared.layout.HeaderForm.TheVariants.{Old, Migrated, New}
 use Rattle.disk_journal.specs.declared.layout.Layout.{Layout}
+use Rattle.disk_journal.specs.declared.layout.TheConstants.{MIGRATED_AT}
+use Rattle.image_parts.specs.Header.{header_of}
 use Rattle.image_parts.proofs.Gating.{records_are, records_stay}
 use Rattle.image_parts.proofs.Ranges.{set_back}
 use Rattle.image_parts.specs.Changes.{AllBut}
@@ -27,6 +33,7 @@ pub record Torn (image left : List ℕ) (at : ℕ) : Type 0 where
 torn_stands : (image left : List ℕ) (layout : Layout) (at : ℕ) (bank : Bank) (bodies : List (List ℕ)) → Stands image layout bank bodies
     → AllBut at 1 image left → get_or left at 0 ≢ OPEN
     → ((length bodies < layout.slots) × (at ≡ slot_at layout (bank_at layout bank) (length bodies))) ⊎ (at ≡ bank_at layout (other bank))
+    ⊎ ((layout.form ≡ Old) × (at ≡ MIGRATED_AT))
     → Stands left layout bank bodies × Keeps image left layout bank (length bodies)
 torn_stands image left layout at bank bodies stands change shut (inl slot) =
     let from = bank_at layout bank in
@@ -59,7 +66,7 @@ torn_stands image left layout at bank bodies stands change shut (inl slot) =
       },
       keeps,
     )
-torn_stands image left layout at bank bodies stands change shut (inr beside) =
+torn_stands image left layout at bank bodies stands change shut (inr (inl beside)) =
     let from = bank_at layout bank in
     let to = bank_at layout (other bank) in
     let within : length bodies ≤ layout.slots = stands.are.within in
@@ -76,6 +83,24 @@ torn_stands image left layout at bank bodies stands change shut (inr beside) =
         quiet = λ k above below. same.gates k below ∙ stands.quiet k above below;
       },
       keeps,
+    )
+torn_stands image left layout at bank bodies stands change shut (inr (inr moves)) =
+    let here : AllBut MIGRATED_AT 1 image left = subst (λ (k : ℕ). AllBut k 1 image left) moves.1 change in
+    let other_octet : get_or left MIGRATED_AT 0 ≢ OPEN = subst (λ (k : ℕ). get_or left k 0 ≢ OPEN) moves.1 shut in
+    let long : length left ≡ length image = here.same_length in
+    let keeps : KeepsBanks layout image left = record { no_shorter = omega arith; same = λ i below away. here.outside i away } in
+    let moved = moved_stands image left layout bank bodies stands moves.0 keeps other_octet in
+    let same = moved_bank layout bank image left keeps (front_bounds image layout stands.front) stands.front.behind_plan in (
+      moved,
+      record {
+        front = moved.front;
+        plan = moved_plan layout image left stands.front keeps;
+        gate = moved.newest.0;
+        same_content = same.content;
+        same_generation = same.generation;
+        gates = λ k below other_slot. same.gates k below;
+        bodies = λ k below other_slot. same.bodies k below;
+      },
     )
 
 -- its closed gates are the same one
@@ -151,6 +176,11 @@ same_stays image left none one same = subst (StaysWithin image) (sym same) (reco
   settled = one;
 })
 
+-- the octet that migrates an image of version 1 is not 1
+moves_not_open : (image : List ℕ) → (image_layout image).form ≡ Old → get_or image MIGRATED_AT 0 ≢ OPEN
+unfolding image_layout
+moves_not_open image old_is here = (old_tests (header_of image) old_is).1 (header_octet image ∙ here)
+
 -- a closed gate that is 1 is the other bank's
 open_is_other : (image : List ℕ) (at : ℕ) → IsClosedGate image at → get_or image at 0 ≡ OPEN → at ≡ other_at image
 unfolding records
@@ -158,7 +188,10 @@ open_is_other image at closed here = elim closed.1 [
   | inl slot ↦
       let are = records_are (gate_at (image_layout image) image (current_at image)) (body_at (image_layout image) image (current_at image)) (slot_count image) in
       absurd (are.closed slot.0 (subst (λ (k : ℕ). get_or image k 0 ≡ OPEN) slot.1 here))
-  | inr gate ↦ gate
+  | inr beside ↦ elim beside [
+    | inl gate ↦ gate
+    | inr moves ↦ absurd (moves_not_open image moves.0 (subst (λ (k : ℕ). get_or image k 0 ≡ OPEN) moves.1 here))
+  ]
 ]
 
 form_stays : (image left : List ℕ) → HasOneClosed image → IsOpenedForm image left → StaysWithin image left
@@ -195,20 +228,39 @@ rest_stays : (image left : List ℕ) → image_fault image ≡ None → HasOneCl
 rest_stays image left none one rests regates = same_stays image left none one
     (ext_get_or 0 left image regates.same_length (λ i below. regates.others i (rests i)))
 
-pub stays_within : (image left : List ℕ) → image_fault image ≡ None → HasOneClosed image → Regates image left → StaysWithin image left
-stays_within image left none one regates = elim (cases_eq (get_or image (other_at image) 0) CLOSED) [
-  | inr torn ↦ gate_stays image left (other_at image) none one (torn, inr refl) regates
+-- whether an image is on its way to be migrated
+moves_or_still : (form : HeaderForm) (octet : ℕ) → (form ≡ Old → octet ≡ CLOSED) ⊎ ((form ≡ Old) × (octet ≢ CLOSED))
+moves_or_still Old octet = elim (cases_eq octet CLOSED) [ inl shut ↦ inl (λ is. shut) | inr torn ↦ inr (refl, torn) ]
+moves_or_still Migrated octet = inl (λ is. absurd (cc))
+moves_or_still New octet = inl (λ is. absurd (cc))
+
+stays_still : (image left : List ℕ) → image_fault image ≡ None → HasOneClosed image → IsStill (image_layout image) image → Regates image left
+    → StaysWithin image left
+stays_still image left none one still regates = elim (cases_eq (get_or image (other_at image) 0) CLOSED) [
+  | inr torn ↦ gate_stays image left (other_at image) none one (torn, inr (inl refl)) regates
   | inl shut ↦ elim (cases_lt (first_closed image) (slot_count image)) [
     | inr full ↦ rest_stays image left none one (λ at closed. elim closed.1 [
       | inl slot ↦ let room : first_closed image < slot_count image = slot.0 in omega arith
-      | inr gate ↦ closed.0 (ap (λ (k : ℕ). get_or image k 0) gate ∙ shut)
+      | inr beside ↦ elim beside [
+        | inl gate ↦ closed.0 (ap (λ (k : ℕ). get_or image k 0) gate ∙ shut)
+        | inr moves ↦ closed.0 (ap (λ (k : ℕ). get_or image k 0) moves.1 ∙ still moves.0)
+      ]
     ]) regates
     | inl room ↦ elim (cases_eq (gate_at (image_layout image) image (current_at image) (first_closed image)) CLOSED) [
       | inr torn ↦ gate_stays image left (slot_at (image_layout image) (current_at image) (first_closed image)) none one (torn, inl (room, refl)) regates
       | inl slot_shut ↦ rest_stays image left none one (λ at closed. elim closed.1 [
         | inl slot ↦ closed.0 (ap (λ (k : ℕ). get_or image k 0) slot.1 ∙ slot_shut)
-        | inr gate ↦ closed.0 (ap (λ (k : ℕ). get_or image k 0) gate ∙ shut)
+        | inr beside ↦ elim beside [
+          | inl gate ↦ closed.0 (ap (λ (k : ℕ). get_or image k 0) gate ∙ shut)
+          | inr moves ↦ closed.0 (ap (λ (k : ℕ). get_or image k 0) moves.1 ∙ still moves.0)
+        ]
       ]) regates
     ]
   ]
+]
+
+pub stays_within : (image left : List ℕ) → image_fault image ≡ None → HasOneClosed image → Regates image left → StaysWithin image left
+stays_within image left none one regates = elim (moves_or_still (image_layout image).form (get_or image MIGRATED_AT 0)) [
+  | inl still ↦ stays_still image left none one still regates
+  | inr moves ↦ gate_stays image left MIGRATED_AT none one (moves.1, inr (inr (moves.0, refl))) regates
 ]

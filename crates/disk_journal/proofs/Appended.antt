@@ -2,7 +2,7 @@
 use Rattle.std.proofs.Common.{◌≡◌, ℕ, ◌+◌, ◌<◌, ◌≤◌, ◌++◌, ◌∷◌, ◌∙◌, List, [], length, get_or, take, drop, sym, ap, subst, inl, inr, arith, length-append}
 use Rattle.disk_journal.proofs.Appends.{Appends, body_step, gate_step, in_slot, open_stands, opens_to}
 use Rattle.disk_journal.proofs.Ends.{starts_of}
-use Rattle.disk_journal.proofs.Keeping.{beside_of}
+use Rattle.disk_journal.proofs.Keeping.{beside_of, low_bank}
 use Rattle.disk_journal.proofs.Stands.{apart, stands_at, stands_current, stands_records}
 use Rattle.disk_journal.proofs.Turns.{after, bank_within, before}
 use Rattle.disk_journal.specs.Banks.{bank_at, bank_length, body_at, gate_at, generation_at, other, slot_at}
@@ -12,6 +12,7 @@ use Rattle.disk_journal.specs.Image.{Held, current, current_at, first_closed, gr
 use Rattle.disk_journal.specs.Journal.{IsSettled, IsSettledImage, JournalView}
 use Rattle.disk_journal.specs.declared.layout.Bank.{Bank}
 use Rattle.disk_journal.specs.declared.layout.Layout.{Layout}
+use Rattle.disk_journal.specs.declared.layout.TheConstants.{BANKS_AT}
 use Rattle.image_parts.proofs.Moments.{image_weaker}
 use Rattle.image_parts.proofs.Ranges.{all_but_then, all_but_wider, overwritten_but, overwritten_length, overwritten_one, overwritten_stretch, same_stretch}
 use Rattle.image_parts.proofs.SlotWrites.{Storing}
@@ -122,6 +123,8 @@ appended old body at journal writing =
               ∙ sym (ap (λ (some : List (List ℕ)). length some) bodies ∙ length-append (records old) (body ∷ []));
         };
         rests = opened.1;
+        old_banks = subst (λ (n : Layout). IsZero BANKS_AT n.banks new) (sym count)
+            (λ i low high. wide.outside i (inl (omega (arith, high, low_bank layout (current old)))) ∙ appends.starts.old_banks i low high);
         spare = subst (λ (n : Layout). IsZero (bank_at n (other (current new))) (bank_at n (other (current new)) + bank_length n) new) (sym count)
             (subst (λ (bank : Bank). IsZero (bank_at layout (other bank)) (bank_at layout (other bank) + bank_length layout) new) (sym one) spare);
       };

@@ -2,7 +2,7 @@
 use Rattle.std.proofs.Common.{◌≡◌, ◌≢◌, ℕ, ◌+◌, ◌<◌, ◌≤◌, ◌++◌, ◌∷◌, ◌∙◌, List, [], length, get_or, take, drop, set, ap, subst, inl, inr, arith, length-append}
 use Rattle.disk_journal.proofs.Keeping.{front_kept, plan_kept}
 use Rattle.disk_journal.proofs.Rests.{Keeps}
-use Rattle.disk_journal.proofs.Stands.{Stands, apart, behind, closed_in, holds_of}
+use Rattle.disk_journal.proofs.Stands.{IsStill, Stands, apart, behind, gate_in, holds_of, still_kept}
 use Rattle.disk_journal.proofs.Turns.{Starts, after, bank_within, before, rest_becomes, torn_becomes}
 use Rattle.disk_journal.specs.Banks.{bank_at, body_at, content_at, gate_at, other, slot_at}
 use Rattle.disk_journal.specs.Forms.{Becomes, Holds}
@@ -95,6 +95,13 @@ open_stands old new layout bank bodies body appends change here body_here =
           keeps.gates k below (omega arith) ∙ stands.quiet k high below;
     }
 
+-- an image of version 1 is still not on its way to be migrated
+slot_still : (old new : List ℕ) (layout : Layout) (bank : Bank) (bodies : List (List ℕ)) (body : List ℕ) → Appends old layout bank bodies body
+    → AllBut (slot_at layout (bank_at layout bank) (length bodies)) SLOT_LENGTH old new → IsStill layout new
+slot_still old new layout bank bodies body appends change =
+    let far : HEADER_LENGTH + PLAN_ROOM ≤ bank_at layout bank = behind layout bank appends.starts.stands.front.behind_plan in
+    still_kept (slot_at layout (bank_at layout bank) (length bodies)) SLOT_LENGTH layout old new change (omega arith) appends.starts.still
+
 abbrev pub grown_by : List ℕ → Layout → Bank → List (List ℕ) → List ℕ → Held
 grown_by old layout bank bodies body = grown body (before old layout bank bodies)
 
@@ -110,7 +117,7 @@ opens_to old new layout bank bodies body appends change here body_here =
     let longer : length (bodies ++ body ∷ []) ≡ length bodies + 1 = length-append bodies (body ∷ []) in (
       holds_of new layout bank (bodies ++ body ∷ []) (plan_of old) (content_at layout old from) stands keeps.plan keeps.same_content,
       λ at closed.
-          let in_place = closed_in new layout bank (bodies ++ body ∷ []) at stands closed in
+          let in_place = gate_in new layout bank (bodies ++ body ∷ []) at stands (slot_still old new layout bank bodies body appends change) closed in
           elim in_place.1 [
             | inl slot ↦
                 let next : length bodies + 1 < layout.slots = let below : length (bodies ++ body ∷ []) < layout.slots = slot.0 in omega arith in
@@ -124,7 +131,7 @@ shut_gates : (old new : List ℕ) (layout : Layout) (bank : Bank) (bodies : List
     → AllBut (slot_at layout (bank_at layout bank) (length bodies)) SLOT_LENGTH old new → Stands new layout bank bodies
     → (at : ℕ) → IsClosedGate new at → at ≡ slot_at layout (bank_at layout bank) (length bodies)
 shut_gates old new layout bank bodies body appends change stands at closed =
-    let in_place = closed_in new layout bank bodies at stands closed in
+    let in_place = gate_in new layout bank bodies at stands (slot_still old new layout bank bodies body appends change) closed in
     elim in_place.1 [
       | inl slot ↦ slot.1
       | inr gate ↦ absurd (in_place.0 (ap (λ (k : ℕ). get_or new k 0) gate ∙ still_shut old new layout bank bodies appends.starts appends.room change))

@@ -1,15 +1,16 @@
 -- The writes of the image that a journal begins with.
-use Rattle.std.proofs.Common.{◌≡◌, ℕ, zero, suc, ◌+◌, ◌-◌, ◌*◌, ◌<◌, ◌≤◌, ◌==◌, ◌++◌, ◌∷◌, ◌∙◌, not, true, List, [], length, get_or, take, drop, replicate, Some, refl, sym, ap, subst, inl, inr, arith, append-nil, append_assoc, length-append, Result, Ok, Err}
-use Rattle.disk_journal.proofs.Stands.{behind}
-use Rattle.disk_journal.proofs.Turns.{after, before}
-use Rattle.disk_journal.proofs.Verdicts.{header_verdict, short_verdict}
-use Rattle.disk_journal.specs.Banks.{bank_length, image_end, layout_of, next}
+use Rattle.std.proofs.Common.{◌≡◌, ℕ, zero, suc, ◌+◌, ◌-◌, ◌*◌, ◌<◌, ◌≤◌, ◌⊎◌, ◌==◌, ◌++◌, ◌∷◌, ◌∙◌, not, true, List, [], length, get_or, take, drop, replicate, Some, refl, sym, ap, subst, inl, inr, arith, append-nil, append_assoc, length-append, Result, Ok, Err}
+use Rattle.disk_journal.proofs.Refused.{header_verdict, short_verdict}
+use Rattle.disk_journal.specs.Banks.{bank_length, banks_of, image_end, layout_of, version_of}
 use Rattle.disk_journal.specs.Changes.{with_front, with_gate}
 use Rattle.disk_journal.specs.Fault.{header_checks, image_fault}
-use Rattle.disk_journal.specs.Initial.{IsLaid, IsShut, banks_at_rest, fields_of, initial_image, laid_image, rest_image}
+use Rattle.disk_journal.specs.Initial.{IsLaid, IsShut, banks_at_rest, created_image, fields_of, front_image, laid_image, rest_image}
+use Rattle.disk_journal.specs.declared.layout.Bank.{Bank}
 use Rattle.disk_journal.specs.declared.layout.Bank.TheVariants.{First}
+use Rattle.disk_journal.specs.declared.layout.HeaderForm.{HeaderForm}
+use Rattle.disk_journal.specs.declared.layout.HeaderForm.TheVariants.{Old, Migrated, New}
 use Rattle.disk_journal.specs.declared.layout.Layout.{Layout}
-use Rattle.disk_journal.specs.declared.layout.TheConstants.{BANKS_AT, CONTENT_AT, CONTENT_LENGTH, FIRST_GENERATION, GENERATION_AT, GENERATION_LENGTH}
+use Rattle.disk_journal.specs.declared.layout.TheConstants.{BANKS_AT, CONTENT_AT, FIRST_GENERATION, GENERATION_AT, GENERATION_LENGTH}
 use Rattle.byteorder.specs.Endian.{big_bytes}
 use Rattle.image_parts.proofs.Zeros.{length_zeros, more_zeros, synced_ok, zeros_end}
 use Rattle.image_parts.proofs.Moments.{image_same, image_then, image_weaker, sync_moments}
@@ -19,6 +20,7 @@ use Rattle.image_parts.specs.Header.{header_of}
 use Rattle.image_parts.specs.Zeros.{zeros}
 use Rattle.image_parts.specs.declared.layout.TheConstants.{CLOSED, HEADER_LENGTH, MAGIC_AT, OPEN, PLAN_ROOM, SLOT_LENGTH}
 use Rattle.sdls_base.specs.FirstFailing.{first_failing}
+use Rattle.sdls_base.specs.Version.{content_length_of}
 use Rattle.sdls_outside.proofs.Moments.{each_writes}
 use Rattle.sdls_outside.specs.Disk.{Disk, IsSynced, Leaves, Outside}
 use Rattle.sdls_outside.specs.Moments.{Trace}
@@ -130,8 +132,10 @@ longer front octets k =
     length-append (front ++ zeros k) octets ∙ ap (λ (n : ℕ). n + length octets) (length-append front (zeros k)
     ∙ ap (λ (n : ℕ). length front + n) (length_zeros k))
 
-fields_size : (plan_length slots : ℕ) → length (fields_of plan_length slots) ≡ 16
-fields_size plan_length slots = refl
+pub fields_size : (form : HeaderForm) (plan_length slots : ℕ) → length (fields_of form plan_length slots) ≡ 16
+fields_size Old plan_length slots = refl
+fields_size Migrated plan_length slots = refl
+fields_size New plan_length slots = refl
 
 no_zeros : zeros 0 ≡ []
 unfolding zeros
@@ -150,21 +154,50 @@ parts_join front number text slots spare =
     ∙ append_assoc front ((OPEN ∷ number) ++ text) (slots ++ spare)
     ∙ ap (λ (some : List ℕ). front ++ some) (sym (append_assoc ((OPEN ∷ number) ++ text) slots spare))
 
+-- an image that begins with a journal has no other banks before its own
+abbrev pub IsBegun : HeaderForm → Type 0
+IsBegun form = (form ≡ Old) ⊎ (form ≡ New)
+
+pub first_banks : (form : HeaderForm) (slots : ℕ) → IsBegun form → banks_of form slots ≡ BANKS_AT
+first_banks form slots (inl is) = ap (λ (one : HeaderForm). banks_of one slots) is
+first_banks form slots (inr is) = ap (λ (one : HeaderForm). banks_of one slots) is
+
 -- all that stands before the banks
-abbrev before_banks : List ℕ → ℕ → List ℕ
-before_banks plan slots = (((0 ∷ []) ++ fields_of (length plan) slots) ++ zeros 495 ++ plan) ++ zeros (PLAN_ROOM - length plan)
+abbrev before_banks : HeaderForm → List ℕ → ℕ → List ℕ
+before_banks form plan slots = (((0 ∷ []) ++ fields_of form (length plan) slots) ++ zeros 495 ++ plan) ++ zeros (PLAN_ROOM - length plan)
 
-parts_of : (plan : List ℕ) (slots generation : ℕ) (text : List ℕ)
-    → before_banks plan slots ++ banks_at_rest (layout_of slots) generation text First ≡ rest_image CLOSED plan slots text generation First
+front_is : (form : HeaderForm) (plan : List ℕ) (slots : ℕ) → IsBegun form → before_banks form plan slots ≡ front_image form CLOSED plan slots
+unfolding zeros
+front_is form plan slots (inl is) = rw is refl
+front_is form plan slots (inr is) = rw is refl
+
+-- then its image has no gap before the banks
+pub without_gap : (form : HeaderForm) (gate : ℕ) (plan : List ℕ) (slots : ℕ) (text : List ℕ) (generation : ℕ) (bank : Bank) → IsBegun form
+    → rest_image form gate plan slots text generation bank
+    ≡ front_image form gate plan slots ++ banks_at_rest (layout_of form slots) generation text bank
 unfolding rest_image
-parts_of plan slots generation text = refl
+without_gap form gate plan slots text generation bank begun =
+    let banks = banks_at_rest (layout_of form slots) generation text bank in
+    let front = front_image form gate plan slots in
+    let none : banks_of form slots - BANKS_AT ≡ 0 = let at = first_banks form slots begun in omega (arith, at) in
+    ap (λ (n : ℕ). (front ++ zeros n) ++ banks) none ∙ ap (λ (some : List ℕ). (front ++ some) ++ banks) no_zeros
+    ∙ ap (λ (some : List ℕ). some ++ banks) (append-nil front)
 
-bank_join : (plan : List ℕ) (slots generation left : ℕ) (text : List ℕ) → left ≡ SLOT_LENGTH * slots + bank_length (layout_of slots)
-    → (((before_banks plan slots ++ OPEN ∷ []) ++ zeros 0 ++ big_bytes GENERATION_LENGTH generation) ++ zeros 0 ++ text) ++ zeros left
-    ≡ rest_image CLOSED plan slots text generation First
-bank_join plan slots generation left text sized =
-    let front = before_banks plan slots in
+parts_of : (form : HeaderForm) (plan : List ℕ) (slots generation : ℕ) (text : List ℕ) → IsBegun form
+    → before_banks form plan slots ++ banks_at_rest (layout_of form slots) generation text First
+    ≡ rest_image form CLOSED plan slots text generation First
+parts_of form plan slots generation text begun =
+    ap (λ (some : List ℕ). some ++ banks_at_rest (layout_of form slots) generation text First) (front_is form plan slots begun)
+    ∙ sym (without_gap form CLOSED plan slots text generation First begun)
+
+bank_join : (form : HeaderForm) (plan : List ℕ) (slots generation left : ℕ) (text : List ℕ) → IsBegun form
+    → left ≡ SLOT_LENGTH * slots + bank_length (layout_of form slots)
+    → (((before_banks form plan slots ++ OPEN ∷ []) ++ zeros 0 ++ big_bytes GENERATION_LENGTH generation) ++ zeros 0 ++ text) ++ zeros left
+    ≡ rest_image form CLOSED plan slots text generation First
+bank_join form plan slots generation left text begun sized =
+    let front = before_banks form plan slots in
     let number = big_bytes GENERATION_LENGTH generation in
+    let size = bank_length (layout_of form slots) in
     let one : (front ++ OPEN ∷ []) ++ zeros 0 ≡ front ++ OPEN ∷ [] =
     ap (λ (some : List ℕ). (front ++ OPEN ∷ []) ++ some) no_zeros ∙ append-nil (front ++ OPEN ∷ []) in
     let two : ((front ++ OPEN ∷ []) ++ number) ++ zeros 0 ≡ (front ++ OPEN ∷ []) ++ number =
@@ -172,47 +205,53 @@ bank_join plan slots generation left text sized =
     ap (λ (some : List ℕ). ((some ++ number) ++ zeros 0 ++ text) ++ zeros left) one
     ∙ ap (λ (some : List ℕ). (some ++ text) ++ zeros left) two
     ∙ ap (λ (n : ℕ). (((front ++ OPEN ∷ []) ++ number) ++ text) ++ zeros n) sized
-    ∙ ap (λ (some : List ℕ). (((front ++ OPEN ∷ []) ++ number) ++ text) ++ some) (sym (zeros_joined (SLOT_LENGTH * slots) (bank_length (layout_of slots))))
-    ∙ parts_join front number text (zeros (SLOT_LENGTH * slots)) (zeros (bank_length (layout_of slots)))
-    ∙ parts_of plan slots generation text
+    ∙ ap (λ (some : List ℕ). (((front ++ OPEN ∷ []) ++ number) ++ text) ++ some) (sym (zeros_joined (SLOT_LENGTH * slots) size))
+    ∙ parts_join front number text (zeros (SLOT_LENGTH * slots)) (zeros size)
+    ∙ parts_of form plan slots generation text begun
 
 -- all of the writes
-pub laid_is : (plan : List ℕ) (slots generation size : ℕ) (text : List ℕ) → size ≡ image_end (layout_of slots) → length plan ≤ PLAN_ROOM
-    → length text ≡ CONTENT_LENGTH
+pub laid_is : (form : HeaderForm) (plan : List ℕ) (slots generation size : ℕ) (text : List ℕ) → IsBegun form
+    → size ≡ image_end (layout_of form slots) → length plan ≤ PLAN_ROOM → length text ≡ content_length_of (version_of form)
     → overwritten (with_front BANKS_AT generation
-    (overwritten (overwritten (zeros size) MAGIC_AT (fields_of (length plan) slots)) HEADER_LENGTH plan)) (BANKS_AT + CONTENT_AT) text
-    ≡ rest_image CLOSED plan slots text generation First
+    (overwritten (overwritten (zeros size) MAGIC_AT (fields_of form (length plan) slots)) HEADER_LENGTH plan)) (BANKS_AT + CONTENT_AT) text
+    ≡ rest_image form CLOSED plan slots text generation First
 unfolding with_front
-laid_is plan slots generation size text sized room long =
-    let fields = fields_of (length plan) slots in
+laid_is form plan slots generation size text begun sized room long =
+    let fields = fields_of form (length plan) slots in
     let number = big_bytes GENERATION_LENGTH generation in
     let k = PLAN_ROOM - length plan in
+    let end = 66057 + length text in
+    let at : banks_of form slots ≡ BANKS_AT = first_banks form slots begun in
     let f1 : List ℕ = (0 ∷ []) ++ fields in
     let f2 : List ℕ = f1 ++ zeros 495 ++ plan in
     let f3 : List ℕ = f2 ++ zeros k ++ OPEN ∷ [] in
     let f4 : List ℕ = f3 ++ zeros 0 ++ number in
-    let s1 : length f1 ≡ 17 = refl in
+    let s0 : length fields ≡ 16 = fields_size form (length plan) slots in
+    let s1 : length f1 ≡ 17 = ap suc s0 in
     let s2 : length f2 ≡ length f1 + 495 + length plan = longer f1 plan 495 in
     let s3 : length f3 ≡ length f2 + k + 1 = longer f2 (OPEN ∷ []) k in
     let s4 : length f4 ≡ length f3 + 0 + length number = longer f3 number 0 in
     let s5 : length number ≡ 8 = refl in
+    let whole : size ≡ 66057 + length text + (SLOT_LENGTH * slots + bank_length (layout_of form slots)) = omega (arith, at, sized, long) in
     let e0 : overwritten (zeros size) MAGIC_AT fields ≡ f1 ++ zeros (size - 17) =
-    written_zeros size 1 (size - 17) MAGIC_AT [] fields (zeros size) refl refl (let n : length fields ≡ 16 = refl in omega arith)
-    (let n : length fields ≡ 16 = refl in omega arith)
+    written_zeros size 1 (size - 17) MAGIC_AT [] fields (zeros size) refl refl (omega (arith, s0, whole)) (omega (arith, s0))
     ∙ ap (λ (some : List ℕ). (some ++ fields) ++ zeros (size - 17)) first_zero in
-    let e1 : overwritten (overwritten (zeros size) MAGIC_AT fields) HEADER_LENGTH plan ≡ f2 ++ zeros (size - (512 + length plan)) =
-    written_zeros (size - 17) 495 (size - (512 + length plan)) HEADER_LENGTH f1 plan (overwritten (zeros size) MAGIC_AT fields) e0
-    (omega arith) (omega arith) (omega arith) in
     let headed = overwritten (overwritten (zeros size) MAGIC_AT fields) HEADER_LENGTH plan in
-    let e2 : with_gate OPEN BANKS_AT headed ≡ f3 ++ zeros (size - 66049) =
-    written_zeros (size - (512 + length plan)) k (size - 66049) BANKS_AT f2 (OPEN ∷ []) headed e1 (omega arith) (omega arith) (omega arith) in
+    let e1 : headed ≡ f2 ++ zeros (size - (512 + length plan)) =
+    written_zeros (size - 17) 495 (size - (512 + length plan)) HEADER_LENGTH f1 plan (overwritten (zeros size) MAGIC_AT fields) e0
+    (omega (arith, s1)) (omega (arith, room, whole)) (omega arith) in
     let gated = with_gate OPEN BANKS_AT headed in
-    let e3 : overwritten gated (BANKS_AT + GENERATION_AT) number ≡ f4 ++ zeros (size - 66057) =
-    written_zeros (size - 66049) 0 (size - 66057) (BANKS_AT + GENERATION_AT) f3 number gated e2 (omega arith) (omega arith) (omega arith) in
+    let e2 : gated ≡ f3 ++ zeros (size - 66049) =
+    written_zeros (size - (512 + length plan)) k (size - 66049) BANKS_AT f2 (OPEN ∷ []) headed e1
+    (omega (arith, s1, s2, room)) (omega (arith, room, whole)) (omega (arith, room)) in
     let numbered = overwritten gated (BANKS_AT + GENERATION_AT) number in
-    let e4 : overwritten numbered (BANKS_AT + CONTENT_AT) text ≡ (f4 ++ zeros 0 ++ text) ++ zeros (size - 117760) =
-    written_zeros (size - 66057) 0 (size - 117760) (BANKS_AT + CONTENT_AT) f4 text numbered e3 (omega arith) (omega arith) (omega arith) in
-    e4 ∙ bank_join plan slots generation (size - 117760) text (omega arith)
+    let e3 : numbered ≡ f4 ++ zeros (size - 66057) =
+    written_zeros (size - 66049) 0 (size - 66057) (BANKS_AT + GENERATION_AT) f3 number gated e2
+    (omega (arith, s1, s2, s3, room)) (omega (arith, s5, whole)) (omega (arith, s5)) in
+    let e4 : overwritten numbered (BANKS_AT + CONTENT_AT) text ≡ (f4 ++ zeros 0 ++ text) ++ zeros (size - end) =
+    written_zeros (size - 66057) 0 (size - end) (BANKS_AT + CONTENT_AT) f4 text numbered e3
+    (omega (arith, s1, s2, s3, s4, s5, room)) (omega (arith, whole)) (omega arith) in
+    e4 ∙ bank_join form plan slots generation (size - end) text begun (omega (arith, whole))
 
 -- the calls, one after the other
 pub two_written : {T E : Type 0} → (result : Result T E) (old mid new : List ℕ) (at next : ℕ) (first named second : List ℕ)
@@ -240,25 +279,26 @@ pub wrote_size : (old new octets : List ℕ) (at : ℕ) → new ≡ overwritten 
     → length new ≡ length old
 wrote_size old new octets at written within = ap (λ (image : List ℕ). length image) written ∙ overwritten_length old at octets within
 
-pub laid_ok : {T E : Type 0} → (result : Result T E) (old new : Trace) (plan : List ℕ) (slots size : ℕ) (text zeroed headed : List ℕ)
-    → size ≡ image_end (layout_of slots) → length plan ≤ PLAN_ROOM → length text ≡ CONTENT_LENGTH → zeroed ≡ zeros size
-    → headed ≡ overwritten (overwritten zeroed MAGIC_AT (fields_of (length plan) slots)) HEADER_LENGTH plan
+pub laid_ok : {T E : Type 0} → (result : Result T E) (old new : Trace) (form : HeaderForm) (plan : List ℕ) (slots size : ℕ)
+    (text zeroed headed : List ℕ) → IsBegun form → size ≡ image_end (layout_of form slots) → length plan ≤ PLAN_ROOM
+    → length text ≡ content_length_of (version_of form) → zeroed ≡ zeros size
+    → headed ≡ overwritten (overwritten zeroed MAGIC_AT (fields_of form (length plan) slots)) HEADER_LENGTH plan
     → old.now.image ≡ overwritten (with_front BANKS_AT FIRST_GENERATION headed) (BANKS_AT + CONTENT_AT) text
-    → Syncs result old new → OnOk result (IsSynced new.now × (new.now.image ≡ laid_image plan slots text))
-laid_ok result old new plan slots size text zeroed headed sized room long empty head bank syncs =
-    synced_ok result old new (laid_image plan slots text) syncs
+    → Syncs result old new → OnOk result (IsSynced new.now × (new.now.image ≡ laid_image form plan slots text))
+laid_ok result old new form plan slots size text zeroed headed begun sized room long empty head bank syncs =
+    synced_ok result old new (laid_image form plan slots text) syncs
     (bank ∙ ap (λ (image : List ℕ). overwritten (with_front BANKS_AT FIRST_GENERATION image) (BANKS_AT + CONTENT_AT) text)
-    (head ∙ ap (λ (image : List ℕ). overwritten (overwritten image MAGIC_AT (fields_of (length plan) slots)) HEADER_LENGTH plan) empty)
-    ∙ laid_is plan slots FIRST_GENERATION size text sized room long)
+    (head ∙ ap (λ (image : List ℕ). overwritten (overwritten image MAGIC_AT (fields_of form (length plan) slots)) HEADER_LENGTH plan) empty)
+    ∙ laid_is form plan slots FIRST_GENERATION size text begun sized room long)
 
 -- the gate
-pub opened_is : (plan : List ℕ) (slots : ℕ) (text : List ℕ) → overwritten (laid_image plan slots text) 0 (OPEN ∷ []) ≡ initial_image plan slots text
+pub opened_is : (form : HeaderForm) (plan : List ℕ) (slots : ℕ) (text : List ℕ) → overwritten (laid_image form plan slots text) 0 (OPEN ∷ []) ≡ created_image form plan slots text
 unfolding rest_image
-opened_is plan slots text = refl
+opened_is form plan slots text = refl
 
-pub laid_length : (plan : List ℕ) (slots : ℕ) (text : List ℕ) → 1 ≤ length (laid_image plan slots text)
+pub laid_length : (form : HeaderForm) (plan : List ℕ) (slots : ℕ) (text : List ℕ) → 1 ≤ length (laid_image form plan slots text)
 unfolding rest_image
-laid_length plan slots text = omega arith
+laid_length form plan slots text = omega arith
 
 beyond : (gate octet : ℕ) (rest : List ℕ) (i : ℕ) → 0 + 1 ≤ i → get_or (gate ∷ rest) i 0 ≡ get_or (octet ∷ rest) i 0
 beyond gate octet rest zero above = absurd (omega arith)
@@ -273,10 +313,10 @@ gate_apart gate octet rest image change = record {
   ];
 }
 
-but_for_gate : (plan : List ℕ) (slots : ℕ) (text image : List ℕ) → AllBut 0 1 (laid_image plan slots text) image
-    → AllBut 0 1 (initial_image plan slots text) image
+but_for_gate : (form : HeaderForm) (plan : List ℕ) (slots : ℕ) (text image : List ℕ) → AllBut 0 1 (laid_image form plan slots text) image
+    → AllBut 0 1 (created_image form plan slots text) image
 unfolding rest_image
-but_for_gate plan slots text image change = gate_apart CLOSED OPEN _ image change
+but_for_gate form plan slots text image change = gate_apart CLOSED OPEN _ image change
 
 abbrev RefusedFirst : List ℕ → Type 0
 RefusedFirst image = image_fault image ≡ Some 0
@@ -289,28 +329,28 @@ pub then_refused : (old mid new : Trace) → EachImage old mid (λ image. length
 then_refused old mid new first second =
     image_then old mid new RefusedFirst (first_refused old mid first) (image_weaker mid new ShutImage RefusedFirst shut_fails second)
 
-pub laid_late : (plan : List ℕ) (slots : ℕ) (text : List ℕ) (old mid new : Trace) → EachImage old mid RefusedFirst → IsSynced mid.now
-    → mid.now.image ≡ laid_image plan slots text → EachImage mid new (AllBut 0 1 mid.now.image) → IsLaid plan slots text old mid new
-laid_late plan slots text old mid new early synced laid late = record {
+pub laid_late : (form : HeaderForm) (plan : List ℕ) (slots : ℕ) (text : List ℕ) (old mid new : Trace) → EachImage old mid RefusedFirst → IsSynced mid.now
+    → mid.now.image ≡ laid_image form plan slots text → EachImage mid new (AllBut 0 1 mid.now.image) → IsLaid form plan slots text old mid new
+laid_late form plan slots text old mid new early synced laid late = record {
   early = early;
   late = inr (
     synced,
     laid,
-    image_weaker mid new (AllBut 0 1 mid.now.image) (AllBut 0 1 (initial_image plan slots text))
-        (λ image change. but_for_gate plan slots text image (subst (λ (octets : List ℕ). AllBut 0 1 octets image) laid change)) late,
+    image_weaker mid new (AllBut 0 1 mid.now.image) (AllBut 0 1 (created_image form plan slots text))
+        (λ image change. but_for_gate form plan slots text image (subst (λ (octets : List ℕ). AllBut 0 1 octets image) laid change)) late,
   );
 }
 
-pub initial_ok : {T E : Type 0} → (result : Result T E) (plan : List ℕ) (slots : ℕ) (text : List ℕ) (mid new : Trace)
-    → mid.now.image ≡ laid_image plan slots text
+pub created_ok : {T E : Type 0} → (result : Result T E) (form : HeaderForm) (plan : List ℕ) (slots : ℕ) (text : List ℕ) (mid new : Trace)
+    → mid.now.image ≡ laid_image form plan slots text
     → OnOk result (IsSynced new.now × (new.now.image ≡ overwritten mid.now.image 0 (OPEN ∷ [])))
-    → OnOk result (IsSynced new.now × (new.now.image ≡ initial_image plan slots text))
-initial_ok (Ok value) plan slots text mid new laid stored =
-    (stored.0, stored.1 ∙ ap (λ (image : List ℕ). overwritten image 0 (OPEN ∷ [])) laid ∙ opened_is plan slots text)
-initial_ok (Err error) plan slots text mid new laid stored = tt
+    → OnOk result (IsSynced new.now × (new.now.image ≡ created_image form plan slots text))
+created_ok (Ok value) form plan slots text mid new laid stored =
+    (stored.0, stored.1 ∙ ap (λ (image : List ℕ). overwritten image 0 (OPEN ∷ [])) laid ∙ opened_is form plan slots text)
+created_ok (Err error) form plan slots text mid new laid stored = tt
 
-pub gate_within : (plan : List ℕ) (slots : ℕ) (text image : List ℕ) → image ≡ laid_image plan slots text → 0 + 1 ≤ length image
-gate_within plan slots text image laid = subst (λ (octets : List ℕ). 1 ≤ length octets) (sym laid) (laid_length plan slots text)
+pub gate_within : (form : HeaderForm) (plan : List ℕ) (slots : ℕ) (text image : List ℕ) → image ≡ laid_image form plan slots text → 0 + 1 ≤ length image
+gate_within form plan slots text image laid = subst (λ (octets : List ℕ). 1 ≤ length octets) (sym laid) (laid_length form plan slots text)
 
 rest_block : zeros 511 ≡ replicate 511 0
 unfolding zeros
@@ -321,19 +361,21 @@ first_block old mid begun written =
     written ∙ ap (λ (image : List ℕ). overwritten image 1 (replicate 511 0)) begun
     ∙ ap (λ (octets : List ℕ). overwritten (zeros 1) 1 octets) (sym rest_block) ∙ more_zeros 1 511
 
-pub headed_size : (zeroed headed plan : List ℕ) (slots size : ℕ) → zeroed ≡ zeros size → BANKS_AT ≤ size → length plan ≤ PLAN_ROOM
-    → headed ≡ overwritten (overwritten zeroed MAGIC_AT (fields_of (length plan) slots)) HEADER_LENGTH plan → length headed ≡ size
-headed_size zeroed headed plan slots size empty far room written =
-    let fields = fields_of (length plan) slots in
-    let sixteen : length fields ≡ 16 = fields_size (length plan) slots in
+pub headed_size : (form : HeaderForm) (zeroed headed plan : List ℕ) (slots size : ℕ) → zeroed ≡ zeros size → BANKS_AT ≤ size → length plan ≤ PLAN_ROOM
+    → headed ≡ overwritten (overwritten zeroed MAGIC_AT (fields_of form (length plan) slots)) HEADER_LENGTH plan → length headed ≡ size
+headed_size form zeroed headed plan slots size empty far room written =
+    let fields = fields_of form (length plan) slots in
+    let sixteen : length fields ≡ 16 = fields_size form (length plan) slots in
     let long : length zeroed ≡ size = zeros_end zeroed size empty in
     let first : length (overwritten zeroed MAGIC_AT fields) ≡ length zeroed = overwritten_length zeroed MAGIC_AT fields (omega arith) in
     wrote_size (overwritten zeroed MAGIC_AT fields) headed plan HEADER_LENGTH written (omega arith) ∙ first ∙ long
 
-pub blocks_size : (slots blocks : ℕ) (layout : Layout) → SLOT_LENGTH * blocks ≡ bank_length layout → layout ≡ layout_of slots
-    → SLOT_LENGTH * (129 + 2 * blocks) ≡ image_end (layout_of slots)
-blocks_size slots blocks layout sized is =
-    let same : bank_length layout ≡ bank_length (layout_of slots) = ap (λ (one : Layout). bank_length one) is in omega arith
+pub blocks_size : (form : HeaderForm) (slots blocks : ℕ) (layout : Layout) → IsBegun form → SLOT_LENGTH * blocks ≡ bank_length layout
+    → layout ≡ layout_of form slots → SLOT_LENGTH * (129 + 2 * blocks) ≡ image_end (layout_of form slots)
+blocks_size form slots blocks layout begun sized is =
+    let at = first_banks form slots begun in
+    let same : bank_length layout ≡ bank_length (layout_of form slots) = ap (λ (one : Layout). bank_length one) is in
+    omega (arith, at, same, sized)
 
 pub front_size : (old new : List ℕ) (bank generation : ℕ) → new ≡ with_front bank generation old → bank + CONTENT_AT ≤ length old
     → length new ≡ length old

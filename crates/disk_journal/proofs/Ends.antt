@@ -1,7 +1,7 @@
 -- A whole turn.
 use Rattle.std.proofs.Common.{◌≡◌, ℕ, ◌+◌, ◌-◌, ◌<◌, ◌≤◌, ◌∷◌, ◌∙◌, List, [], length, get_or, refl, sym, ap, subst, inl, inr, arith}
 use Rattle.disk_journal.proofs.Keeping.{beside_of, beside_then, fresh_generation}
-use Rattle.disk_journal.proofs.Stands.{Stands, opens_stands, stands_at, stands_current, stands_opens, stands_records, twice_other}
+use Rattle.disk_journal.proofs.Stands.{IsStill, Stands, opens_stands, stands_at, stands_current, stands_opens, stands_records, twice_other}
 use Rattle.disk_journal.proofs.Turns.{IsNew, Opened, Starts, Turns, after, bank_within, before, first_step, fourth_step, gate_inside, gate_torn, is_filled, later_fits, new_holds, new_rests, new_stands, rest_new, second_step, third_step, with_other_gate}
 use Rattle.disk_journal.proofs.Zeros.{cleared}
 use Rattle.disk_journal.specs.Banks.{bank_at, bank_length, gate_at, generation_at, head_length, next, other, slot_at}
@@ -12,6 +12,7 @@ use Rattle.disk_journal.specs.Journal.{IsSettled, IsSettledImage, JournalView}
 use Rattle.disk_journal.specs.Rest.{IsRest, IsRestIn}
 use Rattle.disk_journal.specs.declared.layout.Bank.{Bank}
 use Rattle.disk_journal.specs.declared.layout.Layout.{Layout}
+use Rattle.disk_journal.specs.declared.layout.TheConstants.{BANKS_AT, MIGRATED_AT}
 use Rattle.image_parts.proofs.Moments.{image_weaker, synced_holds}
 use Rattle.image_parts.proofs.Ranges.{overwritten_but, overwritten_one}
 use Rattle.image_parts.specs.Changes.{AllBut, EachImage}
@@ -19,6 +20,13 @@ use Rattle.image_parts.specs.declared.layout.TheConstants.{CLOSED, OPEN}
 use Rattle.sdls_outside.specs.Disk.{IsSynced, Leaves}
 use Rattle.sdls_outside.specs.Moments.{Trace}
 use Rattle.std.proofs.lemmas.Bool.{cases_eq}
+
+-- an image at rest is not on its way to be migrated
+pub settled_still : (image : List ℕ) (journal : JournalView) → IsSettledImage image journal → IsStill (image_layout image) image
+settled_still image journal settled old_is = elim (cases_eq (get_or image MIGRATED_AT 0) CLOSED) [
+  | inl shut ↦ shut
+  | inr torn ↦ absurd (settled.rests MIGRATED_AT (torn, inr (inr (old_is, refl))))
+]
 
 -- a journal at rest can turn
 pub starts_of : (image : List ℕ) (journal : JournalView) → IsSettledImage image journal → Starts image (image_layout image) (current image) (records image)
@@ -29,6 +37,8 @@ starts_of image journal settled = record {
     | inr torn ↦ absurd (settled.rests (slot_at (image_layout image) (current_at image) (first_closed image)) (torn, inl (room, refl)))
   ];
   spare = settled.spare;
+  still = settled_still image journal settled;
+  old_banks = settled.old_banks;
 }
 
 pub turns_of : (image text : List ℕ) (journal : JournalView) (generation : ℕ) → IsSettledImage image journal → length text ≡ (image_layout image).content_length
@@ -150,6 +160,9 @@ ended old layout generation bank bodies text image turns cleared =
     let empty : IsZero from (from + bank_length layout) image = zero_all from (bank_length layout) image shut cleared.zero in
     let spare : IsZero (bank_at layout (other (other bank))) (bank_at layout (other (other bank)) + bank_length layout) image =
     subst (λ (back : Bank). IsZero (bank_at layout back) (bank_at layout back + bank_length layout) image) (sym (twice_other bank)) empty in
+    let beside : KeepsBeside layout old image = ended_beside old layout generation bank bodies text image turns cleared.change in
+    let old_banks : IsZero BANKS_AT layout.banks image =
+    λ i low high. beside.outside i (inl high) ∙ turns.starts.old_banks i low high in
     let spare_there : IsZero (other_at image) (other_at image + bank_length (image_layout image)) image =
     subst (λ (n : Layout). IsZero (bank_at n (other (current image))) (bank_at n (other (current image)) + bank_length n) image) (sym count)
     (subst (λ (one : Bank). IsZero (bank_at layout (other one)) (bank_at layout (other one) + bank_length layout) image) (sym is_current) spare) in
@@ -165,16 +178,18 @@ ended old layout generation bank bodies text image turns cleared =
           used = ap (λ (some : List (List ℕ)). length some) (sym none);
         };
         rests = new_rests old image layout generation bank text image_new shut;
+        old_banks = subst (λ (n : Layout). IsZero BANKS_AT n.banks image) (sym count) old_banks;
         spare = spare_there;
       };
       holds = new_holds old layout generation (other bank) text image image_new;
-      beside = ended_beside old layout generation bank bodies text image turns cleared.change;
+      beside = beside;
       rest = subst (λ (n : Layout). IsRestIn n image (other bank) generation text) (sym count) (record {
         is_current = is_current;
         gate = image_new.gate;
         has_generation = image_new.fresh.has_generation;
         has_content = image_new.fresh.has_content;
         zero_slots = image_new.fresh.zero;
+        old_banks = old_banks;
         spare = spare;
       });
     }

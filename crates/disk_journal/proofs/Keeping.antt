@@ -1,14 +1,15 @@
 -- What a change in one bank, or in a part of it, keeps.
-use Rattle.std.proofs.Common.{◌≡◌, ◌≢◌, ℕ, ◌+◌, ◌-◌, ◌*◌, ◌^◌, ◌<◌, ◌≤◌, ◌⊎◌, ◌==◌, ◌||◌, ◌∷◌, ◌∙◌, not, nat_lt, Bool, false, List, [], length, get_or, take, drop, None, refl, sym, ap, subst, inl, inr, arith, append-nil}
+use Rattle.std.proofs.Common.{◌≡◌, ◌≢◌, ℕ, ◌+◌, ◌-◌, ◌*◌, ◌^◌, ◌<◌, ◌≤◌, ◌⊎◌, ◌==◌, ◌||◌, ◌&&◌, ◌∷◌, ◌∙◌, not, nat_lt, Bool, false, List, [], length, get_or, take, drop, None, refl, sym, ap, subst, inl, inr, arith, append-nil}
 use Rattle.disk_journal.proofs.Stands.{HasFront, Stands, apart, behind}
-use Rattle.disk_journal.specs.Banks.{bank_at, bank_length, body_at, content_at, gate_at, generation_at, head_length, image_end, layout_of, next, other, slot_at}
+use Rattle.disk_journal.specs.Banks.{bank_at, bank_length, body_at, content_at, gate_at, generation_at, head_length, image_end, layout_of, next, other, slot_at, zeros_at_of}
+use Rattle.disk_journal.specs.Header.{form_in, has_magic}
 use Rattle.disk_journal.specs.Changes.{IsZero, KeepsBeside, filled}
 use Rattle.disk_journal.specs.Fault.{header_checks}
 use Rattle.disk_journal.specs.Image.{image_layout, plan_of}
 use Rattle.disk_journal.specs.declared.layout.Bank.{Bank}
 use Rattle.disk_journal.specs.declared.layout.Bank.TheVariants.{First, Second}
 use Rattle.disk_journal.specs.declared.layout.Layout.{Layout}
-use Rattle.disk_journal.specs.declared.layout.TheConstants.{CONTENT_AT, GENERATION_AT, GENERATION_LENGTH, MAGIC}
+use Rattle.disk_journal.specs.declared.layout.TheConstants.{CONTENT_AT, GENERATION_AT, GENERATION_LENGTH, MAGIC_ONE, MAGIC_TWO}
 use Rattle.byteorder.specs.Endian.{big_bytes, big_number}
 use Rattle.byteorder.specs.Numbers.{big_number-reads_back}
 use Rattle.image_parts.proofs.Failing.{all_passed}
@@ -16,51 +17,84 @@ use Rattle.image_parts.proofs.Gating.{records_stay}
 use Rattle.image_parts.proofs.Ranges.{all_but_same, all_but_then, all_but_wider, overwritten_but, overwritten_length, overwritten_stretch, same_front, same_stretch}
 use Rattle.image_parts.specs.Changes.{AllBut}
 use Rattle.image_parts.specs.Header.{header_of, plan_length_in, slot_count_in}
-use Rattle.image_parts.specs.declared.layout.TheConstants.{CLOSED, HEADER_LENGTH, LEAST_SLOTS, MAGIC_AT, MOST_SLOTS, OPEN, PLAN_LENGTH_AT, PLAN_ROOM, SLOT_COUNT_AT, ZEROS_AT}
+use Rattle.image_parts.specs.declared.layout.TheConstants.{CLOSED, HEADER_LENGTH, LEAST_SLOTS, MAGIC_AT, MOST_SLOTS, OPEN, PLAN_LENGTH_AT, PLAN_ROOM, SLOT_COUNT_AT}
 use Rattle.sdls_base.specs.FirstFailing.{first_failing}
 use Rattle.sdls_base.specs.declared.TheConstants.{BODY_LENGTH}
 use Rattle.sdls_outside.specs.Site.{overwritten}
 use Rattle.std.proofs.lemmas.Bool.Decides.{nat_tests}
-use Rattle.std.specs.List.{list_any, slice_range}
-use Rattle.std.specs.Str.{bytes_eq}
+use Rattle.std.specs.List.{list_any}
 
 -- the numbers of a header that passes
 pub record Bounds (header : List ℕ) (image_length : ℕ) : Type 0 where
   pub plan : plan_length_in header ≤ PLAN_ROOM
   pub most : slot_count_in header ≤ MOST_SLOTS
-  pub long : image_end (layout_of (slot_count_in header)) ≤ image_length
+  pub long : image_end (layout_of (form_in header) (slot_count_in header)) ≤ image_length
 
-bounds_of : (header : List ℕ) (image_length plan slots : ℕ) → plan ≡ plan_length_in header → slots ≡ slot_count_in header
+bounds_of : (header : List ℕ) (image_length plan slots end : ℕ) → plan ≡ plan_length_in header → slots ≡ slot_count_in header
+    → end ≡ image_end (layout_of (form_in header) (slot_count_in header))
     → nat_lt PLAN_ROOM plan ≡ false → (nat_lt slots LEAST_SLOTS || nat_lt MOST_SLOTS slots) ≡ false
-    → nat_lt image_length (image_end (layout_of slots)) ≡ false → Bounds header image_length
-bounds_of header image_length plan slots plan_is slots_is plan_fits slots_fit long =
+    → nat_lt image_length end ≡ false → Bounds header image_length
+bounds_of header image_length plan slots end plan_is slots_is end_is plan_fits slots_fit long =
     let room : plan ≤ PLAN_ROOM = grind (arith, nat_tests) in
     let most : slots ≤ MOST_SLOTS = grind (arith, nat_tests) in
-    let whole : image_end (layout_of slots) ≤ image_length = grind (arith, nat_tests) in
+    let whole : end ≤ image_length = grind (arith, nat_tests) in
     record {
       plan = subst (λ (n : ℕ). n ≤ PLAN_ROOM) plan_is room;
       most = subst (λ (n : ℕ). n ≤ MOST_SLOTS) slots_is most;
-      long = subst (λ (n : ℕ). image_end (layout_of n) ≤ image_length) slots_is whole;
+      long = subst (λ (n : ℕ). n ≤ image_length) end_is whole;
     }
 
-middle_passed : (a b c d e f : Bool) (h i j k l m : ℕ)
-    → first_failing ((a, h) ∷ (b, i) ∷ (c, j) ∷ (d, k) ∷ (e, l) ∷ (f, m) ∷ []) ≡ None → (c ≡ false) × (d ≡ false) × (e ≡ false)
-middle_passed a b c d e f h i j k l m none =
+-- each check of a header passes
+pub record AllPass (header : List ℕ) (image_length : ℕ) : Type 0 where
+  pub gate : not (get_or header 0 0 == OPEN) ≡ false
+  pub magic : (not (has_magic MAGIC_ONE header) && not (has_magic MAGIC_TWO header)) ≡ false
+  pub plan : nat_lt PLAN_ROOM (plan_length_in header) ≡ false
+  pub slots : (nat_lt (slot_count_in header) LEAST_SLOTS || nat_lt MOST_SLOTS (slot_count_in header)) ≡ false
+  pub long : nat_lt image_length (image_end (layout_of (form_in header) (slot_count_in header))) ≡ false
+  pub rest : list_any (λ octet. not (octet == 0)) (drop (zeros_at_of (form_in header)) header) ≡ false
+
+six_passed : (a b c d e f : Bool) (h i j k l m : ℕ)
+    → first_failing ((a, h) ∷ (b, i) ∷ (c, j) ∷ (d, k) ∷ (e, l) ∷ (f, m) ∷ []) ≡ None
+    → (a ≡ false) × (b ≡ false) × (c ≡ false) × (d ≡ false) × (e ≡ false) × (f ≡ false)
+six_passed a b c d e f h i j k l m none =
     let first = all_passed a h ((b, i) ∷ (c, j) ∷ (d, k) ∷ (e, l) ∷ (f, m) ∷ []) none in
     let second = all_passed b i ((c, j) ∷ (d, k) ∷ (e, l) ∷ (f, m) ∷ []) first.others in
     let third = all_passed c j ((d, k) ∷ (e, l) ∷ (f, m) ∷ []) second.others in
     let fourth = all_passed d k ((e, l) ∷ (f, m) ∷ []) third.others in
     let fifth = all_passed e l ((f, m) ∷ []) fourth.others in
-    (third.first, fourth.first, fifth.first)
+    let sixth = all_passed f m [] fifth.others in
+    (first.first, second.first, third.first, fourth.first, fifth.first, sixth.first)
+
+all_six : (a b c d e f : Bool) (h i j k l m : ℕ) → a ≡ false → b ≡ false → c ≡ false → d ≡ false → e ≡ false → f ≡ false
+    → first_failing ((a, h) ∷ (b, i) ∷ (c, j) ∷ (d, k) ∷ (e, l) ∷ (f, m) ∷ []) ≡ None
+all_six a b c d e f h i j k l m t u v w x y = rw t (rw u (rw v (rw w (rw x (rw y refl)))))
+
+pub header_passes : (header : List ℕ) (image_length : ℕ) → AllPass header image_length
+    → first_failing (header_checks header image_length) ≡ None
+header_passes header image_length pass =
+    all_six (not (get_or header 0 0 == OPEN)) (not (has_magic MAGIC_ONE header) && not (has_magic MAGIC_TWO header))
+    (nat_lt PLAN_ROOM (plan_length_in header)) (nat_lt (slot_count_in header) LEAST_SLOTS || nat_lt MOST_SLOTS (slot_count_in header))
+    (nat_lt image_length (image_end (layout_of (form_in header) (slot_count_in header))))
+    (list_any (λ octet. not (octet == 0)) (drop (zeros_at_of (form_in header)) header))
+    0 MAGIC_AT PLAN_LENGTH_AT SLOT_COUNT_AT image_length (zeros_at_of (form_in header))
+    pass.gate pass.magic pass.plan pass.slots pass.long pass.rest
+
+pub header_passed : (header : List ℕ) (image_length : ℕ) → first_failing (header_checks header image_length) ≡ None
+    → AllPass header image_length
+header_passed header image_length none =
+    let passed = six_passed (not (get_or header 0 0 == OPEN)) (not (has_magic MAGIC_ONE header) && not (has_magic MAGIC_TWO header))
+    (nat_lt PLAN_ROOM (plan_length_in header)) (nat_lt (slot_count_in header) LEAST_SLOTS || nat_lt MOST_SLOTS (slot_count_in header))
+    (nat_lt image_length (image_end (layout_of (form_in header) (slot_count_in header))))
+    (list_any (λ octet. not (octet == 0)) (drop (zeros_at_of (form_in header)) header))
+    0 MAGIC_AT PLAN_LENGTH_AT SLOT_COUNT_AT image_length (zeros_at_of (form_in header)) none in
+    record { gate = passed.0; magic = passed.1; plan = passed.2; slots = passed.3; long = passed.4; rest = passed.5 }
 
 pub header_bounds : (header : List ℕ) (image_length : ℕ) → first_failing (header_checks header image_length) ≡ None
     → Bounds header image_length
 header_bounds header image_length none =
-    let passed = middle_passed (not (get_or header 0 0 == OPEN)) (not (bytes_eq (slice_range header MAGIC_AT PLAN_LENGTH_AT) MAGIC))
-    (nat_lt PLAN_ROOM (plan_length_in header)) (nat_lt (slot_count_in header) LEAST_SLOTS || nat_lt MOST_SLOTS (slot_count_in header))
-    (nat_lt image_length (image_end (layout_of (slot_count_in header)))) (list_any (λ octet. not (octet == 0)) (drop ZEROS_AT header))
-    0 MAGIC_AT PLAN_LENGTH_AT SLOT_COUNT_AT image_length ZEROS_AT none in
-    bounds_of header image_length (plan_length_in header) (slot_count_in header) refl refl passed.0 passed.1 passed.2
+    let pass = header_passed header image_length none in
+    bounds_of header image_length (plan_length_in header) (slot_count_in header)
+    (image_end (layout_of (form_in header) (slot_count_in header))) refl refl refl pass.plan pass.slots pass.long
 
 pub front_bounds : (image : List ℕ) (layout : Layout) → HasFront image layout → image_end layout ≤ length image
 unfolding image_layout
@@ -76,7 +110,7 @@ front_kept at count layout old new change behind front =
       whole = subst (λ (n : ℕ). HEADER_LENGTH ≤ n) (sym change.same_length) front.whole;
       header = ap (λ (header : List ℕ). first_failing (header_checks header (length new))) same
           ∙ ap (λ (size : ℕ). first_failing (header_checks (header_of old) size)) change.same_length ∙ front.header;
-      same_layout = ap (λ (header : List ℕ). layout_of (slot_count_in header)) same ∙ front.same_layout;
+      same_layout = ap (λ (header : List ℕ). layout_of (form_in header) (slot_count_in header)) same ∙ front.same_layout;
       behind_plan = front.behind_plan;
     }
 
@@ -209,7 +243,7 @@ filling bank layout generation text old sized within empty =
     }
 
 -- what changes in a bank leaves what stands beside the banks
-low_bank : (layout : Layout) (bank : Bank) → layout.banks ≤ bank_at layout bank
+pub low_bank : (layout : Layout) (bank : Bank) → layout.banks ≤ bank_at layout bank
 low_bank layout First = omega arith
 low_bank layout Second = omega arith
 

@@ -1,14 +1,15 @@
 -- The reads of an open journal, and of an image that is opened.
 use Rattle.std.proofs.Common.{◌≡◌, ℕ, zero, suc, ◌+◌, ◌-◌, ◌<◌, ◌≤◌, ◌++◌, ◌∷◌, ◌∙◌, List, [], length, get_or, take, drop, min, Some, None, refl, sym, ap, subst, arith, length-drop}
 use Rattle.disk_journal.proofs.Keeping.{Bounds, header_bounds}
-use Rattle.disk_journal.proofs.Stands.{opens_stands}
+use Rattle.disk_journal.proofs.Stands.{banks_behind, opens_stands}
 use Rattle.disk_journal.proofs.Turns.{bank_within}
 use Rattle.disk_journal.specs.Banks.{bank_at, bank_length, body_at, generation_at, image_end, layout_of, slot_at}
 use Rattle.disk_journal.specs.Fault.{image_fault}
+use Rattle.disk_journal.specs.Header.{form_in}
 use Rattle.disk_journal.specs.Image.{content, current_at, first_closed, image_layout, plan_of, record_at, records, slot_count}
 use Rattle.disk_journal.specs.Journal.{IsJournalOf, IsOpen, JournalView}
 use Rattle.disk_journal.specs.declared.layout.Layout.{Layout}
-use Rattle.disk_journal.specs.declared.layout.TheConstants.{CONTENT_AT, CONTENT_LENGTH, GENERATION_AT, GENERATION_LENGTH}
+use Rattle.disk_journal.specs.declared.layout.TheConstants.{CONTENT_AT, GENERATION_AT, GENERATION_LENGTH}
 use Rattle.byteorder.specs.Endian.{big_number}
 use Rattle.image_parts.specs.Header.{header_of, plan_length_in, slot_count_in}
 use Rattle.image_parts.specs.declared.layout.TheConstants.{HEADER_LENGTH, PLAN_ROOM}
@@ -41,24 +42,18 @@ pub content_place : (image : List ℕ) (journal : JournalView) (at : ℕ) → at
 content_place image journal at place of_image = place ∙ ap (λ (bank : ℕ). bank + CONTENT_AT) (bank_is image journal of_image)
 
 -- the content
-known_content : (image : List ℕ) → (image_layout image).content_length ≡ CONTENT_LENGTH
-unfolding image_layout
-known_content image = refl
-
 pub content_within : (old : Trace) (journal : JournalView) (at size : ℕ) → IsOpen old journal → at ≡ bank_at journal.layout journal.bank + CONTENT_AT
-    → size ≡ CONTENT_LENGTH → at + size ≤ length old.now.image
+    → size ≡ journal.layout.content_length → at + size ≤ length old.now.image
 content_within old journal at size opened place sized =
-    let known : journal.layout.content_length ≡ CONTENT_LENGTH =
-    ap (λ (one : Layout). one.content_length) opened.of_image.layout ∙ known_content old.now.image in
     let within = banks_within old.now.image journal opened.of_image in
-    omega (arith, within, place, sized, known)
+    omega (arith, within, place, sized)
 
 pub content_read : (old : Trace) (journal : JournalView) (at size : ℕ) (into : List ℕ) → IsOpen old journal
-    → at ≡ bank_at journal.layout journal.bank + CONTENT_AT → size ≡ CONTENT_LENGTH
+    → at ≡ bank_at journal.layout journal.bank + CONTENT_AT → size ≡ journal.layout.content_length
     → into ≡ take size (drop at old.now.image) → into ≡ content old.now.image
 content_read old journal at size into opened place sized read =
     let image = old.now.image in
-    let long : size ≡ (image_layout image).content_length = sized ∙ sym (known_content image) in
+    let long : size ≡ (image_layout image).content_length = sized ∙ ap (λ (one : Layout). one.content_length) opened.of_image.layout in
     read ∙ ap (λ (n : ℕ). take n (drop at image)) long
     ∙ ap (λ (from : ℕ). take (image_layout image).content_length (drop from image)) (content_place image journal at place opened.of_image)
 
@@ -108,7 +103,9 @@ pub plan_size : (image : List ℕ) → Bounds (header_of image) (length image) �
 unfolding plan_of
 plan_size image bounds =
     let room : plan_length_in (header_of image) ≤ PLAN_ROOM = bounds.plan in
-    let long : image_end (layout_of (slot_count_in (header_of image))) ≤ length image = bounds.long in
+    let long : image_end (layout_of (form_in (header_of image)) (slot_count_in (header_of image))) ≤ length image = bounds.long in
+    let far : HEADER_LENGTH + PLAN_ROOM ≤ length image =
+    let behind = banks_behind (form_in (header_of image)) (slot_count_in (header_of image)) in omega (arith, long, behind) in
     let behind : length (drop HEADER_LENGTH image) ≡ length image - HEADER_LENGTH = length-drop HEADER_LENGTH image in
     sym (length-take-le (plan_length_in (header_of image)) (drop HEADER_LENGTH image) (omega arith))
 
@@ -122,7 +119,9 @@ plan_within old journal out opened =
     let image = old.now.image in
     let bounds = bounds_in image journal opened.of_image in
     let room : plan_length_in (header_of image) ≤ PLAN_ROOM = bounds.plan in
-    let long : image_end (layout_of (slot_count_in (header_of image))) ≤ length image = bounds.long in
+    let long : image_end (layout_of (form_in (header_of image)) (slot_count_in (header_of image))) ≤ length image = bounds.long in
+    let far : HEADER_LENGTH + PLAN_ROOM ≤ length image =
+    let behind = banks_behind (form_in (header_of image)) (slot_count_in (header_of image)) in omega (arith, long, behind) in
     let same : journal.plan_length ≡ plan_length_in (header_of image) = opened.of_image.plan ∙ sym (plan_size image bounds) in
     let cut : length (take journal.plan_length out) ≡ min journal.plan_length (length out) = length-take journal.plan_length out in
     omega arith

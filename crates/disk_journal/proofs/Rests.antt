@@ -1,7 +1,7 @@
 -- An image that is brought to rest.
 use Rattle.std.proofs.Common.{◌≡◌, ◌≢◌, ℕ, ◌+◌, ◌-◌, ◌<◌, ◌≤◌, ◌⊎◌, ◌∙◌, List, length, get_or, refl, sym, ap, subst, inl, inr, arith}
 use Rattle.disk_journal.proofs.Keeping.{SameBank, bank_kept, front_kept, plan_kept}
-use Rattle.disk_journal.proofs.Stands.{HasFront, Stands, apart, behind, closed_in, held_by, holds_of}
+use Rattle.disk_journal.proofs.Stands.{HasFront, IsStill, Stands, apart, behind, gate_in, held_by, holds_of}
 use Rattle.disk_journal.proofs.Turns.{after, before, rest_becomes}
 use Rattle.disk_journal.specs.Banks.{bank_at, bank_length, body_at, content_at, gate_at, generation_at, head_length, other, slot_at}
 use Rattle.disk_journal.specs.Changes.{Gated, GatedSlot, IsCleared, IsZero}
@@ -94,6 +94,7 @@ not_open octet shut here = omega arith
 pub record Shut (new : List ℕ) (layout : Layout) (bank : Bank) (used : ℕ) : Type 0 where
   pub slot : used < layout.slots → gate_at layout new (bank_at layout bank) used ≡ CLOSED
   pub beside : get_or new (bank_at layout (other bank)) 0 ≡ CLOSED
+  pub still : IsStill layout new
 
 keeps_stands : (old new : List ℕ) (layout : Layout) (bank : Bank) (bodies : List (List ℕ)) → Stands old layout bank bodies
     → Keeps old new layout bank (length bodies) → Shut new layout bank (length bodies) → Stands new layout bank bodies
@@ -112,7 +113,7 @@ keeps_stands old new layout bank bodies stands keeps shut =
 shut_rests : (old new : List ℕ) (layout : Layout) (bank : Bank) (bodies : List (List ℕ)) → Stands new layout bank bodies
     → Shut new layout bank (length bodies) → IsAtRest new
 shut_rests old new layout bank bodies stands shut at closed =
-    let here = closed_in new layout bank bodies at stands closed in
+    let here = gate_in new layout bank bodies at stands shut.still closed in
     elim here.1 [
       | inl slot ↦ here.0 (ap (λ (k : ℕ). get_or new k 0) slot.1 ∙ shut.slot slot.0)
       | inr gate ↦ here.0 (ap (λ (k : ℕ). get_or new k 0) gate ∙ shut.beside)
@@ -121,7 +122,7 @@ shut_rests old new layout bank bodies stands shut at closed =
 -- while the rest of the other bank is zeroed
 pub record Rested (old new : List ℕ) (layout : Layout) (bank : Bank) (bodies : List (List ℕ)) : Type 0 where
   pub stands : Stands new layout bank bodies
-  pub holds : Holds new (held_by (plan_of old) layout.slots (content_at layout old (bank_at layout bank)) bodies)
+  pub holds : Holds new (held_by (plan_of old) layout (content_at layout old (bank_at layout bank)) bodies)
   pub rests : IsAtRest new
   pub generation : generation_at new (bank_at layout bank) ≡ generation_at old (bank_at layout bank)
 

@@ -3,20 +3,20 @@ use Rattle.std.proofs.Common.{◌≡◌, ℕ, ◌+◌, ◌-◌, ◌*◌, ◌<◌
 use Rattle.disk_journal.proofs.Ends.{zero_all}
 use Rattle.disk_journal.proofs.Keeping.{beside_of, beside_same, beside_then}
 use Rattle.disk_journal.proofs.Rests.{Keeps, Rested, keeps_other, keeps_same, keeps_slot, regates_one, regates_two, rested, rested_settles}
-use Rattle.disk_journal.proofs.Stands.{apart, opens_stands, stands_at, stands_current, stands_records}
+use Rattle.disk_journal.proofs.Stands.{IsStill, apart, behind, opens_stands, stands_at, stands_current, stands_records, still_kept}
 use Rattle.disk_journal.proofs.Turns.{after, bank_within, before}
 use Rattle.disk_journal.proofs.Zeros.{cleared}
 use Rattle.disk_journal.specs.Banks.{bank_at, bank_length, generation_at, next, other, slot_at}
 use Rattle.disk_journal.specs.Changes.{Gated, GatedSlot, IsCleared, IsZero, KeepsBeside}
 use Rattle.disk_journal.specs.Forms.{Regates, Settles}
 use Rattle.disk_journal.specs.Image.{Held, current, current_at, first_closed, held, image_layout, other_at, records, slot_count}
-use Rattle.disk_journal.specs.Journal.{IsJournalOf, IsSettled, JournalView}
+use Rattle.disk_journal.specs.Journal.{IsClosed, IsJournalOf, JournalView}
 use Rattle.disk_journal.specs.declared.layout.Bank.{Bank}
 use Rattle.disk_journal.specs.declared.layout.Layout.{Layout}
 use Rattle.image_parts.proofs.Moments.{image_then, image_weaker}
 use Rattle.image_parts.specs.Changes.{AllBut, EachImage}
 use Rattle.image_parts.specs.Slots.{gated}
-use Rattle.image_parts.specs.declared.layout.TheConstants.{CLOSED, SLOT_LENGTH}
+use Rattle.image_parts.specs.declared.layout.TheConstants.{CLOSED, HEADER_LENGTH, PLAN_ROOM, SLOT_LENGTH}
 use Rattle.sdls_outside.specs.Disk.{IsSynced}
 use Rattle.sdls_outside.specs.Moments.{Trace}
 use Rattle.std.specs.Result.{OnOk}
@@ -114,11 +114,12 @@ second_part old mid new journal slot spare sites each made next =
     (image_weaker mid new (Gated spare mid.now.image) (Settles old.now.image)
     (λ image gated. inl (regates_two old.now.image mid.now.image image spare (slot_gated old.now.image mid.now.image journal slot spare sites made)
     (slot_aside old.now.image mid.now.image journal slot spare sites made)
-    (λ torn. (torn, inr (spare_place old.now.image journal slot spare sites))) gated)) next)
+    (λ torn. (torn, inr (inl (spare_place old.now.image journal slot spare sites)))) gated)) next)
 
 -- both gates are 0
 pub record Closing (old mid closed : List ℕ) (journal : JournalView) (slot spare : ℕ) : Type 0 where
   pub sites : Sites old journal slot spare
+  pub still : IsStill journal.layout old
   pub first : GatedSlot slot journal.used journal.layout.slots old mid
   pub slot_shut : journal.used < journal.layout.slots → get_or mid slot 0 ≡ CLOSED
   pub second : Gated spare mid closed
@@ -127,6 +128,23 @@ pub record Closing (old mid closed : List ℕ) (journal : JournalView) (slot spa
 gated_but : (at : ℕ) (old new : List ℕ) → Gated at old new → AllBut at 1 old new
 gated_but at old new (inl same) = subst (AllBut at 1 old) (sym same) (record { same_length = refl; outside = λ i away. refl })
 gated_but at old new (inr torn) = torn.1
+
+closing_still : (old mid closed image : List ℕ) (journal : JournalView) (slot spare : ℕ) → Closing old mid closed journal slot spare
+    → AllBut (spare + 1) (bank_length journal.layout - 1) closed image → IsStill (image_layout old) image
+closing_still old mid closed image journal slot spare closing change =
+    let sites = closing.sites in
+    let front = (opens_stands old sites.of_image.opens).front in
+    let far : HEADER_LENGTH + PLAN_ROOM ≤ current_at old = behind (image_layout old) (current old) front.behind_plan in
+    let far_spare : HEADER_LENGTH + PLAN_ROOM ≤ other_at old = behind (image_layout old) (other (current old)) front.behind_plan in
+    let place : slot ≡ slot_at (image_layout old) (current_at old) (first_closed old) = slot_place old journal slot spare sites in
+    let beside : spare ≡ other_at old = spare_place old journal slot spare sites in
+    let old_still : IsStill (image_layout old) old = subst (λ (n : Layout). IsStill n old) sites.of_image.layout closing.still in
+    let mid_still : IsStill (image_layout old) mid = elim closing.first [
+      | inl same ↦ subst (IsStill (image_layout old)) (sym same) old_still
+      | inr torn ↦ still_kept slot 1 (image_layout old) old mid torn.2 (omega arith) old_still
+    ] in
+    still_kept (spare + 1) (bank_length journal.layout - 1) (image_layout old) closed image change (omega arith)
+    (still_kept spare 1 (image_layout old) mid closed (gated_but spare mid closed closing.second) (omega arith) mid_still)
 
 closing_rested : (old mid closed image : List ℕ) (journal : JournalView) (slot spare : ℕ) → Closing old mid closed journal slot spare
     → AllBut (spare + 1) (bank_length journal.layout - 1) closed image → Rested old image (image_layout old) (current old) (records old)
@@ -156,6 +174,7 @@ closing_rested old mid closed image journal slot spare closing change =
           subst (λ (at : ℕ). get_or image at 0 ≡ CLOSED) place
           (change.outside slot far ∙ (gated_but spare mid closed closing.second).outside slot away ∙ closing.slot_shut free);
       beside = subst (λ (at : ℕ). get_or image at 0 ≡ CLOSED) beside (change.outside spare (inl (omega arith)) ∙ closing.spare_shut);
+      still = closing_still old mid closed image journal slot spare closing change;
     })
 
 pub third_part : (old mid closed new : Trace) (journal : JournalView) (slot spare : ℕ)
@@ -172,7 +191,7 @@ third_part old mid closed new journal slot spare closing each next =
 pub settled_end : {E : Type 0} → (result : Result (Unit {0}) E) (old mid closed new : Trace) (journal : JournalView) (slot spare : ℕ)
     → Closing old.now.image mid.now.image closed.now.image journal slot spare
     → OnOk result (IsSynced new.now × IsCleared spare (bank_length journal.layout) closed.now.image new.now.image)
-    → OnOk result (IsSettled new journal × (held new.now.image ≡ held old.now.image))
+    → OnOk result (IsSynced new.now × IsClosed new.now.image journal × (held new.now.image ≡ held old.now.image))
 settled_end (Err error) old mid closed new journal slot spare closing cleared = tt
 settled_end (Ok value) old mid closed new journal slot spare closing cleared =
     let image = old.now.image in
@@ -187,24 +206,22 @@ settled_end (Ok value) old mid closed new journal slot spare closing cleared =
     let shut : get_or after spare 0 ≡ CLOSED = change.outside spare (inl (omega arith)) ∙ closing.spare_shut in
     let empty : IsZero spare (spare + bank_length journal.layout) after = zero_all spare (bank_length journal.layout) after shut cleared.1.zero in
     let place : spare ≡ other_at image = spare_place image journal slot spare closing.sites in (
+      cleared.0,
       record {
-        synced = cleared.0;
         of_image = record {
-          of_image = record {
-            opens = done.holds.opens;
-            plan = of_image.plan ∙ sym (ap (λ (what : Held). length what.plan) done.holds.is);
-            layout = of_image.layout ∙ sym count;
-            bank = of_image.bank ∙ sym one;
-            generation = of_image.generation
-                ∙ sym (ap (λ (at : ℕ). generation_at after at) (stands_at after (image_layout image) (current image) (records image) done.stands) ∙ done.generation);
-            used = of_image.used ∙ ap (λ (bodies : List (List ℕ)). length bodies) (sym same);
-          };
-          rests = done.rests;
-          spare = subst (λ (n : Layout). IsZero (bank_at n (other (current after))) (bank_at n (other (current after)) + bank_length n) after) (sym count)
-              (subst (λ (bank : Bank). IsZero (bank_at (image_layout image) (other bank)) (bank_at (image_layout image) (other bank) + bank_length (image_layout image)) after) (sym one)
-              (subst (λ (n : Layout). IsZero (other_at image) (other_at image + bank_length n) after) of_image.layout
-              (subst (λ (at : ℕ). IsZero at (at + bank_length journal.layout) after) place empty)));
+          opens = done.holds.opens;
+          plan = of_image.plan ∙ sym (ap (λ (what : Held). length what.plan) done.holds.is);
+          layout = of_image.layout ∙ sym count;
+          bank = of_image.bank ∙ sym one;
+          generation = of_image.generation
+              ∙ sym (ap (λ (at : ℕ). generation_at after at) (stands_at after (image_layout image) (current image) (records image) done.stands) ∙ done.generation);
+          used = of_image.used ∙ ap (λ (bodies : List (List ℕ)). length bodies) (sym same);
         };
+        rests = done.rests;
+        spare = subst (λ (n : Layout). IsZero (bank_at n (other (current after))) (bank_at n (other (current after)) + bank_length n) after) (sym count)
+            (subst (λ (bank : Bank). IsZero (bank_at (image_layout image) (other bank)) (bank_at (image_layout image) (other bank) + bank_length (image_layout image)) after) (sym one)
+            (subst (λ (n : Layout). IsZero (other_at image) (other_at image + bank_length n) after) of_image.layout
+            (subst (λ (at : ℕ). IsZero at (at + bank_length journal.layout) after) place empty)));
       },
       done.holds.is,
     )

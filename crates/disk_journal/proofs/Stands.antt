@@ -2,17 +2,22 @@
 use Rattle.std.proofs.Common.{◌≡◌, ◌≢◌, ℕ, ◌+◌, ◌-◌, ◌<◌, ◌≤◌, ◌⊎◌, ◌==◌, ◌++◌, ◌∙◌, nat_lt, false, List, length, get_or, None, refl, sym, ap, subst, inl, inr, arith}
 use Rattle.disk_journal.proofs.Chosen.{Decided, IsNewest, decided, first_chosen, first_passes, second_chosen, second_passes}
 use Rattle.disk_journal.proofs.GateChecks.{closed_pass, pass_closed}
-use Rattle.disk_journal.specs.Banks.{bank_at, bank_length, body_at, chosen, content_at, gate_at, generation_at, next, other, slot_at}
+use Rattle.disk_journal.specs.Banks.{bank_at, bank_length, banks_of, body_at, chosen, content_at, gate_at, generation_at, next, other, slot_at, version_of}
+use Rattle.disk_journal.specs.Header.{form_in}
 use Rattle.disk_journal.specs.Fault.{bank_checks, banks_part, gates_part, header_checks, image_fault}
 use Rattle.disk_journal.specs.Forms.{Holds}
 use Rattle.disk_journal.specs.Image.{Held, IsClosedGate, content, current, current_at, first_closed, image_layout, plan_of, records, slot_count}
 use Rattle.disk_journal.specs.declared.layout.Bank.{Bank}
 use Rattle.disk_journal.specs.declared.layout.Bank.TheVariants.{First, Second}
+use Rattle.disk_journal.specs.declared.layout.HeaderForm.{HeaderForm}
+use Rattle.disk_journal.specs.declared.layout.HeaderForm.TheVariants.{Old, Migrated, New}
 use Rattle.disk_journal.specs.declared.layout.Layout.{Layout}
+use Rattle.disk_journal.specs.declared.layout.TheConstants.{MIGRATED_AT}
 use Rattle.image_parts.proofs.Failing.{all_passed, front_passed, passed_append, passed_first}
 use Rattle.image_parts.proofs.Gating.{AreRecords, records_are, records_is}
 use Rattle.image_parts.proofs.Calls.{short_test}
-use Rattle.image_parts.specs.Header.{header_of}
+use Rattle.image_parts.specs.Changes.{AllBut}
+use Rattle.image_parts.specs.Header.{header_of, slot_count_in}
 use Rattle.image_parts.specs.declared.layout.TheConstants.{CLOSED, HEADER_LENGTH, OPEN, PLAN_ROOM}
 use Rattle.sdls_base.specs.FirstFailing.{Check, first_failing}
 use Rattle.std.proofs.lemmas.Bool.Decides.{nat_tests}
@@ -131,17 +136,23 @@ newest_of layout image none = newest_by layout (chosen_of layout image) image
     (decided (get_or image (bank_at layout First) 0) (get_or image (bank_at layout Second) 0)
     (generation_at image (bank_at layout First)) (generation_at image (bank_at layout Second)) (bank_at layout First) (bank_at layout Second) none)
 
-abbrev pub held_by : List ℕ → ℕ → List ℕ → List (List ℕ) → Held
-held_by plan slots text bodies = record { plan = plan; slots = slots; content = text; records = bodies }
+abbrev pub held_by : List ℕ → Layout → List ℕ → List (List ℕ) → Held
+held_by plan layout text bodies =
+    record { plan = plan; slots = layout.slots; version = version_of layout.form; content = text; records = bodies }
 
-same_held : (plan plan_next : List ℕ) (slots slots_next : ℕ) (text text_next : List ℕ) (bodies bodies_next : List (List ℕ))
-    → plan ≡ plan_next → slots ≡ slots_next → text ≡ text_next → bodies ≡ bodies_next
-    → held_by plan slots text bodies ≡ held_by plan_next slots_next text_next bodies_next
-same_held plan plan_next slots slots_next text text_next bodies bodies_next a b c d = rw a (rw b (rw c (rw d refl)))
+same_held : (plan plan_next : List ℕ) (layout layout_next : Layout) (text text_next : List ℕ) (bodies bodies_next : List (List ℕ))
+    → plan ≡ plan_next → layout ≡ layout_next → text ≡ text_next → bodies ≡ bodies_next
+    → held_by plan layout text bodies ≡ held_by plan_next layout_next text_next bodies_next
+same_held plan plan_next layout layout_next text text_next bodies bodies_next a b c d = rw a (rw b (rw c (rw d refl)))
+
+pub banks_behind : (form : HeaderForm) (slots : ℕ) → HEADER_LENGTH + PLAN_ROOM ≤ banks_of form slots
+banks_behind Old slots = omega arith
+banks_behind Migrated slots = omega arith
+banks_behind New slots = omega arith
 
 pub layout_behind : (image : List ℕ) → HEADER_LENGTH + PLAN_ROOM ≤ (image_layout image).banks
 unfolding image_layout
-layout_behind image = omega arith
+layout_behind image = banks_behind (form_in (header_of image)) (slot_count_in (header_of image))
 
 -- what opens, stands
 pub opens_stands : (image : List ℕ) → image_fault image ≡ None → Stands image (image_layout image) (current image) (records image)
@@ -170,11 +181,11 @@ opens_stands image none =
 -- what it holds
 pub holds_of : (image : List ℕ) (layout : Layout) (bank : Bank) (bodies : List (List ℕ)) (plan text : List ℕ) → Stands image layout bank bodies
     → plan_of image ≡ plan → content_at layout image (bank_at layout bank) ≡ text
-    → Holds image (held_by plan layout.slots text bodies)
+    → Holds image (held_by plan layout text bodies)
 holds_of image layout bank bodies plan text stands planned content_is = record {
   opens = stands_opens image layout bank bodies stands;
-  is = same_held (plan_of image) plan (slot_count image) layout.slots (content image) text (records image) bodies
-      planned (ap (λ (one : Layout). one.slots) stands.front.same_layout)
+  is = same_held (plan_of image) plan (image_layout image) layout (content image) text (records image) bodies
+      planned stands.front.same_layout
       (ap (λ (one : Layout). content_at one image (current_at image)) stands.front.same_layout
       ∙ ap (content_at layout image) (stands_at image layout bank bodies stands) ∙ content_is)
       (stands_records image layout bank bodies stands);
@@ -183,7 +194,8 @@ holds_of image layout bank bodies plan text stands planned content_is = record {
 -- its closed gates
 abbrev pub IsClosedIn : Layout → Bank → ℕ → List ℕ → ℕ → Type 0
 IsClosedIn layout bank used image at = (get_or image at 0 ≢ CLOSED)
-    × (((used < layout.slots) × (at ≡ slot_at layout (bank_at layout bank) used)) ⊎ (at ≡ bank_at layout (other bank)))
+    × (((used < layout.slots) × (at ≡ slot_at layout (bank_at layout bank) used)) ⊎ (at ≡ bank_at layout (other bank))
+    ⊎ ((layout.form ≡ Old) × (at ≡ MIGRATED_AT)))
 
 pub closed_in : (image : List ℕ) (layout : Layout) (bank : Bank) (bodies : List (List ℕ)) (at : ℕ) → Stands image layout bank bodies
     → IsClosedGate image at → IsClosedIn layout bank (length bodies) image at
@@ -191,3 +203,30 @@ closed_in image layout bank bodies at stands closed =
     subst (λ (some : List (List ℕ)). IsClosedIn layout bank (length some) image at) (stands_records image layout bank bodies stands)
     (subst (λ (one : Bank). IsClosedIn layout one (length (records image)) image at) (stands_current image layout bank bodies stands)
     (subst (λ (one : Layout). IsClosedIn one (current image) (length (records image)) image at) stands.front.same_layout closed))
+
+-- an image of version 1 is not on its way to be migrated
+abbrev pub IsStill : Layout → List ℕ → Type 0
+IsStill layout image = layout.form ≡ Old → get_or image MIGRATED_AT 0 ≡ CLOSED
+
+pub still_kept : (at count : ℕ) (layout : Layout) (old new : List ℕ) → AllBut at count old new → HEADER_LENGTH + PLAN_ROOM ≤ at
+    → IsStill layout old → IsStill layout new
+still_kept at count layout old new change behind still old_is = change.outside MIGRATED_AT (inl (omega arith)) ∙ still old_is
+
+-- then its closed gates are those of its banks
+abbrev pub IsGateIn : Layout → Bank → ℕ → List ℕ → ℕ → Type 0
+IsGateIn layout bank used image at = (get_or image at 0 ≢ CLOSED)
+    × (((used < layout.slots) × (at ≡ slot_at layout (bank_at layout bank) used)) ⊎ (at ≡ bank_at layout (other bank)))
+
+pub gate_in : (image : List ℕ) (layout : Layout) (bank : Bank) (bodies : List (List ℕ)) (at : ℕ) → Stands image layout bank bodies
+    → IsStill layout image → IsClosedGate image at → IsGateIn layout bank (length bodies) image at
+gate_in image layout bank bodies at stands still closed =
+    let here = closed_in image layout bank bodies at stands closed in (
+      here.0,
+      elim here.1 [
+        | inl slot ↦ inl slot
+        | inr beside ↦ elim beside [
+          | inl gate ↦ inr gate
+          | inr moves ↦ absurd (here.0 (ap (λ (k : ℕ). get_or image k 0) moves.1 ∙ still moves.0))
+        ]
+      ],
+    )

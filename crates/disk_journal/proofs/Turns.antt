@@ -1,7 +1,7 @@
 -- What each step of a turn leaves.
 use Rattle.std.proofs.Common.{◌≡◌, ◌≢◌, ℕ, ◌+◌, ◌-◌, ◌^◌, ◌<◌, ◌≤◌, ◌⊎◌, ◌∙◌, List, [], length, get_or, set, sym, ap, subst, inl, inr, arith}
 use Rattle.disk_journal.proofs.Keeping.{Fresh, SameBank, bank_kept, filling, fresh_generation, fresh_kept, front_bounds, front_kept, plan_kept, stands_fresh, stands_same}
-use Rattle.disk_journal.proofs.Stands.{HasFront, Stands, apart, behind, closed_in, held_by, holds_of, twice_other}
+use Rattle.disk_journal.proofs.Stands.{HasFront, IsStill, Stands, apart, behind, gate_in, held_by, holds_of, still_kept, twice_other}
 use Rattle.disk_journal.specs.Banks.{bank_at, bank_length, content_at, gate_at, generation_at, head_length, next, other, slot_at}
 use Rattle.disk_journal.specs.Changes.{IsZero, filled}
 use Rattle.disk_journal.specs.Forms.{Becomes, Holds}
@@ -9,6 +9,7 @@ use Rattle.disk_journal.specs.Image.{Held, IsAtRest, IsClosedGate, IsOpenedForm,
 use Rattle.disk_journal.specs.declared.layout.Bank.{Bank}
 use Rattle.disk_journal.specs.declared.layout.Bank.TheVariants.{First, Second}
 use Rattle.disk_journal.specs.declared.layout.Layout.{Layout}
+use Rattle.disk_journal.specs.declared.layout.TheConstants.{BANKS_AT}
 use Rattle.image_parts.proofs.Ranges.{all_but_then, all_but_wider, set_but}
 use Rattle.image_parts.specs.Changes.{AllBut}
 use Rattle.image_parts.specs.declared.layout.TheConstants.{CLOSED, HEADER_LENGTH, OPEN, PLAN_ROOM}
@@ -68,6 +69,8 @@ pub record Starts (old : List ℕ) (layout : Layout) (bank : Bank) (bodies : Lis
   pub stands : Stands old layout bank bodies
   pub free : length bodies < layout.slots → gate_at layout old (bank_at layout bank) (length bodies) ≡ CLOSED
   pub spare : IsZero (bank_at layout (other bank)) (bank_at layout (other bank) + bank_length layout) old
+  pub still : IsStill layout old
+  pub old_banks : IsZero BANKS_AT layout.banks old
 
 pub bank_within : (image : List ℕ) (layout : Layout) (bank : Bank) → HasFront image layout → bank_at layout bank + bank_length layout ≤ length image
 bank_within image layout First front = let long = front_bounds image layout front in omega (arith, long)
@@ -95,9 +98,9 @@ old_text old new layout bank at count change low high =
 
 -- its closed gates: none is other than 0, but that of the other bank
 old_closed : (old new : List ℕ) (layout : Layout) (bank : Bank) (bodies : List (List ℕ)) → Starts old layout bank bodies → Stands new layout bank bodies
-    → SameBank (bank_at layout bank) layout old new → (at : ℕ) → IsClosedGate new at → at ≡ bank_at layout (other bank)
-old_closed old new layout bank bodies starts stands same at closed =
-    let here = closed_in new layout bank bodies at stands closed in
+    → SameBank (bank_at layout bank) layout old new → IsStill layout new → (at : ℕ) → IsClosedGate new at → at ≡ bank_at layout (other bank)
+old_closed old new layout bank bodies starts stands same still at closed =
+    let here = gate_in new layout bank bodies at stands still closed in
     elim here.1 [
       | inl slot ↦ absurd (here.0 (ap (λ (k : ℕ). get_or new k 0) slot.1 ∙ same.gates (length bodies) slot.0 ∙ starts.free slot.0))
       | inr gate ↦ gate
@@ -105,9 +108,9 @@ old_closed old new layout bank bodies starts stands same at closed =
 
 -- the same where the new bank is the current one, and fresh
 new_closed : (image : List ℕ) (layout : Layout) (generation : ℕ) (bank : Bank) (text : List ℕ) → Stands image layout bank []
-    → Fresh (bank_at layout bank) layout generation text image → (at : ℕ) → IsClosedGate image at → at ≡ bank_at layout (other bank)
-new_closed image layout generation bank text stands fresh at closed =
-    let here = closed_in image layout bank [] at stands closed in
+    → Fresh (bank_at layout bank) layout generation text image → IsStill layout image → (at : ℕ) → IsClosedGate image at → at ≡ bank_at layout (other bank)
+new_closed image layout generation bank text stands fresh still at closed =
+    let here = gate_in image layout bank [] at stands still closed in
     elim here.1 [
       | inl slot ↦ absurd (here.0 (ap (λ (k : ℕ). get_or image k 0) slot.1 ∙ fresh.zero (slot_at layout (bank_at layout bank) 0) (omega arith) (let room : 0 < layout.slots = slot.0 in omega arith)))
       | inr gate ↦ gate
@@ -125,15 +128,16 @@ later_fits old layout generation bank bodies text turns =
     let later : generation ≡ next (generation_at old (bank_at layout bank)) = turns.later in omega arith
 
 abbrev pub before : List ℕ → Layout → Bank → List (List ℕ) → Held
-before old layout bank bodies = held_by (plan_of old) layout.slots (content_at layout old (bank_at layout bank)) bodies
+before old layout bank bodies = held_by (plan_of old) layout (content_at layout old (bank_at layout bank)) bodies
 
 abbrev pub after : List ℕ → Layout → List ℕ → Held
-after old layout text = held_by (plan_of old) layout.slots text []
+after old layout text = held_by (plan_of old) layout text []
 
 -- the new bank is current, whatever the gate of the old one
 pub record IsNew (old : List ℕ) (layout : Layout) (generation : ℕ) (bank : Bank) (text image : List ℕ) : Type 0 where
   pub front : HasFront image layout
   pub plan : plan_of image ≡ plan_of old
+  pub still : IsStill layout image
   pub fresh : Fresh (bank_at layout bank) layout generation text image
   pub gate : get_or image (bank_at layout bank) 0 ≡ OPEN
   pub newest : (get_or image (bank_at layout (other bank)) 0 ≢ OPEN)
@@ -152,7 +156,7 @@ new_holds old layout generation bank text image is_new =
 pub new_gates : (old : List ℕ) (layout : Layout) (generation : ℕ) (bank : Bank) (text image : List ℕ) → IsNew old layout generation bank text image
     → (at : ℕ) → IsClosedGate image at → at ≡ bank_at layout (other bank)
 new_gates old layout generation bank text image is_new at closed =
-    new_closed image layout generation bank text (new_stands old layout generation bank text image is_new) is_new.fresh at closed
+    new_closed image layout generation bank text (new_stands old layout generation bank text image is_new) is_new.fresh is_new.still at closed
 
 -- the old gate while it is torn
 pub new_becomes : (old : List ℕ) (what : Held) (layout : Layout) (generation place : ℕ) (bank : Bank) (text image : List ℕ) → place ≡ bank_at layout (other bank)
@@ -189,7 +193,8 @@ first_step old layout generation bank bodies text image turns change =
     (inl (holds_of image layout bank bodies (plan_of old) (content_at layout old (bank_at layout bank)) stands
     (plan_kept (to + 1) (head_length layout - 1) layout old image change (omega arith) turns.starts.stands.front) same.content))
     (λ at closed.
-    let here : at ≡ to = old_closed old image layout bank bodies turns.starts stands same at closed in
+    let here : at ≡ to = old_closed old image layout bank bodies turns.starts stands same
+    (still_kept (to + 1) (head_length layout - 1) layout old image change (omega arith) turns.starts.still) at closed in
     closed.0 (ap (λ (k : ℕ). get_or image k 0) here ∙ shut))
 
 -- what a turn has written once the other bank is filled
@@ -237,6 +242,7 @@ opened_new old image layout generation bank bodies text turns opened =
     record {
       front = front_kept to (head_length layout) layout old image opened.change far turns.starts.stands.front;
       plan = plan_kept to (head_length layout) layout old image opened.change far turns.starts.stands.front;
+      still = still_kept to (head_length layout) layout old image opened.change far turns.starts.still;
       fresh = opened.fresh;
       gate = opened.gate;
       newest = inr (subst (λ (back : Bank). generation_at image to ≡ next (generation_at image (bank_at layout back))) (sym (twice_other bank))
@@ -265,6 +271,7 @@ gate_torn old mid image layout generation bank bodies text turns opened change =
     record {
       front = front_kept from 1 layout mid image change far is_new.front;
       plan = plan_kept from 1 layout mid image change far is_new.front ∙ is_new.plan;
+      still = still_kept from 1 layout mid image change far is_new.still;
       fresh = fresh_kept from 1 to layout generation text mid image change
           (elim aside [ inl before ↦ inl before | inr after ↦ inr (omega arith) ]) opened.fresh;
       gate = change.outside to (elim aside [ inl before ↦ inl (omega arith) | inr after ↦ inr after ]) ∙ opened.gate;
@@ -334,7 +341,7 @@ second_step old mid image layout generation bank bodies text turns made change =
           torn_becomes to (before old layout bank bodies) (after old layout text) image
           (inl (holds_of image layout bank bodies (plan_of old) (content_at layout old from) stands
           (plan_kept to (head_length layout) layout old image wide far turns.starts.stands.front) same.content))
-          (old_closed old image layout bank bodies turns.starts stands same)
+          (old_closed old image layout bank bodies turns.starts stands same (still_kept to (head_length layout) layout old image wide far turns.starts.still))
           (λ torn. second_open old mid (set image to OPEN) layout generation bank bodies text turns made
           (all_but_then to 1 mid image (set image to OPEN) change (set_but image to OPEN))
           (get_or-set_same image to OPEN 0 (gate_inside image layout (other bank) stands.front)))
@@ -354,6 +361,7 @@ rest_new old closed image layout generation bank text is_new shut change =
     record {
       front = front_kept (from + 1) (bank_length layout - 1) layout closed image change (omega arith) is_new.front;
       plan = plan_kept (from + 1) (bank_length layout - 1) layout closed image change (omega arith) is_new.front ∙ is_new.plan;
+      still = still_kept (from + 1) (bank_length layout - 1) layout closed image change (omega arith) is_new.still;
       fresh = fresh_kept (from + 1) (bank_length layout - 1) to layout generation text closed image change
           (elim aside [ inl before ↦ inl before | inr after ↦ inr (omega arith) ]) is_new.fresh;
       gate = change.outside to (elim aside [ inl before ↦ inl (omega arith) | inr after ↦ inr after ]) ∙ is_new.gate;

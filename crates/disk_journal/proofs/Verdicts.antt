@@ -1,5 +1,5 @@
 -- What the checks of an image come to.
-use Rattle.std.proofs.Common.{◌≡◌, ℕ, ◌+◌, ◌-◌, ◌<◌, ◌≤◌, ◌==◌, ◌++◌, ◌∙◌, nat_lt, Bool, true, List, length, get_or, Some, None, refl, sym, ap, subst, inl, inr, arith, Result}
+use Rattle.std.proofs.Common.{◌≡◌, ℕ, ◌+◌, ◌-◌, ◌≤◌, ◌==◌, ◌++◌, ◌∙◌, nat_lt, Bool, List, length, get_or, Some, None, refl, sym, ap, subst, inl, inr, arith, Result}
 use Rattle.disk_journal.proofs.GateChecks.{open_gate}
 use Rattle.disk_journal.proofs.Keeping.{header_bounds}
 use Rattle.disk_journal.proofs.Reading.{plan_size}
@@ -7,6 +7,7 @@ use Rattle.disk_journal.proofs.Stands.{HasFront, header_part, layout_behind}
 use Rattle.disk_journal.proofs.Turns.{bank_within}
 use Rattle.disk_journal.specs.Banks.{bank_at, bank_length, body_at, chosen, gate_at, generation_at, layout_of, next}
 use Rattle.disk_journal.specs.Fault.{bank_checks, banks_part, gate_checks, gates_part, header_checks, image_fault}
+use Rattle.disk_journal.specs.Header.{form_in}
 use Rattle.disk_journal.specs.Image.{current, current_at, first_closed, generation_of, image_layout, is_open, records, slot_count}
 use Rattle.disk_journal.specs.Journal.{IsCurrent, IsHeaderOf, IsJournalOf, IsOpen, JournalView}
 use Rattle.disk_journal.specs.Verdict.{IsVerdict}
@@ -15,7 +16,7 @@ use Rattle.disk_journal.specs.declared.layout.Bank.TheVariants.{First, Second}
 use Rattle.disk_journal.specs.declared.layout.Layout.{Layout}
 use Rattle.disk_journal.specs.declared.layout.TheConstants.{CONTENT_AT}
 use Rattle.disk_journal.specs.declared.opening_image.Verdict.{Verdict}
-use Rattle.image_parts.proofs.Failing.{failed_append, failed_first, passed_append, passed_first}
+use Rattle.image_parts.proofs.Failing.{failed_append, passed_append, passed_first}
 use Rattle.image_parts.proofs.Gating.{AreRecords, records_are}
 use Rattle.image_parts.proofs.Calls.{short_test}
 use Rattle.image_parts.specs.Gates.{IsFirstClosed}
@@ -25,7 +26,6 @@ use Rattle.sdls_base.specs.FirstFailing.{Check, first_failing}
 use Rattle.sdls_outside.specs.Moments.{Trace}
 use Rattle.sdls_outside.specs.Site.{Synced}
 use Rattle.std.proofs.lemmas.Bool.{cases_lt}
-use Rattle.std.proofs.lemmas.Bool.Decides.{nat_tests}
 use Rattle.std.specs.Result.{IfOk}
 
 pub front_of : (image : List ℕ) (plan_length : ℕ) (layout : Layout) → IsHeaderOf image plan_length layout → HasFront image layout
@@ -49,38 +49,17 @@ pub head_inside : (old image : List ℕ) (plan_length : ℕ) (layout : Layout) (
 head_inside old image plan_length layout bank at same header place =
     let within = bank_inside old image plan_length layout bank at same header place in omega (arith, within)
 
-short_image : (size : ℕ) → size < HEADER_LENGTH → nat_lt size HEADER_LENGTH ≡ true
-short_image size short = grind (arith, nat_tests)
-
--- an image without a whole header
-pub short_verdict : (image : List ℕ) → length image < HEADER_LENGTH → image_fault image ≡ Some 0
-unfolding image_fault
-short_verdict image short = failed_first (nat_lt (length image) HEADER_LENGTH) 0 (header_part image ++ (banks_part image ++ gates_part image))
-    (short_image (length image) short)
-
--- a header that fails a check
-pub header_verdict : (image octets : List ℕ) (size offset : ℕ) → size ≡ length image → HEADER_LENGTH ≤ size → octets ≡ header_of image
-    → first_failing (header_checks octets size) ≡ Some offset → image_fault image ≡ Some offset
-unfolding image_fault
-header_verdict image octets size offset sized whole same failed =
-    let here : first_failing (header_part image) ≡ Some offset =
-    subst (λ (n : ℕ). first_failing (header_checks (header_of image) n) ≡ Some offset) sized
-    (subst (λ (header : List ℕ). first_failing (header_checks header size) ≡ Some offset) same failed) in
-    let long : HEADER_LENGTH ≤ length image = omega arith in
-    passed_first (nat_lt (length image) HEADER_LENGTH) 0 (header_part image ++ (banks_part image ++ gates_part image)) (short_test (length image) long)
-    ∙ failed_append (header_part image) (banks_part image ++ gates_part image) offset here
-
 -- a header that passes its checks
 pub header_found : (image octets : List ℕ) (size plan_length : ℕ) (layout : Layout) → size ≡ length image → HEADER_LENGTH ≤ size
     → octets ≡ header_of image → first_failing (header_checks octets size) ≡ None → plan_length ≡ plan_length_in octets
-    → layout ≡ layout_of (slot_count_in octets) → IsHeaderOf image plan_length layout
+    → layout ≡ layout_of (form_in octets) (slot_count_in octets) → IsHeaderOf image plan_length layout
 unfolding image_layout
 header_found image octets size plan_length layout sized whole same passed plan layout_is = record {
   whole = subst (λ (n : ℕ). HEADER_LENGTH ≤ n) sized whole;
   passes = subst (λ (n : ℕ). first_failing (header_checks (header_of image) n) ≡ None) sized
       (subst (λ (header : List ℕ). first_failing (header_checks header size) ≡ None) same passed);
   plan = plan ∙ ap plan_length_in same;
-  layout_is = layout_is ∙ ap (λ (header : List ℕ). layout_of (slot_count_in header)) same;
+  layout_is = layout_is ∙ ap (λ (header : List ℕ). layout_of (form_in header) (slot_count_in header)) same;
 }
 
 -- what was read at the front of a bank

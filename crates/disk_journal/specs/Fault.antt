@@ -1,27 +1,28 @@
 -- The checks that opening makes of an image, in their order, each with the offset that a refusal names (profile).
 use Rattle.std.specs.Prelude.{ℕ, zero, suc, ◌+◌, ◌-◌, ◌==◌, ◌||◌, ◌&&◌, not, nat_lt, Bool, List, [], ◌∷◌, ◌++◌, length}
-use Rattle.std.specs.Prelude.{drop, slice_index, slice_range, Option}
+use Rattle.std.specs.Prelude.{drop, slice_index, Option}
 use Rattle.std.specs.List.{list_any}
-use Rattle.std.specs.Str.{bytes_eq}
 use Rattle.sdls_base.specs.FirstFailing.{Check, first_failing}
 use Rattle.image_parts.specs.declared.layout.TheConstants.{HEADER_LENGTH, PLAN_ROOM, LEAST_SLOTS, MOST_SLOTS, MAGIC_AT}
-use Rattle.image_parts.specs.declared.layout.TheConstants.{PLAN_LENGTH_AT, SLOT_COUNT_AT, ZEROS_AT, OPEN, CLOSED}
+use Rattle.image_parts.specs.declared.layout.TheConstants.{PLAN_LENGTH_AT, SLOT_COUNT_AT, OPEN, CLOSED}
 use Rattle.image_parts.specs.Header.{header_of, plan_length_in, slot_count_in}
 use Rattle.disk_journal.specs.declared.layout.Bank.TheVariants.{First, Second}
 use Rattle.disk_journal.specs.declared.layout.Layout.{Layout}
-use Rattle.disk_journal.specs.declared.layout.TheConstants.{MAGIC, GENERATION_AT}
-use Rattle.disk_journal.specs.Banks.{layout_of, bank_at, image_end, slot_at, gate_at, next}
+use Rattle.disk_journal.specs.declared.layout.TheConstants.{MAGIC_ONE, MAGIC_TWO, GENERATION_AT}
+use Rattle.disk_journal.specs.Header.{has_magic, form_in}
+use Rattle.disk_journal.specs.Banks.{zeros_at_of, layout_of, bank_at, image_end, slot_at, gate_at, next}
 use Rattle.disk_journal.specs.Image.{image_layout, slot_count, is_open, generation_of, current_at, first_closed}
 
 -- the checks of a whole header in an image of this length
 abbrev pub header_checks : List ℕ → ℕ → List (Check ℕ)
 header_checks header image_length =
     (not (slice_index header 0 == OPEN), 0)
-    ∷ (not (bytes_eq (slice_range header MAGIC_AT PLAN_LENGTH_AT) MAGIC), MAGIC_AT)
+    ∷ (not (has_magic MAGIC_ONE header) && not (has_magic MAGIC_TWO header), MAGIC_AT)
     ∷ (nat_lt PLAN_ROOM (plan_length_in header), PLAN_LENGTH_AT)
     ∷ (nat_lt (slot_count_in header) LEAST_SLOTS || nat_lt MOST_SLOTS (slot_count_in header), SLOT_COUNT_AT)
-    ∷ (nat_lt image_length (image_end (layout_of (slot_count_in header))), image_length)
-    ∷ (list_any (λ octet. not (octet == 0)) (drop ZEROS_AT header), ZEROS_AT) ∷ []
+    ∷ (nat_lt image_length (image_end (layout_of (form_in header) (slot_count_in header))), image_length)
+    ∷ (list_any (λ octet. not (octet == 0)) (drop (zeros_at_of (form_in header)) header), zeros_at_of (form_in header))
+    ∷ []
 
 -- the checks of two banks, of these places: one is open; if both are, the generation of one is the other's plus one
 abbrev pub bank_checks : Bool → Bool → ℕ → ℕ → ℕ → ℕ → List (Check ℕ)

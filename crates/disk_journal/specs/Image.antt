@@ -1,18 +1,27 @@
 -- What an image of two banks says (profile): the fields of its header, its plan, its content and its records.
 use Rattle.std.specs.Prelude.{◌≡◌, ◌≢◌, ℕ, ◌<◌, ◌==◌, ◌⊎◌, Bool, List, [], ◌∷◌, ◌++◌, length, take, drop, slice_index}
 use Rattle.std.specs.Prelude.{slice_set}
+use Rattle.sdls_base.specs.declared.version.Version.{Version}
+use Rattle.sdls_base.specs.declared.version.Version.TheVariants.{Two}
 use Rattle.image_parts.specs.declared.layout.TheConstants.{HEADER_LENGTH, OPEN, CLOSED}
 use Rattle.image_parts.specs.Slots.{gated}
 use Rattle.image_parts.specs.Header.{header_of, plan_length_in, slot_count_in}
 use Rattle.disk_journal.specs.declared.layout.Bank.{Bank}
 use Rattle.disk_journal.specs.declared.layout.Bank.TheVariants.{First, Second}
 use Rattle.disk_journal.specs.declared.layout.Layout.{Layout}
-use Rattle.disk_journal.specs.Banks.{layout_of, bank_at, other, slot_at, gate_at, body_at, generation_at, content_at}
+use Rattle.disk_journal.specs.declared.layout.HeaderForm.TheVariants.{Old}
+use Rattle.disk_journal.specs.declared.layout.TheConstants.{MIGRATED_AT}
+use Rattle.disk_journal.specs.Header.{form_in}
+use Rattle.disk_journal.specs.Banks.{version_of, layout_of, bank_at, other, slot_at, gate_at, body_at, generation_at, content_at}
 use Rattle.disk_journal.specs.Banks.{next, chosen}
 
 -- where the banks stand
 unfoldable pub image_layout : List ℕ → Layout
-image_layout image = layout_of (slot_count_in (header_of image))
+image_layout image = layout_of (form_in (header_of image)) (slot_count_in (header_of image))
+
+-- how much its contents have room for
+abbrev pub version_in : List ℕ → Version
+version_in image = version_of (image_layout image).form
 
 -- the slots of a bank
 abbrev pub slot_count : List ℕ → ℕ
@@ -58,10 +67,11 @@ first_closed image = length (records image)
 abbrev pub record_at : List ℕ → ℕ → ℕ
 record_at image index = slot_at (image_layout image) (current_at image) index
 
--- What stands in an image: the text of the plan, the number of slots, the content and the records.
+-- What stands in an image: the text of the plan, the number of slots, the version, the content and the records.
 pub record Held : Type 0 where
   pub plan : List ℕ
   pub slots : ℕ
+  pub version : Version
   pub content : List ℕ
   pub records : List (List ℕ)
 
@@ -69,6 +79,7 @@ abbrev pub held : List ℕ → Held
 held image = record {
   plan = plan_of image;
   slots = slot_count image;
+  version = version_in image;
   content = content image;
   records = records image;
 }
@@ -81,10 +92,17 @@ grown body old = record old { records = old.records ++ body ∷ [] }
 abbrev pub turned : List ℕ → Held → Held
 turned content old = record old { content = content; records = [] }
 
--- A closed gate that is not 0 stands here: that of the current bank's first closed slot, or that of the other bank.
+-- the old, once it is migrated to version 2 with this content
+abbrev pub migrated : List ℕ → Held → Held
+migrated content old = record old { version = Two; content = content; records = [] }
+
+-- A closed gate that is not 0 stands here: that of the current bank's first closed slot, that of the other bank, or in
+-- an image of version 1 the octet that migrates it.
 abbrev pub IsClosedGate : List ℕ → ℕ → Type 0
 IsClosedGate image at = (slice_index image at ≢ CLOSED)
-    × (((first_closed image < slot_count image) × (at ≡ record_at image (first_closed image))) ⊎ (at ≡ other_at image))
+    × (((first_closed image < slot_count image) × (at ≡ record_at image (first_closed image)))
+    ⊎ (at ≡ other_at image)
+    ⊎ (((image_layout image).form ≡ Old) × (at ≡ MIGRATED_AT)))
 
 -- the image with one closed gate opened
 abbrev pub IsOpenedForm : List ℕ → List ℕ → Type 0

@@ -4,14 +4,17 @@ use Rattle.byteorder.specs.Endian.{big_bytes}
 use Rattle.sdls_outside.specs.Disk.{Disk, Outside, IsSynced}
 use Rattle.sdls_outside.specs.Moments.{Trace}
 use Rattle.image_parts.specs.declared.layout.TheConstants.{HEADER_LENGTH, PLAN_ROOM, SLOT_LENGTH, FIELD_LENGTH}
-use Rattle.image_parts.specs.declared.layout.TheConstants.{ZEROS_AT, OPEN, CLOSED}
+use Rattle.image_parts.specs.declared.layout.TheConstants.{OPEN, CLOSED}
 use Rattle.image_parts.specs.Changes.{AllBut, EachImage}
 use Rattle.image_parts.specs.Zeros.{zeros}
 use Rattle.disk_journal.specs.declared.layout.Bank.{Bank}
 use Rattle.disk_journal.specs.declared.layout.Bank.TheVariants.{First, Second}
+use Rattle.disk_journal.specs.declared.layout.HeaderForm.{HeaderForm}
+use Rattle.disk_journal.specs.declared.layout.HeaderForm.TheVariants.{Old, Migrated, New}
 use Rattle.disk_journal.specs.declared.layout.Layout.{Layout}
-use Rattle.disk_journal.specs.declared.layout.TheConstants.{MAGIC, GENERATION_LENGTH, FIRST_GENERATION}
-use Rattle.disk_journal.specs.Banks.{layout_of, bank_length}
+use Rattle.disk_journal.specs.declared.layout.TheConstants.{BANKS_AT, MIGRATED_AT, GENERATION_LENGTH}
+use Rattle.disk_journal.specs.declared.layout.TheConstants.{FIRST_GENERATION}
+use Rattle.disk_journal.specs.Banks.{version_of, magic_of, banks_of, layout_of, bank_length}
 use Rattle.disk_journal.specs.Fault.{image_fault}
 use Rattle.disk_journal.specs.Forms.{Holds}
 use Rattle.disk_journal.specs.Journal.{IsSettledImage}
@@ -26,46 +29,54 @@ abbrev pub banks_at_rest : Layout → ℕ → List ℕ → Bank → List ℕ
 banks_at_rest layout generation text First = bank_at_rest layout generation text ++ zeros (bank_length layout)
 banks_at_rest layout generation text Second = zeros (bank_length layout) ++ bank_at_rest layout generation text
 
--- what stands before the banks: the gate, the magic, the length of the plan, the slots, and zeros to the header's end;
--- the plan, and zeros to the banks
-abbrev pub front_image : ℕ → List ℕ → ℕ → List ℕ
-front_image gate plan slots =
-    ((gate ∷ MAGIC) ++ big_bytes FIELD_LENGTH (length plan) ++ big_bytes FIELD_LENGTH slots
-    ++ zeros (HEADER_LENGTH - ZEROS_AT))
+-- what the header has from its magic to its last number
+abbrev pub fields_of : HeaderForm → ℕ → ℕ → List ℕ
+fields_of form plan_length slots =
+    magic_of form ++ big_bytes FIELD_LENGTH plan_length ++ big_bytes FIELD_LENGTH slots
+
+-- the octet that says whether an image was migrated
+abbrev pub migration_of : HeaderForm → ℕ
+migration_of Old = CLOSED
+migration_of Migrated = OPEN
+migration_of New = CLOSED
+
+-- what stands before the banks: the gate, the magic, the length of the plan, the slots, the octet of migration, and
+-- zeros to the header's end; the plan, and zeros to where banks begin
+abbrev pub front_image : HeaderForm → ℕ → List ℕ → ℕ → List ℕ
+front_image form gate plan slots =
+    ((gate ∷ fields_of form (length plan) slots) ++ migration_of form ∷ zeros (HEADER_LENGTH - MIGRATED_AT - 1))
     ++ plan ++ zeros (PLAN_ROOM - length plan)
 
--- the image of a plan whose banks are at rest, of which this one is open
-unfoldable pub rest_image : ℕ → List ℕ → ℕ → List ℕ → ℕ → Bank → List ℕ
-rest_image gate plan slots text generation bank =
-    front_image gate plan slots ++ banks_at_rest (layout_of slots) generation text bank
+-- the image of a plan whose banks are at rest, of which this one is open; the old banks of a migrated image are zero
+unfoldable pub rest_image : HeaderForm → ℕ → List ℕ → ℕ → List ℕ → ℕ → Bank → List ℕ
+rest_image form gate plan slots text generation bank =
+    front_image form gate plan slots ++ zeros (banks_of form slots - BANKS_AT)
+    ++ banks_at_rest (layout_of form slots) generation text bank
 
 -- the image that a journal begins with
-abbrev pub initial_image : List ℕ → ℕ → List ℕ → List ℕ
-initial_image plan slots text = rest_image OPEN plan slots text FIRST_GENERATION First
+abbrev pub created_image : HeaderForm → List ℕ → ℕ → List ℕ → List ℕ
+created_image form plan slots text = rest_image form OPEN plan slots text FIRST_GENERATION First
 
 -- the same before its gate is written
-abbrev pub laid_image : List ℕ → ℕ → List ℕ → List ℕ
-laid_image plan slots text = rest_image CLOSED plan slots text FIRST_GENERATION First
+abbrev pub laid_image : HeaderForm → List ℕ → ℕ → List ℕ → List ℕ
+laid_image form plan slots text = rest_image form CLOSED plan slots text FIRST_GENERATION First
 
 -- The image that a journal begins with opens, holds these with no records, and can take a record or turn.
-pub record BeginsAtRest (plan : List ℕ) (slots : ℕ) (text : List ℕ) : Type 0 where
-  pub holds : Holds (initial_image plan slots text) (record {
+pub record BeginsAtRest (form : HeaderForm) (plan : List ℕ) (slots : ℕ) (text : List ℕ) : Type 0 where
+  pub holds : Holds (created_image form plan slots text) (record {
     plan = plan;
     slots = slots;
+    version = version_of form;
     content = text;
     records = [];
   })
-  pub settled : IsSettledImage (initial_image plan slots text) (record {
+  pub settled : IsSettledImage (created_image form plan slots text) (record {
     plan_length = length plan;
-    layout = layout_of slots;
+    layout = layout_of form slots;
     bank = First;
     generation = FIRST_GENERATION;
     used = 0;
   })
-
--- what the header has from its magic to its last number
-abbrev pub fields_of : ℕ → ℕ → List ℕ
-fields_of plan_length slots = MAGIC ++ big_bytes FIELD_LENGTH plan_length ++ big_bytes FIELD_LENGTH slots
 
 -- Whatever a crash leaves, its first octet is 0: it is 0 on the disk, and nothing that is pending touches it.
 pub record IsShut (disk : Disk) : Type 0 where
@@ -76,7 +87,8 @@ pub record IsShut (disk : Disk) : Type 0 where
 
 -- A crash early in the call leaves an image that is refused at its first octet. From then on the image without its gate
 -- is on the disk, and a crash leaves the initial image but for the gate.
-pub record IsLaid (plan : List ℕ) (slots : ℕ) (text : List ℕ) (old mid new : Trace) : Type 0 where
+pub record IsLaid (form : HeaderForm) (plan : List ℕ) (slots : ℕ) (text : List ℕ) (old mid new : Trace)
+    : Type 0 where
   pub early : EachImage old mid (λ image. image_fault image ≡ Some 0)
-  pub late : (new ≡ mid) ⊎ (IsSynced mid.now × (mid.now.image ≡ laid_image plan slots text)
-      × EachImage mid new (AllBut 0 1 (initial_image plan slots text)))
+  pub late : (new ≡ mid) ⊎ (IsSynced mid.now × (mid.now.image ≡ laid_image form plan slots text)
+      × EachImage mid new (AllBut 0 1 (created_image form plan slots text)))

@@ -7,6 +7,7 @@ use Rattle.disk_journal.specs.declared.fault.JournalFault.{JournalFault}
 use Rattle.disk_journal.specs.declared.fault.JournalFault.TheVariants.{SiteFault, Image}
 use Rattle.disk_journal.specs.declared.layout.Bank.{Bank}
 use Rattle.disk_journal.specs.declared.layout.Layout.{Layout}
+use Rattle.disk_journal.specs.declared.layout.TheConstants.{BANKS_AT}
 use Rattle.disk_journal.specs.Banks.{bank_length, generation_at}
 use Rattle.disk_journal.specs.Image.{image_layout, plan_of, current, current_at, other_at, first_closed, IsAtRest}
 use Rattle.disk_journal.specs.Fault.{header_checks, banks_part, image_fault}
@@ -38,10 +39,18 @@ pub record IsOpen (trace : Trace) (journal : JournalView) : Type 0 where
   pub synced : IsSynced trace.now
   pub of_image : IsJournalOf trace.now.image journal
 
--- Its closed gates are 0 too, and the other bank is zero, so that it can take a record or turn.
+-- Its closed gates are 0 too, and the other bank is zero.
+pub record IsClosed (image : List ℕ) (journal : JournalView) : Type 0 where
+  pub of_image : IsJournalOf image journal
+  pub rests : IsAtRest image
+  pub spare : IsZero (other_at image) (other_at image + bank_length (image_layout image)) image
+
+-- Its closed gates are 0 too, and the other bank is zero, so that it can take a record or turn. If it was migrated, its
+-- old banks are zero.
 pub record IsSettledImage (image : List ℕ) (journal : JournalView) : Type 0 where
   pub of_image : IsJournalOf image journal
   pub rests : IsAtRest image
+  pub old_banks : IsZero BANKS_AT (image_layout image).banks image
   pub spare : IsZero (other_at image) (other_at image + bank_length (image_layout image)) image
 
 pub record IsSettled (trace : Trace) (journal : JournalView) : Type 0 where

@@ -1,5 +1,6 @@
 pub mod Gates
 pub mod Banks
+pub mod Header
 pub mod Image
 pub mod Fault
 pub mod Forms

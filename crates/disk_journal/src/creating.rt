@@ -1,5 +1,5 @@
 // The image that a journal begins with.
-ghost use Rattle.std.specs.Prelude.{◌≡◌, ◌+◌, ◌-◌, ◌*◌, ◌≤◌, IsTrue, OnOk, length, slice_index, []};
+ghost use Rattle.std.specs.Prelude.{◌≡◌, ◌+◌, ◌-◌, ◌*◌, ◌≤◌, ◌⊎◌, IsTrue, OnOk, length, slice_index, []};
 ghost use Rattle.sdls_outside.specs.Disk.{IsSynced};
 ghost use Rattle.sdls_outside.specs.Faults.{HasCause};
 ghost use Rattle.sdls_outside.specs.Moments.{Trace};
@@ -7,20 +7,23 @@ ghost use Rattle.sdls_outside.specs.Site.{overwritten};
 ghost use Rattle.image_parts.specs.Changes.{EachImage};
 ghost use Rattle.image_parts.specs.Zeros.{zeros};
 ghost use Rattle.disk_journal.specs.Changes.{with_front};
-ghost use Rattle.disk_journal.specs.Initial.{laid_image, initial_image, fields_of, IsShut, IsLaid};
+ghost use Rattle.disk_journal.specs.Banks.{version_of};
+ghost use Rattle.sdls_base.specs.Version.{content_length_of};
+ghost use Rattle.disk_journal.specs.Initial.{laid_image, created_image, fields_of, IsShut, IsLaid};
 ghost use Rattle.disk_journal.specs.Journal.{HasSiteFault};
 
 use crate::fault::JournalFault;
 use crate::layout::{
-    BANKS_AT, CONTENT_AT, CONTENT_LENGTH, FIRST_GENERATION, GENERATION_AT, GENERATION_LENGTH,
-    Layout, MAGIC,
+    BANKS_AT, CONTENT_AT, FIRST_GENERATION, GENERATION_AT, GENERATION_LENGTH, HeaderForm, Layout,
+    MIGRATED_AT,
 };
 use crate::storing::store;
 use byteorder::{BigEndian, ByteOrder};
 use image_parts::{
     CLOSED, HEADER_LENGTH, LEAST_SLOTS, MAGIC_AT, MOST_SLOTS, OPEN, PLAN_LENGTH_AT, PLAN_ROOM,
-    SLOT_COUNT_AT, SLOT_LENGTH, ZEROS_AT,
+    SLOT_COUNT_AT, SLOT_LENGTH,
 };
+use sdls_base::{CONTENT_LENGTH_ONE, CONTENT_LENGTH_TWO};
 use sdls_outside::{Failed, Site};
 
 /// What stands before the banks, in blocks of a slot's length.
@@ -90,11 +93,11 @@ fn write_zeros<O: Site>(site: &mut O, blocks: u32) -> Result<(), Failed>
 }
 
 /// The header from its magic to its last number.
-fn fill_fields(fields: &mut [u8], plan_length: u32, slots: u32)
-    requires { length fields.old ≡ ZEROS_AT - MAGIC_AT }
-    ensures { fields.new ≡ fields_of plan_length slots }
+fn fill_fields(fields: &mut [u8], form: HeaderForm, plan_length: u32, slots: u32)
+    requires { length fields.old ≡ MIGRATED_AT - MAGIC_AT }
+    ensures { fields.new ≡ fields_of form plan_length slots }
 {
-    fields[..8].copy_from_slice(&MAGIC);
+    fields[..8].copy_from_slice(&form.magic());
     BigEndian::write_u32(
         &mut fields[(PLAN_LENGTH_AT - MAGIC_AT) as usize..],
         plan_length,
@@ -103,12 +106,17 @@ fn fill_fields(fields: &mut [u8], plan_length: u32, slots: u32)
 }
 
 /// Writes the header but for its gate, and the plan.
-fn write_header<O: Site>(site: &mut O, plan: &[u8], slots: u32) -> Result<(), Failed>
+fn write_header<O: Site>(
+    site: &mut O,
+    form: HeaderForm,
+    plan: &[u8],
+    slots: u32,
+) -> Result<(), Failed>
     requires room { length plan.now ≤ PLAN_ROOM }
     requires long { IsTrue O.told → BANKS_AT ≤ length (O.trace site.old).now.image }
     requires shut { IsTrue O.told → IsShut (O.trace site.old).now }
     ensures written { IsTrue O.told → OnOk result ((O.trace site.new).now.image ≡ overwritten
-        (overwritten (O.trace site.old).now.image MAGIC_AT (fields_of (length plan.now) slots))
+        (overwritten (O.trace site.old).now.image MAGIC_AT (fields_of form (length plan.now) slots))
         HEADER_LENGTH plan.now) }
     ensures shut { IsTrue O.told → OnOk result (IsShut (O.trace site.new).now) }
     ensures any_moment { IsTrue O.told → EachImage (O.trace site.old) (O.trace site.new)
@@ -116,8 +124,8 @@ fn write_header<O: Site>(site: &mut O, plan: &[u8], slots: u32) -> Result<(), Fa
     ensures cause { HasCause (O.faults site.old) (O.faults site.new) result }
     ensures puts { O.put_faults site.new ≡ O.put_faults site.old }
 {
-    let mut fields = [0; (ZEROS_AT - MAGIC_AT) as usize];
-    fill_fields(&mut fields, plan.len() as u32, slots);
+    let mut fields = [0; (MIGRATED_AT - MAGIC_AT) as usize];
+    fill_fields(&mut fields, form, plan.len() as u32, slots);
     write_behind(site, MAGIC_AT, &fields)?;
     write_behind(site, HEADER_LENGTH, plan)
 }
@@ -157,45 +165,59 @@ fn write_bank<O: Site>(site: &mut O, generation: u64, content: &[u8]) -> Result<
 }
 
 /// Writes all of the image but the header's gate, which is 0 on the disk, and brings it to the disk.
-fn lay<O: Site>(site: &mut O, plan: &[u8], slots: u32, content: &[u8]) -> Result<(), Failed>
+fn lay<O: Site>(
+    site: &mut O,
+    form: HeaderForm,
+    plan: &[u8],
+    slots: u32,
+    content: &[u8],
+) -> Result<(), Failed>
+    requires form { (form ≡ HeaderForm.Old) ⊎ (form ≡ HeaderForm.New) }
     requires begun { IsTrue O.told → (O.trace site.old).now.image ≡ zeros 1 }
     requires shut { IsTrue O.told → IsShut (O.trace site.old).now }
     requires room { length plan.now ≤ PLAN_ROOM }
     requires most { slots ≤ MOST_SLOTS }
-    requires sized { length content.now ≡ CONTENT_LENGTH }
+    requires sized { length content.now ≡ content_length_of (version_of form) }
     ensures laid { IsTrue O.told → OnOk result (IsSynced (O.trace site.new).now
-        × ((O.trace site.new).now.image ≡ laid_image plan.now slots content.now)) }
+        × ((O.trace site.new).now.image ≡ laid_image form plan.now slots content.now)) }
     ensures any_moment { IsTrue O.told → EachImage (O.trace site.old) (O.trace site.new)
         (λ image. slice_index image 0 ≡ CLOSED) }
     ensures cause { HasCause (O.faults site.old) (O.faults site.new) result }
     ensures puts { O.put_faults site.new ≡ O.put_faults site.old }
 {
-    write_zeros(site, BLOCKS_BEFORE + 2 * Layout::of_slots(slots).blocks())?;
-    write_header(site, plan, slots)?;
+    write_zeros(site, BLOCKS_BEFORE + 2 * Layout::new(form, slots).blocks())?;
+    write_header(site, form, plan, slots)?;
     write_bank(site, FIRST_GENERATION, content)?;
     site.sync()
 }
 
 /// Writes the image, first of all its first octet as 0, and last of all the header's gate.
-fn write_image<O: Site>(site: &mut O, plan: &[u8], slots: u32, content: &[u8]) -> Result<(), Failed>
+fn write_image<O: Site>(
+    site: &mut O,
+    form: HeaderForm,
+    plan: &[u8],
+    slots: u32,
+    content: &[u8],
+) -> Result<(), Failed>
+    requires form { (form ≡ HeaderForm.Old) ⊎ (form ≡ HeaderForm.New) }
     requires empty { IsTrue O.told → (O.trace site.old).now.image ≡ [] }
     requires room { length plan.now ≤ PLAN_ROOM }
     requires most { slots ≤ MOST_SLOTS }
-    requires sized { length content.now ≡ CONTENT_LENGTH }
+    requires sized { length content.now ≡ content_length_of (version_of form) }
     ensures created { IsTrue O.told → OnOk result (IsSynced (O.trace site.new).now
-        × ((O.trace site.new).now.image ≡ initial_image plan.now slots content.now)) }
+        × ((O.trace site.new).now.image ≡ created_image form plan.now slots content.now)) }
     ensures any_moment { IsTrue O.told → ((mid : Trace)
-        × IsLaid plan.now slots content.now (O.trace site.old) mid (O.trace site.new)) }
+        × IsLaid form plan.now slots content.now (O.trace site.old) mid (O.trace site.new)) }
     ensures cause { HasCause (O.faults site.old) (O.faults site.new) result }
     ensures puts { O.put_faults site.new ≡ O.put_faults site.old }
 {
     shut(site)?;
-    lay(site, plan, slots, content)?;
+    lay(site, form, plan, slots, content)?;
     store(site, 0, &[OPEN])
 }
 
-/// Writes the image of this plan, with this many slots a bank, this content and no records, if there
-/// is no image. After `Ok` it is on the disk. After a fault some of it may stand.
+/// Writes the image of version 1 of this plan, with this many slots a bank, this content and no records,
+/// if there is no image. After `Ok` it is on the disk. After a fault some of it may stand.
 pub fn create<O: Site>(
     site: &mut O,
     plan: &[u8],
@@ -206,17 +228,42 @@ pub fn create<O: Site>(
     requires room { length plan.now ≤ PLAN_ROOM }
     requires least { LEAST_SLOTS ≤ slots }
     requires most { slots ≤ MOST_SLOTS }
-    requires sized { length content.now ≡ CONTENT_LENGTH }
+    requires sized { length content.now ≡ CONTENT_LENGTH_ONE }
     ensures created { IsTrue O.told → OnOk result (IsSynced (O.trace site.new).now
-        × ((O.trace site.new).now.image ≡ initial_image plan.now slots content.now)) }
+        × ((O.trace site.new).now.image ≡ created_image HeaderForm.Old plan.now slots content.now)) }
 
     // No octet is opened as an image before all else is on the disk.
     ensures any_moment { IsTrue O.told → ((mid : Trace)
-        × IsLaid plan.now slots content.now (O.trace site.old) mid (O.trace site.new)) }
+        × IsLaid HeaderForm.Old plan.now slots content.now (O.trace site.old) mid (O.trace site.new)) }
     ensures fault { HasSiteFault (O.faults site.old) (O.faults site.new) result }
     ensures puts { O.put_faults site.new ≡ O.put_faults site.old }
 {
-    match write_image(site, plan, slots, content) {
+    match write_image(site, HeaderForm::Old, plan, slots, content) {
+        Ok(()) => Ok(()),
+        Err(Failed) => Err(JournalFault::SiteFault(site.faults())),
+    }
+}
+
+/// The same for an image of version 2.
+pub fn create_two<O: Site>(
+    site: &mut O,
+    plan: &[u8],
+    slots: u32,
+    content: &[u8],
+) -> Result<(), JournalFault>
+    requires empty { IsTrue O.told → (O.trace site.old).now.image ≡ [] }
+    requires room { length plan.now ≤ PLAN_ROOM }
+    requires least { LEAST_SLOTS ≤ slots }
+    requires most { slots ≤ MOST_SLOTS }
+    requires sized { length content.now ≡ CONTENT_LENGTH_TWO }
+    ensures created { IsTrue O.told → OnOk result (IsSynced (O.trace site.new).now
+        × ((O.trace site.new).now.image ≡ created_image HeaderForm.New plan.now slots content.now)) }
+    ensures any_moment { IsTrue O.told → ((mid : Trace)
+        × IsLaid HeaderForm.New plan.now slots content.now (O.trace site.old) mid (O.trace site.new)) }
+    ensures fault { HasSiteFault (O.faults site.old) (O.faults site.new) result }
+    ensures puts { O.put_faults site.new ≡ O.put_faults site.old }
+{
+    match write_image(site, HeaderForm::New, plan, slots, content) {
         Ok(()) => Ok(()),
         Err(Failed) => Err(JournalFault::SiteFault(site.faults())),
     }

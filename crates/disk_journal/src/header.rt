@@ -5,13 +5,14 @@ ghost use Rattle.byteorder.specs.Endian.{big_number};
 ghost use Rattle.image_parts.specs.Header.{plan_length_in, slot_count_in};
 ghost use Rattle.sdls_base.specs.FirstFailing.{first_failing};
 ghost use Rattle.disk_journal.specs.Banks.{layout_of, IsLayout};
+ghost use Rattle.disk_journal.specs.Header.{has_magic, form_in};
 ghost use Rattle.disk_journal.specs.Fault.{header_checks};
 
-use crate::layout::{Layout, MAGIC};
+use crate::layout::{HeaderForm, Layout, MAGIC_ONE, MAGIC_TWO, MIGRATED_AT};
 use byteorder::{BigEndian, ByteOrder};
 use image_parts::{
     FIELD_LENGTH, HEADER_LENGTH, LEAST_SLOTS, MAGIC_AT, MOST_SLOTS, OPEN, PLAN_LENGTH_AT,
-    PLAN_ROOM, SLOT_COUNT_AT, ZEROS_AT,
+    PLAN_ROOM, SLOT_COUNT_AT,
 };
 
 /// What a header that passes its checks says.
@@ -36,16 +37,40 @@ pub(crate) fn has_other(octets: &[u8]) -> bool
     octets.iter().any(|octet| *octet != 0)
 }
 
+/// Whether a header has this magic.
+fn has_magic(header: &[u8], magic: &[u8; 8]) -> bool
+    requires { length header.now ≡ HEADER_LENGTH }
+    ensures { result ≡ has_magic magic.now header.now }
+{
+    header[MAGIC_AT as usize..PLAN_LENGTH_AT as usize] == magic[..]
+}
+
+/// The form of a header.
+#[tactic(auto, unfolding(crate::specs::Header::form_in))]
+fn form_in(header: &[u8]) -> HeaderForm
+    requires { length header.now ≡ HEADER_LENGTH }
+    ensures { result ≡ form_in header.now }
+{
+    if has_magic(header, &MAGIC_TWO) {
+        HeaderForm::New
+    } else if header[MIGRATED_AT as usize] == OPEN {
+        HeaderForm::Migrated
+    } else {
+        HeaderForm::Old
+    }
+}
+
 /// The offset of the first check of the header that fails.
 fn header_fault(header: &[u8], image_length: u64) -> Option<u64>
     requires { length header.now ≡ HEADER_LENGTH }
     ensures { result ≡ first_failing (header_checks header.now image_length) }
 {
     let slots = number_at(header, SLOT_COUNT_AT);
+    let form = form_in(header);
     if header[0] != OPEN {
         return Some(0);
     }
-    if header[MAGIC_AT as usize..PLAN_LENGTH_AT as usize] != MAGIC[..] {
+    if !has_magic(header, &MAGIC_ONE) && !has_magic(header, &MAGIC_TWO) {
         return Some(MAGIC_AT);
     }
     if number_at(header, PLAN_LENGTH_AT) as u64 > PLAN_ROOM {
@@ -54,11 +79,11 @@ fn header_fault(header: &[u8], image_length: u64) -> Option<u64>
     if slots < LEAST_SLOTS || slots > MOST_SLOTS {
         return Some(SLOT_COUNT_AT);
     }
-    if image_length < Layout::of_slots(slots).end() {
+    if image_length < Layout::new(form, slots).end() {
         return Some(image_length);
     }
-    if has_other(&header[ZEROS_AT as usize..]) {
-        return Some(ZEROS_AT);
+    if has_other(&header[form.zeros_at() as usize..]) {
+        return Some(form.zeros_at());
     }
     None
 }
@@ -69,7 +94,7 @@ pub(crate) fn read_header(header: &[u8], image_length: u64) -> Result<Header, u6
     ensures checked { MatchResult result (λ _. first_failing (header_checks header.now image_length) ≡ None)
         (λ offset. first_failing (header_checks header.now image_length) ≡ Some offset) }
     ensures found { MatchResult result (λ found. (found.plan_length ≡ plan_length_in header.now)
-        × (found.layout ≡ layout_of (slot_count_in header.now)) × (found.plan_length ≤ PLAN_ROOM)
+        × (found.layout ≡ layout_of (form_in header.now) (slot_count_in header.now)) × (found.plan_length ≤ PLAN_ROOM)
         × IsLayout found.layout)
         (λ _. Unit {0}) }
 {
@@ -77,7 +102,7 @@ pub(crate) fn read_header(header: &[u8], image_length: u64) -> Result<Header, u6
         Some(offset) => Err(offset),
         None => Ok(Header {
             plan_length: number_at(header, PLAN_LENGTH_AT),
-            layout: Layout::of_slots(number_at(header, SLOT_COUNT_AT)),
+            layout: Layout::new(form_in(header), number_at(header, SLOT_COUNT_AT)),
         }),
     }
 }

@@ -1,25 +1,32 @@
 // The journal.
-ghost use Rattle.std.specs.Prelude.{◌≡◌, ℕ, ◌+◌, ◌^◌, ◌<◌, ◌≤◌, IsTrue, IfOk, OnOk, OnErr, slice_get, List, length};
-ghost use Rattle.std.specs.Prelude.{take};
-ghost use Rattle.sdls_outside.specs.Disk.{Leaves};
+ghost use Rattle.std.specs.Prelude.{◌≡◌, ℕ, ◌+◌, ◌^◌, ◌<◌, ◌≤◌, ◌⊎◌, IsTrue, IfOk, OnOk, OnErr, slice_get, List, length};
+ghost use Rattle.std.specs.Prelude.{take, slice_index};
+ghost use Rattle.sdls_base.specs.Version.{content_length_of};
+ghost use Rattle.sdls_outside.specs.Disk.{IsSynced, Leaves};
 ghost use Rattle.sdls_outside.specs.Faults.{HasCause};
 ghost use Rattle.image_parts.specs.Changes.{EachImage, OnlySyncs};
-ghost use Rattle.disk_journal.specs.Banks.{bank_at, slot_at, other, next};
+ghost use Rattle.image_parts.specs.declared.layout.TheConstants.{CLOSED};
+ghost use Rattle.disk_journal.specs.declared.layout.TheConstants.{MIGRATED_AT};
+ghost use Rattle.disk_journal.specs.Banks.{version_of, layout_of, image_end, bank_at, slot_at, other, next};
 ghost use Rattle.disk_journal.specs.Image.{records, plan_of, content, current_at, record_at, held, grown, turned};
-ghost use Rattle.disk_journal.specs.Changes.{KeepsBeside};
+ghost use Rattle.disk_journal.specs.Image.{version_in, migrated};
+ghost use Rattle.disk_journal.specs.Changes.{KeepsBeside, KeepsPlan, KeepsPast};
 ghost use Rattle.disk_journal.specs.Fault.{image_fault};
 ghost use Rattle.disk_journal.specs.Forms.{Becomes, Settles};
-ghost use Rattle.disk_journal.specs.Journal.{JournalView, IsJournalOf, IsOpen, IsSettled, HasFault, HasSiteFault};
+ghost use Rattle.disk_journal.specs.Journal.{JournalView, IsJournalOf, IsOpen, IsClosed, IsSettled, HasFault, HasSiteFault};
 ghost use Rattle.disk_journal.specs.Rest.{IsRest};
 
 use crate::fault::JournalFault;
-use crate::layout::{Bank, CONTENT_AT, CONTENT_LENGTH, Layout, next_generation};
+use crate::layout::{
+    BANKS_AT, Bank, CONTENT_AT, FIRST_GENERATION, HeaderForm, Layout, next_generation,
+};
+use crate::migrating::migrate_banks;
 use crate::opening_image::{Verdict, inspect_synced};
-use crate::settling::{clear_spare, close_gate, close_slot};
+use crate::settling::{clear_old_banks, clear_spare, close_gate, close_migration, close_slot};
 use crate::storing::store_record;
 use crate::turning::turn_banks;
 use image_parts::{HEADER_LENGTH, MOST_SLOTS, PLAN_ROOM};
-use sdls_base::BODY_LENGTH;
+use sdls_base::{BODY_LENGTH, CONTENT_LENGTH_TWO, Version};
 use sdls_outside::{Failed, Site};
 use std::marker::Model;
 
@@ -38,7 +45,6 @@ impl Model for Journal {
     ghost use Rattle.std.specs.Prelude.{◌≡◌, ◌≤◌};
     ghost use Rattle.disk_journal.specs.Banks.{IsLayout};
     ghost use Rattle.disk_journal.specs.Journal.{JournalView};
-    ghost use Rattle.disk_journal.specs.declared.layout.TheConstants.{CONTENT_LENGTH};
     ghost use Rattle.image_parts.specs.declared.layout.TheConstants.{PLAN_ROOM};
 
     ghost Value = { JournalView };
@@ -52,7 +58,7 @@ impl Model for Journal {
     } };
 
     ghost invariant = { λ journal. (journal.plan_length ≤ PLAN_ROOM) × (journal.used ≤ journal.layout.slots)
-        × IsLayout journal.layout × (journal.layout.content_length ≡ CONTENT_LENGTH) };
+        × IsLayout journal.layout };
 }
 
 impl Journal {
@@ -80,8 +86,9 @@ impl Journal {
         }
     }
 
-    /// Brings an opened image to rest: writes 0 as the gate of the first closed slot and as that of
-    /// the other bank, if they are not 0, and zeros over the rest of the other bank, if it has
+    /// Brings an opened image to rest: writes 0 as the octet that migrates an image, if it is of version
+    /// 1, as the gate of the first closed slot and as that of the other bank, if they are not 0, and
+    /// zeros over the rest of the other bank and over the old banks of a migrated image, if they have
     /// other octets. Syncs after each. After a fault, open the image again.
     pub fn settle<O: Site>(&self, site: &mut O) -> Result<(), JournalFault>
         requires { IsTrue O.told → IsOpen (O.trace site.old) self.now }
@@ -89,9 +96,9 @@ impl Journal {
         ensures holds { IsTrue O.told → OnOk result (held (O.trace site.new).now.image
             ≡ held (O.trace site.old).now.image) }
 
-        // What stands before the banks and past them is as it was.
+        // What stands before all banks and past them is as it was, but for the octet that migrates.
         ensures beside { IsTrue O.told → OnOk result
-            (KeepsBeside self.now.layout (O.trace site.old).now.image (O.trace site.new).now.image) }
+            (KeepsPlan self.now.layout (O.trace site.old).now.image (O.trace site.new).now.image) }
 
         // A crash at any moment leaves the image but for its closed gates, or one that holds the same.
         ensures any_moment { IsTrue O.told → EachImage (O.trace site.old) (O.trace site.new)
@@ -109,6 +116,26 @@ impl Journal {
     fn bring_to_rest<O: Site>(&self, site: &mut O) -> Result<(), Failed>
         requires { IsTrue O.told → IsOpen (O.trace site.old) self.now }
         ensures settled { IsTrue O.told → OnOk result (IsSettled (O.trace site.new) self.now
+            × (held (O.trace site.new).now.image ≡ held (O.trace site.old).now.image)) }
+        ensures beside { IsTrue O.told → OnOk result
+            (KeepsPlan self.now.layout (O.trace site.old).now.image (O.trace site.new).now.image) }
+        ensures any_moment { IsTrue O.told → EachImage (O.trace site.old) (O.trace site.new)
+            (Settles (O.trace site.old).now.image) }
+        ensures cause { HasCause (O.faults site.old) (O.faults site.new) result }
+        ensures puts { O.put_faults site.new ≡ O.put_faults site.old }
+    {
+        close_migration(site, self.layout.form)?;
+        self.close_banks(site)?;
+        clear_old_banks(site, BANKS_AT, self.layout.old_blocks())
+    }
+
+    /// Closes the gates of an image that is not on its way to be migrated, and clears the other bank.
+    fn close_banks<O: Site>(&self, site: &mut O) -> Result<(), Failed>
+        requires opened { IsTrue O.told → IsOpen (O.trace site.old) self.now }
+        requires shut { IsTrue O.told → self.now.layout.form ≡ HeaderForm.Old
+            → slice_index (O.trace site.old).now.image MIGRATED_AT ≡ CLOSED }
+        ensures closed { IsTrue O.told → OnOk result (IsSynced (O.trace site.new).now
+            × IsClosed (O.trace site.new).now.image self.now
             × (held (O.trace site.new).now.image ≡ held (O.trace site.old).now.image)) }
         ensures beside { IsTrue O.told → OnOk result
             (KeepsBeside self.now.layout (O.trace site.old).now.image (O.trace site.new).now.image) }
@@ -146,7 +173,7 @@ impl Journal {
 
     /// Reads the content. After a fault `out` may hold any octets.
     pub fn content<O: Site>(&self, site: &mut O, out: &mut [u8]) -> Result<(), JournalFault>
-        requires room { length out.old ≡ CONTENT_LENGTH }
+        requires room { length out.old ≡ self.now.layout.content_length }
         requires opened { IsTrue O.told → IsOpen (O.trace site.old) self.now }
         ensures content { IsTrue O.told → OnOk result (out.new ≡ content (O.trace site.old).now.image) }
         ensures same { IsTrue O.told → O.trace site.new ≡ O.trace site.old }
@@ -237,7 +264,7 @@ impl Journal {
     /// image that has it, and no octet of the old bank. After a fault the image may have it or not: no
     /// `append` or `turn` may follow, and the image has to be opened again.
     pub fn turn<O: Site>(&mut self, site: &mut O, content: &[u8]) -> Result<(), JournalFault>
-        requires sized { length content.now ≡ CONTENT_LENGTH }
+        requires sized { length content.now ≡ self.old.layout.content_length }
 
         // `settle` was Ok, and no `append` or `turn` since then has failed.
         requires settled { IsTrue O.told → IsSettled (O.trace site.old) self.old }
@@ -250,7 +277,7 @@ impl Journal {
         ensures becomes { IsTrue O.told → EachImage (O.trace site.old) (O.trace site.new)
             (Becomes (held (O.trace site.old).now.image) (turned content.now (held (O.trace site.old).now.image))) }
 
-        // The old octets are gone: each octet of both banks is stated, in each image that a crash may leave.
+        // The old octets are gone: each octet of all banks is stated, in each image that a crash may leave.
         ensures rest { IsTrue O.told → OnOk result ((image : List ℕ) → Leaves (O.trace site.new).now image
             → IsRest image self.new.bank self.new.generation content.now) }
 
@@ -277,6 +304,74 @@ impl Journal {
                 self.used = 0;
                 self.bank = bank;
                 self.generation = generation;
+                Ok(())
+            }
+            Err(Failed) => Err(JournalFault::SiteFault(site.faults())),
+        }
+    }
+
+    /// The version of the image: how much its contents have room for.
+    pub fn version(&self) -> Version
+        ensures is { result ≡ version_of self.now.layout.form }
+        ensures of_image { (image : List ℕ) → IsJournalOf image self.now → result ≡ version_in image }
+        ensures sized { self.now.layout.content_length ≡ content_length_of result }
+        ensures one { result ≡ Version.One → self.now.layout.form ≡ HeaderForm.Old }
+    {
+        self.layout.form.version()
+    }
+
+    /// Makes an image of version 2 of one of version 1, with this content and no records: writes banks
+    /// behind the old ones, then the octet that says so, then zeros over the old banks. After `Ok` every
+    /// crash leaves an image of version 2 that has the content, and no octet of the old banks. After a
+    /// fault the image may be of either version: no `append`, `turn` or `migrate` may follow, and the
+    /// image has to be opened again.
+    pub fn migrate<O: Site>(&mut self, site: &mut O, content: &[u8]) -> Result<(), JournalFault>
+        requires version { self.old.layout.form ≡ HeaderForm.Old }
+        requires sized { length content.now ≡ CONTENT_LENGTH_TWO }
+
+        // `settle` was Ok, and no `append` or `turn` since then has failed.
+        requires settled { IsTrue O.told → IsSettled (O.trace site.old) self.old }
+
+        ensures stored { IsTrue O.told → OnOk result (IsSettled (O.trace site.new) self.new) }
+        ensures holds { IsTrue O.told → OnOk result
+            (held (O.trace site.new).now.image ≡ migrated content.now (held (O.trace site.old).now.image)) }
+
+        // A crash at any moment leaves an image that holds the old or the new; an opened form of it holds the new.
+        ensures becomes { IsTrue O.told → EachImage (O.trace site.old) (O.trace site.new)
+            (Becomes (held (O.trace site.old).now.image) (migrated content.now (held (O.trace site.old).now.image))) }
+
+        // The old octets are gone: each octet of all banks is stated, in each image that a crash may leave.
+        ensures rest { IsTrue O.told → OnOk result ((image : List ℕ) → Leaves (O.trace site.new).now image
+            → IsRest image self.new.bank self.new.generation content.now) }
+
+        // What stands before all banks is as it was, but for the octet that migrates.
+        ensures before { IsTrue O.told → OnOk result ((i : ℕ) → (i < MIGRATED_AT)
+            ⊎ ((MIGRATED_AT < i) × (i < BANKS_AT))
+            → slice_index (O.trace site.new).now.image i ≡ slice_index (O.trace site.old).now.image i) }
+
+        // What stands past the new banks is as it was; the image ends with them, or where it ended if that is later.
+        ensures past { IsTrue O.told → OnOk result (KeepsPast (image_end self.new.layout)
+            (O.trace site.old).now.image (O.trace site.new).now.image) }
+
+        // After `Ok` the first bank of version 2 is the current one, and no slot is used.
+        ensures counted { OnOk result (self.new ≡ record {
+          plan_length = self.old.plan_length;
+          layout = layout_of HeaderForm.Migrated self.old.layout.slots;
+          bank = Bank.First;
+          generation = FIRST_GENERATION;
+          used = 0;
+        }) }
+        ensures not_counted { OnErr result (self.new ≡ self.old) }
+        ensures fault { HasSiteFault (O.faults site.old) (O.faults site.new) result }
+        ensures puts { O.put_faults site.new ≡ O.put_faults site.old }
+    {
+        let layout = Layout::new(HeaderForm::Migrated, self.layout.slots);
+        match migrate_banks(site, layout, content) {
+            Ok(()) => {
+                self.layout = layout;
+                self.bank = Bank::First;
+                self.generation = FIRST_GENERATION;
+                self.used = 0;
                 Ok(())
             }
             Err(Failed) => Err(JournalFault::SiteFault(site.faults())),

@@ -1,9 +1,12 @@
 // Laws of images: each function is a statement about the definitions, and does nothing.
-ghost use Rattle.std.specs.Prelude.{◌≡◌, ◌≤◌, ℕ, List, length, take, None};
+ghost use Rattle.std.specs.Prelude.{◌≡◌, ◌≤◌, ◌⊎◌, ℕ, List, length, take, None};
+ghost use Rattle.sdls_base.specs.Version.{content_length_of};
 ghost use Rattle.image_parts.specs.declared.layout.TheConstants.{PLAN_ROOM, LEAST_SLOTS, MOST_SLOTS, OPEN};
-ghost use Rattle.disk_journal.specs.declared.layout.TheConstants.{BANKS_AT, CONTENT_LENGTH};
+ghost use Rattle.disk_journal.specs.declared.layout.TheConstants.{BANKS_AT};
 ghost use Rattle.disk_journal.specs.declared.layout.Bank.{Bank};
-ghost use Rattle.disk_journal.specs.Banks.{layout_of, image_end};
+ghost use Rattle.disk_journal.specs.declared.layout.HeaderForm.{HeaderForm};
+ghost use Rattle.disk_journal.specs.declared.layout.HeaderForm.TheVariants.{Old, New};
+ghost use Rattle.disk_journal.specs.Banks.{version_of, layout_of, image_end};
 ghost use Rattle.disk_journal.specs.Image.{image_layout};
 ghost use Rattle.disk_journal.specs.Rest.{IsRest};
 ghost use Rattle.disk_journal.specs.Initial.{front_image, rest_image, BeginsAtRest};
@@ -17,17 +20,19 @@ pub fn opening_stays()
         → StaysWithin image left }
 {}
 
-/// Law: the image that `create` writes opens, at rest and with a zero other bank, and holds the plan, the
-/// slots, the content and no records.
+/// Law: the image that `create` or `create_two` writes opens, at rest and with a zero other bank, and holds
+/// the plan, the slots, the content and no records.
 pub fn initial_image_opens()
-    ensures { (plan text : List ℕ) (slots : ℕ) → length plan ≤ PLAN_ROOM → LEAST_SLOTS ≤ slots → slots ≤ MOST_SLOTS
-        → length text ≡ CONTENT_LENGTH → BeginsAtRest plan slots text }
+    ensures { (form : HeaderForm) (plan text : List ℕ) (slots : ℕ) → (form ≡ Old) ⊎ (form ≡ New)
+        → length plan ≤ PLAN_ROOM → LEAST_SLOTS ≤ slots → slots ≤ MOST_SLOTS
+        → length text ≡ content_length_of (version_of form) → BeginsAtRest form plan slots text }
 {}
 
-/// Law: if each octet of both banks is stated, as after a turn, and what stands before them is the front
-/// of a plan, the image is the plan with one bank at rest, from its first octet to its last.
+/// Law: if each octet of all banks is stated, as after a turn or a migration, and what stands before them is
+/// the front of a plan, the image is the plan with one bank at rest, from its first octet to its last.
 pub fn rest_is_whole()
-    ensures { (image plan text : List ℕ) (slots generation : ℕ) (bank : Bank) → image_layout image ≡ layout_of slots
-        → length image ≡ image_end (layout_of slots) → take BANKS_AT image ≡ front_image OPEN plan slots
-        → IsRest image bank generation text → image ≡ rest_image OPEN plan slots text generation bank }
+    ensures { (form : HeaderForm) (image plan text : List ℕ) (slots generation : ℕ) (bank : Bank)
+        → image_layout image ≡ layout_of form slots
+        → length image ≡ image_end (layout_of form slots) → take BANKS_AT image ≡ front_image form OPEN plan slots
+        → IsRest image bank generation text → image ≡ rest_image form OPEN plan slots text generation bank }
 {}

@@ -1,13 +1,21 @@
 // Where what stands in an image of two banks. All numbers in it are big-endian.
 ghost use Rattle.std.specs.Prelude.{◌≡◌, ◌+◌, ◌*◌, ◌^◌, ◌<◌, ◌≤◌};
-ghost use Rattle.disk_journal.specs.Banks.{layout_of, IsLayout, bank_length, bank_at, image_end, slot_at, other, next};
+ghost use Rattle.disk_journal.specs.Banks.{version_of, magic_of, zeros_at_of, banks_of, layout_of, IsLayout};
+ghost use Rattle.disk_journal.specs.Banks.{bank_length, bank_at, image_end, slot_at, other, next};
 
-use image_parts::{HEADER_LENGTH, MOST_SLOTS, PLAN_ROOM, SLOT_LENGTH};
+use image_parts::{HEADER_LENGTH, MOST_SLOTS, PLAN_ROOM, SLOT_LENGTH, ZEROS_AT};
+use sdls_base::{CONTENT_LENGTH_ONE, Version};
 
-/// What the header has after its gate.
-pub const MAGIC: [u8; 8] = *b"SDLSBNK1";
+/// What a header of version 1 has after its gate, also one whose image was migrated.
+pub const MAGIC_ONE: [u8; 8] = *b"SDLSBNK1";
 
-/// Where the banks begin, behind the header and the plan.
+/// What a header of version 2 has after its gate.
+pub const MAGIC_TWO: [u8; 8] = *b"SDLSBNK2";
+
+/// Where the octet stands that is 1 once an image of version 1 is migrated.
+pub const MIGRATED_AT: u64 = ZEROS_AT;
+
+/// Where the banks begin, behind the header and the plan; those of a migrated image begin behind the banks of version 1.
 pub const BANKS_AT: u64 = HEADER_LENGTH + PLAN_ROOM;
 
 /// Where the generation stands in a bank, behind its gate.
@@ -18,9 +26,6 @@ pub const GENERATION_LENGTH: usize = 8;
 
 /// Where the content stands in a bank.
 pub const CONTENT_AT: u64 = 9;
-
-/// The octets of a content.
-pub const CONTENT_LENGTH: usize = 51_703;
 
 /// The generation of the bank that an image begins with.
 pub const FIRST_GENERATION: u64 = 1;
@@ -57,9 +62,65 @@ pub(crate) fn next_generation(generation: u64) -> u64
     generation.wrapping_add(1)
 }
 
+/// What the header of an image says of its version, and so of where its banks stand.
+#[derive(Clone, Copy, Debug, PartialEq, Eq)]
+pub enum HeaderForm {
+    /// The image is of version 1.
+    Old,
+    /// The image was of version 1, and is of version 2 now.
+    Migrated,
+    /// The image has been of version 2 from the start.
+    New,
+}
+
+impl HeaderForm {
+    /// The version of an image whose header has this form.
+    pub fn version(self) -> Version
+        ensures { result ≡ version_of self }
+    {
+        match self {
+            HeaderForm::Old => Version::One,
+            HeaderForm::Migrated | HeaderForm::New => Version::Two,
+        }
+    }
+
+    /// What the header has after its gate.
+    pub(crate) fn magic(self) -> [u8; 8]
+        ensures { result ≡ magic_of self }
+    {
+        match self {
+            HeaderForm::Old | HeaderForm::Migrated => MAGIC_ONE,
+            HeaderForm::New => MAGIC_TWO,
+        }
+    }
+
+    /// Where the zeros begin that fill the header.
+    pub(crate) fn zeros_at(self) -> u64
+        ensures { result ≡ zeros_at_of self }
+    {
+        match self {
+            HeaderForm::Old | HeaderForm::Migrated => MIGRATED_AT + 1,
+            HeaderForm::New => ZEROS_AT,
+        }
+    }
+
+    /// Where the banks begin, of an image whose banks have so many slots.
+    fn banks(self, slots: u32) -> u64
+        ensures { result ≡ banks_of self slots }
+    {
+        match self {
+            HeaderForm::Old | HeaderForm::New => BANKS_AT,
+            HeaderForm::Migrated => BANKS_AT
+                + 2 * (CONTENT_AT + CONTENT_LENGTH_ONE as u64 + SLOT_LENGTH * slots as u64),
+        }
+    }
+}
+
 /// Where the banks of an image begin, and how long they are. Each offset in a bank is a function of it.
 #[derive(Clone, Copy, Debug)]
 pub struct Layout {
+    /// The form of the image's header.
+    pub form: HeaderForm,
     /// Where the first bank begins.
     pub banks: u64,
     /// The octets of a content.
@@ -69,17 +130,26 @@ pub struct Layout {
 }
 
 impl Layout {
-    /// The layout of an image whose banks have so many slots.
-    pub fn of_slots(slots: u32) -> Layout
+    /// The layout of an image whose header has this form, and whose banks have so many slots.
+    pub fn new(form: HeaderForm, slots: u32) -> Layout
         requires { slots ≤ MOST_SLOTS }
-        ensures is { result ≡ layout_of slots }
+        ensures is { result ≡ layout_of form slots }
         ensures layout { IsLayout result }
     {
         Layout {
-            banks: BANKS_AT,
-            content_length: CONTENT_LENGTH as u64,
+            form,
+            banks: form.banks(slots),
+            content_length: form.version().content_length() as u64,
             slots,
         }
+    }
+
+    /// The octets of the banks of version 1 before those of a migrated image, in blocks of a slot's length.
+    pub(crate) fn old_blocks(self) -> u32
+        requires { IsLayout self }
+        ensures { BANKS_AT + SLOT_LENGTH * result ≡ self.banks }
+    {
+        ((self.banks - BANKS_AT) / SLOT_LENGTH) as u32
     }
 
     /// The octets of a bank, in blocks of a slot's length.

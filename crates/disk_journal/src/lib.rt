@@ -3,10 +3,11 @@
 //!
 //! An image has a header, a plan's text and two banks. A bank is a gate, a generation, a content and slots; a slot is a
 //! gate octet and a body. The open bank is the current one, or of two open ones the one of the later generation; the
-//! records are the bodies of its slots before the first closed one. [`create`] writes an image without records,
-//! [`Journal::open`] checks one and writes nothing, and [`Journal::settle`] brings it to rest. [`Journal::append`] adds
-//! a record, and [`Journal::turn`] writes another content into the other bank, in place of the content and the records.
-//! No call takes memory.
+//! records are the bodies of its slots before the first closed one. An image is of version 1 or 2, which says how long
+//! its contents are. [`create`] and [`create_two`] write one without records, [`Journal::open`] checks one and writes
+//! nothing, and [`Journal::settle`] brings it to rest. [`Journal::append`] adds a record, and [`Journal::turn`] writes
+//! another content into the other bank, in place of the content and the records. [`Journal::migrate`] makes an image of
+//! version 2 of one of version 1. No call takes memory.
 #![tactic(auto)]
 
 mod choosing;
@@ -17,12 +18,13 @@ mod header;
 mod journal;
 mod laws;
 mod layout;
+mod migrating;
 mod opening_image;
 mod settling;
 mod storing;
 mod turning;
 
-pub use creating::create;
+pub use creating::{create, create_two};
 pub use fault::JournalFault;
 pub use image_parts::{
     CLOSED, FIELD_LENGTH, HEADER_LENGTH, LEAST_SLOTS, MAGIC_AT, MOST_SLOTS, OPEN, PLAN_AT,
@@ -31,7 +33,7 @@ pub use image_parts::{
 pub use journal::Journal;
 pub use laws::{initial_image_opens, opening_stays, rest_is_whole};
 pub use layout::{
-    BANKS_AT, Bank, CONTENT_AT, CONTENT_LENGTH, FIRST_GENERATION, GENERATION_AT, GENERATION_LENGTH,
-    Layout, MAGIC,
+    BANKS_AT, Bank, CONTENT_AT, FIRST_GENERATION, GENERATION_AT, GENERATION_LENGTH, HeaderForm,
+    Layout, MAGIC_ONE, MAGIC_TWO, MIGRATED_AT,
 };
 pub use sdls_base::BODY_LENGTH;

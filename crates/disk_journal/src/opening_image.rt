@@ -6,7 +6,6 @@ ghost use Rattle.image_parts.specs.Changes.{OnlySyncs};
 ghost use Rattle.disk_journal.specs.Banks.{IsLayout, image_end, bank_at};
 ghost use Rattle.disk_journal.specs.Journal.{IsHeaderOf, IsCurrent};
 ghost use Rattle.disk_journal.specs.Verdict.{IsVerdict};
-ghost use Rattle.disk_journal.specs.declared.layout.TheConstants.{CONTENT_LENGTH};
 
 use crate::choosing::{choose, read_front};
 use crate::gates::{first_closed, stray_gate};
@@ -34,7 +33,6 @@ fn inspect_slots<O: Site>(
 ) -> Result<Verdict, Failed>
     requires room { header.plan_length ≤ PLAN_ROOM }
     requires layout { IsLayout header.layout }
-    requires content { header.layout.content_length ≡ CONTENT_LENGTH }
     requires passed { IsTrue O.told → IsHeaderOf (O.trace site.old).now.image header.plan_length header.layout }
     requires newest { IsTrue O.told → IsCurrent (O.trace site.old).now.image bank generation }
     ensures found { IsTrue O.told → IfOk result (IsVerdict (O.trace site.old).now.image) }
@@ -64,7 +62,6 @@ fn inspect_slots<O: Site>(
 fn inspect_banks<O: Site>(site: &mut O, header: Header) -> Result<Verdict, Failed>
     requires room { header.plan_length ≤ PLAN_ROOM }
     requires layout { IsLayout header.layout }
-    requires content { header.layout.content_length ≡ CONTENT_LENGTH }
     requires passed { IsTrue O.told → IsHeaderOf (O.trace site.old).now.image header.plan_length header.layout }
     ensures found { IsTrue O.told → IfOk result (IsVerdict (O.trace site.old).now.image) }
     ensures same { IsTrue O.told → O.trace site.new ≡ O.trace site.old }

@@ -4,11 +4,11 @@ ghost use Rattle.sdls_outside.specs.Disk.{IsSynced};
 ghost use Rattle.sdls_outside.specs.Faults.{HasCause};
 ghost use Rattle.image_parts.specs.Changes.{AllBut, EachImage};
 ghost use Rattle.disk_journal.specs.Changes.{IsZero, IsCleared};
-ghost use Rattle.disk_journal.specs.Changes.{Gated, GatedSlot};
+ghost use Rattle.disk_journal.specs.Changes.{IsErased, Gated, GatedSlot, GatedForm};
 
 use crate::header::has_other;
-use crate::layout::{RUN, RUN_LENGTH};
-use crate::storing::{clear_bank, store};
+use crate::layout::{BANKS_AT, HeaderForm, MIGRATED_AT, RUN, RUN_LENGTH};
+use crate::storing::{clear_bank, clear_blocks, store};
 use image_parts::{CLOSED, SLOT_LENGTH};
 use sdls_outside::{Failed, Site};
 
@@ -30,6 +30,25 @@ pub(crate) fn close_gate<O: Site>(site: &mut O, at: u64) -> Result<(), Failed>
         return Ok(());
     }
     store(site, at, &[CLOSED])
+}
+
+/// The same for the octet that migrates an image, if the image is of version 1.
+pub(crate) fn close_migration<O: Site>(site: &mut O, form: HeaderForm) -> Result<(), Failed>
+    requires synced { IsTrue O.told → IsSynced (O.trace site.old).now }
+    requires within { IsTrue O.told → BANKS_AT ≤ length (O.trace site.old).now.image }
+    ensures closed { IsTrue O.told → OnOk result (IsSynced (O.trace site.new).now
+        × (form ≡ HeaderForm.Old → slice_index (O.trace site.new).now.image MIGRATED_AT ≡ CLOSED)) }
+    ensures ends { IsTrue O.told → OnOk result
+        (GatedForm form (O.trace site.old).now.image (O.trace site.new).now.image) }
+    ensures any_moment { IsTrue O.told → EachImage (O.trace site.old) (O.trace site.new)
+        (GatedForm form (O.trace site.old).now.image) }
+    ensures cause { HasCause (O.faults site.old) (O.faults site.new) result }
+    ensures puts { O.put_faults site.new ≡ O.put_faults site.old }
+{
+    match form {
+        HeaderForm::Old => close_gate(site, MIGRATED_AT),
+        HeaderForm::Migrated | HeaderForm::New => Ok(()),
+    }
 }
 
 /// The same for the gate of the slot `index` of `slots`, if the slot is there.
@@ -109,4 +128,22 @@ pub(crate) fn clear_spare<O: Site>(site: &mut O, bank: u64, blocks: u32) -> Resu
         return Ok(());
     }
     clear_bank(site, bank, blocks)
+}
+
+/// Writes zeros over so many blocks of a slot's length from `at` on, if they have other octets.
+pub(crate) fn clear_old_banks<O: Site>(site: &mut O, at: u64, blocks: u32) -> Result<(), Failed>
+    requires place { at + SLOT_LENGTH * blocks < 2 ^ 64 }
+    requires synced { IsTrue O.told → IsSynced (O.trace site.old).now }
+    requires within { IsTrue O.told → at + SLOT_LENGTH * blocks ≤ length (O.trace site.old).now.image }
+    ensures cleared { IsTrue O.told → OnOk result (IsSynced (O.trace site.new).now
+        × IsErased at (SLOT_LENGTH * blocks) (O.trace site.old).now.image (O.trace site.new).now.image) }
+    ensures any_moment { IsTrue O.told → EachImage (O.trace site.old) (O.trace site.new)
+        (AllBut at (SLOT_LENGTH * blocks) (O.trace site.old).now.image) }
+    ensures cause { HasCause (O.faults site.old) (O.faults site.new) result }
+    ensures puts { O.put_faults site.new ≡ O.put_faults site.old }
+{
+    if is_zero(site, at, blocks)? {
+        return Ok(());
+    }
+    clear_blocks(site, at, blocks)
 }

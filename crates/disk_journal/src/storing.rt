@@ -4,7 +4,7 @@ ghost use Rattle.sdls_outside.specs.Disk.{IsSynced};
 ghost use Rattle.sdls_outside.specs.Faults.{HasCause};
 ghost use Rattle.sdls_outside.specs.Site.{overwritten};
 ghost use Rattle.image_parts.specs.Changes.{AllBut, EachImage};
-ghost use Rattle.disk_journal.specs.Changes.{filled, IsZero, IsCleared, Row};
+ghost use Rattle.disk_journal.specs.Changes.{filled, IsZero, IsCleared, IsErased, Row};
 
 use crate::layout::{CONTENT_AT, GENERATION_AT, GENERATION_LENGTH};
 use byteorder::{BigEndian, ByteOrder};
@@ -117,4 +117,39 @@ pub(crate) fn clear_bank<O: Site>(site: &mut O, bank: u64, blocks: u32) -> Resul
     zero_blocks(site, bank, blocks)?;
     site.write_at(bank + 1, &[0; (SLOT_LENGTH - 1) as usize])?;
     site.sync()
+}
+
+/// Writes zeros over so many blocks of a slot's length from `at` on, and brings them to the disk.
+pub(crate) fn clear_blocks<O: Site>(site: &mut O, at: u64, blocks: u32) -> Result<(), Failed>
+    requires place { at + SLOT_LENGTH * blocks < 2 ^ 64 }
+    requires synced { IsTrue O.told → IsSynced (O.trace site.old).now }
+    requires within { IsTrue O.told → at + SLOT_LENGTH * blocks ≤ length (O.trace site.old).now.image }
+    ensures cleared { IsTrue O.told → OnOk result (IsSynced (O.trace site.new).now
+        × IsErased at (SLOT_LENGTH * blocks) (O.trace site.old).now.image (O.trace site.new).now.image) }
+    ensures any_moment { IsTrue O.told → EachImage (O.trace site.old) (O.trace site.new)
+        (AllBut at (SLOT_LENGTH * blocks) (O.trace site.old).now.image) }
+    ensures cause { HasCause (O.faults site.old) (O.faults site.new) result }
+    ensures puts { O.put_faults site.new ≡ O.put_faults site.old }
+{
+    write_zeros(site, at, blocks)?;
+    site.sync()
+}
+
+/// Writes zeros over so many blocks of a slot's length from `at` on. They are not brought to the disk.
+fn write_zeros<O: Site>(site: &mut O, at: u64, blocks: u32) -> Result<(), Failed>
+    requires place { at + SLOT_LENGTH * blocks < 2 ^ 64 }
+    requires synced { IsTrue O.told → IsSynced (O.trace site.old).now }
+    requires within { IsTrue O.told → at + SLOT_LENGTH * blocks ≤ length (O.trace site.old).now.image }
+    ensures zeroed { IsTrue O.told → OnOk result (IsZero at (at + SLOT_LENGTH * blocks) (O.trace site.new).now.image) }
+    ensures row { IsTrue O.told → OnOk result (Row at (SLOT_LENGTH * blocks) (O.trace site.old).now.image
+        (O.trace site.old) (O.trace site.new)) }
+    ensures any_moment { IsTrue O.told → EachImage (O.trace site.old) (O.trace site.new)
+        (AllBut at (SLOT_LENGTH * blocks) (O.trace site.old).now.image) }
+    ensures cause { HasCause (O.faults site.old) (O.faults site.new) result }
+    ensures puts { O.put_faults site.new ≡ O.put_faults site.old }
+{
+    for block in 0..blocks {
+        site.write_at(at + SLOT_LENGTH * block as u64, &[0; SLOT_LENGTH as usize])?;
+    }
+    Ok(())
 }

@@ -22,7 +22,7 @@ write_bank-requires-clause-long g c = λ told.
     let headed = (g.O.Site.trace c.write_header.new.site).now.image in
     let some : 1 ≤ c.blocks-2.result = let sized = c.blocks-2.ensures in omega (arith, sized) in
     let long : length headed ≡ size =
-    headed_size zeroed headed c.args.plan.now c.args.slots size empty (omega arith) c.requires.room (c.in_ok-write_header.ensures.written told) in
+    headed_size c.args.form zeroed headed c.args.plan.now c.args.slots size empty (omega arith) c.requires.room (c.in_ok-write_header.ensures.written told) in
     omega arith
 
 pub returns-in_err-write_bank-clause-any_moment : goal.returns-in_err-write_bank-clause-any_moment
@@ -45,7 +45,7 @@ returns-clause-laid g c = λ told.
     let size : ℕ = SLOT_LENGTH * (129 + 2 * c.blocks-2.result) in
     let zeroed = (g.O.Site.trace c.write_zeros.new.site).now.image in
     let empty : zeroed ≡ zeros size = c.in_ok-write_zeros.ensures.written told in
-    laid_ok c.sync.result (g.O.Site.trace c.write_bank.new.site) (g.O.Site.trace c.sync.new.self) c.args.plan.now c.args.slots size c.args.content.now
-    zeroed (g.O.Site.trace c.write_header.new.site).now.image (blocks_size c.args.slots c.blocks-2.result c.of_slots.result c.blocks-2.ensures c.of_slots.ensures.is)
-    c.requires.room c.requires.sized empty (c.in_ok-write_header.ensures.written told) (c.in_ok-write_bank.ensures.written told)
+    laid_ok c.sync.result (g.O.Site.trace c.write_bank.new.site) (g.O.Site.trace c.sync.new.self) c.args.form c.args.plan.now c.args.slots size c.args.content.now
+    zeroed (g.O.Site.trace c.write_header.new.site).now.image c.requires.form
+    (blocks_size c.args.form c.args.slots c.blocks-2.result c.new.result c.requires.form c.blocks-2.ensures c.new.ensures.is) c.requires.room c.requires.sized empty (c.in_ok-write_header.ensures.written told) (c.in_ok-write_bank.ensures.written told)
     (c.sync.ensures.synced told)

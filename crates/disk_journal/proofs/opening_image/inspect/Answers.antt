@@ -1,7 +1,8 @@
 use Rattle.std.proofs.Common.{ℕ, List, ◌<◌, ap, sym, subst}
 use Rattle.image_parts.specs.declared.layout.TheConstants.{HEADER_LENGTH}
 use Rattle.disk_journal.specs.Journal.{IsHeaderOf}
-use Rattle.disk_journal.proofs.Verdicts.{short_verdict, header_verdict, header_found}
+use Rattle.disk_journal.proofs.Refused.{short_verdict, header_verdict}
+use Rattle.disk_journal.proofs.Verdicts.{header_found}
 use Rattle.disk_journal.proofs.opening_image.inspect.Goals as goal
 
 pub returns-then-image_length-lt-HEADER_LENGTH-clause-found : goal.returns-then-image_length-lt-HEADER_LENGTH-clause-found

@@ -1,179 +1,122 @@
-use Rattle.std.proofs.Common.{ℕ, ◌≡◌, ◌∙◌, length, sym, ap, subst, arith}
+use Rattle.std.proofs.Common.{◌≡◌, sym, subst}
 use Rattle.std.specs.Result.{OnOk}
-use Rattle.disk_journal.specs.Banks.{bank_at, slot_at}
 use Rattle.disk_journal.specs.Image.{held}
-use Rattle.disk_journal.specs.Journal.{JournalView, IsOpen, IsSettled}
-use Rattle.disk_journal.specs.Changes.{KeepsBeside}
-use Rattle.disk_journal.proofs.Settles.{Sites, spare_within, slot_within, first_part, second_part, third_part, Closing, settled_end, settle_beside, slot_long, gate_long, blocks_moments, blocks_cleared}
+use Rattle.disk_journal.specs.Journal.{JournalView, IsClosed, IsOpen, IsSettled}
+use Rattle.disk_journal.specs.Changes.{KeepsBeside, KeepsPlan}
+use Rattle.disk_journal.proofs.Resting.{Stages, form_within, open_stilled, old_within, first_moments, second_moments, third_moments, rested_end, rested_beside}
 use Rattle.disk_journal.proofs.journal.Journal.bring_to_rest.Goals as goal
 
-pub close_slot-requires-clause-within : goal.close_slot-requires-clause-within
-close_slot-requires-clause-within g c = λ told.
+pub close_migration-requires-clause-within : goal.close_migration-requires-clause-within
+close_migration-requires-clause-within g c = λ told.
     let old = g.O.Site.trace c.args.site.now in
     let journal : JournalView = record { plan_length = c.self.inside.plan_length; layout = c.self.inside.layout; bank = c.self.inside.bank; generation = c.self.inside.generation; used = c.self.inside.used } in
     let opened : IsOpen old journal = subst (λ (view : JournalView). IsOpen old view) (sym c.self.view_is) (c.requires told) in
-    let slot = c.slot_offset-slot.result in
-    let spare = c.bank_offset-spare.result in
-    let sites : Sites old.now.image journal slot spare = record {
-      of_image = opened.of_image;
-      slot_is = c.slot_offset-slot.ensures ∙ ap (λ (n : ℕ). slot_at c.self.inside.layout n c.self.inside.used) c.bank_offset-at.ensures;
-      spare_is = c.bank_offset-spare.ensures ∙ ap (bank_at c.self.inside.layout) c.other.ensures;
-    } in
-    λ room. slot_within old journal slot spare sites room
+    form_within old journal opened
 
-pub returns-in_err-close_slot-clause-any_moment : goal.returns-in_err-close_slot-clause-any_moment
-returns-in_err-close_slot-clause-any_moment g c = λ told.
+pub returns-in_err-close_migration-clause-any_moment : goal.returns-in_err-close_migration-clause-any_moment
+returns-in_err-close_migration-clause-any_moment g c = λ told.
     let old = g.O.Site.trace c.args.site.now in
     let journal : JournalView = record { plan_length = c.self.inside.plan_length; layout = c.self.inside.layout; bank = c.self.inside.bank; generation = c.self.inside.generation; used = c.self.inside.used } in
     let opened : IsOpen old journal = subst (λ (view : JournalView). IsOpen old view) (sym c.self.view_is) (c.requires told) in
-    let slot = c.slot_offset-slot.result in
-    let spare = c.bank_offset-spare.result in
-    let sites : Sites old.now.image journal slot spare = record {
-      of_image = opened.of_image;
-      slot_is = c.slot_offset-slot.ensures ∙ ap (λ (n : ℕ). slot_at c.self.inside.layout n c.self.inside.used) c.bank_offset-at.ensures;
-      spare_is = c.bank_offset-spare.ensures ∙ ap (bank_at c.self.inside.layout) c.other.ensures;
-    } in
-    first_part old (g.O.Site.trace c.close_slot.new.site) journal slot spare sites (c.close_slot.ensures.any_moment told)
+    let mid = g.O.Site.trace c.close_migration.new.site in
+    first_moments old mid journal opened (c.close_migration.ensures.any_moment told)
 
-pub close_gate-requires-clause-within : goal.close_gate-requires-clause-within
-close_gate-requires-clause-within g c = λ told.
+pub close_banks-requires-clause-opened : goal.close_banks-requires-clause-opened
+close_banks-requires-clause-opened g c = λ told.
     let old = g.O.Site.trace c.args.site.now in
     let journal : JournalView = record { plan_length = c.self.inside.plan_length; layout = c.self.inside.layout; bank = c.self.inside.bank; generation = c.self.inside.generation; used = c.self.inside.used } in
     let opened : IsOpen old journal = subst (λ (view : JournalView). IsOpen old view) (sym c.self.view_is) (c.requires told) in
-    let slot = c.slot_offset-slot.result in
-    let spare = c.bank_offset-spare.result in
-    let sites : Sites old.now.image journal slot spare = record {
-      of_image = opened.of_image;
-      slot_is = c.slot_offset-slot.ensures ∙ ap (λ (n : ℕ). slot_at c.self.inside.layout n c.self.inside.used) c.bank_offset-at.ensures;
-      spare_is = c.bank_offset-spare.ensures ∙ ap (bank_at c.self.inside.layout) c.other.ensures;
-    } in
-    let within = spare_within old journal slot spare sites in
-    let same : length (g.O.Site.trace c.close_slot.new.site).now.image ≡ length old.now.image =
-    slot_long old.now.image (g.O.Site.trace c.close_slot.new.site).now.image slot c.self.inside.used c.self.inside.layout.slots (c.in_ok-close_slot.ensures.ends told) in
-    omega (arith, within, same)
+    let mid = g.O.Site.trace c.close_migration.new.site in
+    subst (λ (view : JournalView). IsOpen mid view) c.self.view_is
+    (open_stilled old mid journal opened (c.in_ok-close_migration.ensures.closed told).0 (c.in_ok-close_migration.ensures.ends told)
+    (c.in_ok-close_migration.ensures.closed told).1)
 
-pub returns-in_err-close_gate-clause-any_moment : goal.returns-in_err-close_gate-clause-any_moment
-returns-in_err-close_gate-clause-any_moment g c = λ told.
+pub returns-in_err-close_banks-clause-any_moment : goal.returns-in_err-close_banks-clause-any_moment
+returns-in_err-close_banks-clause-any_moment g c = λ told.
     let old = g.O.Site.trace c.args.site.now in
     let journal : JournalView = record { plan_length = c.self.inside.plan_length; layout = c.self.inside.layout; bank = c.self.inside.bank; generation = c.self.inside.generation; used = c.self.inside.used } in
     let opened : IsOpen old journal = subst (λ (view : JournalView). IsOpen old view) (sym c.self.view_is) (c.requires told) in
-    let slot = c.slot_offset-slot.result in
-    let spare = c.bank_offset-spare.result in
-    let sites : Sites old.now.image journal slot spare = record {
-      of_image = opened.of_image;
-      slot_is = c.slot_offset-slot.ensures ∙ ap (λ (n : ℕ). slot_at c.self.inside.layout n c.self.inside.used) c.bank_offset-at.ensures;
-      spare_is = c.bank_offset-spare.ensures ∙ ap (bank_at c.self.inside.layout) c.other.ensures;
-    } in
-    let mid = g.O.Site.trace c.close_slot.new.site in
-    let closed = g.O.Site.trace c.close_gate.new.site in
-    second_part old mid closed journal slot spare sites
-    (c.in_ok-close_slot.ensures.any_moment told) (c.in_ok-close_slot.ensures.ends told) (c.close_gate.ensures.any_moment told)
+    let mid = g.O.Site.trace c.close_migration.new.site in
+    second_moments old mid (g.O.Site.trace c.close_banks.new.site) journal opened (c.in_ok-close_migration.ensures.ends told)
+    (c.in_ok-close_migration.ensures.closed told).1 (c.in_ok-close_migration.ensures.any_moment told) (c.close_banks.ensures.any_moment told)
 
-pub clear_spare-requires-clause-within : goal.clear_spare-requires-clause-within
-clear_spare-requires-clause-within g c = λ told.
+pub clear_old_banks-requires-clause-within : goal.clear_old_banks-requires-clause-within
+clear_old_banks-requires-clause-within g c = λ told.
     let old = g.O.Site.trace c.args.site.now in
     let journal : JournalView = record { plan_length = c.self.inside.plan_length; layout = c.self.inside.layout; bank = c.self.inside.bank; generation = c.self.inside.generation; used = c.self.inside.used } in
     let opened : IsOpen old journal = subst (λ (view : JournalView). IsOpen old view) (sym c.self.view_is) (c.requires told) in
-    let slot = c.slot_offset-slot.result in
-    let spare = c.bank_offset-spare.result in
-    let sites : Sites old.now.image journal slot spare = record {
-      of_image = opened.of_image;
-      slot_is = c.slot_offset-slot.ensures ∙ ap (λ (n : ℕ). slot_at c.self.inside.layout n c.self.inside.used) c.bank_offset-at.ensures;
-      spare_is = c.bank_offset-spare.ensures ∙ ap (bank_at c.self.inside.layout) c.other.ensures;
+    let mid = g.O.Site.trace c.close_migration.new.site in
+    let closed = g.O.Site.trace c.close_banks.new.site in
+    let view = c.self.view_is in
+    let stages : Stages old mid closed journal = record {
+      opened = opened;
+      first = c.in_ok-close_migration.ensures.ends told;
+      shut = (c.in_ok-close_migration.ensures.closed told).1;
+      is_closed = subst (λ (one : JournalView). IsClosed closed.now.image one) (sym view) (c.in_ok-close_banks.ensures.closed told).1;
+      same = (c.in_ok-close_banks.ensures.closed told).2;
+      beside = subst (λ (one : JournalView). KeepsBeside one.layout mid.now.image closed.now.image) (sym view) (c.in_ok-close_banks.ensures.beside told);
     } in
-    let mid = g.O.Site.trace c.close_slot.new.site in
-    let closed = g.O.Site.trace c.close_gate.new.site in
-    let closing : Closing old.now.image mid.now.image closed.now.image journal slot spare = record {
-      sites = sites;
-      first = c.in_ok-close_slot.ensures.ends told;
-      slot_shut = (c.in_ok-close_slot.ensures.closed told).1;
-      second = c.in_ok-close_gate.ensures.ends told;
-      spare_shut = (c.in_ok-close_gate.ensures.closed told).1;
-    } in
-    let within = spare_within old journal slot spare sites in
-    let same : length closed.now.image ≡ length old.now.image =
-    gate_long mid.now.image closed.now.image spare closing.second
-    ∙ slot_long old.now.image mid.now.image slot c.self.inside.used c.self.inside.layout.slots closing.first in
-    let blocks = c.blocks-2.ensures in
-    omega (arith, within, same, blocks)
+    old_within closed journal c.old_blocks.result stages.is_closed c.old_blocks.ensures
 
 pub returns-clause-any_moment : goal.returns-clause-any_moment
 returns-clause-any_moment g c = λ told.
     let old = g.O.Site.trace c.args.site.now in
     let journal : JournalView = record { plan_length = c.self.inside.plan_length; layout = c.self.inside.layout; bank = c.self.inside.bank; generation = c.self.inside.generation; used = c.self.inside.used } in
     let opened : IsOpen old journal = subst (λ (view : JournalView). IsOpen old view) (sym c.self.view_is) (c.requires told) in
-    let slot = c.slot_offset-slot.result in
-    let spare = c.bank_offset-spare.result in
-    let sites : Sites old.now.image journal slot spare = record {
-      of_image = opened.of_image;
-      slot_is = c.slot_offset-slot.ensures ∙ ap (λ (n : ℕ). slot_at c.self.inside.layout n c.self.inside.used) c.bank_offset-at.ensures;
-      spare_is = c.bank_offset-spare.ensures ∙ ap (bank_at c.self.inside.layout) c.other.ensures;
+    let mid = g.O.Site.trace c.close_migration.new.site in
+    let closed = g.O.Site.trace c.close_banks.new.site in
+    let view = c.self.view_is in
+    let stages : Stages old mid closed journal = record {
+      opened = opened;
+      first = c.in_ok-close_migration.ensures.ends told;
+      shut = (c.in_ok-close_migration.ensures.closed told).1;
+      is_closed = subst (λ (one : JournalView). IsClosed closed.now.image one) (sym view) (c.in_ok-close_banks.ensures.closed told).1;
+      same = (c.in_ok-close_banks.ensures.closed told).2;
+      beside = subst (λ (one : JournalView). KeepsBeside one.layout mid.now.image closed.now.image) (sym view) (c.in_ok-close_banks.ensures.beside told);
     } in
-    let mid = g.O.Site.trace c.close_slot.new.site in
-    let closed = g.O.Site.trace c.close_gate.new.site in
-    let closing : Closing old.now.image mid.now.image closed.now.image journal slot spare = record {
-      sites = sites;
-      first = c.in_ok-close_slot.ensures.ends told;
-      slot_shut = (c.in_ok-close_slot.ensures.closed told).1;
-      second = c.in_ok-close_gate.ensures.ends told;
-      spare_shut = (c.in_ok-close_gate.ensures.closed told).1;
-    } in
-    third_part old mid closed (g.O.Site.trace c.clear_spare.new.site) journal slot spare closing
-    (second_part old mid closed journal slot spare sites
-    (c.in_ok-close_slot.ensures.any_moment told) (c.in_ok-close_slot.ensures.ends told) (c.in_ok-close_gate.ensures.any_moment told))
-    (blocks_moments closed (g.O.Site.trace c.clear_spare.new.site) spare c.blocks-2.result c.self.inside.layout c.blocks-2.ensures
-    (c.clear_spare.ensures.any_moment told))
+    third_moments old mid closed (g.O.Site.trace c.clear_old_banks.new.site) journal c.old_blocks.result stages c.old_blocks.ensures
+    (second_moments old mid closed journal opened (c.in_ok-close_migration.ensures.ends told)
+    (c.in_ok-close_migration.ensures.closed told).1 (c.in_ok-close_migration.ensures.any_moment told) (c.in_ok-close_banks.ensures.any_moment told))
+    (c.clear_old_banks.ensures.any_moment told)
 
 pub returns-clause-settled : goal.returns-clause-settled
 returns-clause-settled g c = λ told.
     let old = g.O.Site.trace c.args.site.now in
     let journal : JournalView = record { plan_length = c.self.inside.plan_length; layout = c.self.inside.layout; bank = c.self.inside.bank; generation = c.self.inside.generation; used = c.self.inside.used } in
     let opened : IsOpen old journal = subst (λ (view : JournalView). IsOpen old view) (sym c.self.view_is) (c.requires told) in
-    let slot = c.slot_offset-slot.result in
-    let spare = c.bank_offset-spare.result in
-    let sites : Sites old.now.image journal slot spare = record {
-      of_image = opened.of_image;
-      slot_is = c.slot_offset-slot.ensures ∙ ap (λ (n : ℕ). slot_at c.self.inside.layout n c.self.inside.used) c.bank_offset-at.ensures;
-      spare_is = c.bank_offset-spare.ensures ∙ ap (bank_at c.self.inside.layout) c.other.ensures;
+    let mid = g.O.Site.trace c.close_migration.new.site in
+    let closed = g.O.Site.trace c.close_banks.new.site in
+    let view = c.self.view_is in
+    let stages : Stages old mid closed journal = record {
+      opened = opened;
+      first = c.in_ok-close_migration.ensures.ends told;
+      shut = (c.in_ok-close_migration.ensures.closed told).1;
+      is_closed = subst (λ (one : JournalView). IsClosed closed.now.image one) (sym view) (c.in_ok-close_banks.ensures.closed told).1;
+      same = (c.in_ok-close_banks.ensures.closed told).2;
+      beside = subst (λ (one : JournalView). KeepsBeside one.layout mid.now.image closed.now.image) (sym view) (c.in_ok-close_banks.ensures.beside told);
     } in
-    let mid = g.O.Site.trace c.close_slot.new.site in
-    let closed = g.O.Site.trace c.close_gate.new.site in
-    let closing : Closing old.now.image mid.now.image closed.now.image journal slot spare = record {
-      sites = sites;
-      first = c.in_ok-close_slot.ensures.ends told;
-      slot_shut = (c.in_ok-close_slot.ensures.closed told).1;
-      second = c.in_ok-close_gate.ensures.ends told;
-      spare_shut = (c.in_ok-close_gate.ensures.closed told).1;
-    } in
-    subst (λ (view : JournalView). OnOk c.clear_spare.result (IsSettled (g.O.Site.trace c.clear_spare.new.site) view
-    × (held (g.O.Site.trace c.clear_spare.new.site).now.image ≡ held old.now.image))) c.self.view_is
-    (settled_end c.clear_spare.result old mid closed (g.O.Site.trace c.clear_spare.new.site) journal slot spare closing
-    (blocks_cleared c.clear_spare.result closed (g.O.Site.trace c.clear_spare.new.site) spare c.blocks-2.result c.self.inside.layout c.blocks-2.ensures
-    (c.clear_spare.ensures.cleared told)))
+    subst (λ (one : JournalView). OnOk c.clear_old_banks.result (IsSettled (g.O.Site.trace c.clear_old_banks.new.site) one
+    × (held (g.O.Site.trace c.clear_old_banks.new.site).now.image ≡ held old.now.image))) view
+    (rested_end c.clear_old_banks.result old mid closed (g.O.Site.trace c.clear_old_banks.new.site) journal c.old_blocks.result stages
+    c.old_blocks.ensures (c.clear_old_banks.ensures.cleared told))
 
 pub returns-clause-beside : goal.returns-clause-beside
 returns-clause-beside g c = λ told.
     let old = g.O.Site.trace c.args.site.now in
     let journal : JournalView = record { plan_length = c.self.inside.plan_length; layout = c.self.inside.layout; bank = c.self.inside.bank; generation = c.self.inside.generation; used = c.self.inside.used } in
     let opened : IsOpen old journal = subst (λ (view : JournalView). IsOpen old view) (sym c.self.view_is) (c.requires told) in
-    let slot = c.slot_offset-slot.result in
-    let spare = c.bank_offset-spare.result in
-    let sites : Sites old.now.image journal slot spare = record {
-      of_image = opened.of_image;
-      slot_is = c.slot_offset-slot.ensures ∙ ap (λ (n : ℕ). slot_at c.self.inside.layout n c.self.inside.used) c.bank_offset-at.ensures;
-      spare_is = c.bank_offset-spare.ensures ∙ ap (bank_at c.self.inside.layout) c.other.ensures;
+    let mid = g.O.Site.trace c.close_migration.new.site in
+    let closed = g.O.Site.trace c.close_banks.new.site in
+    let view = c.self.view_is in
+    let stages : Stages old mid closed journal = record {
+      opened = opened;
+      first = c.in_ok-close_migration.ensures.ends told;
+      shut = (c.in_ok-close_migration.ensures.closed told).1;
+      is_closed = subst (λ (one : JournalView). IsClosed closed.now.image one) (sym view) (c.in_ok-close_banks.ensures.closed told).1;
+      same = (c.in_ok-close_banks.ensures.closed told).2;
+      beside = subst (λ (one : JournalView). KeepsBeside one.layout mid.now.image closed.now.image) (sym view) (c.in_ok-close_banks.ensures.beside told);
     } in
-    let mid = g.O.Site.trace c.close_slot.new.site in
-    let closed = g.O.Site.trace c.close_gate.new.site in
-    let closing : Closing old.now.image mid.now.image closed.now.image journal slot spare = record {
-      sites = sites;
-      first = c.in_ok-close_slot.ensures.ends told;
-      slot_shut = (c.in_ok-close_slot.ensures.closed told).1;
-      second = c.in_ok-close_gate.ensures.ends told;
-      spare_shut = (c.in_ok-close_gate.ensures.closed told).1;
-    } in
-    subst (λ (view : JournalView). OnOk c.clear_spare.result (KeepsBeside view.layout old.now.image (g.O.Site.trace c.clear_spare.new.site).now.image))
-    c.self.view_is
-    (settle_beside c.clear_spare.result old mid closed (g.O.Site.trace c.clear_spare.new.site) journal slot spare (omega arith) closing
-    (blocks_cleared c.clear_spare.result closed (g.O.Site.trace c.clear_spare.new.site) spare c.blocks-2.result c.self.inside.layout c.blocks-2.ensures
-    (c.clear_spare.ensures.cleared told)))
+    subst (λ (one : JournalView). OnOk c.clear_old_banks.result (KeepsPlan one.layout old.now.image (g.O.Site.trace c.clear_old_banks.new.site).now.image))
+    view
+    (rested_beside c.clear_old_banks.result old mid closed (g.O.Site.trace c.clear_old_banks.new.site) journal c.old_blocks.result stages
+    c.old_blocks.ensures (c.clear_old_banks.ensures.cleared told))

@@ -1,4 +1,4 @@
-use Rattle.std.proofs.Common.{◌≡◌, ◌∙◌, length, sym, subst}
+use Rattle.std.proofs.Common.{◌≡◌, ◌∙◌, length, sym, ap, subst}
 use Rattle.disk_journal.specs.Journal.{JournalView, IsSettled}
 use Rattle.disk_journal.specs.Changes.{KeepsBeside}
 use Rattle.disk_journal.proofs.Ends.{Written, turn_within, turn_moments, turn_stored, turn_rest, turn_beside}
@@ -10,7 +10,7 @@ turn_banks-requires-clause-within g c = λ told.
     let journal : JournalView = record { plan_length = c.self.inside.plan_length; layout = c.self.inside.layout; bank = c.self.inside.bank; generation = c.self.inside.generation; used = c.self.inside.used } in
     let settled : IsSettled old journal =
     subst (λ (view : JournalView). IsSettled old view) (sym c.self.view_is) (c.requires.settled told) in
-    let sized : length c.args.content.now ≡ c.self.inside.layout.content_length = c.requires.sized ∙ sym c.self.invariant.3 in
+    let sized : length c.args.content.now ≡ c.self.inside.layout.content_length = c.requires.sized ∙ ap (λ (view : JournalView). view.layout.content_length) (sym c.self.view_is) in
     let from = c.bank_offset-from.result in
     let to = c.bank_offset-to.result in
     let generation = c.next_generation-generation.result in
@@ -30,7 +30,7 @@ returns-in-Err-clause-becomes g c = λ told.
     let journal : JournalView = record { plan_length = c.self.inside.plan_length; layout = c.self.inside.layout; bank = c.self.inside.bank; generation = c.self.inside.generation; used = c.self.inside.used } in
     let settled : IsSettled old journal =
     subst (λ (view : JournalView). IsSettled old view) (sym c.self.view_is) (c.requires.settled told) in
-    let sized : length c.args.content.now ≡ c.self.inside.layout.content_length = c.requires.sized ∙ sym c.self.invariant.3 in
+    let sized : length c.args.content.now ≡ c.self.inside.layout.content_length = c.requires.sized ∙ ap (λ (view : JournalView). view.layout.content_length) (sym c.self.view_is) in
     let from = c.bank_offset-from.result in
     let to = c.bank_offset-to.result in
     let generation = c.next_generation-generation.result in
@@ -50,7 +50,7 @@ returns-in-Ok-clause-becomes g c = λ told.
     let journal : JournalView = record { plan_length = c.self.inside.plan_length; layout = c.self.inside.layout; bank = c.self.inside.bank; generation = c.self.inside.generation; used = c.self.inside.used } in
     let settled : IsSettled old journal =
     subst (λ (view : JournalView). IsSettled old view) (sym c.self.view_is) (c.requires.settled told) in
-    let sized : length c.args.content.now ≡ c.self.inside.layout.content_length = c.requires.sized ∙ sym c.self.invariant.3 in
+    let sized : length c.args.content.now ≡ c.self.inside.layout.content_length = c.requires.sized ∙ ap (λ (view : JournalView). view.layout.content_length) (sym c.self.view_is) in
     let from = c.bank_offset-from.result in
     let to = c.bank_offset-to.result in
     let generation = c.next_generation-generation.result in
@@ -70,7 +70,7 @@ returns-in-Ok-clause-stored g c = λ told.
     let journal : JournalView = record { plan_length = c.self.inside.plan_length; layout = c.self.inside.layout; bank = c.self.inside.bank; generation = c.self.inside.generation; used = c.self.inside.used } in
     let settled : IsSettled old journal =
     subst (λ (view : JournalView). IsSettled old view) (sym c.self.view_is) (c.requires.settled told) in
-    let sized : length c.args.content.now ≡ c.self.inside.layout.content_length = c.requires.sized ∙ sym c.self.invariant.3 in
+    let sized : length c.args.content.now ≡ c.self.inside.layout.content_length = c.requires.sized ∙ ap (λ (view : JournalView). view.layout.content_length) (sym c.self.view_is) in
     let from = c.bank_offset-from.result in
     let to = c.bank_offset-to.result in
     let generation = c.next_generation-generation.result in
@@ -90,7 +90,7 @@ returns-in-Ok-clause-holds g c = λ told.
     let journal : JournalView = record { plan_length = c.self.inside.plan_length; layout = c.self.inside.layout; bank = c.self.inside.bank; generation = c.self.inside.generation; used = c.self.inside.used } in
     let settled : IsSettled old journal =
     subst (λ (view : JournalView). IsSettled old view) (sym c.self.view_is) (c.requires.settled told) in
-    let sized : length c.args.content.now ≡ c.self.inside.layout.content_length = c.requires.sized ∙ sym c.self.invariant.3 in
+    let sized : length c.args.content.now ≡ c.self.inside.layout.content_length = c.requires.sized ∙ ap (λ (view : JournalView). view.layout.content_length) (sym c.self.view_is) in
     let from = c.bank_offset-from.result in
     let to = c.bank_offset-to.result in
     let generation = c.next_generation-generation.result in
@@ -110,7 +110,7 @@ returns-in-Ok-clause-rest g c = λ told.
     let journal : JournalView = record { plan_length = c.self.inside.plan_length; layout = c.self.inside.layout; bank = c.self.inside.bank; generation = c.self.inside.generation; used = c.self.inside.used } in
     let settled : IsSettled old journal =
     subst (λ (view : JournalView). IsSettled old view) (sym c.self.view_is) (c.requires.settled told) in
-    let sized : length c.args.content.now ≡ c.self.inside.layout.content_length = c.requires.sized ∙ sym c.self.invariant.3 in
+    let sized : length c.args.content.now ≡ c.self.inside.layout.content_length = c.requires.sized ∙ ap (λ (view : JournalView). view.layout.content_length) (sym c.self.view_is) in
     let from = c.bank_offset-from.result in
     let to = c.bank_offset-to.result in
     let generation = c.next_generation-generation.result in
@@ -130,7 +130,7 @@ returns-in-Ok-clause-beside g c = λ told.
     let journal : JournalView = record { plan_length = c.self.inside.plan_length; layout = c.self.inside.layout; bank = c.self.inside.bank; generation = c.self.inside.generation; used = c.self.inside.used } in
     let settled : IsSettled old journal =
     subst (λ (view : JournalView). IsSettled old view) (sym c.self.view_is) (c.requires.settled told) in
-    let sized : length c.args.content.now ≡ c.self.inside.layout.content_length = c.requires.sized ∙ sym c.self.invariant.3 in
+    let sized : length c.args.content.now ≡ c.self.inside.layout.content_length = c.requires.sized ∙ ap (λ (view : JournalView). view.layout.content_length) (sym c.self.view_is) in
     let from = c.bank_offset-from.result in
     let to = c.bank_offset-to.result in
     let generation = c.next_generation-generation.result in
