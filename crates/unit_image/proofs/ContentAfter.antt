@@ -1,5 +1,5 @@
--- The content of the state after a change: for `write_marks` and `write_after`. Rows of keys: for `see_keys`.
-use Rattle.std.proofs.Common.{◌≡◌, ℕ, suc, ◌+◌, ◌*◌, ◌^◌, ◌<◌, ◌≤◌, Bool, true, false, cond, nat_eq, List, [], ◌∷◌, ◌++◌, length, get_or, take, drop, Some, refl, sym, ◌∙◌, ap, subst, inl, inr, arith, length-take-le}
+-- The content of the state after a change: for `write_marks` and `write_after`.
+use Rattle.std.proofs.Common.{◌≡◌, ℕ, suc, ◌+◌, ◌*◌, ◌^◌, ◌<◌, ◌≤◌, Bool, true, false, cond, nat_eq, List, [], ◌∷◌, ◌++◌, length, get_or, take, drop, Some, refl, sym, ◌∙◌, ap, subst, arith, length-take-le}
 use Rattle.std.proofs.lemmas.List.{length-map, set_split, take-append-drop}
 use Rattle.std.proofs.lemmas.List.Quantifiers.{position-Some}
 use Rattle.std.proofs.lemmas.Option.{same_Some}
@@ -7,11 +7,8 @@ use Rattle.std.proofs.Math.Seq.{drop-cons}
 use Rattle.std.proofs.lemmas.List.Elements.{All-map}
 use Rattle.sdls_base.specs.declared.TheConstants.{MOST_KEYS, MOST_ASSOCIATIONS}
 use Rattle.sdls_base.specs.declared.change.Change.TheVariants.{Marks}
-use Rattle.sdls_base.specs.declared.states.KeyState.{KeyState}
-use Rattle.sdls_base.specs.declared.states.KeyState.TheVariants.{PreActive, Active, Deactivated, Destroyed}
+use Rattle.sdls_base.specs.declared.version.Version.TheVariants.{Two}
 use Rattle.key_book.specs.declared.key_row.KeyRow.{KeyRow}
-use Rattle.key_book.specs.KeyRow.{HasBytes}
-use Rattle.key_book.specs.KeyRow as key_rules
 use Rattle.key_book.specs.KeyBook.{AreKeyRows, row_of, place_of, changed}
 use Rattle.key_book.proofs.Rows.{set-changed}
 use Rattle.replay_window.proofs.Lowered.{lowered_field}
@@ -24,37 +21,26 @@ use Rattle.unit_state.specs.State.{KeepsRules}
 use Rattle.unit_state.specs.Applied.{applied}
 use Rattle.unit_state.specs.Restart.{restarted, restarted_row}
 use Rattle.unit_state.proofs.KeyRules.{stands}
-use Rattle.book_record.specs.KeyParts.{HasKeyTypes, IsKeyRow, IsRowKeyLength, key_row_octets}
+use Rattle.book_record.specs.KeyParts.{IsKeyRow, key_row_octets}
 use Rattle.book_record.specs.SaParts.{IsSaRow, sa_row_octets}
 use Rattle.image_content.specs.Content.{key_parts, sa_parts, sa_rows, content_of, replaced}
-use Rattle.image_content.specs.Reading.{HasRows, IsContent}
+use Rattle.image_content.specs.Reading.{HasRows, IsContent, IsTypedKey, IsTypedSa}
 use Rattle.unit_image.proofs.Restarted.{restarted_rules}
-
--- the row of a key, and of an association, is a value of its type
-abbrev pub IsTypedKey : KeyRow → Type 0
-IsTypedKey row = IsKeyRow (key_parts row) (key_row_octets (key_parts row))
-
-abbrev pub IsTypedSa : SaRow → Type 0
-IsTypedSa row = IsSaRow (sa_parts row) (sa_row_octets (sa_parts row))
-
--- a key's octets are none, or 16 or 32
-fits_row : (state : KeyState) (bytes digest : List ℕ) → HasBytes state bytes digest → IsRowKeyLength (length bytes)
-fits_row PreActive bytes digest has = inr has.0
-fits_row Active bytes digest has = inr has.0
-fits_row Deactivated bytes digest has = inr has.0
-fits_row Destroyed bytes digest has = inl (ap length has)
-
-pub typed_row : (row : KeyRow) → key_rules.IsKeyRow row → HasKeyTypes (key_parts row) → IsTypedKey row
-typed_row row rules types = record { types = types; fits = fits_row row.state row.bytes row.digest rules.bytes; spelled = refl }
 
 -- ---- what a restart leaves
 
-pub left_content : (state : State) → restarted (restarted state) ≡ restarted state → content_of (restarted state) ≡ content_of state
-    → KeepsRules state → HasRows state → IsContent (restarted state) (content_of state)
+pub left_content : (state : State) → restarted (restarted state) ≡ restarted state → content_of Two (restarted state) ≡ content_of Two state
+    → KeepsRules state → HasRows Two state → IsContent Two (restarted state) (content_of Two state)
 left_content state once same rules has = record {
   rules = restarted_rules state rules;
-  keys = has.keys;
-  associations = All-map IsTypedSa (restarted_row state.keys) state.associations (λ k d low. has.associations k d low);
+  rows = record {
+    keys = has.keys;
+    associations = All-map IsTypedSa (restarted_row state.keys) state.associations (λ k d low. has.associations k d low);
+    fits = record {
+      keys = has.fits.keys;
+      associations = subst (λ (n : ℕ). n ≤ MOST_ASSOCIATIONS) (sym (length-map state.associations (restarted_row state.keys))) has.fits.associations;
+    };
+  };
   left = once;
   spelled = sym same;
 }
@@ -80,17 +66,19 @@ typed_sa : (floor : ℕ) (b : Bool) (row : SaRow) → IsTypedSa row → IsTypedS
 typed_sa floor false row is = is
 typed_sa floor true row is = subst (λ (parts : SaParts). IsSaRow parts (sa_row_octets parts)) (sym (floor_parts floor row)) is
 
-pub marked_rows : (state : State) (key mark floor : ℕ) → mark < 2 ^ 64 → floor < 2 ^ 64 → HasRows state → HasRows (applied state (Marks key mark floor))
+pub marked_rows : (state : State) (key mark floor : ℕ) → mark < 2 ^ 64 → floor < 2 ^ 64 → HasRows Two state → HasRows Two (applied state (Marks key mark floor))
 marked_rows state key mark floor fits also has = record {
   keys = All-map IsTypedKey (λ (row : KeyRow). cond (nat_eq row.id key) (marked mark floor row) row) state.keys
       (λ k d low. typed_key mark floor fits also (nat_eq (get_or state.keys k d).id key) (get_or state.keys k d) (has.keys k d low));
   associations = All-map IsTypedSa (λ (row : SaRow). cond (receives_with key row) (with_floor row floor) row) state.associations
       (λ k d low. typed_sa floor (receives_with key (get_or state.associations k d)) (get_or state.associations k d) (has.associations k d low));
-  most_keys = subst (λ (n : ℕ). n ≤ MOST_KEYS)
-      (sym (length-map state.keys (λ (row : KeyRow). cond (nat_eq row.id key) (marked mark floor row) row))) has.most_keys;
-  most_associations = subst (λ (n : ℕ). n ≤ MOST_ASSOCIATIONS)
-      (sym (length-map state.associations (λ (row : SaRow). cond (receives_with key row) (with_floor row floor) row)))
-      has.most_associations;
+  fits = record {
+    keys = subst (λ (n : ℕ). n ≤ MOST_KEYS)
+        (sym (length-map state.keys (λ (row : KeyRow). cond (nat_eq row.id key) (marked mark floor row) row))) has.fits.keys;
+    associations = subst (λ (n : ℕ). n ≤ MOST_ASSOCIATIONS)
+        (sym (length-map state.associations (λ (row : SaRow). cond (receives_with key row) (with_floor row floor) row)))
+        has.fits.associations;
+  };
 }
 
 -- the content has no highest numbers
@@ -106,11 +94,11 @@ lowered_rows (row ∷ rows) key floor =
     ∙ ap (λ (octets : List ℕ). sa_row_octets (sa_parts row) ++ octets) (lowered_rows rows key floor)
 
 same_rows : (state : State) (rows : List SaRow) → sa_rows rows ≡ sa_rows state.associations → length rows ≡ length state.associations
-    → content_of (record state { associations = rows }) ≡ content_of state
+    → content_of Two (record state { associations = rows }) ≡ content_of Two state
 unfolding content_of
 same_rows state rows same count = rw (same, count)
 
-pub lowered_content : (state : State) (key floor : ℕ) → content_of (record state { associations = lowered state.associations key floor }) ≡ content_of state
+pub lowered_content : (state : State) (key floor : ℕ) → content_of Two (record state { associations = lowered state.associations key floor }) ≡ content_of Two state
 lowered_content state key floor =
     same_rows state (lowered state.associations key floor) (lowered_rows state.associations key floor)
     (length-map state.associations (λ (row : SaRow). cond (receives_with key row) (with_floor row floor) row))
@@ -146,23 +134,23 @@ put_replaced at end octets old new place written rest =
 
 -- the row of a key changes its own octets alone, as a law of contents says
 abbrev pub IsRowLaw : Type 0
-IsRowLaw = (state : State) (front back : List KeyRow) (old new : KeyRow) → HasRows state → state.keys ≡ front ++ old ∷ back
-    → IsTypedKey new → content_of (record state { keys = front ++ new ∷ back })
-    ≡ replaced (503 + 96 * length front) (key_row_octets (key_parts new)) (content_of state)
+IsRowLaw = (state : State) (front back : List KeyRow) (old new : KeyRow) → HasRows Two state → state.keys ≡ front ++ old ∷ back
+    → IsTypedKey new → content_of Two (record state { keys = front ++ new ∷ back })
+    ≡ replaced (503 + 96 * length front) (key_row_octets (key_parts new)) (content_of Two state)
 
 -- the row of the key was put at its place
-pub marks_written : IsRowLaw → (state : State) (key mark floor place end : ℕ) (row : KeyRow) (octets old new : List ℕ) → AreKeyRows state.keys → HasRows state
+pub marks_written : IsRowLaw → (state : State) (key mark floor place end : ℕ) (row : KeyRow) (octets old new : List ℕ) → AreKeyRows state.keys → HasRows Two state
     → place_of state.keys key ≡ Some place → row_of state.keys key ≡ Some row → IsKeyRow (key_parts (marked mark floor row)) octets
-    → old ≡ content_of state → end ≡ 503 + 96 * place + length octets → take end new ≡ take (503 + 96 * place) old ++ octets
-    → drop end new ≡ drop end old → new ≡ content_of (applied state (Marks key mark floor))
+    → old ≡ content_of Two state → end ≡ 503 + 96 * place + length octets → take end new ≡ take (503 + 96 * place) old ++ octets
+    → drop end new ≡ drop end old → new ≡ content_of Two (applied state (Marks key mark floor))
 marks_written law state key mark floor place end row octets old new rules has at found typed was ends written rest =
     let is : IsMarked state.keys key mark floor place row = is_marked state.keys key mark floor place row rules at found in
     let own : IsTypedKey (marked mark floor row) = record { types = typed.types; fits = typed.fits; spelled = refl } in
     let next : State = record state { keys = changed state.keys key (marked mark floor) } in
     put_replaced (503 + 96 * place) end octets old new ends written rest
     ∙ ap (λ (s : List ℕ). replaced (503 + 96 * place) octets s) was
-    ∙ ap (λ (s : List ℕ). replaced (503 + 96 * place) s (content_of state)) typed.spelled
-    ∙ ap (λ (n : ℕ). replaced (503 + 96 * n) (key_row_octets (key_parts (marked mark floor row))) (content_of state)) (sym is.size)
+    ∙ ap (λ (s : List ℕ). replaced (503 + 96 * place) s (content_of Two state)) typed.spelled
+    ∙ ap (λ (n : ℕ). replaced (503 + 96 * n) (key_row_octets (key_parts (marked mark floor row))) (content_of Two state)) (sym is.size)
     ∙ sym (law state (take place state.keys) (drop (suc place) state.keys) row (marked mark floor row) has is.split own)
-    ∙ ap (λ (keys : List KeyRow). content_of (record state { keys = keys })) (sym is.joined)
+    ∙ ap (λ (keys : List KeyRow). content_of Two (record state { keys = keys })) (sym is.joined)
     ∙ sym (lowered_content next key floor)

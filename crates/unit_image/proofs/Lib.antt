@@ -5,3 +5,4 @@ pub mod Turned
 pub mod Restarted
 pub mod ContentAfter
 pub mod Stored
+pub mod Bringing

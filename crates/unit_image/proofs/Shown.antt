@@ -6,6 +6,7 @@ use Rattle.unit_plan.specs.declared.plan_error.PlanFault.{PlanFault}
 use Rattle.unit_state.specs.declared.state.State.{State}
 use Rattle.unit_state.specs.Restart.{restarted}
 use Rattle.unit_image.specs.Shows.{LeadTo, IsBadRecord}
+use Rattle.sdls_base.specs.declared.version.Version.{Version}
 use Rattle.image_content.specs.Reading.{IsContent}
 use Rattle.disk_journal.specs.Image.{Held, held, record_at}
 use Rattle.unit_image.specs.Shows.{SaysBarePlan, IsContentUnder, Begins, Says, Shows, SaysNone, ShowsNone}
@@ -21,22 +22,22 @@ plan_once text plan other says too = ap (ok_or plan) (sym says.read ∙ too.read
 
 -- a content is that of one state, as a law of contents says
 abbrev pub IsOneState : Type 0
-IsOneState = (one other : State) (content : List ℕ) → IsContent one content → IsContent other content
+IsOneState = (version : Version) (one other : State) (content : List ℕ) → IsContent version one content → IsContent version other content
     → one.channels ≡ other.channels → one.device ≡ other.device → one ≡ other
 
-content_once : IsOneState → (plan : PlanLines) (content : List ℕ) (a b : State) → IsContentUnder plan content a
-    → IsContentUnder plan content b → a ≡ b
-content_once one plan content a b is too =
-    one a b content is.spelled too.spelled (is.channels ∙ sym too.channels) (is.device ∙ sym too.device)
+content_once : IsOneState → (plan : PlanLines) (version : Version) (content : List ℕ) (a b : State) → IsContentUnder plan version content a
+    → IsContentUnder plan version content b → a ≡ b
+content_once one plan version content a b is too =
+    one version a b content is.spelled too.spelled (is.channels ∙ sym too.channels) (is.device ∙ sym too.device)
 
-under : (plan other : PlanLines) (content : List ℕ) (state : State) → plan ≡ other → IsContentUnder plan content state
-    → IsContentUnder other content state
-under plan other content state same is = subst (λ (p : PlanLines). IsContentUnder p content state) same is
+under : (plan other : PlanLines) (version : Version) (content : List ℕ) (state : State) → plan ≡ other
+    → IsContentUnder plan version content state → IsContentUnder other version content state
+under plan other version content state same is = subst (λ (p : PlanLines). IsContentUnder p version content state) same is
 
 first_once : IsOneState → (what : Held) (a b : State) → Begins what a → Begins what b → a ≡ b
 first_once one what a b begins too =
-    content_once one too.plan what.content a b
-    (under begins.plan too.plan what.content a (plan_once what.plan begins.plan too.plan begins.said too.said) begins.content)
+    content_once one too.plan what.version what.content a b
+    (under begins.plan too.plan what.version what.content a (plan_once what.plan begins.plan too.plan begins.said too.said) begins.content)
     too.content
 
 says_once : IsOnce → IsOneState → (what : Held) (a b : State) → Says what a → Says what b → a ≡ b
@@ -63,7 +64,7 @@ says_some once one image what state offset says (inr (inl (plan, said, other, is
     other (slots_agree what plan says.begins.plan said says.begins.said says.begins.same_slots)
 says_some once one image what state offset says (inr (inr (inl (plan, said, same, no_content, is)))) =
     no_content says.first
-    (under says.begins.plan plan what.content says.first (plan_once what.plan says.begins.plan plan says.begins.said said)
+    (under says.begins.plan plan what.version what.content says.first (plan_once what.plan says.begins.plan plan says.begins.said said)
     says.begins.content)
 says_some once one image what state offset says (inr (inr (inr (first, begins, (place, bad, is))))) =
     no_way once says.first what.records says.last place says.led
@@ -94,12 +95,12 @@ says_none_once once one image what a b (inr (inr (inl (plan, said, same, no_cont
 says_none_once once one image what a b (inr (inr (inl (plan, said, same, none, is)))) (inr (inr (inl (plan', said', same', none', is')))) =
     is ∙ sym is'
 says_none_once once one image what a b (inr (inr (inl (plan, said, same, none, is)))) (inr (inr (inr (first, begins, bad)))) =
-    absurd (none first (under begins.plan plan what.content first (plan_once what.plan begins.plan plan begins.said said) begins.content))
+    absurd (none first (under begins.plan plan what.version what.content first (plan_once what.plan begins.plan plan begins.said said) begins.content))
 says_none_once once one image what a b (inr (inr (inr (first, begins, bad)))) (inl (none, is)) = absurd (none begins.plan begins.said)
 says_none_once once one image what a b (inr (inr (inr (first, begins, bad)))) (inr (inl (plan, said, differ, is))) =
     absurd (differ (slots_agree what plan begins.plan said begins.said begins.same_slots))
 says_none_once once one image what a b (inr (inr (inr (first, begins, bad)))) (inr (inr (inl (plan, said, same, none, is)))) =
-    absurd (none first (under begins.plan plan what.content first (plan_once what.plan begins.plan plan begins.said said) begins.content))
+    absurd (none first (under begins.plan plan what.version what.content first (plan_once what.plan begins.plan plan begins.said said) begins.content))
 says_none_once once one image what a b (inr (inr (inr (first, begins, (place, bad, is))))) (inr (inr (inr (first', begins', (place', bad', is'))))) =
     let start : first' ≡ first = first_once one what first' first begins' begins in
     is

@@ -1,6 +1,8 @@
 -- What the store of a change does to the image: for `store_storable`, `store_change` and `store`.
-use Rattle.std.proofs.Common.{◌≡◌, ℕ, List, None, Some, refl, sym, subst, inl, Result, Ok, Err, OnOk}
+use Rattle.std.proofs.Common.{◌≡◌, ℕ, List, None, Some, refl, sym, ◌∙◌, ap, subst, inl, Result, Ok, Err, OnOk}
 use Rattle.sdls_base.specs.declared.change.Change.{Change}
+use Rattle.sdls_base.specs.declared.version.Version.{Version}
+use Rattle.sdls_base.specs.declared.version.Version.TheVariants.{Two}
 use Rattle.sdls_outside.specs.Disk.{Leaves}
 use Rattle.sdls_outside.specs.Moments.{Trace}
 use Rattle.sdls_outside.proofs.Moments.{each_same, synced_leaves}
@@ -15,17 +17,20 @@ use Rattle.unit_state.proofs.Alike.{stores_well, unstored_alike}
 use Rattle.unit_state.proofs.StateLaws.{restarted_twice}
 use Rattle.image_content.specs.Content.{content_of}
 use Rattle.image_content.specs.Reading.{IsContent}
-use Rattle.disk_journal.specs.Image.{held, grown, turned}
+use Rattle.disk_journal.specs.Banks.{version_of}
+use Rattle.disk_journal.specs.declared.layout.Layout.{Layout}
+use Rattle.disk_journal.specs.Image.{held, grown, turned, version_in}
 use Rattle.disk_journal.specs.Forms.{Becomes}
 use Rattle.disk_journal.specs.Journal.{IsSettled, JournalView}
 use Rattle.disk_journal.specs.Rest.{IsRest}
 use Rattle.disk_journal.proofs.Turns.{rest_becomes}
+use Rattle.unit_image.specs.Image.{IsOfTwo}
 use Rattle.unit_image.specs.Shows.{Says}
 use Rattle.unit_image.specs.Storing.{Stores, LeavesRest}
 use Rattle.unit_image.proofs.Turned.{says_grown, says_turned}
 
 -- nothing was written: an image at rest stays so
-resting : (now : Trace) (journal : JournalView) → IsSettled now journal
+pub resting : (now : Trace) (journal : JournalView) → IsSettled now journal
     → EachImage now now (Becomes (held now.now.image) (held now.now.image))
 resting now journal settled = record {
   moments = each_same now (λ image sunk. Becomes (held now.now.image) (held now.now.image) image × (sunk ≡ now.now.sunk))
@@ -38,7 +43,7 @@ resting now journal settled = record {
     here = rest_becomes (held now.now.image) (held now.now.image) now.now.image
         (inl (record { opens = settled.of_image.of_image.opens; is = refl })) settled.of_image.rests
 
-on_ok : {T E P : Type 0} (result : Result T E) → P → OnOk result P
+pub on_ok : {T E P : Type 0} (result : Result T E) → P → OnOk result P
 on_ok (Ok value) p = p
 on_ok (Err error) p = tt
 
@@ -50,6 +55,7 @@ stores_none state change result journal now rules allowed none settled = record 
   next = held now.now.image;
   same_plan = refl;
   same_slots = refl;
+  same_version = refl;
   says = λ says. subst (Says (held now.now.image)) (sym (unstored_alike state change rules allowed none)) says;
   moments = resting now journal settled;
   done = on_ok result (settled, refl);
@@ -63,6 +69,7 @@ stores_as state change stored result journal old new rules allowed is stores = r
   next = stores.next;
   same_plan = stores.same_plan;
   same_slots = stores.same_slots;
+  same_version = stores.same_version;
   says = λ says. subst (Says stores.next) (sym (stores_well state change stored rules allowed is).alike) (stores.says says);
   moments = stores.moments;
   done = stores.done;
@@ -78,6 +85,7 @@ stores_record state change body result journal old new storable allowed is_recor
   next = grown body (held old.now.image);
   same_plan = refl;
   same_slots = refl;
+  same_version = refl;
   says = λ says. says_grown (held old.now.image) state change change body says
       (record { storable = storable; allowed = allowed; alike = refl }) is_record;
   moments = becomes;
@@ -86,18 +94,24 @@ stores_record state change body result journal old new storable allowed is_recor
 
 -- the content of the state after the change was written by a turn, or the turn failed
 pub stores_turn : {T E : Type 0} (state : State) (change : Change) (content : List ℕ) (result : Result T E) (journal : JournalView) (old new : Trace)
-    → IsContent (restarted (applied state change)) content
+    → IsContent Two (restarted (applied state change)) content → version_in old.now.image ≡ Two
     → EachImage old new (Becomes (held old.now.image) (turned content (held old.now.image)))
     → OnOk result (IsSettled new journal × (held new.now.image ≡ turned content (held old.now.image)))
     → Stores state change result journal old new
-stores_turn state change content result journal old new is becomes done = record {
+stores_turn state change content result journal old new is of_two becomes done = record {
   next = turned content (held old.now.image);
   same_plan = refl;
   same_slots = refl;
-  says = λ says. says_turned restarted_twice (held old.now.image) state change content says is;
+  same_version = refl;
+  says = λ says. says_turned restarted_twice (held old.now.image) state change content says
+      (subst (λ (version : Version). IsContent version (restarted (applied state change)) content) (sym of_two) is);
   moments = becomes;
   done = done;
 }
+
+-- the journal of an image of version 2
+pub of_two : (now : Trace) (journal : JournalView) → IsSettled now journal → IsOfTwo journal → version_in now.now.image ≡ Two
+of_two now journal settled two = ap (λ (layout : Layout). version_of layout.form) (sym settled.of_image.of_image.layout) ∙ two.version
 
 pub both : {T E : Type 0} (P Q : Type 0) (result : Result T E) → OnOk result P → OnOk result Q → OnOk result (P × Q)
 both P Q (Ok value) p q = (p, q)
@@ -105,7 +119,7 @@ both P Q (Err error) p q = tt
 
 -- each image that a crash leaves has the content that was turned in
 pub turned_rest : {T E : Type 0} (Destroyed : Type 0) (state : State) (content : List ℕ) (result : Result T E) (journal : JournalView) (new : Trace)
-    → content ≡ content_of state
+    → content ≡ content_of Two state
     → OnOk result ((image : List ℕ) → Leaves new.now image → IsRest image journal.bank journal.generation content)
     → OnOk result (Destroyed → LeavesRest new journal state)
 turned_rest Destroyed state content (Ok value) journal new is rest = λ _ image leaves. subst (IsRest image journal.bank journal.generation) is (rest image leaves)

@@ -11,7 +11,8 @@ use Rattle.unit_state.proofs.Allowed.{allowed_alike}
 use Rattle.sdls_base.specs.declared.change.Change.TheVariants.{Marks, Load, KeyStates, Create, Rekey, SaTo, SetNumber, SetWindow, Accepted, Nothing}
 use Rattle.unit_image.specs.Shows.{LeadTo}
 use Rattle.image_content.specs.Reading.{IsContent}
-use Rattle.disk_journal.specs.Image.{Held, grown, turned}
+use Rattle.sdls_base.specs.declared.version.Version.TheVariants.{Two}
+use Rattle.disk_journal.specs.Image.{Held, grown, migrated, turned}
 use Rattle.unit_image.specs.Shows.{Says}
 use Rattle.unit_image.proofs.Leading.{led_more}
 
@@ -69,7 +70,7 @@ led_device state (body ∷ bodies) last (change, is_record, allows, rest) =
 
 -- What stands in an image behind a turn: the state whose content was written.
 pub says_turned : ((state : State) → restarted (restarted state) ≡ restarted state) → (what : Held) (state : State) (change : Change)
-    (content : List ℕ) → Says what (restarted state) → IsContent (restarted (applied state change)) content
+    (content : List ℕ) → Says what (restarted state) → IsContent what.version (restarted (applied state change)) content
     → Says (turned content what) (restarted (applied state change))
 says_turned once what state change content says is = record {
   first = restarted (applied state change);
@@ -88,4 +89,25 @@ says_turned once what state change content says is = record {
   last = restarted (applied state change);
   led = refl;
   left = sym (once (applied state change));
+}
+
+-- What stands in an image that was migrated: the state whose content was written.
+pub says_migrated : (what : Held) (state : State) (content : List ℕ) → Says what state → IsContent Two state content
+    → Says (migrated content what) state
+says_migrated what state content says is = record {
+  first = state;
+  begins = record {
+    plan = says.begins.plan;
+    said = says.begins.said;
+    same_slots = says.begins.same_slots;
+    content = record {
+      channels = ap (λ (s : State). s.channels) says.left ∙ led_channels says.first what.records says.last says.led
+          ∙ says.begins.content.channels;
+      device = ap (λ (s : State). s.device) says.left ∙ led_device says.first what.records says.last says.led ∙ says.begins.content.device;
+      spelled = is;
+    };
+  };
+  last = state;
+  led = refl;
+  left = sym is.left;
 }

@@ -2,6 +2,7 @@
 use Rattle.std.specs.Prelude.{◌≡◌, ℕ, ◌+◌, ◌≤◌, ◌⊎◌, ⊤, List, Some, Result, IfErr, OnOk}
 use Rattle.std.specs.List.{slice_get}
 use Rattle.sdls_base.specs.declared.change.Change.{Change}
+use Rattle.sdls_base.specs.declared.version.Version.TheVariants.{One, Two}
 use Rattle.sdls_outside.specs.Faults.{Rose}
 use Rattle.book_record.specs.Record.{IsRecord}
 use Rattle.unit_state.specs.Applied.{applied}
@@ -16,9 +17,13 @@ use Rattle.unit_image.specs.declared.fault.OpenFault.TheVariants.{SiteFault, Ima
 use Rattle.disk_journal.specs.declared.fault.JournalFault.{JournalFault}
 use Rattle.disk_journal.specs.declared.fault.JournalFault.TheVariants as journal_faults
 use Rattle.disk_journal.specs.declared.layout.TheConstants.{CONTENT_AT}
-use Rattle.disk_journal.specs.Forms.{Settles}
-use Rattle.disk_journal.specs.Image.{current_at}
-use Rattle.unit_image.specs.Shows.{SaysBarePlan, IsContentUnder}
+use Rattle.image_content.specs.Content.{content_of}
+use Rattle.image_content.specs.Reading.{IsContent}
+use Rattle.image_parts.specs.Changes.{EachImage}
+use Rattle.disk_journal.specs.Journal.{IsSettled, JournalView}
+use Rattle.disk_journal.specs.Forms.{Becomes, Settles}
+use Rattle.disk_journal.specs.Image.{Held, held, content, current_at, migrated, version_in}
+use Rattle.unit_image.specs.Shows.{SaysBarePlan, IsContentUnder, Shows}
 
 -- A fault of the site carries the count of faults, which rose in the call; a refused image has the cause given; want of
 -- memory needs none.
@@ -54,8 +59,8 @@ IsTextCause text (Image offset) = ((plan : PlanLines) → ¬ SaysBarePlan text p
 IsTextCause text NoMemory = ⊤
 
 -- the content of an image is that of no state under the plan, and this is where it begins
-pub record IsNoContent (image : List ℕ) (plan : PlanLines) (content : List ℕ) (offset : ℕ) : Type 0 where
-  pub none : (state : State) → ¬ IsContentUnder plan content state
+pub record IsNoContent (image : List ℕ) (plan : PlanLines) (offset : ℕ) : Type 0 where
+  pub none : (state : State) → ¬ IsContentUnder plan (version_in image) (content image) state
   pub offset_is : offset ≡ current_at image + CONTENT_AT
 
 -- the body at this place is the record of a change that the state allows, and the new state is the one after it
@@ -67,7 +72,46 @@ pub record TakesRecord (bodies : List (List ℕ)) (place : ℕ) (old new : State
   pub allowed : Allows old change
   pub is : new ≡ applied old change
 
--- A moment while an image is opened: the image is one that a crash before might leave, or the one that was read but for
--- its closed gates, or one that holds what that one held, as its opened forms do; nothing is sunk.
+-- What an image of version 1 becomes when it is opened: what it holds, migrated to version 2 with the content of the
+-- state that it shows.
+pub record IsMigration (image : List ℕ) (next : Held) : Type 0 where
+  pub of_one : version_in image ≡ One
+  pub state : State
+  pub shows : Shows image state
+  pub content : List ℕ
+  pub is_content : IsContent Two state content
+  pub is : next ≡ migrated content (held image)
+
+-- what is held once an image is opened: what it held, or its migration
+abbrev pub IsHeldNext : List ℕ → Held → Type 0
+IsHeldNext image next = (next ≡ held image) ⊎ IsMigration image next
+
+-- what is held next, once an image that shows this state is brought up to version 2
+abbrev pub IsBroughtUp : State → Held → Held → Type 0
+IsBroughtUp state old next = (next ≡ old)
+    ⊎ ((old.version ≡ One) × IsContent Two state (content_of Two state) × (next ≡ migrated (content_of Two state) old))
+
+-- An image at rest, which shows this state, is brought up to version 2: each moment is on the way to what is held next,
+-- which is held after Ok.
+pub record BringsUp {T E : Type 0} (state : State) (result : Result T E) (journal : JournalView) (old new : Trace)
+    : Type 0 where
+  pub next : Held
+  pub is : IsBroughtUp state (held old.now.image) next
+  pub moments : EachImage old new (Becomes (held old.now.image) next)
+  pub done : OnOk result (IsSettled new journal × (held new.now.image ≡ next))
+
+-- Left is on the way from an image of version 1 to its migration.
+pub record IsMigrating (image left : List ℕ) : Type 0 where
+  pub next : Held
+  pub is_migration : IsMigration image next
+  pub becomes : Becomes (held image) next left
+
+-- An opening of the image may leave this: it but for its closed gates, or what holds the same, as its opened forms do,
+-- or what is on the way to its migration.
+abbrev pub LeftByOpening : List ℕ → List ℕ → Type 0
+LeftByOpening image left = Settles image left ⊎ IsMigrating image left
+
+-- A moment while an image is opened: the image is one that a crash before might leave, or one that the opening of the
+-- image that was read may leave; nothing is sunk.
 abbrev pub Opening : Trace → List ℕ → List ℕ → Type 0
-Opening entry image sunk = (Leaves entry.now image ⊎ Settles entry.now.image image) × (sunk ≡ entry.now.sunk)
+Opening entry image sunk = (Leaves entry.now image ⊎ LeftByOpening entry.now.image image) × (sunk ≡ entry.now.sunk)

@@ -2,6 +2,7 @@
 use Rattle.std.specs.Prelude.{◌≡◌, ◌≢◌, ℕ, ◌+◌, ◌⊎◌, List, [], ◌∷◌, map, take, None, Some, Ok}
 use Rattle.std.specs.List.{slice_get}
 use Rattle.sdls_base.specs.declared.change.Change.{Change}
+use Rattle.sdls_base.specs.declared.version.Version.{Version}
 use Rattle.unit_plan.specs.PlanLines.{PlanLines}
 use Rattle.unit_plan.specs.Plan.{plan_of}
 use Rattle.unit_state.specs.declared.state.State.{State}
@@ -22,11 +23,11 @@ pub record SaysBarePlan (text : List ℕ) (plan : PlanLines) : Type 0 where
   pub no_keys : plan.keys ≡ []
   pub no_associations : plan.associations ≡ []
 
--- the content is that of this state, which has the channels and the device field of the plan
-pub record IsContentUnder (plan : PlanLines) (content : List ℕ) (state : State) : Type 0 where
+-- the content of this version is that of this state, which has the channels and the device field of the plan
+pub record IsContentUnder (plan : PlanLines) (version : Version) (content : List ℕ) (state : State) : Type 0 where
   pub channels : state.channels ≡ map (λ row. row.0) plan.channels
   pub device : state.device ≡ plan.device
-  pub spelled : IsContent state content
+  pub spelled : IsContent version state content
 
 -- the bodies, in order, are records of changes that the states before them allow, and the last state is what they lead
 -- to
@@ -40,7 +41,7 @@ pub record Begins (what : Held) (first : State) : Type 0 where
   pub plan : PlanLines
   pub said : SaysBarePlan what.plan plan
   pub same_slots : plan.slots ≡ what.slots
-  pub content : IsContentUnder plan what.content first
+  pub content : IsContentUnder plan what.version what.content first
 
 -- What stands in an image says this state: what a restart leaves of the content's state after the records.
 pub record Says (what : Held) (state : State) : Type 0 where
@@ -76,7 +77,7 @@ SaysNone image what offset =
     (((plan : PlanLines) → ¬ SaysBarePlan what.plan plan) × (offset ≡ PLAN_AT))
     ⊎ ((plan : PlanLines) × SaysBarePlan what.plan plan × (plan.slots ≢ what.slots) × (offset ≡ SLOT_COUNT_AT))
     ⊎ ((plan : PlanLines) × SaysBarePlan what.plan plan × (plan.slots ≡ what.slots)
-    × ((state : State) → ¬ IsContentUnder plan what.content state) × (offset ≡ current_at image + CONTENT_AT))
+    × ((state : State) → ¬ IsContentUnder plan what.version what.content state) × (offset ≡ current_at image + CONTENT_AT))
     ⊎ ((first : State) × Begins what first
     × ((place : ℕ) × IsBadRecord first what.records place × (offset ≡ record_at image place)))
 

@@ -4,6 +4,7 @@ use Rattle.sdls_base.specs.declared.change.Change.{Change}
 use Rattle.sdls_base.specs.declared.change.Change.TheVariants.{Marks, Load, KeyStates, Create, Rekey, SaTo, SetNumber}
 use Rattle.sdls_base.specs.declared.change.Change.TheVariants.{SetWindow, Accepted, Nothing}
 use Rattle.sdls_base.specs.declared.states.KeyState.TheVariants.{Destroyed}
+use Rattle.sdls_base.specs.declared.version.Version.TheVariants.{Two}
 use Rattle.sdls_outside.specs.Disk.{Leaves}
 use Rattle.sdls_outside.specs.Moments.{Trace}
 use Rattle.image_parts.specs.Changes.{EachImage}
@@ -37,14 +38,15 @@ pub record Stores {T E : Type 0} (state : State) (change : Change) (result : Res
   pub next : Held
   pub same_plan : next.plan ≡ (held old.now.image).plan
   pub same_slots : next.slots ≡ (held old.now.image).slots
+  pub same_version : next.version ≡ (held old.now.image).version
   pub says : Says (held old.now.image) (restarted state) → Says next (restarted (applied state change))
   pub moments : EachImage old new (Becomes (held old.now.image) next)
   pub done : OnOk result (IsSettled new journal × (held new.now.image ≡ next))
 
--- In whatever a crash leaves, each octet of both banks is stated: they hold this state, with no records.
+-- In whatever a crash leaves, each octet of all banks is stated: they hold this state, with no records.
 abbrev pub LeavesRest : Trace → JournalView → State → Type 0
 LeavesRest new journal state =
-    (image : List ℕ) → Leaves new.now image → IsRest image journal.bank journal.generation (content_of state)
+    (image : List ℕ) → Leaves new.now image → IsRest image journal.bank journal.generation (content_of Two state)
 
 -- the journal has its places in the image: as many octets of a plan, and the banks where they were
 pub record KeepsPlaces (old new : JournalView) : Type 0 where

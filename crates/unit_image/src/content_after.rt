@@ -2,6 +2,7 @@
 ghost use Rattle.std.specs.Prelude.{◌≡◌, length, MatchOption, IsSome};
 ghost use Rattle.key_book.specs.KeyRow as key_rows;
 ghost use Rattle.sdls_base.specs.declared.change.Change.TheVariants.{Marks};
+ghost use Rattle.sdls_base.specs.declared.version.Version.TheVariants.{Two};
 ghost use Rattle.book_record.specs.KeyParts.{IsKeyRow};
 ghost use Rattle.unit_state.specs.State.{KeepsRules, key_row};
 ghost use Rattle.unit_state.specs.Allows.{Allows};
@@ -10,17 +11,11 @@ ghost use Rattle.unit_state.specs.Restart.{IsLight, IsStorable, restarted};
 ghost use Rattle.image_content.specs.Content.{content_of, key_parts};
 ghost use Rattle.image_content.specs.Reading.{HasRows, IsContent};
 
-use crate::typed_rows::see_rows;
-use book_record::{KEY_ROW_LENGTH, KeyView, SA_ROW_LENGTH, write_key_row};
-use image_content::{CONTENT_LENGTH, key_row_changes, restart_leaves_content, write_content};
+use book_record::{KEY_ROW_LENGTH, KeyView, write_key_row};
+use image_content::{KEYS_AT, key_row_changes, restart_leaves_content, write_content_two};
 use key_book::KeyRow;
-use sdls_base::{Change, KeyId, MOST_ASSOCIATIONS, MOST_KEYS, put};
+use sdls_base::{CONTENT_LENGTH_TWO, Change, KeyId, put};
 use unit_state::State;
-
-/// Where the rows of keys begin in a content, which ends with the rows of associations.
-const KEYS_AT: usize = CONTENT_LENGTH
-    - SA_ROW_LENGTH * MOST_ASSOCIATIONS
-    - KEY_ROW_LENGTH * MOST_KEYS;
 
 /// The row of a key, with another mark and another floor.
 fn marked_row(row: &KeyRow, mark: u64, floor: u64) -> [u8; KEY_ROW_LENGTH]
@@ -41,11 +36,11 @@ fn marked_row(row: &KeyRow, mark: u64, floor: u64) -> [u8; KEY_ROW_LENGTH]
 fn write_marks(state: &State, key: KeyId, mark: u64, floor: u64, content: &mut [u8])
     requires rules { KeepsRules state.now }
     requires there { IsSome (key_row state.now key) }
-    requires rows { HasRows state.now }
-    requires sized { length content.old ≡ CONTENT_LENGTH }
-    requires written { content.old ≡ content_of state.now }
-    ensures written { content.new ≡ content_of (applied state.now (Marks key mark floor)) }
-    ensures rows { HasRows (applied state.now (Marks key mark floor)) }
+    requires rows { HasRows Two state.now }
+    requires sized { length content.old ≡ CONTENT_LENGTH_TWO }
+    requires written { content.old ≡ content_of Two state.now }
+    ensures written { content.new ≡ content_of Two (applied state.now (Marks key mark floor)) }
+    ensures rows { HasRows Two (applied state.now (Marks key mark floor)) }
 {
     key_row_changes();
     let (place, row) = state.keys.find(key).unwrap();
@@ -56,47 +51,38 @@ fn write_marks(state: &State, key: KeyId, mark: u64, floor: u64, content: &mut [
     );
 }
 
-/// Writes the content of a state.
-fn write_whole(state: &State, content: &mut [u8])
-    requires { length content.old ≡ CONTENT_LENGTH }
-    ensures written { content.new ≡ content_of state.now }
-    ensures rows { HasRows state.now }
-{
-    see_rows(state);
-    write_content(state, content);
-}
-
 /// Writes the content of the state after a change of marks.
 fn write_marked(state: &State, change: &Change, content: &mut [u8])
-    requires sized { length content.old ≡ CONTENT_LENGTH }
+    requires sized { length content.old ≡ CONTENT_LENGTH_TWO }
     requires rules { KeepsRules state.now }
     requires light { IsLight change.now }
     requires storable { IsStorable change.now }
     requires allowed { Allows state.now change.now }
-    ensures written { content.new ≡ content_of (applied state.now change.now) }
-    ensures rows { HasRows (applied state.now change.now) }
+    ensures written { content.new ≡ content_of Two (applied state.now change.now) }
+    ensures rows { HasRows Two (applied state.now change.now) }
 {
     let Change::Marks { key, mark, floor } = change else {
         unreachable!()
     };
-    write_whole(state, content);
+    write_content_two(state, content);
     write_marks(state, *key, *mark, *floor, content);
 }
 
 /// Writes the content of the state after a change of which there are records. `next` is that state; for a change of
 /// marks it may be `None`. Takes no memory.
 pub(crate) fn write_after(state: &State, change: &Change, next: Option<&State>, content: &mut [u8])
-    requires sized { length content.old ≡ CONTENT_LENGTH }
+    requires sized { length content.old ≡ CONTENT_LENGTH_TWO }
     requires rules { KeepsRules state.now }
     requires storable { IsStorable change.now }
     requires allowed { Allows state.now change.now }
     requires next { MatchOption next (IsLight change.now) (λ next. next.now ≡ applied state.now change.now) }
-    ensures written { content.new ≡ content_of (applied state.now change.now) }
-    ensures content { IsContent (restarted (applied state.now change.now)) content.new }
+    ensures sized { length content.new ≡ CONTENT_LENGTH_TWO }
+    ensures written { content.new ≡ content_of Two (applied state.now change.now) }
+    ensures content { IsContent Two (restarted (applied state.now change.now)) content.new }
 {
     restart_leaves_content();
     match next {
-        Some(next) => write_whole(next, content),
+        Some(next) => write_content_two(next, content),
         None => write_marked(state, change, content),
     }
 }

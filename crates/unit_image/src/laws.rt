@@ -1,13 +1,14 @@
 // Laws of images: each function is a statement about the definitions, and does nothing.
 ghost use Rattle.std.specs.Prelude.{◌≡◌, ℕ, List};
 ghost use Rattle.sdls_base.specs.declared.change.Change.{Change};
+ghost use Rattle.sdls_base.specs.declared.version.Version.TheVariants.{Two};
 ghost use Rattle.book_record.specs.Record.{IsRecord};
 ghost use Rattle.unit_state.specs.declared.state.State.{State};
 ghost use Rattle.unit_state.specs.Applied.{applied};
 ghost use Rattle.unit_state.specs.Restart.{restarted};
 ghost use Rattle.unit_state.specs.Laws.{StoresWell};
 ghost use Rattle.image_content.specs.Reading.{IsContent};
-ghost use Rattle.disk_journal.specs.Image.{Held, grown, turned};
+ghost use Rattle.disk_journal.specs.Image.{Held, grown, turned, migrated};
 ghost use Rattle.unit_image.specs.Shows.{Says, Shows, ShowsNone};
 
 use book_record::one_change;
@@ -42,8 +43,14 @@ pub fn says_grown()
 /// says that state.
 pub fn says_turned()
     ensures { (what : Held) (state : State) (change : Change) (content : List ℕ) → Says what (restarted state)
-        → IsContent (restarted (applied state change)) content
+        → IsContent what.version (restarted (applied state change)) content
         → Says (turned content what) (restarted (applied state change)) }
 {
     restarts_once();
 }
+
+/// Law: what is held says a state; migrated to version 2 with the content of that state, it says it too.
+pub fn says_migrated()
+    ensures { (what : Held) (state : State) (content : List ℕ) → Says what state → IsContent Two state content
+        → Says (migrated content what) state }
+{}

@@ -1,9 +1,9 @@
 //! What an image shows: the state of a unit that the content of its current bank and the records behind it lead to.
 //!
 //! Read `specs/Shows.antt` first: the state that an image shows, or the offset of the first check that fails. [`open`]
-//! makes the checks, returns that state and the image's journal, and brings the journal to rest. [`store`] stores a
-//! change of the state, by a record or by a turn of the banks. `specs/Image.antt` passes on what the journal says of an
-//! image; whatever lies above takes it from there.
+//! makes the checks, returns that state and the image's journal, brings the journal to rest, and migrates an image of
+//! version 1 to version 2. [`store`] stores a change of the state, by a record or by a turn of the banks.
+//! `specs/Image.antt` passes on what the journal says of an image; whatever lies above takes it from there.
 #![tactic(auto)]
 
 mod content_after;
@@ -12,11 +12,9 @@ mod laws;
 mod opening_image;
 mod reading;
 mod storing;
-mod typed_rows;
 
 pub use disk_journal::Journal;
 pub use fault::OpenFault;
-pub use image_content::CONTENT_LENGTH;
-pub use laws::{refused_with_one, says_grown, says_turned, shows_one};
+pub use laws::{refused_with_one, says_grown, says_migrated, says_turned, shows_one};
 pub use opening_image::{Opened, open};
 pub use storing::{SiteFault, store};

@@ -6,18 +6,19 @@ ghost use Rattle.image_parts.specs.Changes.{EachImage, OnlySyncs};
 ghost use Rattle.unit_state.specs.State.{KeepsRules};
 ghost use Rattle.unit_plan.specs.Plan.{plan_of};
 ghost use Rattle.unit_image.specs.OpeningImage.{HasOpenFault};
-ghost use Rattle.image_content.specs.declared.layout.TheConstants.{CONTENT_LENGTH};
 ghost use Rattle.image_parts.specs.declared.layout.TheConstants.{PLAN_ROOM};
 ghost use Rattle.disk_journal.specs.Image.{held};
 ghost use Rattle.disk_journal.specs.Journal.{IsOpen, IsSettled};
 ghost use Rattle.unit_image.specs.Shows.{Shows, ShowsNone};
-ghost use Rattle.unit_image.specs.OpeningImage.{Opening};
+ghost use Rattle.unit_image.specs.Image.{IsOfTwo};
+ghost use Rattle.unit_image.specs.OpeningImage.{BringsUp, IsHeldNext, Opening};
 
 use crate::fault::OpenFault;
 use crate::reading::{open_fault, read_plan, read_state, take_records};
 use disk_journal::Journal;
-use image_content::CONTENT_LENGTH;
+use image_content::write_content_two;
 use image_parts::PLAN_ROOM;
+use sdls_base::{CONTENT_LENGTH_TWO, Version};
 use sdls_outside::Site;
 use std::alloc::{AllocError, Global};
 use unit_plan::Plan;
@@ -40,7 +41,7 @@ fn inspect_opened<O: Site>(
     room: &mut [u8],
 ) -> Result<Opened, OpenFault>
     requires text { length text.old ≡ PLAN_ROOM }
-    requires room { length room.old ≡ CONTENT_LENGTH }
+    requires room { length room.old ≡ CONTENT_LENGTH_TWO }
     requires opened { IsTrue O.told → IsOpen (O.trace site.old) journal }
     ensures journal { IfOk result (λ opened. opened.journal ≡ journal) }
     ensures shows { IsTrue O.told → IfOk result (λ opened. Shows (O.trace site.old).now.image opened.state) }
@@ -75,7 +76,7 @@ fn inspect<O: Site>(
     room: &mut [u8],
 ) -> Result<Opened, OpenFault>
     requires text { length text.old ≡ PLAN_ROOM }
-    requires room { length room.old ≡ CONTENT_LENGTH }
+    requires room { length room.old ≡ CONTENT_LENGTH_TWO }
     ensures opened { IsTrue O.told → IfOk result (λ opened. IsOpen (O.trace site.new) opened.journal) }
     ensures shows { IsTrue O.told → IfOk result (λ opened. Shows (O.trace site.old).now.image opened.state) }
     ensures plan { IsTrue O.told → IfOk result (λ opened.
@@ -102,7 +103,7 @@ fn show<O: Site>(
     room: &mut [u8],
 ) -> Result<Opened, OpenFault>
     requires text { length text.old ≡ PLAN_ROOM }
-    requires room { length room.old ≡ CONTENT_LENGTH }
+    requires room { length room.old ≡ CONTENT_LENGTH_TWO }
     ensures settled { IsTrue O.told → IfOk result (λ opened. IsSettled (O.trace site.new) opened.journal) }
     ensures shows { IsTrue O.told → IfOk result (λ opened. Shows (O.trace site.old).now.image opened.state
         × Shows (O.trace site.new).now.image opened.state) }
@@ -127,6 +128,34 @@ fn show<O: Site>(
     }
 }
 
+/// Brings an image at rest, which shows this state, up to version 2. The content is written into `room`.
+fn bring_up<O: Site>(
+    journal: &mut Journal,
+    site: &mut O,
+    state: &State,
+    room: &mut [u8],
+) -> Result<(), OpenFault>
+    requires room { length room.old ≡ CONTENT_LENGTH_TWO }
+    requires settled { IsTrue O.told → IsSettled (O.trace site.old) journal.old }
+    requires shows { IsTrue O.told → Shows (O.trace site.old).now.image state.now }
+    requires rules { KeepsRules state.now }
+    ensures brings { IsTrue O.told → BringsUp state.now result journal.new (O.trace site.old) (O.trace site.new) }
+    ensures version { OnOk result (IsOfTwo journal.new) }
+    ensures puts { O.put_faults site.new ≡ O.put_faults site.old }
+    ensures fault { HasOpenFault (O.faults site.old) (O.faults site.new) (λ offset. ⊥) result }
+{
+    match journal.version() {
+        Version::Two => Ok(()),
+        Version::One => {
+            write_content_two(state, room);
+            match journal.migrate(site, room) {
+                Ok(()) => Ok(()),
+                Err(fault) => Err(open_fault(fault)),
+            }
+        }
+    }
+}
+
 /// Room for the text of a plan.
 fn plan_room(alloc: Global) -> Result<Vec<u8>, AllocError>
     ensures { IfOk result (λ room. vec_len room ≡ PLAN_ROOM) }
@@ -134,25 +163,28 @@ fn plan_room(alloc: Global) -> Result<Vec<u8>, AllocError>
     vec![in alloc; 0; PLAN_ROOM as usize]
 }
 
-/// Opens the image of a site: makes all checks of it, answers the state that it shows, and brings its journal to rest.
-/// The content is read into `room`, which holds any octets afterwards.
+/// Opens the image of a site: makes all checks of it, answers the state that it shows, brings its journal to rest, and
+/// brings an image of version 1 up to version 2. The content is read into `room`, which holds any octets afterwards.
 ///
 /// An answer `Image`, with the offset of the first check that fails, says that the image shows no state; nothing is
 /// written then. Each other refusal is a fault of the site, or memory ran out.
 pub fn open<O: Site>(alloc: Global, site: &mut O, room: &mut [u8]) -> Result<Opened, OpenFault>
-    requires { length room.old ≡ CONTENT_LENGTH }
+    requires { length room.old ≡ CONTENT_LENGTH_TWO }
     ensures settled { IsTrue O.told → IfOk result (λ opened. IsSettled (O.trace site.new) opened.journal) }
+    ensures version { IfOk result (λ opened. IsOfTwo opened.journal) }
     ensures shows { IsTrue O.told → IfOk result (λ opened. Shows (O.trace site.old).now.image opened.state
         × Shows (O.trace site.new).now.image opened.state) }
-    ensures holds { IsTrue O.told → OnOk result (held (O.trace site.new).now.image
-        ≡ held (O.trace site.old).now.image) }
+
+    // What was held is held, or its migration if the image was of version 1.
+    ensures holds { IsTrue O.told → OnOk result
+        (IsHeldNext (O.trace site.old).now.image (held (O.trace site.new).now.image)) }
     // The plan is the one that the image's text says.
     ensures plan { IsTrue O.told → IfOk result (λ opened.
         plan_of (held (O.trace site.old).now.image).plan ≡ Ok opened.plan) }
     ensures rules { IfOk result (λ opened. KeepsRules opened.state) }
 
-    // A crash at any moment leaves what one before may have left, or the image with other octets in its closed gates,
-    // or one that holds what the image held.
+    // A crash at any moment leaves what one before may have left, or what the opening of the image may leave: it with
+    // other octets in its closed gates, or one that holds the same, or one on the way to its migration.
     ensures any_moment { IsTrue O.told → EachMoment (O.trace site.old) (O.trace site.new) (Opening (O.trace site.old)) }
     // Only an image that shows no state is refused as one, and nothing is written then.
     ensures puts { O.put_faults site.new ≡ O.put_faults site.old }
@@ -163,5 +195,12 @@ pub fn open<O: Site>(alloc: Global, site: &mut O, room: &mut [u8]) -> Result<Ope
     let Ok(mut text) = plan_room(alloc) else {
         return Err(OpenFault::NoMemory);
     };
-    show(alloc, site, &mut text, room)
+    let mut opened = match show(alloc, site, &mut text, room) {
+        Ok(opened) => opened,
+        Err(fault) => return Err(fault),
+    };
+    match bring_up(&mut opened.journal, site, &opened.state, room) {
+        Ok(()) => Ok(opened),
+        Err(fault) => Err(fault),
+    }
 }

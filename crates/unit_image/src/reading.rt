@@ -7,7 +7,7 @@ ghost use Rattle.unit_state.specs.Allows.{Allows};
 ghost use Rattle.unit_image.specs.Shows.{LeadTo, IsNoChangeAt, IsBadRecord};
 ghost use Rattle.unit_image.specs.OpeningImage.{HasOpenFault, TakesRecord};
 ghost use Rattle.book_rows.specs.Rows.{HasRowsCause};
-ghost use Rattle.image_content.specs.declared.layout.TheConstants.{CONTENT_LENGTH};
+ghost use Rattle.sdls_base.specs.Version.{content_length_of};
 ghost use Rattle.disk_journal.specs.Image.{records, held, record_at};
 ghost use Rattle.disk_journal.specs.Journal.{IsOpen};
 ghost use Rattle.unit_image.specs.Shows.{SaysBarePlan, IsContentUnder, SaysNone};
@@ -17,9 +17,9 @@ use crate::fault::OpenFault;
 use book_record::{RecordError, read_record};
 use book_rows::RowsFault;
 use disk_journal::{Journal, JournalFault};
-use image_content::{CONTENT_LENGTH, read_content};
+use image_content::read_content;
 use image_parts::{PLAN_AT, PLAN_ROOM, SLOT_COUNT_AT};
-use sdls_base::{BODY_LENGTH, Change, ChannelList, NoMemory};
+use sdls_base::{BODY_LENGTH, CONTENT_LENGTH_TWO, Change, ChannelList, NoMemory, Version};
 use sdls_outside::Site;
 use std::alloc::Global;
 use unit_plan::{Plan, PlanError};
@@ -88,19 +88,30 @@ pub(crate) fn read_plan<O: Site>(
 }
 
 /// The state of a content, under a plan.
-fn state_said(alloc: Global, content: &[u8], plan: &Plan) -> Result<State, RowsFault>
-    requires { length content.now ≡ CONTENT_LENGTH }
-    ensures found { IfOk result (IsContentUnder plan.now content.now) }
+fn state_said(
+    alloc: Global,
+    version: Version,
+    content: &[u8],
+    plan: &Plan,
+) -> Result<State, RowsFault>
+    requires { length content.now ≡ content_length_of version }
+    ensures found { IfOk result (IsContentUnder plan.now version content.now) }
     ensures fault { IfErr result (λ fault. HasRowsCause fault ((state : State)
-        → ¬ IsContentUnder plan.now content.now state)) }
+        → ¬ IsContentUnder plan.now version content.now state)) }
 {
     let Ok(channels) = Vec::from_slice(alloc, plan.channels()) else {
         return Err(RowsFault::NoMemory);
     };
-    read_content(alloc, content, ChannelList::new(channels), plan.device())
+    read_content(
+        alloc,
+        version,
+        content,
+        ChannelList::new(channels),
+        plan.device(),
+    )
 }
 
-/// Reads the content of an image into `room`, and makes the check of it.
+/// Reads the content of an image into the front of `room`, and makes the check of it.
 pub(crate) fn read_state<O: Site>(
     alloc: Global,
     journal: &Journal,
@@ -108,21 +119,24 @@ pub(crate) fn read_state<O: Site>(
     plan: &Plan,
     room: &mut [u8],
 ) -> Result<State, OpenFault>
-    requires room { length room.old ≡ CONTENT_LENGTH }
+    requires room { length room.old ≡ CONTENT_LENGTH_TWO }
     requires opened { IsTrue O.told → IsOpen (O.trace site.old) journal.now }
-    ensures said { IsTrue O.told → IfOk result (IsContentUnder plan.now (held (O.trace site.old).now.image).content) }
+    ensures said { IsTrue O.told → IfOk result (IsContentUnder plan.now (held (O.trace site.old).now.image).version
+        (held (O.trace site.old).now.image).content) }
     ensures rules { IfOk result (λ state. KeepsRules state) }
+    ensures room { length room.new ≡ CONTENT_LENGTH_TWO }
     ensures same { IsTrue O.told → O.trace site.new ≡ O.trace site.old }
     ensures puts { O.put_faults site.new ≡ O.put_faults site.old }
     ensures fault { HasOpenFault (O.faults site.old) (O.faults site.new)
-        (λ offset. IsTrue O.told → IsNoContent (O.trace site.old).now.image plan.now
-        (held (O.trace site.old).now.image).content offset) result }
+        (λ offset. IsTrue O.told → IsNoContent (O.trace site.old).now.image plan.now offset) result }
 {
-    match journal.content(site, room) {
+    let version = journal.version();
+    let content = &mut room[..version.content_length()];
+    match journal.content(site, content) {
         Ok(()) => {}
         Err(fault) => return Err(open_fault(fault)),
     }
-    match state_said(alloc, room, plan) {
+    match state_said(alloc, version, content, plan) {
         Ok(state) => Ok(state),
         Err(RowsFault::Unfit) => Err(OpenFault::Image(journal.content_at())),
         Err(RowsFault::NoMemory) => Err(OpenFault::NoMemory),

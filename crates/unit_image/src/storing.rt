@@ -6,16 +6,15 @@ ghost use Rattle.unit_state.specs.State.{KeepsRules, key_row};
 ghost use Rattle.unit_state.specs.Allows.{Allows};
 ghost use Rattle.unit_state.specs.Applied.{applied};
 ghost use Rattle.unit_state.specs.Restart.{IsLight, IsStorable, acceptance_stored, stored_as};
-ghost use Rattle.image_content.specs.declared.layout.TheConstants.{CONTENT_LENGTH};
 ghost use Rattle.disk_journal.specs.Changes.{KeepsBeside};
 ghost use Rattle.disk_journal.specs.Journal.{IsSettled, HasSiteFault};
+ghost use Rattle.unit_image.specs.Image.{IsOfTwo};
 ghost use Rattle.unit_image.specs.Storing.{Destroys, Stores, LeavesRest, KeepsPlaces};
 
 use crate::content_after::write_after;
 use book_record::write_record;
 use disk_journal::{Journal, JournalFault};
-use image_content::CONTENT_LENGTH;
-use sdls_base::{Change, KeyId, KeyState};
+use sdls_base::{CONTENT_LENGTH_TWO, Change, KeyId, KeyState};
 use sdls_outside::Site;
 use thiserror::Error;
 use unit_state::State;
@@ -60,7 +59,8 @@ fn store_storable<O: Site>(
     next: Option<&State>,
     room: &mut [u8],
 ) -> Result<(), JournalFault>
-    requires sized { length room.old ≡ CONTENT_LENGTH }
+    requires sized { length room.old ≡ CONTENT_LENGTH_TWO }
+    requires version { IsOfTwo journal.old }
     requires settled { IsTrue O.told → IsSettled (O.trace site.old) journal.old }
     requires rules { KeepsRules state.now }
     requires storable { IsStorable change.now }
@@ -94,7 +94,8 @@ fn store_change<O: Site>(
     next: Option<&State>,
     room: &mut [u8],
 ) -> Result<(), JournalFault>
-    requires sized { length room.old ≡ CONTENT_LENGTH }
+    requires sized { length room.old ≡ CONTENT_LENGTH_TWO }
+    requires version { IsOfTwo journal.old }
     requires settled { IsTrue O.told → IsSettled (O.trace site.old) journal.old }
     requires rules { KeepsRules state.now }
     requires allowed { Allows state.now change.now }
@@ -139,7 +140,8 @@ pub fn store<O: Site>(
     next: Option<&State>,
     room: &mut [u8],
 ) -> Result<(), SiteFault>
-    requires sized { length room.old ≡ CONTENT_LENGTH }
+    requires sized { length room.old ≡ CONTENT_LENGTH_TWO }
+    requires version { IsOfTwo journal.old }
     requires settled { IsTrue O.told → IsSettled (O.trace site.old) journal.old }
     requires rules { KeepsRules state.now }
     requires allowed { Allows state.now change.now }
@@ -147,7 +149,7 @@ pub fn store<O: Site>(
     ensures stores { IsTrue O.told → Stores state.now change.now result journal.new (O.trace site.old)
         (O.trace site.new) }
 
-    // After a change that takes away the octets of keys, each octet of both banks is stated, in each image that a crash
+    // After a change that takes away the octets of keys, each octet of all banks is stated, in each image that a crash
     // may leave.
     ensures gone { IsTrue O.told → OnOk result (Destroys change.now
         → LeavesRest (O.trace site.new) journal.new (applied state.now change.now)) }

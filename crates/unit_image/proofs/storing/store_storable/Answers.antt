@@ -1,15 +1,20 @@
+use Rattle.std.proofs.Common.{◌∙◌, sym}
 use Rattle.unit_state.specs.Applied.{applied}
 use Rattle.unit_image.proofs.Recorded.{has_record}
 use Rattle.unit_image.specs.Storing.{Destroys}
-use Rattle.unit_image.proofs.Stored.{both, stores_record, stores_turn, turned_rest}
+use Rattle.unit_image.proofs.Stored.{both, of_two, stores_record, stores_turn, turned_rest}
 use Rattle.unit_image.proofs.storing.store_storable.Goals as goal
 
 pub write_record-requires : goal.write_record-requires
 write_record-requires g c = has_record c.args.state.now c.args.change.now c.requires.storable c.requires.allowed
 
+pub turn-requires-clause-sized : goal.turn-requires-clause-sized
+turn-requires-clause-sized g c = c.write_after.ensures.sized ∙ sym c.requires.version.sized
+
 pub returns-then-used-slots-clause-stores : goal.returns-then-used-slots-clause-stores
 returns-then-used-slots-clause-stores g c = λ told. stores_turn c.args.state.now c.args.change.now c.write_after.new.content c.turn.result c.turn.new.self
-    (g.O.Site.trace c.args.site.now) (g.O.Site.trace c.turn.new.site) c.write_after.ensures.content (c.turn.ensures.becomes told)
+    (g.O.Site.trace c.args.site.now) (g.O.Site.trace c.turn.new.site) c.write_after.ensures.content
+    (of_two (g.O.Site.trace c.args.site.now) c.args.journal.now (c.requires.settled told) c.requires.version) (c.turn.ensures.becomes told)
     (both _ _ c.turn.result (c.turn.ensures.stored told) (c.turn.ensures.holds told))
 
 pub returns-then-used-slots-clause-gone : goal.returns-then-used-slots-clause-gone

@@ -1,0 +1,34 @@
+use Rattle.std.proofs.Common.{refl, sym, subst}
+use Rattle.unit_image.specs.OpeningImage.{IsBroughtUp}
+use Rattle.disk_journal.specs.Image.{held}
+use Rattle.unit_image.proofs.Bringing.{next_shows, opening_then}
+use Rattle.unit_image.proofs.opening_image.open.Goals as goal
+
+pub returns-in-Ok-bring_up-clause-shows : goal.returns-in-Ok-bring_up-clause-shows
+returns-in-Ok-bring_up-clause-shows g c = λ told.
+    let mid = g.O.Site.trace c.show.new.site in
+    let new = g.O.Site.trace c.bring_up.new.site in
+    let brings = c.in-Ok-bring_up.ensures.brings told in (
+      (c.in-Ok-show.ensures.shows told).0,
+      next_shows mid.now.image new.now.image c.in-Ok-show.opened.state (c.in-Ok-show.ensures.shows told).1
+          (record { opens = brings.done.0.of_image.of_image.opens; is = refl })
+          (subst (IsBroughtUp c.in-Ok-show.opened.state (held mid.now.image)) (sym brings.done.1) brings.is),
+    )
+
+pub returns-in-Ok-bring_up-clause-any_moment : goal.returns-in-Ok-bring_up-clause-any_moment
+returns-in-Ok-bring_up-clause-any_moment g c = λ told.
+    let old = g.O.Site.trace c.args.site.now in
+    let mid = g.O.Site.trace c.show.new.site in
+    let brings = c.in-Ok-bring_up.ensures.brings told in
+    opening_then old mid (g.O.Site.trace c.bring_up.new.site) c.in-Ok-show.opened.state brings.next (c.in-Ok-show.ensures.holds told)
+    (c.in-Ok-show.ensures.shows told).0 brings.is c.in-Ok-show.opened.journal (c.in-Ok-show.ensures.settled told)
+    (c.in-Ok-show.ensures.any_moment told) brings.moments
+
+pub returns-clause-any_moment : goal.returns-clause-any_moment
+returns-clause-any_moment g c = λ told.
+    let old = g.O.Site.trace c.args.site.now in
+    let mid = g.O.Site.trace c.show.new.site in
+    let brings = c.bring_up.ensures.brings told in
+    opening_then old mid (g.O.Site.trace c.bring_up.new.site) c.in-Ok-show.opened.state brings.next (c.in-Ok-show.ensures.holds told)
+    (c.in-Ok-show.ensures.shows told).0 brings.is c.in-Ok-show.opened.journal (c.in-Ok-show.ensures.settled told)
+    (c.in-Ok-show.ensures.any_moment told) brings.moments
