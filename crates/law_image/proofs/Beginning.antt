@@ -1,5 +1,6 @@
 -- The image that a plan begins with shows its state, at rest and with no records: for `beginning_shows`.
-use Rattle.std.proofs.Common.{ℕ, List, refl, sym}
+use Rattle.std.proofs.Common.{ℕ, List, refl, sym, inr}
+use Rattle.sdls_base.specs.declared.version.Version.TheVariants.{Two}
 use Rattle.unit_plan.specs.PlanLines.{PlanLines}
 use Rattle.unit_state.specs.declared.state.State.{State}
 use Rattle.unit_state.specs.Restart.{restarted}
@@ -11,6 +12,7 @@ use Rattle.plan_bare.proofs.BareRoom.{bare_plan_is_short, bare_plan_reads}
 use Rattle.plan_bare.specs.Bare.{bare_of, without_rows}
 use Rattle.image_content.specs.Content.{content_of}
 use Rattle.image_content.specs.Reading.{HasRows, IsContent}
+use Rattle.disk_journal.specs.declared.layout.HeaderForm.TheVariants.{New}
 use Rattle.disk_journal.specs.Image.{IsAtRest}
 use Rattle.disk_journal.specs.Forms.{Holds}
 use Rattle.disk_journal.specs.Initial.{BeginsAtRest}
@@ -31,17 +33,17 @@ module _ (text : List ℕ) (plan : PlanLines) (first : State) (said : SaysPlan t
   of_plan : IsOfPlan plan first
   of_plan = first_of_plan plan first (plan_ids text plan said.read) said.made
 
-  pub first_rows : HasRows first
+  pub first_rows : HasRows Two first
   first_rows = has_rows first rules of_plan.named
 
-  pub first_content : IsContent (restarted first) (content_of first)
-  first_content = is_content first rules first_rows
+  pub first_content : IsContent Two (restarted first) (content_of Two first)
+  first_content = is_content Two first rules first_rows
 
-  pub begins_at_rest : BeginsAtRest (bare_of text) plan.slots (content_of first)
+  pub begins_at_rest : BeginsAtRest New (bare_of text) plan.slots (content_of Two first)
   begins_at_rest =
       let slots = (plan_rules text plan said.read).slots in
-      begins (bare_of text) (content_of first) plan.slots (bare_plan_is_short text plan said.read) slots.0 slots.1
-      (content_sized first first_rows)
+      begins New (bare_of text) (content_of Two first) plan.slots (inr refl) (bare_plan_is_short text plan said.read) slots.0 slots.1
+      (content_sized Two first first_rows)
 
   pub beginning_shows : Shows (image_of_plan text plan first) (restarted first)
   beginning_shows = record {

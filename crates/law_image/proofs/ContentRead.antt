@@ -3,11 +3,14 @@ use Rattle.std.proofs.Common.{◌≡◌, ℕ, zero, suc, ◌-◌, ◌^◌, ◌<�
 use Rattle.std.specs.List.{AllByRecursion}
 use Rattle.std.specs.Option.{option_map_or}
 use Rattle.std.proofs.Math.Seq.{drop-append_seam, take-append_seam}
-use Rattle.std.proofs.lemmas.List.{drop-drop, length-replicate}
+use Rattle.std.proofs.lemmas.List.{drop-drop}
 use Rattle.std.proofs.lemmas.List.Elements.{recursion_from_All}
 use Rattle.std.proofs.lemmas.Nat.{from_be_bytes-to_be_bytes_2}
+use Rattle.sdls_base.specs.Version.{most_associations_of, most_keys_of}
 use Rattle.sdls_base.specs.declared.states.Direction.{Direction}
 use Rattle.sdls_base.specs.declared.states.Direction.TheVariants.{Send, Receive}
+use Rattle.sdls_base.specs.declared.version.Version.{Version}
+use Rattle.sdls_base.specs.declared.version.Version.TheVariants.{One, Two}
 use Rattle.key_book.specs.declared.key_row.KeyRow.{KeyRow}
 use Rattle.key_book.specs.KeyBook.{row_of}
 use Rattle.replay_window.specs.declared.window.Window.{Window}
@@ -22,13 +25,12 @@ use Rattle.book_record.specs.declared.key_parts.KeyParts.{KeyParts}
 use Rattle.book_record.specs.declared.sa_parts.SaParts.{SaParts}
 use Rattle.book_record.specs.KeyParts.{key_row_octets}
 use Rattle.book_record.specs.Padded.{padded}
-use Rattle.book_record.specs.Reading.{word_at, octet_at}
 use Rattle.book_record.specs.RowReading.{key_parts_at, sa_parts_at}
 use Rattle.book_record.specs.SaParts.{sa_row_octets}
 use Rattle.book_record.proofs.Rows.{key_row_length, key_row_says, padded_length, sa_row_length, sa_row_says}
-use Rattle.image_content.specs.Content.{content_of, key_parts, key_rows, sa_parts, sa_rows}
-use Rattle.image_content.specs.Reading.{IsContent}
-use Rattle.law_image.proofs.Contents.{IsKeyOf, IsSaOf, keys_sized}
+use Rattle.image_content.specs.Content.{associations_at, content_of, counts_of, key_parts, key_room_of, key_rows, sa_parts, sa_room_of, sa_rows}
+use Rattle.image_content.specs.Reading.{FitsVersion, IsContent, key_count, sa_count}
+use Rattle.law_image.proofs.Contents.{IsKeyOf, IsSaOf, head_sized, keys_sized}
 
 -- ---- the state that stands at the places of a content
 
@@ -62,12 +64,15 @@ sas_at keys zero octets = []
 sas_at keys (suc n) octets = sa_of keys (sa_parts_at (take 32 octets)) ∷ sas_at keys n (drop 32 octets)
 
 abbrev keys_in : List ℕ → List KeyRow
-keys_in content = keys_at (word_at 0 content) (drop 503 content)
+keys_in content = keys_at (key_count content) (drop 503 content)
 
-pub state_at : List ℕ → List ℕ → List ℕ → State
-state_at channels device content = record {
+abbrev sas_in : Version → List KeyRow → List ℕ → List SaRow
+sas_in version keys content = sas_at keys (sa_count version content) (drop (associations_at version) content)
+
+pub state_at : Version → List ℕ → List ℕ → List ℕ → State
+state_at version channels device content = record {
   keys = keys_in content;
-  associations = sas_at (keys_in content) (octet_at 2 content) (drop 49655 content);
+  associations = sas_in version (keys_in content) content;
   channels = channels;
   device = device;
 }
@@ -118,35 +123,51 @@ sas_back keys (row ∷ rows) rest all =
 
 -- ---- where the rows of a state stand in its content
 
-record Places (state : State) (content : List ℕ) : Type 0 where
+record Places (version : Version) (state : State) (content : List ℕ) : Type 0 where
   pub key_rest : List ℕ
   pub sa_rest : List ℕ
-  pub key_count : word_at 0 content ≡ length state.keys
-  pub sa_count : octet_at 2 content ≡ length state.associations
+  pub keys_counted : key_count content ≡ length state.keys
+  pub sas_counted : sa_count version content ≡ length state.associations
   pub keys : drop 503 content ≡ key_rows state.keys ++ key_rest
-  pub associations : drop 49655 content ≡ sa_rows state.associations ++ sa_rest
+  pub associations : drop (associations_at version) content ≡ sa_rows state.associations ++ sa_rest
 
-places : (state : State) → length state.keys ≤ 512 → length (key_rows state.keys) ≤ 49152 → Places state (content_of state)
+keys_said : (version : Version) (keys associations : ℕ) (rest : List ℕ) → keys ≤ most_keys_of version
+    → key_count (counts_of version keys associations ++ rest) ≡ keys
+keys_said One keys associations rest few = from_be_bytes-to_be_bytes_2 keys (omega (arith, few))
+keys_said Two keys associations rest few = from_be_bytes-to_be_bytes_2 keys (omega (arith, few))
+
+sas_said : (version : Version) (keys associations : ℕ) (rest : List ℕ) → associations ≤ most_associations_of version
+    → sa_count version (counts_of version keys associations ++ rest) ≡ associations
+sas_said One keys associations rest few = refl
+sas_said Two keys associations rest few = from_be_bytes-to_be_bytes_2 associations (omega (arith, few))
+
+places : (version : Version) (state : State) → FitsVersion version state → length (key_rows state.keys) ≤ key_room_of version
+    → Places version state (content_of version state)
 unfolding content_of
-places state few short =
-    let content = content_of state in
+places version state fits short =
+    let content = content_of version state in
     let none : ℕ = 0 in
     let keys = key_rows state.keys in
     let sas = sa_rows state.associations in
-    let gap : List ℕ = replicate 500 none in
-    let room = padded 49152 keys in
-    let sa_room = padded 2048 sas in
-    let from_gap : drop 3 content ≡ gap ++ (room ++ sa_room) = append_assoc gap room sa_room in
+    let counts = counts_of version (length state.keys) (length state.associations) in
+    let head = padded 503 counts in
+    let room = padded (key_room_of version) keys in
+    let sa_room = padded (sa_room_of version) sas in
+    let key_gap = replicate (key_room_of version - length keys) none in
+    let behind = replicate (503 - length counts) none ++ (room ++ sa_room) in
+    let whole : content ≡ head ++ (room ++ sa_room) = append_assoc head room sa_room in
+    let counted : content ≡ counts ++ behind = whole ∙ append_assoc counts (replicate (503 - length counts) none) (room ++ sa_room) in
     let from_keys : drop 503 content ≡ room ++ sa_room =
-    sym (drop-drop 500 3 content) ∙ ap (λ (s : List ℕ). drop 500 s) from_gap ∙ back_of gap (room ++ sa_room) 500 (length-replicate 500 none) in
-    let from_sas : drop 49655 content ≡ sa_room =
-    sym (drop-drop 49152 503 content) ∙ ap (λ (s : List ℕ). drop 49152 s) from_keys ∙ back_of room sa_room 49152 (padded_length 49152 keys short) in
+    ap (λ (s : List ℕ). drop 503 s) whole ∙ back_of head (room ++ sa_room) 503 (head_sized version (length state.keys) (length state.associations)) in
+    let from_sas : drop (associations_at version) content ≡ sa_room =
+    sym (drop-drop (key_room_of version) 503 content) ∙ ap (λ (s : List ℕ). drop (key_room_of version) s) from_keys
+    ∙ back_of room sa_room (key_room_of version) (padded_length (key_room_of version) keys short) in
     record {
-      key_rest = replicate (49152 - length keys) none ++ sa_room;
-      sa_rest = replicate (2048 - length sas) none;
-      key_count = from_be_bytes-to_be_bytes_2 (length state.keys) (omega (arith, few));
-      sa_count = refl;
-      keys = from_keys ∙ append_assoc keys (replicate (49152 - length keys) none) sa_room;
+      key_rest = key_gap ++ sa_room;
+      sa_rest = replicate (sa_room_of version - length sas) none;
+      keys_counted = ap key_count counted ∙ keys_said version (length state.keys) (length state.associations) behind fits.keys;
+      sas_counted = ap (sa_count version) counted ∙ sas_said version (length state.keys) (length state.associations) behind fits.associations;
+      keys = from_keys ∙ append_assoc keys key_gap sa_room;
       associations = from_sas;
     }
 
@@ -198,24 +219,25 @@ low_rows keys (row ∷ rows) are rules holds left =
 
 -- ---- the state is read back
 
-pub state_back : (channels device content : List ℕ) (state : State) → IsContent state content → state.channels ≡ channels → state.device ≡ device
-    → state_at channels device content ≡ state
+pub state_back : (version : Version) (channels device content : List ℕ) (state : State) → IsContent version state content
+    → state.channels ≡ channels → state.device ≡ device → state_at version channels device content ≡ state
 unfolding state_at
-state_back channels device content state is same_channels same_device =
-    let typed = recursion_from_All IsKeyOf state.keys is.keys in
-    let sas = recursion_from_All IsSaOf state.associations is.associations in
+state_back version channels device content state is same_channels same_device =
+    let typed = recursion_from_All IsKeyOf state.keys is.rows.keys in
+    let sas = recursion_from_All IsSaOf state.associations is.rows.associations in
     let size = keys_sized state.keys typed in
-    let few : length state.keys ≤ 512 = is.rules.keys.most in
-    let at : Places state content = subst (Places state) (sym is.spelled) (places state few (omega (arith, size, few))) in
+    let few : length state.keys ≤ most_keys_of version = is.rows.fits.keys in
+    let at : Places version state content =
+    subst (Places version state) (sym is.spelled) (places version state is.rows.fits (omega (arith, size, few))) in
     let keys : keys_in content ≡ state.keys =
-    ap (λ (n : ℕ). keys_at n (drop 503 content)) at.key_count ∙ ap (λ (s : List ℕ). keys_at (length state.keys) s) at.keys
+    ap (λ (n : ℕ). keys_at n (drop 503 content)) at.keys_counted ∙ ap (λ (s : List ℕ). keys_at (length state.keys) s) at.keys
     ∙ keys_back state.keys at.key_rest typed in
     let low = low_rows state.keys state.associations sas
     (recursion_from_All sa_rules.IsSaRow state.associations is.rules.associations.each)
     (recursion_from_All (HasKey state.keys) state.associations is.rules.held) (ap (λ (s : State). s.associations) is.left) in
-    let associations : sas_at (keys_in content) (octet_at 2 content) (drop 49655 content) ≡ state.associations =
-    ap (λ (rows : List KeyRow). sas_at rows (octet_at 2 content) (drop 49655 content)) keys
-    ∙ ap (λ (n : ℕ). sas_at state.keys n (drop 49655 content)) at.sa_count
+    let associations : sas_in version (keys_in content) content ≡ state.associations =
+    ap (λ (rows : List KeyRow). sas_in version rows content) keys
+    ∙ ap (λ (n : ℕ). sas_at state.keys n (drop (associations_at version) content)) at.sas_counted
     ∙ ap (λ (s : List ℕ). sas_at state.keys (length state.associations) s) at.associations
     ∙ sas_back state.keys state.associations at.sa_rest low in
     λ i. record { keys = keys i; associations = associations i; channels = sym same_channels i; device = sym same_device i }
@@ -242,13 +264,14 @@ sas_left keys (suc n) octets =
     let others = sas_left keys n (drop 32 octets) in
     λ i. first i ∷ others i
 
-pub read_left : (channels device content : List ℕ) → restarted (state_at channels device content) ≡ state_at channels device content
+pub read_left : (version : Version) (channels device content : List ℕ)
+    → restarted (state_at version channels device content) ≡ state_at version channels device content
 unfolding state_at
-read_left channels device content =
-    ap (λ (rows : List SaRow). record (state_at channels device content) { associations = rows })
-    (sas_left (keys_in content) (octet_at 2 content) (drop 49655 content))
+read_left version channels device content =
+    ap (λ (rows : List SaRow). record (state_at version channels device content) { associations = rows })
+    (sas_left (keys_in content) (sa_count version content) (drop (associations_at version) content))
 
-pub read_beside : (channels device content : List ℕ)
-    → ((state_at channels device content).channels ≡ channels) × ((state_at channels device content).device ≡ device)
+pub read_beside : (version : Version) (channels device content : List ℕ)
+    → ((state_at version channels device content).channels ≡ channels) × ((state_at version channels device content).device ≡ device)
 unfolding state_at
-read_beside channels device content = (refl, refl)
+read_beside version channels device content = (refl, refl)

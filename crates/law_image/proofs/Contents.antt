@@ -1,8 +1,7 @@
 -- The content of a state whose rows are of their types: for `beginning_shows`.
-use Rattle.std.proofs.Common.{map, ◌≡◌, ℕ, ◌*◌, ◌<◌, ◌≤◌, ◌^◌, List, [], ◌∷◌, ◌++◌, length, get_or, replicate, refl, sym, ap, inl, inr, arith, length-append}
+use Rattle.std.proofs.Common.{map, ◌≡◌, ℕ, ◌+◌, ◌*◌, ◌<◌, ◌≤◌, ◌^◌, List, [], ◌∷◌, ◌++◌, length, get_or, refl, sym, ap, subst, inl, inr, arith, length-append}
 use Rattle.std.specs.List.{AllByRecursion}
-use Rattle.std.specs.Int.{w16, to_be_bytes}
-use Rattle.std.proofs.lemmas.List.{length-map, length-replicate}
+use Rattle.std.proofs.lemmas.List.{length-map}
 use Rattle.std.proofs.lemmas.List.Elements.{All-map, recursion_from_All}
 use Rattle.sdls_base.specs.KeyId.{class_of, end_of, end_of_class}
 use Rattle.sdls_base.specs.declared.key_id.KeyClass.{KeyClass}
@@ -19,11 +18,14 @@ use Rattle.unit_state.specs.declared.state.State.{State}
 use Rattle.unit_state.specs.State.{KeepsRules}
 use Rattle.unit_state.specs.Restart.{restarted, restarted_row}
 use Rattle.unit_state.proofs.StateLaws.{restarted_twice}
+use Rattle.sdls_base.specs.Version.{content_length_of, most_associations_of}
+use Rattle.sdls_base.specs.declared.version.Version.{Version}
+use Rattle.sdls_base.specs.declared.version.Version.TheVariants.{One, Two}
 use Rattle.book_record.specs.KeyParts.{IsKeyRow, IsRowKeyLength, key_row_octets}
 use Rattle.book_record.specs.Padded.{padded}
 use Rattle.book_record.specs.SaParts.{IsSaRow, sa_row_octets}
 use Rattle.book_record.proofs.Rows.{key_row_length, padded_length, sa_row_length}
-use Rattle.image_content.specs.Content.{content_of, key_parts, key_rows, sa_parts, sa_rows}
+use Rattle.image_content.specs.Content.{associations_at, content_of, counts_of, key_parts, key_room_of, key_rows, sa_parts, sa_room_of, sa_rows}
 use Rattle.image_content.specs.Reading.{HasRows, IsContent}
 use Rattle.unit_image.proofs.Restarted.{restarted_rules}
 use Rattle.law_image.proofs.StateIds.{IsNamed, IsNamedKey, IsNamedSa}
@@ -62,13 +64,12 @@ sa_typed row rules named =
       spelled = refl;
     }
 
--- a state that keeps its rules has rows of their types, and room for them
-pub has_rows : (state : State) → KeepsRules state → IsNamed state → HasRows state
+-- a state that keeps its rules has rows of their types, which fit version 2
+pub has_rows : (state : State) → KeepsRules state → IsNamed state → HasRows Two state
 has_rows state rules named = record {
   keys = λ k d low. key_typed (get_or state.keys k d) (rules.keys.rules.each k d low) (named.keys k d low);
   associations = λ k d low. sa_typed (get_or state.associations k d) (rules.associations.each k d low) (named.associations k d low);
-  most_keys = rules.keys.most;
-  most_associations = rules.associations.most;
+  fits = record { keys = rules.keys.most; associations = rules.associations.most };
 }
 
 -- the highest numbers are in no row, so that a restart leaves the content
@@ -76,23 +77,32 @@ highs_apart : (keys : List KeyRow) (rows : List SaRow) → sa_rows (map (restart
 highs_apart keys [] = refl
 highs_apart keys (row ∷ rows) = ap (λ (octets : List ℕ). sa_row_octets (sa_parts row) ++ octets) (highs_apart keys rows)
 
-restart_leaves : (state : State) → content_of (restarted state) ≡ content_of state
+restart_leaves : (version : Version) (state : State) → content_of version (restarted state) ≡ content_of version state
 unfolding content_of
-restart_leaves state =
+restart_leaves version state =
     let count : length (map (restarted_row state.keys) state.associations) ≡ length state.associations =
     length-map state.associations (restarted_row state.keys) in
     let rows = highs_apart state.keys state.associations in
-    λ i. to_be_bytes w16 (length state.keys) ++ count i ∷ (replicate 500 0 ++ padded 49152 (key_rows state.keys) ++ padded 2048 (rows i))
+    λ i. padded 503 (counts_of version (length state.keys) (count i)) ++ padded (key_room_of version) (key_rows state.keys)
+    ++ padded (sa_room_of version) (rows i)
 
 -- its content is that of the state that a restart leaves
-pub is_content : (state : State) → KeepsRules state → HasRows state → IsContent (restarted state) (content_of state)
-is_content state rules rows = record {
+pub is_content : (version : Version) (state : State) → KeepsRules state → HasRows version state
+    → IsContent version (restarted state) (content_of version state)
+is_content version state rules rows = record {
   rules = restarted_rules state rules;
-  keys = rows.keys;
-  associations = All-map (λ (row : SaRow). IsSaRow (sa_parts row) (sa_row_octets (sa_parts row))) (restarted_row state.keys) state.associations
-      (λ k d low. rows.associations k d low);
+  rows = record {
+    keys = rows.keys;
+    associations = All-map (λ (row : SaRow). IsSaRow (sa_parts row) (sa_row_octets (sa_parts row))) (restarted_row state.keys) state.associations
+        (λ k d low. rows.associations k d low);
+    fits = record {
+      keys = rows.fits.keys;
+      associations = subst (λ (n : ℕ). n ≤ most_associations_of version) (sym (length-map state.associations (restarted_row state.keys)))
+          rows.fits.associations;
+    };
+  };
   left = restarted_twice state;
-  spelled = sym (restart_leaves state);
+  spelled = sym (restart_leaves version state);
 }
 
 -- ---- its length
@@ -113,7 +123,7 @@ keys_sized (row ∷ rows) all =
       length-append (key_row_octets (key_parts row)) (key_rows rows),
     )
 
-pub sas_sized : (rows : List SaRow) → AllByRecursion IsSaOf rows → length (sa_rows rows) ≡ 32 * length rows
+sas_sized : (rows : List SaRow) → AllByRecursion IsSaOf rows → length (sa_rows rows) ≡ 32 * length rows
 sas_sized [] all = omega arith
 sas_sized (row ∷ rows) all =
     omega (
@@ -123,16 +133,34 @@ sas_sized (row ∷ rows) all =
       length-append (sa_row_octets (sa_parts row)) (sa_rows rows),
     )
 
-pub content_sized : (state : State) → HasRows state → length (content_of state) ≡ 51703
+-- the counts, with the zeros behind them
+counts_small : (version : Version) (keys associations : ℕ) → length (counts_of version keys associations) ≤ 503
+counts_small One keys associations = omega arith
+counts_small Two keys associations = omega arith
+
+pub head_sized : (version : Version) (keys associations : ℕ) → length (padded 503 (counts_of version keys associations)) ≡ 503
+head_sized version keys associations = padded_length 503 (counts_of version keys associations) (counts_small version keys associations)
+
+whole_length : (version : Version) → content_length_of version ≡ associations_at version + sa_room_of version
+whole_length One = refl
+whole_length Two = refl
+
+pub content_sized : (version : Version) (state : State) → HasRows version state → length (content_of version state) ≡ content_length_of version
 unfolding content_of
-content_sized state rows =
-    let none : ℕ = 0 in
-    let gap : List ℕ = replicate 500 none in
-    let room = padded 49152 (key_rows state.keys) in
-    let sa_room = padded 2048 (sa_rows state.associations) in
+content_sized version state rows =
+    let head = padded 503 (counts_of version (length state.keys) (length state.associations)) in
+    let room = padded (key_room_of version) (key_rows state.keys) in
+    let sa_room = padded (sa_room_of version) (sa_rows state.associations) in
     let keys_size = keys_sized state.keys (recursion_from_All IsKeyOf state.keys rows.keys) in
     let sas_size = sas_sized state.associations (recursion_from_All IsSaOf state.associations rows.associations) in
-    let room_size : length room ≡ 49152 = padded_length 49152 (key_rows state.keys) (omega (arith, keys_size, rows.most_keys)) in
-    let sa_size : length sa_room ≡ 2048 = padded_length 2048 (sa_rows state.associations) (omega (arith, sas_size, rows.most_associations)) in
-    let gap_size : length gap ≡ 500 = length-replicate 500 none in
-    omega (arith, room_size, sa_size, gap_size, length-append gap room, length-append (gap ++ room) sa_room)
+    let room_size = padded_length (key_room_of version) (key_rows state.keys) (omega (arith, keys_size, rows.fits.keys)) in
+    let sa_size = padded_length (sa_room_of version) (sa_rows state.associations) (omega (arith, sas_size, rows.fits.associations)) in
+    omega (
+      arith,
+      whole_length version,
+      head_sized version (length state.keys) (length state.associations),
+      room_size,
+      sa_size,
+      length-append head room,
+      length-append (head ++ room) sa_room,
+    )

@@ -7,8 +7,9 @@ use Rattle.image_parts.specs.declared.layout.TheConstants.{HEADER_LENGTH, OPEN}
 use Rattle.image_parts.specs.Changes.{AllBut}
 use Rattle.image_parts.specs.Header.{header_of}
 use Rattle.disk_journal.specs.Fault.{header_checks, image_fault}
-use Rattle.disk_journal.specs.Initial.{initial_image, rest_image}
-use Rattle.disk_journal.proofs.Verdicts.{header_verdict, short_verdict}
+use Rattle.disk_journal.specs.declared.layout.HeaderForm.TheVariants.{New}
+use Rattle.disk_journal.specs.Initial.{created_image, rest_image}
+use Rattle.disk_journal.proofs.Refused.{header_verdict, short_verdict}
 
 gate_first : (header : List ℕ) (size : ℕ) → get_or header 0 0 ≢ OPEN → first_failing (header_checks header size) ≡ Some 0
 gate_first header size shut = let is : (get_or header 0 0 == OPEN) ≡ false = ne_eqb (get_or header 0 0) OPEN shut in rw is refl
@@ -21,7 +22,7 @@ shut_fails image shut = elim (cases_lt (length image) HEADER_LENGTH) [
       (gate_first (header_of image) (length image) (λ is. shut (sym (get_or-take HEADER_LENGTH image 0 0 (omega arith)) ∙ is)))
 ]
 
-opens_first : (plan : List ℕ) (slots : ℕ) (text : List ℕ) → get_or (initial_image plan slots text) 0 0 ≡ OPEN
+opens_first : (plan : List ℕ) (slots : ℕ) (text : List ℕ) → get_or (created_image New plan slots text) 0 0 ≡ OPEN
 unfolding rest_image
 opens_first plan slots text = refl
 
@@ -32,9 +33,9 @@ same_octets whole image change first = ext_get_or 0 image whole change.same_leng
     at zero = first
     at (suc i) = change.outside (suc i) (inr (omega arith))
 
-pub whole_or_refused : (plan : List ℕ) (slots : ℕ) (text image : List ℕ) → AllBut 0 1 (initial_image plan slots text) image
-    → (image_fault image ≡ Some 0) ⊎ (image ≡ initial_image plan slots text)
+pub whole_or_refused : (plan : List ℕ) (slots : ℕ) (text image : List ℕ) → AllBut 0 1 (created_image New plan slots text) image
+    → (image_fault image ≡ Some 0) ⊎ (image ≡ created_image New plan slots text)
 whole_or_refused plan slots text image change = elim (cases_eq (get_or image 0 0) OPEN) [
-  | inl is ↦ inr (same_octets (initial_image plan slots text) image change (is ∙ sym (opens_first plan slots text)))
+  | inl is ↦ inr (same_octets (created_image New plan slots text) image change (is ∙ sym (opens_first plan slots text)))
   | inr shut ↦ inl (shut_fails image shut)
 ]

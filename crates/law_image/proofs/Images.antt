@@ -1,18 +1,23 @@
--- What an opening that is cut off leaves: for `opening_keeps_forms`. With it, lemmas on what images hold, passed on for
--- what lies above.
-use Rattle.std.proofs.Common.{◌≡◌, ◌⊎◌, ℕ, List, None, refl, sym, ◌∙◌, subst, inl, inr}
+-- What an opening or a migration leaves that is cut off: for `opening_keeps_forms` and `migration_keeps_state`. With it,
+-- lemmas on what images hold, passed on for what lies above.
+use Rattle.std.proofs.Common.{slice_index, ◌≢◌, ◌≡◌, ◌⊎◌, ℕ, List, None, refl, sym, ◌∙◌, subst, inl, inr}
 use Rattle.image_parts.proofs.Gating.{AreRecords, records_are}
 use Rattle.disk_journal.specs.Banks.{gate_at, body_at}
-use Rattle.disk_journal.specs.Image.{Held, IsAtRest, IsOpenedForm, held, records, image_layout, current_at, slot_count}
+use Rattle.disk_journal.specs.Image.{Held, IsAtRest, IsOpenedForm, held, migrated, records, image_layout, current_at, slot_count}
 use Rattle.disk_journal.specs.Fault.{image_fault}
-use Rattle.disk_journal.specs.Forms.{Holds, HasOneClosed, Becomes, Settles, StaysWithin}
+use Rattle.disk_journal.specs.Forms.{Holds, HasOneClosed, Becomes, StaysWithin}
 use Rattle.disk_journal.proofs.Again.{stays_within}
+use Rattle.disk_journal.proofs.Headers.{header_octet, old_tests}
+use Rattle.disk_journal.specs.declared.layout.HeaderForm.TheVariants.{Old}
+use Rattle.disk_journal.specs.declared.layout.TheConstants.{MIGRATED_AT}
+use Rattle.image_parts.specs.Header.{header_of}
+use Rattle.image_parts.specs.declared.layout.TheConstants.{OPEN}
 use Rattle.unit_state.specs.declared.state.State.{State}
+use Rattle.unit_image.specs.OpeningImage.{IsMigration, LeftByOpening, IsMigrating}
 use Rattle.unit_image.specs.Shows.{Says, Shows}
-use Rattle.law_image.specs.Keeping.{HoldsSame, IsShown, KeepsForms}
+use Rattle.unit_image.proofs.Turned.{says_migrated}
+use Rattle.law_image.specs.Keeping.{HoldsNext, HoldsSame, IsShown, KeepsForms, ShowsThroughout}
 pub use Rattle.image_parts.proofs.Moments.{only_syncs_moments}
-pub use Rattle.disk_journal.specs.Initial.{BeginsAtRest as Begins}
-pub use Rattle.disk_journal.proofs.InitialImage.{begins}
 
 -- the records by place
 pub records_of : (image : List ℕ)
@@ -22,6 +27,11 @@ unfolding records
 records_of image =
     records_are (gate_at (image_layout image) image (current_at image)) (body_at (image_layout image) image (current_at image))
     (slot_count image)
+
+-- the octet that migrates an image of version 1 is not 1
+pub moves_not_open : (image : List ℕ) → (image_layout image).form ≡ Old → slice_index image MIGRATED_AT ≢ OPEN
+unfolding image_layout
+moves_not_open image old_is here = (old_tests (header_of image) old_is).1 (header_octet image ∙ here)
 
 -- an image at rest has no closed gate that is not 0
 pub rests_settled : (image : List ℕ) → IsAtRest image → HasOneClosed image
@@ -38,11 +48,17 @@ holds_same image left becomes = record {
   settled = becomes.settled;
 }
 
+same_next : (image left : List ℕ) → Holds left (held image) → HoldsNext image left
+same_next image left same = record { opens = same.opens; next = inl same.is }
+
+moved_next : (image left : List ℕ) (next : Held) → IsMigration image next → Holds left next → HoldsNext image left
+moved_next image left next moves is = record { opens = is.opens; next = inr (subst (IsMigration image) (sym is.is) moves) }
+
 regated_keeps : (image left : List ℕ) → image_fault image ≡ None → StaysWithin image left → KeepsForms image left
 regated_keeps image left opens stays = record {
-  holds = stays.holds;
+  holds = elim stays.holds [ inl same ↦ inl (same_next image left same) | inr of_image ↦ inr of_image ];
   forms = λ form opened. elim (stays.forms form opened) [
-    | inl is ↦ inl (subst (λ (i : List ℕ). Holds i (held image)) (sym is) (record { opens = opens; is = refl }))
+    | inl is ↦ inl (subst (HoldsNext image) (sym is) (same_next image image (record { opens = opens; is = refl })))
     | inr of_image ↦ inr of_image
   ];
   settled = stays.settled;
@@ -50,32 +66,87 @@ regated_keeps image left opens stays = record {
 
 same_keeps : (image left : List ℕ) → HoldsSame image left → KeepsForms image left
 same_keeps image left same = record {
-  holds = inl same.holds;
-  forms = λ form opened. inl (same.forms form opened);
+  holds = inl (same_next image left same.holds);
+  forms = λ form opened. inl (same_next image form (same.forms form opened));
   settled = same.settled;
 }
 
+-- on the way to version 2
+migrating : (image left : List ℕ) → IsMigrating image left → HoldsNext image left
+migrating image left moves = elim moves.becomes.holds [
+  | inl old ↦ same_next image left old
+  | inr new ↦ moved_next image left moves.next moves.is_migration new
+]
+
+migrating_form : (image left form : List ℕ) → IsMigrating image left → IsOpenedForm left form → HoldsNext image form
+migrating_form image left form moves opened = moved_next image form moves.next moves.is_migration (moves.becomes.forms form opened)
+
+moved_keeps : (image left : List ℕ) → IsMigrating image left → KeepsForms image left
+moved_keeps image left moves = record {
+  holds = inl (migrating image left moves);
+  forms = λ form opened. inl (migrating_form image left form moves opened);
+  settled = moves.becomes.settled;
+}
+
 -- an opening that is cut off
-pub stays_opened : (image left : List ℕ) → image_fault image ≡ None → HasOneClosed image → Settles image left → KeepsForms image left
-stays_opened image left opens one (inl regates) = regated_keeps image left opens (stays_within image left opens one regates)
-stays_opened image left opens one (inr becomes) = same_keeps image left (holds_same image left becomes)
+pub stays_opened : (image left : List ℕ) → image_fault image ≡ None → HasOneClosed image → LeftByOpening image left → KeepsForms image left
+stays_opened image left opens one (inl (inl regates)) = regated_keeps image left opens (stays_within image left opens one regates)
+stays_opened image left opens one (inl (inr becomes)) = same_keeps image left (holds_same image left becomes)
+stays_opened image left opens one (inr moves) = moved_keeps image left moves
 
 -- ---- what is shown
 
+-- what is owed by the layer below: an image shows one state
+abbrev pub ShowsOne : Type 0
+ShowsOne = (image : List ℕ) (one other : State) → Shows image one → Shows image other → one ≡ other
+
 -- what holds the same as an image shows what the image shows
-same_shows : (image left : List ℕ) (state : State) → image_fault image ≡ None → Holds left (held image) → Shows left state → Shows image state
+same_shows : (image left : List ℕ) (state : State) → image_fault image ≡ None → held left ≡ held image → Shows left state → Shows image state
 same_shows image left state opens same shows = record {
   what = held image;
   holds = record { opens = opens; is = refl };
-  says = subst (λ (what : Held). Says what state) (sym shows.holds.is ∙ same.is) shows.says;
+  says = subst (λ (what : Held). Says what state) (sym shows.holds.is ∙ same) shows.says;
 }
 
-either_shows : (image left : List ℕ) (state : State) → image_fault image ≡ None → Holds left (held image) ⊎ IsOpenedForm image left
-    → Shows left state → IsShown image state
-either_shows image left state opens (inl same) shows = inl (same_shows image left state opens same shows)
-either_shows image left state opens (inr form) shows = inr (left, form, shows)
+-- the migration of an image shows the state that it was made of
+migration_shows : (image left : List ℕ) → image_fault left ≡ None → (moves : IsMigration image (held left)) → Shows left moves.state
+migration_shows image left opens moves =
+    let said : Says (held image) moves.state = subst (λ (what : Held). Says what moves.state) (sym moves.shows.holds.is) moves.shows.says in
+    record {
+      what = migrated moves.content (held image);
+      holds = record { opens = opens; is = moves.is };
+      says = says_migrated (held image) moves.state moves.content said moves.is_content;
+    }
+
+module _ (once : ShowsOne) (image left : List ℕ) (state : State) where
+  -- so what holds it shows the state of the image, and no other
+  pub shows_next : HoldsNext image left → Shows image state → Shows left state
+  shows_next holds shows = elim holds.next [
+    | inl same ↦ same_shows left image state holds.opens (sym same) shows
+    | inr moves ↦ subst (Shows left) (once image moves.state state moves.shows shows) (migration_shows image left holds.opens moves)
+  ]
+
+  moved_shows : image_fault left ≡ None → IsMigration image (held left) → Shows left state → Shows image state
+  moved_shows opens moves shows =
+      subst (Shows image) (once left moves.state state (migration_shows image left opens moves) shows) moves.shows
+
+  either_shows : image_fault image ≡ None → HoldsNext image left ⊎ IsOpenedForm image left → Shows left state → IsShown image state
+  either_shows opens (inr form) shows = inr (left, form, shows)
+  either_shows opens (inl holds) shows = elim holds.next [
+    | inl same ↦ inl (same_shows image left state opens same shows)
+    | inr moves ↦ inl (moved_shows holds.opens moves shows)
+  ]
 
 -- a state that is shown after an opening was shown before
-pub shown_before : (image left : List ℕ) (state : State) → image_fault image ≡ None → KeepsForms image left → IsShown left state → IsShown image state
-shown_before image left state opens keeps (inl shows) = either_shows image left state opens keeps.holds shows
-shown_before image left state opens keeps (inr (form, opened, shows)) = either_shows image form state opens (keeps.forms form opened) shows
+pub shown_before : ShowsOne → (image left : List ℕ) (state : State) → image_fault image ≡ None → KeepsForms image left → IsShown left state
+    → IsShown image state
+shown_before once image left state opens keeps (inl shows) = either_shows once image left state opens keeps.holds shows
+shown_before once image left state opens keeps (inr (form, opened, shows)) =
+    either_shows once image form state opens (keeps.forms form opened) shows
+
+-- a migration that is cut off shows the state of the image
+pub shown_throughout : ShowsOne → (image left : List ℕ) (state : State) → IsMigrating image left → Shows image state → ShowsThroughout left state
+shown_throughout once image left state moves shows = record {
+  shows = shows_next once image left state (migrating image left moves) shows;
+  forms = λ form opened. shows_next once image form state (migrating_form image left form moves opened) shows;
+}

@@ -87,7 +87,7 @@ module _ (law : OfItsKind) (image : List ℕ) (sound : image_fault image ≡ Non
   of_records first begins (inr bad) = inr (record_at image bad.0, inr (inr (inr (first, begins, (bad.0, bad.1, refl)))))
 
   of_content : (plan : PlanLines) → SaysBarePlan (held image).plan plan → plan.slots ≡ (held image).slots
-      → Decided ((state : State) × IsContentUnder plan (held image).content state) → Either
+      → Decided ((state : State) × IsContentUnder plan (held image).version (held image).content state) → Either
   of_content plan said same (inl content) = of_records content.0
       (record { plan = plan; said = said; same_slots = same; content = content.1 }) (led law content.0 (held image).records)
   of_content plan said same (inr off) =
@@ -96,7 +96,7 @@ module _ (law : OfItsKind) (image : List ℕ) (sound : image_fault image ≡ Non
   of_plan : Decided ((plan : PlanLines) × SaysBarePlan (held image).plan plan) → Either
   of_plan (inr off) = inr (PLAN_AT, inl ((λ plan said. off (plan, said)), refl))
   of_plan (inl (plan, said)) = elim (cases_eq plan.slots (held image).slots) [
-    | inl same ↦ of_content plan said same (decided_content plan (held image).content)
+    | inl same ↦ of_content plan said same (decided_content plan (held image).version (held image).content)
     | inr other ↦ inr (SLOT_COUNT_AT, inr (inl (plan, said, other, refl)))
   ]
 

@@ -6,5 +6,6 @@ returns c = record {
   regated = c.opening_stays.ensures;
   rewritten = holds_same;
   keeps = stays_opened;
-  shown = λ image left state opens one settles. shown_before image left state opens (stays_opened image left opens one settles);
+  shown = λ image left state opens one opening.
+      shown_before c.shows_one.ensures image left state opens (stays_opened image left opens one opening);
 }
