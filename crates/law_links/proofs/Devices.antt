@@ -76,7 +76,7 @@ module _ (once : ShowsOnce) (device : List ℕ) where
 
   left_have : (run : LifeRun) → IsRun run → HasOneClosed run.start → AllHave device run.start → AllHave device run.image
   left_have run is settled have state shown = elim is.moment.image_shows [
-    | inl opening ↦ have state (shown_at_start run is settled opening.1 state shown)
+    | inl opening ↦ have state (shown_at_start run is settled once opening.1 state shown)
     | inr served ↦ elim shown [
       | inl shows ↦
           ap (λ (s : State). s.device) (sym (once run.image _ state served.shows.shows shows))

@@ -6,9 +6,10 @@ use Rattle.std.proofs.lemmas.List.Elements.{All-append}
 use Rattle.std.proofs.lemmas.List.Kept.{AllPairs-cons}
 use Rattle.std.proofs.lemmas.Bool.Decides.{nat_tests}
 use Rattle.sdls_base.specs.declared.entry.Entry.{Entry}
-use Rattle.unit_image.specs.Image.{held, HasOneClosed, Holds, IsOpenedForm, Settles}
+use Rattle.unit_image.specs.Image.{held, HasOneClosed, IsOpenedForm}
+use Rattle.unit_image.specs.OpeningImage.{LeftByOpening}
 use Rattle.law_image.specs.Keeping.{IsShown, KeepsForms}
-use Rattle.law_image.proofs.Images.{shown_before, stays_opened}
+use Rattle.law_image.proofs.Images.{shown_before, shows_next, stays_opened}
 use Rattle.key_book.specs.declared.key_row.KeyRow.{KeyRow}
 use Rattle.record_io.specs.declared.kinds.RecordKind.{RecordKind}
 use Rattle.record_io.specs.declared.kinds.RecordKind.TheVariants.{Protect, Open, Command, Monitor}
@@ -22,7 +23,7 @@ use Rattle.unit_state.specs.Restart.{restarted, counts}
 use Rattle.unit_state.specs.History.{after, after_first, at_epoch, epoch_after}
 use Rattle.unit_state.proofs.Histories.{after_more, at_epoch_more}
 use Rattle.unit_state.proofs.StateLaws.{restarted_twice}
-use Rattle.unit_image.specs.Shows.{Says, Shows}
+use Rattle.unit_image.specs.Shows.{Shows}
 use Rattle.run_promise.specs.Numbers.{mark_of, floor_of, released_floor}
 use Rattle.run_promise.specs.Answers.{Uses, Accepts, Told, told_by, unbound_told, IsCodeOf}
 use Rattle.run_promise.specs.Fits.{Course, Fits, FitsKind, state_in}
@@ -124,14 +125,6 @@ pub record IsKnown (state : State) (given : Given) : Type 0 where
   pub floored : (key number : ℕ) → Accepts given.deed.answer key number → number ≤ floor_of state key
   pub named : (key : ℕ) (octets : List ℕ) (number : ℕ) → UsesOctets given key octets number → IsLoadedWith state key octets
   pub opened : (key : ℕ) (octets : List ℕ) (number : ℕ) → AcceptsOctets given key octets number → IsLoadedWith state key octets
-
--- an image that holds what another one holds shows the state that that one shows
-holding_shows : (start image : List ℕ) (state : State) → Shows start state → Holds image (held start) → Shows image state
-holding_shows start image state shows holds = record {
-  what = held start;
-  holds = holds;
-  says = subst (λ (what : _). Says what state) (sym shows.holds.is) shows.says;
-}
 
 -- a state that an image shows is one that a restart left
 left_restarted : (image : List ℕ) (state : State) → Shows image state → restarted state ≡ state
@@ -261,12 +254,12 @@ begins_left image initial = record {
 
 -- a run from an image of which at most one closed gate is not 0
 module _ (run : LifeRun) (is_run : IsRun run) (settled : HasOneClosed run.start) where
-  -- an opening that was cut off left nothing but the forms of the image at the start
-  kept : Settles run.start run.image → KeepsForms run.start run.image
-  kept settles = stays_opened run.start run.image is_run.shows.holds.opens settled settles
+  -- an opening that was cut off left nothing but the forms of the image at the start, or its migration
+  kept : LeftByOpening run.start run.image → KeepsForms run.start run.image
+  kept left = stays_opened run.start run.image is_run.shows.holds.opens settled left
 
-  pub shown_at_start : Settles run.start run.image → (state : State) → IsShown run.image state → IsShown run.start state
-  shown_at_start settles state shown = shown_before run.start run.image state is_run.shows.holds.opens (kept settles) shown
+  pub shown_at_start : ShowsOnce → LeftByOpening run.start run.image → (state : State) → IsShown run.image state → IsShown run.start state
+  shown_at_start once left state shown = shown_before once run.start run.image state is_run.shows.holds.opens (kept left) shown
 
   pub settled_after : HasOneClosed run.image
   settled_after = elim is_run.moment.image_shows [
@@ -436,7 +429,7 @@ module _ (once : ShowsOnce) (run : LifeRun) (is_run : IsRun run) where
     known_after : (state : State) → IsShown run.image state → All (IsKnown state) (given ++ new)
     known_after state shown = elim is_run.moment.image_shows [
       | inl opening ↦ All-append (IsKnown state) given new
-          (left.known state (shown_at_start run is_run left.settled opening.1 state shown)) (none_new opening.0 (IsKnown state))
+          (left.known state (shown_at_start run is_run left.settled once opening.1 state shown)) (none_new opening.0 (IsKnown state))
       | inr served ↦ elim shown [
         | inl shows ↦ to_shown served.p state (once run.image _ state served.shows.shows shows) (served_known served.p served.shows.within (served.covers served.p (omega arith) served.shows.within))
         | inr torn ↦
@@ -502,7 +495,7 @@ module _ (once : ShowsOnce) (run : LifeRun) (is_run : IsRun run) where
     shown_after : ShowsSome run.image
     shown_after = elim is_run.moment.image_shows [
       | inl opening ↦ elim (kept run is_run left.settled opening.1).holds [
-        | inl same ↦ (start, holding_shows run.start run.image start is_run.shows same)
+        | inl next ↦ (start, shows_next once run.start run.image start next is_run.shows)
         | inr opened ↦ left.forms_show run.image opened
       ]
       | inr served ↦ (restarted (after_first start entries served.p), served.shows.shows)
@@ -511,7 +504,7 @@ module _ (once : ShowsOnce) (run : LifeRun) (is_run : IsRun run) where
     forms_after : (form : List ℕ) → IsOpenedForm run.image form → ShowsSome form
     forms_after form opened = elim is_run.moment.image_shows [
       | inl opening ↦ elim ((kept run is_run left.settled opening.1).forms form opened) [
-        | inl same ↦ (start, holding_shows run.start form start is_run.shows same)
+        | inl next ↦ (start, shows_next once run.start form start next is_run.shows)
         | inr before ↦ left.forms_show form before
       ]
       | inr served ↦ let (q, above, within, shows) = served.shows.forms form opened in (restarted (after_first start entries q), shows)

@@ -18,7 +18,8 @@ use Rattle.sdls_outside.specs.Site as sites
 use Rattle.sdls_outside.proofs.Moments.{each_puts, each_then, each_weaker, moment_now}
 use Rattle.key_book.specs.declared.key_row.KeyRow.{KeyRow}
 use Rattle.key_book.specs.KeyBook.{AreKeyRows, place_of, row_of}
-use Rattle.unit_image.specs.Image.{held, OnlySyncs, Settles}
+use Rattle.unit_image.specs.Image.{held, OnlySyncs}
+use Rattle.unit_image.specs.OpeningImage.{LeftByOpening}
 use Rattle.law_image.proofs.Images.{only_syncs_moments}
 use Rattle.record_io.specs.declared.status.TheConstants.{DONE, SITE_FAULT}
 use Rattle.record_io.specs.Answers.{answer_octets}
@@ -273,7 +274,7 @@ module _ (told : Bool) (site back after : SiteSeen) (source : SourceSeen) (fault
 
   unopened : IsTrue told → EachMoment site.trace after.trace (IsUnopened call refused.end)
   unopened is_told =
-      let P : List ℕ → Type 0 = λ image. Leaves site.trace.now image ⊎ Settles site.trace.now.image image in
+      let P : List ℕ → Type 0 = λ image. Leaves site.trace.now image ⊎ LeftByOpening site.trace.now.image image in
       each_weaker site.trace after.trace
       (λ image sunk. P image × (sunk_since call sunk ≡ take (length (sunk_since call sunk)) (end_octets call refused.end))) (IsUnopened call refused.end)
       (λ image sunk h. record { image_is = h.0; only_end = h.1 }) (with_end P is_told (refused.opening is_told))

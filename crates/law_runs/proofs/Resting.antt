@@ -6,7 +6,7 @@ use Rattle.std.proofs.lemmas.Option.{none-some}
 use Rattle.sdls_base.specs.declared.entry.Entry.{Entry}
 use Rattle.sdls_outside.specs.Disk.{Leaves}
 use Rattle.unit_image.specs.Image.{HasOneClosed, IsClosedGate, IsOpenedForm}
-use Rattle.law_image.proofs.Images.{records_of}
+use Rattle.law_image.proofs.Images.{moves_not_open, records_of}
 use Rattle.unit_plan.specs.PlanLines.{PlanLines}
 use Rattle.unit_plan.specs.PlanRules.{IsPlan}
 use Rattle.unit_state.specs.declared.state.State.{State}
@@ -56,16 +56,20 @@ no_records course plan_is rules empty =
     subst (λ (entries : List Entry). IsSound (record course { entries = entries }) [] []) (sym empty) (none_sound course plan_is rules)
 
 -- Of an image with no opened form only the gate of the other bank may be closed and not 0: the first slot that is closed
--- has a gate that is not open.
+-- has a gate that is not open, and so has the octet that migrates an image of version 1.
 none_settled : (image : List ℕ) → ((form : List ℕ) → ¬ IsOpenedForm image form) → HasOneClosed image
 none_settled image none = record { one = one; opened = λ form at is closed. absurd (none form is) }
   where
     one : (at beside : ℕ) → IsClosedGate image at → IsClosedGate image beside → at ≡ beside
     one at beside (some, inl (few, is)) closed =
         absurd (none _ (at, (some, inl (few, is)), λ opened. (records_of image).closed few (ap (slice_index image) (sym is) ∙ opened), refl))
-    one at beside (some, inr is) (other, inl (few, is_slot)) =
+    one at beside (some, inr (inr (old_is, is))) closed =
+        absurd (none _ (at, (some, inr (inr (old_is, is))), λ opened. moves_not_open image old_is (ap (slice_index image) (sym is) ∙ opened), refl))
+    one at beside (some, inr (inl is)) (other, inr (inr (old_is, is_moves))) =
+        absurd (none _ (beside, (other, inr (inr (old_is, is_moves))), λ opened. moves_not_open image old_is (ap (slice_index image) (sym is_moves) ∙ opened), refl))
+    one at beside (some, inr (inl is)) (other, inl (few, is_slot)) =
         absurd (none _ (beside, (other, inl (few, is_slot)), λ opened. (records_of image).closed few (ap (slice_index image) (sym is_slot) ∙ opened), refl))
-    one at beside (some, inr is) (other, inr same) = is ∙ sym same
+    one at beside (some, inr (inl is)) (other, inr (inl same)) = is ∙ sym same
 
 module _ (one : (image : List ℕ) (a b : State) → Shows image a → Shows image b → a ≡ b) (call : CallSeen) (plan : PlanLines) (state : State)
     (shows : ShowsAtEntry call plan state) where

@@ -2,7 +2,8 @@
 use Rattle.std.specs.Prelude.{◌⊎◌, ℕ, IsTrue, List, []}
 use Rattle.sdls_outside.specs.Disk.{Leaves}
 use Rattle.sdls_outside.specs.Moments.{EachMoment}
-use Rattle.unit_image.specs.Image.{IsOpenedForm, Settles}
+use Rattle.unit_image.specs.Image.{IsOpenedForm}
+use Rattle.unit_image.specs.OpeningImage.{LeftByOpening}
 use Rattle.unit_state.specs.declared.state.State.{State}
 use Rattle.unit_state.specs.Restart.{restarted}
 use Rattle.unit_image.specs.Shows.{Shows}
@@ -17,10 +18,10 @@ abbrev pub StillShows : CallSeen → List ℕ → Type 0
 StillShows call image = (state : State) × Shows (image_at_entry call) state × Shows image (restarted state)
     × ((form : List ℕ) → ¬ IsOpenedForm image form)
 
--- a crash then leaves what one at the entry may leave too, or the image at the entry but for its closed gates, or one
--- that still shows what that shows
+-- a crash then leaves what one at the entry may leave too, or what the opening of the image at the entry may leave, or
+-- one that still shows what that shows
 abbrev pub IsRead : CallSeen → List ℕ → Type 0
-IsRead call image = Leaves call.site.trace.now image ⊎ (Settles (image_at_entry call) image ⊎ StillShows call image)
+IsRead call image = Leaves call.site.trace.now image ⊎ (LeftByOpening (image_at_entry call) image ⊎ StillShows call image)
 
 -- each moment of the call is such
 abbrev pub ReadsAlone : CallSeen → Type 0

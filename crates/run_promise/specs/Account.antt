@@ -17,7 +17,7 @@ use Rattle.run_promise.specs.Deed.{Deed, deed_of}
 use Rattle.run_promise.specs.declared.end.RunEnd.{RunEnd}
 use Rattle.run_promise.specs.declared.end.RunEnd.TheVariants.{Ended, Malformed, SourceFault, SiteFault, NoMemory}
 use Rattle.run_promise.specs.declared.end.RunEnd.TheVariants.{NoState, SessionFull, PutFailed}
-use Rattle.run_promise.specs.Call.{CallSeen, image_at_entry}
+use Rattle.run_promise.specs.Call.{CallSeen}
 
 -- What a run did: what ended it and the end that it told; the items that it read, with their octets and those taken of
 -- a part behind them; the records that it handled and its one list of answers; and the site's count of faults when the

@@ -1,5 +1,5 @@
 -- How a run ends, and that it is sound (profile).
-use Rattle.std.specs.Prelude.{◌≡◌, ◌≢◌, ◌⊎◌, ℕ, ◌+◌, ◌<◌, ◌≤◌, IsTrue, List, [], length, take, drop}
+use Rattle.std.specs.Prelude.{◌≡◌, ◌≢◌, ◌⊎◌, ℕ, ◌<◌, ◌≤◌, IsTrue, List, [], length, take, drop}
 use Rattle.std.specs.Prelude.{slice_index, Some}
 use Rattle.std.specs.List.{All}
 use Rattle.sdls_base.specs.declared.TheConstants.{MOST_KEYS}
@@ -7,7 +7,7 @@ use Rattle.sdls_base.specs.declared.entry.Entry.{Entry}
 use Rattle.sdls_outside.specs.Faults.{Rose}
 use Rattle.sdls_outside.specs.Disk.{Leaves}
 use Rattle.sdls_outside.specs.Moments.{EachMoment}
-use Rattle.unit_image.specs.Image.{Settles}
+use Rattle.unit_image.specs.OpeningImage.{LeftByOpening}
 use Rattle.key_book.specs.KeyBook.{place_of}
 use Rattle.record_io.specs.declared.status.TheConstants as status
 use Rattle.record_io.specs.Places.{records_of}
@@ -87,10 +87,10 @@ pub record ServesSoundly (call : CallSeen) (account : Account) (plan : PlanLines
 abbrev pub IsOpenRefusal : ℕ → RunEnd → Type 0
 IsOpenRefusal offset came = (came ≡ NoState offset) ⊎ (((count : ℕ) × (came ≡ SiteFault count)) ⊎ (came ≡ NoMemory))
 
--- A moment of a call whose book was not opened: the image is one that a crash at the entry may leave, or that at the
--- entry but for its closed gates; nothing but End was sunk.
+-- A moment of a call whose book was not opened: the image is one that a crash at the entry may leave, or one that the
+-- opening of that at the entry may leave; nothing but End was sunk.
 pub record IsUnopened (call : CallSeen) (told : RunEnd) (image sunk : List ℕ) : Type 0 where
-  pub image_is : Leaves call.site.trace.now image ⊎ Settles (image_at_entry call) image
+  pub image_is : Leaves call.site.trace.now image ⊎ LeftByOpening (image_at_entry call) image
   pub only_end : sunk_since call sunk ≡ take (length (sunk_since call sunk)) (end_octets call told)
 
 -- A refused image: no book was opened, so nothing was taken of the source, and nothing is put but End. Where that is

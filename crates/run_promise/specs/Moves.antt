@@ -1,22 +1,19 @@
 -- Which move of the words an answer tells, if its record was of one lane alone (profile).
-use Rattle.std.specs.Prelude.{◌≡◌, ⊤, ◌⊎◌, ℕ, ◌-◌, ◌≤◌, List, [], ◌∷◌, length, slice_get, Some}
-use Rattle.sdls_base.specs.declared.change.Change.{Change}
+use Rattle.std.specs.Prelude.{◌≡◌, ⊤, ◌⊎◌, ℕ, ◌-◌, ◌≤◌, List, [], ◌∷◌, slice_get, Some}
 use Rattle.sdls_base.specs.declared.entry.Entry.{Entry}
 use Rattle.sdls_base.specs.declared.entry.Seen.{Seen}
 use Rattle.sdls_base.specs.declared.entry.Seen.TheVariants as seens
 use Rattle.key_book.specs.KeyBook.{place_of}
 use Rattle.ep_core.specs.declared.need.Need.{Need}
 use Rattle.ep_core.specs.declared.need.Need.TheVariants as needs
-use Rattle.ep_core.specs.declared.reply.Reply.{Reply}
 use Rattle.record_io.specs.declared.code.TheConstants.{PROTECTED, CLEAR, DONE, REFUSED, LAYOUT, STATE, EXHAUSTED}
 use Rattle.record_io.specs.declared.kinds.RecordKind.{RecordKind}
 use Rattle.record_io.specs.declared.kinds.RecordKind.TheVariants.{Protect, Open, Command, Monitor}
 use Rattle.record_io.specs.declared.records.Record.{Record}
 use Rattle.unit_state.specs.declared.state.State.{State}
 use Rattle.unit_state.specs.History.{after, after_first}
-use Rattle.run_promise.specs.Entries.{IsNeedOf, IsStepOf}
-use Rattle.run_promise.specs.Legal.{AsksFor, KeyOf}
-use Rattle.run_promise.specs.Numbers.{mark_of}
+use Rattle.run_promise.specs.Entries.{IsNeedOf}
+use Rattle.run_promise.specs.Legal.{AsksFor}
 use Rattle.run_promise.specs.Deed.{Deed}
 use Rattle.run_promise.specs.Machine.{Move, Kept, Found, Drew, Raised, Overdrew}
 

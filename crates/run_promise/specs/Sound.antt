@@ -2,7 +2,7 @@
 use Rattle.std.specs.Prelude.{◌≡◌, ◌≢◌, ◌⊎◌, ⊤, ℕ, ◌-◌, ◌<◌, ◌≤◌, IsTrue, List, [], ◌∷◌, ◌++◌, length, map, take}
 use Rattle.std.specs.List.{All, AllPairs}
 use Rattle.replay_window.specs.declared.TheConstants.{MOST_BACK}
-use Rattle.unit_image.specs.Image.{Settles}
+use Rattle.unit_image.specs.OpeningImage.{LeftByOpening}
 use Rattle.record_io.specs.Places.{Place, records_of}
 use Rattle.record_io.specs.declared.code.TheConstants.{SITE_FAULT}
 use Rattle.record_io.specs.Answers.{answer_octets, answers_octets}
@@ -68,9 +68,9 @@ pub record ShowsServed (course : Course) (deeds : List Deed) (image : List ℕ) 
   pub covers : (q : ℕ) → p ≤ q → q ≤ length course.entries → EachBegun (IsCoveredBy course q) count deeds
 
 -- A moment of the run: what was sunk is a front of the octets of the answers and of End. While the book is opened no
--- answer was begun and the image is that at the start, but for its closed gates; while it serves, what the image shows
--- covers the answers that were begun.
+-- answer was begun, and the image is one that the opening of that at the start may leave; while it serves, what the image
+-- shows covers the answers that were begun.
 pub record SoundMoment (course : Course) (deeds : List Deed) (ends : List ℕ) (start image sunk : List ℕ) : Type 0 where
   pub front : sunk ≡ take (length sunk) (deeds_octets deeds ++ ends)
-  pub image_shows : (EachBegun (λ deed. ⊥) (length sunk) deeds × Settles start image)
+  pub image_shows : (EachBegun (λ deed. ⊥) (length sunk) deeds × LeftByOpening start image)
       ⊎ ShowsServed course deeds image (length sunk)
