@@ -1,5 +1,5 @@
 -- Permits to open: they are true where the book gives them, stay true, and open frames in the book of their epoch.
-use Rattle.std.proofs.Common.{◌≡◌, ◌⊎◌, inl, inr, ℕ, Bool, Option, Some, None, sym, ap, subst, ◌∙◌, arith}
+use Rattle.std.proofs.Common.{◌≡◌, inl, inr, ℕ, Bool, Option, Some, None, sym, ap, subst, ◌∙◌, arith}
 use Rattle.std.specs.Prelude.{IsSomeAnd}
 use Rattle.unit_plan.specs.PlanLines.{PlanLines}
 use Rattle.unit_state.specs.declared.state.State.{State}

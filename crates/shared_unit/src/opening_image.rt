@@ -101,8 +101,7 @@ impl<O: Site> Unit<O> {
             (λ offset. IsTrue O.told → ShowsNone (O.trace site).now.image offset
             × OnlySyncs (O.trace site) (O.trace refused.1)) refused.0) }
 
-        // A crash at any moment leaves what one before may have left, or the image with other octets in its closed
-        // gates, or one that holds what the image held.
+        // A crash at any moment leaves what one before may have left, or what the opening of the image may leave.
         ensures any_moment { IfErr result (λ refused. IsTrue O.told
             → EachMoment (O.trace site) (O.trace refused.1) (Opening (O.trace site))) }
         ensures later { IfErr result (λ refused. O.faults site ≤ O.faults refused.1) }

@@ -41,7 +41,7 @@ RefusesMessage index octets seen old new fault = (IsBarred old fault × (new ≡
     ⊎ (CanEnter old × ((step : Change × Reply) × IsStepOf old.state octets seen step
     × IsUnstored (record_entry index seen step.0) old new fault))
 
--- Where the entry that was made takes away the octets of keys, each octet of both banks of each image that a crash may
+-- Where the entry that was made takes away the octets of keys, each octet of all banks of each image that a crash may
 -- leave is stated: the banks hold the new state, with no records.
 abbrev pub LeavesNoOctets : BookView → BookView → Type 0
 LeavesNoOctets old new = (entry : Entry) → new.log ≡ old.log ++ logged.Entry entry ∷ [] → Destroys entry.change

@@ -1,7 +1,7 @@
 // The beginning of a book, and its end.
 ghost use Rattle.std.specs.Prelude.{◌≡◌, ◌≤◌, IsTrue, [], vec_capacity, vec_len};
-ghost use Rattle.image_content.specs.declared.layout.TheConstants.{CONTENT_LENGTH};
-ghost use Rattle.unit_image.specs.Image.{IsSettled};
+ghost use Rattle.sdls_base.specs.declared.version.TheConstants.{CONTENT_LENGTH_TWO};
+ghost use Rattle.unit_image.specs.Image.{IsOfTwo, IsSettled};
 ghost use Rattle.unit_state.specs.State.{KeepsRules};
 ghost use Rattle.unit_state.specs.Restart.{restarted};
 ghost use Rattle.unit_image.specs.Shows.{Shows};
@@ -30,7 +30,8 @@ impl<O: Site> Book<O> {
         requires settled { IsTrue O.told → IsSettled (O.trace site) found.journal }
         requires shows { IsTrue O.told → Shows (O.trace site).now.image (restarted found.state) }
         requires entries { (entries.items ≡ []) × (MOST_ENTRIES ≤ vec_capacity entries) }
-        requires room { vec_len room ≡ CONTENT_LENGTH }
+        requires room { vec_len room ≡ CONTENT_LENGTH_TWO }
+        requires version { IsOfTwo found.journal }
         ensures view { result ≡ begun (site_seen O.trace O.faults O.put_faults site) (O.trace taken.value).now.image
             found.plan found.state found.journal }
         ensures kept { IsKept O.told result }

@@ -52,7 +52,8 @@ impl<O: Site> Model for Book<O> {
     ghost use Rattle.run_promise.specs.Site.{site_seen};
     ghost use Rattle.unit_book.specs.Log.{lines};
     ghost use Rattle.run_promise.specs.declared.limits.TheConstants.{MOST_ENTRIES};
-    ghost use Rattle.image_content.specs.declared.layout.TheConstants.{CONTENT_LENGTH};
+    ghost use Rattle.sdls_base.specs.declared.version.TheConstants.{CONTENT_LENGTH_TWO};
+    ghost use Rattle.unit_image.specs.Image.{IsOfTwo};
     ghost use Rattle.unit_book.specs.Book.{BookView};
     ghost use Rattle.std.specs.Coded.{codes, coded_ℕ};
     ghost use Rattle.std.specs.FinSet as set;
@@ -78,7 +79,8 @@ impl<O: Site> Model for Book<O> {
     ghost invariant = { λ book. (book.faults ≡ O.faults book.opened.value)
         × (book.entries.items ≡ entries_of (lines O.trace book.log))
         × (book.standing ≤ length book.entries.items) × (book.changes ≤ book.standing)
-        × (MOST_ENTRIES ≤ vec_capacity book.entries) × (vec_len book.room ≡ CONTENT_LENGTH) };
+        × (MOST_ENTRIES ≤ vec_capacity book.entries) × (vec_len book.room ≡ CONTENT_LENGTH_TWO)
+        × IsOfTwo book.journal };
 }
 
 impl<O: Site> Book<O> {

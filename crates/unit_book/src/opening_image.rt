@@ -2,22 +2,22 @@
 ghost use Rattle.std.specs.Prelude.{◌≡◌, ◌≤◌, IsTrue, Ok, IfOk, IfErr, OnOk, MatchResult, [], vec_capacity, vec_len};
 ghost use Rattle.sdls_outside.specs.Disk.{Leaves};
 ghost use Rattle.sdls_outside.specs.Moments.{EachMoment};
-ghost use Rattle.image_content.specs.declared.layout.TheConstants.{CONTENT_LENGTH};
-ghost use Rattle.unit_image.specs.Image.{held, IsSettled, OnlySyncs, used_of};
+ghost use Rattle.sdls_base.specs.declared.version.TheConstants.{CONTENT_LENGTH_TWO};
+ghost use Rattle.unit_image.specs.Image.{held, IsOfTwo, IsSettled, OnlySyncs, used_next};
 ghost use Rattle.unit_plan.specs.Plan.{plan_of};
 ghost use Rattle.unit_state.specs.State.{KeepsRules};
 ghost use Rattle.unit_image.specs.Shows.{Shows, ShowsNone};
-ghost use Rattle.unit_image.specs.OpeningImage.{HasOpenFault, IsOpenCause, Opening};
+ghost use Rattle.unit_image.specs.OpeningImage.{HasOpenFault, IsHeldNext, IsOpenCause, Opening};
 ghost use Rattle.unit_image.specs.OpeningImage.{StandsUnlessFailed};
 ghost use Rattle.unit_book.specs.Book.{IsKept, begun};
 
 use crate::book::Book;
 use run_promise::MOST_ENTRIES;
-use sdls_base::Entry;
+use sdls_base::{CONTENT_LENGTH_TWO, Entry};
 use sdls_outside::{Failed, Site};
 use std::alloc::{AllocError, Global};
 use std::snapshot::Snapshot;
-use unit_image::{CONTENT_LENGTH, OpenFault, Opened};
+use unit_image::{OpenFault, Opened};
 
 /// What a book begins with: what the image shows, and rooms for the entries and for a content.
 #[derive(Drop)]
@@ -29,21 +29,22 @@ struct Started {
 
 /// Room for the content of a bank.
 fn content_room(alloc: Global) -> Result<Vec<u8>, AllocError>
-    ensures { IfOk result (λ room. vec_len room ≡ CONTENT_LENGTH) }
+    ensures { IfOk result (λ room. vec_len room ≡ CONTENT_LENGTH_TWO) }
 {
-    vec![in alloc; 0; CONTENT_LENGTH]
+    vec![in alloc; 0; CONTENT_LENGTH_TWO]
 }
 
 /// Starts a run on the site, reserves the rooms, and opens the image.
 fn start<O: Site>(alloc: Global, site: &mut O) -> Result<Started, OpenFault>
     ensures entries { IfOk result (λ begun. (begun.entries.items ≡ [])
         × (MOST_ENTRIES ≤ vec_capacity begun.entries)) }
-    ensures room { IfOk result (λ begun. vec_len begun.room ≡ CONTENT_LENGTH) }
+    ensures room { IfOk result (λ begun. vec_len begun.room ≡ CONTENT_LENGTH_TWO) }
     ensures settled { IsTrue O.told → IfOk result (λ begun. IsSettled (O.trace site.new) begun.found.journal) }
     ensures shows { IsTrue O.told → IfOk result (λ begun. Shows (O.trace site.old).now.image begun.found.state
         × Shows (O.trace site.new).now.image begun.found.state) }
-    ensures holds { IsTrue O.told → OnOk result (held (O.trace site.new).now.image
-        ≡ held (O.trace site.old).now.image) }
+    ensures version { IfOk result (λ begun. IsOfTwo begun.found.journal) }
+    ensures holds { IsTrue O.told → OnOk result
+        (IsHeldNext (O.trace site.old).now.image (held (O.trace site.new).now.image)) }
     ensures plan { IsTrue O.told → IfOk result (λ begun.
         plan_of (held (O.trace site.old).now.image).plan ≡ Ok begun.found.plan) }
     ensures rules { IfOk result (λ begun. KeepsRules begun.found.state) }
@@ -75,7 +76,7 @@ fn start<O: Site>(alloc: Global, site: &mut O) -> Result<Started, OpenFault>
 
 impl<O: Site> Book<O> {
     /// Opens the image of a site: starts a run on it, reserves the room for the entries and for a content, makes all
-    /// checks of the image, and brings its journal to rest.
+    /// checks of the image, brings its journal to rest, and brings an image of version 1 up to version 2.
     ///
     /// An answer `Image`, with the offset of the first check that fails, says that the image shows no state; nothing is
     /// written then. Each other refusal is a fault of the site, or memory ran out.
@@ -86,8 +87,8 @@ impl<O: Site> Book<O> {
         // The image that was read, and the one that the opening left, show the state at the start.
         ensures shows { IsTrue O.told → IfOk result (λ book. Shows (O.trace site).now.image book.start
             × Shows book.site.trace.now.image book.start) }
-        // The journal has as many records as the image that was read.
-        ensures used { IsTrue O.told → IfOk result (λ book. book.journal.used ≡ used_of (O.trace site).now.image) }
+        // The journal has as many records as the image that was read, or none if that one was of version 1.
+        ensures used { IsTrue O.told → IfOk result (λ book. book.journal.used ≡ used_next (O.trace site).now.image) }
         ensures plan { IsTrue O.told → IfOk result (λ book. plan_of (held (O.trace site).now.image).plan
             ≡ Ok book.plan) }
 
@@ -96,8 +97,7 @@ impl<O: Site> Book<O> {
             (λ offset. IsTrue O.told → ShowsNone (O.trace site).now.image offset
             × OnlySyncs (O.trace site) (O.trace refused.1)) refused.0) }
 
-        // A crash at any moment leaves what one before may have left, or the image but for its closed gates, or one
-        // that shows the same.
+        // A crash at any moment leaves what one before may have left, or what the opening of the image may leave.
         ensures any_moment { IsTrue O.told → MatchResult result
             (λ book. EachMoment (O.trace site) book.site.trace (Opening (O.trace site)))
             (λ refused. EachMoment (O.trace site) (O.trace refused.1) (Opening (O.trace site))) }

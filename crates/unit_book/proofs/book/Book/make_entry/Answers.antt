@@ -1,4 +1,4 @@
-use Rattle.std.proofs.Common.{◌≡◌, sym, subst}
+use Rattle.std.proofs.Common.{sym, subst}
 use Rattle.unit_book.specs.Book.{BookView, Enters, IsKept}
 use Rattle.unit_book.proofs.Keeping.{Ready, ready_of, kept_stored, kept_failed, enters, kept_left_out}
 use Rattle.unit_book.proofs.book.Book.make_entry.Goals as goal

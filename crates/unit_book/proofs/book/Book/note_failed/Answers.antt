@@ -7,7 +7,7 @@ pub invariant_of-self : goal.invariant_of-self
 invariant_of-self g c =
     let longer : length c.push_reserved.new.self.items ≡ length c.self.inside.entries.items + 1 =
     ap (λ (es : List Entry). length es) c.push_reserved.ensures.items ∙ length-append c.self.inside.entries.items (c.args.entry ∷ []) in
-    let (same, is, low, few, room, sized) = c.self.invariant in
+    let (same, is, low, few, room, sized, two) = c.self.invariant in
     let grows = c.push_reserved.ensures.capacity in (
       same,
       entries_pushed _ _ _ _ _ is c.push_reserved.ensures.items (c.with_entry.ensures g.O.Site.trace),
@@ -15,4 +15,5 @@ invariant_of-self g c =
       few,
       omega arith,
       sized,
+      two,
     )

@@ -10,4 +10,4 @@ pub returns-in-Ok-clause-used : goal.returns-in-Ok-clause-used
 returns-in-Ok-clause-used g c = λ told.
     ap (λ (b : BookView). b.journal.used) c.new.ensures.view
     ∙ used_held (g.O.Site.trace c.start.new.site) c.in-Ok.field-0.found.journal (g.O.Site.trace c.args.site).now.image
-    (c.in-Ok.ensures.settled told) (c.in-Ok.ensures.holds told)
+    (c.in-Ok.ensures.settled told) c.in-Ok.ensures.version (c.in-Ok.ensures.holds told)

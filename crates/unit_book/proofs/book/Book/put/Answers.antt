@@ -6,8 +6,8 @@ use Rattle.unit_book.proofs.book.Book.put.Goals as goal
 
 pub invariant_of-self : goal.invariant_of-self
 invariant_of-self g c =
-    let (same, is, low, few, room, sized) = c.self.invariant in
-    (same, entries_put _ _ _ _ is (c.with_piece.ensures g.O.Site.trace), low, few, room, sized)
+    let (same, is, low, few, room, sized, two) = c.self.invariant in
+    (same, entries_put _ _ _ _ is (c.with_piece.ensures g.O.Site.trace), low, few, room, sized, two)
 
 pub returns-clause-kept : goal.returns-clause-kept
 returns-clause-kept g c =
