@@ -277,7 +277,7 @@ A space link security unit (CCSDS 355.0-B-2 and 355.1-B-1). It works on the file
   check KEY    reads one AOS transfer frame, and prints its data field or the first check that failed;
                KEY has 32 or 64 hexadecimal digits
   init         reads a plan, and makes unit.img, the image of a unit
-  stat         prints the state in unit.img; what a crash tore is repaired
+  stat         prints the state in unit.img; repairs what a crash tore, migrates an old image
   run          reads recorded input, serves it with unit.img, and writes an answer for each record;
                both are octets, which `sdls_text` makes from text and prints as text
   drill N      protects and opens N generated frames with two units in memory, and prints the counts

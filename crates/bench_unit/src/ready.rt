@@ -5,8 +5,8 @@ ghost use Rattle.counter_table.specs.Worker.{view};
 ghost use Rattle.shared_unit.specs.Turn.{IsReady};
 
 use crate::rate::nanos_since;
-use disk_journal::CONTENT_LENGTH;
 use image_beginning::create_image;
+use sdls_base::CONTENT_LENGTH_TWO;
 use sdls_outside::MemSite;
 use shared_unit::{PermitReply, Protected, Ready, Unit, Worker};
 use std::alloc::Global;
@@ -46,7 +46,7 @@ fn site_of_plan(alloc: Global) -> Option<MemSite> {
     let Ok(state) = State::initial(alloc, &plan) else {
         return None;
     };
-    let Ok(mut content) = vec![in alloc; 0; CONTENT_LENGTH] else {
+    let Ok(mut content) = vec![in alloc; 0; CONTENT_LENGTH_TWO] else {
         return None;
     };
     let mut bare = [0; 256];

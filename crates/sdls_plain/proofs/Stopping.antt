@@ -8,13 +8,15 @@ use Rattle.sdls_outside.specs.Output.{OnlySinks}
 use Rattle.sdls_outside.proofs.Moments.{each_same, each_then, each_weaker, moment_now}
 use Rattle.image_parts.specs.declared.layout.TheConstants.{HEADER_LENGTH}
 use Rattle.image_parts.specs.Changes.{AllBut}
-use Rattle.disk_journal.specs.Initial.{IsLaid, initial_image}
+use Rattle.disk_journal.specs.Initial.{IsLaid, created_image}
 use Rattle.disk_journal.specs.Fault.{image_fault}
-use Rattle.disk_journal.proofs.Verdicts.{short_verdict}
+use Rattle.disk_journal.proofs.Refused.{short_verdict}
 use Rattle.unit_plan.specs.PlanLines.{PlanLines}
 use Rattle.unit_state.specs.declared.state.State.{State}
 use Rattle.plan_bare.specs.Bare.{bare_of}
 use Rattle.image_content.specs.Content.{content_of}
+use Rattle.disk_journal.specs.declared.layout.HeaderForm.TheVariants.{New}
+use Rattle.sdls_base.specs.declared.version.Version.TheVariants.{Two}
 use Rattle.image_beginning.specs.Beginning.{SaysPlan, image_of_plan}
 use Rattle.sdls_plain.specs.Init.{IsNoneOrInitial, LeavesNoOther}
 use Rattle.sdls_plain.proofs.Making.{said_whole}
@@ -38,19 +40,19 @@ before_reading IsInput input trace is empty = (input, is, before_writing input t
 
 -- an initial image, but for the gate of its header, is refused or whole: what the law `cut_beginning` says
 abbrev pub CutsOff : Type 0
-CutsOff = (plan : List ℕ) (slots : ℕ) (content image : List ℕ) → AllBut 0 1 (initial_image plan slots content) image
-    → (image_fault image ≡ Some 0) ⊎ (image ≡ initial_image plan slots content)
+CutsOff = (plan : List ℕ) (slots : ℕ) (content image : List ℕ) → AllBut 0 1 (created_image New plan slots content) image
+    → (image_fault image ≡ Some 0) ⊎ (image ≡ created_image New plan slots content)
 
 whole : CutsOff → (text : List ℕ) (plan : PlanLines) (first : State) → SaysPlan text plan first → (image : List ℕ)
     → AllBut 0 1 (image_of_plan text plan first) image → IsNoneOrInitial text image
-whole cut text plan first says image change = elim (cut (bare_of text) plan.slots (content_of first) image change) [
+whole cut text plan first says image change = elim (cut (bare_of text) plan.slots (content_of Two first) image change) [
   | inl refused ↦ inl (inl refused)
   | inr is ↦ inr (plan, first, says, is)
 ]
 
 -- the image of the plan is written
 pub while_writing : CutsOff → (text : List ℕ) (plan : PlanLines) (first : State) (old mid new : Trace) → SaysPlan text plan first
-    → IsLaid (bare_of text) plan.slots (content_of first) old mid new → EachMoment old new (AtMoment text)
+    → IsLaid New (bare_of text) plan.slots (content_of Two first) old mid new → EachMoment old new (AtMoment text)
 while_writing cut text plan first old mid new says laid =
     let early : EachMoment old mid (AtMoment text) =
     each_weaker old mid (λ image sunk. (image_fault image ≡ Some 0) × (sunk ≡ old.now.sunk)) (AtMoment text)

@@ -8,7 +8,7 @@ use Rattle.sdls_outside.specs.Site.{Sank}
 use Rattle.sdls_outside.proofs.Moments.{each_then, each_weaker, moment_now}
 use Rattle.sdls_base.specs.declared.entry.Logged.{Logged}
 use Rattle.sdls_base.specs.declared.entry.Logged.TheVariants as logged
-use Rattle.unit_image.specs.Image.{held, IsAtRest, OnlySyncs, used_of}
+use Rattle.unit_image.specs.Image.{held, IsAtRest, OnlySyncs, used_next}
 use Rattle.image_parts.proofs.Moments.{only_syncs_moments}
 use Rattle.unit_plan.specs.Plan.{plan_of}
 use Rattle.status_text.specs.Text.{status_text}
@@ -115,7 +115,7 @@ book_moments told old new piece made none first kept is_told =
 -- what is told of the book is what is due for the image that it was opened on
 pub told_due : (told : Bool) (rose : Type 0) (image text : List ℕ) (book : BookView) (end : StatEnd) → TellsBook book text end
     → (IsTrue told → plan_of (held image).plan ≡ Ok book.plan) → (IsTrue told → Shows image book.state)
-    → (IsTrue told → book.journal.used ≡ used_of image) → StatDue told rose image text end
+    → (IsTrue told → book.journal.used ≡ used_next image) → StatDue told rose image text end
 told_due told rose image text book Told tells plan shows used = λ is. record {
   plan = book.plan;
   state = book.state;

@@ -2,7 +2,8 @@
 use Rattle.std.specs.Prelude.{◌≡◌, ◌⊎◌, ℕ, Bool, IsTrue, List, ◌++◌, codes, decimal, Ok}
 use Rattle.sdls_outside.specs.Disk.{Leaves}
 use Rattle.sdls_outside.specs.Moments.{Trace, EachMoment, Between}
-use Rattle.unit_image.specs.Image.{held, IsOpenedForm, Settles, used_of}
+use Rattle.unit_image.specs.Image.{held, IsOpenedForm, used_next}
+use Rattle.unit_image.specs.OpeningImage.{LeftByOpening}
 use Rattle.unit_plan.specs.PlanLines.{PlanLines}
 use Rattle.unit_plan.specs.Plan.{plan_of}
 use Rattle.unit_state.specs.declared.state.State.{State}
@@ -39,13 +40,13 @@ fault_text SiteFault = line (codes "site fault")
 fault_text NoMemory = line (codes "no memory")
 fault_text (NoState offset) = image_text offset
 
--- the image says this plan and shows this state, with so many slots used, and this is their text
+-- the image says this plan and shows this state, with so many slots used once it is opened, and this is their text
 pub record TellsState (image text : List ℕ) : Type 0 where
   pub plan : PlanLines
   pub state : State
   pub says : plan_of (held image).plan ≡ Ok plan
   pub shows : Shows image state
-  pub text_is : text ≡ status_text state (used_of image) plan.slots
+  pub text_is : text ≡ status_text state (used_next image) plan.slots
 
 -- why `stat` ends so, and the text that is due; that memory runs out needs no cause
 abbrev pub StatDue : Bool → Type 0 → List ℕ → List ℕ → StatEnd → Type 0
@@ -59,10 +60,10 @@ pub record ShowsAlone (state : State) (image : List ℕ) : Type 0 where
   pub shows : Shows image (restarted state)
   pub no_form : (form : List ℕ) → ¬ IsOpenedForm image form
 
--- A moment of `stat`: what a crash then leaves, one at the entry may leave too; or it is the image as read, but for its
--- closed gates, or holds what that one held; or it shows the state that was shown.
+-- A moment of `stat`: what a crash then leaves, one at the entry may leave too; or the opening of the image as read may
+-- leave it; or it shows the state that was shown.
 abbrev pub StatMoment : Trace → List ℕ → Type 0
-StatMoment entry image = Leaves entry.now image ⊎ (Settles entry.now.image image
+StatMoment entry image = Leaves entry.now image ⊎ (LeftByOpening entry.now.image image
     ⊎ ((state : State) × Shows entry.now.image state × ShowsAlone state image))
 
 -- The text was put whole, and the status is the one that is due; or a put failed, a front of the text was put, and the

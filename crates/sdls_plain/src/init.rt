@@ -9,10 +9,10 @@ ghost use Rattle.sdls_outside.specs.Output.{Delivers, OnlySinks};
 use crate::output::put_text;
 use crate::status::{DONE, MALFORMED, NO_MEMORY, NO_STATE, SITE_FAULT, SOURCE_FAULT};
 use image_beginning::create_image;
-use image_content::CONTENT_LENGTH;
 use itoa::Buffer;
 use law_image::cut_beginning;
 use record_io::Outcome;
+use sdls_base::CONTENT_LENGTH_TWO;
 use sdls_outside::{Failed, Site, Source, collect};
 use std::alloc::{AllocError, Global};
 use unit_plan::{MOST_OCTETS, Plan, PlanCause, PlanError, PlanFault};
@@ -85,7 +85,7 @@ fn make_image<O: Site>(alloc: Global, site: &mut O, text: &[u8]) -> InitEnd
     let Ok(mut bare) = zeros(alloc, text.len() + 1) else {
         return InitEnd::NoMemory;
     };
-    let Ok(mut content) = zeros(alloc, CONTENT_LENGTH) else {
+    let Ok(mut content) = zeros(alloc, CONTENT_LENGTH_TWO) else {
         return InitEnd::NoMemory;
     };
     cut_beginning();

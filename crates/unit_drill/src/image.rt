@@ -8,8 +8,7 @@ ghost use Rattle.sdls_outside.specs.MemSite.{site_trace};
 ghost use Rattle.law_drill.specs.Plans.{receiver_plan, sender_plan};
 
 use image_beginning::create_image;
-use image_content::CONTENT_LENGTH;
-use sdls_base::NoMemory;
+use sdls_base::{CONTENT_LENGTH_TWO, NoMemory};
 use sdls_outside::{Crash, MemSite};
 use std::alloc::{AllocError, Global};
 use unit_plan::{MOST_OCTETS, Plan};
@@ -102,7 +101,7 @@ pub(crate) fn site_of(alloc: Global, text: &[u8]) -> Result<MemSite, NoMemory>
 {
     let (plan, state) = plan_of(alloc, text)?;
     let mut bare = zeros(alloc, text.len() + 1)?;
-    let mut content = zeros(alloc, CONTENT_LENGTH)?;
+    let mut content = zeros(alloc, CONTENT_LENGTH_TWO)?;
     let mut site = MemSite::new(alloc, Vec::new(alloc), Vec::new(alloc), None);
     match create_image(&mut site, text, &plan, &state, &mut bare, &mut content) {
         Ok(()) => Ok(site.crashed(Crash::Kept)),
