@@ -1,12 +1,22 @@
 //! Plans, images that no unit has open, and crashes.
-ghost use Rattle.std.specs.Prelude.{◌≡◌, IfSome, vec_len};
+ghost use Rattle.std.specs.Prelude.{◌≡◌, ◌+◌, ◌≤◌, [], IfSome, IsTrue, Ok, OnOk, length, vec_len};
+ghost use Rattle.sdls_base.specs.declared.version.Version.TheVariants.{One};
 ghost use Rattle.unit_plan.specs.PlanLines.{PlanLines};
+ghost use Rattle.unit_plan.specs.Plan.{plan_of};
+ghost use Rattle.plan_bare.specs.Bare.{bare_of};
 ghost use Rattle.unit_state.specs.declared.state.State.{State};
+ghost use Rattle.image_content.specs.Content.{content_of};
+ghost use Rattle.image_content.specs.Reading.{FitsVersion};
+ghost use Rattle.disk_journal.specs.declared.layout.HeaderForm.TheVariants.{Old};
+ghost use Rattle.disk_journal.specs.Initial.{created_image};
 ghost use Rattle.image_beginning.specs.Beginning.{SaysPlan, image_of_plan};
 
+use disk_journal::{JournalFault, create};
 use image_beginning::create_image;
-use image_content::CONTENT_LENGTH;
-use sdls_outside::{Crash, MemSite};
+use image_content::write_content;
+use plan_bare::{bare_plan_is_short, write_bare_plan};
+use sdls_base::{CONTENT_LENGTH_ONE, CONTENT_LENGTH_TWO, Version};
+use sdls_outside::{Crash, MemSite, Site};
 use std::alloc::{AllocError, Global};
 use unit_plan::{MOST_OCTETS, Plan};
 use unit_state::State;
@@ -47,7 +57,7 @@ fn zeros(alloc: Global, count: usize) -> Option<Vec<u8>>
 }
 
 /// The plan that a text is, and the state that its lines make.
-fn plan_of(alloc: Global, text: &[u8]) -> Option<(Plan, State)>
+fn read_plan(alloc: Global, text: &[u8]) -> Option<(Plan, State)>
     ensures { IfSome result (λ made. SaysPlan text.now made.0 made.1) }
 {
     let Ok(plan) = Plan::read(alloc, text) else {
@@ -67,11 +77,60 @@ pub fn image_of(alloc: Global, text: &[u8]) -> Option<Vec<u8>>
     if text.len() > MOST_OCTETS {
         return None;
     }
-    let (plan, state) = plan_of(alloc, text)?;
+    let (plan, state) = read_plan(alloc, text)?;
     let mut bare = zeros(alloc, text.len() + 1)?;
-    let mut content = zeros(alloc, CONTENT_LENGTH)?;
+    let mut content = zeros(alloc, CONTENT_LENGTH_TWO)?;
     let mut site = MemSite::new(alloc, Vec::new(alloc), Vec::new(alloc), None);
     let Ok(()) = create_image(&mut site, text, &plan, &state, &mut bare, &mut content) else {
+        return None;
+    };
+    match Vec::from_slice(alloc, site.image()) {
+        Ok(image) => Some(image),
+        Err(_) => None,
+    }
+}
+
+/// Writes the image of version 1 that the plan of a text begins with, in this state, if there is no image. The bare plan
+/// and the content are written into `bare` and `content` first.
+fn create_old_image<O: Site>(
+    site: &mut O,
+    text: &[u8],
+    plan: &Plan,
+    state: &State,
+    bare: &mut [u8],
+    content: &mut [u8],
+) -> Result<(), JournalFault>
+    requires empty { IsTrue O.told → (O.trace site.old).now.image ≡ [] }
+    requires read { plan_of text.now ≡ Ok plan.now }
+    requires room { length text.now + 1 ≤ length bare.old }
+    requires sized { length content.old ≡ CONTENT_LENGTH_ONE }
+    requires fits { FitsVersion One state.now }
+    ensures created { IsTrue O.told → OnOk result ((O.trace site.new).now.image
+        ≡ created_image Old (bare_of text.now) plan.now.slots (content_of One state.now)) }
+{
+    bare_plan_is_short();
+    let end = write_bare_plan(text, bare);
+    write_content(state, content);
+    create(site, &bare[..end], plan.slots(), content)
+}
+
+/// The image of version 1 of the plan of a text, as earlier programs made it. `None` if the text is no plan, if version
+/// 1 has no room for its keys or associations, or if memory ran out.
+pub fn image_of_version_one(alloc: Global, text: &[u8]) -> Option<Vec<u8>>
+    ensures { IfSome result (λ image. (plan : PlanLines) × (first : State) × SaysPlan text.now plan first
+        × (image.items ≡ created_image Old (bare_of text.now) plan.slots (content_of One first))) }
+{
+    if text.len() > MOST_OCTETS {
+        return None;
+    }
+    let (plan, state) = read_plan(alloc, text)?;
+    if !image_content::fits(Version::One, &state) {
+        return None;
+    }
+    let mut bare = zeros(alloc, text.len() + 1)?;
+    let mut content = zeros(alloc, CONTENT_LENGTH_ONE)?;
+    let mut site = MemSite::new(alloc, Vec::new(alloc), Vec::new(alloc), None);
+    let Ok(()) = create_old_image(&mut site, text, &plan, &state, &mut bare, &mut content) else {
         return None;
     };
     match Vec::from_slice(alloc, site.image()) {

@@ -7,7 +7,8 @@ mod needs;
 mod texts;
 
 pub use images::{
-    TELECOMMAND_SENDER, TWO_SENDERS, image_after, image_of, image_of_sender, plan_of_sender,
+    TELECOMMAND_SENDER, TWO_SENDERS, image_after, image_of, image_of_sender, image_of_version_one,
+    plan_of_sender,
 };
 pub use needs::fits;
 pub use texts::{open_reply_text, reply_text, shield_fault_text};

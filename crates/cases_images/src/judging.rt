@@ -34,23 +34,25 @@ impl Texts {
     }
 }
 
-/// Whether this is what is due, with the image as it was if it is refused, and else at rest.
+/// Whether this is what is due, with the image as it was if it is refused, and else at rest and of version 2.
 fn is_due(
     alloc: Global,
     image: &Image,
-    changed: &mut Image,
+    changed: Image,
     texts: &Texts,
     due: Due,
     said: &Said,
 ) -> anyhow::Result<bool> {
     let (status, text) = texts.due(alloc, due)?;
-    if status == DONE {
-        image.rest(changed);
-    }
+    let left = if status == DONE {
+        image.left(alloc, changed)?
+    } else {
+        changed
+    };
     Ok(
         said.status == status
             && said.text.as_str() == text.as_str()
-            && said.left.as_slice() == changed.octets.as_slice(),
+            && said.left.as_slice() == left.octets.as_slice(),
     )
 }
 
@@ -80,10 +82,10 @@ fn judge_octet(
 ) -> anyhow::Result<Option<u8>> {
     for value in VALUES {
         if image.octet(place) != value {
-            let mut changed = image.with(alloc, place, value)?;
+            let changed = image.with(alloc, place, value)?;
             let said = changed.said(alloc)?;
             let due = image.due(place, value);
-            if !is_due(alloc, image, &mut changed, texts, due, &said)? {
+            if !is_due(alloc, image, changed, texts, due, &said)? {
                 return Ok(Some(value));
             }
             counts.push(due);

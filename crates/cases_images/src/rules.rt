@@ -1,5 +1,5 @@
 //! What is due of an image in which one octet was changed, by the octet's place and its new value.
-use crate::image::{CONTENT, FIRST_BANK, HEADER, Image, SLOT, SLOTS};
+use crate::image::{BANKS, CONTENT, Form, HEADER, Image, Layout, MIGRATED, SLOT};
 
 /// What `stat` is to say.
 #[derive(Clone, Copy)]
@@ -49,14 +49,25 @@ impl Image {
         if slots < LEAST_SLOTS || slots > MOST_SLOTS {
             return Due::Refused(13);
         }
-        if (length as u64) < 66_048 + 2 * (51_712 + 512 * slots) {
+        if length < self.form().end(slots as usize) {
             return Due::Refused(length);
         }
         Due::Refused(13)
     }
 
-    /// In the header: the gate, the magic, the length of the plan, the slots, zeros. A plan that is longer or shorter
-    /// than it was ends in zeros or in the midst of a line.
+    /// The octet that migrates. An image of version 1 is too short for a migrated one, and is migrated if the octet has
+    /// any other value; a migrated one has no open bank where those of version 1 begin.
+    fn due_of_form(&self, value: u8) -> Due {
+        match self.form() {
+            Form::Old if value == 1 => Due::Refused(self.octets.len()),
+            Form::Old => Due::Shown,
+            Form::Migrated => Due::Refused(BANKS),
+            Form::New => Due::Refused(MIGRATED),
+        }
+    }
+
+    /// In the header: the gate, the magic, the length of the plan, the slots, the octet that migrates, zeros. A plan that
+    /// is longer or shorter than it was ends in zeros or in the midst of a line.
     fn due_of_header(&self, place: usize, value: u8) -> Due {
         match place {
             0 => Due::Refused(0),
@@ -64,7 +75,9 @@ impl Image {
             9..=12 if self.field_with(9, 4, place, value) > PLAN_ROOM => Due::Refused(9),
             9..=12 => Due::Refused(512),
             13..=16 => self.due_of_slots(self.field_with(13, 4, place, value)),
-            _ => Due::Refused(17),
+            MIGRATED => self.due_of_form(value),
+            _ if self.form() == Form::New => Due::Refused(MIGRATED),
+            _ => Due::Refused(MIGRATED + 1),
         }
     }
 
@@ -99,33 +112,31 @@ impl Image {
     }
 
     /// In the open bank: the gate, the generation, the content, the slots.
-    fn due_of_bank(&self, bank: usize, offset: usize, value: u8) -> Due {
+    fn due_of_bank(&self, layout: Layout, offset: usize, value: u8) -> Due {
+        let bank = self.current();
         if offset == 0 {
-            return Due::Refused(FIRST_BANK);
+            return Due::Refused(layout.banks);
         }
         if offset < CONTENT {
             return Due::Shown;
         }
-        if offset < SLOTS {
+        let Some(behind) = offset.checked_sub(layout.slots) else {
             return Due::Refused(bank.saturating_add(CONTENT));
-        }
-        let behind = (offset - SLOTS) % SLOT;
-        self.due_of_slot(
-            bank.saturating_add(offset - behind),
-            bank.saturating_add(offset),
-            value,
-        )
+        };
+        let place = bank.saturating_add(offset);
+        self.due_of_slot(place.saturating_sub(behind % SLOT), place, value)
     }
 
     /// What is due if the octet at a place of the header or of a bank is changed to this value. In the bank that is
-    /// closed each octet may be any; if its gate is opened, its generation is the one before.
+    /// closed each octet may be any, also where the banks of version 1 were; if its gate is opened, its generation is the
+    /// one before.
     pub fn due(&self, place: usize, value: u8) -> Due {
         if place < HEADER {
             return self.due_of_header(place, value);
         }
-        let bank = self.current();
-        match place.checked_sub(bank) {
-            Some(offset) if offset < self.bank_length() => self.due_of_bank(bank, offset, value),
+        let layout = self.layout();
+        match place.checked_sub(self.current()) {
+            Some(offset) if offset < layout.bank_length => self.due_of_bank(layout, offset, value),
             _ => Due::Shown,
         }
     }

@@ -37,4 +37,14 @@ impl Image {
             left: Vec::from_slice(alloc, site.image())?,
         })
     }
+
+    /// The image that `stat` leaves of it.
+    pub fn opened(&self, alloc: Global) -> Result<Image, AllocError> {
+        let Said {
+            status: _,
+            text: _,
+            left,
+        } = self.said(alloc)?;
+        Ok(Image { octets: left })
+    }
 }

@@ -2,7 +2,7 @@
 use crate::image::Image;
 use crate::judging::{self, Texts};
 use case_lines::{Answers, Gathered, number_at, said, set_part_of};
-use case_units::image_of;
+use case_units::{image_of, image_of_version_one};
 use std::alloc::Global;
 use std::mem;
 
@@ -29,9 +29,8 @@ impl Table {
         }
     }
 
-    /// Makes the unit of the plan.
-    fn make(&mut self, alloc: Global) -> anyhow::Result<Option<String>> {
-        let image = image_of(alloc, self.plan.as_str().as_bytes());
+    /// Takes the image that was made of the plan, if there is one.
+    fn take(&mut self, alloc: Global, image: Option<Vec<u8>>) -> anyhow::Result<Option<String>> {
         self.plan.clear();
         match image {
             Some(octets) => {
@@ -61,7 +60,15 @@ impl Answers for Table {
         let (step, rest) = line.split_once(' ').unwrap_or((line, ""));
         match step {
             "plan" => self.plan.push(rest)?,
-            "unit" => return self.make(alloc),
+            "unit" => {
+                let image = image_of(alloc, self.plan.as_str().as_bytes());
+                return self.take(alloc, image);
+            }
+            "unit_one" => {
+                let image = image_of_version_one(alloc, self.plan.as_str().as_bytes());
+                return self.take(alloc, image);
+            }
+            "opened" => self.image = self.image.opened(alloc)?,
             "set" => set_part_of(alloc, self.image.octets.as_mut_slice(), rest)?,
             "swap" => self.image = self.image.swapped(alloc)?,
             "shows" => return Ok(Some(self.show(alloc)?)),

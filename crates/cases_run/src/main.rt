@@ -11,9 +11,9 @@
 //! other words the text. The site's image is kept for the next step; `crash kept`, `crash lost` and `crash OCTET` take
 //! in its place what a crash of the last site leaves. `image` tells the length of the image, `show OFFSET LENGTH` some
 //! of it, `find HEX` the place of these octets in it, `set OFFSET HEX` changes it, `cut LENGTH` takes away what is past
-//! a length, `lay HEX` lays another in its place, `lose` drops it; `keep` keeps it, `back` takes the kept one, and
-//! `same` tells whether it is that one. `sunk` tells the octets that the last site has sunk, and its faults. `times
-//! COUNT STEP` does a step so often.
+//! a length, `lay HEX` lays another in its place, `zeros LENGTH` so many zeros, `lose` drops it; `keep` keeps it,
+//! `back` takes the kept one, and `same` tells whether it is that one. `sunk` tells the octets that the last site has
+//! sunk, and its faults. `times COUNT STEP` does a step so often.
 #![tactic(auto)]
 
 mod answers;

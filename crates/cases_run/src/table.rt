@@ -217,6 +217,10 @@ impl Table {
             "failing" => self.failing = numbers(alloc, rest)?,
             "dead" => self.dead = Some(number_at(rest, 0)),
             "lay" => self.image = hex::decode(alloc, rest)?,
+            "zeros" => {
+                let length = usize::try_from(number_at(rest, 0)).unwrap_or(0);
+                self.image = vec![in alloc; 0; length]?
+            }
             "keep" => self.kept = Vec::from_slice(alloc, self.image.as_slice())?,
             "back" => self.image = Vec::from_slice(alloc, self.kept.as_slice())?,
             "lose" => self.image.clear(),

@@ -4,8 +4,8 @@ ghost use Rattle.std.specs.Prelude.{IfSome};
 ghost use Rattle.unit_state.specs.Restart.{IsLight};
 
 use case_lines::{direction, key, key_state, number, octet, sa_state, spi};
-use sdls_base::{Change, KeyItem, KeyItems, KeyList, NewSa, Octets, Suite};
-use std::alloc::Global;
+use sdls_base::{Change, KeyId, KeyItem, KeyItems, KeyList, NewSa, Octets, Suite};
+use std::alloc::{AllocError, Global};
 use std::str::SplitWhitespace;
 
 /// The change that a reserve makes: `KEY MARK FLOOR`.
@@ -36,6 +36,19 @@ fn load(alloc: Global, words: &mut SplitWhitespace<'_>) -> Option<Change> {
     let bytes = Octets::new(hex::decode(alloc, words.next()?).ok()?);
     let items = vec![in alloc; KeyItem { id, bytes }].ok()?;
     Some(Change::Load(KeyItems::new(items)))
+}
+
+/// The load of eight keys from this one on, each with its identifier as its octets.
+pub fn eight_keys(alloc: Global, first: u16) -> Result<Change, AllocError> {
+    let mut items = Vec::new(alloc);
+    for number in first..=first.saturating_add(7) {
+        if let Some(id) = KeyId::new(number) {
+            let octets = u128::from(number).to_be_bytes();
+            let bytes = Octets::new(Vec::from_slice(alloc, &octets)?);
+            items.push(KeyItem { id, bytes })?;
+        }
+    }
+    Ok(Change::Load(KeyItems::new(items)))
 }
 
 fn key_states(alloc: Global, words: &mut SplitWhitespace<'_>) -> Option<Change> {

@@ -8,9 +8,10 @@
 //!
 //! `plan` and a line is gathered, and `begin` makes the state of the lines that were gathered. `copy` writes a copy in
 //! the place of the state, `restart` leaves what a restart leaves, and `show` prints its rows. `change` and a change in
-//! words makes it if the state allows it. `marks` and `accepted` change the state as a reserve and a frame do. `do`
-//! reads a message, decides it with what was seen and changes the state. `receive` opens a frame on a link, and the
-//! state accepts its number. `send` makes the checks of a clear frame, and protects it.
+//! words makes it if the state allows it. `loads FIRST COUNT` makes so many loads of eight keys, and counts those that
+//! the state allows. `marks` and `accepted` change the state as a reserve and a frame do. `do` reads a message, decides
+//! it with what was seen and changes the state. `receive` opens a frame on a link, and the state accepts its number.
+//! `send` makes the checks of a clear frame, and protects it.
 //!
 //! `command` and `reply` read a message and write it back. `cuts` counts the places at which a cut command is reported
 //! to end, and `lengths` lists the lengths that messages of a tag may have. The words of each line are in `README.md`.

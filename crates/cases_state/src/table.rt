@@ -5,9 +5,10 @@ ghost use Rattle.unit_state.specs.Restart.{IsLight};
 
 use crate::scenario::Scenario;
 use crate::{cases, changes, commands, frames, messages, showing};
-use case_lines::{Answers, Gathered, said};
+use case_lines::{Answers, Gathered, said, short};
 use sdls_base::Change;
 use std::alloc::Global;
+use std::str::SplitWhitespace;
 use unit_plan::PlanError;
 
 fn allowed_word(allowed: bool) -> &'static str {
@@ -58,6 +59,25 @@ fn make(alloc: Global, scenario: &mut Scenario, words: &str) -> anyhow::Result<S
     }
 }
 
+/// Makes so many loads of eight keys each, the first from this key on, and counts those that the state allows: `FIRST
+/// COUNT`.
+fn load_eights(
+    alloc: Global,
+    scenario: &mut Scenario,
+    words: &mut SplitWhitespace<'_>,
+) -> anyhow::Result<String> {
+    let mut first = short(words).unwrap_or(0);
+    let wanted = short(words).unwrap_or(0);
+    let mut count = 0u32;
+    for _ in 0..wanted {
+        if scenario.apply(&changes::eight_keys(alloc, first)?)? {
+            count = count.wrapping_add(1);
+        }
+        first = first.wrapping_add(8);
+    }
+    Ok(format!(in alloc; "{count} loads of {wanted}")?)
+}
+
 /// What a step that changes numbers or rows answers, none where the word names another.
 fn of_changes(
     alloc: Global,
@@ -68,6 +88,7 @@ fn of_changes(
     let mut words = rest.split_whitespace();
     match word {
         "change" => Some(make(alloc, scenario, rest)),
+        "loads" => Some(load_eights(alloc, scenario, &mut words)),
         "marks" => Some(move_numbers(alloc, scenario, changes::marks(&mut words))),
         "accepted" => Some(move_numbers(alloc, scenario, changes::accepted(&mut words))),
         _ => None,

@@ -1,6 +1,7 @@
 //! One call of the site that fails.
 use crate::answers::Answer;
-use crate::runs::{MOST_CALLS, Ran, Runs};
+use crate::calls::MOST_CALLS;
+use crate::runs::{Ran, Runs};
 use case_lines::said;
 use record_io::code::END;
 use record_io::status::{DONE, SITE_FAULT};

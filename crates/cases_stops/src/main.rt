@@ -1,13 +1,19 @@
 //! Tables of runs on a site that is dead from a call on, or that fails at one call, for each call of the run. A line of
 //! standard input is a step; what it answers is printed, and `# TITLE` is printed as it is.
 //!
-//! `plan LINE` gathers a line of a plan, and `unit` makes the image of a unit of it. `records` begins an input anew;
-//! `protect LINK OCTETS`, `open LINK OCTETS`, `command OCTETS` and `fence` gather its items, all on lane 0. Each run is
-//! over this image and this input.
+//! `plan LINE` gathers a line of a plan, `unit` makes the image of a unit of it, and `unit_one` the one of version 1.
+//! `set OFFSET OCTETS` writes octets over those of the image, `octets OFFSET LENGTH` prints some of them, `length` how
+//! many there are, and `look OCTETS` whether these stand there. `records` begins an input anew; `protect LINK OCTETS`,
+//! `open LINK OCTETS`, `command OCTETS` and `fence` gather its items, all on lane 0. Each run is over this image and this
+//! input.
 //!
 //! `stops KIND`: the site is dead from call k, for k from 0 on, until a run meets no stop. Behind each the image is
-//! crashed: `kept`, `lost`, or filled with an octet. Then the same input is run again. `gone FIRST KIND OCTETS`: the
-//! same from a call on, and these octets stand nowhere in what the crash leaves, nor behind the next run.
+//! crashed: `kept`, `lost`, or filled with an octet. Then the same input is run again. `stops KIND FIRST END EACH` takes
+//! some of the calls. `gone FIRST KIND OCTETS`: the same from a call on, and these octets stand nowhere in what the
+//! crash leaves, nor behind the next run.
+//!
+//! `stat` prints what `stat` says of the image, and takes the image that it leaves. `stats KIND`, or with
+//! `FIRST END EACH`: `stat` on a site that is dead from call k, a crash, and three more of it.
 //!
 //! `failing OPENING`: one call fails, for each call of a run, of which so many open the image.
 //!
@@ -16,9 +22,12 @@
 #![tactic(auto)]
 
 mod answers;
+mod calls;
 mod failing;
+mod noted_site;
 mod refused;
 mod runs;
+mod stats;
 mod stops;
 mod table;
 

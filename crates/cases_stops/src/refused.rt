@@ -62,7 +62,7 @@ fn flaw_of<R: Threads + Wait + Sync>(
     if has_site_fault(answers.as_slice()) && first.status != status::SITE_FAULT {
         return Ok("the site failed, and the run ends otherwise");
     }
-    let later = next.on(rt, alloc, first.site.crashed(Crash::Kept))?;
+    let later = next.on(rt, alloc, first.site.crashed(alloc, Crash::Kept)?)?;
     if !may_end(answers.as_slice(), &later) {
         return Ok("the next run does not open the image");
     }

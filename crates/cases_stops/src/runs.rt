@@ -1,24 +1,27 @@
 //! Runs over one image and one input.
 use crate::answers::{Answer, push_answers};
+use crate::noted_site::NotedSite;
 use record_io::Outcome;
-use sdls_outside::{MemSite, SureSource};
+use sdls_outside::SureSource;
 use std::alloc::{AllocError, Global};
 use std::sync::Wait;
 use std::thread::Threads;
 use unit_session::{OpenGate, run_recorded};
 
-/// More calls than a run makes.
-pub const MOST_CALLS: u64 = 1_000;
-
 /// How a run ended: its status and the site.
 #[derive(Drop)]
 pub struct Ran {
     pub status: u8,
-    pub site: MemSite,
+    pub site: NotedSite,
 }
 
 /// A run. What it ensures is not said again: the clauses would be carried through each step behind the call.
-fn session<R: Threads + Wait + Sync>(rt: &R, alloc: Global, input: Vec<u8>, site: MemSite) -> Ran {
+fn session<R: Threads + Wait + Sync>(
+    rt: &R,
+    alloc: Global,
+    input: Vec<u8>,
+    site: NotedSite,
+) -> Ran {
     let mut source = SureSource::new(input);
     let Outcome {
         status,
@@ -60,7 +63,7 @@ impl Runs {
         &self,
         rt: &R,
         alloc: Global,
-        site: MemSite,
+        site: NotedSite,
     ) -> Result<Ran, AllocError> {
         let input = Vec::from_slice(alloc, self.input.as_slice())?;
         Ok(session(rt, alloc, input, site))
@@ -73,7 +76,7 @@ impl Runs {
         alloc: Global,
     ) -> Result<Ran, AllocError> {
         let image = Vec::from_slice(alloc, self.image.as_slice())?;
-        let site = MemSite::new(alloc, image, Vec::new(alloc), None);
+        let site = NotedSite::new(alloc, image, Vec::new(alloc), None);
         self.on(rt, alloc, site)
     }
 
@@ -85,7 +88,7 @@ impl Runs {
         call: u64,
     ) -> Result<Ran, AllocError> {
         let image = Vec::from_slice(alloc, self.image.as_slice())?;
-        let site = MemSite::new(alloc, image, Vec::new(alloc), Some(call));
+        let site = NotedSite::new(alloc, image, Vec::new(alloc), Some(call));
         self.on(rt, alloc, site)
     }
 
@@ -97,7 +100,7 @@ impl Runs {
         call: u64,
     ) -> Result<Ran, AllocError> {
         let image = Vec::from_slice(alloc, self.image.as_slice())?;
-        let site = MemSite::new(alloc, image, vec![in alloc; call]?, None);
+        let site = NotedSite::new(alloc, image, vec![in alloc; call]?, None);
         self.on(rt, alloc, site)
     }
 }

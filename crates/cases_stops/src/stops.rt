@@ -1,6 +1,7 @@
 //! A site that is dead from a call on, a crash, and the next run.
 use crate::answers::{has_repeat, push_answers};
-use crate::runs::{MOST_CALLS, Ran, Runs};
+use crate::calls::Calls;
+use crate::runs::{Ran, Runs};
 use case_lines::said;
 use record_io::status::{DONE, SITE_FAULT};
 use sdls_outside::Crash;
@@ -25,7 +26,7 @@ pub struct Behind<'a> {
 }
 
 /// Whether these octets stand in the image.
-fn stand(octets: &[u8], image: &[u8]) -> bool {
+pub fn stand(octets: &[u8], image: &[u8]) -> bool {
     !octets.is_empty() && image.windows(octets.len()).any(|part| part == octets)
 }
 
@@ -41,7 +42,7 @@ fn flaw_of<R: Threads + Wait + Sync>(
         return Ok("it ends otherwise");
     }
     let mut answers = first.answers(alloc)?;
-    let left = first.site.crashed(behind.crash);
+    let left = first.site.crashed(alloc, behind.crash)?;
     if stand(behind.gone, left.image()) {
         return Ok("the octets are left");
     }
@@ -59,27 +60,30 @@ fn flaw_of<R: Threads + Wait + Sync>(
     Ok("")
 }
 
-/// What is wrong with the stops from this call on: `N stops, sound` if nothing is.
+/// What is wrong with the stops at these calls: `N stops, sound` if nothing is.
 pub fn told<R: Threads + Wait + Sync>(
     rt: &R,
     alloc: Global,
     runs: &Runs,
-    first: u64,
+    calls: Calls,
     behind: Behind<'_>,
 ) -> anyhow::Result<String> {
-    for call in first..MOST_CALLS {
-        let ran = runs.dead(rt, alloc, call)?;
-        if ran.status == DONE {
-            if stand(behind.gone, ran.site.image()) {
-                return said(alloc, "the octets are left");
+    let mut stops = 0u64;
+    for call in calls.first..calls.end {
+        if calls.has(call) {
+            let ran = runs.dead(rt, alloc, call)?;
+            if ran.status == DONE {
+                if stand(behind.gone, ran.site.image()) {
+                    return said(alloc, "the octets are left");
+                }
+                break;
             }
-            let stops = call - first;
-            return Ok(format!(in alloc; "{stops} stops, sound")?);
-        }
-        let flaw = flaw_of(rt, alloc, runs, ran, behind)?;
-        if !flaw.is_empty() {
-            return Ok(format!(in alloc; "a stop at call {call}: {flaw}")?);
+            let flaw = flaw_of(rt, alloc, runs, ran, behind)?;
+            if !flaw.is_empty() {
+                return Ok(format!(in alloc; "a stop at call {call}: {flaw}")?);
+            }
+            stops = stops.saturating_add(1);
         }
     }
-    said(alloc, "no end")
+    Ok(format!(in alloc; "{stops} stops, sound")?)
 }

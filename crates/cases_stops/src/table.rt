@@ -1,10 +1,12 @@
 //! The steps, and what they answer.
+use crate::calls::Calls;
 use crate::runs::Runs;
-use crate::stops::{self, Behind, crash_of};
+use crate::stats::{self, Said};
+use crate::stops::{self, Behind, crash_of, stand};
 use crate::{failing, refused};
-use case_lines::{Gathered, number_at, said, word_at};
+use case_lines::{Gathered, number_at, part_of, said, set_part_of, word_at};
 use case_runs::{BEGINNING, FENCE};
-use case_units::image_of;
+use case_units::{image_of, image_of_version_one};
 use std::alloc::{AllocError, Global};
 use std::mem;
 use std::sync::Wait;
@@ -28,9 +30,8 @@ impl Table {
         }
     }
 
-    /// Makes the unit of the plan.
-    fn make(&mut self, alloc: Global) -> anyhow::Result<String> {
-        let image = image_of(alloc, self.plan.as_str().as_bytes());
+    /// Takes the image that was made of the plan, if there is one.
+    fn take(&mut self, alloc: Global, image: Option<Vec<u8>>) -> anyhow::Result<String> {
         self.plan.clear();
         match image {
             Some(image) => {
@@ -64,6 +65,7 @@ impl Table {
     fn gathers(&mut self, alloc: Global, word: &str, rest: &str) -> anyhow::Result<bool> {
         match word {
             "plan" => self.plan.push(rest)?,
+            "set" => set_part_of(alloc, self.runs.image.as_mut_slice(), rest)?,
             "records" => self.begin(alloc)?,
             "next" => {
                 self.first = mem::replace(&mut self.runs, Runs::new(alloc));
@@ -85,6 +87,59 @@ impl Table {
         Ok(true)
     }
 
+    /// Prints what `stat` says of the image, and takes the image that it leaves.
+    fn stat(&mut self, alloc: Global) -> anyhow::Result<String> {
+        let Said { status: _, site } = stats::said_of(alloc, self.runs.image.as_slice(), None)?;
+        self.runs.image = Vec::from_slice(alloc, site.image())?;
+        let text = String::from_utf8_lossy(alloc, site.sunk())?;
+        Ok(String::from_str(alloc, text.as_str().trim_end())?)
+    }
+
+    fn length(&self, alloc: Global) -> anyhow::Result<String> {
+        let length = self.runs.image.len();
+        Ok(format!(in alloc; "{length} octets")?)
+    }
+
+    /// Says whether these octets stand in the image.
+    fn look_for(&self, alloc: Global, octets: &str) -> anyhow::Result<String> {
+        let octets = hex::decode(alloc, octets)?;
+        if stand(octets.as_slice(), self.runs.image.as_slice()) {
+            said(alloc, "there")
+        } else {
+            said(alloc, "nowhere")
+        }
+    }
+
+    /// What a step on the image answers. `None` if the word names another.
+    fn of_image(
+        &mut self,
+        alloc: Global,
+        word: &str,
+        rest: &str,
+    ) -> Option<anyhow::Result<String>> {
+        let text = self.plan.as_str().as_bytes();
+        match word {
+            "unit" => {
+                let image = image_of(alloc, text);
+                Some(self.take(alloc, image))
+            }
+            "unit_one" => {
+                let image = image_of_version_one(alloc, text);
+                Some(self.take(alloc, image))
+            }
+            "stat" => Some(self.stat(alloc)),
+            "octets" => Some(part_of(alloc, self.runs.image.as_slice(), rest)),
+            "length" => Some(self.length(alloc)),
+            "look" => Some(self.look_for(alloc, rest)),
+            "stats" => {
+                let calls = Calls::of_line(rest, 1);
+                let crash = crash_of(word_at(rest, 0));
+                Some(stats::told(alloc, self.runs.image.as_slice(), calls, crash))
+            }
+            _ => None,
+        }
+    }
+
     /// What a line answers.
     pub fn answer<R: Threads + Wait + Sync>(
         &mut self,
@@ -96,16 +151,18 @@ impl Table {
         if self.gathers(alloc, word, rest)? {
             return Ok(String::new(alloc));
         }
+        if let Some(answer) = self.of_image(alloc, word, rest) {
+            return answer;
+        }
         match word {
-            "unit" => self.make(alloc),
             "failing" => failing::told(rt, alloc, &self.runs, number_at(rest, 0)),
             "refused" => refused::told(rt, alloc, &self.first, &self.runs),
             "stops" => {
                 let behind = Behind {
-                    crash: crash_of(rest),
+                    crash: crash_of(word_at(rest, 0)),
                     gone: &[],
                 };
-                stops::told(rt, alloc, &self.runs, 0, behind)
+                stops::told(rt, alloc, &self.runs, Calls::of_line(rest, 1), behind)
             }
             "gone" => {
                 let gone = hex::decode(alloc, word_at(rest, 2))?;
@@ -113,7 +170,8 @@ impl Table {
                     crash: crash_of(word_at(rest, 1)),
                     gone: gone.as_slice(),
                 };
-                stops::told(rt, alloc, &self.runs, number_at(rest, 0), behind)
+                let calls = Calls::from(number_at(rest, 0));
+                stops::told(rt, alloc, &self.runs, calls, behind)
             }
             _ => said(alloc, "no step"),
         }

@@ -3,7 +3,7 @@
 use crate::texts;
 use crate::unit::Unit;
 use case_lines::{Answers, Gathered, number_at, numbers, part_of, said, set_part_of};
-use case_units::{image_after, image_of};
+use case_units::{image_after, image_of, image_of_version_one};
 use sdls_outside::MemSite;
 use std::alloc::{AllocError, Global};
 use std::mem;
@@ -50,14 +50,25 @@ impl Table {
         }
     }
 
-    fn create(&mut self, alloc: Global) -> anyhow::Result<String> {
-        self.image = match image_of(alloc, self.plan.as_str().as_bytes()) {
+    /// Takes the image that was made of the plan, or none.
+    fn created(&mut self, alloc: Global, image: Option<Vec<u8>>) -> anyhow::Result<String> {
+        self.image = match image {
             Some(image) => image,
             None => Vec::new(alloc),
         };
         self.plan.clear();
         let length = self.image.len();
         Ok(format!(in alloc; "image of {length}")?)
+    }
+
+    fn create(&mut self, alloc: Global) -> anyhow::Result<String> {
+        let image = image_of(alloc, self.plan.as_str().as_bytes());
+        self.created(alloc, image)
+    }
+
+    fn create_one(&mut self, alloc: Global) -> anyhow::Result<String> {
+        let image = image_of_version_one(alloc, self.plan.as_str().as_bytes());
+        self.created(alloc, image)
     }
 
     fn set(&mut self, alloc: Global, rest: &str) -> anyhow::Result<String> {
@@ -159,6 +170,7 @@ impl Table {
     ) -> Option<anyhow::Result<String>> {
         match word {
             "create" => Some(self.create(alloc)),
+            "create_one" => Some(self.create_one(alloc)),
             "set" => Some(self.set(alloc, rest)),
             "cut" => Some(self.cut(alloc, rest)),
             "keep" => Some(self.keep(alloc)),

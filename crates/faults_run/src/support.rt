@@ -16,8 +16,8 @@ pub(crate) const NUMBERS: [(u32, &str); 5] = [
 
 /// The first call of the site, from 0 on, behind the opening of an image of 16 slots without records: begin twice,
 /// sync, the header; the front of each bank; the slots for the first closed gate, and those behind it; plan and
-/// content; the gate of the first slot, and that of the other bank; its 117 blocks, of which a call reads 64.
-pub(crate) const CALL_AFTER_OPENING: u64 = 4 + 2 + 2 + 2 + 2 + 2;
+/// content; the gate of the first slot, and that of the other bank; its 801 blocks, of which a call reads 64.
+pub(crate) const CALL_AFTER_OPENING: u64 = 4 + 2 + 2 + 2 + 2 + 13;
 
 /// The calls of a run with five frames, each with a segment of its own: the opening, two appends, a put for each
 /// segment and for the one behind the last fence, the append of the release, and the put of End.

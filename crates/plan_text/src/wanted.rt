@@ -4,6 +4,7 @@ use plan_wanted::{
     AssociationWord, ChannelWord, HeadWord, KeyWord, LinkWord, NamedAbove, Refused, Spelling,
     Wanted,
 };
+use sdls_base::{MOST_ASSOCIATIONS, MOST_KEYS};
 
 fn spelling_text(spelling: Spelling) -> &'static [u8] {
     match spelling {
@@ -100,8 +101,8 @@ fn named_text(named: NamedAbove) -> &'static [u8] {
 fn refused_text(refused: Refused) -> &'static [u8] {
     match refused {
         Refused::OtherOctets(_) => b"other octets than those of key ",
-        Refused::KeyRoom => b"at most 512 keys",
-        Refused::AssociationRoom => b"at most 64 associations",
+        Refused::KeyRoom => b"no more keys than ",
+        Refused::AssociationRoom => b"no more associations than ",
         Refused::CmacKey => b"a key for cmac, 32768 to 65535",
         Refused::GcmKey => b"a key for gcm, 256 to 32767",
         Refused::ActiveKey => b"a key that is active",
@@ -152,6 +153,8 @@ fn number_refused(refused: Refused) -> Option<u64> {
         | Refused::NumberBelow(n)
         | Refused::NumberFrom(n)
         | Refused::FreeChannels(n) => Some(n),
+        Refused::KeyRoom => Some(MOST_KEYS as u64),
+        Refused::AssociationRoom => Some(MOST_ASSOCIATIONS as u64),
         _ => None,
     }
 }

@@ -9,9 +9,9 @@ use std::alloc::{AllocError, Global};
 use std::process::Abort;
 use std::test::Fail;
 
-/// The site's call that syncs the gate of the second entry. Calls 0 to 13 open the image, 14 to 17 append the first
-/// entry, 18 puts the first answer, and 19 to 22 append the second entry.
-const SYNC_OF_THE_SECOND_GATE: u64 = 22;
+/// The site's call that syncs the gate of the second entry. Calls 0 to 24 open the image, 25 to 28 append the first
+/// entry, 29 puts the first answer, and 30 to 33 append the second entry.
+const SYNC_OF_THE_SECOND_GATE: u64 = 33;
 
 // The codes of answers.
 const FAILED: u8 = 0x31;

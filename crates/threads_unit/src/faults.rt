@@ -9,9 +9,9 @@ use std::test::Fail;
 use std::thread::{Threads, join};
 use unit_book::BookFault;
 
-/// The site's call that syncs the gate of the first entry: calls 0 to 13 open the image, and 14 to 17 append that
+/// The site's call that syncs the gate of the first entry: calls 0 to 24 open the image, and 25 to 28 append that
 /// entry.
-const SYNC_OF_THE_GATE: u64 = 17;
+const SYNC_OF_THE_GATE: u64 = 28;
 
 // Why a frame is not protected, and after how many entries.
 fn fault<R: Wait>(

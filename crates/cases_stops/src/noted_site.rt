@@ -1,0 +1,124 @@
+//! A site in memory that notes what was written since its last sync.
+ghost use Rattle.std.specs.Prelude.{true};
+ghost use Rattle.sdls_outside.specs.contracts.mem_site.MemSiteSite.TheImpl.Laws as mem_laws;
+
+use sdls_outside::{Crash, Failed, MemSite, Site};
+use std::alloc::{AllocError, Global};
+
+/// A site that passes each call on to one in memory. A `MemSite` looks for each octet that a crash may fill through all
+/// writes that are pending, and a migration has 1,600 of them; here those in a row are one.
+#[derive(Drop)]
+pub struct NotedSite {
+    inside: MemSite,
+    /// Where the writes since the last sync begin, and where they end.
+    written: Vec<(u64, u64)>,
+}
+
+/// Writes this octet to each place that was written.
+fn fill(image: &mut [u8], written: &[(u64, u64)], octet: u8) {
+    for (from, to) in written.iter() {
+        let length = to.saturating_sub(*from) as usize;
+        for place in image.iter_mut().skip(*from as usize).take(length) {
+            *place = octet;
+        }
+    }
+}
+
+/// Notes that so many octets were written. A note for which there is no memory is left out.
+fn note(written: &mut Vec<(u64, u64)>, at: u64, length: u64) {
+    let end = at.saturating_add(length);
+    if let Some((_, last)) = written.last_mut() {
+        if *last == at {
+            *last = end;
+            return;
+        }
+    }
+    let _noted = written.push((at, end));
+}
+
+impl NotedSite {
+    /// A site that holds this image. `failing` lists the calls that fail, and each call from `dead_from` on fails.
+    pub fn new(
+        alloc: Global,
+        image: Vec<u8>,
+        failing: Vec<u64>,
+        dead_from: Option<u64>,
+    ) -> NotedSite {
+        NotedSite {
+            inside: MemSite::new(alloc, image, failing, dead_from),
+            written: Vec::new(alloc),
+        }
+    }
+
+    /// The image as it reads.
+    pub fn image(&self) -> &[u8] {
+        self.inside.image()
+    }
+
+    /// The octets sunk so far.
+    pub fn sunk(&self) -> &[u8] {
+        self.inside.sunk()
+    }
+
+    /// The image as it reads, with this octet in each place that was written since the last sync.
+    fn filled(&self, alloc: Global, octet: u8) -> Result<Vec<u8>, AllocError> {
+        let mut image = Vec::from_slice(alloc, self.inside.image())?;
+        fill(image.as_mut_slice(), self.written.as_slice(), octet);
+        Ok(image)
+    }
+
+    /// The site after a crash of this kind, of which no call fails.
+    pub fn crashed(self, alloc: Global, how: Crash) -> Result<NotedSite, AllocError> {
+        if let Crash::Filled(octet) = how {
+            let image = self.filled(alloc, octet)?;
+            return Ok(NotedSite::new(alloc, image, Vec::new(alloc), None));
+        }
+        let NotedSite { inside, written: _ } = self;
+        Ok(NotedSite {
+            inside: inside.crashed(how),
+            written: Vec::new(alloc),
+        })
+    }
+}
+
+impl Site for NotedSite {
+    ghost use Rattle.sdls_outside.specs.MemSite.{site_trace, site_faults, site_put_faults};
+
+    ghost told = { true };
+
+    ghost trace = { λ site. site_trace site.inside };
+
+    ghost faults = { λ site. site_faults site.inside };
+
+    ghost put_faults = { λ site. site_put_faults site.inside };
+
+    ghost image_may_stay = { λ site. mem_laws.image_may_stay-law site.inside };
+
+    fn begin(&mut self) -> Result<u64, Failed> {
+        self.inside.begin()
+    }
+
+    fn read_at(&mut self, at: u64, into: &mut [u8]) -> Result<(), Failed> {
+        self.inside.read_at(at, into)
+    }
+
+    fn write_at(&mut self, at: u64, octets: &[u8]) -> Result<(), Failed> {
+        self.inside.write_at(at, octets)?;
+        note(&mut self.written, at, octets.len() as u64);
+        Ok(())
+    }
+
+    fn sync(&mut self) -> Result<(), Failed> {
+        self.inside.sync()?;
+        self.written.clear();
+        Ok(())
+    }
+
+    fn put(&mut self, octets: &[u8]) -> Result<(), Failed> {
+        self.inside.put(octets)
+    }
+
+    fn faults(&self) -> u64 {
+        self.inside.faults()
+    }
+}
