@@ -7,7 +7,7 @@ ghost use Rattle.key_book.specs.KeyBook.{row_of};
 ghost use Rattle.sa_book.specs.declared.sa_row.SaRow.{SaRow};
 ghost use Rattle.replay_window.specs.Window.{new_window};
 ghost use Rattle.unit_state.specs.Restart.{restarted_high};
-ghost use Rattle.book_record.specs.KeyParts.{IsKeyRow};
+ghost use Rattle.book_record.specs.KeyParts.{IsKeyRow, IsRowKeyLength};
 ghost use Rattle.book_record.specs.SaParts.{IsSaRow};
 ghost use Rattle.book_rows.specs.Rows.{HasRowsCause};
 ghost use Rattle.image_content.specs.Content.{key_parts, sa_parts};
@@ -17,7 +17,7 @@ use book_record::{
     KEY_ROW_LENGTH, KeyParts, RecordError, SA_ROW_LENGTH, SaParts, read_key_row, read_sa_row,
 };
 use book_rows::RowsFault;
-use key_book::KeyRow;
+use key_book::{KeyOctets, KeyRow};
 use replay_window::Window;
 use sa_book::SaRow;
 use sdls_base::{Direction, KeyId, NewSa};
@@ -34,24 +34,17 @@ pub(crate) fn are_zeros(octets: &[u8]) -> bool
     true
 }
 
-fn key_row_of(parts: KeyParts) -> KeyRow
-    ensures { key_parts result ≡ parts }
+fn key_row_of(parts: &KeyParts) -> KeyRow
+    requires { IsRowKeyLength (length parts.now.bytes) }
+    ensures { key_parts result ≡ parts.now }
 {
-    let KeyParts {
-        id,
-        state,
-        bytes,
-        digest,
-        mark,
-        floor,
-    } = parts;
     KeyRow {
-        id,
-        state,
-        bytes,
-        digest,
-        mark,
-        floor,
+        id: parts.id,
+        state: parts.state,
+        bytes: KeyOctets::new(parts.bytes.as_slice()),
+        digest: parts.digest,
+        mark: parts.mark,
+        floor: parts.floor,
     }
 }
 
@@ -65,7 +58,7 @@ fn key_row(alloc: Global, octets: &[u8]) -> Result<KeyRow, RowsFault>
     let mut row = [0; KEY_ROW_LENGTH];
     row.copy_from_slice(octets);
     match read_key_row(alloc, &row) {
-        Ok(parts) => Ok(key_row_of(parts)),
+        Ok(parts) => Ok(key_row_of(&parts)),
         Err(RecordError::Malformed) => Err(RowsFault::Unfit),
         Err(RecordError::NoMemory) => Err(RowsFault::NoMemory),
     }

@@ -1,11 +1,11 @@
-ghost use Rattle.std.specs.Prelude.{◌≡◌, IfOk, MatchResult, length};
+ghost use Rattle.std.specs.Prelude.{◌≡◌, length};
 ghost use Rattle.sha2.specs.Sha256.{sha256};
+ghost use Rattle.sdls_base.specs.Bounds.{IsKeyLength};
 ghost use Rattle.key_book.specs.KeyRow.{new_row, in_state};
 
-use crate::key_refusal::KeyRefusal;
-use sdls_base::{KeyId, KeyItem, KeyState, Octets};
+use crate::key_octets::KeyOctets;
+use sdls_base::{KeyId, KeyItem, KeyState};
 use sha2::{Digest, Sha256};
-use std::alloc::Global;
 use std::fmt;
 
 /// What a unit knows of a key. `Debug` prints its identifier and state alone.
@@ -14,7 +14,7 @@ pub struct KeyRow {
     pub id: KeyId,
     pub state: KeyState,
     /// The key itself, 16 or 32 octets; none once it is destroyed.
-    pub bytes: Octets,
+    pub bytes: KeyOctets,
     /// The SHA-256 digest of the key, which stays.
     pub digest: [u8; 32],
     /// Numbers below it may have been used for sending.
@@ -38,29 +38,28 @@ pub fn digest(bytes: &[u8]) -> [u8; 32]
 
 impl KeyRow {
     /// The row of a key that is loaded, with the digest of its octets.
-    pub(crate) fn loaded(item: &KeyItem, digest: [u8; 32]) -> Result<KeyRow, KeyRefusal>
-        requires { digest ≡ sha256 item.now.bytes }
-        ensures { MatchResult result
-            (λ row. row ≡ new_row item.now)
-            (λ refusal. refusal ≡ KeyRefusal.NoMemory) }
+    pub(crate) fn loaded(item: &KeyItem, digest: [u8; 32]) -> KeyRow
+        requires length { IsKeyLength (length item.now.bytes) }
+        requires digest { digest ≡ sha256 item.now.bytes }
+        ensures { result ≡ new_row item.now }
     {
-        Ok(KeyRow {
+        KeyRow {
             id: item.id,
             state: KeyState::PreActive,
-            bytes: item.bytes.clone()?,
+            bytes: KeyOctets::new(item.bytes.as_slice()),
             digest,
             mark: 1,
             floor: 0,
-        })
+        }
     }
 
-    /// Takes a state, and drops the key's octets where that is destroyed. `alloc` is not asked for memory.
-    pub(crate) fn enter(&mut self, to: KeyState, alloc: Global)
+    /// Takes a state, and drops the key's octets if that is destroyed.
+    pub(crate) fn enter(&mut self, to: KeyState)
         ensures { self.new ≡ in_state self.old to }
     {
         self.state = to;
         if to == KeyState::Destroyed {
-            self.bytes = Octets::new(Vec::new(alloc));
+            self.bytes = KeyOctets::none();
         }
     }
 }

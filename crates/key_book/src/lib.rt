@@ -8,6 +8,7 @@
 
 mod inventory;
 mod key_book;
+mod key_octets;
 mod key_refusal;
 mod key_row;
 mod loading;
@@ -17,5 +18,6 @@ mod refusals;
 
 pub use inventory::{Inventory, MOST_LISTED};
 pub use key_book::{KeyBook, rows_may_follow};
+pub use key_octets::{KeyOctets, MOST_OCTETS};
 pub use key_refusal::KeyRefusal;
 pub use key_row::{KeyRow, digest};

@@ -38,7 +38,7 @@ pub(crate) fn append(rows: &mut Vec<KeyRow>, items: &[KeyItem]) -> Result<(), Ke
     for item in items {
         let digest = digest(item.bytes.as_slice());
         judge(rows, item.id, &digest)?;
-        rows.push(KeyRow::loaded(item, digest)?)?;
+        rows.push(KeyRow::loaded(item, digest))?;
     }
     Ok(())
 }

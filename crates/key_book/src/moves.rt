@@ -96,10 +96,9 @@ pub(crate) fn judge(
 pub(crate) fn move_rows(rows: &mut Vec<KeyRow>, ids: &[KeyId], to: KeyState)
     ensures { rows.new.items ≡ moved rows.old.items ids.now to }
 {
-    let alloc = *rows.allocator();
     for row in rows.iter_mut() {
         if ids.contains(&row.id) {
-            row.enter(to, alloc);
+            row.enter(to);
         }
     }
 }

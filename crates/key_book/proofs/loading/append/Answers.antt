@@ -13,7 +13,7 @@ loop-item-preserved c =
     let rows : List KeyRow = c.loop-item.rows.items in
     let item : KeyItem = c.item-item.result in
     let free : key_refusal rows item.id (sha256 item.bytes) ≡ None = cc (c.in_ok-judge.ensures, c.deref.ensures.value, c.digest-digest.ensures, c.as_slice.ensures) in
-    let pushed : c.push.new.self.items ≡ rows ++ new_row item ∷ [] = c.in_ok-push.ensures.items ∙ ap (λ (r : KeyRow). rows ++ r ∷ []) c.in_ok-loaded.ensures in
+    let pushed : c.push.new.self.items ≡ rows ++ new_row item ∷ [] = c.in_ok-push.ensures.items ∙ ap (λ (r : KeyRow). rows ++ r ∷ []) c.loaded.ensures in
     let long : IsKeyLength (length item.bytes) = subst (λ (x : KeyItem). IsKeyLength (length x.bytes)) (sym c.item-item.is) (c.requires.lengths c.loop-item.item-index item c.loop-item-test.true) in
     rw pushed (record {
       rows = loaded_row c.args.rows.now.items rows c.args.items.now c.loop-item.item-index item c.loop-item-test.true c.item-item.is c.loop-item.invariant.rows;
