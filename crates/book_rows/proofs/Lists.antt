@@ -1,13 +1,7 @@
 -- What the loops over rows and channels know at their ends.
-use Rattle.std.proofs.Common.{◌≡◌, ◌≢◌, ℕ, ◌+◌, ◌<◌, ◌≤◌, false, List, length, take, get_or, sym, subst, All, take_all, ◌∷◌, ◌++◌, ap, length-append, arith}
-use Rattle.std.specs.Str.{bytes_eq}
-use Rattle.std.proofs.lemmas.Slice.Eq.{bytes_eq-Decides}
+use Rattle.std.proofs.Common.{◌≡◌, ℕ, ◌+◌, ◌<◌, ◌≤◌, List, length, take, get_or, sym, subst, All, take_all, ◌∷◌, ◌++◌, ap, length-append, arith}
 use Rattle.std.proofs.Math.Seq.{take-append_seam, get_or-append_seam}
 use Rattle.std.proofs.lemmas.List.Elements.{All-more}
-
--- octets that the test tells apart are not the same
-pub told_apart : (xs ys : List ℕ) → false ≡ bytes_eq xs ys → xs ≢ ys
-told_apart xs ys test same = let told = (bytes_eq-Decides xs ys).1 same in absurd cc
 
 -- one element more, as the loop reads it
 pub all_more : {X : Type 0} (P : X → Type 0) (xs : List X) (i : ℕ) (x : X) → x ≡ get_or xs i x → i < length xs
