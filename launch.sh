@@ -143,7 +143,7 @@ explain() {
     case "$1 $status" in
     "audit 3") say "standard input is no recording of runs from the offset on that standard output gives: make one by" \
         "\`sdls_text recording FILE..\`" ;;
-    "init 3") say "standard input is no plan, and no image was made: mend the line that standard output names" ;;
+    "init 3") say "standard input is no plan, and no image was made: correct the line that standard output names" ;;
     "run 3") say "$(unread_input)" ;;
     "init 4") say "standard input could not be read, and no image was made: call init again" ;;
     "run 4") say "standard input could not be read to its end: give the records without an answer to a further run" ;;
@@ -170,8 +170,8 @@ unread_input() {
         echo "standard input is not a recorded input, which begins with SDLSREC1: make one from text by" \
             "\`sdls_text records\`"
     else
-        echo "standard input is not a recorded input from the offset on that End gives: mend it there, and give the" \
-            "records without an answer to a further run"
+        echo "standard input is not a recorded input from the offset on that End gives: correct it there, and give" \
+            "the records without an answer to a further run"
     fi
 }
 
@@ -196,10 +196,10 @@ site_fault() {
         echo "the disk or standard output failed, and no image was here before: remove unit.img if it is here now," \
             "and call init again"
     elif [ "$1" = run ]; then
-        echo "the disk or standard output failed: mend that, look at the state by \`sdls stat\`, and know that" \
+        echo "the disk or standard output failed: repair that, look at the state by \`sdls stat\`, and know that" \
             "records without an answer may have been done"
     else
-        echo "the disk or standard output failed: mend that, and call stat again"
+        echo "the disk or standard output failed: repair that, and call stat again"
     fi
 }
 
@@ -272,7 +272,8 @@ HELP
     else
         cat <<'HELP'
 usage: sdls check KEY | init | stat | run | drill N | drill link N | audit
-A space link security unit (CCSDS 355.0-B-2 and 355.1-B-1). It works on the file unit.img in the current folder.
+A space link security unit by CCSDS 355.0-B-2. Its procedures serve the purposes of 355.1-B-1 in formats of their own.
+It works on the file unit.img in the current folder.
 
   check KEY    reads one AOS transfer frame, and prints its data field or the first check that failed;
                KEY has 32 or 64 hexadecimal digits
@@ -287,10 +288,10 @@ A space link security unit (CCSDS 355.0-B-2 and 355.1-B-1). It works on the file
   --help       prints this page
   --version    prints the commit and the kit that the program is built from
 
-Status: 0 done; 1 the frame is refused, or a number stands twice; 2 other words; 3 the input is at fault; 4 standard input could not be read;
-5 the disk or standard output failed; 6 out of memory; 7 the image is there already, or is none; 8 the run has its
-most entries. Of the launcher: 70 the program could not be built; 71 the folder or the image could not be locked;
-75 another unit holds one of them.
+Status: 0 done; 1 the frame is refused, or a number was used or accepted twice; 2 other words; 3 the input is at fault;
+4 standard input could not be read; 5 the disk or standard output failed; 6 out of memory; 7 the image is there already,
+or is none; 8 the run has its most entries. Of the launcher: 70 the program could not be built; 71 the folder or the
+image could not be locked; 75 another unit holds one of them.
 
 Example:
   sdls init < examples/plan-two-links.txt
