@@ -337,11 +337,12 @@ def is_verified(reply, key, octets, challenge):
 # -- a unit over pipes: docs/FORMATS.md, "The recorded input" and "An answer" -----------------------------------------
 
 CODES = {
-    0x00: "protected", 0x01: "accepted", 0x02: "clear", 0x03: "done", 0x04: "refused", 0x10: "layout",
-    0x11: "channel", 0x12: "spi", 0x13: "direction", 0x14: "state", 0x15: "coverage", 0x16: "mac", 0x17: "number",
-    0x20: "exhausted", 0x31: "site-fault", 0x32: "stopped", 0x33: "no-memory", 0xFF: "end",
+    0x00: "protected", 0x01: "accepted", 0x02: "clear", 0x03: "done", 0x04: "refused", 0x05: "monitored",
+    0x06: "monitor-fault", 0x10: "layout", 0x11: "channel", 0x12: "spi", 0x13: "direction", 0x14: "state",
+    0x15: "coverage", 0x16: "mac", 0x17: "number", 0x20: "exhausted", 0x31: "site-fault", 0x32: "stopped",
+    0x33: "no-memory", 0xFF: "end",
 }  # fmt: skip
-FENCE, PROTECT, OPEN, COMMAND = 0, 1, 2, 3
+FENCE, PROTECT, OPEN, COMMAND, MONITOR = 0, 1, 2, 3, 4
 
 
 @dataclass(frozen=True)
