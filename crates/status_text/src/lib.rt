@@ -3,6 +3,7 @@
 //! [`status_text`] is the one call.
 #![tactic(auto)]
 
+mod finding;
 mod lines;
 mod text;
 

@@ -1,36 +1,24 @@
 //! The whole text.
-ghost use Rattle.std.specs.Prelude.{◌≡◌, ◌<◌, ◌++◌, [], IfOk, OnOk};
-ghost use Rattle.std.specs.Option.{option_map_or};
-ghost use Rattle.key_book.specs.KeyBook.{row_of};
-ghost use Rattle.status_text.specs.Text.{associations_text, highest_identifier, key_line, keys_text, status_text};
+ghost use Rattle.std.specs.Prelude.{◌≡◌, ◌++◌, IfOk, OnOk};
+ghost use Rattle.status_text.specs.Text.{associations_text, highest_identifier, keys_text, status_text};
 
+use crate::finding::rows_by_identifier;
 use crate::lines::{put_association, put_key, put_slots};
-use key_book::KeyBook;
+use key_book::KeyRow;
 use sa_book::SaRow;
-use sdls_base::{KeyId, NoMemory};
+use sdls_base::NoMemory;
 use std::alloc::Global;
 use unit_state::State;
 
-/// Puts a line for the key with this identifier, where it is loaded.
-fn put_key_of(text: &mut Vec<u8>, keys: &KeyBook, identifier: u16) -> Result<(), NoMemory>
-    requires { 0 < identifier }
-    ensures { OnOk result (text.new.items ≡ text.old.items ++ option_map_or key_line (row_of keys.now identifier) []) }
-{
-    let Some(id) = KeyId::new(identifier) else {
-        unreachable!()
-    };
-    match keys.find(id) {
-        Some((_, row)) => put_key(text, row),
-        None => Ok(()),
-    }
-}
-
 /// Puts a line for each key, ascending by identifier.
-fn put_keys(text: &mut Vec<u8>, keys: &KeyBook) -> Result<(), NoMemory>
-    ensures { OnOk result (text.new.items ≡ text.old.items ++ keys_text keys.now 1 highest_identifier) }
+fn put_keys(text: &mut Vec<u8>, rows: &[KeyRow]) -> Result<(), NoMemory>
+    ensures { OnOk result (text.new.items ≡ text.old.items ++ keys_text rows.now 1 highest_identifier) }
 {
-    for before in 0..u16::MAX {
-        put_key_of(text, keys, before + 1)?;
+    let table = rows_by_identifier(*text.allocator(), rows)?;
+    for found in &table[1..] {
+        if let Some(row) = found {
+            put_key(text, row)?;
+        }
     }
     Ok(())
 }
@@ -52,7 +40,7 @@ pub fn status_text(alloc: Global, state: &State, used: u32, slots: u32) -> Resul
 {
     let mut text = Vec::new(alloc);
     put_slots(&mut text, used, slots)?;
-    put_keys(&mut text, &state.keys)?;
+    put_keys(&mut text, state.keys.rows())?;
     put_associations(&mut text, state.associations.rows())?;
     Ok(text)
 }
