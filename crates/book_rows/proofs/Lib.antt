@@ -1,1 +1,2 @@
+mod Lacking
 mod Lists

@@ -44,44 +44,25 @@ pub fn is_key_row(row: &KeyRow) -> bool
 }
 
 /// Whether no row is that of this key.
-fn lacks(rows: &[KeyRow], id: KeyId) -> bool
-    ensures { IsTrue result ↔ All (λ other. other.id ≢ id) rows.now }
+fn lacks(book: &KeyBook, id: KeyId) -> bool
+    ensures { IsTrue result ↔ All (λ other. other.id ≢ id) book.now }
 {
-    for other in rows {
-        if other.id == id {
-            return false;
-        }
-    }
-    true
-}
-
-/// Whether two digests are the same. Two that differ mostly do so in the first octet, so that it is compared alone
-/// before all are.
-fn are_same(one: &[u8; 32], other: &[u8; 32]) -> bool
-    ensures { IsTrue result ↔ (one.now ≡ other.now) }
-{
-    one[0] == other[0] && *one == *other
+    book.find(id).is_none()
 }
 
 /// Whether no row has this digest.
-fn lacks_digest(rows: &[KeyRow], digest: &[u8; 32]) -> bool
-    ensures { IsTrue result ↔ All (λ other. other.digest ≢ digest.now) rows.now }
+fn lacks_digest(book: &KeyBook, digest: &[u8; 32]) -> bool
+    ensures { IsTrue result ↔ All (λ other. other.digest ≢ digest.now) book.now }
 {
-    for other in rows {
-        if are_same(&other.digest, digest) {
-            return false;
-        }
-    }
-    true
+    book.twin(digest).is_none()
 }
 
 /// Whether the row may be put behind those of the book: the condition of `KeyBook::add_row`. Takes no memory.
 pub fn may_follow_keys(book: &KeyBook, row: &KeyRow) -> bool
     ensures { IsTrue result ↔ MayFollow book.now row.now }
 {
-    let rows = book.rows();
-    rows.len() < MOST_KEYS
+    book.rows().len() < MOST_KEYS
         && is_key_row(row)
-        && lacks(rows, row.id)
-        && lacks_digest(rows, &row.digest)
+        && lacks(book, row.id)
+        && lacks_digest(book, &row.digest)
 }

@@ -1,3 +1,8 @@
+pub mod Padded
+pub mod Indexed
+pub mod Positions
+pub mod Tabled
+pub mod Digested
 pub mod Rows
 pub mod Moved
 pub mod Listed

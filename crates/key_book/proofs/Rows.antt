@@ -1,11 +1,12 @@
 -- What the changes leave of the rules of the rows.
-use Rattle.std.proofs.Common.{◌≡◌, ◌≢◌, ℕ, ◌+◌, ◌<◌, ◌≤◌, max, Bool, true, false, cond, nat_eq, List, [], ◌∷◌, ◌++◌, length, get_or, set, take, drop, map, Option, Some, None, IsSome, is_some, sym, refl, ap, ◌∙◌, subst, inl, inr, ⊎_elim, ◌⊎◌, append_assoc, lit≤, ◌^◌, arith, rules}
+use Rattle.std.proofs.Common.{◌≡◌, ◌≢◌, ℕ, ◌+◌, ◌<◌, ◌≤◌, max, Bool, true, false, cond, nat_eq, List, [], ◌∷◌, ◌++◌, length, get_or, set, take, drop, map, Option, Some, None, IsSome, is_some, sym, refl, ap, ◌∙◌, subst, inl, inr, ⊎_elim, ◌⊎◌, append_assoc, append-nil, length-append, nat_lt, lit≤, ◌^◌, arith, rules}
+use Rattle.std.specs.List.{All}
 use Rattle.std.specs.Option.{option_map, option_or}
 use Rattle.std.specs.Str.{bytes_eq}
 use Rattle.std.proofs.lemmas.Bool.{cases_eq, cases_lt, false≢true}
 use Rattle.std.proofs.lemmas.Bool.Decides.{nat_tests}
 use Rattle.std.proofs.lemmas.List.{length-take, get_or-take, map_more, length-map, get_or-map, get_or_default, at_drop_more, length_push, get_or-set_same, get_or-set_other, same_lists, length-set}
-use Rattle.std.proofs.lemmas.List.Elements.{All-set, All-push}
+use Rattle.std.proofs.lemmas.List.Elements.{All-set, All-push, All-head, All-tail}
 use Rattle.std.proofs.lemmas.List.Quantifiers.{position-Some, all_pairs_push}
 use Rattle.std.proofs.lemmas.Slice.Eq.{bytes_eq-Decides}
 use Rattle.sha2.specs.Sha256.{sha256}
@@ -17,12 +18,12 @@ use Rattle.sdls_base.specs.Bounds.{IsKeyLength}
 use Rattle.sdls_base.specs.FirstFailing.{fails_if}
 use Rattle.key_book.specs.KeyRow.{IsKeyRow, new_row}
 use Rattle.key_book.specs.KeyBook.{AreKeyRows, IsKeyBook, MayFollow, row_of, place_of, changed}
-use Rattle.key_book.specs.KeyRefusal.{key_refusal, items_refusal, row_with, place_with}
+use Rattle.key_book.specs.KeyRefusal.{key_refusal, items_refusal, load_refusal, row_with, place_with}
 use Rattle.sdls_base.specs.KeyId.{class_of, end_of_class}
 use Rattle.sdls_base.specs.declared.key_id.KeyClass.{KeyClass}
 use Rattle.sdls_base.specs.declared.key_id.KeyClass.TheVariants.{Master, Gcm, Cmac}
 use Rattle.key_book.specs.declared.key_refusal.KeyRefusal.{KeyRefusal}
-use Rattle.key_book.specs.declared.key_refusal.KeyRefusal.TheVariants.{AlreadyLoaded, DuplicateKey}
+use Rattle.key_book.specs.declared.key_refusal.KeyRefusal.TheVariants.{AlreadyLoaded, DuplicateKey, BookFull}
 use Rattle.sdls_base.proofs.Searches.{find_placed, find_nowhere, find_none, is_some-find, chosen, left_out, pairs_set}
 
 pub same_number : (a b : ℕ) → nat_eq a b ≡ true → a ≡ b
@@ -235,6 +236,37 @@ loaded_fails rows items i item refusal within read fails =
     at_drop_more (items_refusal rows) items i item within
     ∙ ap (λ (x : KeyItem). items_refusal rows (x ∷ drop (i + 1) items)) (sym read)
     ∙ ap (λ r. option_or r (items_refusal (rows ++ new_row item ∷ []) (drop (i + 1) items))) fails
+
+none_or : {X : Type 0} (a b : Option X) → option_or a b ≡ None → (a ≡ None) × (b ≡ None)
+none_or None b h = (refl, h)
+none_or (Some x) b h = absurd (cc)
+
+-- keys that are not refused, put last, keep the rules
+AreKeyRows-loaded : (rows : List KeyRow) (items : List KeyItem) → AreKeyRows rows → All (λ (item : KeyItem). IsKeyLength (length item.bytes)) items → items_refusal rows items ≡ None → AreKeyRows (rows ++ map new_row items)
+AreKeyRows-loaded rows [] ok lengths free = subst AreKeyRows (sym (append-nil rows)) ok
+AreKeyRows-loaded rows (item ∷ items) ok lengths free =
+    let apart = none_or (key_refusal rows item.id (sha256 item.bytes)) (items_refusal (rows ++ new_row item ∷ []) items) free in
+    let long : IsKeyLength (length item.bytes) = All-head (λ (x : KeyItem). IsKeyLength (length x.bytes)) item items lengths in
+    subst AreKeyRows (append_assoc rows (new_row item ∷ []) (map new_row items))
+    (AreKeyRows-loaded (rows ++ new_row item ∷ []) items (AreKeyRows-push rows item ok long apart.0)
+    (All-tail (λ (x : KeyItem). IsKeyLength (length x.bytes)) item items lengths) apart.1)
+
+fits_if_free : (n : ℕ) → fails_if (nat_lt MOST_KEYS n) BookFull ≡ None → n ≤ MOST_KEYS
+fits_if_free n free = by (nat_lt MOST_KEYS n) refl free
+  where
+    by : (b : Bool) → nat_lt MOST_KEYS n ≡ b → fails_if b BookFull ≡ None → n ≤ MOST_KEYS
+    by false e h = grind (arith, nat_tests)
+    by true e h = absurd (cc)
+
+-- a book that keys are loaded into, if nothing refuses them
+pub IsKeyBook-loaded : (rows : List KeyRow) (items : List KeyItem) → IsKeyBook rows → All (λ (item : KeyItem). IsKeyLength (length item.bytes)) items → load_refusal rows items ≡ None → IsKeyBook (rows ++ map new_row items)
+IsKeyBook-loaded rows items ok lengths free =
+    let apart = none_or (items_refusal rows items) (fails_if (nat_lt MOST_KEYS (length rows + length items)) BookFull) free in
+    let fits = fits_if_free (length rows + length items) apart.1 in
+    record {
+      most = omega (arith, fits, length-append rows (map new_row items), length-map items new_row);
+      rules = AreKeyRows-loaded rows items ok.rules lengths apart.0;
+    }
 
 -- the rows when one more key is loaded
 pub loaded_row : (before rows : List KeyRow) (items : List KeyItem) (i : ℕ) (item : KeyItem) → i < length items → item ≡ get_or items i item → rows ≡ before ++ map new_row (take i items) → rows ++ new_row item ∷ [] ≡ before ++ map new_row (take (i + 1) items)

@@ -1,5 +1,9 @@
+pub mod KeyOctets
 pub mod KeyRow
 pub mod KeyBook
 pub mod KeyRefusal
 pub mod Moves
 pub mod Inventory
+pub mod Index
+pub mod Table
+pub mod Digests

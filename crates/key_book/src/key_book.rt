@@ -1,42 +1,51 @@
 ghost use Rattle.std.specs.Prelude.{◌≡◌, ◌+◌, ◌<◌, ◌≤◌, max, ℕ, List, [], ◌∷◌, ◌++◌, length, map, take, slice_index_or};
-ghost use Rattle.std.specs.Prelude.{All, IfOk, IfErr, OnOk, OnErr, IsSome, None, Some, MatchOption, vec_len};
+ghost use Rattle.std.specs.Prelude.{All, IfOk, IfErr, OnOk, OnErr, IfSome, IsSome, None, Some, MatchOption, vec_len};
 ghost use Rattle.std.specs.List.{slice_get};
 ghost use Rattle.std.specs.Option.{option_map};
 ghost use Rattle.std.specs.Result.{result_err};
 ghost use Rattle.sdls_base.specs.Bounds.{IsKeyLength};
 ghost use Rattle.sdls_base.specs.KeyId.{end_of};
 ghost use Rattle.key_book.specs.declared.key_row.KeyRow.{KeyRow};
-ghost use Rattle.key_book.specs.KeyRow.{new_row};
+ghost use Rattle.key_book.specs.KeyRow.{IsKeyRow, new_row};
 ghost use Rattle.key_book.specs.KeyBook.{IsKeyBook, MayFollow, row_of, place_of, changed};
 ghost use Rattle.key_book.specs.KeyRefusal.{IsKeyRefusal, load_refusal};
 ghost use Rattle.key_book.specs.Moves.{moved, moves_refusal};
 ghost use Rattle.key_book.specs.Inventory.{IsInventory};
+ghost use Rattle.key_book.specs.Table.{IsIndexed};
 
 use crate::inventory::Inventory;
 use crate::key_refusal::KeyRefusal;
 use crate::key_row::KeyRow;
-use crate::places::place;
-use crate::{loading, moves};
-use sdls_base::{KeyId, KeyItem, KeyList, KeyState, MOST_KEYS, NoMemory, Spi};
+use crate::moves;
+use crate::table::Table;
+use sdls_base::{KeyId, KeyItem, KeyList, KeyState, NoMemory, Spi};
 use std::alloc::Global;
+use std::fmt;
 use std::marker::Model;
 
 /// The keys that a unit ever loaded, at most [`MOST_KEYS`]. `Debug` prints no octet of a key.
-#[derive(Debug, Drop)]
+#[derive(Drop)]
 pub struct KeyBook {
-    rows: Vec<KeyRow>,
+    pub(crate) table: Table,
 }
 
 impl Model for KeyBook {
     ghost use Rattle.std.specs.Prelude.{List};
     ghost use Rattle.key_book.specs.declared.key_row.KeyRow.{KeyRow};
     ghost use Rattle.key_book.specs.KeyBook.{IsKeyBook};
+    ghost use Rattle.key_book.specs.Table.{IsIndexed};
 
     ghost Value = { List KeyRow };
 
-    ghost view = { λ book. book.rows.items };
+    ghost view = { λ book. book.table.rows.items };
 
-    ghost invariant = { λ book. IsKeyBook book.rows.items };
+    ghost invariant = { λ book. IsKeyBook book.table.rows.items × IsIndexed book.table };
+}
+
+impl fmt::Debug for KeyBook {
+    fn fmt<W: fmt::Write>(&self, f: &mut fmt::Formatter<W>) -> fmt::Result {
+        write!(f, "KeyBook {{ rows: {:?} }}", self.rows())
+    }
 }
 
 impl KeyBook {
@@ -45,7 +54,7 @@ impl KeyBook {
         ensures { result ≡ [] }
     {
         KeyBook {
-            rows: Vec::new(alloc),
+            table: Table::new(alloc),
         }
     }
 
@@ -59,18 +68,24 @@ impl KeyBook {
         ensures refused { IfErr result (λ refusal. IsKeyRefusal refusal (load_refusal self.old items.now)) }
         ensures kept { OnErr result (self.new ≡ self.old) }
     {
-        let before = self.rows.len();
-        match loading::append(&mut self.rows, items) {
-            Ok(()) if self.rows.len() <= MOST_KEYS => Ok(()),
-            Ok(()) => {
-                self.rows.truncate(before);
-                Err(KeyRefusal::BookFull)
-            }
-            Err(refusal) => {
-                self.rows.truncate(before);
-                Err(refusal)
-            }
+        if let Some(refusal) = self.load_refusal(items) {
+            return Err(refusal);
         }
+        match self.load_allowed(items) {
+            Ok(()) => Ok(()),
+            Err(NoMemory) => Err(KeyRefusal::NoMemory),
+        }
+    }
+
+    /// Loads keys of 16 or 32 octets that nothing refuses, pre-active, all or none. They are not judged again.
+    pub fn load_allowed(&mut self, items: &[KeyItem]) -> Result<(), NoMemory>
+        requires lengths { All (λ item. IsKeyLength (length item.bytes)) items.now }
+        requires allowed { load_refusal self.old items.now ≡ None }
+        ensures loaded { OnOk result (self.new ≡ self.old ++ map new_row items.now) }
+        ensures kept { OnErr result (self.new ≡ self.old) }
+    {
+        self.table.append(items)?;
+        Ok(())
     }
 
     /// Takes keys one state on, each judged on the state that the earlier ones leave, all or none. `in_use` has a pair
@@ -85,8 +100,8 @@ impl KeyBook {
         ensures refused { result_err result ≡ moves_refusal self.old ids.now to in_use.now }
         ensures kept { OnErr result (self.new ≡ self.old) }
     {
-        moves::judge(&self.rows, ids.as_slice(), to, in_use)?;
-        moves::move_rows(&mut self.rows, ids.as_slice(), to);
+        moves::judge(&self.table, ids.as_slice(), to, in_use)?;
+        moves::move_rows(&mut self.table.rows, ids.as_slice(), to);
         Ok(())
     }
 
@@ -94,17 +109,18 @@ impl KeyBook {
     pub fn inventory(&self, first: u16, last: u16) -> Result<Inventory, NoMemory>
         ensures { IfOk result (IsInventory self.now first last) }
     {
-        let alloc = *self.rows.allocator();
-        Inventory::of(alloc, &self.rows, first, last)
+        let alloc = *self.table.rows.allocator();
+        Inventory::of(alloc, &self.table.rows, first, last)
     }
 
     /// The row of a key and its place.
     pub fn find(&self, id: KeyId) -> Option<(usize, &KeyRow)>
         ensures place { option_map (λ found. found.0) result ≡ place_of self.now id }
         ensures row { option_map (λ found. found.1.now) result ≡ row_of self.now id }
+        ensures rules { IfSome result (λ found. IsKeyRow found.1.now) }
     {
-        let i = place(&self.rows, id)?;
-        Some((i, &self.rows[i]))
+        let i = self.table.place(id)?;
+        Some((i, &self.table.rows[i]))
     }
 
     /// Numbers below it may have been used for sending under the key.
@@ -121,8 +137,8 @@ impl KeyBook {
         requires to_end { mark ≤ end_of id }
         ensures { self.new ≡ changed self.old id (λ row. record row { mark = max row.mark mark }) }
     {
-        let i = known_place(&self.rows, id);
-        let row = &mut self.rows[i];
+        let i = known_place(&self.table, id);
+        let row = &mut self.table.rows[i];
         row.mark = row.mark.max(mark);
     }
 
@@ -139,8 +155,8 @@ impl KeyBook {
         requires below_end { floor < end_of id }
         ensures { self.new ≡ changed self.old id (λ row. record row { floor = max row.floor floor }) }
     {
-        let i = known_place(&self.rows, id);
-        let row = &mut self.rows[i];
+        let i = known_place(&self.table, id);
+        let row = &mut self.table.rows[i];
         row.floor = row.floor.max(floor);
     }
 
@@ -152,8 +168,8 @@ impl KeyBook {
         requires below_end { floor < end_of id }
         ensures { self.new ≡ changed self.old id (λ row. record row { mark = mark; floor = floor }) }
     {
-        let i = known_place(&self.rows, id);
-        let row = &mut self.rows[i];
+        let i = known_place(&self.table, id);
+        let row = &mut self.table.rows[i];
         row.mark = mark;
         row.floor = floor;
     }
@@ -163,7 +179,7 @@ impl KeyBook {
         ensures rows { result.now ≡ self.now }
         ensures rules { IsKeyBook self.now }
     {
-        self.rows.as_slice()
+        self.table.rows.as_slice()
     }
 
     /// Puts a row last. Rows put so into an empty book, in order, make an equal book.
@@ -172,7 +188,7 @@ impl KeyBook {
         ensures added { OnOk result (self.new ≡ self.old ++ row ∷ []) }
         ensures kept { OnErr result (self.new ≡ self.old) }
     {
-        self.rows.push(row)?;
+        self.table.push(row)?;
         Ok(())
     }
 
@@ -180,16 +196,17 @@ impl KeyBook {
     pub fn copy(&self) -> Result<KeyBook, NoMemory>
         ensures { IfOk result (λ book. book ≡ self.now) }
     {
-        let rows = self.rows.clone()?;
-        Ok(KeyBook { rows })
+        let table = self.table.copy()?;
+        Ok(KeyBook { table })
     }
 }
 
-fn known_place(rows: &[KeyRow], id: KeyId) -> usize
-    requires { IsSome (row_of rows.now id) }
-    ensures { place_of rows.now id ≡ Some result }
+fn known_place(table: &Table, id: KeyId) -> usize
+    requires indexed { IsIndexed table.now }
+    requires there { IsSome (row_of table.now.rows.items id) }
+    ensures { place_of table.now.rows.items id ≡ Some result }
 {
-    place(rows, id).unwrap()
+    table.place(id).unwrap()
 }
 
 /// Law: each row of a book may follow those before it, so a book can be made again row by row.

@@ -9,20 +9,28 @@ pub const MOST_OCTETS: usize = 32;
 
 /// The octets of a key, at most [`MOST_OCTETS`], which lie in the value itself: neither making nor copying it takes
 /// memory. `Debug` prints their number alone.
-#[derive(Drop)]
+#[derive(Copy)]
 pub struct KeyOctets {
     room: [u8; MOST_OCTETS],
-    length: usize,
+    used: usize,
 }
 
 impl Model for KeyOctets {
-    ghost use Rattle.std.specs.Prelude.{◌≤◌, List, ℕ, take};
+    ghost use Rattle.std.specs.Prelude.{List, ℕ, length, take};
+    ghost use Rattle.std.proofs.Common.{ap, ◌∙◌};
+    ghost use Rattle.key_book.specs.KeyOctets.{padded, IsPadded};
 
     ghost Value = { List ℕ };
 
-    ghost view = { λ octets. take octets.length octets.room };
+    ghost view = { λ octets. take octets.used octets.room };
 
-    ghost invariant = { λ octets. octets.length ≤ 32 };
+    ghost invariant = { λ octets. IsPadded octets.room octets.used };
+
+    ghost inverse = { λ octets. record { room = padded octets; used = length octets } };
+
+    ghost inverse_ok = { λ octets h.
+        ap (λ room. record { room = room; used = length (take octets.used octets.room) }) h.zeros
+        ∙ ap (λ used. record { room = octets.room; used = used }) h.seen };
 }
 
 impl KeyOctets {
@@ -32,7 +40,7 @@ impl KeyOctets {
     {
         KeyOctets {
             room: [0; MOST_OCTETS],
-            length: 0,
+            used: 0,
         }
     }
 
@@ -44,14 +52,14 @@ impl KeyOctets {
         room[..octets.len()].copy_from_slice(octets);
         KeyOctets {
             room,
-            length: octets.len(),
+            used: octets.len(),
         }
     }
 
     pub fn as_slice(&self) -> &[u8]
         ensures { result.now ≡ self.now }
     {
-        &self.room[..self.length]
+        &self.room[..self.used]
     }
 }
 
@@ -59,10 +67,7 @@ impl Clone for KeyOctets {
     ghost is_clone = { λ octets copy. copy ≡ octets };
 
     fn clone(&self) -> Result<KeyOctets, AllocError> {
-        Ok(KeyOctets {
-            room: self.room,
-            length: self.length,
-        })
+        Ok(*self)
     }
 }
 

@@ -9,7 +9,7 @@ use sha2::{Digest, Sha256};
 use std::fmt;
 
 /// What a unit knows of a key. `Debug` prints its identifier and state alone.
-#[derive(Clone, PartialEq, Eq, Drop)]
+#[derive(Clone, Copy, PartialEq, Eq)]
 pub struct KeyRow {
     pub id: KeyId,
     pub state: KeyState,

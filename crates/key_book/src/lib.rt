@@ -6,15 +6,16 @@
 //! change anything; read their clauses first. What is stored of the book, and where, is the caller's.
 #![tactic(auto)]
 
+mod digests;
+mod index;
 mod inventory;
 mod key_book;
 mod key_octets;
 mod key_refusal;
 mod key_row;
-mod loading;
 mod moves;
-mod places;
 mod refusals;
+mod table;
 
 pub use inventory::{Inventory, MOST_LISTED};
 pub use key_book::{KeyBook, rows_may_follow};

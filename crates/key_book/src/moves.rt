@@ -3,11 +3,12 @@
 ghost use Rattle.std.specs.Prelude.{◌≡◌, min};
 ghost use Rattle.std.specs.Option.{option_map_or};
 ghost use Rattle.std.specs.Result.{result_err};
+ghost use Rattle.key_book.specs.Table.{IsIndexed};
 ghost use Rattle.key_book.specs.Moves.{is_next, lowest_holder, state_refusal, move_refusal, moves_refusal, moved};
 
 use crate::key_refusal::KeyRefusal;
 use crate::key_row::KeyRow;
-use crate::places::place;
+use crate::table::Table;
 use sdls_base::{KeyId, KeyState, Spi};
 
 fn is_next(from: KeyState, to: KeyState) -> bool
@@ -58,36 +59,38 @@ fn judge_state(from: KeyState, to: KeyState, holder: Option<Spi>) -> Result<(), 
 
 /// Judges a key when those of `done` have taken the state.
 fn judge_move(
-    rows: &[KeyRow],
+    table: &Table,
     done: &[KeyId],
     id: KeyId,
     to: KeyState,
     in_use: &[(KeyId, Spi)],
 ) -> Result<(), KeyRefusal>
-    ensures { result_err result ≡ move_refusal (moved rows.now done.now to) id to in_use.now }
+    requires { IsIndexed table.now }
+    ensures { result_err result ≡ move_refusal (moved table.now.rows.items done.now to) id to in_use.now }
 {
-    let Some(i) = place(rows, id) else {
+    let Some(i) = table.place(id) else {
         return Err(KeyRefusal::UnknownKey(id));
     };
     let from = if done.contains(&id) {
         to
     } else {
-        rows[i].state
+        table.rows[i].state
     };
     judge_state(from, to, lowest_holder(in_use, id))
 }
 
 /// Judges each key on the rows that the earlier ones leave.
 pub(crate) fn judge(
-    rows: &[KeyRow],
+    table: &Table,
     ids: &[KeyId],
     to: KeyState,
     in_use: &[(KeyId, Spi)],
 ) -> Result<(), KeyRefusal>
-    ensures { result_err result ≡ moves_refusal rows.now ids.now to in_use.now }
+    requires { IsIndexed table.now }
+    ensures { result_err result ≡ moves_refusal table.now.rows.items ids.now to in_use.now }
 {
     for (i, id) in ids.iter().enumerate() {
-        judge_move(rows, &ids[..i], *id, to, in_use)?;
+        judge_move(table, &ids[..i], *id, to, in_use)?;
     }
     Ok(())
 }

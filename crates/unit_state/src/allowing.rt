@@ -112,7 +112,8 @@ impl State {
         ensures row { option_map (λ row. row.now) result ≡ key_row self.now id }
         ensures rules { IfSome result (λ row. IsKeyRow row.now) }
     {
-        self.keys.rows().iter().find(|row| row.id == id)
+        let (_, row) = self.keys.find(id)?;
+        Some(row)
     }
 
     fn is_held(&self, id: KeyId) -> bool

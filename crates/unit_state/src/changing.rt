@@ -46,7 +46,7 @@ impl State {
         ensures loaded { OnOk result (self.new ≡ applied self.old (Load items.now)) }
         ensures kept { OnErr result (self.new ≡ self.old) }
     {
-        self.keys.load(items.as_slice()).map_err(|_| NoMemory)
+        self.keys.load_allowed(items.as_slice())
     }
 
     pub(crate) fn set_key_states(&mut self, ids: &KeyList, to: KeyState) -> Result<(), NoMemory>

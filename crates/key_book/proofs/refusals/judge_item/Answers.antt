@@ -1,6 +1,5 @@
 use Rattle.std.proofs.Common.{◌≡◌, ◌++◌, false, map, is_some, Some, None, sym, ap, ◌∙◌}
 use Rattle.std.specs.Option.{option_map, option_or}
-use Rattle.sha2.specs.Sha256.{sha256}
 use Rattle.key_book.specs.declared.key_refusal.KeyRefusal.TheVariants.{DuplicateKey}
 use Rattle.key_book.specs.KeyRow.{new_row}
 use Rattle.key_book.specs.KeyBook.{row_of}
@@ -10,14 +9,12 @@ use Rattle.key_book.proofs.refusals.judge_item.Goals as goal
 
 pub returns-in-Some : goal.returns-in-Some
 returns-in-Some c =
-    let free : is_some (row_of (c.args.rows.now ++ map new_row c.args.done.now) c.args.item.now.id) ≡ false = sym c.is_taken.ensures ∙ c.if-is_taken.false in
-    let own : c.digest-own.result ≡ sha256 c.args.item.now.bytes = cc (c.digest-own.ensures, c.as_slice.ensures) in
-    let twins : option_or (named (row_with c.args.rows.now (sha256 c.args.item.now.bytes))) (named (row_with (map new_row c.args.done.now) (sha256 c.args.item.now.bytes))) ≡ Some c.in-Some.id = cc (own, c.twin_in.ensures, c.twin_among.ensures, c.or.ensures, c.in-Some.is) in
-    sym (judged-free c.args.rows.now c.args.done.now c.args.item.now.id (sha256 c.args.item.now.bytes) free ∙ ap (option_map DuplicateKey) twins)
+    let free : is_some (row_of (c.args.table.now.rows.items ++ map new_row c.args.done.now) c.args.id) ≡ false = sym c.is_taken.ensures ∙ c.if-is_taken.false in
+    let twins : option_or (named (row_with c.args.table.now.rows.items c.args.own.now)) (named (row_with (map new_row c.args.done.now) c.args.own.now)) ≡ Some c.in-Some.id = cc (c.twin_in.ensures, c.twin_among.ensures, c.or.ensures, c.in-Some.is) in
+    sym (judged-free c.args.table.now.rows.items c.args.done.now c.args.id c.args.own.now free ∙ ap (option_map DuplicateKey) twins)
 
 pub returns-in-None : goal.returns-in-None
 returns-in-None c =
-    let free : is_some (row_of (c.args.rows.now ++ map new_row c.args.done.now) c.args.item.now.id) ≡ false = sym c.is_taken.ensures ∙ c.if-is_taken.false in
-    let own : c.digest-own.result ≡ sha256 c.args.item.now.bytes = cc (c.digest-own.ensures, c.as_slice.ensures) in
-    let twins : option_or (named (row_with c.args.rows.now (sha256 c.args.item.now.bytes))) (named (row_with (map new_row c.args.done.now) (sha256 c.args.item.now.bytes))) ≡ None = cc (own, c.twin_in.ensures, c.twin_among.ensures, c.or.ensures, c.in-None.is) in
-    sym (judged-free c.args.rows.now c.args.done.now c.args.item.now.id (sha256 c.args.item.now.bytes) free ∙ ap (option_map DuplicateKey) twins)
+    let free : is_some (row_of (c.args.table.now.rows.items ++ map new_row c.args.done.now) c.args.id) ≡ false = sym c.is_taken.ensures ∙ c.if-is_taken.false in
+    let twins : option_or (named (row_with c.args.table.now.rows.items c.args.own.now)) (named (row_with (map new_row c.args.done.now) c.args.own.now)) ≡ None = cc (c.twin_in.ensures, c.twin_among.ensures, c.or.ensures, c.in-None.is) in
+    sym (judged-free c.args.table.now.rows.items c.args.done.now c.args.id c.args.own.now free ∙ ap (option_map DuplicateKey) twins)
