@@ -41,8 +41,9 @@ Monitoring messages: ping; log-status; dump-log; erase-log; alarm-reset; self-te
 of them perhaps at LANE LINK.
 Spaces or commas part words, letters count in either case, and a word that begins with # begins a comment.
 
-Status: 0 done; 1 a line, an item or an answer is at fault; 2 other words; 3 standard input is no plan;
-4 standard input could not be read; 5 standard output could not be written; 6 out of memory.
+Status: 0 done; 1 a line, an item or an answer is at fault, or a file has 4 gibibytes or more; 2 other words;
+3 standard input is no plan; 4 standard input or a file could not be read; 5 standard output could not be written;
+6 out of memory.
 Of the launcher: 70 the program could not be built.
 
 Examples:
