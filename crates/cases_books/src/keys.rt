@@ -187,7 +187,7 @@ pub fn made_again(alloc: Global, book: &KeyBook) -> Result<KeyBook, NoMemory> {
     let mut again = KeyBook::new(alloc);
     rows_may_follow();
     for row in book.rows() {
-        again.add_row(row.clone()?)?;
+        again.add_row(*row)?;
     }
     Ok(again)
 }
