@@ -352,10 +352,11 @@ crates_below() {
 
 # Finds the sources of the program; the words say what is printed of each.
 find_sources() {
-    local crate
-    cd "$parts" && for crate in $(sed 's/:.*//' <<<"$stack"); do
-        find "crates/$crate/src" "crates/$crate/specs" "crates/$crate/proofs" -type f "$@" 2>/dev/null
+    local crate folders=()
+    for crate in $(sed 's/:.*//' <<<"$stack"); do
+        folders+=("crates/$crate/src" "crates/$crate/specs" "crates/$crate/proofs")
     done
+    cd "$parts" && find "${folders[@]}" -type f "$@" 2>/dev/null
 }
 
 # A sum of the sources' names, lengths and times.
@@ -380,37 +381,28 @@ is_fresh() {
     [ "$octets" = "$(sum_of_octets)" ] && printf '%s\n' "$times" "$octets" "$built" >"$stamp"
 }
 
-# How many crates are proved at once: as many as there are processors, and 3 GB of memory for each.
-at_once() {
-    local processors memory
-    processors=$(nproc)
-    memory=$(awk '/^MemAvailable:/ { print int($2 / 3000000) }' /proc/meminfo)
-    [ "${memory:-1}" -lt "$processors" ] && processors=$memory
-    echo $((processors > 0 ? processors : 1))
-}
-
-# Proves the crates, several at once, and builds the program and tries it on its stored input. What is proved is kept,
-# so after an interrupt the next call continues.
+# Proves the crates and builds the program, as the gate does, and tries it on its stored input. What is proved is kept
+# beside the kit, so after an interrupt the next call continues.
 build() {
-    local times octets jobs teller count
-    jobs=$(at_once)
+    local times octets teller count made
     count=$(wc -l <<<"$stack")
-    say "proves and builds the program first: $count crates, $jobs at once; from nothing this takes long, and what is" \
-        "proved is kept"
+    say "proves and builds the program first: $count crates; from nothing this takes long, and what is proved is kept"
     mkdir -p "$folder/out"
     scratch=$(mktemp -d) && mkfifo "$scratch/said" || give_up 70 "there is no place for what building prints"
     trap 'rm -rf "$scratch"' EXIT
     times=$(sum_of_times)
     octets=$(sum_of_octets)
+    copy_sources || give_up 70 "there is no place for a copy of the sources, or one of them could not be read"
+    made=$scratch/clone/crates/$1/out/$1
     print_progress "$count" <"$scratch/said" &
     teller=$!
-    run_through prove_all "$jobs" </dev/null >"$scratch/said" 2>&1
+    run_through prove_all </dev/null >"$scratch/said" 2>&1
     wait "$teller"
     if [ "$status" -gt 128 ]; then
         say "building was interrupted; the next call continues it"
         rm -rf "$scratch"
         end_alike
-    elif [ "$status" != 0 ] || [ ! -x "$program" ]; then
+    elif [ "$status" != 0 ] || ! { cp "$made" "$program.new" && mv "$program.new" "$program"; }; then
         cat "$scratch/faults" >&2
         give_up 70 "the program could not be built; all that rt printed is in $folder/out/build.log"
     fi
@@ -420,47 +412,48 @@ build() {
     trap - EXIT
 }
 
-# Becomes rt, which proves this crate and all that it stands on, and runs the program as the gate does.
-prove_all() {
-    cd "$folder" && exec rt all test --jobs "$1"
+# Copies the program's crates into a folder of their own, without the edits that the gate tries. There rt judges them as
+# it judges the repository, and each crate is proved over the statements of those below.
+copy_sources() {
+    local crate part to=$scratch/clone
+    # rt wants the top of a repository
+    mkdir -p "$to/.git" "$to/crates" && cp "$parts/HANDLES" "$to" && echo "$stack" >"$to/crates.txt" || return
+    for crate in $(sed 's/:.*//' <<<"$stack"); do
+        mkdir "$to/crates/$crate" || return
+        for part in src specs proofs stdin stdout args status data; do
+            [ ! -e "$parts/crates/$crate/$part" ] || cp -r "$parts/crates/$crate/$part" "$to/crates/$crate" || return
+        done
+    done
 }
 
-# Reads what rt prints: first what a quick pass over all sources finds, then of each crate its name and what was said of
-# it, which is nothing if it was proved before, and a summary. Says how many crates are proved. Keeps all that was
-# printed, and apart from the rest what is said of crates that were not proved.
+# Becomes rt, which proves this copy and runs the program as the gate does.
+prove_all() {
+    cd "$scratch/clone" && exec rt ci
+}
+
+# Reads what rt prints: of each crate a block that begins with its name, and whether it was proved. Says how many crates
+# are proved. Keeps all that was printed, and apart from the rest what is said of crates that were not proved.
 print_progress() {
-    local line crate= block= has_lines= is_proved= proved=0
+    local line crate block= proved=0
     : >"$scratch/faults"
     while IFS= read -r line; do
         echo "$line" >&3
         case $line in
-        "== "*)
-            end_crate
-            crate=${line#== }
-            block= has_lines= is_proved=
-            continue
+        "== "*) block= ;;
+        "rt: "*" is kept: "*) proved=$((proved + 1)) ;;
+        "rt: "*" NOT PROVED"*)
+            printf '%s%s\n' "$block" "$line" >>"$scratch/faults"
+            block=
             ;;
-        "rt: waiting for another rt"*) say "${line#rt: }" ;;
-        "logic=proved "*)
-            if [ -n "$crate" ] && [ -z "$is_proved" ]; then
-                is_proved=1
-                proved=$((proved + 1))
-                say "$proved of $1 proved, $crate"
-            fi
+        "rt: "*" proved")
+            proved=$((proved + 1))
+            crate=${line#rt: }
+            say "$proved of $1 proved, ${crate% proved}"
+            block=
             ;;
-        *": proved" | *": ok" | "statements "* | "library "* | "logic "*) ;;
+        "rt: "*"; waiting for it") say "${line#rt: }" ;;
         *) block+=$line$'\n' ;;
         esac
-        has_lines=1
     done 3>"$folder/out/build.log"
-    [ -n "$is_proved" ] || printf '%s' "$block" >>"$scratch/faults"
-}
-
-# Takes what was said of a crate, when the next one's name has come.
-end_crate() {
-    if [ -n "$crate" ] && [ -z "$has_lines" ]; then
-        proved=$((proved + 1))
-    elif [ -n "$crate" ] && [ -z "$is_proved" ]; then
-        printf '%s' "$block" >>"$scratch/faults"
-    fi
+    printf '%s' "$block" >>"$scratch/faults"
 }
