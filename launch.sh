@@ -114,9 +114,17 @@ keep_others_out() {
         { exec 8<unit.img; } 2>/dev/null ||
             give_up 71 "nothing was started, for unit.img could not be opened to lock it"
         take_lock 8 "this image, by a name in another folder"
+        drop_pages
     fi
     had_image=
     [ -s unit.img ] && had_image=1
+}
+
+# Has the system forget what it holds of the image in memory, so that the program reads what is on the disk. After a sync
+# that failed, memory may have octets that the disk never got, and nothing says so to a process that begins later.
+drop_pages() {
+    dd if=unit.img of=/dev/null iflag=nocache count=0 status=none 2>/dev/null ||
+        give_up 71 "nothing was started, for the system's copy of unit.img in memory could not be dropped by dd"
 }
 
 # Notes which stream is closed: the image would then be opened by its number, which the program refuses.
@@ -191,16 +199,21 @@ site_fault() {
         echo "$closed is closed, so unit.img was not opened and is as it was: call again with that stream open"
     elif [ "$1" = init ] && [ -n "$had_image" ]; then
         echo "the disk or standard output failed, and the image that was here before was left as it is: do not" \
-            "remove it"
+            "remove it; $(after_disk)"
     elif [ "$1" = init ]; then
         echo "the disk or standard output failed, and no image was here before: remove unit.img if it is here now," \
-            "and call init again"
+            "and call init again; $(after_disk)"
     elif [ "$1" = run ]; then
         echo "the disk or standard output failed: repair that, look at the state by \`sdls stat\`, and know that" \
-            "records without an answer may have been done"
+            "records without an answer may have been done; $(after_disk)"
     else
-        echo "the disk or standard output failed: repair that, and call stat again"
+        echo "the disk or standard output failed: repair that, and call stat again; $(after_disk)"
     fi
+}
+
+# What comes before the next call if the disk failed.
+after_disk() {
+    echo "if it was the disk, restart the machine, or unmount and mount the file system, before the next call"
 }
 
 # Why `run` or `stat` ended with status 7.
@@ -292,7 +305,7 @@ It works on the file unit.img in the current folder.
 Status: 0 done; 1 the frame is refused, or a number was used or accepted twice; 2 other words; 3 the input is at fault;
 4 standard input could not be read; 5 the disk or standard output failed; 6 out of memory; 7 the image is there already,
 or is none; 8 the run has its most entries. Of the launcher: 70 the program could not be built; 71 the folder or the
-image could not be locked; 75 another unit holds one of them.
+image could not be locked, or its copy in memory not dropped; 75 another unit holds one of them.
 
 Example:
   sdls init < examples/plan-two-links.txt
