@@ -56,17 +56,49 @@ fn zeros(alloc: Global, count: usize) -> Option<Vec<u8>>
     vec![in alloc; 0; count].ok()
 }
 
-/// The plan that a text is, and the state that its lines make.
-fn read_plan(alloc: Global, text: &[u8]) -> Option<(Plan, State)>
-    ensures { IfSome result (λ made. SaysPlan text.now made.0 made.1) }
+/// The image of a plan and its first state, made in these rooms.
+fn image_made(
+    alloc: Global,
+    text: &[u8],
+    plan: &Plan,
+    state: &State,
+    bare: &mut [u8],
+    content: &mut [u8],
+) -> Option<Vec<u8>>
+    requires says { SaysPlan text.now plan.now state.now }
+    requires room { length text.now + 1 ≤ length bare.old }
+    requires sized { length content.old ≡ CONTENT_LENGTH_TWO }
+    ensures { IfSome result (λ image. image.items ≡ image_of_plan text.now plan.now state.now) }
 {
-    let Ok(plan) = Plan::read(alloc, text) else {
-        return None;
-    };
-    let Ok(state) = State::initial(alloc, &plan) else {
-        return None;
-    };
-    Some((plan, state))
+    let mut site = MemSite::new(alloc, Vec::new(alloc), Vec::new(alloc), None);
+    match create_image(&mut site, text, plan, state, bare, content) {
+        Ok(()) => Vec::from_slice(alloc, site.image()).ok(),
+        Err(_) => None,
+    }
+}
+
+/// The image of a plan and its first state.
+fn image_of_state(alloc: Global, text: &[u8], plan: &Plan, state: &State) -> Option<Vec<u8>>
+    requires says { SaysPlan text.now plan.now state.now }
+    requires short { length text.now ≤ MOST_OCTETS }
+    ensures { IfSome result (λ image. image.items ≡ image_of_plan text.now plan.now state.now) }
+{
+    let mut bare = zeros(alloc, text.len() + 1)?;
+    let mut content = zeros(alloc, CONTENT_LENGTH_TWO)?;
+    image_made(alloc, text, plan, state, &mut bare, &mut content)
+}
+
+/// The image of a plan that was read.
+fn image_of_lines(alloc: Global, text: &[u8], plan: &Plan) -> Option<Vec<u8>>
+    requires read { plan_of text.now ≡ Ok plan.now }
+    requires short { length text.now ≤ MOST_OCTETS }
+    ensures { IfSome result (λ image. (first : State)
+        × SaysPlan text.now plan.now first × (image.items ≡ image_of_plan text.now plan.now first)) }
+{
+    match State::initial(alloc, plan) {
+        Ok(state) => image_of_state(alloc, text, plan, &state),
+        Err(_) => None,
+    }
 }
 
 /// The image that the plan of a text begins with. `None` if the text is no plan, or memory ran out.
@@ -77,15 +109,8 @@ pub fn image_of(alloc: Global, text: &[u8]) -> Option<Vec<u8>>
     if text.len() > MOST_OCTETS {
         return None;
     }
-    let (plan, state) = read_plan(alloc, text)?;
-    let mut bare = zeros(alloc, text.len() + 1)?;
-    let mut content = zeros(alloc, CONTENT_LENGTH_TWO)?;
-    let mut site = MemSite::new(alloc, Vec::new(alloc), Vec::new(alloc), None);
-    let Ok(()) = create_image(&mut site, text, &plan, &state, &mut bare, &mut content) else {
-        return None;
-    };
-    match Vec::from_slice(alloc, site.image()) {
-        Ok(image) => Some(image),
+    match Plan::read(alloc, text) {
+        Ok(plan) => image_of_lines(alloc, text, &plan),
         Err(_) => None,
     }
 }
@@ -114,6 +139,57 @@ fn create_old_image<O: Site>(
     create(site, &bare[..end], plan.slots(), content)
 }
 
+/// The image of version 1 of a plan and its first state, made in these rooms.
+fn old_image_made(
+    alloc: Global,
+    text: &[u8],
+    plan: &Plan,
+    state: &State,
+    bare: &mut [u8],
+    content: &mut [u8],
+) -> Option<Vec<u8>>
+    requires says { SaysPlan text.now plan.now state.now }
+    requires room { length text.now + 1 ≤ length bare.old }
+    requires sized { length content.old ≡ CONTENT_LENGTH_ONE }
+    requires fits { FitsVersion One state.now }
+    ensures { IfSome result (λ image. image.items
+        ≡ created_image Old (bare_of text.now) plan.now.slots (content_of One state.now)) }
+{
+    let mut site = MemSite::new(alloc, Vec::new(alloc), Vec::new(alloc), None);
+    match create_old_image(&mut site, text, plan, state, bare, content) {
+        Ok(()) => Vec::from_slice(alloc, site.image()).ok(),
+        Err(_) => None,
+    }
+}
+
+/// The image of version 1 of a plan and its first state.
+fn old_image_of_state(alloc: Global, text: &[u8], plan: &Plan, state: &State) -> Option<Vec<u8>>
+    requires says { SaysPlan text.now plan.now state.now }
+    requires short { length text.now ≤ MOST_OCTETS }
+    ensures { IfSome result (λ image. image.items
+        ≡ created_image Old (bare_of text.now) plan.now.slots (content_of One state.now)) }
+{
+    if !image_content::fits(Version::One, state) {
+        return None;
+    }
+    let mut bare = zeros(alloc, text.len() + 1)?;
+    let mut content = zeros(alloc, CONTENT_LENGTH_ONE)?;
+    old_image_made(alloc, text, plan, state, &mut bare, &mut content)
+}
+
+/// The image of version 1 of a plan that was read.
+fn old_image_of_lines(alloc: Global, text: &[u8], plan: &Plan) -> Option<Vec<u8>>
+    requires read { plan_of text.now ≡ Ok plan.now }
+    requires short { length text.now ≤ MOST_OCTETS }
+    ensures { IfSome result (λ image. (first : State) × SaysPlan text.now plan.now first
+        × (image.items ≡ created_image Old (bare_of text.now) plan.now.slots (content_of One first))) }
+{
+    match State::initial(alloc, plan) {
+        Ok(state) => old_image_of_state(alloc, text, plan, &state),
+        Err(_) => None,
+    }
+}
+
 /// The image of version 1 of the plan of a text, as earlier programs made it. `None` if the text is no plan, if version
 /// 1 has no room for its keys or associations, or if memory ran out.
 pub fn image_of_version_one(alloc: Global, text: &[u8]) -> Option<Vec<u8>>
@@ -123,18 +199,8 @@ pub fn image_of_version_one(alloc: Global, text: &[u8]) -> Option<Vec<u8>>
     if text.len() > MOST_OCTETS {
         return None;
     }
-    let (plan, state) = read_plan(alloc, text)?;
-    if !image_content::fits(Version::One, &state) {
-        return None;
-    }
-    let mut bare = zeros(alloc, text.len() + 1)?;
-    let mut content = zeros(alloc, CONTENT_LENGTH_ONE)?;
-    let mut site = MemSite::new(alloc, Vec::new(alloc), Vec::new(alloc), None);
-    let Ok(()) = create_old_image(&mut site, text, &plan, &state, &mut bare, &mut content) else {
-        return None;
-    };
-    match Vec::from_slice(alloc, site.image()) {
-        Ok(image) => Some(image),
+    match Plan::read(alloc, text) {
+        Ok(plan) => old_image_of_lines(alloc, text, &plan),
         Err(_) => None,
     }
 }

@@ -1,6 +1,6 @@
 //! Runs over the image of a unit.
 use case_lines::number_of;
-use case_runs::BEGINNING;
+use case_units::BEGINNING;
 use record_io::Outcome;
 use record_io::code::{ACCEPTED, DONE};
 use record_io::status::SOURCE_FAULT;

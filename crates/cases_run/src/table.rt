@@ -2,8 +2,7 @@
 
 use crate::answers::answers;
 use case_lines::{Gathered, number_at, numbers, part_of, said, set_part_of, word_at, words_of};
-use case_runs::BEGINNING;
-use case_units::image_after;
+use case_units::{BEGINNING, image_after};
 use sdls_outside::{MemSite, MemSource, Site, Source};
 use sdls_run::{OpenGate, Outcome, run};
 use std::alloc::{AllocError, Global};

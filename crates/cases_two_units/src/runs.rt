@@ -1,6 +1,6 @@
 //! Runs of a unit over its image.
 use crate::chance::Chance;
-use case_runs::BEGINNING;
+use case_units::BEGINNING;
 use record_io::Outcome;
 use sdls_outside::{Crash, MemSite, SureSource};
 use std::alloc::{AllocError, Global};

@@ -1,7 +1,7 @@
 // The most frames of a segment, seen in what `run` answers.
 use crate::runs::life;
 use crate::support::{CALL_AFTER_OPENING, dead_site, push_bare, quiet_site};
-use case_runs::{BEGINNING, joined};
+use case_units::{BEGINNING, joined};
 use sdls_outside::MemSite;
 use sdls_run::status::{DONE, SITE_FAULT};
 use std::alloc::Global;

@@ -2,8 +2,7 @@
 use crate::runs::life;
 use crate::support::CALL_AFTER_OPENING;
 use case_lines::number_of;
-use case_runs::{BEGINNING, TELECOMMAND, joined};
-use case_units::{TWO_SENDERS, image_of, image_of_sender};
+use case_units::{BEGINNING, TELECOMMAND, TWO_SENDERS, image_of, image_of_sender, joined};
 use sdls_outside::{Crash, MemSite};
 use sdls_run::status::{DONE, SITE_FAULT};
 use std::alloc::{AllocError, Global};

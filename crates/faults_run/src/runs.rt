@@ -1,7 +1,7 @@
 // Runs of a whole unit over sites in memory. What `run` ensures is not said again: a test looks at what a run wrote,
 // and the clauses would be carried through each step behind the call.
 use case_lines::words_of;
-use case_runs::{BEGINNING, FENCE, TELECOMMAND, joined};
+use case_units::{BEGINNING, FENCE, TELECOMMAND, joined};
 use sdls_outside::{MemSite, Site, Source, SureSource};
 use sdls_run::{OpenGate, Outcome, run, run_plain};
 use std::alloc::{AllocError, Global};

@@ -1,8 +1,7 @@
 // A disk that fails under one of sixteen lanes.
 use crate::answers::{Head, PROTECTED, counted, numbers_of};
 use crate::support::told;
-use case_runs::{BEGINNING, FENCE, TELECOMMAND, push_frame};
-use case_units::{TELECOMMAND_SENDER, image_of_sender};
+use case_units::{BEGINNING, FENCE, TELECOMMAND, TELECOMMAND_SENDER, image_of_sender, push_frame};
 use sdls_run::OpenGate;
 use sdls_run::status::SITE_FAULT;
 use std::alloc::{AllocError, Global};

@@ -2,8 +2,7 @@
 use crate::answers::{Head, counted};
 use crate::runs::life;
 use crate::support::told;
-use case_runs::{BEGINNING, FENCE, push_frame};
-use case_units::{TELECOMMAND_SENDER, image_of, image_of_sender};
+use case_units::{BEGINNING, FENCE, TELECOMMAND_SENDER, image_of, image_of_sender, push_frame};
 use sdls_outside::MemSite;
 use sdls_run::OpenGate;
 use sdls_run::status::DONE;

@@ -2,8 +2,7 @@
 use crate::answers::Head;
 use crate::support::told;
 use crate::waits::Flag;
-use case_runs::{BEGINNING, TELECOMMAND};
-use case_units::{TWO_SENDERS, image_of_sender};
+use case_units::{BEGINNING, TELECOMMAND, TWO_SENDERS, image_of_sender};
 use sdls_run::Gate;
 use sdls_run::status::DONE;
 use std::alloc::{AllocError, Global};

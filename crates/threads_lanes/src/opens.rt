@@ -2,8 +2,7 @@
 use crate::answers::Head;
 use crate::support::told;
 use crate::waits::{Count, Flag};
-use case_runs::{BEGINNING, push_on_lane};
-use case_units::image_of;
+use case_units::{BEGINNING, image_of, push_on_lane};
 use sdls_run::Gate;
 use sdls_run::status::DONE;
 use std::alloc::{AllocError, Global};

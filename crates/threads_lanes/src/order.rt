@@ -1,7 +1,6 @@
 // Records of one lane alone.
 use crate::support::told;
-use case_runs::{BEGINNING, push_frame};
-use case_units::{TELECOMMAND_SENDER, image_of_sender};
+use case_units::{BEGINNING, TELECOMMAND_SENDER, image_of_sender, push_frame};
 use sdls_run::OpenGate;
 use sdls_run::status::DONE;
 use std::alloc::{AllocError, Global};

@@ -2,8 +2,7 @@
 use crate::answers::{Head, numbers_of};
 use crate::meeting::{Meeting, TELEMETRY};
 use crate::support::told;
-use case_runs::{BEGINNING, TELECOMMAND, push_on_lane};
-use case_units::{TWO_SENDERS, image_of_sender};
+use case_units::{BEGINNING, TELECOMMAND, TWO_SENDERS, image_of_sender, push_on_lane};
 use sdls_run::status::DONE;
 use std::alloc::{AllocError, Global};
 use std::process::Abort;

@@ -1,8 +1,7 @@
 // A stop on one of sixteen lanes.
 use crate::answers::{Head, PROTECTED, counted, numbers_of};
 use crate::support::told;
-use case_runs::{BEGINNING, push_frame};
-use case_units::{TELECOMMAND_SENDER, image_of_sender};
+use case_units::{BEGINNING, TELECOMMAND_SENDER, image_of_sender, push_frame};
 use sdls_run::OpenGate;
 use sdls_run::status::DONE;
 use std::alloc::{AllocError, Global};
