@@ -1,66 +1,82 @@
 // Items of recorded input, as lines.
 use item_text::{put_fence, put_record};
-use record_io::{Reader, SegmentEnd};
+use record_io::{Reader, Record, SegmentEnd};
+use sdls_base::NoMemory;
 use sdls_outside::SureSource;
-use std::alloc::Global;
+use std::alloc::{AllocError, Global};
 use std::str;
 
 /// The most segments that are read of a case.
 const MOST_SEGMENTS: u32 = 64;
 
-/// The recorded input of a case, whose octets are the items behind the beginning.
-fn input_of(alloc: Global, case: &str) -> anyhow::Result<SureSource> {
+/// The items behind the beginning of a recorded input.
+fn with_beginning(alloc: Global, items: &[u8]) -> Result<Vec<u8>, AllocError> {
     let mut octets = b"SDLSREC1".to_vec(alloc)?;
-    let items = hex::decode(alloc, case.as_bytes())?;
-    octets.extend_from_slice(items.as_slice())?;
-    Ok(SureSource::new(octets))
+    octets.extend_from_slice(items)?;
+    Ok(octets)
 }
 
-/// Puts the lines of the next segment, and of the Monitor record that ends it, and answers how it ends: `More` if the
-/// next segment is to be read. No case has so many records that a segment ends without
-/// a fence.
-fn put_segment(
+/// The recorded input of a case, whose octets are the items behind the beginning.
+fn input_of(alloc: Global, case: &str) -> anyhow::Result<SureSource> {
+    let items = hex::decode(alloc, case)?;
+    Ok(SureSource::new(with_beginning(alloc, items.as_slice())?))
+}
+
+/// Adds the lines of records.
+fn push_records(alloc: Global, text: &mut Vec<u8>, records: Vec<Record>) -> Result<(), NoMemory> {
+    for record in records {
+        put_record(alloc, text, record)?;
+    }
+    Ok(())
+}
+
+/// Adds the line of what ends a segment, or `/` and the offset of the first octets that are no item. Returns whether
+/// the next segment is to be read. No case has so many records that a segment ends without a fence.
+fn push_end(alloc: Global, text: &mut Vec<u8>, end: SegmentEnd) -> Result<bool, NoMemory> {
+    match end {
+        SegmentEnd::More => put_fence(alloc, text)?,
+        SegmentEnd::Monitor(record) => put_record(alloc, text, record)?,
+        SegmentEnd::Malformed(offset) => {
+            text.extend_from_slice(format!(in alloc; "/ {offset}")?.as_bytes())?;
+            return Ok(false);
+        }
+        SegmentEnd::End | SegmentEnd::SourceFault(_) => return Ok(false),
+    }
+    Ok(true)
+}
+
+/// Adds the lines of the next segment. Returns whether another is to be read.
+fn push_segment(
     alloc: Global,
     reader: &mut Reader,
     input: &mut SureSource,
     text: &mut Vec<u8>,
-) -> anyhow::Result<SegmentEnd> {
+) -> Result<bool, NoMemory> {
     let (records, end) = reader.next_segment(alloc, input)?;
-    for record in records {
-        put_record(alloc, text, record)?;
-    }
-    match end {
-        SegmentEnd::More => {
-            put_fence(alloc, text)?;
-            Ok(SegmentEnd::More)
-        }
-        SegmentEnd::Monitor(record) => {
-            put_record(alloc, text, record)?;
-            Ok(SegmentEnd::More)
-        }
-        _ => Ok(end),
-    }
+    push_records(alloc, text, records)?;
+    push_end(alloc, text, end)
 }
 
-/// The lines of the items of a case, up to the end or the first octets that are none; then `/` and the offset of these
-/// in the input.
-pub fn answer(alloc: Global, case: &str) -> anyhow::Result<Option<String>> {
-    let mut input = input_of(alloc, case)?;
-    let mut reader = Reader::new(alloc);
-    let mut text = Vec::new(alloc);
-    let mut end = SegmentEnd::More;
+/// Adds the lines of the items, up to the end or the first octets that are none.
+fn push_items(
+    alloc: Global,
+    reader: &mut Reader,
+    input: &mut SureSource,
+    text: &mut Vec<u8>,
+) -> Result<(), NoMemory> {
     for _ in 0..MOST_SEGMENTS {
-        if end != SegmentEnd::More {
+        if !push_segment(alloc, reader, input, text)? {
             break;
         }
-        end = put_segment(alloc, &mut reader, &mut input, &mut text)?;
     }
-    let lines = str::from_utf8(&text)?;
-    if let SegmentEnd::Malformed(offset) = end {
-        return Ok(Some(format!(in alloc; "{lines}/ {offset}")?));
-    }
-    match lines.strip_suffix("\n") {
-        Some(lines) => Ok(Some(format!(in alloc; "{lines}")?)),
-        None => Ok(None),
-    }
+    Ok(())
+}
+
+/// Writes the lines of the items of a case; behind `/` the offset in the input of the first octets that are none.
+pub fn answer(alloc: Global, case: &str, answer: &mut String) -> anyhow::Result<()> {
+    let mut input = input_of(alloc, case)?;
+    let mut text = Vec::new(alloc);
+    push_items(alloc, &mut Reader::new(alloc), &mut input, &mut text)?;
+    let lines = str::from_utf8(text.as_slice()).unwrap_or("no text");
+    Ok(answer.push_str(lines.strip_suffix("\n").unwrap_or(lines))?)
 }
