@@ -31,22 +31,33 @@ pub fn accepted(words: &mut SplitWhitespace<'_>) -> Option<Change>
     })
 }
 
+/// The load of one key with these octets.
+pub fn load_of(alloc: Global, id: KeyId, octets: Vec<u8>) -> Result<Change, AllocError> {
+    let bytes = Octets::new(octets);
+    Ok(Change::Load(KeyItems::new(vec![in alloc; KeyItem { id, bytes }]?)))
+}
+
 fn load(alloc: Global, words: &mut SplitWhitespace<'_>) -> Option<Change> {
     let id = key(words)?;
-    let bytes = Octets::new(hex::decode(alloc, words.next()?).ok()?);
-    let items = vec![in alloc; KeyItem { id, bytes }].ok()?;
-    Some(Change::Load(KeyItems::new(items)))
+    let octets = hex::decode(alloc, words.next()?).ok()?;
+    load_of(alloc, id, octets).ok()
+}
+
+/// The key with this number, if it is a key's, with its identifier as its octets.
+fn push_item(alloc: Global, items: &mut Vec<KeyItem>, number: u16) -> Result<(), AllocError> {
+    if let Some(id) = KeyId::new(number) {
+        let octets = u128::from(number).to_be_bytes();
+        let bytes = Octets::new(Vec::from_slice(alloc, &octets)?);
+        items.push(KeyItem { id, bytes })?;
+    }
+    Ok(())
 }
 
 /// The load of eight keys from this one on, each with its identifier as its octets.
 pub fn eight_keys(alloc: Global, first: u16) -> Result<Change, AllocError> {
     let mut items = Vec::new(alloc);
     for number in first..=first.saturating_add(7) {
-        if let Some(id) = KeyId::new(number) {
-            let octets = u128::from(number).to_be_bytes();
-            let bytes = Octets::new(Vec::from_slice(alloc, &octets)?);
-            items.push(KeyItem { id, bytes })?;
-        }
+        push_item(alloc, &mut items, number)?;
     }
     Ok(Change::Load(KeyItems::new(items)))
 }

@@ -1,10 +1,12 @@
 // Commands in words, and what they answer.
-use crate::scenario::{Answer, Scenario};
+ghost use Rattle.std.specs.Prelude.{IfOk};
+ghost use Rattle.ep_codec.specs.Command.{IsInBounds};
+
+use crate::scenario::Scenario;
 use case_lines::{number, piece};
-use case_units::reply_text;
-use ep_core::Need;
+use ep_codec::{Command, read_pdu};
 use sdls_base::Seen;
-use std::alloc::{AllocError, Global};
+use std::alloc::Global;
 use std::str::SplitWhitespace;
 
 /// What was seen of a key's numbers: `-`, or a word with a number.
@@ -19,43 +21,22 @@ fn seen(words: &mut SplitWhitespace<'_>) -> Seen {
     }
 }
 
-/// Writes what was needed.
-fn need_text(alloc: Global, need: &Need) -> Result<String, AllocError> {
-    match need {
-        Need::Nothing => String::from_str(alloc, "nothing"),
-        Need::Look(key) => {
-            let key = key.get();
-            format!(in alloc; "look {key}")
-        }
-        Need::Raise(key, number) => {
-            let key = key.get();
-            format!(in alloc; "raise {key} {number}")
-        }
-        Need::Number(key) => {
-            let key = key.get();
-            format!(in alloc; "number {key}")
-        }
-    }
+/// The command that the next word is.
+fn command(alloc: Global, words: &mut SplitWhitespace<'_>) -> anyhow::Result<Command>
+    ensures { IfOk result IsInBounds }
+{
+    let octets = piece(alloc, words)?;
+    Ok(read_pdu(alloc, octets.as_slice())?)
 }
 
-fn answer_text(alloc: Global, answer: &Answer) -> Result<String, AllocError> {
-    match answer {
-        Answer::Unfit => String::from_str(alloc, "unfit"),
-        Answer::NotAllowed => String::from_str(alloc, "not allowed"),
-        Answer::Told(reply) => reply_text(alloc, reply),
-    }
-}
-
-fn told(alloc: Global, need: &Need, answer: &Answer) -> Result<String, AllocError> {
-    let need = need_text(alloc, need)?;
-    let answer = answer_text(alloc, answer)?;
-    format!(in alloc; "{need}: {answer}")
-}
-
-/// What a message needs, and what it is answered: `MESSAGE SEEN`.
-pub fn obey(alloc: Global, scenario: &mut Scenario, text: &str) -> anyhow::Result<String> {
+/// Writes what a message needs, and what it is answered: `MESSAGE SEEN`.
+pub fn obey(
+    alloc: Global,
+    scenario: &mut Scenario,
+    text: &str,
+    answer: &mut String,
+) -> anyhow::Result<()> {
     let mut words = text.split_whitespace();
-    let octets = piece(alloc, &mut words)?;
-    let (need, answer) = scenario.obey(alloc, octets.as_slice(), seen(&mut words))?;
-    Ok(told(alloc, &need, &answer)?)
+    let command = command(alloc, &mut words)?;
+    Ok(scenario.obey(alloc, &command, seen(&mut words), answer)?)
 }

@@ -1,72 +1,78 @@
 // Security headers, rooms and masks.
-use case_lines::said;
-use sdls_base::{Spi, Suite};
+use crate::digits::Digits;
+use sdls_base::Suite;
 use sdls_header::{SecurityHeader, Split, Vector, masked, read_spi, split, write_header};
 use std::alloc::{AllocError, Global};
 use std::str::SplitWhitespace;
 
-/// The index at the front of a room.
-pub fn index(alloc: Global, words: &mut SplitWhitespace<'_>) -> anyhow::Result<String> {
-    let room = case_lines::octets(alloc, words)?;
-    match read_spi(room.as_slice()) {
-        Some(spi) => Ok(format!(in alloc; "{spi}")?),
-        None => said(alloc, "none"),
+/// Writes the index at the front of a room.
+pub fn write_index(answer: &mut String, room: &[u8]) -> Result<(), AllocError> {
+    match read_spi(room) {
+        Some(spi) => write!(answer, "{spi}"),
+        None => answer.push_str("none"),
     }
 }
 
-fn vector_text(alloc: Global, vector: &Vector) -> Result<String, AllocError> {
+fn write_vector(answer: &mut String, vector: &Vector) -> Result<(), AllocError> {
     match vector {
-        Vector::Sequence(number) => format!(in alloc; "{number}"),
-        Vector::Wide { device, number } => {
-            let device = hex::encode(alloc, device.as_slice())?;
-            format!(in alloc; "{device}:{number}")
-        }
+        Vector::Sequence(number) => write!(answer, "{number}"),
+        Vector::Wide { device, number } => write!(answer, "{}:{number}", Digits(device)),
     }
 }
 
-fn split_text(alloc: Global, pieces: &Split<'_>) -> anyhow::Result<String> {
-    let header = hex::encode(alloc, pieces.header)?;
-    let vector = vector_text(alloc, &pieces.vector)?;
-    let field = hex::encode(alloc, pieces.field)?;
-    let mac = hex::encode(alloc, pieces.mac)?;
-    Ok(format!(in alloc; "header {header} vector {vector} field {field} mac {mac}")?)
+fn write_split(answer: &mut String, pieces: &Split<'_>) -> Result<(), AllocError> {
+    write!(answer, "header {} vector ", Digits(pieces.header))?;
+    write_vector(answer, &pieces.vector)?;
+    write!(
+        answer,
+        " field {} mac {}",
+        Digits(pieces.field),
+        Digits(pieces.mac)
+    )
 }
 
-/// A room taken apart.
-pub fn room(alloc: Global, words: &mut SplitWhitespace<'_>) -> anyhow::Result<String> {
-    let suite = case_lines::suite(words).unwrap_or(Suite::Cmac);
-    let room = case_lines::octets(alloc, words)?;
-    match split(room.as_slice(), suite) {
-        Some(pieces) => split_text(alloc, &pieces),
-        None => said(alloc, "none"),
+/// Writes a room taken apart.
+pub fn write_room(answer: &mut String, suite: Suite, room: &[u8]) -> Result<(), AllocError> {
+    match split(room, suite) {
+        Some(pieces) => write_split(answer, &pieces),
+        None => answer.push_str("none"),
     }
 }
 
-/// A header of each suite as it is written into 15 octets of 55.
-pub fn header(alloc: Global, words: &mut SplitWhitespace<'_>) -> anyhow::Result<String> {
-    let kind = words.next();
-    let Some(spi) = Spi::new(case_lines::short(words).unwrap_or(0)) else {
-        return said(alloc, "no index");
-    };
-    let number = case_lines::number(words).unwrap_or(0);
-    let vector = match kind {
-        Some("gcm") => Vector::Wide {
+/// The vector of a header of this kind.
+fn vector_of(kind: &str, number: u64) -> Vector {
+    match kind {
+        "gcm" => Vector::Wide {
             device: [0xD0, 0, 0, 1],
             number,
         },
         _ => Vector::Sequence(u32::try_from(number).unwrap_or(0)),
-    };
-    let mut out = [0x55; 15];
-    let count = write_header(&SecurityHeader { spi, vector }, &mut out);
-    let octets = hex::encode(alloc, &out)?;
-    Ok(format!(in alloc; "{count} of {octets}")?)
+    }
 }
 
-/// A prefix under a mask.
-pub fn under_mask(alloc: Global, words: &mut SplitWhitespace<'_>) -> anyhow::Result<String> {
-    let mask = case_lines::piece(alloc, words)?;
-    let prefix = case_lines::octets(alloc, words)?;
+/// Writes a header of each suite as it is written into 15 octets of 55.
+pub fn answer_header(
+    words: &mut SplitWhitespace<'_>,
+    answer: &mut String,
+) -> Result<(), AllocError> {
+    let kind = words.next().unwrap_or("");
+    let Some(spi) = case_lines::spi(words) else {
+        return answer.push_str("no index");
+    };
+    let vector = vector_of(kind, case_lines::number(words).unwrap_or(0));
+    let mut out = [0x55; 15];
+    let count = write_header(&SecurityHeader { spi, vector }, &mut out);
+    write!(answer, "{count} of {}", Digits(&out))
+}
+
+/// Writes a prefix under a mask.
+pub fn write_masked(
+    alloc: Global,
+    answer: &mut String,
+    mask: &[u8],
+    prefix: &[u8],
+) -> Result<(), AllocError> {
     let mut out = vec![in alloc; 0x55; prefix.len()]?;
-    masked(prefix.as_slice(), mask.as_slice(), out.as_mut_slice());
-    Ok(hex::encode(alloc, out.as_slice())?)
+    masked(prefix, mask, out.as_mut_slice());
+    write!(answer, "{}", Digits(out.as_slice()))
 }

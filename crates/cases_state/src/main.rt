@@ -17,10 +17,10 @@
 //! to end, and `lengths` lists the lengths that messages of a tag may have. The words of each line are in `README.md`.
 #![tactic(auto)]
 
-mod bits;
 mod cases;
 mod changes;
 mod commands;
+mod digits;
 mod frames;
 mod headers;
 mod messages;
@@ -32,9 +32,9 @@ mod shielding;
 mod showing;
 mod table;
 
-use case_lines::print_answers;
+use case_lines::print_steps;
 use table::Table;
 
 fn main(rt: HostRuntime) -> anyhow::Result<()> {
-    print_answers(&rt, &mut Table::new(rt.alloc()))
+    print_steps(&rt, &mut Table::new(rt.alloc()))
 }

@@ -1,54 +1,50 @@
 //! Messages, read and written back.
+ghost use Rattle.ep_codec.specs.Command.{IsInBounds};
+ghost use Rattle.ep_codec.specs.ReplyPdu.{IsInBounds as IsReplyInBounds};
 
 use ep_codec::{Command, PduError, ReplyPdu, read_pdu, read_reply, write_pdu, write_reply};
-use sdls_base::{NoMemory, Octets};
+use sdls_base::NoMemory;
 use std::alloc::Global;
-use std::fmt::Debug;
 
-/// What is read of a command, and its octets as they are written again.
-fn command_again(alloc: Global, octets: &[u8]) -> Result<(Command, Octets), PduError> {
-    let command = read_pdu(alloc, octets)?;
-    match write_pdu(alloc, &command) {
-        Ok(written) => Ok((command, written)),
-        Err(NoMemory) => Err(PduError::NoMemory),
-    }
-}
-
-/// The same of a reply.
-fn reply_again(alloc: Global, octets: &[u8]) -> Result<(ReplyPdu, Octets), PduError> {
-    let reply = read_reply(alloc, octets)?;
-    match write_reply(alloc, &reply) {
-        Ok(written) => Ok((reply, written)),
-        Err(NoMemory) => Err(PduError::NoMemory),
-    }
-}
-
-/// What is read, and whether its octets are written again.
-fn shown<T: Debug>(
+/// Writes a command that was read, and whether its octets are written again.
+fn write_command(
     alloc: Global,
-    read: &T,
+    answer: &mut String,
+    command: &Command,
     octets: &[u8],
-    written: &Octets,
-) -> anyhow::Result<String> {
-    let again = written.as_slice() == octets;
-    Ok(format!(in alloc; "{read:?}, written again: {again}")?)
+) -> Result<(), NoMemory>
+    requires { IsInBounds command.now }
+{
+    let again = write_pdu(alloc, command)?.as_slice() == octets;
+    Ok(write!(answer, "{command:?}, written again: {again}")?)
 }
 
-/// What is read of a command, and whether its octets are written again, or the first fault.
-fn command(alloc: Global, text: &str) -> anyhow::Result<String> {
-    let octets = hex::decode(alloc, text)?;
-    match command_again(alloc, octets.as_slice()) {
-        Ok((command, written)) => shown(alloc, &command, octets.as_slice(), &written),
-        Err(error) => Ok(format!(in alloc; "{error}")?),
+/// Writes what is read of a command, and whether its octets are written again, or the first fault.
+fn read_command(alloc: Global, answer: &mut String, octets: &[u8]) -> Result<(), NoMemory> {
+    match read_pdu(alloc, octets) {
+        Ok(command) => write_command(alloc, answer, &command, octets),
+        Err(error) => Ok(write!(answer, "{error}")?),
     }
 }
 
+/// The same of a reply that was read.
+fn write_again(
+    alloc: Global,
+    answer: &mut String,
+    reply: &ReplyPdu,
+    octets: &[u8],
+) -> Result<(), NoMemory>
+    requires { IsReplyInBounds reply.now }
+{
+    let again = write_reply(alloc, reply)?.as_slice() == octets;
+    Ok(write!(answer, "{reply:?}, written again: {again}")?)
+}
+
 /// The same of a reply.
-fn reply(alloc: Global, text: &str) -> anyhow::Result<String> {
-    let octets = hex::decode(alloc, text)?;
-    match reply_again(alloc, octets.as_slice()) {
-        Ok((reply, written)) => shown(alloc, &reply, octets.as_slice(), &written),
-        Err(error) => Ok(format!(in alloc; "{error}")?),
+fn read_again(alloc: Global, answer: &mut String, octets: &[u8]) -> Result<(), NoMemory> {
+    match read_reply(alloc, octets) {
+        Ok(reply) => write_again(alloc, answer, &reply, octets),
+        Err(error) => Ok(write!(answer, "{error}")?),
     }
 }
 
@@ -68,65 +64,68 @@ fn reply_fault(alloc: Global, octets: &[u8]) -> Option<u32> {
     }
 }
 
-/// At how many octets a cut of the command is reported to be its first fault.
-fn cuts(alloc: Global, text: &str) -> anyhow::Result<String> {
-    let octets = hex::decode(alloc, text)?;
+/// Writes at how many octets a cut of the command is reported to be its first fault.
+fn count_cuts(alloc: Global, answer: &mut String, octets: &[u8]) -> Result<(), NoMemory> {
     let mut reported: u32 = 0;
     for end in 0..octets.len() {
-        let part = octets.get(..end).unwrap_or(&[]);
-        if command_fault(alloc, part).is_some_and(|at| at as usize == end) {
+        if command_fault(alloc, &octets[..end]).is_some_and(|at| at as usize == end) {
             reported = reported.saturating_add(1);
         }
     }
-    Ok(format!(in alloc; "{reported}")?)
+    Ok(write!(answer, "{reported}")?)
 }
 
-/// A message of this tag, with so many octets of data, all of them 1.
-fn of_length(alloc: Global, tag: u8, length: u16) -> anyhow::Result<Vec<u8>> {
+/// Whether messages of this tag may have so many octets of data, which are all of the room behind the header.
+fn is_allowed(alloc: Global, tag: u8, length: u16, room: &mut [u8]) -> bool {
     let [high, low] = length.wrapping_mul(8).to_be_bytes();
-    let mut octets = Vec::from_slice(alloc, &[tag, high, low])?;
-    octets.resize(usize::from(length) + 3, 1)?;
-    Ok(octets)
-}
-
-/// Whether the message has a length that its procedure does not allow.
-fn is_refused(alloc: Global, tag: u8, octets: &[u8]) -> bool {
-    let fault = if tag < 0x80 {
-        command_fault(alloc, octets)
-    } else {
-        reply_fault(alloc, octets)
+    let Some(message) = room.get_mut(..usize::from(length) + 3) else {
+        return false;
     };
-    fault == Some(1)
+    message[0] = tag;
+    message[1] = high;
+    message[2] = low;
+    let fault = if tag < 0x80 {
+        command_fault(alloc, message)
+    } else {
+        reply_fault(alloc, message)
+    };
+    fault != Some(1)
 }
 
-/// Whether messages of this tag may have so many octets of data.
-fn is_allowed(alloc: Global, tag: u8, length: u16) -> anyhow::Result<bool> {
-    let octets = of_length(alloc, tag, length)?;
-    Ok(!is_refused(alloc, tag, octets.as_slice()))
-}
-
-/// The lengths up to a greatest one that messages of a tag may have: `TAG GREATEST`, the tag in hexadecimal.
-fn lengths(alloc: Global, text: &str) -> anyhow::Result<String> {
-    let (tag, greatest) = text.split_once(' ').unwrap_or((text, ""));
-    let tag = hex::decode(alloc, tag)?.first().copied().unwrap_or(0);
-    let greatest: u16 = greatest.parse().unwrap_or(0);
-    let mut allowed = String::from_str(alloc, "lengths")?;
+/// Writes the lengths up to a greatest one that messages of a tag may have, all of whose data are the room's.
+fn write_lengths(
+    alloc: Global,
+    answer: &mut String,
+    tag: u8,
+    greatest: u16,
+    room: &mut [u8],
+) -> Result<(), NoMemory> {
+    answer.push_str("lengths")?;
     for length in 0..=greatest {
-        if is_allowed(alloc, tag, length)? {
-            let shown = format!(in alloc; " {length}")?;
-            allowed.push_str(shown.as_str())?;
+        if is_allowed(alloc, tag, length, room) {
+            write!(answer, " {length}")?;
         }
     }
-    Ok(allowed)
+    Ok(())
 }
 
-/// What a step on messages answers, none where the word names another.
-pub fn answer(alloc: Global, word: &str, rest: &str) -> Option<anyhow::Result<String>> {
-    match word {
-        "command" => Some(command(alloc, rest)),
-        "reply" => Some(reply(alloc, rest)),
-        "cuts" => Some(cuts(alloc, rest)),
-        "lengths" => Some(lengths(alloc, rest)),
-        _ => None,
-    }
+/// Writes the lengths up to a greatest one that messages of a tag may have whose data are octets of 1: `TAG GREATEST`,
+/// the tag in hexadecimal.
+pub fn answer_lengths(alloc: Global, text: &str, answer: &mut String) -> Result<(), NoMemory> {
+    let (tag, greatest) = text.split_once(' ').unwrap_or((text, ""));
+    let tag = u8::from_str_radix(tag, 16).unwrap_or(0);
+    let greatest: u16 = greatest.parse().unwrap_or(0);
+    let mut room = vec![in alloc; 1; usize::from(greatest) + 3]?;
+    write_lengths(alloc, answer, tag, greatest, room.as_mut_slice())
+}
+
+/// Writes what a step on a message answers: `command`, `reply`, or `cuts`.
+pub fn answer(alloc: Global, word: &str, text: &str, answer: &mut String) -> anyhow::Result<()> {
+    let octets = hex::decode(alloc, text)?;
+    let written = match word {
+        "command" => read_command(alloc, answer, octets.as_slice()),
+        "reply" => read_again(alloc, answer, octets.as_slice()),
+        _ => count_cuts(alloc, answer, octets.as_slice()),
+    };
+    Ok(written?)
 }

@@ -1,98 +1,108 @@
 // Names, numbers and texts of the plain types.
-use case_lines::said;
+use crate::changes::load_of;
+use crate::headers::answer_header;
+use case_lines::{channel, key, spi};
 use sdls_base::{
-    Change, ChannelId, Direction, FrameFault, KeyId, KeyItem, KeyItems, KeyRows, KeyState,
-    NoMemory, Octets, SaState, Spi, Suite, fecf, same_octets,
+    Change, Direction, FrameFault, KeyId, KeyRows, KeyState, NoMemory, SaState, Suite,
 };
-use std::alloc::Global;
+use std::alloc::{AllocError, Global};
 use std::str::SplitWhitespace;
 
-pub fn spi(alloc: Global, words: &mut SplitWhitespace<'_>) -> anyhow::Result<String> {
-    match Spi::new(case_lines::short(words).unwrap_or(0)) {
-        Some(spi) => Ok(format!(in alloc; "{}", spi.get())?),
-        None => said(alloc, "none"),
+fn answer_spi(words: &mut SplitWhitespace<'_>, answer: &mut String) -> Result<(), AllocError> {
+    match spi(words) {
+        Some(spi) => write!(answer, "{}", spi.get()),
+        None => answer.push_str("none"),
     }
 }
 
-pub fn channel(alloc: Global, words: &mut SplitWhitespace<'_>) -> anyhow::Result<String> {
-    match ChannelId::new(case_lines::octet(words).unwrap_or(0)) {
-        Some(channel) => Ok(format!(in alloc; "{}", channel.get())?),
-        None => said(alloc, "none"),
+fn answer_channel(words: &mut SplitWhitespace<'_>, answer: &mut String) -> Result<(), AllocError> {
+    match channel(words) {
+        Some(channel) => write!(answer, "{}", channel.get()),
+        None => answer.push_str("none"),
     }
 }
 
-/// What a key serves for, and the first number that it does not.
-pub fn key(alloc: Global, words: &mut SplitWhitespace<'_>) -> anyhow::Result<String> {
-    match KeyId::new(case_lines::short(words).unwrap_or(0)) {
-        Some(key) => Ok(format!(in alloc; "{:?} below {}", key.class(), key.end())?),
-        None => said(alloc, "none"),
+/// Writes what a key serves for, and the first number that it does not.
+fn answer_key(words: &mut SplitWhitespace<'_>, answer: &mut String) -> Result<(), AllocError> {
+    match key(words) {
+        Some(key) => write!(answer, "{:?} below {}", key.class(), key.end()),
+        None => answer.push_str("none"),
     }
 }
 
-/// The frame error control field of octets.
-pub fn control(alloc: Global, words: &mut SplitWhitespace<'_>) -> anyhow::Result<String> {
-    let octets = case_lines::octets(alloc, words)?;
-    Ok(format!(in alloc; "{:04x}", fecf(octets.as_slice()))?)
+/// Writes a load of keys, and whether it is its copy.
+fn write_load(answer: &mut String, load: &Change) -> Result<(), NoMemory> {
+    let same = load.clone()? == *load;
+    if let Change::Load(items) = load {
+        write!(answer, "{items:?} {load:?} same {same}")?;
+    }
+    Ok(())
 }
 
-/// Whether two texts of octets are the same.
-pub fn same(alloc: Global, words: &mut SplitWhitespace<'_>) -> anyhow::Result<String> {
-    let left = case_lines::piece(alloc, words)?;
-    let right = case_lines::piece(alloc, words)?;
-    let same = same_octets(left.as_slice(), right.as_slice());
-    Ok(format!(in alloc; "{same}")?)
-}
-
-fn one_item(alloc: Global, id: KeyId, octets: Vec<u8>) -> anyhow::Result<KeyItems> {
-    let bytes = Octets::new(octets);
-    let mut list = Vec::new(alloc);
-    list.push(KeyItem { id, bytes })?;
-    Ok(KeyItems::new(list))
-}
-
-/// Whether the change that loads the items is that of their copy.
-fn loads_copy(items: KeyItems) -> Result<bool, NoMemory> {
-    let change = Change::Load(items.clone()?);
-    Ok(change == Change::Load(items))
-}
-
-fn change_text(alloc: Global, items: &KeyItems) -> anyhow::Result<String> {
-    let change = Change::Load(items.clone()?);
-    Ok(format!(in alloc; "{items:?} {change:?}")?)
-}
-
-/// A key that is to be loaded, as it is printed.
-pub fn printed(alloc: Global, words: &mut SplitWhitespace<'_>) -> anyhow::Result<String> {
-    let Some(id) = KeyId::new(case_lines::short(words).unwrap_or(0)) else {
-        return said(alloc, "none");
+/// Writes a key that is to be loaded, as it is printed.
+pub fn answer_printed(
+    alloc: Global,
+    words: &mut SplitWhitespace<'_>,
+    answer: &mut String,
+) -> anyhow::Result<()> {
+    let Some(id) = key(words) else {
+        return Ok(answer.push_str("none")?);
     };
-    let items = one_item(alloc, id, case_lines::octets(alloc, words)?)?;
-    let text = change_text(alloc, &items)?;
-    let same = loads_copy(items)?;
-    Ok(format!(in alloc; "{text} same {same}")?)
+    let load = load_of(alloc, id, case_lines::octets(alloc, words)?)?;
+    Ok(write_load(answer, &load)?)
 }
 
-/// A list of one row, its copy, and its items given back.
-pub fn rows(alloc: Global, words: &mut SplitWhitespace<'_>) -> anyhow::Result<String> {
-    let Some(id) = KeyId::new(case_lines::short(words).unwrap_or(0)) else {
-        return said(alloc, "none");
-    };
-    let mut list = Vec::new(alloc);
-    list.push((id, KeyState::Active))?;
-    let rows = KeyRows::new(list);
+/// The rows of one key, which is active.
+fn rows_of(alloc: Global, id: KeyId) -> Result<KeyRows, AllocError> {
+    Ok(KeyRows::new(vec![in alloc; (id, KeyState::Active)]?))
+}
+
+/// Writes how many rows there are, whether their copy is the same, and how many it gives back.
+fn write_rows(answer: &mut String, rows: &KeyRows) -> Result<(), NoMemory> {
+    let copy = rows.clone()?;
     let count = rows.as_slice().len();
-    let same = rows.clone()? == rows;
-    let back = rows.into_vec().len();
-    Ok(format!(in alloc; "{count} same {same} back {back}")?)
+    let same = copy == *rows;
+    let back = copy.into_vec().len();
+    Ok(write!(answer, "{count} same {same} back {back}")?)
 }
 
-/// The numbers of the last states, direction, suite and frame fault, and two faults as texts.
-pub fn numbers(alloc: Global) -> anyhow::Result<String> {
+/// Writes a list of one row, its copy, and its items given back.
+pub fn answer_rows(
+    alloc: Global,
+    words: &mut SplitWhitespace<'_>,
+    answer: &mut String,
+) -> anyhow::Result<()> {
+    let Some(id) = key(words) else {
+        return Ok(answer.push_str("none")?);
+    };
+    let rows = rows_of(alloc, id)?;
+    Ok(write_rows(answer, &rows)?)
+}
+
+/// Writes the numbers of the last states, direction, suite and frame fault, and two faults as texts.
+fn answer_numbers(answer: &mut String) -> Result<(), AllocError> {
     let (key, sa) = (KeyState::Destroyed as u8, SaState::Operational as u8);
     let (direction, suite) = (Direction::Receive as u8, Suite::Gcm as u8);
     let fault = FrameFault::Fecf as u8;
-    Ok(format!(in alloc;
+    write!(
+        answer,
         "{key} {sa} {direction} {suite} {fault}; {}; {NoMemory}",
         FrameFault::Spare
-    )?)
+    )
+}
+
+/// Writes what a case answers that takes no octets.
+pub fn answer(
+    word: &str,
+    words: &mut SplitWhitespace<'_>,
+    answer: &mut String,
+) -> Result<(), AllocError> {
+    match word {
+        "spi" => answer_spi(words, answer),
+        "channel" => answer_channel(words, answer),
+        "key" => answer_key(words, answer),
+        "header" => answer_header(words, answer),
+        "numbers" => answer_numbers(answer),
+        _ => answer.push_str("no case"),
+    }
 }

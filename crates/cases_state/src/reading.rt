@@ -1,9 +1,12 @@
 // Frames read, and written again.
 ghost use Rattle.std.specs.Prelude.{◌≤◌, ◌+◌, length};
 
+use crate::digits::Digits;
 use crate::shielding::UNTOUCHED;
-use sdls_base::{AosLayout, FrameFault, TcLayout, TmLayout};
+use frame_shield::{AnyLayout, FRAME_ROOM};
+use sdls_base::{AosLayout, TcLayout, TmLayout};
 use std::alloc::{AllocError, Global};
+use std::str::SplitWhitespace;
 
 /// Whether the front is the frame, and the rest untouched.
 fn is_frame(out: &[u8], count: usize, frame: &[u8]) -> bool {
@@ -13,123 +16,134 @@ fn is_frame(out: &[u8], count: usize, frame: &[u8]) -> bool {
     }
 }
 
-/// Octets that are not there are `-`.
-fn optional(alloc: Global, octets: Option<&[u8]>) -> Result<String, AllocError> {
+/// Writes octets, and `-` if they are not there.
+fn write_optional(answer: &mut String, octets: Option<&[u8]>) -> Result<(), AllocError> {
     match octets {
-        Some(octets) => hex::encode(alloc, octets),
-        None => String::from_str(alloc, "-"),
+        Some(octets) => write!(answer, "{}", Digits(octets)),
+        None => answer.push_str("-"),
     }
 }
 
-/// The parts of a TC frame and whether it is written again, or the first check that fails.
-fn tc_again<'a>(
-    layout: &TcLayout,
-    frame: &'a [u8],
-    out: &mut [u8],
-) -> Result<(tc_frame::Parts<'a>, bool), FrameFault>
-    requires { 1026 ≤ length out.old }
-{
-    let parts = tc_frame::read(frame, layout)?;
-    let count = tc_frame::write(&parts, layout, out);
-    Ok((parts, is_frame(out, count, frame)))
-}
-
-fn tc_text(alloc: Global, parts: &tc_frame::Parts<'_>, again: bool) -> anyhow::Result<String> {
+fn write_tc_parts(
+    answer: &mut String,
+    parts: &tc_frame::Parts<'_>,
+    again: bool,
+) -> Result<(), AllocError> {
     let (bypass, control, segment) = (parts.bypass, parts.control, parts.segment);
     let (spacecraft, channel, sequence) = (parts.spacecraft, parts.channel, parts.sequence);
-    let prefix = hex::encode(alloc, parts.prefix)?;
-    let room = hex::encode(alloc, parts.room)?;
-    Ok(format!(in alloc;
+    let (prefix, room) = (Digits(parts.prefix), Digits(parts.room));
+    write!(
+        answer,
         "bypass {bypass} control {control} {spacecraft}/{channel} sequence {sequence} segment {segment:?} prefix {prefix} room {room} again {again}"
-    )?)
-}
-
-/// The parts of a TC frame and whether it is written again, or the first check that fails, in words.
-pub fn tc(alloc: Global, layout: &TcLayout, frame: &[u8]) -> anyhow::Result<String> {
-    let mut out = vec![in alloc; UNTOUCHED; 1_026]?;
-    match tc_again(layout, frame, out.as_mut_slice()) {
-        Ok((parts, again)) => tc_text(alloc, &parts, again),
-        Err(fault) => Ok(format!(in alloc; "{fault}")?),
-    }
-}
-
-/// The same of a TM frame.
-fn tm_again<'a>(
-    layout: &TmLayout,
-    frame: &'a [u8],
-    out: &mut [u8],
-) -> Result<(tm_frame::Parts<'a>, bool), FrameFault>
-    requires layout { 12 ≤ layout.now.length }
-    requires room { layout.now.length ≤ length out.old }
-{
-    let parts = tm_frame::read(frame, layout)?;
-    let count = tm_frame::write(&parts, layout, out);
-    Ok((parts, is_frame(out, count, frame)))
-}
-
-fn tm_text(alloc: Global, parts: &tm_frame::Parts<'_>, again: bool) -> anyhow::Result<String> {
-    let (spacecraft, channel, status) = (parts.spacecraft, parts.channel, parts.status);
-    let (master, own) = (parts.master_count, parts.channel_count);
-    let secondary = hex::encode(alloc, parts.secondary)?;
-    let prefix = hex::encode(alloc, parts.prefix)?;
-    let room = hex::encode(alloc, parts.room)?;
-    let ocf = optional(alloc, parts.ocf)?;
-    Ok(format!(in alloc;
-        "{spacecraft}/{channel} counts {master} {own} status {status:04x} secondary {secondary} prefix {prefix} room {room} ocf {ocf} again {again}"
-    )?)
-}
-
-/// The same of a TM frame, in words.
-pub fn tm(alloc: Global, layout: &TmLayout, frame: &[u8]) -> anyhow::Result<String>
-    requires { 12 ≤ layout.now.length }
-{
-    let mut out = vec![in alloc; UNTOUCHED; usize::from(layout.length) + 2]?;
-    match tm_again(layout, frame, out.as_mut_slice()) {
-        Ok((parts, again)) => tm_text(alloc, &parts, again),
-        Err(fault) => Ok(format!(in alloc; "{fault}")?),
-    }
-}
-
-/// The same of an AOS frame.
-fn aos_again<'a>(
-    layout: &AosLayout,
-    frame: &'a [u8],
-    out: &mut [u8],
-) -> Result<(aos_frame::Parts<'a>, bool), FrameFault>
-    requires layout { 12 + layout.now.insert ≤ layout.now.length }
-    requires room { layout.now.length ≤ length out.old }
-{
-    let parts = aos_frame::read(frame, layout)?;
-    let count = aos_frame::write(&parts, layout, out);
-    Ok((parts, is_frame(out, count, frame)))
-}
-
-fn aos_fields(alloc: Global, parts: &aos_frame::Parts<'_>) -> Result<String, AllocError> {
-    let (spacecraft, channel, count) = (parts.spacecraft, parts.channel, parts.count);
-    let (replay, cycle_use, cycle) = (parts.replay, parts.cycle_use, parts.cycle);
-    format!(in alloc;
-        "{spacecraft}/{channel} count {count:06x} replay {replay} use {cycle_use} cycle {cycle}"
     )
 }
 
-fn aos_text(alloc: Global, parts: &aos_frame::Parts<'_>, again: bool) -> anyhow::Result<String> {
-    let fields = aos_fields(alloc, parts)?;
-    let insert = hex::encode(alloc, parts.insert)?;
-    let prefix = hex::encode(alloc, parts.prefix)?;
-    let room = hex::encode(alloc, parts.room)?;
-    let ocf = optional(alloc, parts.ocf)?;
-    Ok(format!(in alloc;
-        "{fields} insert {insert} prefix {prefix} room {room} ocf {ocf} again {again}"
-    )?)
+/// Writes the parts of a TC frame and whether it is written again, or the first check that fails.
+fn read_tc(
+    answer: &mut String,
+    layout: &TcLayout,
+    frame: &[u8],
+    out: &mut [u8],
+) -> Result<(), AllocError>
+    requires { FRAME_ROOM ≤ length out.old }
+{
+    match tc_frame::read(frame, layout) {
+        Ok(parts) => {
+            let count = tc_frame::write(&parts, layout, out);
+            write_tc_parts(answer, &parts, is_frame(out, count, frame))
+        }
+        Err(fault) => write!(answer, "{fault}"),
+    }
 }
 
-/// The same of an AOS frame, in words.
-pub fn aos(alloc: Global, layout: &AosLayout, frame: &[u8]) -> anyhow::Result<String>
-    requires { 12 + layout.now.insert ≤ layout.now.length }
-{
-    let mut out = vec![in alloc; UNTOUCHED; usize::from(layout.length) + 2]?;
-    match aos_again(layout, frame, out.as_mut_slice()) {
-        Ok((parts, again)) => aos_text(alloc, &parts, again),
-        Err(fault) => Ok(format!(in alloc; "{fault}")?),
+fn write_tm_parts(
+    answer: &mut String,
+    parts: &tm_frame::Parts<'_>,
+    again: bool,
+) -> Result<(), AllocError> {
+    let (spacecraft, channel, status) = (parts.spacecraft, parts.channel, parts.status);
+    let (master, own) = (parts.master_count, parts.channel_count);
+    let secondary = Digits(parts.secondary);
+    let (prefix, room) = (Digits(parts.prefix), Digits(parts.room));
+    write!(
+        answer,
+        "{spacecraft}/{channel} counts {master} {own} status {status:04x} secondary {secondary} prefix {prefix} room {room} ocf "
+    )?;
+    write_optional(answer, parts.ocf)?;
+    write!(answer, " again {again}")
+}
+
+/// The same of a TM frame.
+fn read_tm(
+    answer: &mut String,
+    layout: &TmLayout,
+    frame: &[u8],
+    out: &mut [u8],
+) -> Result<(), AllocError> {
+    if layout.length < 12 || usize::from(layout.length) > out.len() {
+        return answer.push_str("no layout");
     }
+    match tm_frame::read(frame, layout) {
+        Ok(parts) => {
+            let count = tm_frame::write(&parts, layout, out);
+            write_tm_parts(answer, &parts, is_frame(out, count, frame))
+        }
+        Err(fault) => write!(answer, "{fault}"),
+    }
+}
+
+fn write_aos_parts(
+    answer: &mut String,
+    parts: &aos_frame::Parts<'_>,
+    again: bool,
+) -> Result<(), AllocError> {
+    let (spacecraft, channel, count) = (parts.spacecraft, parts.channel, parts.count);
+    let (replay, cycle_use, cycle) = (parts.replay, parts.cycle_use, parts.cycle);
+    let (insert, prefix, room) = (
+        Digits(parts.insert),
+        Digits(parts.prefix),
+        Digits(parts.room),
+    );
+    write!(
+        answer,
+        "{spacecraft}/{channel} count {count:06x} replay {replay} use {cycle_use} cycle {cycle} insert {insert} prefix {prefix} room {room} ocf "
+    )?;
+    write_optional(answer, parts.ocf)?;
+    write!(answer, " again {again}")
+}
+
+/// The same of an AOS frame.
+fn read_aos(
+    answer: &mut String,
+    layout: &AosLayout,
+    frame: &[u8],
+    out: &mut [u8],
+) -> Result<(), AllocError> {
+    if layout.length < 12 + u16::from(layout.insert) || usize::from(layout.length) > out.len() {
+        return answer.push_str("no layout");
+    }
+    match aos_frame::read(frame, layout) {
+        Ok(parts) => {
+            let count = aos_frame::write(&parts, layout, out);
+            write_aos_parts(answer, &parts, is_frame(out, count, frame))
+        }
+        Err(fault) => write!(answer, "{fault}"),
+    }
+}
+
+/// Writes the parts of the frame that the words say and whether it is written again, or the first check that fails.
+pub fn answer(
+    alloc: Global,
+    layout: &AnyLayout,
+    words: &mut SplitWhitespace<'_>,
+    answer: &mut String,
+) -> anyhow::Result<()> {
+    let frame = case_lines::octets(alloc, words)?;
+    let mut out = [UNTOUCHED; FRAME_ROOM];
+    let read = match layout {
+        AnyLayout::Tc(layout) => read_tc(answer, layout, frame.as_slice(), &mut out),
+        AnyLayout::Tm(layout) => read_tm(answer, layout, frame.as_slice(), &mut out),
+        AnyLayout::Aos(layout) => read_aos(answer, layout, frame.as_slice(), &mut out),
+    };
+    Ok(read?)
 }

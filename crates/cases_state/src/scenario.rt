@@ -5,36 +5,30 @@
 ghost use Rattle.std.specs.Prelude.{IfOk, IfSome};
 ghost use Rattle.ep_codec.specs.Command.{IsInBounds};
 ghost use Rattle.unit_state.specs.Restart.{IsLight};
+ghost use Rattle.unit_state.specs.State.{KeepsRules};
 ghost use Rattle.frame_shield.specs.Binding.{IsBinding};
 
-use case_units::fits;
-use ep_codec::{Command, read_pdu};
+use case_units::{fits, reply_text};
+use ep_codec::Command;
 use ep_core::{Need, Reply, judge, plan_change};
 use frame_checks::{OpenReply, binding, open_frame};
 use frame_shield::{Binding, ShieldFault};
 use key_book::KeyRow;
 use sa_book::SaRow;
 use sdls_base::{Change, KeyId, NoMemory, Seen};
-use std::alloc::Global;
+use std::alloc::{AllocError, Global};
 use std::marker::Model;
-use unit_plan::{Plan, PlanError};
+use unit_plan::Plan;
 use unit_state::{State, rules_stay};
 
-/// What a message was answered.
-#[derive(Drop)]
-pub enum Answer {
-    /// What was seen is not what was needed.
-    Unfit,
-    /// The state does not allow the change.
-    NotAllowed,
-    Told(Reply),
-}
-
-/// What a command is decided to do: its change and its reply, none if what was seen is not what was needed.
-#[derive(Drop)]
-struct Decision {
-    need: Need,
-    outcome: Option<(Change, Reply)>,
+/// Writes what was needed.
+fn write_need(answer: &mut String, need: Need) -> Result<(), AllocError> {
+    match need {
+        Need::Nothing => answer.push_str("nothing: "),
+        Need::Look(key) => write!(answer, "look {}: ", key.get()),
+        Need::Raise(key, number) => write!(answer, "raise {} {number}: ", key.get()),
+        Need::Number(key) => write!(answer, "number {}: ", key.get()),
+    }
 }
 
 /// A plan, and a state that keeps the rules.
@@ -61,11 +55,11 @@ impl Model for Scenario {
 }
 
 impl Scenario {
-    /// The state that a plan's text makes.
-    pub fn begin(alloc: Global, text: &[u8]) -> Result<Scenario, PlanError> {
-        let plan = Plan::read(alloc, text)?;
-        let state = State::initial(alloc, &plan)?;
-        Ok(Scenario { plan, state })
+    /// A plan with the state that its lines make.
+    pub fn new(plan: Plan, state: State) -> Scenario
+        requires { KeepsRules state }
+    {
+        Scenario { plan, state }
     }
 
     /// The rows of the keys.
@@ -111,55 +105,39 @@ impl Scenario {
         allowed
     }
 
-    fn decide(&self, alloc: Global, command: &Command, seen: Seen) -> Result<Decision, NoMemory>
-        requires { IsInBounds command.now }
-    {
-        let need = judge(&self.state, command);
-        if !fits(&self.state, &need, seen) {
-            return Ok(Decision {
-                need,
-                outcome: None,
-            });
-        }
-        let outcome = plan_change(alloc, &self.state, command, &seen)?;
-        Ok(Decision {
-            need,
-            outcome: Some(outcome),
-        })
-    }
-
-    fn read_and_decide(
-        &self,
+    /// Makes the change that was decided, and writes what is answered.
+    fn carry_out(
+        &mut self,
         alloc: Global,
-        message: &[u8],
-        seen: Seen,
-    ) -> anyhow::Result<Decision> {
-        let command = read_pdu(alloc, message)?;
-        Ok(self.decide(alloc, &command, seen)?)
-    }
-
-    /// Makes the change that was decided: what is answered.
-    fn carry_out(&mut self, change: &Change, reply: Reply) -> Result<Answer, NoMemory> {
+        change: &Change,
+        reply: &Reply,
+        answer: &mut String,
+    ) -> Result<(), NoMemory> {
         if self.apply(change)? {
-            Ok(Answer::Told(reply))
+            answer.push_str(reply_text(alloc, reply)?.as_str())?;
         } else {
-            Ok(Answer::NotAllowed)
+            answer.push_str("not allowed")?;
         }
+        Ok(())
     }
 
-    /// What a message needs, and what it is answered with what was seen. The state is changed as it says.
+    /// Writes what a command needs, and what it is answered with what was seen. The state is changed as it says.
     pub fn obey(
         &mut self,
         alloc: Global,
-        message: &[u8],
+        command: &Command,
         seen: Seen,
-    ) -> anyhow::Result<(Need, Answer)> {
-        let Decision { need, outcome } = self.read_and_decide(alloc, message, seen)?;
-        let answer = match outcome {
-            Some((change, reply)) => self.carry_out(&change, reply)?,
-            None => Answer::Unfit,
-        };
-        Ok((need, answer))
+        answer: &mut String,
+    ) -> Result<(), NoMemory>
+        requires { IsInBounds command.now }
+    {
+        let need = judge(&self.state, command);
+        write_need(answer, need)?;
+        if !fits(&self.state, &need, seen) {
+            return Ok(answer.push_str("unfit")?);
+        }
+        let (change, reply) = plan_change(alloc, &self.state, command, &seen)?;
+        self.carry_out(alloc, &change, &reply, answer)
     }
 
     /// The floor of a key.

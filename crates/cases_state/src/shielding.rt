@@ -11,7 +11,6 @@ use frame_shield::{
 };
 use sdls_base::{AosLayout, KeyId, Spi, Suite, TcLayout, TmLayout};
 use sdls_header::read_spi;
-use std::alloc::Global;
 use std::str::SplitWhitespace;
 
 /// The key of the examples of SP 800-38B.
@@ -36,16 +35,23 @@ fn tc_link(words: &mut SplitWhitespace<'_>) -> Link
     }
 }
 
+/// The layout of TM frames that the words say: `LENGTH FECF`.
+pub fn tm_layout(words: &mut SplitWhitespace<'_>) -> TmLayout {
+    TmLayout {
+        length: case_lines::short(words).unwrap_or(0),
+        fecf: case_lines::flag(words),
+    }
+}
+
 fn tm_link(words: &mut SplitWhitespace<'_>) -> Option<Link>
     ensures { IfSome result IsLink }
 {
-    let length = case_lines::short(words).unwrap_or(0);
-    let fecf = case_lines::flag(words);
-    if length < 48 || length > 2048 {
+    let layout = tm_layout(words);
+    if layout.length < 48 || layout.length > 2048 {
         return None;
     }
     Some(Link {
-        layout: AnyLayout::Tm(TmLayout { length, fecf }),
+        layout: AnyLayout::Tm(layout),
         mask: Mask::usual_tm(),
     })
 }
@@ -63,15 +69,20 @@ fn aos_mask(word: Option<&str>) -> Mask
     }
 }
 
-fn aos_link(words: &mut SplitWhitespace<'_>) -> Option<Link>
-    ensures { IfSome result IsLink }
-{
-    let layout = AosLayout {
+/// The layout of AOS frames that the words say: `LENGTH INSERT OCF FECF`.
+pub fn aos_layout(words: &mut SplitWhitespace<'_>) -> AosLayout {
+    AosLayout {
         length: case_lines::short(words).unwrap_or(0),
         insert: case_lines::octet(words).unwrap_or(0),
         ocf: case_lines::flag(words),
         fecf: case_lines::flag(words),
-    };
+    }
+}
+
+fn aos_link(words: &mut SplitWhitespace<'_>) -> Option<Link>
+    ensures { IfSome result IsLink }
+{
+    let layout = aos_layout(words);
     let mask = aos_mask(words.next());
     if layout.insert > 64 || layout.length > 2048 || layout.length < 48 + u16::from(layout.insert) {
         return None;
@@ -119,7 +130,7 @@ pub fn binding(words: &mut SplitWhitespace<'_>, device: [u8; 4]) -> Option<Bindi
     })
 }
 
-/// Writes the clear frame protected under the number, and answers how many octets it has. None if the number is none of
+/// Writes the clear frame protected under the number, and returns how many octets it has. None if the number is none of
 /// the key.
 pub fn write_frame(
     binding: &Binding,
@@ -134,15 +145,6 @@ pub fn write_frame(
         return Ok(None);
     }
     Ok(Some(shield(binding, number, clear, out)))
-}
-
-/// The clear frame protected under the number, none where it does not fit, or the number is none of the key.
-pub fn protected(alloc: Global, binding: &Binding, number: u64, clear: &[u8]) -> Option<Vec<u8>>
-    requires { IsBinding binding.now }
-{
-    let mut out = [UNTOUCHED; FRAME_ROOM];
-    let count = write_frame(binding, number, clear, &mut out).ok()??;
-    Vec::from_slice(alloc, out.get(..count)?).ok()
 }
 
 /// Whether the room begins with the index.
