@@ -33,8 +33,8 @@ pub trait Steps {
     fn step(&mut self, alloc: Global, line: &str, answer: &mut String) -> anyhow::Result<()>;
 }
 
-/// Prints a title as it is, and of another line what it answers.
-fn print_step<T: Steps>(
+/// Prints a title as it is, and of another line what it answers. `answer` is the room for that.
+pub fn print_step<T: Steps>(
     rt: &HostRuntime,
     table: &mut T,
     line: &str,
