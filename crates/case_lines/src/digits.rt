@@ -1,7 +1,21 @@
 //! Octets, in hexadecimal digits and as numbers.
 use crate::words::{number_at, word_at};
 use std::alloc::Global;
+use std::fmt;
 use std::str::SplitWhitespace;
+
+/// Octets that are printed in hexadecimal digits.
+#[derive(Clone, Copy)]
+pub struct Digits<'a>(pub &'a [u8]);
+
+impl fmt::Display for Digits<'_> {
+    fn fmt<W: fmt::Write>(&self, f: &mut fmt::Formatter<W>) -> fmt::Result {
+        for octet in self.0 {
+            write!(f, "{octet:02x}")?;
+        }
+        Ok(())
+    }
+}
 
 /// The octets of the next word, none of `-` and where there is no word.
 pub fn piece(alloc: Global, words: &mut SplitWhitespace<'_>) -> anyhow::Result<Vec<u8>> {

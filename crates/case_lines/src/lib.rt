@@ -13,7 +13,7 @@ mod names;
 mod words;
 
 pub use answers::{Answers, Steps, print_answers, print_step, print_steps, said};
-pub use digits::{number_of, octets, part_of, piece, set_part_of};
+pub use digits::{Digits, number_of, octets, part_of, piece, set_part_of};
 pub use gathered::Gathered;
 pub use names::{direction_name, key_state_name, sa_state_name, suite_name};
 pub use words::{

@@ -1,6 +1,6 @@
 //! Monitoring messages that are answered, and the steps of a log.
-use crate::digits::Digits;
 use crate::noting::{note, refuse};
+use case_lines::Digits;
 use fsr_log::Log;
 use record_io::{Answer, RecordKind, code};
 use sdls_base::{NoMemory, Octets};

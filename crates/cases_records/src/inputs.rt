@@ -1,8 +1,7 @@
 //! Recorded inputs, and how their sources give them.
 use crate::differences::Differences;
-use crate::digits::Digits;
 use crate::sources::source_of;
-use case_lines::{number, octets};
+use case_lines::{Digits, number, octets};
 use record_io::{Answer, Reader, Record, RecordKind, SegmentEnd, answer_header, code};
 use sdls_base::{NoMemory, Octets};
 use sdls_outside::MemSource;

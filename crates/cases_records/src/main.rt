@@ -32,7 +32,6 @@
 mod asking;
 mod auditing;
 mod differences;
-mod digits;
 mod inputs;
 mod linking;
 mod noting;

@@ -1,10 +1,9 @@
 // Frames opened and protected, and what they answer.
 ghost use Rattle.frame_shield.specs.Binding.{IsBinding};
 
-use crate::digits::Digits;
 use crate::scenario::Scenario;
 use crate::shielding::{UNTOUCHED, write_frame};
-use case_lines::{number_at, word_at};
+use case_lines::{Digits, number_at, word_at};
 use case_units::{open_reply_text, shield_fault_text};
 use frame_shield::{Binding, FRAME_ROOM, ShieldFault};
 use std::alloc::{AllocError, Global};

@@ -1,5 +1,5 @@
 // Security headers, rooms and masks.
-use crate::digits::Digits;
+use case_lines::Digits;
 use sdls_base::Suite;
 use sdls_header::{SecurityHeader, Split, Vector, masked, read_spi, split, write_header};
 use std::alloc::{AllocError, Global};

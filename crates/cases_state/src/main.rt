@@ -20,7 +20,6 @@
 mod cases;
 mod changes;
 mod commands;
-mod digits;
 mod frames;
 mod headers;
 mod messages;

@@ -1,8 +1,8 @@
 // Frames read, and written again.
 ghost use Rattle.std.specs.Prelude.{◌≤◌, ◌+◌, length};
 
-use crate::digits::Digits;
 use crate::shielding::UNTOUCHED;
+use case_lines::Digits;
 use frame_shield::{AnyLayout, FRAME_ROOM};
 use sdls_base::{AosLayout, TcLayout, TmLayout};
 use std::alloc::{AllocError, Global};

@@ -1,8 +1,8 @@
 // Frames protected and opened, and opened with each bit of their headers turned.
 ghost use Rattle.frame_shield.specs.Binding.{IsBinding};
 
-use crate::digits::Digits;
 use crate::shielding::{UNTOUCHED, binding, opened, write_frame};
+use case_lines::Digits;
 use frame_shield::{Binding, FRAME_ROOM, Opened};
 use sdls_base::fecf;
 use std::alloc::{AllocError, Global};

@@ -1,5 +1,5 @@
 // Lines of recorded input, read.
-use crate::digits::Digits;
+use case_lines::Digits;
 use input_text::{Line, LineError, put_item, read_line};
 use sdls_base::NoMemory;
 use std::alloc::{AllocError, Global};

@@ -15,7 +15,6 @@
 
 mod answers;
 mod checking;
-mod digits;
 mod ends;
 mod items;
 mod lines;

@@ -1,7 +1,6 @@
 // Streams of texts, from a source to a sink.
-use crate::digits::Digits;
 use crate::ends::{sink_of, source_of};
-use case_lines::{number, octets};
+use case_lines::{Digits, number, octets};
 use sdls_outside::{MemSite, MemSource};
 use sha2::{Digest, Sha256};
 use std::alloc::{AllocError, Global};
