@@ -1,79 +1,112 @@
-//! Tables of the journal over two banks, for `disk_journal`. A line of standard input is a step on an image, and what
-//! it answers is printed; `#` and a title is printed as it is.
+//! Tables of the journal over two banks, for `disk_journal`, and of the disk, the sink and the input, for the four
+//! implementations of `sdls_outside`. A line of standard input, which is itself read by a `StdSource`, is a step, and
+//! what it answers is printed; `#` and a title is printed as it is.
 //!
-//! `create SLOTS CONTENT PLAN` makes the image of version 1 of a plan, whose octets are given, with a content of this
-//! octet alone, and `create_two` that of version 2. `append OCTET`, `turn OCTET` and `migrate OCTET` open the image,
-//! bring it to rest and add a record, or write a content, of this octet alone; `settle` does neither. `open` prints what
-//! the image holds, or the offset that it is refused with. `set OFFSET OCTETS` writes others over its own, `cut LENGTH`
-//! takes away what stands past a length, and `at OFFSET LENGTH` prints octets. `zeros OFFSET LENGTH` says whether so
-//! many octets are 0. `keep` keeps the image for later, and `back` takes it again.
+//! Steps on an image: `create SLOTS CONTENT PLAN` makes the image of version 1 of a plan, whose octets are given, with
+//! a content of this octet alone, and `create_two` that of version 2. `append OCTET`, `turn OCTET` and `migrate OCTET`
+//! open the image, bring it to rest and add a record, or write a content, of this octet alone; `settle` does neither.
+//! `open` prints what the image holds, or the offset that it is refused with. `set OFFSET OCTETS` writes others over
+//! its own, `cut LENGTH` takes away what stands past a length, and `at OFFSET LENGTH` prints octets. `zeros OFFSET
+//! LENGTH` says whether so many octets are 0. `keep` keeps the image for later, and `back` takes it again.
 //!
 //! `dead STEP KIND` does a step from the image once for each call of it that the site can be dead from, which it then
 //! crashes so: `kept`, `lost`, or filled with an octet. It prints what the image holds after each when it is opened
 //! again, and how often that stands so in a row. `dead STEP KIND FIRST END` takes some of the calls alone. `left CALL
 //! STEP KIND` takes the image that one of them leaves.
+//!
+//! `outside CASE` prints a case of the disk, the sink or the input, and what it answers. `crash KIND IMAGE STEP..` does
+//! the steps on a site in memory that holds the image, and shows the image after a crash: `kept`, `lost`, or filled
+//! with the octet KIND. A step is `AT:OCTETS`, a write, or `sync`. `failing N` and `dead N` do five calls on a site of
+//! the image `ab` of which that one fails, or that one and each later one: begin, write `aXY` at 0, sync, put `sunk`,
+//! read. They print `o` for each that is Ok and `x` for each that is not, and what is then there. `source PIECE N
+//! OCTETS TAKE..` takes so many octets each time from a source in pieces whose call N fails, and `sure OCTETS TAKE..`
+//! from one that never does. `file` is a run of calls on a file, and `empty` one on an empty file that is there. Octets
+//! are written as text, none as `-`.
 #![tactic(auto)]
 
+mod crashes;
 mod deaths;
+mod file;
 mod images;
+mod input;
+mod lives;
+mod outside;
 mod steps;
+mod takes;
 
-use case_lines::{Answers, part_of, print_answers, said, set_part_of};
+use case_lines::{Steps, part_of, print_step, set_part_of};
+use images::take_image;
 use sdls_base::Version;
-use std::alloc::Global;
+use std::alloc::{AllocError, Global};
 
 /// An image, and the one that was kept.
 #[derive(Drop)]
 struct Table {
+    rt: HostRuntime,
     image: Vec<u8>,
     kept: Vec<u8>,
 }
 
 impl Table {
-    fn new(alloc: Global) -> Table {
+    fn new(rt: HostRuntime) -> Table {
         Table {
-            image: Vec::new(alloc),
-            kept: Vec::new(alloc),
+            rt,
+            image: Vec::new(rt.alloc()),
+            kept: Vec::new(rt.alloc()),
         }
     }
 
-    /// Does a step that writes, and answers how it ended.
-    fn write(&mut self, alloc: Global, line: &str) -> anyhow::Result<String> {
-        let (image, answer) = steps::done(alloc, &self.image, line)?;
-        self.image = image;
-        Ok(answer)
-    }
-
-    /// What a step answers that changes nothing.
-    fn told(&self, alloc: Global, step: &str, rest: &str) -> anyhow::Result<String> {
+    /// Does a step on the images in memory, and writes what it answers.
+    fn step_on_images(
+        &mut self,
+        alloc: Global,
+        (step, rest): (&str, &str),
+        answer: &mut String,
+    ) -> Result<(), AllocError> {
         match step {
-            "open" => images::told(alloc, &self.image),
-            "at" => part_of(alloc, &self.image, rest),
-            "zeros" => images::zeros(alloc, &self.image, rest),
-            "dead" => deaths::told(alloc, &self.image, rest),
-            _ => said(alloc, "no step"),
+            "left" => deaths::leave(alloc, &mut self.image, rest),
+            "keep" => take_image(&mut self.kept, &self.image),
+            "back" => take_image(&mut self.image, &self.kept),
+            "open" => images::write_opened(alloc, &self.image, answer),
+            "zeros" => answer.push_str(images::zeros(&self.image, rest)),
+            "dead" => deaths::write_each(alloc, &self.image, rest, answer),
+            _ => answer.push_str("no step"),
         }
     }
 }
 
-impl Answers for Table {
-    fn answer(&mut self, alloc: Global, line: &str) -> anyhow::Result<Option<String>> {
+impl Steps for Table {
+    fn step(&mut self, alloc: Global, line: &str, answer: &mut String) -> anyhow::Result<()> {
         let (step, rest) = line.split_once(' ').unwrap_or((line, ""));
         match step {
-            "create" => self.image = images::created(alloc, Version::One, rest)?,
-            "create_two" => self.image = images::created(alloc, Version::Two, rest)?,
-            "set" => set_part_of(alloc, self.image.as_mut_slice(), rest)?,
-            "left" => self.image = deaths::left(alloc, &self.image, rest)?,
-            "cut" => self.image.truncate(rest.parse().unwrap_or(0)),
-            "keep" => self.kept = self.image.clone()?,
-            "back" => self.image = self.kept.clone()?,
-            "append" | "turn" | "settle" | "migrate" => return Ok(Some(self.write(alloc, line)?)),
-            _ => return Ok(Some(self.told(alloc, step, rest)?)),
+            "create" => images::create_image(alloc, &mut self.image, Version::One, rest),
+            "create_two" => images::create_image(alloc, &mut self.image, Version::Two, rest),
+            "set" => set_part_of(alloc, self.image.as_mut_slice(), rest),
+            "cut" => {
+                self.image.truncate(rest.parse().unwrap_or(0));
+                Ok(())
+            }
+            "at" => Ok(answer.push_str(part_of(alloc, &self.image, rest)?.as_str())?),
+            "outside" => outside::write_case(self.rt, rest, answer),
+            "append" | "turn" | "settle" | "migrate" => {
+                Ok(steps::write_step(alloc, &mut self.image, line, answer)?)
+            }
+            _ => Ok(self.step_on_images(alloc, (step, rest), answer)?),
         }
-        Ok(None)
     }
+}
+
+/// Prints what each line of a text answers.
+fn print_lines(rt: HostRuntime, text: &str, answer: &mut String) -> anyhow::Result<()> {
+    let mut table = Table::new(rt);
+    for line in text.lines() {
+        print_step(&rt, &mut table, line, answer)?;
+    }
+    Ok(())
 }
 
 fn main(rt: HostRuntime) -> anyhow::Result<()> {
-    print_answers(&rt, &mut Table::new(rt.alloc()))
+    let mut octets = Vec::new(rt.alloc());
+    input::read_all(rt, &mut octets)?;
+    print_lines(rt, outside::text(&octets), &mut String::new(rt.alloc()))
 }

@@ -1,12 +1,20 @@
 // The steps that write an image.
-ghost use Rattle.std.specs.Prelude.{◌≡◌, length};
+ghost use Rattle.std.specs.Prelude.{◌≡◌, IfOk, length};
 
-use crate::images::{at_rest, fault_told, octet_of, site_of};
+use crate::images::{at_rest, octet_of, site_of, take_image, write_fault};
 use case_lines::word_at;
 use disk_journal::{BODY_LENGTH, JournalFault};
 use sdls_base::{CONTENT_LENGTH_TWO, Version};
 use sdls_outside::MemSite;
 use std::alloc::{AllocError, Global};
+
+/// A content of the octet of a step alone, which is its second word. It is as long as that of version 2.
+pub fn content_of(alloc: Global, line: &str) -> Result<Vec<u8>, AllocError>
+    ensures { IfOk result (λ content. length content.items ≡ CONTENT_LENGTH_TWO) }
+{
+    let octet = octet_of(word_at(line, 1));
+    vec![in alloc; octet; CONTENT_LENGTH_TWO]
+}
 
 /// Adds a record of this octet alone, if a slot is free.
 fn append(site: &mut MemSite, octet: u8) -> Result<(), JournalFault> {
@@ -17,22 +25,17 @@ fn append(site: &mut MemSite, octet: u8) -> Result<(), JournalFault> {
     journal.append(site, &[octet; BODY_LENGTH])
 }
 
-/// Writes a content of this octet alone by a turn.
-fn turn(
-    alloc: Global,
-    site: &mut MemSite,
-    octet: u8,
-) -> Result<Result<(), JournalFault>, AllocError> {
-    match at_rest(site) {
-        Ok(mut journal) => {
-            let content = vec![in alloc; octet; journal.version().content_length()]?;
-            Ok(journal.turn(site, &content))
-        }
-        Err(fault) => Ok(Err(fault)),
+/// Writes a content by a turn, as much of it as the version has room for.
+fn turn(site: &mut MemSite, content: &[u8]) -> Result<(), JournalFault> {
+    let mut journal = at_rest(site)?;
+    let length = journal.version().content_length();
+    if length > content.len() {
+        return Ok(());
     }
+    journal.turn(site, &content[..length])
 }
 
-/// Migrates the image to a content of this octet alone, if it is of version 1.
+/// Migrates the image to a content, if it is of version 1.
 fn migrate(site: &mut MemSite, content: &[u8]) -> Result<(), JournalFault>
     requires { length content.now ≡ CONTENT_LENGTH_TWO }
 {
@@ -43,30 +46,31 @@ fn migrate(site: &mut MemSite, content: &[u8]) -> Result<(), JournalFault>
     }
 }
 
-/// Does a step on the site: `settle`, `append OCTET`, `turn OCTET` or `migrate OCTET`.
-pub fn does(
-    alloc: Global,
-    site: &mut MemSite,
-    line: &str,
-) -> Result<Result<(), JournalFault>, AllocError> {
-    let octet = octet_of(word_at(line, 1));
+/// Does a step on the site: `settle`, `append OCTET`, `turn OCTET` or `migrate OCTET`, with the content of that octet.
+pub fn does(site: &mut MemSite, line: &str, content: &[u8]) -> Result<(), JournalFault>
+    requires { length content.now ≡ CONTENT_LENGTH_TWO }
+{
     match word_at(line, 0) {
-        "append" => Ok(append(site, octet)),
-        "turn" => turn(alloc, site, octet),
-        "migrate" => {
-            let content = vec![in alloc; octet; CONTENT_LENGTH_TWO]?;
-            Ok(migrate(site, &content))
-        }
-        _ => Ok(at_rest(site).map(|_| ())),
+        "append" => append(site, content[0]),
+        "turn" => turn(site, content),
+        "migrate" => migrate(site, content),
+        _ => at_rest(site).map(|_| ()),
     }
 }
 
-/// The image after a step, and how it ended.
-pub fn done(alloc: Global, image: &[u8], line: &str) -> anyhow::Result<(Vec<u8>, String)> {
+/// Does a step on the image, and writes how it ended.
+pub fn write_step(
+    alloc: Global,
+    image: &mut Vec<u8>,
+    line: &str,
+    answer: &mut String,
+) -> Result<(), AllocError> {
+    let content = content_of(alloc, line)?;
     let mut site = site_of(alloc, image, None)?;
-    let answer = match does(alloc, &mut site, line)? {
-        Ok(()) => String::from_str(alloc, "ok")?,
-        Err(fault) => fault_told(alloc, fault)?,
-    };
-    Ok((Vec::from_slice(alloc, site.image())?, answer))
+    let ended = does(&mut site, line, &content);
+    take_image(image, site.image())?;
+    match ended {
+        Ok(()) => answer.push_str("ok"),
+        Err(fault) => write_fault(fault, answer),
+    }
 }

@@ -1,15 +1,16 @@
 // What a crash leaves of writes and syncs.
 use crate::lives::{crashed, syncs};
-use crate::words;
+use crate::outside::{octets, text};
 use sdls_outside::{Crash, MemSite, Site};
 use std::alloc::{AllocError, Global};
 use std::str::SplitWhitespace;
 
-fn crash_of(word: &str) -> Crash {
+/// The crash of a word: `kept`, `lost`, or filled with this octet.
+pub fn crash_of(word: &str, filling: u8) -> Crash {
     match word {
         "kept" => Crash::Kept,
         "lost" => Crash::Lost,
-        _ => Crash::Filled(word.as_bytes().first().copied().unwrap_or(0)),
+        _ => Crash::Filled(filling),
     }
 }
 
@@ -36,18 +37,18 @@ fn first_failed<'a>(site: &mut MemSite, steps: &mut SplitWhitespace<'a>) -> Opti
     None
 }
 
-/// The image after the crash.
-fn left(alloc: Global, site: MemSite, how: Crash) -> Result<String, AllocError> {
-    words::text(alloc, crashed(site, how).image())
-}
-
-/// The image after the steps and the crash.
-pub fn answer(alloc: Global, words: &mut SplitWhitespace<'_>) -> anyhow::Result<String> {
-    let how = crash_of(words.next().unwrap_or(""));
-    let image = Vec::from_slice(alloc, words::octets(words.next()))?;
+/// Writes the image after the steps and the crash.
+pub fn write_left(
+    alloc: Global,
+    words: &mut SplitWhitespace<'_>,
+    answer: &mut String,
+) -> Result<(), AllocError> {
+    let kind = words.next().unwrap_or("");
+    let how = crash_of(kind, kind.as_bytes().first().copied().unwrap_or(0));
+    let image = Vec::from_slice(alloc, octets(words.next()))?;
     let mut site = MemSite::new(alloc, image, Vec::new(alloc), None);
     match first_failed(&mut site, words) {
-        Some(step) => Ok(format!(in alloc; "{step} failed")?),
-        None => Ok(left(alloc, site, how)?),
+        Some(step) => write!(answer, "{step} failed"),
+        None => answer.push_str(text(crashed(site, how).image())),
     }
 }
