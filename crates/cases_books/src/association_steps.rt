@@ -1,10 +1,8 @@
-//! Steps on an association book, and on a window. `known CHANNEL ..` says which channels the unit has, for the steps
-//! behind it.
+//! Steps on an association book. `known CHANNEL ..` says which channels the unit has, for the steps behind it.
+use crate::answers::{write_change, write_digits};
 use crate::associations;
-use case_lines::said;
-use replay_window::{MOST_BACK, Verdict, Window, window_field};
-use sa_book::{SaBook, SaRefusal, SaRow};
-use sdls_base::{ChannelId, MOST_WINDOW};
+use sa_book::{SaBook, SaRow};
+use sdls_base::{ChannelId, NoMemory};
 use std::alloc::{AllocError, Global};
 use std::str::SplitWhitespace;
 
@@ -15,68 +13,32 @@ pub struct AssociationTable {
     known: Vec<ChannelId>,
 }
 
-/// What a call answered that may be refused, and whether the rows are as they were.
-fn change_text(
-    alloc: Global,
-    answer: Result<(), SaRefusal>,
-    kept: bool,
-) -> Result<String, AllocError> {
-    match answer {
-        Ok(()) => format!(in alloc; "ok"),
-        Err(refusal) => format!(in alloc; "{refusal}; rows kept: {kept}"),
+fn write_row(row: &SaRow, answer: &mut String) -> Result<(), AllocError> {
+    let (spi, direction, suite, state) = (row.spi.get(), row.direction, row.suite, row.state);
+    let key = row.key.map_or(0, |key| key.get());
+    write!(
+        answer,
+        "{spi} {direction:?} {suite:?} {state:?} key {key} channels "
+    )?;
+    write_digits(row.channels.as_slice(), answer)?;
+    write!(
+        answer,
+        " high {} width {}",
+        row.window.high, row.window.width
+    )?;
+    match row.window.back {
+        0 => Ok(()),
+        back => write!(answer, " back {back}"),
     }
 }
 
-/// A back window, if there is one.
-fn back_text(alloc: Global, back: u8) -> Result<String, AllocError> {
-    if back == 0 {
-        Ok(String::new(alloc))
-    } else {
-        format!(in alloc; " back {back}")
-    }
-}
-
-fn row_text(alloc: Global, row: &SaRow) -> anyhow::Result<String> {
-    let spi = row.spi.get();
-    let (direction, suite, state) = (row.direction, row.suite, row.state);
-    let key = match row.key {
-        Some(key) => key.get(),
-        None => 0,
-    };
-    let channels = hex::encode(alloc, row.channels.as_slice())?;
-    let (high, width) = (row.window.high, row.window.width);
-    let back = back_text(alloc, row.window.back)?;
-    Ok(format!(in alloc;
-        "{spi} {direction:?} {suite:?} {state:?} key {key} channels {channels} high {high} width {width}{back}"
-    )?)
-}
-
-/// What a window without a back window says of a number: `HIGH WIDTH NUMBER END`.
-fn judge(alloc: Global, words: &mut SplitWhitespace<'_>) -> anyhow::Result<String> {
-    let high = case_lines::number(words).unwrap_or(0);
-    let width = case_lines::number(words).unwrap_or(1).min(MOST_WINDOW);
-    let window = Window::new(high, window_field(0, width));
-    if window.back > MOST_BACK {
-        return said(alloc, "no back window");
-    }
-    let number = case_lines::number(words).unwrap_or(0);
-    let end = case_lines::number(words).unwrap_or(0);
-    match window.judge(number, end) {
-        Verdict::Fresh => said(alloc, "fresh"),
-        Verdict::Refused { high, width } => Ok(format!(in alloc; "refused {high} {width}")?),
-    }
-}
-
-/// The indices of the rows, in their order.
-fn rows_text(alloc: Global, rows: &[SaRow]) -> anyhow::Result<String> {
-    let count = rows.len();
-    let mut text = format!(in alloc; "{count} rows")?;
+/// Writes the indices of the rows, in their order.
+fn write_rows(rows: &[SaRow], answer: &mut String) -> Result<(), AllocError> {
+    write!(answer, "{} rows", rows.len())?;
     for row in rows {
-        let spi = row.spi.get();
-        let shown = format!(in alloc; ", {spi}")?;
-        text.push_str(shown.as_str())?;
+        write!(answer, ", {}", row.spi.get())?;
     }
-    Ok(text)
+    Ok(())
 }
 
 impl AssociationTable {
@@ -88,127 +50,120 @@ impl AssociationTable {
         }
     }
 
-    /// Makes the change of a step, none where the word names another.
-    fn make(
+    /// Makes the change of a word, which may be refused, and writes what the call answers.
+    fn change(
         &mut self,
         alloc: Global,
         word: &str,
         words: &mut SplitWhitespace<'_>,
-    ) -> Option<Result<(), SaRefusal>> {
-        match word {
-            "create" => associations::create(alloc, &mut self.book, words, &self.known),
-            "rekey" => associations::rekey(&mut self.book, words),
-            "start" => associations::start(&mut self.book, words),
-            "stop" => associations::stop(&mut self.book, words),
-            "expire" => associations::expire(&mut self.book, words),
-            "delete" => associations::delete(&mut self.book, words),
-            "number" => associations::set_number(&mut self.book, words),
-            "window" => associations::set_window(&mut self.book, words),
-            _ => None,
-        }
-    }
-
-    /// What a step that may be refused answers, none where the word names another.
-    fn change(&mut self, alloc: Global, word: &str, rest: &str) -> anyhow::Result<Option<String>> {
-        let before = associations::copy(&self.book)?;
-        let Some(answer) = self.make(alloc, word, &mut rest.split_whitespace()) else {
-            return Ok(None);
+        answer: &mut String,
+    ) -> Result<(), AllocError> {
+        let Ok(before) = self.book.copy() else {
+            return Err(AllocError);
         };
+        let changed = associations::change(alloc, &mut self.book, word, words, &self.known);
         let kept = associations::same_rows(&self.book, &before);
-        Ok(Some(change_text(alloc, answer, kept)?))
+        write_change(changed, kept, answer)
     }
 
-    fn know(&mut self, alloc: Global, words: &mut SplitWhitespace<'_>) -> anyhow::Result<String> {
+    fn know(
+        &mut self,
+        words: &mut SplitWhitespace<'_>,
+        answer: &mut String,
+    ) -> Result<(), AllocError> {
         self.known.clear();
         for word in words {
             if let Some(channel) = case_lines::channel(&mut word.split_whitespace()) {
                 self.known.push(channel)?;
             }
         }
-        said(alloc, "ok")
+        answer.push_str("ok")
     }
 
-    fn accept(&mut self, alloc: Global, words: &mut SplitWhitespace<'_>) -> anyhow::Result<String> {
-        let accepted = associations::accept(&mut self.book, words).is_some();
-        Ok(format!(in alloc; "{accepted}")?)
-    }
-
-    fn next_text(&self, alloc: Global, words: &mut SplitWhitespace<'_>) -> anyhow::Result<String> {
+    /// Writes the next number of an association: `SPI`.
+    fn write_next(
+        &self,
+        words: &mut SplitWhitespace<'_>,
+        answer: &mut String,
+    ) -> Result<(), AllocError> {
         match associations::next_number(&self.book, words) {
-            Some(Ok(number)) => Ok(format!(in alloc; "{number}")?),
-            Some(Err(refusal)) => Ok(format!(in alloc; "{refusal}")?),
-            None => said(alloc, "no condition"),
+            Some(Ok(number)) => write!(answer, "{number}"),
+            Some(Err(refusal)) => write!(answer, "{refusal}"),
+            None => answer.push_str("no condition"),
         }
     }
 
-    fn sender_text(
+    /// Writes the operational sending association that covers a channel: `CHANNEL`.
+    fn write_sender(
         &self,
-        alloc: Global,
         words: &mut SplitWhitespace<'_>,
-    ) -> anyhow::Result<String> {
-        match associations::sender(&self.book, words) {
-            Some(row) => row_text(alloc, row),
-            None => said(alloc, "none"),
+        answer: &mut String,
+    ) -> Result<(), AllocError> {
+        let Some(channel) = case_lines::channel(words) else {
+            return answer.push_str("no channel");
+        };
+        match self.book.sender_on(channel) {
+            Some(row) => write_row(row, answer),
+            None => answer.push_str("none"),
         }
     }
 
-    fn status_text(
+    /// Writes the row of an association: `SPI`.
+    fn write_status(
         &self,
-        alloc: Global,
         words: &mut SplitWhitespace<'_>,
-    ) -> anyhow::Result<String> {
-        match associations::status(&self.book, words) {
-            Some(Ok(row)) => row_text(alloc, row),
-            Some(Err(refusal)) => Ok(format!(in alloc; "{refusal}")?),
-            None => said(alloc, "no index"),
+        answer: &mut String,
+    ) -> Result<(), AllocError> {
+        let Some(spi) = case_lines::spi(words) else {
+            return answer.push_str("no index");
+        };
+        match self.book.status(spi) {
+            Ok(row) => write_row(row, answer),
+            Err(refusal) => write!(answer, "{refusal}"),
         }
     }
 
-    fn in_use_text(&self, alloc: Global) -> anyhow::Result<String> {
-        let pairs = associations::in_use(&self.book)?;
-        let mut text = format!(in alloc; "in use")?;
+    /// Writes the keys that associations hold.
+    fn write_in_use(&self, answer: &mut String) -> Result<(), AllocError> {
+        let Ok(pairs) = self.book.in_use() else {
+            return Err(AllocError);
+        };
+        answer.push_str("in use")?;
         for (key, spi) in pairs.iter() {
-            let (key, spi) = (key.get(), spi.get());
-            let pair = format!(in alloc; ", key {key} by {spi}")?;
-            text.push_str(pair.as_str())?;
+            write!(answer, ", key {} by {}", key.get(), spi.get())?;
         }
-        Ok(text)
+        Ok(())
     }
 
-    /// Whether the rows make an equal book.
-    fn again_text(&self, alloc: Global) -> anyhow::Result<String> {
-        let again = associations::made_again(alloc, &self.book)?;
-        let same = associations::same_rows(&again, &self.book);
-        Ok(format!(in alloc; "{same}")?)
-    }
-
-    /// What a step answers that accepts a number or changes no row. None where the word names another.
-    fn look(&mut self, alloc: Global, word: &str, rest: &str) -> Option<anyhow::Result<String>> {
-        let mut words = rest.split_whitespace();
-        match word {
-            "known" => Some(self.know(alloc, &mut words)),
-            "accept" => Some(self.accept(alloc, &mut words)),
-            "next" => Some(self.next_text(alloc, &mut words)),
-            "sender" => Some(self.sender_text(alloc, &mut words)),
-            "status" => Some(self.status_text(alloc, &mut words)),
-            "in_use" => Some(self.in_use_text(alloc)),
-            "rows" => Some(rows_text(alloc, associations::rows(&self.book))),
-            "judge" => Some(judge(alloc, &mut words)),
-            "rows_again" => Some(self.again_text(alloc)),
-            _ => None,
+    /// Writes whether the rows make an equal book.
+    fn make_again(&self, alloc: Global, answer: &mut String) -> Result<(), AllocError> {
+        match associations::made_again(alloc, &self.book) {
+            Ok(again) => write!(answer, "{}", associations::same_rows(&again, &self.book)),
+            Err(NoMemory) => Err(AllocError),
         }
     }
 
-    /// What a step answers, none where it is no step on associations.
-    pub fn answer(
+    /// Does a step, and writes what it answers.
+    pub fn step(
         &mut self,
         alloc: Global,
         word: &str,
-        rest: &str,
-    ) -> anyhow::Result<Option<String>> {
-        match self.look(alloc, word, rest) {
-            Some(answer) => Ok(Some(answer?)),
-            None => self.change(alloc, word, rest),
+        words: &mut SplitWhitespace<'_>,
+        answer: &mut String,
+    ) -> Result<(), AllocError> {
+        match word {
+            "known" => self.know(words, answer),
+            "accept" => {
+                let accepted = associations::accept(&mut self.book, words);
+                write!(answer, "{}", accepted.is_some())
+            }
+            "next" => self.write_next(words, answer),
+            "sender" => self.write_sender(words, answer),
+            "status" => self.write_status(words, answer),
+            "in_use" => self.write_in_use(answer),
+            "rows" => write_rows(self.book.rows(), answer),
+            "rows_again" => self.make_again(alloc, answer),
+            _ => self.change(alloc, word, words, answer),
         }
     }
 }

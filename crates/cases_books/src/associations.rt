@@ -51,7 +51,7 @@ fn new_association(alloc: Global, words: &mut SplitWhitespace<'_>) -> Option<New
 }
 
 /// Creates an association of the words.
-pub fn create(
+fn create(
     alloc: Global,
     book: &mut SaBook,
     words: &mut SplitWhitespace<'_>,
@@ -61,54 +61,21 @@ pub fn create(
     Some(book.create(&new, known))
 }
 
-fn give_key(
-    book: &mut SaBook,
-    spi: Spi,
-    (key, state): (KeyId, KeyState),
-    number: u64,
-    floor: u64,
-) -> Option<Result<(), SaRefusal>> {
+/// Gives a key: `SPI KEY STATE NUMBER FLOOR`.
+fn rekey(book: &mut SaBook, words: &mut SplitWhitespace<'_>) -> Option<Result<(), SaRefusal>> {
+    let spi = case_lines::spi(words)?;
+    let key = case_lines::key(words)?;
+    let state = case_lines::key_state(words)?;
+    let number = case_lines::number(words)?;
+    let floor = case_lines::number(words)?;
     if floor < 1 {
         return None;
     }
     Some(book.rekey(spi, key, state, number, floor))
 }
 
-/// Gives a key: `SPI KEY STATE NUMBER FLOOR`.
-pub fn rekey(book: &mut SaBook, words: &mut SplitWhitespace<'_>) -> Option<Result<(), SaRefusal>> {
-    let spi = case_lines::spi(words)?;
-    let key = case_lines::key(words)?;
-    let state = case_lines::key_state(words)?;
-    let number = case_lines::number(words)?;
-    let floor = case_lines::number(words)?;
-    give_key(book, spi, (key, state), number, floor)
-}
-
-/// Starts an association: `SPI`.
-pub fn start(book: &mut SaBook, words: &mut SplitWhitespace<'_>) -> Option<Result<(), SaRefusal>> {
-    Some(book.start(case_lines::spi(words)?))
-}
-
-/// Stops an association: `SPI`.
-pub fn stop(book: &mut SaBook, words: &mut SplitWhitespace<'_>) -> Option<Result<(), SaRefusal>> {
-    Some(book.stop(case_lines::spi(words)?))
-}
-
-/// Takes the key of an association away: `SPI`.
-pub fn expire(book: &mut SaBook, words: &mut SplitWhitespace<'_>) -> Option<Result<(), SaRefusal>> {
-    Some(book.expire(case_lines::spi(words)?))
-}
-
-/// Deletes an association: `SPI`.
-pub fn delete(book: &mut SaBook, words: &mut SplitWhitespace<'_>) -> Option<Result<(), SaRefusal>> {
-    Some(book.delete(case_lines::spi(words)?))
-}
-
 /// Sets the next number: `SPI NUMBER FLOOR`.
-pub fn set_number(
-    book: &mut SaBook,
-    words: &mut SplitWhitespace<'_>,
-) -> Option<Result<(), SaRefusal>> {
+fn set_number(book: &mut SaBook, words: &mut SplitWhitespace<'_>) -> Option<Result<(), SaRefusal>> {
     let spi = case_lines::spi(words)?;
     let number = case_lines::number(words)?;
     let floor = case_lines::number(words)?;
@@ -136,12 +103,30 @@ fn field(words: &mut SplitWhitespace<'_>) -> Option<u64>
 }
 
 /// Sets width and back window: `SPI WIDTH`, or `SPI WIDTH BACK`.
-pub fn set_window(
-    book: &mut SaBook,
-    words: &mut SplitWhitespace<'_>,
-) -> Option<Result<(), SaRefusal>> {
+fn set_window(book: &mut SaBook, words: &mut SplitWhitespace<'_>) -> Option<Result<(), SaRefusal>> {
     let spi = case_lines::spi(words)?;
     Some(book.set_window(spi, field(words)?))
+}
+
+/// Makes the change of a word. None also if the word names no change.
+pub fn change(
+    alloc: Global,
+    book: &mut SaBook,
+    word: &str,
+    words: &mut SplitWhitespace<'_>,
+    known: &[ChannelId],
+) -> Option<Result<(), SaRefusal>> {
+    match word {
+        "create" => create(alloc, book, words, known),
+        "rekey" => rekey(book, words),
+        "start" => Some(book.start(case_lines::spi(words)?)),
+        "stop" => Some(book.stop(case_lines::spi(words)?)),
+        "expire" => Some(book.expire(case_lines::spi(words)?)),
+        "delete" => Some(book.delete(case_lines::spi(words)?)),
+        "number" => set_number(book, words),
+        "window" => set_window(book, words),
+        _ => None,
+    }
 }
 
 /// Whether the number is fresh in the window, and its back window in its bounds.
@@ -198,34 +183,6 @@ pub fn next_number(
     } else {
         None
     }
-}
-
-/// The operational sending association that covers a channel: `CHANNEL`.
-pub fn sender<'a>(book: &'a SaBook, words: &mut SplitWhitespace<'_>) -> Option<&'a SaRow> {
-    book.sender_on(case_lines::channel(words)?)
-}
-
-/// The row of an association: `SPI`.
-pub fn status<'a>(
-    book: &'a SaBook,
-    words: &mut SplitWhitespace<'_>,
-) -> Option<Result<&'a SaRow, SaRefusal>> {
-    Some(book.status(case_lines::spi(words)?))
-}
-
-/// The keys that associations hold.
-pub fn in_use(book: &SaBook) -> Result<Vec<(KeyId, Spi)>, NoMemory> {
-    book.in_use()
-}
-
-/// The rows.
-pub fn rows(book: &SaBook) -> &[SaRow] {
-    book.rows()
-}
-
-/// An equal book.
-pub fn copy(book: &SaBook) -> Result<SaBook, NoMemory> {
-    book.copy()
 }
 
 /// Whether two books have the same rows.

@@ -1,8 +1,8 @@
 //! Steps on a key book. `held ID SPI ..` says which associations hold which keys, for the steps behind it.
+use crate::answers::{write_change, write_digits};
 use crate::keys;
-use case_lines::said;
-use key_book::{Inventory, KeyBook, KeyRefusal, KeyRow, digest};
-use sdls_base::{KeyId, Spi};
+use key_book::{Inventory, KeyBook, KeyRow, digest};
+use sdls_base::{KeyId, NoMemory, Spi};
 use std::alloc::{AllocError, Global};
 use std::str::SplitWhitespace;
 
@@ -13,43 +13,29 @@ pub struct KeyTable {
     held: Vec<(KeyId, Spi)>,
 }
 
-/// What a call answered that may be refused, and whether the rows are as they were.
-fn change_text(
-    alloc: Global,
-    answer: Result<(), KeyRefusal>,
-    kept: bool,
-) -> Result<String, AllocError> {
-    match answer {
-        Ok(()) => format!(in alloc; "ok"),
-        Err(refusal) => format!(in alloc; "{refusal}; rows kept: {kept}"),
+/// Writes mark and floor of a key.
+fn write_marks(book: &KeyBook, id: KeyId, answer: &mut String) -> Result<(), AllocError> {
+    match (book.mark(id), book.receive_floor(id)) {
+        (Some(mark), Some(floor)) => write!(answer, "mark {mark} floor {floor}"),
+        (None, None) => answer.push_str("none"),
+        _ => answer.push_str("one of two"),
     }
 }
 
-/// Mark and floor of a key.
-fn marks_text(alloc: Global, mark: Option<u64>, floor: Option<u64>) -> Result<String, AllocError> {
-    match (mark, floor) {
-        (Some(mark), Some(floor)) => format!(in alloc; "mark {mark} floor {floor}"),
-        (None, None) => format!(in alloc; "none"),
-        _ => format!(in alloc; "one of two"),
-    }
+fn write_row(place: usize, row: &KeyRow, answer: &mut String) -> Result<(), AllocError> {
+    write!(answer, "place {place} {row:?} octets ")?;
+    write_digits(row.bytes.as_slice(), answer)?;
+    answer.push_str(" digest ")?;
+    write_digits(row.digest.as_slice(), answer)
 }
 
-fn row_text(alloc: Global, place: usize, row: &KeyRow) -> anyhow::Result<String> {
-    let octets = hex::encode(alloc, row.bytes.as_slice())?;
-    let digest = hex::encode(alloc, row.digest.as_slice())?;
-    Ok(format!(in alloc; "place {place} {row:?} octets {octets} digest {digest}")?)
-}
-
-fn inventory_text(alloc: Global, inventory: &Inventory) -> anyhow::Result<String> {
+fn write_inventory(inventory: &Inventory, answer: &mut String) -> Result<(), AllocError> {
     let rows = inventory.rows.as_slice();
-    let (total, listed) = (inventory.total, rows.len());
-    let mut text = format!(in alloc; "{total}, listed {listed}")?;
+    write!(answer, "{}, listed {}", inventory.total, rows.len())?;
     for (id, state) in rows {
-        let id = id.get();
-        let row = format!(in alloc; ", {id} {state:?}")?;
-        text.push_str(row.as_str())?;
+        write!(answer, ", {} {state:?}", id.get())?;
     }
-    Ok(text)
+    Ok(())
 }
 
 /// A key, and an association that holds it.
@@ -57,9 +43,16 @@ fn holder(words: &mut SplitWhitespace<'_>) -> Option<(KeyId, Spi)> {
     Some((case_lines::key(words)?, case_lines::spi(words)?))
 }
 
-fn digest_text(alloc: Global, words: &mut SplitWhitespace<'_>) -> anyhow::Result<String> {
-    let octets = hex::decode(alloc, words.next().unwrap_or(""))?;
-    Ok(hex::encode(alloc, digest(&octets).as_slice())?)
+/// Writes the digest of octets.
+fn write_digest(
+    alloc: Global,
+    words: &mut SplitWhitespace<'_>,
+    answer: &mut String,
+) -> Result<(), AllocError> {
+    match hex::decode(alloc, words.next().unwrap_or("")) {
+        Ok(octets) => write_digits(&digest(&octets), answer),
+        Err(_) => answer.push_str("no octets"),
+    }
 }
 
 impl KeyTable {
@@ -71,116 +64,114 @@ impl KeyTable {
         }
     }
 
-    fn hold(&mut self, alloc: Global, words: &mut SplitWhitespace<'_>) -> anyhow::Result<String> {
+    fn hold(
+        &mut self,
+        words: &mut SplitWhitespace<'_>,
+        answer: &mut String,
+    ) -> Result<(), AllocError> {
         self.held.clear();
         for _ in 0..8 {
             if let Some(held) = holder(words) {
                 self.held.push(held)?;
             }
         }
-        said(alloc, "ok")
+        answer.push_str("ok")
     }
 
-    fn find(&self, alloc: Global, words: &mut SplitWhitespace<'_>) -> anyhow::Result<String> {
-        match keys::find(&self.book, words) {
-            Some((place, row)) => row_text(alloc, place, row),
-            None => said(alloc, "none"),
-        }
-    }
-
-    fn inventory(&self, alloc: Global, words: &mut SplitWhitespace<'_>) -> anyhow::Result<String> {
-        inventory_text(alloc, &keys::inventory(&self.book, words)?)
-    }
-
-    fn book_text(&self, alloc: Global) -> anyhow::Result<String> {
-        let book = &self.book;
-        Ok(format!(in alloc; "{book:?}")?)
-    }
-
-    /// Whether the rows make an equal book.
-    fn again_text(&self, alloc: Global) -> anyhow::Result<String> {
-        let again = keys::made_again(alloc, &self.book)?;
-        let same = keys::same_rows(&again, &self.book);
-        Ok(format!(in alloc; "{same}")?)
-    }
-
-    /// Mark and floor of a key: `ID`.
-    fn marks(&self, alloc: Global, rest: &str) -> anyhow::Result<String> {
-        let mark = keys::mark(&self.book, &mut rest.split_whitespace());
-        let floor = keys::floor(&self.book, &mut rest.split_whitespace());
-        Ok(marks_text(alloc, mark, floor)?)
-    }
-
-    /// Mark and floor of a key that were moved.
-    fn moved(&self, alloc: Global, moved: Option<()>, rest: &str) -> anyhow::Result<String> {
-        match moved {
-            Some(()) => self.marks(alloc, rest),
-            None => said(alloc, "no condition"),
-        }
-    }
-
-    fn raise(&mut self, alloc: Global, rest: &str) -> anyhow::Result<String> {
-        let moved = keys::raise_marks(&mut self.book, &mut rest.split_whitespace());
-        self.moved(alloc, moved, rest)
-    }
-
-    fn set(&mut self, alloc: Global, rest: &str) -> anyhow::Result<String> {
-        let moved = keys::set_marks(&mut self.book, &mut rest.split_whitespace());
-        self.moved(alloc, moved, rest)
-    }
-
-    /// Makes the change of a step, none where the word names another.
-    fn make(
+    /// Does a step that may be refused, and writes what the call answers.
+    fn change(
         &mut self,
         alloc: Global,
         word: &str,
         words: &mut SplitWhitespace<'_>,
-    ) -> anyhow::Result<Option<Result<(), KeyRefusal>>> {
-        match word {
-            "load" => Ok(Some(keys::load(alloc, &mut self.book, words)?)),
-            "loads" => Ok(Some(keys::fill(alloc, &mut self.book, words)?)),
-            "state" => keys::set_state(alloc, &mut self.book, words, &self.held),
-            _ => Ok(None),
-        }
-    }
-
-    /// What a step that may be refused answers, none where the word names another.
-    fn change(&mut self, alloc: Global, word: &str, rest: &str) -> anyhow::Result<Option<String>> {
-        let before = keys::copy(&self.book)?;
-        let Some(answer) = self.make(alloc, word, &mut rest.split_whitespace())? else {
-            return Ok(None);
+        answer: &mut String,
+    ) -> Result<(), AllocError> {
+        let Ok(before) = self.book.copy() else {
+            return Err(AllocError);
+        };
+        let changed = match word {
+            "load" => Some(keys::load(alloc, &mut self.book, words)),
+            "loads" => Some(keys::load_many(alloc, &mut self.book, words)),
+            _ => keys::set_state(alloc, &mut self.book, words, &self.held),
         };
         let kept = keys::same_rows(&self.book, &before);
-        Ok(Some(change_text(alloc, answer, kept)?))
+        write_change(changed, kept, answer)
     }
 
-    /// What a step that moves numbers answers, or that changes nothing. None where the word names another.
-    fn look(&mut self, alloc: Global, word: &str, rest: &str) -> Option<anyhow::Result<String>> {
-        let mut words = rest.split_whitespace();
-        match word {
-            "raise" => Some(self.raise(alloc, rest)),
-            "set" => Some(self.set(alloc, rest)),
-            "marks" => Some(self.marks(alloc, rest)),
-            "held" => Some(self.hold(alloc, &mut words)),
-            "find" => Some(self.find(alloc, &mut words)),
-            "inventory" => Some(self.inventory(alloc, &mut words)),
-            "keys" => Some(self.book_text(alloc)),
-            "digest" => Some(digest_text(alloc, &mut words)),
-            "keys_again" => Some(self.again_text(alloc)),
-            _ => None,
+    /// Raises or sets mark and floor of a key, and writes them.
+    fn move_marks(
+        &mut self,
+        word: &str,
+        words: &mut SplitWhitespace<'_>,
+        answer: &mut String,
+    ) -> Result<(), AllocError> {
+        let moved = match word {
+            "raise" => keys::raise_marks(&mut self.book, words),
+            _ => keys::set_marks(&mut self.book, words),
+        };
+        match moved {
+            Some(id) => write_marks(&self.book, id, answer),
+            None => answer.push_str("no condition"),
         }
     }
 
-    /// What a step answers, none where it is no step on keys.
-    pub fn answer(
+    /// Writes what a step answers on one key: `ID`.
+    fn look_at(
+        &self,
+        word: &str,
+        words: &mut SplitWhitespace<'_>,
+        answer: &mut String,
+    ) -> Result<(), AllocError> {
+        let Some(id) = case_lines::key(words) else {
+            return answer.push_str("none");
+        };
+        if word == "marks" {
+            return write_marks(&self.book, id, answer);
+        }
+        match self.book.find(id) {
+            Some((place, row)) => write_row(place, row, answer),
+            None => answer.push_str("none"),
+        }
+    }
+
+    /// Writes the keys of a range: `FIRST LAST`.
+    fn list(&self, words: &mut SplitWhitespace<'_>, answer: &mut String) -> Result<(), AllocError> {
+        let first = case_lines::short(words).unwrap_or(0);
+        let last = case_lines::short(words).unwrap_or(0);
+        match self.book.inventory(first, last) {
+            Ok(inventory) => write_inventory(&inventory, answer),
+            Err(NoMemory) => Err(AllocError),
+        }
+    }
+
+    /// Writes whether the rows make an equal book.
+    fn make_again(&self, alloc: Global, answer: &mut String) -> Result<(), AllocError> {
+        match keys::made_again(alloc, &self.book) {
+            Ok(again) => write!(answer, "{}", keys::same_rows(&again, &self.book)),
+            Err(NoMemory) => Err(AllocError),
+        }
+    }
+
+    /// Does a step, and writes what it answers. Says whether it is one on keys.
+    pub fn step(
         &mut self,
         alloc: Global,
         word: &str,
-        rest: &str,
-    ) -> anyhow::Result<Option<String>> {
-        match self.look(alloc, word, rest) {
-            Some(answer) => Ok(Some(answer?)),
-            None => self.change(alloc, word, rest),
-        }
+        words: &mut SplitWhitespace<'_>,
+        answer: &mut String,
+    ) -> Result<bool, AllocError> {
+        let done = match word {
+            "load" | "loads" | "state" => self.change(alloc, word, words, answer),
+            "raise" | "set" => self.move_marks(word, words, answer),
+            "marks" | "find" => self.look_at(word, words, answer),
+            "held" => self.hold(words, answer),
+            "inventory" => self.list(words, answer),
+            "keys" => write!(answer, "{:?}", self.book),
+            "digest" => write_digest(alloc, words, answer),
+            "keys_again" => self.make_again(alloc, answer),
+            _ => return Ok(false),
+        };
+        done?;
+        Ok(true)
     }
 }

@@ -2,22 +2,29 @@
 // the clauses of several calls say together takes long to prove.
 ghost use Rattle.std.specs.Prelude.{◌≡◌, IfOk, IfSome, All, length};
 
-use key_book::{Inventory, KeyBook, KeyRefusal, KeyRow, rows_may_follow};
+use key_book::{KeyBook, KeyRefusal, rows_may_follow};
 use sdls_base::{KeyId, KeyItem, KeyList, KeyState, NoMemory, Octets, Spi};
 use std::alloc::{AllocError, Global};
 use std::str::SplitWhitespace;
 
-/// A key of 16 octets, the first ones given and the others 0: `ID FIRST`.
+/// A key of 16 octets, the first ones given and the others 0.
+fn item_of(id: KeyId, mut octets: Vec<u8>) -> Result<KeyItem, AllocError>
+    ensures { IfOk result (λ item. length item.bytes ≡ 16) }
+{
+    octets.resize(16, 0)?;
+    Ok(KeyItem {
+        id,
+        bytes: Octets::new(octets),
+    })
+}
+
+/// The key of the words: `ID FIRST`.
 fn item(alloc: Global, words: &mut SplitWhitespace<'_>) -> Option<KeyItem>
     ensures { IfSome result (λ item. length item.bytes ≡ 16) }
 {
     let id = case_lines::key(words)?;
-    let mut octets = hex::decode(alloc, words.next()?).ok()?;
-    octets.resize(16, 0).ok()?;
-    Some(KeyItem {
-        id,
-        bytes: Octets::new(octets),
-    })
+    let octets = hex::decode(alloc, words.next()?).ok()?;
+    item_of(id, octets).ok()
 }
 
 /// The keys of the words.
@@ -38,34 +45,30 @@ pub fn load(
     alloc: Global,
     book: &mut KeyBook,
     words: &mut SplitWhitespace<'_>,
-) -> anyhow::Result<Result<(), KeyRefusal>> {
+) -> Result<(), KeyRefusal> {
     let items = items(alloc, words)?;
-    Ok(book.load(&items))
+    book.load(&items)
 }
 
 /// Loads one key, with its identifier as its first octets.
-fn load_one(
-    alloc: Global,
-    book: &mut KeyBook,
-    number: u16,
-) -> anyhow::Result<Result<(), KeyRefusal>> {
-    let text = format!(in alloc; "{number} {number:04x}")?;
-    load(alloc, book, &mut text.as_str().split_whitespace())
+fn load_one(alloc: Global, book: &mut KeyBook, id: KeyId) -> Result<(), KeyRefusal> {
+    let octets = Vec::from_slice(alloc, &id.get().to_be_bytes())?;
+    let item = item_of(id, octets)?;
+    book.load(&[item])
 }
 
 /// Loads the keys 1 to the number of the words, one at a time.
-pub fn fill(
+pub fn load_many(
     alloc: Global,
     book: &mut KeyBook,
     words: &mut SplitWhitespace<'_>,
-) -> anyhow::Result<Result<(), KeyRefusal>> {
-    let count = case_lines::short(words).unwrap_or(0);
-    for number in 1..=count {
-        if let Err(refusal) = load_one(alloc, book, number)? {
-            return Ok(Err(refusal));
+) -> Result<(), KeyRefusal> {
+    for number in 1..=case_lines::short(words).unwrap_or(0) {
+        if let Some(id) = KeyId::new(number) {
+            load_one(alloc, book, id)?;
         }
     }
-    Ok(Ok(()))
+    Ok(())
 }
 
 /// The identifiers of the words.
@@ -81,12 +84,14 @@ fn ids(alloc: Global, words: &mut SplitWhitespace<'_>) -> Result<KeyList, AllocE
 
 /// Takes keys a state on.
 fn take_on(
+    alloc: Global,
     book: &mut KeyBook,
-    ids: &KeyList,
     to: KeyState,
+    words: &mut SplitWhitespace<'_>,
     in_use: &[(KeyId, Spi)],
 ) -> Result<(), KeyRefusal> {
-    book.set_state(ids, to, in_use)
+    let ids = ids(alloc, words)?;
+    book.set_state(&ids, to, in_use)
 }
 
 /// The same of the words: `STATE ID ..`.
@@ -95,24 +100,29 @@ pub fn set_state(
     book: &mut KeyBook,
     words: &mut SplitWhitespace<'_>,
     in_use: &[(KeyId, Spi)],
-) -> anyhow::Result<Option<Result<(), KeyRefusal>>> {
-    let Some(to) = case_lines::key_state(words) else {
-        return Ok(None);
-    };
-    let ids = ids(alloc, words)?;
-    Ok(Some(take_on(book, &ids, to, in_use)))
+) -> Option<Result<(), KeyRefusal>> {
+    let to = case_lines::key_state(words)?;
+    Some(take_on(alloc, book, to, words, in_use))
 }
 
-/// Sets mark and floor of a key, where the conditions hold.
-fn set_both(book: &mut KeyBook, id: KeyId, mark: u64, floor: u64) -> Option<()> {
+/// The words `ID MARK FLOOR`.
+fn marks_of(words: &mut SplitWhitespace<'_>) -> Option<(KeyId, u64, u64)> {
+    let id = case_lines::key(words)?;
+    let mark = case_lines::number(words)?;
+    Some((id, mark, case_lines::number(words)?))
+}
+
+/// Sets mark and floor of a key, if the conditions hold: `ID MARK FLOOR`. The key.
+pub fn set_marks(book: &mut KeyBook, words: &mut SplitWhitespace<'_>) -> Option<KeyId> {
+    let (id, mark, floor) = marks_of(words)?;
     if book.mark(id).is_none() || mark < 1 || mark > id.end() || floor >= id.end() {
         return None;
     }
     book.set_marks(id, mark, floor);
-    Some(())
+    Some(id)
 }
 
-/// Raises the mark of a key, where the conditions hold.
+/// Raises the mark of a key, if the conditions hold.
 fn raise_mark(book: &mut KeyBook, id: KeyId, mark: u64) -> Option<()> {
     if book.mark(id).is_none() || mark < 1 || mark > id.end() {
         return None;
@@ -121,7 +131,7 @@ fn raise_mark(book: &mut KeyBook, id: KeyId, mark: u64) -> Option<()> {
     Some(())
 }
 
-/// Raises the floor of a key, where the conditions hold.
+/// Raises the floor of a key, if the conditions hold.
 fn raise_floor(book: &mut KeyBook, id: KeyId, floor: u64) -> Option<()> {
     if book.mark(id).is_none() || floor >= id.end() {
         return None;
@@ -130,51 +140,15 @@ fn raise_floor(book: &mut KeyBook, id: KeyId, floor: u64) -> Option<()> {
     Some(())
 }
 
-/// Sets mark and floor of a key, where the conditions hold: `ID MARK FLOOR`. Says whether they do.
-pub fn set_marks(book: &mut KeyBook, words: &mut SplitWhitespace<'_>) -> Option<()> {
-    let id = case_lines::key(words)?;
-    let mark = case_lines::number(words)?;
-    let floor = case_lines::number(words)?;
-    set_both(book, id, mark, floor)
-}
-
-/// The same, but raises them.
-pub fn raise_marks(book: &mut KeyBook, words: &mut SplitWhitespace<'_>) -> Option<()> {
-    let id = case_lines::key(words)?;
-    let mark = case_lines::number(words)?;
-    let floor = case_lines::number(words)?;
+/// Raises mark and floor of a key, if the conditions hold: `ID MARK FLOOR`. The key.
+pub fn raise_marks(book: &mut KeyBook, words: &mut SplitWhitespace<'_>) -> Option<KeyId> {
+    let (id, mark, floor) = marks_of(words)?;
     if floor >= id.end() {
         return None;
     }
     raise_mark(book, id, mark)?;
-    raise_floor(book, id, floor)
-}
-
-/// The mark of a key: `ID`.
-pub fn mark(book: &KeyBook, words: &mut SplitWhitespace<'_>) -> Option<u64> {
-    book.mark(case_lines::key(words)?)
-}
-
-/// The floor of a key: `ID`.
-pub fn floor(book: &KeyBook, words: &mut SplitWhitespace<'_>) -> Option<u64> {
-    book.receive_floor(case_lines::key(words)?)
-}
-
-/// The row of a key and its place: `ID`.
-pub fn find<'a>(book: &'a KeyBook, words: &mut SplitWhitespace<'_>) -> Option<(usize, &'a KeyRow)> {
-    book.find(case_lines::key(words)?)
-}
-
-/// The keys of a range: `FIRST LAST`.
-pub fn inventory(book: &KeyBook, words: &mut SplitWhitespace<'_>) -> Result<Inventory, NoMemory> {
-    let first = case_lines::short(words).unwrap_or(0);
-    let last = case_lines::short(words).unwrap_or(0);
-    book.inventory(first, last)
-}
-
-/// An equal book.
-pub fn copy(book: &KeyBook) -> Result<KeyBook, NoMemory> {
-    book.copy()
+    raise_floor(book, id, floor)?;
+    Some(id)
 }
 
 /// Whether two books have the same rows.

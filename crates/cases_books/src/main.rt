@@ -1,9 +1,9 @@
-//! Tables of the two books of a unit, of the window of an association, of plans, and of records. A line of standard
-//! input is a step, and what it answers is printed; `#` and a title is printed as it is. `new` empties both books, and
-//! begins an empty text.
+//! Tables of the two books of a unit, of the window of an association, of plans, of records, and of the rows and
+//! contents of an image. A line of standard input is a step, and what it answers is printed; `#` and a title is printed
+//! as it is. `new` empties both books, and begins an empty text.
 //!
-//! A step on a book or a window is printed with what the call answers. A call that may be refused answers `ok`, or the
-//! refusal and whether the rows are as they were.
+//! A step on a book is printed with what the call answers. A call that may be refused answers `ok`, or the refusal and
+//! whether the rows are as they were. `judge HIGH WIDTH NUMBER END` is printed so, too, and answers what a window says.
 //!
 //! `: LINE` adds a line and its line feed to the text before the place of the case, and `; LINE` a line feed and a line
 //! behind it. `fill N` adds number signs before the place, up to N octets. `plan LINE` writes the line into the place,
@@ -13,94 +13,116 @@
 //!
 //! `record BODY` prints what is read of the body of a record, and whether the record of that is the body again. A body
 //! is hexadecimal words, with zeros where no word stands; `@510` before a word says the place where it stands.
+//!
+//! Steps on one window have the word `replay` before them. `window BASE WIDTH BACK` begins a window at a number. `offer
+//! END NUMBER ..` offers numbers under a key whose numbers end at END, and prints of each whether it was accepted, or
+//! the highest number and the width that refused it. `set WIDTH BACK`, `begin NUMBER` and `lower FLOOR` change the
+//! window, and print its highest number and its base. `random SEED COUNT` makes so many sequences of steps, with
+//! numbers drawn from the seed, on a window and on a plain list of all numbers accepted. It prints how many numbers
+//! were accepted, how many of these late, how many refused, and of how many the window said another thing than the
+//! list.
+//!
+//! Steps on rows and contents have the word `bank` before them. `key ROW` and `sa ROW` print what is read of the row of
+//! a key or of an association, behind `same` if writing that gives the row again. A row is hexadecimal words, with
+//! zeros behind them; behind `xN` the next word stands N times. `bare` prints what the bare plan of the text reads as,
+//! and its octets with `/` for each line feed. `made` writes the content of version 1 of the plan's state, `made two`
+//! that of version 2, and each prints how many keys and associations it has, or that there is no room. `at OFFSET
+//! LENGTH` prints octets of the content, and `set OFFSET OCTETS` puts others there. `read` prints what is read of it,
+//! in the version that was made, behind `same` if writing that gives it again. `back` takes the content again that
+//! `made` wrote.
 #![tactic(auto)]
 
+mod answers;
 mod association_steps;
 mod associations;
+mod bank;
+mod contents;
+mod drawn;
 mod key_steps;
 mod keys;
+mod plain;
 mod plans;
-mod records;
+mod rows;
+mod sequences;
 mod text;
+mod windows;
 
 use association_steps::AssociationTable;
-use case_lines::{Answers, print_answers, said};
+use bank::Bank;
+use case_lines::{Steps, print_steps};
 use key_steps::KeyTable;
-use std::alloc::Global;
+use replay_window::Window;
+use std::alloc::{AllocError, Global};
 use text::Text;
 
-/// The two books, and the text of a plan.
+/// The two books, the text of a plan, a window, and a content.
 #[derive(Drop)]
 struct Table {
     keys: KeyTable,
     associations: AssociationTable,
     text: Text,
+    window: Window,
+    bank: Bank,
 }
 
 impl Table {
-    /// Two empty books, and an empty text.
+    /// Two empty books, an empty text, a window at 0 of width 1, and an empty content.
     fn new(alloc: Global) -> Table {
         Table {
             keys: KeyTable::new(alloc),
             associations: AssociationTable::new(alloc),
             text: Text::new(alloc),
+            window: Window::new(0, 1),
+            bank: Bank::new(alloc),
         }
     }
 
     /// Empties both books, and begins an empty text.
     fn clear(&mut self, alloc: Global) {
-        *self = Table::new(alloc);
+        self.keys = KeyTable::new(alloc);
+        self.associations = AssociationTable::new(alloc);
+        self.text = Text::new(alloc);
     }
 
-    /// What a line answers that is no step on a book, none where the word names another.
-    fn read(&self, alloc: Global, word: &str, rest: &str) -> Option<anyhow::Result<String>> {
-        match word {
-            "record" => Some(records::answer(alloc, rest)),
-            _ => plans::answer(alloc, &self.text, word, rest),
-        }
-    }
-
-    /// What a step on a book answers: that of the first table that knows it.
-    fn step(&mut self, alloc: Global, word: &str, rest: &str) -> anyhow::Result<String> {
-        if let Some(answer) = self.keys.answer(alloc, word, rest)? {
-            return Ok(answer);
-        }
-        match self.associations.answer(alloc, word, rest)? {
-            Some(answer) => Ok(answer),
-            None => said(alloc, "no step"),
-        }
-    }
-
-    /// A step on a book, and what it answers.
-    fn stepped(
+    /// Does a step on a book, and writes it with what it answers.
+    fn step_on_books(
         &mut self,
         alloc: Global,
         line: &str,
-        word: &str,
-        rest: &str,
-    ) -> anyhow::Result<String> {
-        let answer = self.step(alloc, word, rest)?;
-        Ok(format!(in alloc; "{line}: {answer}")?)
+        answer: &mut String,
+    ) -> Result<(), AllocError> {
+        write!(answer, "{line}: ")?;
+        let mut words = line.split_whitespace();
+        let word = words.next().unwrap_or("");
+        if word == "judge" {
+            return windows::judge(&mut words, answer);
+        }
+        if self.keys.step(alloc, word, &mut words, answer)? {
+            return Ok(());
+        }
+        self.associations.step(alloc, word, &mut words, answer)
     }
 }
 
-impl Answers for Table {
-    fn answer(&mut self, alloc: Global, line: &str) -> anyhow::Result<Option<String>> {
+impl Steps for Table {
+    fn step(&mut self, alloc: Global, line: &str, answer: &mut String) -> anyhow::Result<()> {
         let (word, rest) = line.split_once(' ').unwrap_or((line, ""));
-        if word == "new" {
-            self.clear(alloc);
-            return Ok(None);
-        }
-        if self.text.takes(alloc, word, rest)? {
-            return Ok(None);
-        }
-        match self.read(alloc, word, rest) {
-            Some(answer) => Ok(Some(answer?)),
-            None => Ok(Some(self.stepped(alloc, line, word, rest)?)),
+        match word {
+            "new" => {
+                self.clear(alloc);
+                Ok(())
+            }
+            ":" | ";" | "fill" => self.text.change(alloc, word, rest),
+            "plan" => Ok(plans::write_reading(alloc, &self.text.with(alloc, rest)?, answer)?),
+            "show" | "place" => plans::write_part(alloc, &self.text, word, rest, answer),
+            "record" => rows::write_record(alloc, rest, answer),
+            "replay" => Ok(windows::step(alloc, &mut self.window, rest, answer)?),
+            "bank" => self.bank.step(alloc, &self.text, rest, answer),
+            _ => Ok(self.step_on_books(alloc, line, answer)?),
         }
     }
 }
 
 fn main(rt: HostRuntime) -> anyhow::Result<()> {
-    print_answers(&rt, &mut Table::new(rt.alloc()))
+    print_steps(&rt, &mut Table::new(rt.alloc()))
 }

@@ -1,114 +1,96 @@
-// What is read of a text as a plan, a line for each of its lines.
+// What is read of a text as a plan, a line for each of its lines, and its bare plan.
+use crate::answers::write_digits;
 use crate::text::Text;
-use case_lines::{Gathered, octet, said, short};
+use case_lines::{octet, short};
+use plan_bare::write_bare_plan;
 use sdls_base::{AnyLayout, ChannelId, Link};
 use std::alloc::{AllocError, Global};
+use std::str;
 use std::str::SplitWhitespace;
-use unit_plan::{Plan, PlanError, PlanKey, PlanSa};
+use unit_plan::{Plan, PlanKey, PlanSa};
 
-/// The words for a layout.
-fn layout_text(alloc: Global, layout: &AnyLayout) -> Result<String, AllocError> {
+/// Writes the words for a layout.
+fn write_layout(layout: &AnyLayout, answer: &mut String) -> Result<(), AllocError> {
     match layout {
-        AnyLayout::Tc(layout) => {
-            let (segment, fecf, most) = (layout.segment, layout.fecf, layout.most);
-            format!(in alloc; "tc segment {segment} fecf {fecf} most {most}")
-        }
+        AnyLayout::Tc(layout) => write!(
+            answer,
+            "tc segment {} fecf {} most {}",
+            layout.segment, layout.fecf, layout.most
+        ),
         AnyLayout::Tm(layout) => {
-            let (length, fecf) = (layout.length, layout.fecf);
-            format!(in alloc; "tm length {length} fecf {fecf}")
+            write!(answer, "tm length {} fecf {}", layout.length, layout.fecf)
         }
-        AnyLayout::Aos(layout) => {
-            let (length, insert) = (layout.length, layout.insert);
-            let (ocf, fecf) = (layout.ocf, layout.fecf);
-            format!(in alloc; "aos length {length} insert {insert} ocf {ocf} fecf {fecf}")
-        }
+        AnyLayout::Aos(layout) => write!(
+            answer,
+            "aos length {} insert {} ocf {} fecf {}",
+            layout.length, layout.insert, layout.ocf, layout.fecf
+        ),
     }
 }
 
-fn link_text(alloc: Global, number: u8, link: &Link) -> Result<String, AllocError> {
-    let layout = layout_text(alloc, &link.layout)?;
-    let mask = hex::encode(alloc, link.mask.octets.as_slice())?;
-    let length = link.mask.length;
-    format!(in alloc; "link {number} {layout} mask {mask} of {length}")
+fn write_link(number: u8, link: &Link, answer: &mut String) -> Result<(), AllocError> {
+    write!(answer, "\nlink {number} ")?;
+    write_layout(&link.layout, answer)?;
+    answer.push_str(" mask ")?;
+    write_digits(link.mask.octets.as_slice(), answer)?;
+    write!(answer, " of {}", link.mask.length)
 }
 
-fn key_text(alloc: Global, key: &PlanKey) -> Result<String, AllocError> {
-    let octets = hex::encode(alloc, key.item.bytes.as_slice())?;
+fn write_key(key: &PlanKey, answer: &mut String) -> Result<(), AllocError> {
     let (line, id, state) = (key.line, key.item.id.get(), key.state);
-    format!(in alloc; "line {line} key {id} {state:?} {octets}")
+    write!(answer, "\nline {line} key {id} {state:?} ")?;
+    write_digits(key.item.bytes.as_slice(), answer)
 }
 
-fn association_text(alloc: Global, known: &PlanSa) -> Result<String, AllocError> {
+fn write_association(known: &PlanSa, answer: &mut String) -> Result<(), AllocError> {
     let (line, spi, key) = (known.line, known.sa.spi.get(), known.key.get());
     let (direction, suite) = (known.sa.direction, known.sa.suite);
     let (number, window) = (known.number, known.sa.window);
-    let channels = hex::encode(alloc, known.sa.channels.as_slice())?;
-    format!(in alloc;
-        "line {line} sa {spi} {direction:?} {suite:?} key {key} number {number} window {window} channels {channels}"
-    )
+    write!(
+        answer,
+        "\nline {line} sa {spi} {direction:?} {suite:?} key {key} number {number} "
+    )?;
+    write!(answer, "window {window} channels ")?;
+    write_digits(known.sa.channels.as_slice(), answer)
 }
 
-fn heads_text(alloc: Global, plan: &Plan) -> Result<String, AllocError> {
-    let device = hex::encode(alloc, plan.device().as_slice())?;
+/// Writes what the lines of a plan say that stand once each.
+fn write_heads(plan: &Plan, answer: &mut String) -> Result<(), AllocError> {
+    answer.push_str("device ")?;
+    write_digits(plan.device().as_slice(), answer)?;
     let (slots, block, accept) = (plan.slots(), plan.block(), plan.accept());
-    format!(in alloc; "device {device} slots {slots} block {block} accept {accept}")
+    write!(answer, " slots {slots} block {block} accept {accept}")
 }
 
-/// Gathers the links of a plan.
-fn push_links(alloc: Global, lines: &mut Gathered, plan: &Plan) -> Result<(), AllocError> {
+/// Writes the links of a plan, and its channels.
+fn write_links(plan: &Plan, answer: &mut String) -> Result<(), AllocError> {
     for number in 0..=u8::MAX {
         if let Some(link) = plan.link(number) {
-            lines.push(link_text(alloc, number, link)?.as_str())?;
+            write_link(number, link, answer)?;
         }
     }
-    Ok(())
-}
-
-/// Gathers the channels of a plan.
-fn push_channels(alloc: Global, lines: &mut Gathered, plan: &Plan) -> Result<(), AllocError> {
     for channel in plan.channels() {
-        let channel = channel.get();
-        lines.push(format!(in alloc; "channel {channel}")?.as_str())?;
+        write!(answer, "\nchannel {}", channel.get())?;
     }
     Ok(())
 }
 
-/// Gathers the keys of a plan, and its associations.
-fn push_known(alloc: Global, lines: &mut Gathered, plan: &Plan) -> Result<(), AllocError> {
+/// Writes the keys of a plan, and its associations.
+fn write_known(plan: &Plan, answer: &mut String) -> Result<(), AllocError> {
     for key in plan.keys() {
-        lines.push(key_text(alloc, key)?.as_str())?;
+        write_key(key, answer)?;
     }
     for known in plan.associations() {
-        lines.push(association_text(alloc, known)?.as_str())?;
+        write_association(known, answer)?;
     }
     Ok(())
 }
 
-fn lines_text(alloc: Global, plan: &Plan) -> Result<String, AllocError> {
-    let mut lines = Gathered::new(alloc);
-    lines.push(heads_text(alloc, plan)?.as_str())?;
-    push_links(alloc, &mut lines, plan)?;
-    push_channels(alloc, &mut lines, plan)?;
-    push_known(alloc, &mut lines, plan)?;
-    String::from_str(alloc, lines.as_str().trim_end())
-}
-
-/// What the reader answers to the text with a case in its place.
-fn read(alloc: Global, text: &Text, case: &str) -> anyhow::Result<Result<Plan, PlanError>> {
-    let octets = text.with(alloc, case)?;
-    Ok(Plan::read(alloc, octets.as_slice()))
-}
-
-fn plan(alloc: Global, text: &Text, case: &str) -> anyhow::Result<String> {
-    match read(alloc, text, case)? {
-        Ok(_) => said(alloc, "plan"),
-        Err(error) => Ok(format!(in alloc; "{error}")?),
-    }
-}
-
-/// All that is read of the text, a line for each of its lines.
-fn show(alloc: Global, text: &Text) -> anyhow::Result<String> {
-    Ok(lines_text(alloc, &read(alloc, text, "")??)?)
+/// Writes all that is read of a plan, a line for each of its lines.
+fn write_plan(plan: &Plan, answer: &mut String) -> Result<(), AllocError> {
+    write_heads(plan, answer)?;
+    write_links(plan, answer)?;
+    write_known(plan, answer)
 }
 
 /// The channel of link, spacecraft, channel and MAP.
@@ -119,34 +101,62 @@ fn channel(plan: &Plan, words: &mut SplitWhitespace<'_>) -> Option<ChannelId> {
     plan.channel_of(link, spacecraft, channel, octet(words))
 }
 
-/// The channel of a place that the text says.
-fn channel_at(alloc: Global, text: &Text, words: &str) -> anyhow::Result<Option<ChannelId>> {
-    let plan = read(alloc, text, "")??;
-    Ok(channel(&plan, &mut words.split_whitespace()))
-}
-
-/// The channel of a place, which is given in words.
-fn place(alloc: Global, text: &Text, words: &str) -> anyhow::Result<String> {
-    match channel_at(alloc, text, words)? {
-        Some(channel) => {
-            let channel = channel.get();
-            Ok(format!(in alloc; "{words}: channel {channel}")?)
-        }
-        None => Ok(format!(in alloc; "{words}: none")?),
+/// Writes the channel of a place, which is given in words.
+fn write_place(plan: &Plan, words: &str, answer: &mut String) -> Result<(), AllocError> {
+    match channel(plan, &mut words.split_whitespace()) {
+        Some(channel) => write!(answer, "{words}: channel {}", channel.get()),
+        None => write!(answer, "{words}: none"),
     }
 }
 
-/// What a step on the text answers, none where the word names another.
-pub fn answer(
+/// Writes what the reader answers.
+pub fn write_reading(alloc: Global, text: &[u8], answer: &mut String) -> Result<(), AllocError> {
+    match Plan::read(alloc, text) {
+        Ok(_) => answer.push_str("plan"),
+        Err(error) => write!(answer, "{error}"),
+    }
+}
+
+/// Writes what is read of the text: all of it, or `place`, a channel.
+pub fn write_part(
     alloc: Global,
     text: &Text,
     word: &str,
     rest: &str,
-) -> Option<anyhow::Result<String>> {
+    answer: &mut String,
+) -> anyhow::Result<()> {
+    let plan = Plan::read(alloc, &text.with(alloc, "")?)?;
     match word {
-        "plan" => Some(plan(alloc, text, rest)),
-        "show" => Some(show(alloc, text)),
-        "place" => Some(place(alloc, text, rest)),
-        _ => None,
+        "place" => write_place(&plan, rest, answer)?,
+        _ => write_plan(&plan, answer)?,
     }
+    Ok(())
+}
+
+/// Writes how much the bare plan has, or why it is none.
+fn write_counts(alloc: Global, bare: &[u8], answer: &mut String) -> Result<(), AllocError> {
+    match Plan::read(alloc, bare) {
+        Ok(plan) => write!(
+            answer,
+            "{} channels {} keys {} associations",
+            plan.channels().len(),
+            plan.keys().len(),
+            plan.associations().len()
+        ),
+        Err(error) => write!(answer, "{error}"),
+    }
+}
+
+/// Writes the bare plan of a text: how much it has, and its octets with `/` for each line feed.
+pub fn write_bare(alloc: Global, text: &[u8], answer: &mut String) -> Result<(), AllocError> {
+    let mut bare = vec![in alloc; 0; text.len() + 1]?;
+    let end = write_bare_plan(text, bare.as_mut_slice());
+    bare.truncate(end);
+    write_counts(alloc, &bare, answer)?;
+    for octet in bare.iter_mut() {
+        if *octet == b'\n' {
+            *octet = b'/';
+        }
+    }
+    write!(answer, ": {}", str::from_utf8(&bare).unwrap_or("no text"))
 }

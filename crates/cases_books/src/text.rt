@@ -36,34 +36,21 @@ impl Text {
         }
     }
 
-    /// Puts a line and its line feed before the place.
-    fn put_before(&mut self, alloc: Global, line: &str) -> anyhow::Result<()> {
-        put(alloc, &mut self.before, line)?;
-        self.before.push(b'\n')?;
-        Ok(())
-    }
-
-    /// Puts a line feed and a line behind the place.
-    fn put_behind(&mut self, alloc: Global, line: &str) -> anyhow::Result<()> {
-        self.behind.push(b'\n')?;
-        put(alloc, &mut self.behind, line)
-    }
-
-    /// Puts number signs before the place, up to so many octets.
-    fn fill(&mut self, len: usize) -> anyhow::Result<()> {
-        self.before.resize(len, b'#')?;
-        Ok(())
-    }
-
-    /// Takes a step that changes the text. Says whether the word names one.
-    pub fn takes(&mut self, alloc: Global, word: &str, rest: &str) -> anyhow::Result<bool> {
+    /// Changes the text: `: LINE` puts a line and its line feed before the place, `; LINE` a line feed and a line
+    /// behind it, and `fill N` number signs before it, up to so many octets.
+    pub fn change(&mut self, alloc: Global, word: &str, rest: &str) -> anyhow::Result<()> {
         match word {
-            ":" => self.put_before(alloc, rest)?,
-            ";" => self.put_behind(alloc, rest)?,
-            "fill" => self.fill(rest.parse().unwrap_or(0))?,
-            _ => return Ok(false),
+            ":" => {
+                put(alloc, &mut self.before, rest)?;
+                self.before.push(b'\n')?;
+            }
+            ";" => {
+                self.behind.push(b'\n')?;
+                put(alloc, &mut self.behind, rest)?;
+            }
+            _ => self.before.resize(rest.parse().unwrap_or(0), b'#')?,
         }
-        Ok(true)
+        Ok(())
     }
 
     /// The text with a case in its place.

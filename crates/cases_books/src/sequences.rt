@@ -3,6 +3,7 @@ ghost use Rattle.std.specs.Prelude.{◌≤◌};
 
 use crate::drawn::Drawn;
 use crate::plain::Plain;
+use crate::windows::offered;
 use case_lines::number;
 use replay_window::{MOST_BACK, Verdict, Window, window_field};
 use std::alloc::{AllocError, Global};
@@ -54,24 +55,11 @@ fn drawn_pair(alloc: Global, drawn: &mut Drawn) -> Pair {
     }
 }
 
-/// What a window says of a number, which it then accepts if that is fresh.
-fn says_fresh(window: &mut Window, n: u64, end: u64) -> bool {
-    if window.back > MOST_BACK {
-        return false;
-    }
-    match window.judge(n, end) {
-        Verdict::Fresh => {
-            window.accept(n);
-            true
-        }
-        Verdict::Refused { .. } => false,
-    }
-}
-
 impl Pair {
     fn offer(&mut self, n: u64, end: u64, counts: &mut Counts) -> Result<(), AllocError> {
         let (fresh, late) = (self.plain.is_fresh(n, end), self.plain.is_late(n));
-        if says_fresh(&mut self.window, n, end) != fresh {
+        let said = offered(&mut self.window, n, end);
+        if (said == Some(Verdict::Fresh)) != fresh {
             counts.differ = counts.differ.saturating_add(1);
         }
         if fresh {
@@ -123,29 +111,34 @@ impl Pair {
     }
 }
 
-/// Makes sequences: `SEED COUNT`.
-pub fn random(alloc: Global, words: &mut SplitWhitespace<'_>) -> Result<String, AllocError> {
+/// Makes a sequence of steps.
+fn make_sequence(alloc: Global, drawn: &mut Drawn, counts: &mut Counts) -> Result<(), AllocError> {
+    let mut pair = drawn_pair(alloc, drawn);
+    for _ in 0..STEPS {
+        pair.step(drawn, counts)?;
+    }
+    Ok(())
+}
+
+/// Makes sequences, and writes what came of the numbers: `SEED COUNT`.
+pub fn random(
+    alloc: Global,
+    words: &mut SplitWhitespace<'_>,
+    answer: &mut String,
+) -> Result<(), AllocError> {
     let mut drawn = Drawn::new(number(words).unwrap_or(0));
-    let count = number(words).unwrap_or(0);
     let mut counts = Counts {
         accepted: 0,
         late: 0,
         refused: 0,
         differ: 0,
     };
-    for _ in 0..count {
-        let mut pair = drawn_pair(alloc, &mut drawn);
-        for _ in 0..STEPS {
-            pair.step(&mut drawn, &mut counts)?;
-        }
+    for _ in 0..number(words).unwrap_or(0) {
+        make_sequence(alloc, &mut drawn, &mut counts)?;
     }
-    let Counts {
-        accepted,
-        late,
-        refused,
-        differ,
-    } = counts;
-    format!(in alloc;
-        "{accepted} accepted, {late} of them late, {refused} refused, {differ} differ"
+    write!(
+        answer,
+        "{} accepted, {} of them late, {} refused, {} differ",
+        counts.accepted, counts.late, counts.refused, counts.differ
     )
 }
