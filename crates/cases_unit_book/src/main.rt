@@ -19,9 +19,9 @@ mod table;
 mod texts;
 mod unit;
 
-use case_lines::print_answers;
+use case_lines::print_steps;
 use table::Table;
 
 fn main(rt: HostRuntime) -> anyhow::Result<()> {
-    print_answers(&rt, &mut Table::new(rt.alloc()))
+    print_steps(&rt, &mut Table::new(rt.alloc()))
 }

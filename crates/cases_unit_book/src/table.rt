@@ -1,27 +1,29 @@
 //! The steps, and what they answer.
 
-use crate::texts;
+use crate::texts::{write_open_fault, write_part};
 use crate::unit::Unit;
-use case_lines::{Answers, Gathered, number_at, numbers, part_of, said, set_part_of};
-use case_units::{image_after, image_of, image_of_version_one};
+use case_lines::{Gathered, Steps, number_at, numbers, set_part_of};
+use case_units::{image_after, image_of, image_of_version_one, write_octets};
 use sdls_outside::MemSite;
 use std::alloc::{AllocError, Global};
 use std::mem;
 use unit_image::OpenFault;
 
-/// What a call of the unit that takes octets answers.
-fn called(
-    alloc: Global,
+/// A call of the unit.
+fn call(
     unit: &mut Unit<MemSite>,
     word: &str,
     link: u8,
     octets: &mut [u8],
-) -> Result<String, AllocError> {
+    answer: &mut String,
+) -> Result<(), AllocError> {
     match word {
-        "protect" => unit.protect(alloc, link, octets),
-        "accept" => unit.accept(alloc, link, octets),
-        "do" => unit.command(alloc, octets),
-        _ => unit.put(alloc, octets),
+        "protect" => unit.protect(link, octets, answer),
+        "accept" => unit.accept(link, octets, answer),
+        "do" => unit.command(octets, answer),
+        "put" => unit.put(octets, answer),
+        "release" => unit.release(answer),
+        _ => unit.tell(answer),
     }
 }
 
@@ -51,230 +53,221 @@ impl Table {
     }
 
     /// Takes the image that was made of the plan, or none.
-    fn created(&mut self, alloc: Global, image: Option<Vec<u8>>) -> anyhow::Result<String> {
-        self.image = match image {
-            Some(image) => image,
-            None => Vec::new(alloc),
+    fn create(&mut self, alloc: Global, word: &str, answer: &mut String) -> Result<(), AllocError> {
+        let text = self.plan.as_str().as_bytes();
+        let image = match word {
+            "create" => image_of(alloc, text),
+            _ => image_of_version_one(alloc, text),
         };
+        self.image = image.unwrap_or(Vec::new(alloc));
         self.plan.clear();
+        self.write_length(answer)
+    }
+
+    fn set(&mut self, alloc: Global, rest: &str, answer: &mut String) -> Result<(), AllocError> {
+        let is_set = set_part_of(alloc, self.image.as_mut_slice(), rest).is_ok();
+        answer.push_str(if is_set { "set" } else { "no octets" })
+    }
+
+    fn cut(&mut self, rest: &str, answer: &mut String) -> Result<(), AllocError> {
+        let length = usize::try_from(number_at(rest, 0)).unwrap_or(0);
+        self.image.truncate(length);
+        self.write_length(answer)
+    }
+
+    fn write_length(&self, answer: &mut String) -> Result<(), AllocError> {
         let length = self.image.len();
-        Ok(format!(in alloc; "image of {length}")?)
+        write!(answer, "image of {length}")
     }
 
-    fn create(&mut self, alloc: Global) -> anyhow::Result<String> {
-        let image = image_of(alloc, self.plan.as_str().as_bytes());
-        self.created(alloc, image)
+    fn keep(&mut self, answer: &mut String) -> Result<(), AllocError> {
+        self.kept.clear();
+        self.kept.extend_from_slice(self.image.as_slice())?;
+        answer.push_str("kept")
     }
 
-    fn create_one(&mut self, alloc: Global) -> anyhow::Result<String> {
-        let image = image_of_version_one(alloc, self.plan.as_str().as_bytes());
-        self.created(alloc, image)
+    fn take_back(&mut self, answer: &mut String) -> Result<(), AllocError> {
+        self.image.clear();
+        self.image.extend_from_slice(self.kept.as_slice())?;
+        answer.push_str("back")
     }
 
-    fn set(&mut self, alloc: Global, rest: &str) -> anyhow::Result<String> {
-        set_part_of(alloc, self.image.as_mut_slice(), rest)?;
-        said(alloc, "set")
+    fn fail(&mut self, alloc: Global, rest: &str, answer: &mut String) -> Result<(), AllocError> {
+        self.failing = numbers(alloc, rest)?;
+        answer.push_str("failing")
     }
 
-    fn cut(&mut self, alloc: Global, rest: &str) -> anyhow::Result<String> {
-        self.image
-            .truncate(usize::try_from(number_at(rest, 0)).unwrap_or(0));
-        let length = self.image.len();
-        Ok(format!(in alloc; "image of {length}")?)
-    }
-
-    fn keep(&mut self, alloc: Global) -> anyhow::Result<String> {
-        self.kept = Vec::from_slice(alloc, self.image.as_slice())?;
-        said(alloc, "kept")
-    }
-
-    fn back(&mut self, alloc: Global) -> anyhow::Result<String> {
-        self.image = Vec::from_slice(alloc, self.kept.as_slice())?;
-        said(alloc, "back")
-    }
-
-    fn open(&mut self, alloc: Global) -> anyhow::Result<String> {
-        let failing = mem::replace(&mut self.failing, Vec::new(alloc));
+    fn open(&mut self, alloc: Global, answer: &mut String) -> Result<(), AllocError> {
         let image = Vec::from_slice(alloc, self.image.as_slice())?;
+        let failing = mem::replace(&mut self.failing, Vec::new(alloc));
         match Unit::open(alloc, MemSite::new(alloc, image, failing, None)) {
             Ok(unit) => {
                 self.unit = Some(unit);
-                said(alloc, "opened")
+                answer.push_str("opened")
             }
-            Err((fault, site)) => self.not_opened(alloc, &fault, &site),
+            Err((fault, site)) => self.write_refusal(&fault, site.image(), answer),
         }
     }
 
     /// Why the image was not opened, and whether the site holds it still.
-    fn not_opened(
+    fn write_refusal(
         &self,
-        alloc: Global,
         fault: &OpenFault,
-        site: &MemSite,
-    ) -> anyhow::Result<String> {
-        let fault = texts::open_fault(alloc, fault)?;
-        let same = if site.image() == self.image.as_slice() {
-            "unchanged"
+        held: &[u8],
+        answer: &mut String,
+    ) -> Result<(), AllocError> {
+        write_open_fault(fault, answer)?;
+        answer.push_str(if held == self.image.as_slice() {
+            ", unchanged"
         } else {
-            "changed"
-        };
-        Ok(format!(in alloc; "{fault}, {same}")?)
+            ", changed"
+        })
     }
 
-    fn close(&mut self, alloc: Global) -> anyhow::Result<String> {
+    fn close(&mut self, answer: &mut String) -> Result<(), AllocError> {
         let Some(unit) = self.unit.take() else {
-            return said(alloc, "no unit");
+            return answer.push_str("no unit");
         };
         let (site, entries) = unit.into_site();
-        self.closed(alloc, &site, entries)
+        self.take(site.image(), site.sunk(), entries, answer)
     }
 
-    /// Takes the image of a site, and tells what it has sunk.
-    fn closed(&mut self, alloc: Global, site: &MemSite, entries: usize) -> anyhow::Result<String> {
-        self.image = Vec::from_slice(alloc, site.image())?;
-        let sunk = hex::encode(alloc, site.sunk())?;
-        Ok(format!(in alloc; "closed after {entries}, sunk {sunk}")?)
+    /// Takes the image of a site, and says what it has sunk.
+    fn take(
+        &mut self,
+        image: &[u8],
+        sunk: &[u8],
+        entries: usize,
+        answer: &mut String,
+    ) -> Result<(), AllocError> {
+        self.image.clear();
+        self.image.extend_from_slice(image)?;
+        write!(answer, "closed after {entries}, sunk ")?;
+        write_octets(sunk, answer)
     }
 
-    fn crash(&mut self, alloc: Global, rest: &str) -> anyhow::Result<String> {
+    fn crash(&mut self, alloc: Global, rest: &str, answer: &mut String) -> Result<(), AllocError> {
         let Some(unit) = self.unit.take() else {
-            return said(alloc, "no unit");
+            return answer.push_str("no unit");
         };
         let (site, entries) = unit.into_site();
         self.image = image_after(alloc, site, rest)?;
-        Ok(format!(in alloc; "crashed after {entries}")?)
+        write!(answer, "crashed after {entries}")
     }
 
-    /// What a step of the open unit answers.
-    fn unit_answer(&mut self, alloc: Global, word: &str, rest: &str) -> anyhow::Result<String> {
+    /// Calls the unit: with the octets that a line ends with, if there are any.
+    fn call(
+        &mut self,
+        alloc: Global,
+        word: &str,
+        rest: &str,
+        answer: &mut String,
+    ) -> Result<(), AllocError> {
         let Some(unit) = &mut self.unit else {
-            return said(alloc, "no unit");
+            return answer.push_str("no unit");
         };
-        match word {
-            "release" => Ok(unit.release(alloc)?),
-            "tell" => Ok(unit.tell(alloc)?),
-            _ => {
-                let link = u8::try_from(number_at(rest, 0)).unwrap_or(255);
-                let mut octets = hex::decode(alloc, rest.split_whitespace().last().unwrap_or(""))?;
-                Ok(called(alloc, unit, word, link, octets.as_mut_slice())?)
-            }
+        let link = u8::try_from(number_at(rest, 0)).unwrap_or(255);
+        match hex::decode(alloc, rest.split_whitespace().last().unwrap_or("")) {
+            Ok(mut octets) => call(unit, word, link, octets.as_mut_slice(), answer),
+            Err(_) => answer.push_str("no octets"),
         }
     }
 
-    /// What a step on the image answers, none where the word names another.
-    fn image_answer(
+    /// Does a step on the site, on the unit, or on the table itself. What is none is printed as it is.
+    fn take_other_step(
         &mut self,
         alloc: Global,
-        word: &str,
-        rest: &str,
-    ) -> Option<anyhow::Result<String>> {
+        line: &str,
+        answer: &mut String,
+    ) -> Result<(), AllocError> {
+        let (word, rest) = line.split_once(' ').unwrap_or((line, ""));
         match word {
-            "create" => Some(self.create(alloc)),
-            "create_one" => Some(self.create_one(alloc)),
-            "set" => Some(self.set(alloc, rest)),
-            "cut" => Some(self.cut(alloc, rest)),
-            "keep" => Some(self.keep(alloc)),
-            "back" => Some(self.back(alloc)),
-            "octets" => Some(part_of(alloc, self.image.as_slice(), rest)),
-            _ => None,
-        }
-    }
-
-    /// The same of a step on the site.
-    fn site_answer(
-        &mut self,
-        alloc: Global,
-        word: &str,
-        rest: &str,
-    ) -> Option<anyhow::Result<String>> {
-        match word {
-            "open" => Some(self.open(alloc)),
-            "close" => Some(self.close(alloc)),
-            "crash" => Some(self.crash(alloc, rest)),
-            _ => None,
-        }
-    }
-
-    /// The same of a step on the table itself, or on the unit.
-    fn other_answer(
-        &mut self,
-        alloc: Global,
-        word: &str,
-        rest: &str,
-    ) -> anyhow::Result<Option<String>> {
-        match word {
+            "open" => self.open(alloc, answer),
+            "close" => self.close(answer),
+            "crash" => self.crash(alloc, rest, answer),
+            "failing" => self.fail(alloc, rest, answer),
             "forget" => {
                 self.life.clear();
-                Ok(Some(said(alloc, "forgotten")?))
-            }
-            "failing" => {
-                self.failing = numbers(alloc, rest)?;
-                Ok(Some(said(alloc, "failing")?))
+                answer.push_str("forgotten")
             }
             "protect" | "accept" | "do" | "release" | "put" | "tell" => {
-                Ok(Some(self.unit_answer(alloc, word, rest)?))
+                self.call(alloc, word, rest, answer)
             }
-            _ => Ok(None),
+            _ => answer.push_str(line),
         }
     }
 
-    fn step(&mut self, alloc: Global, line: &str) -> anyhow::Result<String> {
+    /// Does a step on the image, or another one.
+    fn take_step(
+        &mut self,
+        alloc: Global,
+        line: &str,
+        answer: &mut String,
+    ) -> Result<(), AllocError> {
         let (word, rest) = line.split_once(' ').unwrap_or((line, ""));
-        if let Some(answer) = self.image_answer(alloc, word, rest) {
-            return answer;
-        }
-        if let Some(answer) = self.site_answer(alloc, word, rest) {
-            return answer;
-        }
-        match self.other_answer(alloc, word, rest)? {
-            Some(answer) => Ok(answer),
-            None => Ok(format!(in alloc; "{line}")?),
+        match word {
+            "create" | "create_one" => self.create(alloc, word, answer),
+            "set" => self.set(alloc, rest, answer),
+            "cut" => self.cut(rest, answer),
+            "keep" => self.keep(answer),
+            "back" => self.take_back(answer),
+            "octets" => write_part(self.image.as_slice(), rest, answer),
+            _ => self.take_other_step(alloc, line, answer),
         }
     }
 
-    /// Does a step so often, and tells the last answer: `COUNT STEP`.
-    fn repeated(&mut self, alloc: Global, rest: &str) -> anyhow::Result<String> {
+    /// Does a step so often, and leaves the last answer: `COUNT STEP`.
+    fn repeat(&mut self, alloc: Global, rest: &str, answer: &mut String) -> Result<(), AllocError> {
         let (_, step) = rest.split_once(' ').unwrap_or((rest, ""));
-        let mut answer = String::new(alloc);
         for _ in 0..number_at(rest, 0) {
-            answer = self.step(alloc, step)?;
+            answer.clear();
+            self.take_step(alloc, step, answer)?;
         }
-        Ok(answer)
+        Ok(())
     }
 
-    /// Does the steps of the life, and tells each answer in a line.
-    fn live(&mut self, alloc: Global) -> anyhow::Result<String> {
-        let life = String::from_str(alloc, self.life.as_str())?;
-        self.steps(alloc, life.as_str())
-    }
-
-    /// Does these steps, and tells each answer in a line.
-    fn steps(&mut self, alloc: Global, steps: &str) -> anyhow::Result<String> {
-        let mut answers = String::new(alloc);
+    /// Does these steps, and writes each answer in a line.
+    fn take_steps(
+        &mut self,
+        alloc: Global,
+        steps: &str,
+        answer: &mut String,
+    ) -> Result<(), AllocError> {
         for (i, step) in steps.lines().enumerate() {
             if i > 0 {
-                answers.push_str("\n")?;
+                answer.push_str("\n")?;
             }
-            answers.push_str(self.step(alloc, step)?.as_str())?;
+            self.take_step(alloc, step, answer)?;
         }
-        Ok(answers)
+        Ok(())
+    }
+
+    /// Does the steps of the life.
+    fn live(&mut self, alloc: Global, answer: &mut String) -> Result<(), AllocError> {
+        let life = String::from_str(alloc, self.life.as_str())?;
+        self.take_steps(alloc, life.as_str(), answer)
+    }
+
+    /// Gathers a line, or does what it says.
+    fn take_line(
+        &mut self,
+        alloc: Global,
+        line: &str,
+        answer: &mut String,
+    ) -> Result<(), AllocError> {
+        match line.split_once(' ').unwrap_or((line, "")) {
+            ("plan", text) => self.plan.push(text),
+            ("life", step) => self.life.push(step),
+            ("times", rest) => self.repeat(alloc, rest, answer),
+            ("live", _) => self.live(alloc, answer),
+            _ => self.take_step(alloc, line, answer),
+        }
     }
 }
 
-impl Answers for Table {
-    fn answer(&mut self, alloc: Global, line: &str) -> anyhow::Result<Option<String>> {
-        match line.split_once(' ').unwrap_or((line, "")) {
-            ("plan", text) => {
-                self.plan.push(text)?;
-                Ok(None)
-            }
-            ("life", step) => {
-                self.life.push(step)?;
-                Ok(None)
-            }
-            ("times", rest) => Ok(Some(self.repeated(alloc, rest)?)),
-            ("live", _) => Ok(Some(self.live(alloc)?)),
-            _ => Ok(Some(self.step(alloc, line)?)),
-        }
+impl Steps for Table {
+    fn step(&mut self, alloc: Global, line: &str, answer: &mut String) -> anyhow::Result<()> {
+        self.take_line(alloc, line, answer)?;
+        Ok(())
     }
 }

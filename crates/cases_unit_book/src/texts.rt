@@ -1,42 +1,53 @@
 //! What the book shows, and why it refuses.
-use case_lines::{direction_name, key_state_name, sa_state_name, suite_name};
+use case_lines::{direction_name, key_state_name, number_at, sa_state_name, suite_name};
+use case_units::write_octets;
 use key_book::KeyRow;
 use sa_book::SaRow;
-use std::alloc::{AllocError, Global};
+use std::alloc::AllocError;
 use unit_book::BookFault;
 use unit_image::OpenFault;
 
-/// A row of a key.
-pub fn key_text(alloc: Global, row: &KeyRow) -> Result<String, AllocError> {
+/// Writes a row of a key.
+pub fn write_key(row: &KeyRow, answer: &mut String) -> Result<(), AllocError> {
     let state = key_state_name(row.state);
     let (id, mark, floor) = (row.id.get(), row.mark, row.floor);
-    format!(in alloc; "; key {id} {state} mark {mark} floor {floor}")
+    write!(answer, "; key {id} {state} mark {mark} floor {floor}")
 }
 
-/// A row of an association.
-pub fn association_text(alloc: Global, row: &SaRow) -> Result<String, AllocError> {
+/// Writes a row of an association.
+pub fn write_association(row: &SaRow, answer: &mut String) -> Result<(), AllocError> {
     let (direction, suite) = (direction_name(row.direction), suite_name(row.suite));
     let state = sa_state_name(row.state);
     let key = row.key.map_or(0, |key| key.get());
     let (spi, high, width) = (row.spi.get(), row.window.high, row.window.width);
-    format!(in alloc; "; sa {spi} {direction} {suite} {state} key {key} high {high} width {width}")
+    write!(
+        answer,
+        "; sa {spi} {direction} {suite} {state} key {key} high {high} width {width}"
+    )
 }
 
-/// Why an image is not opened.
-pub fn open_fault(alloc: Global, fault: &OpenFault) -> Result<String, AllocError> {
+/// Writes why an image is not opened.
+pub fn write_open_fault(fault: &OpenFault, answer: &mut String) -> Result<(), AllocError> {
     match fault {
-        OpenFault::SiteFault(count) => format!(in alloc; "site fault {count}"),
-        OpenFault::Image(offset) => format!(in alloc; "image {offset}"),
-        OpenFault::NoMemory => String::from_str(alloc, "no memory"),
+        OpenFault::SiteFault(count) => write!(answer, "site fault {count}"),
+        OpenFault::Image(offset) => write!(answer, "image {offset}"),
+        OpenFault::NoMemory => answer.push_str("no memory"),
     }
 }
 
-/// Why a call on the book is refused.
-pub fn book_fault(alloc: Global, fault: &BookFault) -> Result<String, AllocError> {
+/// Writes why a call on the book is refused.
+pub fn write_book_fault(fault: &BookFault, answer: &mut String) -> Result<(), AllocError> {
     match fault {
-        BookFault::SiteFault(count) => format!(in alloc; "site fault {count}"),
-        BookFault::Stopped(count) => format!(in alloc; "stopped {count}"),
-        BookFault::SessionFull => String::from_str(alloc, "session full"),
-        BookFault::NoMemory => String::from_str(alloc, "no memory"),
+        BookFault::SiteFault(count) => write!(answer, "site fault {count}"),
+        BookFault::Stopped(count) => write!(answer, "stopped {count}"),
+        BookFault::SessionFull => answer.push_str("session full"),
+        BookFault::NoMemory => answer.push_str("no memory"),
     }
+}
+
+/// Writes some of these octets: `OFFSET LENGTH`. None where they do not reach so far.
+pub fn write_part(octets: &[u8], rest: &str, answer: &mut String) -> Result<(), AllocError> {
+    let from = usize::try_from(number_at(rest, 0)).unwrap_or(0);
+    let to = from.saturating_add(usize::try_from(number_at(rest, 1)).unwrap_or(0));
+    write_octets(octets.get(from..to).unwrap_or(&[]), answer)
 }

@@ -3,8 +3,8 @@
 ghost use Rattle.std.specs.Prelude.{◌≡◌, ◌≤◌, ℕ, ◌<◌, None, true, length, slice_index};
 ghost use Rattle.frame_shield.specs.Binding.{IsBinding, clear_fault};
 
-use crate::texts;
-use case_units::{open_reply_text, reply_text, shield_fault_text};
+use crate::texts::{write_association, write_book_fault, write_key};
+use case_units::{write_octets, write_open_reply, write_reply, write_shield_fault};
 use ep_codec::{command_without_fault, one_command};
 use ep_core::Need;
 use frame_shield::{Binding, fits, shield};
@@ -67,24 +67,24 @@ fn push_marks(next: &mut Vec<u64>, rows: &[KeyRow]) {
     }
 }
 
-/// The frame protected under the number that was drawn, with index, key and number.
-fn frame_text(
-    alloc: Global,
+/// Writes the frame protected under the number that was drawn, with index, key and number.
+fn write_frame(
     binding: &Binding,
     number: u64,
     clear: &[u8],
-) -> Result<String, AllocError>
+    answer: &mut String,
+) -> Result<(), AllocError>
     requires binding { IsBinding binding.now }
     requires fits { clear_fault binding.now clear.now ≡ None }
 {
     if number == 0 || number >= binding.key.end() {
-        return String::from_str(alloc, "no number");
+        return answer.push_str("no number");
     }
     let mut out = [0; 2_048];
     let count = shield(binding, number, clear, &mut out);
     let (spi, key) = (binding.spi.get(), binding.key.get());
-    let frame = hex::encode(alloc, out.get(..count).unwrap_or(&[]))?;
-    format!(in alloc; "protected {spi} {key} {number} {frame}")
+    write!(answer, "protected {spi} {key} {number} ")?;
+    write_octets(out.get(..count).unwrap_or(&[]), answer)
 }
 
 impl<O: Site> Unit<O> {
@@ -114,11 +114,6 @@ impl<O: Site> Unit<O> {
         } = self;
         let (site, entries) = book.into_site();
         (site, entries.len())
-    }
-
-    /// How many entries the run has.
-    pub fn count(&self) -> u64 {
-        self.book.count()
     }
 
     /// The number of the record that is handled now.
@@ -159,52 +154,57 @@ impl<O: Site> Unit<O> {
         }
     }
 
-    /// The protected frame, with index, key and number, or why there is none.
-    fn shielded(
+    /// Writes the protected frame, with index, key and number, or why there is none.
+    fn protect_with(
         &mut self,
-        alloc: Global,
         binding: &Binding,
         clear: &[u8],
-    ) -> Result<String, AllocError>
+        answer: &mut String,
+    ) -> Result<(), AllocError>
         requires { IsBinding binding.now }
     {
         if let Err(fault) = fits(binding, clear) {
-            return shield_fault_text(alloc, fault);
+            return write_shield_fault(fault, answer);
         }
         match self.draw(binding.key) {
-            Ok(Seen::Number(number)) => frame_text(alloc, binding, number, clear),
+            Ok(Seen::Number(number)) => write_frame(binding, number, clear, answer),
             Ok(Seen::Exhausted(number)) => {
                 let key = binding.key.get();
-                format!(in alloc; "exhausted {key} {number}")
+                write!(answer, "exhausted {key} {number}")
             }
-            Ok(Seen::Nothing | Seen::Word(_)) => String::from_str(alloc, "no number"),
-            Err(fault) => texts::book_fault(alloc, &fault),
+            Ok(Seen::Nothing | Seen::Word(_)) => answer.push_str("no number"),
+            Err(fault) => write_book_fault(&fault, answer),
         }
     }
 
     /// Protects a frame.
-    pub fn protect(&mut self, alloc: Global, link: u8, clear: &[u8]) -> Result<String, AllocError> {
+    pub fn protect(
+        &mut self,
+        link: u8,
+        clear: &[u8],
+        answer: &mut String,
+    ) -> Result<(), AllocError> {
         match self.book.binding(link, clear) {
-            Ok(Some(binding)) => self.shielded(alloc, &binding, clear),
-            Ok(None) => String::from_str(alloc, "clear"),
-            Err(fault) => shield_fault_text(alloc, fault),
+            Ok(Some(binding)) => self.protect_with(&binding, clear, answer),
+            Ok(None) => answer.push_str("clear"),
+            Err(fault) => write_shield_fault(fault, answer),
         }
     }
 
     /// Opens a frame.
     pub fn accept(
         &mut self,
-        alloc: Global,
         link: u8,
         frame: &mut [u8],
-    ) -> Result<String, AllocError> {
+        answer: &mut String,
+    ) -> Result<(), AllocError> {
         let index = self.index();
         match self.book.accept(index, link, frame) {
             Ok((reply, position)) => {
-                let reply = open_reply_text(alloc, reply, frame)?;
-                format!(in alloc; "{reply} at {position}")
+                write_open_reply(reply, frame, answer)?;
+                write!(answer, " at {position}")
             }
-            Err(fault) => texts::book_fault(alloc, &fault),
+            Err(fault) => write_book_fault(&fault, answer),
         }
     }
 
@@ -222,83 +222,80 @@ impl<O: Site> Unit<O> {
         }
     }
 
-    /// Handles a message, of which this is the need.
-    fn obey(&mut self, alloc: Global, message: &[u8], need: &Need) -> Result<String, AllocError> {
-        let seen = match self.seen_for(need) {
-            Ok(seen) => seen,
-            Err(fault) => return texts::book_fault(alloc, &fault),
-        };
-        let index = self.index();
-        self.answered(alloc, index, message, seen)
-    }
-
     /// Handles a message with what was seen, where that is what it needs.
     fn answered(
         &mut self,
-        alloc: Global,
         index: u64,
         message: &[u8],
         seen: Seen,
-    ) -> Result<String, AllocError> {
+        answer: &mut String,
+    ) -> Result<(), AllocError> {
         let Ok(need) = self.book.need(message) else {
-            return String::from_str(alloc, "no memory");
+            return answer.push_str("no memory");
         };
         if !case_units::fits(self.book.state(), &need, seen) {
-            return String::from_str(alloc, "unfit");
+            return answer.push_str("unfit");
         }
         one_command();
         command_without_fault();
         match self.book.command(index, message, seen) {
             Ok((reply, position)) => {
-                let reply = reply_text(alloc, &reply)?;
-                format!(in alloc; "{reply} at {position}")
+                write_reply(&reply, answer)?;
+                write!(answer, " at {position}")
             }
-            Err(fault) => texts::book_fault(alloc, &fault),
+            Err(fault) => write_book_fault(&fault, answer),
         }
     }
 
     /// Does what a message asks.
-    pub fn command(&mut self, alloc: Global, message: &[u8]) -> Result<String, AllocError> {
+    pub fn command(&mut self, message: &[u8], answer: &mut String) -> Result<(), AllocError> {
         let Ok(need) = self.book.need(message) else {
-            return String::from_str(alloc, "no memory");
+            return answer.push_str("no memory");
         };
-        let answer = self.obey(alloc, message, &need)?;
+        match self.seen_for(&need) {
+            Ok(seen) => {
+                let index = self.index();
+                self.answered(index, message, seen, answer)?;
+            }
+            Err(fault) => write_book_fault(&fault, answer)?,
+        }
         self.meet();
-        Ok(answer)
+        Ok(())
     }
 
     /// Releases what was not used.
-    pub fn release(&mut self, alloc: Global) -> Result<String, AllocError> {
+    pub fn release(&mut self, answer: &mut String) -> Result<(), AllocError> {
         if !are_words(self.next.as_slice(), self.book.rows()) {
-            return String::from_str(alloc, "no words");
+            return answer.push_str("no words");
         }
         match self.book.release(self.next.as_slice()) {
-            Ok(()) => String::from_str(alloc, "released"),
-            Err(fault) => texts::book_fault(alloc, &fault),
+            Ok(()) => answer.push_str("released"),
+            Err(fault) => write_book_fault(&fault, answer),
         }
     }
 
     /// Hands octets to the sink.
-    pub fn put(&mut self, alloc: Global, octets: &[u8]) -> Result<String, AllocError> {
+    pub fn put(&mut self, octets: &[u8], answer: &mut String) -> Result<(), AllocError> {
         match self.book.put(octets) {
-            Ok(()) => String::from_str(alloc, "put"),
-            Err(fault) => texts::book_fault(alloc, &fault),
+            Ok(()) => answer.push_str("put"),
+            Err(fault) => write_book_fault(&fault, answer),
         }
     }
 
     /// What the book shows.
-    pub fn tell(&self, alloc: Global) -> Result<String, AllocError> {
+    pub fn tell(&self, answer: &mut String) -> Result<(), AllocError> {
         let (used, slots) = (self.book.used(), self.book.plan().slots());
         let (entries, changes) = (self.book.count(), self.book.changes());
-        let mut told = format!(in alloc;
+        write!(
+            answer,
             "slots {used} of {slots}, entries {entries}, changes {changes}"
         )?;
         for row in self.book.state().keys.rows() {
-            told.push_str(texts::key_text(alloc, row)?.as_str())?;
+            write_key(row, answer)?;
         }
         for row in self.book.state().associations.rows() {
-            told.push_str(texts::association_text(alloc, row)?.as_str())?;
+            write_association(row, answer)?;
         }
-        Ok(told)
+        Ok(())
     }
 }
