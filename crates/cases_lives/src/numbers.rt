@@ -27,7 +27,7 @@ impl Pairs {
     }
 }
 
-/// What all runs used for their outputs, and what they accepted.
+/// What the runs of a unit used for their outputs, and what they accepted.
 #[derive(Drop)]
 pub struct Numbers {
     used: Pairs,
@@ -59,14 +59,20 @@ impl Numbers {
         Ok(())
     }
 
-    /// Whether a number of a key was used or accepted twice.
-    pub fn verdict(&self) -> &'static str {
+    /// That a number of a key was used or accepted twice, if one was.
+    pub fn fault(&self) -> Option<&'static str> {
         if self.used.is_repeated {
-            return "a number was used twice";
+            return Some("a number was used twice");
         }
         if self.accepted.is_repeated {
-            return "a number was accepted twice";
+            return Some("a number was accepted twice");
         }
-        "no number was used twice, and none was accepted twice"
+        None
+    }
+
+    /// Whether one was, in words.
+    pub fn verdict(&self) -> &'static str {
+        self.fault()
+            .unwrap_or("no number was used twice, and none was accepted twice")
     }
 }
